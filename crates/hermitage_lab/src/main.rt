@@ -1,0 +1,85 @@
+//! `hermitage_lab`: scripts of transactions in, and proved answers out.
+#![tactic(auto)]
+
+mod ending;
+mod input;
+mod output;
+mod serial;
+#[cfg(test)]
+mod tests;
+mod words;
+
+ghost use Rattle.std.specs.Prelude.{◌≡◌, ◌≢◌};
+ghost use Rattle.clap.specs.Values.{kind_of};
+ghost use Rattle.clap.specs.declared.error.kind.ErrorKind.TheVariants.{DisplayHelp, DisplayVersion, OutOfMemory};
+
+use clap::ArgMatches;
+use ending::{RunFault, status};
+use std::io::ErrorKind;
+use std::process::ExitCode;
+
+/// The exit status of a refused command line.
+const WORDS_REFUSED: u8 = 5;
+
+/// The words that the program was given, its name first; or the exit status, where they can't be had.
+fn given_words(rt: &HostRuntime) -> Result<Vec<String>, u8> {
+    match std::env::args(rt) {
+        Ok(words) => match words.collect::<Vec<String>>(rt.alloc()) {
+            Ok(words) => Ok(words),
+            Err(_) => Err(status(Err(RunFault::NoMemory))),
+        },
+        Err(error) if error.kind() == ErrorKind::OutOfMemory => {
+            Err(status(Err(RunFault::NoMemory)))
+        }
+        Err(_) => {
+            let _ = eprintln!(rt; "error: a word is not UTF-8");
+            Err(WORDS_REFUSED)
+        }
+    }
+}
+
+/// Prints what there is to say of words that name no run, help or a refusal, and answers the exit status.
+fn explain(rt: &HostRuntime, error: &clap::Error) -> u8
+    ensures memory { kind_of error.now ≡ OutOfMemory → result ≡ 4 }
+    ensures refused { (kind_of error.now ≢ OutOfMemory) → (kind_of error.now ≢ DisplayHelp) → (kind_of error.now ≢ DisplayVersion) → result ≡ 5 }
+{
+    if error.kind() == clap::error::ErrorKind::OutOfMemory {
+        return status(Err(RunFault::NoMemory));
+    }
+    let printed = error.print(rt);
+    if error.use_stderr() {
+        return WORDS_REFUSED;
+    }
+    match printed {
+        Ok(()) => 0,
+        Err(error) if error.kind() == ErrorKind::OutOfMemory => status(Err(RunFault::NoMemory)),
+        Err(_) => status(Err(RunFault::Unwritten)),
+    }
+}
+
+/// Runs a subcommand on the program's own streams, and answers the exit status.
+fn run(rt: &HostRuntime, matches: &ArgMatches<'_>) -> u8 {
+    match matches.subcommand() {
+        Some(("serial", _)) => status(serial::serial(
+            rt.alloc(),
+            &mut rt.stdin(),
+            &mut rt.stdout(),
+        )),
+        _ => WORDS_REFUSED,
+    }
+}
+
+fn main(rt: HostRuntime) -> ExitCode {
+    let given = match given_words(&rt) {
+        Ok(given) => given,
+        Err(status) => return ExitCode::from(status),
+    };
+    let Ok(command) = words::words(rt.alloc()) else {
+        return ExitCode::from(status(Err(RunFault::NoMemory)));
+    };
+    let ended = match command.try_get_matches_from(given.as_slice()) {
+        Ok(matches) => run(&rt, &matches),
+        Err(error) => explain(&rt, &error),
+    };
+    ExitCode::from(ended)
+}

@@ -1,0 +1,141 @@
+-- The limit that a transcript breaks is one that a statement of the script breaks.
+use Rattle.std.proofs.Common.{◌≡◌, ℕ, zero, suc, ◌<◌, Bool, true, false, cond, ◌==◌, List, [], ◌∷◌, ◌++◌, length, get_or, Option, Some, None, refl, sym, ◌∙◌, ◌⊎◌, inl, inr, subst, arith}
+use Rattle.std.specs.Prelude.{◌&&◌, not, nat_lt, IfSome}
+use Rattle.std.specs.List.{Contains}
+use Rattle.std.proofs.lemmas.Bool.{ltb-true}
+use Rattle.std.proofs.lemmas.Option.{none-some}
+use Rattle.lab_table.specs.Table.{Table}
+use Rattle.lab_table.specs.declared.statement.Statement.{Statement}
+use Rattle.lab_table.specs.declared.statement.Command.{Command}
+use Rattle.lab_table.specs.declared.statement.Command.TheVariants.{Begin, Commit, Abort, Run}
+use Rattle.lab_script.specs.declared.script.Line.{Line}
+use Rattle.lab_script.specs.declared.script.Script.{Script}
+use Rattle.lab_script.specs.declared.print.PrintFault.{PrintFault}
+use Rattle.lab_script.specs.declared.print.PrintFault.TheVariants.{NoMemory, TooDeep, TooLong}
+use Rattle.lab_script.specs.Depth.{statement_depth}
+use Rattle.lab_script.specs.Printed.{printed_statement}
+use Rattle.lab_script.specs.Limits.{StatementPrints, CommandPrints, AllPrint, SomeLine}
+use Rattle.lab_script.specs.Transcript.{statements_on, statements_of, inside_after, is_begin, nobody, whole_of, transactions, table_with, table_after}
+use Rattle.lab_script.specs.Told.{Breaks, shown_of, shown, limit_broken, broken_with, first_broken, unprintable}
+
+-- a statement that prints breaks no limit
+prints : (fault : PrintFault) (s : Statement) → StatementPrints s → Breaks fault (Run s) → ⊥
+prints NoMemory s p h = h
+prints TooDeep s p h = omega arith
+prints TooLong s p h = omega arith
+
+-- a command that isn't a statement breaks none
+breaks_none : (fault : PrintFault) → (Breaks fault Begin → ⊥) × (Breaks fault Commit → ⊥) × (Breaks fault Abort → ⊥)
+breaks_none NoMemory = (λ h. h, λ h. h, λ h. h)
+breaks_none TooDeep = (λ h. h, λ h. h, λ h. h)
+breaks_none TooLong = (λ h. h, λ h. h, λ h. h)
+
+module _ (fault : PrintFault) where
+  -- some statement of a list breaks this limit
+  abbrev AnyBreaks : List Statement → Type 0
+  AnyBreaks [] = ⊥
+  AnyBreaks (s ∷ ss) = Breaks fault (Run s) ⊎ AnyBreaks ss
+
+  -- some line's command breaks it
+  abbrev SomeBreaks : List Line → Type 0
+  SomeBreaks lines = (line : Line) × Contains lines line × Breaks fault line.command
+
+  here : (line : Line) (lines : List Line) → Breaks fault line.command → SomeBreaks (line ∷ lines)
+  here line lines h = (line, (0, omega arith, refl), h)
+
+  later : (line : Line) (lines : List Line) → SomeBreaks lines → SomeBreaks (line ∷ lines)
+  later line lines (found, (k, below, at), h) = (found, (suc k, omega arith, at), h)
+
+  too_long : (s : Statement) (b : Bool) → nat_lt 1000 (length (printed_statement s)) ≡ b → cond b (Some TooLong) None ≡ Some fault → Breaks fault (Run s)
+  too_long s true is e = let same : TooLong ≡ fault = cc in subst (λ (f : PrintFault). Breaks f (Run s)) same (ltb-true 1000 (length (printed_statement s)) is)
+  too_long s false is e = absurd (none-some fault e)
+
+  too_deep : (s : Statement) (b : Bool) → nat_lt 16 (statement_depth s) ≡ b → cond b (Some TooDeep) (cond (nat_lt 1000 (length (printed_statement s))) (Some TooLong) None) ≡ Some fault → Breaks fault (Run s)
+  too_deep s true is e = let same : TooDeep ≡ fault = cc in subst (λ (f : PrintFault). Breaks f (Run s)) same (ltb-true 16 (statement_depth s) is)
+  too_deep s false is e = too_long s (nat_lt 1000 (length (printed_statement s))) refl e
+
+  -- the limit that a statement breaks
+  is_broken : (s : Statement) → limit_broken s ≡ Some fault → Breaks fault (Run s)
+  is_broken s e = too_deep s (nat_lt 16 (statement_depth s)) refl e
+
+  -- a limit that was broken before stays
+  stays : (other : PrintFault) (ss : List Statement) → first_broken (Some other) ss ≡ Some other
+  stays other [] = refl
+  stays other (s ∷ ss) = stays other ss
+
+  -- the first limit that statements break is broken by one of them
+  any_first : (ss : List Statement) → first_broken None ss ≡ Some fault → AnyBreaks ss
+  any_first [] e = absurd (none-some fault e)
+  any_first (s ∷ ss) e =
+      elim (limit_broken s) as (λ b. limit_broken s ≡ b → first_broken b ss ≡ Some fault → Breaks fault (Run s) ⊎ AnyBreaks ss) [
+        | None ↦ λ _ rest. inr (any_first ss rest)
+        | Some other ↦ λ is rest. inl (is_broken s (is ∙ sym (stays other ss) ∙ rest))
+      ] refl e
+
+  any_append : (a b : List Statement) → AnyBreaks (a ++ b) → AnyBreaks a ⊎ AnyBreaks b
+  any_append [] b h = inr h
+  any_append (s ∷ a) b (inl h) = inl (inl h)
+  any_append (s ∷ a) b (inr h) = elim (any_append a b h) [ inl h ↦ inl (inr h) | inr h ↦ inr h ]
+
+  -- what a transaction shows are statements of it
+  any_shown_of : (table : Table) (ss : List Statement) → AnyBreaks (shown_of table ss) → AnyBreaks ss
+  any_shown_of table [] h = h
+  any_shown_of table (s ∷ ss) (inl h) = inl h
+  any_shown_of table (s ∷ ss) (inr h) =
+      inr (elim (table_with s table) as (λ (with : Option Table). AnyBreaks (elim with [ None ↦ [] | Some after ↦ shown_of after ss ]) → AnyBreaks ss) [
+        | None ↦ λ none. absurd none
+        | Some after ↦ λ some. any_shown_of after ss some
+      ] h)
+
+  -- a session's statements are statements of the lines
+  any_on : (c : Command) (after : List Statement) → AnyBreaks (statements_on c after) → Breaks fault c ⊎ AnyBreaks after
+  any_on Begin after h = inr h
+  any_on Commit after h = absurd h
+  any_on Abort after h = absurd h
+  any_on (Run s) after h = h
+
+  any_of : (session : ℕ) (lines : List Line) → AnyBreaks (statements_of session lines) → SomeBreaks lines
+  any_of session [] h = absurd h
+  any_of session (line ∷ lines) h =
+      elim (line.session == session) as (λ b. AnyBreaks (cond b (statements_on line.command (statements_of session lines)) (statements_of session lines)) → SomeBreaks (line ∷ lines)) [
+        | true ↦ λ own. elim (any_on line.command (statements_of session lines) own) [ inl at ↦ here line lines at | inr after ↦ later line lines (any_of session lines after) ]
+        | false ↦ λ other. later line lines (any_of session lines other)
+      ] h
+
+  -- what a script's transactions show are statements of its lines
+  any_shown : (inside : ℕ → Bool) (table : Table) (lines : List Line) → AnyBreaks (shown table (transactions inside lines)) → SomeBreaks lines
+  any_shown inside table [] h = absurd h
+  any_shown inside table (line ∷ lines) h =
+      let after : ℕ → Bool = inside_after inside line.session line.command in
+      elim (is_begin line.command && not (inside line.session)) as (λ b. AnyBreaks (shown table (cond b (whole_of line.session lines ∷ []) [] ++ transactions after lines)) → SomeBreaks (line ∷ lines)) [
+        | true ↦ λ own. elim (any_append (shown_of table (statements_of line.session lines)) (shown (table_after table (whole_of line.session lines)) (transactions after lines)) own) [
+          | inl first ↦ later line lines (any_of line.session lines (any_shown_of table (statements_of line.session lines) first))
+          | inr others ↦ later line lines (any_shown after (table_after table (whole_of line.session lines)) lines others)
+        ]
+        | false ↦ λ other. later line lines (any_shown after table lines other)
+      ] h
+
+  command_prints : (c : Command) → CommandPrints c → Breaks fault c → ⊥
+  command_prints Begin p h = (breaks_none fault).0 h
+  command_prints Commit p h = (breaks_none fault).1 h
+  command_prints Abort p h = (breaks_none fault).2 h
+  command_prints (Run s) p h = prints fault s p h
+
+  all_print : (lines : List Line) (line : Line) (k : ℕ) → k < length lines → get_or lines k line ≡ line → AllPrint lines → Breaks fault line.command → ⊥
+  all_print [] line k below at p h = omega arith
+  all_print (first ∷ lines) line zero below at p h = command_prints line.command (subst (λ (x : Line). CommandPrints x.command) at p.0) h
+  all_print (first ∷ lines) line (suc k) below at p h = all_print lines line k (omega arith) at p.1 h
+
+-- the limit that a transcript breaks is broken by a statement of the script
+pub broken_in : (script : Script) (broken : Option PrintFault) → broken ≡ unprintable script → IfSome broken (λ fault. SomeLine (Breaks fault) script)
+broken_in script None e = tt
+broken_in script (Some fault) e =
+    let some = any_shown fault nobody script.setup script.lines (any_first fault _ (sym e)) in
+    record { line = some.0; stands = some.1; is = some.2 }
+
+-- where all statements print, none is broken
+pub printed_all : (script : Script) (broken : Option PrintFault) → broken ≡ unprintable script → AllPrint script.lines → broken ≡ None
+printed_all script None e p = refl
+printed_all script (Some fault) e p =
+    let some = broken_in script (Some fault) e in
+    absurd (all_print fault script.lines some.line some.stands.0 some.stands.1 some.stands.2 p some.is)

@@ -1,0 +1,184 @@
+-- Where a text has its first fault, read line by line.
+use Rattle.std.proofs.Common.{◌≡◌, ℕ, ◌+◌, ◌<◌, ◌≤◌, ◌⊎◌, Bool, true, false, List, [], ◌∷◌, ◌++◌, length, take, drop, Option, Some, None, Result, Ok, Err, refl, sym, ap, subst, ◌∙◌, inl, inr, ⊎_elim, arith, length-append, append_assoc}
+use Rattle.std.specs.Prelude.{is_some, slice_get, MatchResult, IfOk, IfErr, ok_or}
+use Rattle.std.specs.List.{list_all}
+use Rattle.std.specs.Str.Lines.{lines}
+use Rattle.std.proofs.lemmas.Bool.{false≢true}
+use Rattle.std.proofs.lemmas.List.{append-nil, take_at, take-append-drop}
+use Rattle.lab_table.specs.declared.statement.Command.{Command}
+use Rattle.lab_script.specs.declared.fault.ScriptFault.{ScriptFault}
+use Rattle.lab_script.specs.declared.fault.ScriptFault.TheVariants as fault
+use Rattle.lab_script.specs.declared.fault.ScriptFaultKind.{ScriptFaultKind}
+use Rattle.lab_script.specs.declared.fault.ScriptFaultKind.TheVariants as kinds
+use Rattle.lab_script.specs.declared.script.Script.{Script}
+use Rattle.lab_script.specs.declared.token.Word.TheVariants as word
+use Rattle.lab_script.specs.declared.token.Token.{Token}
+use Rattle.lab_script.specs.declared.token.Token.TheVariants as token
+use Rattle.lab_script.specs.Token.{tokens}
+use Rattle.lab_script.specs.Grammar.{IsCommands, IsSetup}
+use Rattle.lab_script.specs.Script as script
+use Rattle.lab_script.specs.Script.{code_of, remark_of, session_of, is_passed, IsFit, BeginsSetup, LineSpells, LinesSpell, Spells, IsFaultless, IsFirstFault}
+use Rattle.lab_script.specs.Fault as wrong
+use Rattle.lab_script.specs.Fault.{SpellsNothing, LacksSession, SaysOfTokens, IsWrong, IsFaultyLine, IsWithoutSetup, IsFaultOf, IsLineFault}
+use Rattle.lab_script.proofs.ReadCommands.{no_setup}
+use Rattle.lab_script.proofs.ReadSetup.{setup_begins}
+use Rattle.lab_script.proofs.ScriptLines.{some_is, fit_of, lines_once, lines_join, lines_front, IsFew, line_few}
+
+-- the lines so far, of which there are so many, spell nothing yet or a script, and these are left
+pub record IsReadTo (text : List ℕ) (number : ℕ) (rest : List (List ℕ)) (script : Option Script) : Type 0 where
+  pub front : List (List ℕ)
+  pub whole : lines text ≡ front ++ rest
+  pub counted : length front ≡ number
+  pub spelled : LinesSpell 1 None front script
+  pub within : number ≤ 2000
+  pub few : IsFew script
+
+pub none_read : (text : List ℕ) → IsReadTo text 0 (lines text) None
+none_read text = record { front = []; whole = refl; counted = refl; spelled = refl; within = omega arith; few = tt }
+
+pub one_more_read : {text : List ℕ} {number : ℕ} {line : List ℕ} {rest : List (List ℕ)} {before after : Option Script}
+    → IsReadTo text number (line ∷ rest) before → LineSpells (number + 1) line before after → IsReadTo text (number + 1) rest after
+one_more_read {text} {number} {line} {rest} {before} {after} read spells = record {
+  front = read.front ++ line ∷ [];
+  whole = read.whole ∙ sym (append_assoc read.front (line ∷ []) rest);
+  counted = length-append read.front (line ∷ []) ∙ ap (λ (n : ℕ). n + 1) read.counted;
+  spelled = lines_join 1 None read.front (line ∷ []) before after read.spelled (after, subst (λ (n : ℕ). LineSpells n line before after) place spells, refl);
+  within = (fit_of spells).lines;
+  few = line_few spells read.few;
+}
+  where
+    place : number + 1 ≡ 1 + length read.front
+    place = let counted : length read.front ≡ number = read.counted in omega arith
+
+pub all_read : {text : List ℕ} {number : ℕ} {script : Option Script} → IsReadTo text number [] script → LinesSpell 1 None (lines text) script
+all_read {script = script} read = subst (λ (ls : List (List ℕ)). LinesSpell 1 None ls script) (sym (read.whole ∙ append-nil read.front)) read.spelled
+
+-- tokens that spell nothing make a line that spells nothing
+nothing_spelled : {number : ℕ} {line : List ℕ} {before after : Option Script}
+    → is_passed line ≡ false → SpellsNothing (tokens (code_of line)) before → LineSpells number line before after → ⊥
+nothing_spelled kept says (script.passed s fit is) = false≢true (sym kept ∙ is)
+nothing_spelled kept says (script.setup fit spelled) = says.1 _ spelled
+nothing_spelled kept says (script.commands s fit spelled session room) = says.1 _ spelled room
+
+-- no line can stand before its setup
+no_setup_yet : {number : ℕ} {line : List ℕ} {before after : Option Script}
+    → is_passed line ≡ false → before ≡ None → (BeginsSetup (tokens (code_of line)) → ⊥) → LineSpells number line before after → ⊥
+no_setup_yet kept none not (script.passed s fit is) = false≢true (sym kept ∙ is)
+no_setup_yet kept none not (script.setup fit spelled) = not (setup_begins spelled)
+no_setup_yet kept none not (script.commands s fit spelled session room) = absurd cc
+
+-- no setup can stand behind a setup
+setup_again : {number : ℕ} {line : List ℕ} {before after : Option Script}
+    → is_passed line ≡ false → is_some before ≡ true → BeginsSetup (tokens (code_of line)) → LineSpells number line before after → ⊥
+setup_again kept some begins (script.passed s fit is) = false≢true (sym kept ∙ is)
+setup_again kept some begins (script.setup fit spelled) = false≢true some
+setup_again kept some begins (script.commands {cs = cs} s fit spelled session room) = no_setup (subst (λ (ts : List Token). IsCommands ts cs) begins.1 spelled)
+
+-- no commands without a session
+session_lacks : {number : ℕ} {line : List ℕ} {before after : Option Script}
+    → is_passed line ≡ false → LacksSession (tokens (code_of line)) (remark_of line) before → LineSpells number line before after → ⊥
+session_lacks kept says (script.passed s fit is) = false≢true (sym kept ∙ is)
+session_lacks kept says (script.setup fit spelled) = says
+session_lacks {line = line} kept says (script.commands {session = one} s fit spelled session room) =
+    let none : ◌≡◌ {A = Option ℕ} None (Some one) = sym says.1 ∙ session in
+    absurd cc
+
+-- a line whose tokens are wrong spells nothing
+tokens_are_faulty : (kind : ScriptFaultKind) {number : ℕ} {line : List ℕ} {before after : Option Script}
+    → is_passed line ≡ false → SaysOfTokens kind (tokens (code_of line)) (remark_of line) before → LineSpells number line before after → ⊥
+tokens_are_faulty kinds.NotAscii kept says spells = says
+tokens_are_faulty kinds.NoSetup kept says spells = no_setup_yet kept says.0 says.1 spells
+tokens_are_faulty kinds.SetupRepeated kept says spells = setup_again kept says.0 says.1 spells
+tokens_are_faulty kinds.NoSession kept says spells = session_lacks kept says spells
+tokens_are_faulty kinds.UnknownStatement kept says spells = nothing_spelled kept says spells
+tokens_are_faulty kinds.BadPredicate kept says spells = nothing_spelled kept says spells
+tokens_are_faulty kinds.NumberOutOfRange kept says spells = nothing_spelled kept says spells
+tokens_are_faulty kinds.TooDeep kept says spells = nothing_spelled kept says spells
+tokens_are_faulty kinds.TooLong kept says spells = nothing_spelled kept says spells
+tokens_are_faulty kinds.DuplicateSetupRow kept says spells = nothing_spelled kept says spells
+
+-- a line that is wrong spells nothing
+pub wrong_is_faulty : {number : ℕ} {line : List ℕ} {before : Option Script} {kind : ScriptFaultKind}
+    → IsWrong number line before kind → (after : Option Script) → LineSpells number line before after → ⊥
+wrong_is_faulty (wrong.over long) after spells =
+    let fit = fit_of spells in
+    ⊎_elim (λ (many : _). let few = fit.lines in absurd (omega arith)) (λ (wide : _). let short = fit.bytes in absurd (omega arith)) long
+wrong_is_faulty (wrong.not_ascii few short isnt) after spells = false≢true (sym isnt ∙ (fit_of spells).ascii)
+wrong_is_faulty (wrong.of_tokens {kind = kind} kept says) after spells = tokens_are_faulty kind kept.1 says spells
+
+-- a text with a fault at a line spells nothing
+pub fault_spells_nothing : (text : List ℕ) (number : ℕ) (s : Script) → IsFirstFault text number → Spells text s → ⊥
+fault_spells_nothing text number s (inl first) spells =
+    let ls = lines text in
+    let front = lines_front 1 None (take number ls) (drop number ls) (Some s)
+    (subst (λ (l : List (List ℕ)). LinesSpell 1 None l (Some s)) (sym (take-append-drop number ls)) spells) in
+    first.4 (front.0, front.1)
+fault_spells_nothing text number s (inr first) spells =
+    let none : ◌≡◌ {A = Option Script} None (Some s) = lines_once 1 None (lines text) first.0 spells in
+    absurd cc
+
+-- where the front of a list ends, the next element stands
+seam : {A : Type 0} (xs : List A) (y : A) (ys : List A) → slice_get (xs ++ y ∷ ys) (length xs) ≡ Some y
+seam [] y ys = refl
+seam (x ∷ xs) y ys = seam xs y ys
+
+module _ {text : List ℕ} {number : ℕ} {line : List ℕ} {rest : List (List ℕ)} {before : Option Script} (read : IsReadTo text number (line ∷ rest) before) where
+  -- the lines before this one, and the script that they spell
+  before_it : LinesSpell 1 None (take number (lines text)) before
+  before_it = subst (λ (ls : List (List ℕ)). LinesSpell 1 None ls before) (sym (ap (take number) read.whole ∙ take_at read.front (line ∷ rest) number read.counted)) read.spelled
+
+  stands_there : slice_get (lines text) number ≡ Some line
+  stands_there = ap (λ (ls : List (List ℕ)). slice_get ls number) read.whole ∙ ap (slice_get (read.front ++ line ∷ rest)) (sym read.counted) ∙ seam read.front line rest
+
+  -- where the lines up to this one spell something, so does this one
+  spells_then : {after : Option Script} → LinesSpell 1 None (take (number + 1) (lines text)) after → LineSpells (number + 1) line before after
+  spells_then {after} all =
+      let through = read.front ++ line ∷ [] in
+      let len : length through ≡ number + 1 = length-append read.front (line ∷ []) ∙ ap (λ (n : ℕ). n + 1) read.counted in
+      let front : take (number + 1) (lines text) ≡ through =
+      ap (take (number + 1)) (read.whole ∙ sym (append_assoc read.front (line ∷ []) rest)) ∙ take_at through rest (number + 1) len in
+      let cut = lines_front 1 None read.front (line ∷ []) after (subst (λ (ls : List (List ℕ)). LinesSpell 1 None ls after) front all) in
+      let place : 1 + length read.front ≡ number + 1 = let counted : length read.front ≡ number = read.counted in omega arith in
+      subst (λ (n : ℕ). LineSpells n line before after) place
+      (subst (λ (s : Option Script). LineSpells (1 + length read.front) line s after) (lines_once 1 None read.front cut.1 read.spelled)
+      (subst (λ (s : Option Script). LineSpells (1 + length read.front) line cut.0 s) (sym cut.2.2) cut.2.1))
+
+  -- the fault at the first line that is wrong is the text's
+  pub line_fault : {kind : ScriptFaultKind} → IsWrong (number + 1) line before kind → IsFaultOf text (fault.At (number + 1) kind)
+  line_fault w =
+      let size : length (lines text) ≡ length read.front + length (line ∷ rest) = ap length read.whole ∙ length-append read.front (line ∷ rest) in
+      let counted : length read.front ≡ number = read.counted in (
+        inl (number, refl, omega arith, (before, before_it), λ faultless. wrong_is_faulty w faultless.0 (spells_then faultless.1)),
+        inl (record { index = number; counted = refl; line = line; stands = stands_there; before = before; spelled = before_it; faulty = wrong_is_faulty w; says = w }),
+      )
+
+-- a text that ends before its setup
+pub end_fault : {text : List ℕ} {number : ℕ} → IsReadTo text number [] None → IsFaultOf text (fault.At (number + 1) kinds.NoSetup)
+end_fault {text} {number} read =
+    let size : number + 1 ≡ length (lines text) + 1 = ap (λ (n : ℕ). n + 1) (sym (ap length (read.whole ∙ append-nil read.front) ∙ read.counted)) in
+    (inr (all_read read, size), inr (record { counted = size; spelled = all_read read; missing = refl }))
+
+-- what reading a text gave is the script that it spells, or there was no memory
+pub only_read : (text : List ℕ) (result : Result Script ScriptFault) → MatchResult result (λ r. Spells text r) (IsFaultOf text)
+    → (s : Script) → Spells text s → MatchResult result (λ r. r ≡ s) (λ f. f ≡ fault.NoMemory)
+only_read text (Ok r) is s spells = some_is (lines_once 1 None (lines text) is spells)
+only_read text (Err fault.NoMemory) is s spells = refl
+only_read text (Err (fault.At number kind)) is s spells = absurd (fault_spells_nothing text number s is.0 spells)
+
+-- the fault of a line is the text's
+pub line_faults : {text : List ℕ} {number : ℕ} {line : List ℕ} {rest : List (List ℕ)} {before : Option Script}
+    → IsReadTo text number (line ∷ rest) before → (f : ScriptFault) → IsLineFault (number + 1) line before f → IsFaultOf text f
+line_faults read fault.NoMemory is = tt
+line_faults {text} {number} {line} {rest} {before} read (fault.At n kind) is =
+    subst (λ (m : ℕ). IsFaultOf text (fault.At m kind)) (sym is.0) (line_fault read is.1)
+
+-- what was read of a whole text
+pub whole_read : {text : List ℕ} {number : ℕ} (script : Option Script) → IsReadTo text number [] script
+    → MatchResult (ok_or script (fault.At (number + 1) kinds.NoSetup)) (λ r. Spells text r) (IsFaultOf text)
+whole_read (Some s) read = all_read read
+whole_read None read = end_fault read
+
+-- the same, by each of its two cases
+pub if_read : (text : List ℕ) (result : Result Script ScriptFault) → MatchResult result (λ r. Spells text r) (IsFaultOf text) → IfOk result (λ r. Spells text r) × IfErr result (IsFaultOf text)
+if_read text (Ok r) is = (is, tt)
+if_read text (Err f) is = (tt, is)

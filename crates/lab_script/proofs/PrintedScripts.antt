@@ -1,0 +1,61 @@
+-- A printed script spells the script, with the lines of the printed text.
+use Rattle.std.proofs.Common.{◌≡◌, ℕ, ◌+◌, ◌≤◌, List, [], ◌∷◌, ◌++◌, length, map, flat_map, Some, None, refl, sym, ap, subst, ◌∙◌, append_assoc, length-append, arith}
+use Rattle.std.specs.List.{All}
+use Rattle.std.specs.Str.Lines.{lines}
+use Rattle.std.proofs.lemmas.List.Elements.{All-head, All-tail}
+use Rattle.std.proofs.lemmas.List.{append-nil}
+use Rattle.lab_script.specs.declared.script.Line.{Line}
+use Rattle.lab_script.specs.declared.script.Script.{Script}
+use Rattle.lab_script.specs.Limits.{AllPrint, ScriptPrints}
+use Rattle.lab_script.specs.Printed.{newline, printed_setup, printed_line, printed_script}
+use Rattle.lab_script.specs.Script.{LinesSpell, Spells, extended}
+use Rattle.lab_script.specs.Ranges.{LineInRange, ScriptInRange}
+use Rattle.lab_script.specs.Renumbered.{numbered, renumbered}
+use Rattle.lab_script.proofs.PrintedLines.{no_lines, first_line}
+use Rattle.lab_script.proofs.PrintedCommands.{line_text, line_ascii, line_spells}
+use Rattle.lab_script.proofs.PrintedSetups.{setup_plain, setup_spells}
+
+-- the lines of the printed commands
+command_lines : (ls : List Line) → lines (flat_map printed_line ls) ≡ map line_text ls
+command_lines [] = no_lines
+command_lines (line ∷ ls) = first_line (line_text line) (flat_map printed_line ls) (line_ascii line) ∙ ap (λ (t : List (List ℕ)). line_text line ∷ t) (command_lines ls)
+
+-- the lines of a printed script
+script_lines : (script : Script) → lines (printed_script script) ≡ printed_setup script.setup ∷ map line_text script.lines
+script_lines script =
+    first_line (printed_setup script.setup) (flat_map printed_line script.lines) (setup_plain script.setup).ascii
+    ∙ ap (λ (t : List (List ℕ)). printed_setup script.setup ∷ t) (command_lines script.lines)
+
+-- a script with more lines
+abbrev with_more : Script → List Line → Script
+with_more script more = record { setup = script.setup; lines = script.lines ++ more }
+
+-- printed lines give their commands, one after another
+lines_spell : (number : ℕ) (before : Script) (ls : List Line) → All LineInRange ls → AllPrint ls → number + length ls ≤ 2001 → length before.lines + length ls ≤ 1999
+    → LinesSpell number (Some before) (map line_text ls) (Some (with_more before (numbered number ls)))
+lines_spell number before [] r p le few = ap (λ (ls : List Line). Some (record { setup = before.setup; lines = ls })) (append-nil before.lines)
+lines_spell number before (line ∷ ls) r p le few =
+    let fit = All-head LineInRange line ls r in
+    let next : Script = extended before line.session number (line.command ∷ []) in
+    let counted : length next.lines ≡ length before.lines + 1 = length-append before.lines _ in (
+      Some next,
+      line_spells number line before fit.0 fit.1 p.0 (omega arith) (omega arith),
+      subst (λ (all : List Line). LinesSpell (number + 1) (Some next) (map line_text ls) (Some (record { setup = before.setup; lines = all }))) (append_assoc before.lines _ (numbered (number + 1) ls))
+          (lines_spell (number + 1) next ls (All-tail LineInRange line ls r) p.1 (omega arith) (omega arith)),
+    )
+
+-- lines print alike whatever their numbers
+same_lines : (number : ℕ) (ls : List Line) → flat_map printed_line (numbered number ls) ≡ flat_map printed_line ls
+same_lines number [] = refl
+same_lines number (line ∷ ls) = ap (λ (t : List ℕ). printed_line line ++ t) (same_lines (number + 1) ls)
+
+-- the lines' numbers aren't printed
+pub printed_renumbered : (script : Script) → printed_script (renumbered script) ≡ printed_script script
+printed_renumbered script = ap (λ (t : List ℕ). printed_setup script.setup ++ newline ++ t) (same_lines 2 script.lines)
+
+-- a printed script spells the script, with the lines of the printed text
+pub script_spells : (script : Script) → ScriptInRange script → ScriptPrints script → Spells (printed_script script) (renumbered script)
+script_spells script r p =
+    let start : Script = record { setup = script.setup; lines = [] } in
+    subst (λ (ls : List (List ℕ)). LinesSpell 1 None ls (Some (renumbered script))) (sym (script_lines script))
+    (Some start, setup_spells script.setup r.setup p.setup, lines_spell 2 start script.lines r.lines p.lines (omega (arith, p.few)) (omega (arith, p.few)))

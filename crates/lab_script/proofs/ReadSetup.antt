@@ -1,0 +1,229 @@
+-- Setups that are read are setups of the grammar, and the other way round.
+use Rattle.std.proofs.Common.{◌≡◌, ℕ, zero, suc, ◌+◌, ◌≤◌, ◌<◌, ℤ, Bool, true, false, cond, List, [], ◌∷◌, ◌++◌, length, Option, Some, None, refl, sym, ap, subst, ◌∙◌, append_assoc, arith}
+use Rattle.std.specs.Prelude.{◌==◌, nat_le, Result, Ok, Err, IfOk}
+use Rattle.std.specs.FinMap.{find, insert, empty, contains_key, from_entries}
+use Rattle.std.proofs.lemmas.Bool.{eqb-true, le-leb, leb-true}
+use Rattle.std.proofs.lemmas.List.{length-append, nil_from_length}
+use Rattle.lab_table.specs.Row.{Row, row_cmp}
+use Rattle.lab_table.specs.Table.{Table}
+use Rattle.lab_script.specs.declared.token.Word.TheVariants as word
+use Rattle.lab_script.specs.declared.token.Token.{Token}
+use Rattle.lab_script.specs.declared.token.Token.TheVariants as token
+use Rattle.lab_script.specs.declared.stop.Stop.{Stop}
+use Rattle.lab_script.specs.Grammar.{IsNumber, IsId, IsRow, IsRows, IsRowList, IsEnd, IsSetup, AllDistinct}
+use Rattle.lab_script.specs.Grammar as grammar
+use Rattle.lab_script.specs.Printed.{printed_setup}
+use Rattle.lab_script.specs.Reading.{Gives, ◌>>=◌, is_token, after, is_end}
+use Rattle.lab_script.specs.ReadingRows.{row_at}
+use Rattle.lab_script.specs.ReadingSetup.{row_onto, rows_onto, rows_at, no_rows_at, table_at, ends_setup, setup_at}
+use Rattle.lab_script.proofs.Same.{same_token, and_both, after_is, bind_some, some_is}
+use Rattle.lab_script.proofs.ReadNumbers.{after_then, guard_some, under}
+use Rattle.lab_script.proofs.ReadRows.{RowTaken, parts_of, row_again, row_takes}
+use Rattle.lab_script.proofs.SetupLoop.{behind_row}
+use Rattle.lab_script.proofs.DistinctRows.{none_distinct, not_before, absent_from, is_absent, pushed_table, pushed_distinct}
+
+-- the table that rows make
+abbrev table_of : List (Row × ℤ) → Table
+table_of rows = from_entries rows
+
+-- what is in the grammar is read
+
+-- a row of the grammar is added to those before it, whatever follows it
+row_onto_again : {ts : List Token} {id : Row} {value : ℤ} → IsRow ts id value → (before : List (Row × ℤ)) → find row_cmp id before ≡ None → (rest : List Token)
+    → row_onto (table_of before) (ts ++ rest) ≡ Some (table_of (before ++ (id, value) ∷ []), rest)
+unfolding row_onto
+row_onto_again {ts} {id} {value} h before none rest =
+    rw (row_onto, row_again h rest, is_absent before id none) (ap (λ (t : Table). Some (t, rest)) (sym (pushed_table before (id, value) none)))
+
+-- rows of the grammar are added to those before them, where no row comes twice
+rows_again : {ts : List Token} {rows : List (Row × ℤ)} → IsRows ts rows → (before : List (Row × ℤ)) → AllDistinct (before ++ rows) → (end : List Token) → after token.Comma end ≡ None
+    → (k : ℕ) → length (ts ++ end) < k → rows_onto k (table_of before) (ts ++ end) ≡ Some (table_of (before ++ rows), end)
+unfolding rows_onto
+rows_again h before all end none zero lt = absurd (omega (arith, lt))
+rows_again (grammar.last {ts} {id} {value} h) before all end none (suc k) lt =
+    rw (rows_onto, row_onto_again h before (not_before before [] (id, value) all) end) (ap (behind_row k (table_of (before ++ (id, value) ∷ [])) end) none)
+rows_again (grammar.more {ts} {rest} {id} {value} {rows} h hs) before all end none (suc k) lt =
+    let text : ts ++ token.Comma ∷ rest ++ end ≡ ts ++ (token.Comma ∷ (rest ++ end)) = append_assoc ts (token.Comma ∷ rest) end in
+    let listed : before ++ (id, value) ∷ rows ≡ before ++ (id, value) ∷ [] ++ rows = sym (append_assoc before ((id, value) ∷ []) rows) in
+    let long : length (ts ++ token.Comma ∷ rest ++ end) ≡ length ts + suc (length (rest ++ end)) = ap length text ∙ length-append ts (token.Comma ∷ (rest ++ end)) in
+    let next = rows_again hs (before ++ (id, value) ∷ []) (subst AllDistinct listed all) end none k (omega (arith, lt, long)) in
+    rw (text, rows_onto, row_onto_again h before (not_before before rows (id, value) all) (token.Comma ∷ (rest ++ end))) (next ∙ ap (λ (l : List (Row × ℤ)). Some (table_of l, end)) (sym listed))
+
+-- a number doesn't begin with a parenthesis
+no_close : {ts : List Token} {z : ℤ} → IsNumber ts z → (rest : List Token) → after token.Close (ts ++ rest) ≡ None
+no_close (grammar.positive n le) rest = refl
+no_close (grammar.negative n le) rest = refl
+
+id_no_close : {ts : List Token} {id : Row} → IsId ts id → (rest : List Token) → after token.Close (ts ++ rest) ≡ None
+id_no_close (grammar.named id number low high) rest = no_close number rest
+
+-- what begins with a row isn't the parentheses of no row
+row_shown : {ts : List Token} {id : Row} {value : ℤ} → IsRow ts id value → (rest : List Token) → no_rows_at (ts ++ rest) ≡ None
+unfolding no_rows_at
+row_shown (grammar.row {is} {vs} i v) rest = rw (parts_of is vs rest) (id_no_close i (token.Comma ∷ (vs ++ token.Close ∷ rest)))
+
+rows_shown : {ts : List Token} {rows : List (Row × ℤ)} → IsRows ts rows → (end : List Token) → no_rows_at (ts ++ end) ≡ None
+rows_shown (grammar.last h) end = row_shown h end
+rows_shown (grammar.more {ts} {rest} h hs) end = ap no_rows_at (append_assoc ts (token.Comma ∷ rest) end) ∙ row_shown h (token.Comma ∷ rest ++ end)
+
+no_comma : (end : List Token) → IsEnd end → after token.Comma end ≡ None
+no_comma _ grammar.open_end = refl
+no_comma _ grammar.semicolon = refl
+
+-- the rows of a setup are read as their table
+table_again : {ts : List Token} {rows : List (Row × ℤ)} → IsRowList ts rows → AllDistinct rows → (end : List Token) → IsEnd end → table_at (ts ++ end) ≡ Some (table_of rows, end)
+unfolding table_at rows_at no_rows_at
+table_again grammar.none all end e = refl
+table_again (grammar.some {ts} {rows} h) all end e = rw (table_at, rows_shown h end) (rows_again h [] all end (no_comma end e) (suc (length (ts ++ end))) (omega arith))
+
+end_again : (end : List Token) → IsEnd end → is_end end ≡ true
+end_again _ grammar.open_end = refl
+end_again _ grammar.semicolon = refl
+
+-- a setup of the grammar is read as its table
+pub setup_again : {ts : List Token} {table : Table} → IsSetup ts table → setup_at ts ≡ Some table
+unfolding setup_at
+setup_again (grammar.setup {ts} {end} {rows} h all e short) = rw (table_again h all end e, end_again end e, le-leb (length (printed_setup (table_of rows))) 4000 short) refl
+
+-- what is read is in the grammar
+
+otherwise_some : {A : Type 0} (b : Bool) (x y : A) → cond b None (Some x) ≡ Some y → (b ≡ false) × (x ≡ y)
+otherwise_some true x y e = absurd cc
+otherwise_some false x y e = (refl, some_is x y e)
+
+-- a row at the front that is added to those before it
+record RowAdded (before : List (Row × ℤ)) (ts : List Token) (x : Table × List Token) : Type 0 where
+  row : Row × ℤ
+  front : List Token
+  text : ts ≡ front ++ x.1
+  spelled : IsRow front row.0 row.1
+  absent : find row_cmp row.0 before ≡ None
+  table : x.0 ≡ table_of (before ++ row ∷ [])
+
+-- what is read as a row that is added is one of the grammar
+row_onto_takes : (before : List (Row × ℤ)) (ts : List Token) (x : Table × List Token) → row_onto (table_of before) ts ≡ Some x → RowAdded before ts x
+unfolding row_onto
+row_onto_takes before ts x e =
+    let a = bind_some (row_at ts) (λ row. cond (contains_key (table_of before) row.0.0) None (Some (insert (table_of before) row.0.0 row.0.1, row.1))) x e in
+    added before ts x a.0 (row_takes ts a.0 a.1) a.2
+  where
+    added : (before : List (Row × ℤ)) (ts : List Token) (x : Table × List Token) (row : (Row × ℤ) × List Token) → RowTaken ts row
+        → cond (contains_key (table_of before) row.0.0) None (Some (insert (table_of before) row.0.0 row.0.1, row.1)) ≡ Some x → RowAdded before ts x
+    added before ts x row taken e =
+        let o = otherwise_some (contains_key (table_of before) row.0.0) (insert (table_of before) row.0.0 row.0.1, row.1) x e in
+        let none = absent_from before row.0.0 o.0 in
+        subst (RowAdded before ts) o.1 (record { row = row.0; front = taken.0; text = taken.1; spelled = taken.2; absent = none; table = sym (pushed_table before row.0 none) })
+
+-- rows at the front that are added to those before them
+record RowsAdded (before : List (Row × ℤ)) (ts : List Token) (x : Table × List Token) : Type 0 where
+  rows : List (Row × ℤ)
+  front : List Token
+  text : ts ≡ front ++ x.1
+  spelled : IsRows front rows
+  distinct : AllDistinct (before ++ rows)
+  table : x.0 ≡ table_of (before ++ rows)
+
+-- one row is the last
+one_added : (before : List (Row × ℤ)) (ts : List Token) (x : Table × List Token) → AllDistinct before → RowAdded before ts x → RowsAdded before ts x
+one_added before ts x all r = record { rows = r.row ∷ []; front = r.front; text = r.text; spelled = grammar.last r.spelled; distinct = pushed_distinct before r.row all r.absent; table = r.table }
+
+-- a row, a comma and the rows behind it
+more_added : (before : List (Row × ℤ)) (ts rest : List Token) (x y : Table × List Token) (r : RowAdded before ts y) → y.1 ≡ token.Comma ∷ rest → RowsAdded (before ++ r.row ∷ []) rest x → RowsAdded before ts x
+more_added before ts rest x y r comma s =
+    let listed : before ++ r.row ∷ [] ++ s.rows ≡ before ++ r.row ∷ s.rows = append_assoc before (r.row ∷ []) s.rows in
+    record {
+      rows = r.row ∷ s.rows;
+      front = r.front ++ token.Comma ∷ s.front;
+      text = r.text ∙ ap (λ (u : List Token). r.front ++ u) (comma ∙ under token.Comma _ _ s.text) ∙ sym (append_assoc r.front (token.Comma ∷ s.front) x.1);
+      spelled = grammar.more r.spelled s.spelled;
+      distinct = subst AllDistinct listed s.distinct;
+      table = s.table ∙ ap table_of listed;
+    }
+
+-- rows, from the first and from what is read behind its comma
+behind_takes : (k : ℕ) (before : List (Row × ℤ)) (ts : List Token) (x y : Table × List Token)
+    → ((first : List (Row × ℤ)) (rest : List Token) → AllDistinct first → rows_onto k (table_of first) rest ≡ Some x → RowsAdded first rest x)
+    → AllDistinct before → RowAdded before ts y → (o : Option (List Token)) → after token.Comma y.1 ≡ o → behind_row k y.0 y.1 o ≡ Some x → RowsAdded before ts x
+behind_takes k before ts x y later all r None is e = subst (RowsAdded before ts) (some_is y x e) (one_added before ts y all r)
+behind_takes k before ts x y later all r (Some rest) is e =
+    let read : rows_onto k (table_of (before ++ r.row ∷ [])) rest ≡ Some x = ap (λ (t : Table). rows_onto k t rest) (sym r.table) ∙ e in
+    more_added before ts rest x y r (after_is token.Comma y.1 rest is) (later (before ++ r.row ∷ []) rest (pushed_distinct before r.row all r.absent) read)
+
+-- what is read as rows is rows of the grammar, none of which comes twice
+rows_take : (k : ℕ) (x : Table × List Token) (before : List (Row × ℤ)) (ts : List Token) → AllDistinct before → rows_onto k (table_of before) ts ≡ Some x → RowsAdded before ts x
+unfolding rows_onto
+rows_take zero x before ts all e = absurd cc
+rows_take (suc k) x before ts all e =
+    let a = bind_some (row_onto (table_of before) ts) (λ y. behind_row k y.0 y.1 (after token.Comma y.1)) x e in
+    behind_takes k before ts x a.0 (rows_take k x) all (row_onto_takes before ts a.0 a.1) (after token.Comma a.0.1) refl a.2
+
+-- the rows of a setup at the front, and their table
+record TableTaken (ts : List Token) (x : Table × List Token) : Type 0 where
+  rows : List (Row × ℤ)
+  front : List Token
+  text : ts ≡ front ++ x.1
+  spelled : IsRowList front rows
+  distinct : AllDistinct rows
+  table : x.0 ≡ table_of rows
+
+-- what is read as the rows of a setup is in the grammar
+table_takes : (ts : List Token) (x : Table × List Token) → table_at ts ≡ Some x → TableTaken ts x
+unfolding table_at rows_at no_rows_at
+table_takes ts x e = chosen (no_rows_at ts) refl e
+  where
+    chosen : (o : Option (List Token)) → no_rows_at ts ≡ o → elim o [ None ↦ rows_at ts | Some rest ↦ Some (empty, rest) ] ≡ Some x → TableTaken ts x
+    chosen None is h =
+        let r = rows_take (suc (length ts)) x [] ts none_distinct h in
+        record { rows = r.rows; front = r.front; text = r.text; spelled = grammar.some r.spelled; distinct = r.distinct; table = r.table }
+    chosen (Some rest) is h =
+        let opened = after_then token.Open ts (λ us. after token.Close us) rest is in
+        let text : ts ≡ token.Open ∷ token.Close ∷ [] ++ rest = opened.1 ∙ under token.Open _ _ (after_is token.Close opened.0 rest opened.2) in
+        subst (TableTaken ts) (some_is (empty, rest) x h) (record { rows = []; front = token.Open ∷ token.Close ∷ []; text = text; spelled = grammar.none; distinct = none_distinct; table = refl })
+
+end_takes : (ts : List Token) → is_end ts ≡ true → IsEnd ts
+end_takes [] e = grammar.open_end
+end_takes (t ∷ ts) e =
+    let both = and_both (is_token t token.Semicolon) (length ts == 0) e in
+    let head : t ≡ token.Semicolon = same_token t token.Semicolon both.0 in
+    let tail : ts ≡ [] = nil_from_length ts (eqb-true (length ts) 0 both.1) in
+    let whole : token.Semicolon ∷ [] ≡ t ∷ ts = cc in
+    subst IsEnd whole grammar.semicolon
+
+-- the setup of a table that is taken behind its word
+setup_made : (ts rest : List Token) (table : Table) (x : Table × List Token) → ts ≡ token.Word word.Setup ∷ rest → TableTaken rest x → cond (ends_setup x.0 x.1) (Some x.0) None ≡ Some table → IsSetup ts table
+setup_made ts rest table x begun t e =
+    let g = guard_some (ends_setup x.0 x.1) x.0 table e in
+    let both = and_both (is_end x.1) (nat_le (length (printed_setup x.0)) 4000) g.0 in
+    let short : length (printed_setup x.0) ≤ 4000 = leb-true _ _ both.1 in
+    let made : IsSetup (token.Word word.Setup ∷ t.front ++ x.1) (table_of t.rows) =
+    grammar.setup t.spelled t.distinct (end_takes x.1 both.0) (subst (λ (u : Table). length (printed_setup u) ≤ 4000) t.table short) in
+    let text : token.Word word.Setup ∷ t.front ++ x.1 ≡ ts = sym (begun ∙ under _ _ _ t.text) in
+    let same : table_of t.rows ≡ table = sym t.table ∙ g.1 in
+    subst (λ (us : List Token). IsSetup us table) text (subst (IsSetup (token.Word word.Setup ∷ t.front ++ x.1)) same made)
+
+-- what is read as a setup is one of the grammar
+pub setup_takes : (ts : List Token) (table : Table) → setup_at ts ≡ Some table → IsSetup ts table
+unfolding setup_at
+setup_takes ts table e =
+    let a = after_then (token.Word word.Setup) ts (λ rest. table_at rest >>= λ x. cond (ends_setup x.0 x.1) (Some x.0) None) table e in
+    let b = bind_some (table_at a.0) (λ x. cond (ends_setup x.0 x.1) (Some x.0) None) table a.2 in
+    setup_made ts a.0 table b.0 a.1 (table_takes a.0 b.0 b.1) b.2
+
+-- the same, as the code meets it
+pub setup_found : (ts : List Token) (r : Result Table Stop) → Gives (λ x. x) r (setup_at ts) → IfOk r (λ table. IsSetup ts table)
+setup_found ts (Ok table) given = setup_takes ts table given
+setup_found ts (Err e) given = tt
+
+-- what the grammar says of setups
+
+-- tokens spell at most one table
+pub setup_once : {ts : List Token} {t u : Table} → IsSetup ts t → IsSetup ts u → t ≡ u
+setup_once {ts} {t} {u} h k = some_is t u (sym (setup_again h) ∙ setup_again k)
+
+-- a setup begins with its word
+pub setup_begins : {ts : List Token} {t : Table} → IsSetup ts t → (rest : List Token) × (ts ≡ token.Word word.Setup ∷ rest)
+setup_begins (grammar.setup {ts} {end} {rows} h all e short) = (ts ++ end, refl)
+
+-- the printed line of a setup is within its limit
+pub setup_short : {ts : List Token} {t : Table} → IsSetup ts t → length (printed_setup t) ≤ 4000
+setup_short (grammar.setup h all e short) = short

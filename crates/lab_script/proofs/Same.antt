@@ -1,0 +1,121 @@
+-- Tokens of one number are one.
+use Rattle.std.proofs.Common.{◌≡◌, ℕ, Bool, true, false, cond, List, [], ◌∷◌, Option, Some, None, refl, sym, ap, ◌∙◌, inl, inr}
+use Rattle.std.specs.Prelude.{◌==◌, ◌&&◌, ◌≤◌, nat_le}
+use Rattle.std.proofs.lemmas.Bool.{eqb-true, cases_Bool, le-leb, leb-true, false≢true}
+use Rattle.std.proofs.Common.{zero, suc, arith}
+use Rattle.lab_script.specs.declared.token.Word.{Word}
+use Rattle.lab_script.specs.declared.token.Word.TheVariants as word
+use Rattle.lab_script.specs.declared.token.Token.{Token}
+use Rattle.lab_script.specs.declared.token.Token.TheVariants as token
+use Rattle.lab_script.specs.Reading.{word_number, token_number, token_digits, is_token, when, after, ◌>>=◌}
+
+abbrev named : ℕ → Token
+named n = cond (n == 0) (token.Word word.Setup) (cond (n == 1) (token.Word word.Begin) (cond (n == 2) (token.Word word.Commit) (cond (n == 3) (token.Word word.Abort) (cond (n == 4) (token.Word word.Rollback) (cond (n == 5) (token.Word word.Set) (cond (n == 6) (token.Word word.Transaction) (cond (n == 7) (token.Word word.Isolation) (cond (n == 8) (token.Word word.Level) (cond (n == 9) (token.Word word.Select) (cond (n == 10) (token.Word word.From) (cond (n == 11) (token.Word word.Test) (cond (n == 12) (token.Word word.Where) (cond (n == 13) (token.Word word.Update) (cond (n == 14) (token.Word word.Value) (cond (n == 15) (token.Word word.Insert) (cond (n == 16) (token.Word word.Into) (cond (n == 17) (token.Word word.Id) (cond (n == 18) (token.Word word.Values) (cond (n == 19) (token.Word word.Delete) (cond (n == 20) (token.Word word.And) (cond (n == 21) (token.Word word.Or) (cond (n == 22) (token.Word word.Not) (cond (n == 23) (token.Word word.In) (cond (n == 24) (token.Word word.Other) (cond (n == 50) token.Open (cond (n == 51) token.Close (cond (n == 52) token.Comma (cond (n == 53) token.Semicolon (cond (n == 54) token.Star (cond (n == 55) token.Equal (cond (n == 56) token.Unequal (cond (n == 57) token.Less (cond (n == 58) token.AtMost (cond (n == 59) token.Greater (cond (n == 60) token.AtLeast (cond (n == 61) token.Percent (cond (n == 62) token.Plus (cond (n == 63) token.Minus (cond (n == 64) token.Unknown (token.Unknown))))))))))))))))))))))))))))))))))))))))
+
+abbrev numbered : ℕ → ℕ → Token
+numbered n digits = cond (n == 99) (token.Digits digits) (named n)
+
+again_word : (w : Word) → numbered (word_number w) 0 ≡ token.Word w
+again_word word.Setup = refl
+again_word word.Begin = refl
+again_word word.Commit = refl
+again_word word.Abort = refl
+again_word word.Rollback = refl
+again_word word.Set = refl
+again_word word.Transaction = refl
+again_word word.Isolation = refl
+again_word word.Level = refl
+again_word word.Select = refl
+again_word word.From = refl
+again_word word.Test = refl
+again_word word.Where = refl
+again_word word.Update = refl
+again_word word.Value = refl
+again_word word.Insert = refl
+again_word word.Into = refl
+again_word word.Id = refl
+again_word word.Values = refl
+again_word word.Delete = refl
+again_word word.And = refl
+again_word word.Or = refl
+again_word word.Not = refl
+again_word word.In = refl
+again_word word.Other = refl
+
+again : (t : Token) → numbered (token_number t) (token_digits t) ≡ t
+again (token.Word w) = again_word w
+again (token.Digits n) = refl
+again token.Open = refl
+again token.Close = refl
+again token.Comma = refl
+again token.Semicolon = refl
+again token.Star = refl
+again token.Equal = refl
+again token.Unequal = refl
+again token.Less = refl
+again token.AtMost = refl
+again token.Greater = refl
+again token.AtLeast = refl
+again token.Percent = refl
+again token.Plus = refl
+again token.Minus = refl
+again token.Unknown = refl
+
+pub and_both : (a b : Bool) → (a && b) ≡ true → (a ≡ true) × (b ≡ true)
+and_both true true e = (refl, refl)
+and_both true false e = absurd cc
+and_both false b e = absurd cc
+
+pub same_token : (t u : Token) → is_token t u ≡ true → t ≡ u
+same_token t u e =
+    let both = and_both (token_number t == token_number u) (token_digits t == token_digits u) e in
+    sym (again t) ∙ ap (λ (n : ℕ). numbered n (token_digits t)) (eqb-true (token_number t) (token_number u) both.0) ∙ ap (numbered (token_number u)) (eqb-true (token_digits t) (token_digits u) both.1) ∙ again u
+
+abbrev some : {A : Type 0} → A → Option A
+some x = Some x
+
+pub some_is : {A : Type 0} (x y : A) → some x ≡ some y → x ≡ y
+some_is x y e = cc
+
+none_is : {A : Type 0} (y : A) → None ≡ some y → ⊥
+none_is y e = cc
+
+pub after_is : (t : Token) (ts rest : List Token) → after t ts ≡ Some rest → ts ≡ t ∷ rest
+after_is t [] rest e = absurd cc
+after_is t (u ∷ us) rest e =
+    elim (cases_Bool (is_token t u)) [
+      | inl is ↦ let tail : us ≡ rest = some_is us rest (sym (ap (λ (b : Bool). cond b (Some us) None) is) ∙ e) in
+          let head : t ≡ u = same_token t u is in
+          cc
+      | inr isnt ↦ absurd (none_is rest (sym (ap (λ (b : Bool). cond b (Some us) None) isnt) ∙ e))
+    ]
+
+pub bind_some : {A B : Type 0} (r : Option A) (f : A → Option B) (y : B) → (r >>= f) ≡ Some y → (x : A) × (r ≡ Some x) × (f x ≡ Some y)
+bind_some (Some x) f y e = (x, refl, e)
+bind_some None f y e = absurd cc
+
+-- a test that says what another says
+pub same_test : (b : Bool) (m n : ℕ) → (b ≡ true → m ≤ n) → (m ≤ n → b ≡ true) → nat_le m n ≡ b
+same_test true m n there back = le-leb m n (there refl)
+same_test false m n there back = elim (cases_Bool (nat_le m n)) [
+  | inl is ↦ absurd (false≢true (back (leb-true m n is)))
+  | inr isnt ↦ isnt
+]
+
+-- what is read where a token may be found was read behind it or in its place
+pub when_takes : {X R : Type 0} (t : Token) (ts : List Token) (found : List Token → Option X) (other : Option X) (x : X) → when (after t ts) found other ≡ Some x
+    → ((rest : List Token) → ts ≡ t ∷ rest → found rest ≡ Some x → R) → (after t ts ≡ None → other ≡ Some x → R) → R
+when_takes {X} {R} t ts found other x e behind instead = choose (after t ts) refl e
+  where
+    choose : (o : Option (List Token)) → after t ts ≡ o → when o found other ≡ Some x → R
+    choose (Some rest) is h = behind rest (after_is t ts rest is) h
+    choose None is h = instead is h
+
+-- a test for zero that fails
+pub some_left : (b : Bool) (n : ℕ) → b ≡ (n == 0) → b ≡ false → 1 ≤ n
+some_left b zero is fails = absurd (false≢true (sym fails ∙ is))
+some_left b (suc n) is fails = omega arith
+
+-- a test for zero that holds
+pub none_left : (b : Bool) (n : ℕ) → b ≡ (n == 0) → b ≡ true → n ≡ 0
+none_left b n is holds = eqb-true n 0 (sym is ∙ holds)

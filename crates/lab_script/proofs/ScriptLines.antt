@@ -1,0 +1,98 @@
+-- What lines spell: a line makes one thing at most of what stands before it, and so do lines.
+use Rattle.std.proofs.Common.{◌≡◌, ℕ, ◌+◌, ◌≤◌, Bool, true, false, cond, List, [], ◌∷◌, ◌++◌, length, map, Option, Some, None, refl, sym, ap, subst, ◌∙◌, arith, length-append, suc}
+use Rattle.std.specs.Prelude.{◌-◌, IfSome}
+use Rattle.std.specs.List.{list_all}
+use Rattle.std.specs.Char.{to_ascii_lowercase, is_ascii_digit}
+use Rattle.std.proofs.lemmas.List.{length-map}
+use Rattle.lab_table.specs.declared.statement.Command.{Command}
+use Rattle.lab_script.specs.declared.script.Line.{Line}
+use Rattle.lab_script.specs.declared.script.Script.{Script}
+use Rattle.lab_script.specs.declared.token.Word.TheVariants as word
+use Rattle.lab_script.specs.declared.token.Token.{Token}
+use Rattle.lab_script.specs.declared.token.Token.TheVariants as token
+use Rattle.lab_script.specs.Token.{Part, gap, letters, whole, is_letter, is_blank, mark, tokens, tokens_from}
+use Rattle.lab_script.specs.Grammar.{IsCommands, IsSetup}
+use Rattle.lab_script.specs.Script as script
+use Rattle.lab_script.specs.Script.{code_of, remark_of, session_of, is_passed, IsFit, BeginsSetup, extended, LineSpells, LinesSpell}
+use Rattle.lab_script.proofs.Same.{and_both}
+use Rattle.lab_script.proofs.ReadCommands.{commands_once, not_empty}
+use Rattle.lab_script.proofs.ReadSetup.{setup_once, setup_begins}
+
+-- blanks have no tokens
+pub no_tokens : (code : List ℕ) → list_all is_blank code ≡ true → tokens code ≡ []
+no_tokens [] blank = refl
+no_tokens (b ∷ bytes) blank =
+    let both = and_both (is_blank b) (list_all is_blank bytes) blank in
+    ap (λ (v : Bool). tokens_from (cond v gap (cond (is_letter b) (letters (to_ascii_lowercase b ∷ [])) (cond (is_ascii_digit b) (whole (token.Digits (b - 48))) (whole (mark b))))) bytes) both.0
+    ∙ no_tokens bytes both.1
+
+-- a line that is passed over spells no setup and no commands
+passed_no_setup : (line : List ℕ) {A : Type 0} → is_passed line ≡ true → BeginsSetup (tokens (code_of line)) → A
+passed_no_setup line passed begins =
+    let none : [] ≡ token.Word word.Setup ∷ begins.0 = sym (no_tokens (code_of line) passed) ∙ begins.1 in
+    absurd cc
+
+passed_no_commands : (line : List ℕ) {cs : List Command} {A : Type 0} → is_passed line ≡ true → IsCommands (tokens (code_of line)) cs → A
+passed_no_commands line {cs} passed commands = absurd (not_empty (subst (λ (ts : List Token). IsCommands ts cs) (no_tokens (code_of line) passed) commands))
+
+-- a line that spells something may have its number
+pub fit_of : {number : ℕ} {line : List ℕ} {before after : Option Script} → LineSpells number line before after → IsFit number line
+fit_of (script.passed s fit is) = fit
+fit_of (script.setup fit is) = fit
+fit_of (script.commands s fit is session room) = fit
+
+pub some_is : {A : Type 0} {x y : A} → ◌≡◌ {A = Option A} (Some x) (Some y) → x ≡ y
+some_is e = cc
+
+-- a line makes one thing at most of what stands before it
+pub line_once : {number : ℕ} {line : List ℕ} {before a b : Option Script} → LineSpells number line before a → LineSpells number line before b → a ≡ b
+line_once {line = line} (script.passed s fit is) (script.passed r fits also) = refl
+line_once {line = line} (script.passed s fit is) (script.setup fits spelled) = passed_no_setup line is (setup_begins spelled)
+line_once {line = line} (script.passed s fit is) (script.commands r fits spelled session room) = passed_no_commands line is spelled
+line_once {line = line} (script.setup fit spelled) (script.passed r fits also) = passed_no_setup line also (setup_begins spelled)
+line_once {line = line} (script.setup fit spelled) (script.setup fits also) = ap (λ t. Some (record { setup = t; lines = [] })) (setup_once spelled also)
+line_once {line = line} (script.commands s fit spelled session room) (script.passed r fits also) = passed_no_commands line also spelled
+line_once {number} {line} (script.commands {cs = cs} {session = one} s fit spelled session room) (script.commands {cs = ds} {session = other} r fits also named few) =
+    ap (λ c. Some (extended s one number c)) (commands_once spelled also)
+    ∙ ap (λ n. Some (extended s n number ds)) (some_is (sym session ∙ named))
+
+-- lines make one thing at most of what stands before them
+pub lines_once : (number : ℕ) (before : Option Script) (ls : List (List ℕ)) {a b : Option Script} → LinesSpell number before ls a → LinesSpell number before ls b → a ≡ b
+lines_once number before [] one other = one ∙ sym other
+lines_once number before (line ∷ ls) {a} {b} one other =
+    let same = line_once one.1 other.1 in
+    lines_once (number + 1) one.0 ls one.2 (subst (λ (mid : Option Script). LinesSpell (number + 1) mid ls b) (sym same) other.2)
+
+-- what lines and those behind them make, one after another
+pub lines_join : (number : ℕ) (before : Option Script) (ls more : List (List ℕ)) (mid after : Option Script)
+    → LinesSpell number before ls mid → LinesSpell (number + length ls) mid more after → LinesSpell number before (ls ++ more) after
+lines_join number before [] more mid after front back =
+    let same : number + 0 ≡ number = omega arith in
+    subst (λ (n : ℕ). LinesSpell n before more after) same (subst (λ (m : Option Script). LinesSpell (number + 0) m more after) front back)
+lines_join number before (line ∷ ls) more mid after front back =
+    let same : number + length (line ∷ ls) ≡ (number + 1) + length ls = omega arith in
+    (front.0, front.1, lines_join (number + 1) front.0 ls more mid after front.2 (subst (λ (n : ℕ). LinesSpell n mid more after) same back))
+
+-- the lines at the front make something, and those behind them go on from there
+pub lines_front : (number : ℕ) (before : Option Script) (ls more : List (List ℕ)) (after : Option Script) → LinesSpell number before (ls ++ more) after
+    → (mid : Option Script) × LinesSpell number before ls mid × LinesSpell (number + length ls) mid more after
+lines_front number before [] more after all =
+    let same : number ≡ number + 0 = omega arith in
+    (before, refl, subst (λ (n : ℕ). LinesSpell n before more after) same all)
+lines_front number before (line ∷ ls) more after all =
+    let rest = lines_front (number + 1) all.0 ls more after all.2 in
+    let same : (number + 1) + length ls ≡ number + length (line ∷ ls) = omega arith in
+    (rest.0, (all.0, all.1, rest.1), subst (λ (n : ℕ). LinesSpell n rest.0 more after) same rest.2)
+
+-- a script that has room for its lines
+abbrev pub IsFew : Option Script → Type 0
+IsFew script = IfSome script (λ s. length s.lines ≤ 1999)
+
+-- a line keeps a script within its number of commands
+pub line_few : {number : ℕ} {line : List ℕ} {before after : Option Script} → LineSpells number line before after → IsFew before → IsFew after
+line_few (script.passed s fit is) few = few
+line_few (script.setup fit spelled) few = omega arith
+line_few {number} (script.commands {cs = cs} {session = one} s fit spelled session room) few =
+    let more : List Line = map (λ c. record { session = one; command = c; text_line = number }) cs in
+    let len : length more ≡ length cs = length-map cs _ in
+    omega (arith, length-append s.lines more)

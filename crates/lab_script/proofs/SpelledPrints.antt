@@ -1,0 +1,37 @@
+-- A script that a text spells prints.
+use Rattle.std.proofs.Common.{◌≡◌, ℕ, ◌+◌, ◌≤◌, List, [], ◌∷◌, ◌++◌, length, map, Option, Some, None, subst, sym, arith, length-append}
+use Rattle.std.specs.Prelude.{IfSome}
+use Rattle.std.proofs.lemmas.List.{length-map}
+use Rattle.lab_table.specs.declared.statement.Command.{Command}
+use Rattle.lab_script.specs.declared.script.Line.{Line}
+use Rattle.lab_script.specs.declared.script.Script.{Script}
+use Rattle.lab_script.specs.Limits.{CommandPrints, AllPrint, ScriptPrints}
+use Rattle.lab_script.specs.Script as script
+use Rattle.lab_script.specs.Script.{LineSpells, LinesSpell, Spells}
+use Rattle.lab_script.proofs.GrammarPrints.{EachPrints, commands_print}
+use Rattle.lab_script.proofs.ReadSetup.{setup_short}
+
+-- lines print, and so do those of commands behind them
+all_print : (lines : List Line) (cs : List Command) (session number : ℕ) → AllPrint lines → EachPrints cs
+    → AllPrint (lines ++ map (λ c. record { session = session; command = c; text_line = number }) cs)
+all_print [] [] session number lines commands = tt
+all_print [] (c ∷ cs) session number lines commands = (commands.0, all_print [] cs session number tt commands.1)
+all_print (line ∷ lines) cs session number all commands = (all.0, all_print lines cs session number all.1 commands)
+
+-- what a line makes of a script that prints prints
+line_prints : {number : ℕ} {line : List ℕ} {before after : Option Script} → LineSpells number line before after → IfSome before ScriptPrints → IfSome after ScriptPrints
+line_prints (script.passed s fit is) prints = prints
+line_prints (script.setup fit spelled) prints = record { setup = setup_short spelled; few = omega arith; lines = tt }
+line_prints {number} (script.commands {cs = cs} {session = one} s fit spelled session room) prints =
+    let more : List Line = map (λ c. record { session = one; command = c; text_line = number }) cs in
+    let len : length more ≡ length cs = length-map cs _ in
+    record { setup = prints.setup; few = omega (arith, length-append s.lines more); lines = all_print s.lines cs one number prints.lines (commands_print spelled) }
+
+-- lines keep a script printing
+lines_print : (number : ℕ) (before : Option Script) (ls : List (List ℕ)) (after : Option Script) → LinesSpell number before ls after → IfSome before ScriptPrints → IfSome after ScriptPrints
+lines_print number before [] after spelled prints = subst (λ (s : Option Script). IfSome s ScriptPrints) (sym spelled) prints
+lines_print number before (line ∷ ls) after spelled prints = lines_print (number + 1) spelled.0 ls after spelled.2 (line_prints spelled.1 prints)
+
+-- a script that a text spells prints
+pub spelled_prints : (text : List ℕ) (s : Script) → Spells text s → ScriptPrints s
+spelled_prints text s spelled = lines_print 1 None _ (Some s) spelled tt

@@ -1,0 +1,60 @@
+-- The tokens of the text of one statement.
+use Rattle.std.proofs.Common.{◌≡◌, ℕ, ◌<◌, ◌≤◌, ◌⊎◌, Bool, true, false, cond, List, [], ◌∷◌, ◌++◌, length, refl, sym, ap, subst, ◌∙◌, inl, inr, ⊎_elim, arith, Some, None}
+use Rattle.std.specs.List.{list_all}
+use Rattle.std.proofs.lemmas.Bool.{cases_Bool}
+use Rattle.lab_table.specs.declared.statement.Statement.{Statement}
+use Rattle.lab_script.specs.declared.stop.GrammarFault.{GrammarFault}
+use Rattle.lab_script.specs.declared.stop.GrammarFault.TheVariants as grammar
+use Rattle.lab_script.specs.declared.stop.Stop.{Stop}
+use Rattle.lab_script.specs.declared.stop.Stop.TheVariants as stop
+use Rattle.lab_script.specs.declared.token.Token.{Token}
+use Rattle.lab_script.specs.declared.token.Token.TheVariants as token
+use Rattle.lab_script.specs.Token.{tokens}
+use Rattle.lab_script.specs.Grammar.{IsWholeStatement}
+use Rattle.lab_script.specs.Reading.{Fails}
+use Rattle.lab_script.specs.Script.{begins_remark, code_of, is_code_byte, SpellsStatement, AreStatementTokens}
+use Rattle.lab_script.specs.Fault.{SaysOfStatement, IsStatementFault, kind_of, stop_at}
+use Rattle.lab_script.proofs.KnownTokens.{closed_known}
+
+-- code that is as long as the text is the text
+pub all_code : (text : List ℕ) → length text ≤ length (code_of text) → code_of text ≡ text
+all_code [] within = refl
+all_code (b ∷ bytes) within =
+    elim (cases_Bool (begins_remark (b ∷ bytes))) [
+      | inl is ↦
+          let none : code_of (b ∷ bytes) ≡ [] = ap (λ (v : Bool). cond v [] (b ∷ code_of bytes)) is in
+          let short : length (code_of (b ∷ bytes)) ≡ 0 = ap length none in
+          absurd (omega arith)
+      | inr isnt ↦
+          let on : code_of (b ∷ bytes) ≡ b ∷ code_of bytes = ap (λ (v : Bool). cond v [] (b ∷ code_of bytes)) isnt in
+          let len : length (code_of (b ∷ bytes)) ≡ length (b ∷ code_of bytes) = ap length on in
+          on ∙ ap (λ (bs : List ℕ). b ∷ bs) (all_code bytes (omega arith))
+    ]
+
+-- the tokens of a text that is all code, and of one that isn't
+pub code_tokens : (text code : List ℕ) {ts found : List Token} → code ≡ code_of text → length text ≤ length code → ts ≡ found → found ≡ tokens code → AreStatementTokens text ts
+code_tokens text code is within same found =
+    let all : code_of text ≡ text = all_code text (subst (λ (c : List ℕ). length text ≤ length c) is within) in
+    inl (all, same ∙ found ∙ ap tokens (is ∙ all))
+
+pub remark_tokens : (text code : List ℕ) {ts found : List Token} → code ≡ code_of text → length code < length text → ts ≡ found ++ token.Unknown ∷ [] → found ≡ tokens code → AreStatementTokens text ts
+remark_tokens text code is shorter same found =
+    inr (
+      λ all. let len : length code ≡ length text = ap length (is ∙ all) in absurd (omega arith),
+      same ∙ ap (λ (t : List Token). t ++ token.Unknown ∷ []) (found ∙ ap tokens is),
+    )
+
+module _ (text : List ℕ) (ts : List Token) (are : AreStatementTokens text ts) (short : length text ≤ 4000) (ascii : list_all is_code_byte text ≡ true) where
+  -- what these tokens spell, the text spells
+  pub text_spells : (s : Statement) → IsWholeStatement ts s → SpellsStatement text s
+  text_spells s closed =
+      ⊎_elim
+      (λ (whole : _). record {
+        bytes = short;
+        ascii = ascii;
+        no_remark = whole.0;
+        parts = (closed.parts.0, closed.parts.1, sym whole.1 ∙ closed.parts.2, closed.parts.3, closed.parts.4);
+        printed = closed.printed;
+      })
+      (λ (cut : _). absurd (closed_known (tokens (code_of text)) s (subst (λ (t : List Token). IsWholeStatement t s) cut.1 closed)))
+      are

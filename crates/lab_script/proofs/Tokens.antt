@@ -1,0 +1,163 @@
+-- How tokens go on.
+use Rattle.std.proofs.Common.{◌≡◌, ℕ, ◌+◌, ◌-◌, ◌*◌, ◌<◌, min, Bool, true, false, cond, ◌==◌, List, [], ◌∷◌, ◌++◌, length, take, drop, map, Option, Some, None, refl, sym, ap, ◌∙◌, append_assoc, suc, arith, subst, get_or, drop-cons, add-one, inl, inr}
+use Rattle.std.proofs.Math.Numerals.{one-add}
+use Rattle.std.specs.Prelude.{is_some, unwrap_or, option_map}
+use Rattle.std.proofs.lemmas.Bool.Decides.{nat_tests}
+use Rattle.std.specs.List.{prefix_len}
+use Rattle.std.specs.Char.{to_ascii_lowercase, is_ascii_digit}
+use Rattle.std.proofs.lemmas.List.{append-nil}
+use Rattle.std.proofs.lemmas.Bool.{cases_Bool, false_from_ne_true, eqb-true}
+use Rattle.lab_script.specs.declared.token.Word.{Word}
+use Rattle.lab_script.specs.declared.token.Token.{Token}
+use Rattle.lab_script.specs.declared.token.Token.TheVariants as token
+use Rattle.lab_script.specs.Token.{Part, gap, letters, whole, is_letter, is_blank, word_named, mark, begun, longer, ended, longer_token, tokens, tokens_from}
+
+pub goes_on : (part more : Part) (b : ℕ) (bs : List ℕ) → longer part b ≡ Some more → tokens_from part (b ∷ bs) ≡ tokens_from more bs
+goes_on part more b bs h = ap (λ (o : Option Part). cond (is_some o) [] (ended part) ++ tokens_from (unwrap_or o (begun b)) bs) h
+
+pub breaks : (part : Part) (b : ℕ) (bs : List ℕ) → longer part b ≡ None → tokens_from part (b ∷ bs) ≡ ended part ++ tokens_from (begun b) bs
+breaks part b bs h = ap (λ (o : Option Part). cond (is_some o) [] (ended part) ++ tokens_from (unwrap_or o (begun b)) bs) h
+
+pub one_more : (p : ℕ → Bool) (b : ℕ) (bs : List ℕ) → p b ≡ true → suc (prefix_len p bs) ≡ prefix_len p (b ∷ bs)
+one_more p b bs h = rw h (sym (one-add (prefix_len p bs)))
+
+pub no_more : (p : ℕ → Bool) (b : ℕ) (bs : List ℕ) → p b ≡ false → 0 ≡ prefix_len p (b ∷ bs)
+no_more p b bs h = rw h refl
+
+-- a word, of this length
+abbrev word_then : List ℕ → List ℕ → ℕ → List Token
+word_then word bs k = token.Word (word_named (word ++ map to_ascii_lowercase (take k bs))) ∷ tokens (drop k bs)
+
+-- letters go on to the first byte that is none
+pub letters_run : (bs word : List ℕ) → tokens_from (letters word) bs ≡ word_then word bs (prefix_len is_letter bs)
+letters_run [] word = rw append-nil refl
+letters_run (b ∷ bs) word =
+    elim (cases_Bool (is_letter b)) [
+      | inl is ↦ goes_on (letters word) (letters (word ++ to_ascii_lowercase b ∷ [])) b bs (ap (λ (v : Bool). cond v (Some (letters (word ++ to_ascii_lowercase b ∷ []))) None) is)
+          ∙ letters_run bs (word ++ to_ascii_lowercase b ∷ [])
+          ∙ ap (λ (w : List ℕ). token.Word (word_named w) ∷ tokens (drop (prefix_len is_letter bs) bs)) (append_assoc word (to_ascii_lowercase b ∷ []) (map to_ascii_lowercase (take (prefix_len is_letter bs) bs)))
+          ∙ ap (word_then word (b ∷ bs)) (one_more is_letter b bs is)
+      | inr isnt ↦ breaks (letters word) b bs (ap (λ (v : Bool). cond v (Some (letters (word ++ to_ascii_lowercase b ∷ []))) None) isnt)
+          ∙ ap (λ (w : List ℕ). token.Word (word_named w) ∷ tokens (b ∷ bs)) (sym (append-nil word))
+          ∙ ap (word_then word (b ∷ bs)) (no_more is_letter b bs isnt)
+    ]
+
+-- blanks don't matter
+pub blanks_run : (bs : List ℕ) → tokens bs ≡ tokens (drop (prefix_len is_blank bs) bs)
+blanks_run [] = refl
+blanks_run (b ∷ bs) =
+    elim (cases_Bool (is_blank b)) [
+      | inl is ↦ ap (λ (v : Bool). tokens_from (cond v gap (cond (is_letter b) (letters (to_ascii_lowercase b ∷ [])) (cond (is_ascii_digit b) (whole (token.Digits (b - 48))) (whole (mark b))))) bs) is
+          ∙ blanks_run bs ∙ ap (λ (k : ℕ). tokens (drop k (b ∷ bs))) (one_more is_blank b bs is)
+      | inr isnt ↦ ap (λ (k : ℕ). tokens (drop k (b ∷ bs))) (no_more is_blank b bs isnt)
+    ]
+
+-- what stands behind them is none of them
+pub front_stops : (p : ℕ → Bool) (bs : List ℕ) (b : ℕ) (after : List ℕ) → drop (prefix_len p bs) bs ≡ b ∷ after → p b ≡ false
+front_stops p [] b after e = absurd cc
+front_stops p (x ∷ xs) b after e =
+    elim (cases_Bool (p x)) [
+      | inl is ↦ front_stops p xs b after (ap (λ (k : ℕ). drop k (x ∷ xs)) (one_more p x xs is) ∙ e)
+      | inr isnt ↦
+          let same : x ∷ xs ≡ b ∷ after = ap (λ (k : ℕ). drop k (x ∷ xs)) (no_more p x xs isnt) ∙ e in
+          let head : x ≡ b = cc in
+          subst (λ (y : ℕ). p y ≡ false) head isnt
+    ]
+
+second : {A : Type 0} (v w : Bool) (x y z : A) → v ≡ false → w ≡ true → cond v x (cond w y z) ≡ y
+second false true x y z p q = refl
+second true w x y z p q = absurd cc
+second false false x y z p q = absurd cc
+
+third : {A : Type 0} (u v w : Bool) (t x y z : A) → u ≡ false → v ≡ false → w ≡ true → cond u t (cond v x (cond w y z)) ≡ y
+third false v w t x y z r p q = second v w x y z p q
+third true v w t x y z r p q = absurd cc
+
+last : {A : Type 0} (u v w : Bool) (t x y z : A) → u ≡ false → v ≡ false → w ≡ false → cond u t (cond v x (cond w y z)) ≡ z
+last false false false t x y z r p q = refl
+last true v w t x y z r p q = absurd cc
+last false true w t x y z r p q = absurd cc
+last false false true t x y z r p q = absurd cc
+
+from_part : (bs : List ℕ) (p q : Part) → p ≡ q → tokens_from p bs ≡ tokens_from q bs
+from_part bs p q e = ap (λ (x : Part). tokens_from x bs) e
+
+pub word_begins : (b : ℕ) (bs : List ℕ) → is_blank b ≡ false → is_letter b ≡ true → tokens (b ∷ bs) ≡ tokens_from (letters []) (b ∷ bs)
+word_begins b bs p q =
+    from_part bs _ _ (second (is_blank b) (is_letter b) gap (letters (to_ascii_lowercase b ∷ [])) (cond (is_ascii_digit b) (whole (token.Digits (b - 48))) (whole (mark b))) p q)
+    ∙ sym (goes_on (letters []) (letters (to_ascii_lowercase b ∷ [])) b bs (ap (λ (v : Bool). cond v (Some (letters (to_ascii_lowercase b ∷ []))) None) q))
+
+pub digit_goes_on : (n b : ℕ) (bs : List ℕ) → is_ascii_digit b ≡ true → tokens_from (whole (token.Digits n)) (b ∷ bs) ≡ tokens_from (whole (token.Digits (min (10 * n + (b - 48)) 1000000001))) bs
+digit_goes_on n b bs q = goes_on (whole (token.Digits n)) (whole (token.Digits (min (10 * n + (b - 48)) 1000000001))) b bs (ap (λ (v : Bool). option_map whole (cond v (Some (token.Digits (min (10 * n + (b - 48)) 1000000001))) None)) q)
+
+pub digit_ends : (n b : ℕ) (bs : List ℕ) → is_ascii_digit b ≡ false → tokens_from (whole (token.Digits n)) (b ∷ bs) ≡ token.Digits n ∷ tokens (b ∷ bs)
+digit_ends n b bs q = breaks (whole (token.Digits n)) b bs (ap (λ (v : Bool). option_map whole (cond v (Some (token.Digits (min (10 * n + (b - 48)) 1000000001))) None)) q)
+
+is_small : (b : ℕ) → is_ascii_digit b ≡ true → min (10 * 0 + (b - 48)) 1000000001 ≡ b - 48
+is_small b q = grind (arith, nat_tests)
+
+pub digits_begin : (b : ℕ) (bs : List ℕ) → is_blank b ≡ false → is_letter b ≡ false → is_ascii_digit b ≡ true → tokens (b ∷ bs) ≡ tokens_from (whole (token.Digits 0)) (b ∷ bs)
+digits_begin b bs p q r =
+    from_part bs _ _ (third (is_blank b) (is_letter b) (is_ascii_digit b) gap (letters (to_ascii_lowercase b ∷ [])) (whole (token.Digits (b - 48))) (whole (mark b)) p q r)
+    ∙ ap (λ (n : ℕ). tokens_from (whole (token.Digits n)) bs) (sym (is_small b r)) ∙ sym (digit_goes_on 0 b bs r)
+
+pub mark_begins : (b : ℕ) (bs : List ℕ) → is_blank b ≡ false → is_letter b ≡ false → is_ascii_digit b ≡ false → tokens (b ∷ bs) ≡ tokens_from (whole (mark b)) bs
+mark_begins b bs p q r =
+    from_part bs _ _ (last (is_blank b) (is_letter b) (is_ascii_digit b) gap (letters (to_ascii_lowercase b ∷ [])) (whole (token.Digits (b - 48))) (whole (mark b)) p q r)
+
+pub digits_on : (n i : ℕ) (bs : List ℕ) → i < length bs → is_ascii_digit (get_or bs i 0) ≡ true → tokens_from (whole (token.Digits n)) (drop i bs) ≡ tokens_from (whole (token.Digits (min (10 * n + (get_or bs i 0 - 48)) 1000000001))) (drop (i + 1) bs)
+digits_on n i bs lt q = ap (tokens_from (whole (token.Digits n))) (drop-cons bs i 0 lt ∙ ap (λ (k : ℕ). get_or bs i 0 ∷ drop k bs) (sym (add-one i))) ∙ digit_goes_on n (get_or bs i 0) (drop (i + 1) bs) q
+
+pub digits_end : (n i : ℕ) (bs : List ℕ) → i < length bs → is_ascii_digit (get_or bs i 0) ≡ false → tokens_from (whole (token.Digits n)) (drop i bs) ≡ token.Digits n ∷ tokens (drop i bs)
+digits_end n i bs lt q =
+    let split : drop i bs ≡ get_or bs i 0 ∷ drop (suc i) bs = drop-cons bs i 0 lt in
+    ap (tokens_from (whole (token.Digits n))) split ∙ digit_ends n (get_or bs i 0) (drop (suc i) bs) q ∙ ap (λ (x : List ℕ). token.Digits n ∷ tokens x) (sym split)
+
+-- a token that no byte makes longer is whole
+pub whole_run : (t : Token) (bs : List ℕ) → ((b : ℕ) → longer_token t b ≡ None) → tokens_from (whole t) bs ≡ t ∷ tokens bs
+whole_run t [] h = refl
+whole_run t (b ∷ bs) h = rw (h b) refl
+
+record Still (t : Token) : Type 0 where
+  ends : (n : ℕ) → longer_token t n ≡ None
+
+either : (v : Bool) (t u : Token) → Still t → Still u → Still (cond v t u)
+either true t u p q = p
+either false t u p q = q
+
+others : (b : ℕ) → (b == 60) ≡ false → (b == 62) ≡ false → Still (mark b)
+others b p q = rw (p, q) (either (b == 40) token.Open _ (record { ends = λ n. refl }) (either (b == 41) token.Close _ (record { ends = λ n. refl }) (either (b == 44) token.Comma _ (record { ends = λ n. refl }) (either (b == 59) token.Semicolon _ (record { ends = λ n. refl }) (either (b == 42) token.Star _ (record { ends = λ n. refl }) (either (b == 61) token.Equal _ (record { ends = λ n. refl }) (either (b == 37) token.Percent _ (record { ends = λ n. refl }) (either (b == 43) token.Plus _ (record { ends = λ n. refl }) (either (b == 45) token.Minus _ (record { ends = λ n. refl }) (record { ends = λ n. refl }))))))))))
+
+pub mark_run : (b : ℕ) (bs : List ℕ) → (b == 60) ≡ false → (b == 62) ≡ false → tokens_from (whole (mark b)) bs ≡ mark b ∷ tokens bs
+mark_run b bs p q = whole_run (mark b) bs (λ n. (others b p q).ends n)
+
+isnt_eq : (a b : ℕ) → (a ≡ b → ⊥) → (a == b) ≡ false
+isnt_eq a b h = false_from_ne_true (a == b) (λ e. h (eqb-true a b e))
+
+-- the same, as the code meets them
+pub other_mark : (b : ℕ) (bs : List ℕ) (t : Token) → t ≡ mark b → (b ≡ 60 → ⊥) → (b ≡ 62 → ⊥) → tokens_from (whole (mark b)) bs ≡ t ∷ tokens bs
+other_mark b bs t e p q = mark_run b bs (isnt_eq b 60 p) (isnt_eq b 62 q) ∙ ap (λ (u : Token). u ∷ tokens bs) (sym e)
+
+pub whole_word : (bs text rest : List ℕ) (len : ℕ) (word : Word) → len ≡ prefix_len is_letter bs → text ≡ take len bs → rest ≡ drop len bs → word ≡ word_named (map to_ascii_lowercase text) → tokens_from (letters []) bs ≡ token.Word word ∷ tokens rest
+whole_word bs text rest len word p q r e = rw (e, q, r, p) (letters_run bs [])
+
+skipped : (bs mid : List ℕ) (k : ℕ) → k ≡ prefix_len is_blank bs → mid ≡ drop k bs → tokens bs ≡ tokens mid
+skipped bs mid k p q = rw (q, p) (blanks_run bs)
+
+not_blank : (bs mid after : List ℕ) (k b : ℕ) → k ≡ prefix_len is_blank bs → mid ≡ drop k bs → mid ≡ b ∷ after → is_blank b ≡ false
+not_blank bs mid after k b p q r = front_stops is_blank bs b after (ap (λ (n : ℕ). drop n bs) (sym p) ∙ sym q ∙ r)
+
+pub found_none : (bs mid : List ℕ) (k : ℕ) → k ≡ prefix_len is_blank bs → mid ≡ drop k bs → mid ≡ [] → tokens bs ≡ []
+found_none bs mid k p q r = skipped bs mid k p q ∙ ap tokens r
+
+pub found_word : (bs mid after : List ℕ) (k b : ℕ) (r : List Token) → k ≡ prefix_len is_blank bs → mid ≡ drop k bs → mid ≡ b ∷ after → is_letter b ≡ true → tokens_from (letters []) mid ≡ r → tokens bs ≡ r
+found_word bs mid after k b r p q e is h =
+    skipped bs mid k p q ∙ ap tokens e ∙ word_begins b after (not_blank bs mid after k b p q e) is ∙ ap (tokens_from (letters [])) (sym e) ∙ h
+
+pub found_digits : (bs mid after : List ℕ) (k b : ℕ) (r : List Token) → k ≡ prefix_len is_blank bs → mid ≡ drop k bs → mid ≡ b ∷ after → is_letter b ≡ false → is_ascii_digit b ≡ true → tokens_from (whole (token.Digits 0)) mid ≡ r → tokens bs ≡ r
+found_digits bs mid after k b r p q e isnt is h =
+    skipped bs mid k p q ∙ ap tokens e ∙ digits_begin b after (not_blank bs mid after k b p q e) isnt is ∙ ap (tokens_from (whole (token.Digits 0))) (sym e) ∙ h
+
+pub found_mark : (bs mid after : List ℕ) (k b : ℕ) (r : List Token) → k ≡ prefix_len is_blank bs → mid ≡ drop k bs → mid ≡ b ∷ after → is_letter b ≡ false → is_ascii_digit b ≡ false → tokens_from (whole (mark b)) after ≡ r → tokens bs ≡ r
+found_mark bs mid after k b r p q e isnt isnt' h =
+    skipped bs mid k p q ∙ ap tokens e ∙ mark_begins b after (not_blank bs mid after k b p q e) isnt isnt' ∙ h

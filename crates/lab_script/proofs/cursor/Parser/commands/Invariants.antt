@@ -1,0 +1,12 @@
+use Rattle.std.proofs.Common.{◌≡◌, ℕ, ◌≤◌, length}
+use Rattle.lab_script.specs.ReadingCommands.{more_commands, commands_at}
+use Rattle.lab_script.proofs.cursor.Parser.commands.Given as goal
+
+abbrev pub invariant-loop-alloc : goal.invariant-loop-alloc
+invariant-loop-alloc l = record {
+  fits : length l.commands.items ≤ l.room;
+  so_far : (k : ℕ) × (length l.self ≤ k) × (more_commands l.self k l.room l.commands.items ≡ commands_at l.room l.fn.self);
+}
+
+abbrev pub decreases-loop-alloc : goal.decreases-loop-alloc
+decreases-loop-alloc l = length l.self

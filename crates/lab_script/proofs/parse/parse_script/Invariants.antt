@@ -1,0 +1,5 @@
+use Rattle.lab_script.proofs.FirstFault.{IsReadTo}
+use Rattle.lab_script.proofs.parse.parse_script.Given as goal
+
+abbrev pub invariant-loop-line : goal.invariant-loop-line
+invariant-loop-line l = IsReadTo l.fn.text l.number l.line-iterator l.script

@@ -1,0 +1,6 @@
+use Rattle.std.proofs.Common.{◌≡◌}
+use Rattle.lab_script.specs.Script.{extended}
+use Rattle.lab_script.proofs.script.Script.add.Given as goal
+
+abbrev pub invariant-loop-command : goal.invariant-loop-command
+invariant-loop-command l = l.self ≡ extended l.initial.self l.session l.text_line l.yielded

@@ -1,0 +1,14 @@
+use Rattle.std.proofs.Common.{◌≡◌, ℕ, ◌+◌, ◌≤◌, length}
+use Rattle.lab_script.specs.Told.{unprintable}
+use Rattle.lab_script.specs.Transcript.{marked, transcript}
+use Rattle.lab_script.proofs.StillTold.{told_by}
+use Rattle.lab_script.proofs.serial.run_serial.Given as goal
+
+abbrev pub invariant-loop-line : goal.invariant-loop-line
+invariant-loop-line l = record {
+  told : told_by l.number l.told l.table (marked l.inside) l.rest ≡ record { text = transcript l.script; unprintable = unprintable l.script };
+  few : l.number + length l.rest ≤ length l.script.lines;
+}
+
+abbrev pub decreases-loop-line : goal.decreases-loop-line
+decreases-loop-line l = length l.rest

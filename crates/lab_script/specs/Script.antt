@@ -1,0 +1,124 @@
+-- Which text spells which script, and where a text has its first fault.
+use Rattle.std.specs.Prelude.{◌≡◌, ℕ, ◌+◌, ◌-◌, ◌≤◌, ◌⊎◌, Bool, true, false, not, ◌&&◌, ◌||◌, ◌==◌, nat_le, if◌then◌else◌, List, [], ◌∷◌, ◌++◌, length, take, drop, map, Option, Some, None}
+use Rattle.std.specs.Char.{to_ascii_lowercase, is_ascii_alphanumeric}
+use Rattle.std.specs.List.{list_all}
+use Rattle.std.specs.Str.Lines.{lines}
+use Rattle.lab_table.specs.declared.statement.Statement.{Statement}
+use Rattle.lab_table.specs.declared.statement.Command.{Command}
+use Rattle.lab_table.specs.Table.{Table}
+use Rattle.lab_script.specs.declared.script.Script.{Script}
+use Rattle.lab_script.specs.declared.token.Word.TheVariants as word
+use Rattle.lab_script.specs.declared.token.Token.{Token}
+use Rattle.lab_script.specs.declared.token.Token.TheVariants as token
+use Rattle.lab_script.specs.Token.{is_blank, tokens}
+use Rattle.lab_script.specs.Grammar.{IsCommands, IsSetup, IsStatement, IsEnd}
+use Rattle.lab_script.specs.Printed.{printed_statement}
+
+-- whether a remark begins here
+abbrev pub begins_remark : List ℕ → Bool
+begins_remark [] = false
+begins_remark (a ∷ []) = false
+begins_remark (a ∷ b ∷ bytes) = a == 45 && b == 45
+
+-- the code of a line: what stands before its first two dashes
+abbrev pub code_of : List ℕ → List ℕ
+code_of [] = []
+code_of (b ∷ bytes) = if begins_remark (b ∷ bytes) then [] else b ∷ code_of bytes
+
+-- the remark of a line: what stands behind its first two dashes
+abbrev pub remark_of : List ℕ → List ℕ
+remark_of [] = []
+remark_of (b ∷ bytes) = if begins_remark (b ∷ bytes) then drop 1 bytes else remark_of bytes
+
+-- a tab or a byte that is printed
+abbrev pub is_code_byte : ℕ → Bool
+is_code_byte b = b == 9 || (nat_le 32 b && nat_le b 126)
+
+-- whether a word ends here
+abbrev pub ends_word : List ℕ → Bool
+ends_word [] = true
+ends_word (b ∷ bytes) = not (is_ascii_alphanumeric b || b == 95)
+
+-- a digit from 1 to 9 that ends a word
+abbrev pub session_digit : List ℕ → Option ℕ
+session_digit [] = None
+session_digit (d ∷ bytes) = if (nat_le 49 d && nat_le d 57) && ends_word bytes then Some (d - 48) else None
+
+-- the session that a remark begins with: blanks, a T in either case, and its digit
+abbrev pub session_of : List ℕ → Option ℕ
+session_of [] = None
+session_of (b ∷ bytes) = if is_blank b then session_of bytes else if to_ascii_lowercase b == 116 then session_digit bytes else None
+
+-- whether a line is passed over
+abbrev pub is_passed : List ℕ → Bool
+is_passed line = list_all is_blank (code_of line)
+
+-- whether a line's code has only tabs and printed bytes
+abbrev pub is_ascii_code : List ℕ → Bool
+is_ascii_code line = list_all is_code_byte (code_of line)
+
+-- a line that may have this number
+pub record IsFit (number : ℕ) (line : List ℕ) : Type 0 where
+  pub lines : number ≤ 2000
+  pub bytes : length line ≤ 4000
+  pub ascii : is_ascii_code line ≡ true
+
+-- the script with these commands of a session at its end
+abbrev pub extended : Script → ℕ → ℕ → List Command → Script
+extended script session text_line commands = record {
+  setup = script.setup;
+  lines = script.lines ++ map (λ c. record { session = session; command = c; text_line = text_line }) commands;
+}
+
+-- What a line with this number makes of what the lines before it spell, which is nothing yet or a script:
+-- it is passed over, or it is the setup, or it has commands of a session.
+pub data LineSpells (number : ℕ) (line : List ℕ) : Option Script → Option Script → Type 0 where
+  passed : (script : Option Script) → IsFit number line → is_passed line ≡ true → LineSpells number line script script
+  setup : {table : Table} → IsFit number line → IsSetup (tokens (code_of line)) table
+      → LineSpells number line None (Some (record { setup = table; lines = [] }))
+  commands : {cs : List Command} {session : ℕ} (script : Script) → IsFit number line → IsCommands (tokens (code_of line)) cs
+      → session_of (remark_of line) ≡ Some session → length script.lines + length cs ≤ 1999
+      → LineSpells number line (Some script) (Some (extended script session number cs))
+
+-- whether the first token is setup
+abbrev pub BeginsSetup : List Token → Type 0
+BeginsSetup ts = (rest : List Token) × (ts ≡ token.Word word.Setup ∷ rest)
+
+-- what the commands of a line's tokens, of the session in its remark, make of a script
+abbrev pub AddsCommands : ℕ → List Token → List ℕ → Script → Script → Type 0
+AddsCommands number ts remark before after =
+    (cs : List Command) × (session : ℕ) × IsCommands ts cs × (session_of remark ≡ Some session)
+    × (length before.lines + length cs ≤ 1999) × (after ≡ extended before session number cs)
+
+-- what lines, of which the first has this number, make of what stands before them
+abbrev pub LinesSpell : ℕ → Option Script → List (List ℕ) → Option Script → Type 0
+LinesSpell number before [] after = after ≡ before
+LinesSpell number before (line ∷ ls) after = (mid : Option Script) × LineSpells number line before mid × LinesSpell (number + 1) mid ls after
+
+-- the text spells the script
+abbrev pub Spells : List ℕ → Script → Type 0
+Spells text script = LinesSpell 1 None (lines text) (Some script)
+
+-- none of the first n lines is faulty
+abbrev pub IsFaultless : List (List ℕ) → ℕ → Type 0
+IsFaultless ls n = (script : Option Script) × LinesSpell 1 None (take n ls) script
+
+-- the first faulty line has this number; where no line is faulty and there is no setup, that is one more than the number of lines
+abbrev pub IsFirstFault : List ℕ → ℕ → Type 0
+IsFirstFault text n =
+    ((before : ℕ) × (n ≡ before + 1) × (n ≤ length (lines text)) × IsFaultless (lines text) before × (IsFaultless (lines text) n → ⊥))
+    ⊎ (LinesSpell 1 None (lines text) None × (n ≡ length (lines text) + 1))
+
+-- the text spells the statement: all of it is code
+pub record SpellsStatement (text : List ℕ) (s : Statement) : Type 0 where
+  pub bytes : length text ≤ 4000
+  pub ascii : list_all is_code_byte text ≡ true
+  pub no_remark : code_of text ≡ text
+  pub parts : (ts end : _) × (tokens text ≡ ts ++ end) × IsStatement ts s × IsEnd end
+  pub printed : length (printed_statement s) ≤ 1000
+
+-- the tokens of a statement's text: those of its code, and one that is none where two dashes stand behind it
+abbrev pub AreStatementTokens : List ℕ → List Token → Type 0
+AreStatementTokens text ts =
+    ((code_of text ≡ text) × (ts ≡ tokens text))
+    ⊎ ((code_of text ≡ text → ⊥) × (ts ≡ tokens (code_of text) ++ token.Unknown ∷ []))

@@ -1,0 +1,143 @@
+-- What a script does where its transactions run whole, in the order of their begins.
+use Rattle.std.specs.Prelude.{ℕ, ◌+◌, Bool, true, false, not, ◌==◌, if◌then◌else◌, List, [], ◌∷◌, ◌++◌, unwrap_or, ◌&&◌, Option, Some, None, option_map, slice_index_or, codes}
+use Rattle.std.specs.Fmt.{decimal}
+use Rattle.lab_table.specs.Row.{Row}
+use Rattle.lab_table.specs.Table.{Table}
+use Rattle.lab_table.specs.Statement.{Ran, run, matching}
+use Rattle.lab_table.specs.Running.{overflowing}
+use Rattle.lab_table.specs.declared.statement.Statement.{Statement}
+use Rattle.lab_table.specs.declared.statement.Statement.TheVariants as statement
+use Rattle.lab_table.specs.declared.statement.Command.{Command}
+use Rattle.lab_table.specs.declared.statement.Command.TheVariants as command
+use Rattle.lab_script.specs.declared.script.Line.{Line}
+use Rattle.lab_script.specs.declared.script.Script.{Script}
+use Rattle.lab_script.specs.Printed.{printed_statement, printed_list, printed_id, newline}
+
+-- a transaction: its session, its statements, and whether it ends in a commit
+pub record Whole : Type 0 where
+  pub session : ℕ
+  pub statements : List Statement
+  pub commits : Bool
+
+-- the statements of a session, from its next command and those of its later ones
+abbrev pub statements_on : Command → List Statement → List Statement
+statements_on command.Begin later = later
+statements_on command.Commit later = []
+statements_on command.Abort later = []
+statements_on (command.Run s) later = s ∷ later
+
+-- a session's statements up to its first commit or abort
+abbrev pub statements_of : ℕ → List Line → List Statement
+statements_of session [] = []
+statements_of session (line ∷ lines) = if line.session == session then statements_on line.command (statements_of session lines) else statements_of session lines
+
+-- whether a session commits, from its next command and whether its later ones commit
+abbrev pub commits_on : Command → Bool → Bool
+commits_on command.Begin later = later
+commits_on command.Commit later = true
+commits_on command.Abort later = false
+commits_on (command.Run s) later = later
+
+-- whether a session's first commit or abort is a commit
+abbrev pub commits_of : ℕ → List Line → Bool
+commits_of session [] = false
+commits_of session (line ∷ lines) = if line.session == session then commits_on line.command (commits_of session lines) else commits_of session lines
+
+-- the transaction of a session whose begin stands before these lines
+abbrev pub whole_of : ℕ → List Line → Whole
+whole_of session lines = record { session = session; statements = statements_of session lines; commits = commits_of session lines }
+
+-- whether a session is inside a transaction, from a command of it and whether it was before
+abbrev pub inside_on : Command → Bool → Bool
+inside_on command.Begin before = true
+inside_on command.Commit before = false
+inside_on command.Abort before = false
+inside_on (command.Run s) before = before
+
+-- the sessions that are inside a transaction after a session's command
+abbrev pub inside_after : (ℕ → Bool) → ℕ → Command → ℕ → Bool
+inside_after inside session command s = if s == session then inside_on command (inside s) else inside s
+
+-- the sessions whose number has a mark
+abbrev pub marked : List Bool → ℕ → Bool
+marked marks s = slice_index_or marks s false
+
+-- before the first command no session is inside a transaction
+abbrev pub nobody : ℕ → Bool
+nobody s = false
+
+-- whether a command is begin
+abbrev pub is_begin : Command → Bool
+is_begin command.Begin = true
+is_begin command.Commit = false
+is_begin command.Abort = false
+is_begin (command.Run s) = false
+
+-- the transactions in the order of their begins, while some sessions are inside one
+abbrev pub transactions : (ℕ → Bool) → List Line → List Whole
+transactions inside [] = []
+transactions inside (line ∷ lines) =
+    (if is_begin line.command && not (inside line.session) then whole_of line.session lines ∷ [] else [])
+    ++ transactions (inside_after inside line.session line.command) lines
+
+-- the name of a row, if there is one
+abbrev pub row_text : Option Row → List ℕ
+row_text None = []
+row_text (Some row) = printed_id row
+
+-- why a table refuses a statement: the id that is present, or the least id whose new value is out of range
+abbrev pub refusal_text : Statement → Table → List ℕ
+refusal_text (statement.Select p) table = []
+refusal_text (statement.Update e p) table = codes "OutOfRange " ++ row_text (overflowing e (matching (statement.Update e p) table))
+refusal_text (statement.Insert id value) table = codes "DuplicateKey " ++ printed_id id
+refusal_text (statement.Delete p) table = []
+
+-- what a table answers to a statement, from what running it gives: the rows that it lists, or why it is refused
+abbrev pub answer_text : Statement → Table → Option Ran → List ℕ
+answer_text s table None = refusal_text s table
+answer_text s table (Some ran) = printed_list ran.rows
+
+-- the line of a statement on a table
+unfoldable pub statement_text : Statement → Table → List ℕ
+statement_text s table = printed_statement s ++ codes " -> " ++ answer_text s table (run s table) ++ newline
+
+-- the table after a statement, unless it is refused
+unfoldable pub table_with : Statement → Table → Option Table
+table_with s table = option_map (λ ran. ran.table) (run s table)
+
+-- the last line of a transaction
+abbrev pub end_text : Bool → List ℕ
+end_text commits = (if commits then codes "commit" else codes "abort") ++ newline
+
+-- the lines of a transaction's statements and of its end, from a table
+abbrev pub body_text : Table → List Statement → Bool → List ℕ
+body_text table [] commits = end_text commits
+body_text table (s ∷ statements) commits =
+    statement_text s table
+    ++ elim (table_with s table) [ None ↦ end_text false | Some after ↦ body_text after statements commits ]
+
+-- the table that a transaction leaves, if it commits
+abbrev pub committed : Table → List Statement → Bool → Option Table
+committed table [] commits = if commits then Some table else None
+committed table (s ∷ statements) commits = elim (table_with s table) [ None ↦ None | Some after ↦ committed after statements commits ]
+
+-- the table after a transaction: an abort puts it back
+abbrev pub table_after : Table → Whole → Table
+table_after table whole = unwrap_or (committed table whole.statements whole.commits) table
+
+-- the first line of a transaction
+abbrev pub heading_text : ℕ → ℕ → List ℕ
+heading_text n session = codes "txn " ++ decimal n ++ codes " T" ++ decimal session ++ newline
+
+-- the lines of a transaction, from a table
+abbrev pub whole_text : ℕ → Table → Whole → List ℕ
+whole_text n table whole = heading_text n whole.session ++ body_text table whole.statements whole.commits
+
+-- the lines of transactions, of which the first has this number, and the table in the end
+abbrev pub serial_text : ℕ → Table → List Whole → List ℕ
+serial_text n table [] = codes "end " ++ printed_list table ++ newline
+serial_text n table (whole ∷ wholes) = whole_text n table whole ++ serial_text (n + 1) (table_after table whole) wholes
+
+-- what is printed where a script's transactions run whole, in the order of their begins
+abbrev pub transcript : Script → List ℕ
+transcript script = serial_text 1 script.setup (transactions nobody script.lines)

@@ -1,0 +1,142 @@
+//! The commands of a line, read from tokens.
+
+ghost use Rattle.std.specs.Prelude.{◌≡◌, ◌∷◌, [], ◌≤◌, if◌then◌else◌, length, Some, None, OnOk};
+ghost use Rattle.std.specs.List.{prefix_len};
+ghost use Rattle.lab_script.specs.Reading.{Gives};
+ghost use Rattle.lab_script.specs.ReadingCommands.{is_word, words_at, level_at, command_at, is_short, closed_at, added, step_at, commands_at};
+
+use crate::cursor::Parser;
+use crate::statement::check_length;
+use crate::stop::{GrammarFault, Stop};
+use crate::token::{Token, Word};
+use lab_table::Command;
+use std::alloc::Global;
+
+impl Parser<'_> {
+    /// The commands of all statements of a line, of which there is room for so many.
+    #[tactic(auto, unfolding(crate::specs::ReadingCommands::commands_at))]
+    pub fn commands(&mut self, alloc: Global, room: usize) -> Result<Vec<Command>, Stop>
+        ensures { Gives (λ x. x.items) result (commands_at room self.old) }
+    {
+        let mut commands = Vec::new(alloc);
+        self.step(alloc, room, &mut commands)?;
+        while !self.is_done() {
+            self.step(alloc, room, &mut commands)?;
+        }
+        Ok(commands)
+    }
+
+    /// Reads a statement with its end, and adds its command.
+    #[tactic(auto, unfolding(crate::specs::ReadingCommands::step_at))]
+    fn step(&mut self, alloc: Global, room: usize, commands: &mut Vec<Command>) -> Result<(), Stop>
+        ensures { Gives (λ x. (commands.new.items, self.new)) result (step_at room commands.old.items self.old) }
+    {
+        let command = self.closed(alloc)?;
+        add(commands, room, command)
+    }
+
+    /// A statement with its end, and its command if it gives one.
+    #[tactic(auto, unfolding(crate::specs::ReadingCommands::closed_at))]
+    fn closed(&mut self, alloc: Global) -> Result<Option<Command>, Stop>
+        ensures { Gives (λ x. (x, self.new)) result (closed_at self.old) }
+    {
+        let command = self.command(alloc)?;
+        self.ended()?;
+        check_short(&command)?;
+        Ok(command)
+    }
+
+    /// A statement, and its command if it gives one.
+    #[tactic(auto, unfolding(crate::specs::ReadingCommands::command_at))]
+    fn command(&mut self, alloc: Global) -> Result<Option<Command>, Stop>
+        ensures { Gives (λ x. (x, self.new)) result (command_at self.old) }
+    {
+        if self.took(Token::Word(Word::Begin)) {
+            Ok(Some(Command::Begin))
+        } else if self.took(Token::Word(Word::Commit)) {
+            Ok(Some(Command::Commit))
+        } else if self.took(Token::Word(Word::Abort)) {
+            Ok(Some(Command::Abort))
+        } else if self.took(Token::Word(Word::Rollback)) {
+            Ok(Some(Command::Abort))
+        } else if self.took(Token::Word(Word::Set)) {
+            self.level()?;
+            Ok(None)
+        } else {
+            let statement = self.statement(alloc)?;
+            Ok(Some(Command::Run(statement)))
+        }
+    }
+
+    /// The words that set a level, from behind the first on.
+    #[tactic(auto, unfolding(crate::specs::ReadingCommands::level_at))]
+    fn level(&mut self) -> Result<(), Stop>
+        ensures { Gives (λ x. self.new) result (level_at self.old) }
+    {
+        self.expect_all(&[
+            Token::Word(Word::Transaction),
+            Token::Word(Word::Isolation),
+            Token::Word(Word::Level),
+        ])?;
+        self.words()
+    }
+
+    /// Words, at least one.
+    #[tactic(auto, unfolding(crate::specs::ReadingCommands::words_at))]
+    fn words(&mut self) -> Result<(), Stop>
+        ensures { Gives (λ x. self.new) result (words_at self.old) }
+    {
+        match self.rest.split_first() {
+            None => Err(Stop::Fault(GrammarFault::UnknownStatement)),
+            Some((first, rest)) => {
+                if !is_word(*first) {
+                    return Err(Stop::Fault(GrammarFault::UnknownStatement));
+                }
+                let (_, behind) = rest.split_at(words_len(rest));
+                self.rest = behind;
+                Ok(())
+            }
+        }
+    }
+}
+
+fn is_word(token: Token) -> bool
+    ensures { result ≡ is_word token }
+{
+    match token {
+        Token::Word(_) => true,
+        _ => false,
+    }
+}
+
+/// How many words there are at the front.
+fn words_len(tokens: &[Token]) -> usize
+    ensures value { result ≡ prefix_len is_word tokens.now }
+    ensures within { result ≤ length tokens.now }
+{
+    tokens.iter().take_while(|token| is_word(**token)).count()
+}
+
+/// The printed form of a command is as short as it must be.
+fn check_short(command: &Option<Command>) -> Result<(), Stop>
+    ensures { Gives (λ x. x) result (if is_short command.now then Some tt else None) }
+{
+    match command {
+        Some(Command::Run(statement)) => check_length(statement),
+        _ => Ok(()),
+    }
+}
+
+/// Adds a command, if there is one, and room for it.
+fn add(commands: &mut Vec<Command>, room: usize, command: Option<Command>) -> Result<(), Stop>
+    ensures { Gives (λ x. commands.new.items) result (added room commands.old.items command) }
+{
+    let Some(command) = command else {
+        return Ok(());
+    };
+    if commands.len() >= room {
+        return Err(Stop::Fault(GrammarFault::TooLong));
+    }
+    commands.push(command)?;
+    Ok(())
+}

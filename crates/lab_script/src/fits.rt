@@ -1,0 +1,193 @@
+//! Whether a printed form keeps the limits of a text: it is measured and not made, and no further than the limit.
+
+ghost use Rattle.std.specs.Prelude.{◌≤◌, ◌≡◌, ◌+◌, ◌<◌, ◌↔◌, length, IsTrue};
+ghost use Rattle.std.specs.Fmt.{decimal, signed_decimal};
+ghost use Rattle.lab_script.specs.Length.{Leaves, parentheses_length, col_length, cmp_length, numbers_length, pred_length, where_length, expr_length, row_length, statement_length, more_rows_length, setup_length};
+ghost use Rattle.lab_script.specs.Printed.{printed_id, printed_statement, printed_setup};
+ghost use Rattle.lab_script.specs.Depth.{deeper, depth_of, where_depth, statement_depth};
+
+use crate::spelling::{is_joined, is_or};
+use itoa::Buffer;
+use lab_table::{Cmp, Col, Expr, Pred, PredKind, RowId, Statement, Table, Value};
+
+/// Whether at most 16 parentheses and `not`s are open at one place of a statement's printed form.
+pub fn depth_fits(statement: &Statement) -> bool
+    ensures { IsTrue result ↔ (statement_depth statement.now ≤ 16) }
+{
+    match statement {
+        Statement::Select { pred: Some(p) }
+        | Statement::Update { pred: Some(p), .. }
+        | Statement::Delete { pred: Some(p) } => nests_within(p, false, 16),
+        _ => true,
+    }
+}
+
+// A pair of parentheses round the predicate counts too.
+fn nests_within(pred: &Pred, enclosed: bool, depth: usize) -> bool
+    ensures { IsTrue result ↔ (deeper enclosed (depth_of pred.now) ≤ depth) }
+{
+    let Some(depth) = depth.checked_sub(usize::from(enclosed)) else {
+        return false;
+    };
+    match &pred.kind {
+        PredKind::Compare { .. } | PredKind::Remainder { .. } | PredKind::OneOf { .. } => true,
+        PredKind::Not(p) => match depth.checked_sub(1) {
+            None => false,
+            Some(depth) => nests_within(p, is_joined(p), depth),
+        },
+        PredKind::And(p, q) => nests_within(p, is_or(p), depth)
+            && nests_within(q, is_joined(q), depth),
+        PredKind::Or(p, q) => nests_within(p, false, depth) && nests_within(q, is_or(q), depth),
+    }
+}
+
+/// Whether a statement's printed form has at most 1,000 bytes.
+pub fn statement_fits(statement: &Statement) -> bool
+    ensures { IsTrue result ↔ (length (printed_statement statement.now) ≤ 1000) }
+{
+    room_after_statement(1000, statement).is_some()
+}
+
+/// Whether the line of a setup has at most 4,000 bytes, without its newline.
+pub fn setup_fits(table: &Table) -> bool
+    ensures { IsTrue result ↔ (length (printed_setup table.now) ≤ 4000) }
+{
+    room_after_setup(4000, table.rows()).is_some()
+}
+
+fn room_after_number(room: usize, n: i64) -> Option<usize>
+    ensures { Leaves room (length (signed_decimal n)) result }
+{
+    room.checked_sub(Buffer::new().format(n).len())
+}
+
+fn room_after_natural(room: usize, n: u32) -> Option<usize>
+    ensures { Leaves room (length (decimal n)) result }
+{
+    room.checked_sub(Buffer::new().format(n).len())
+}
+
+fn parentheses_len(enclosed: bool) -> usize
+    ensures { result ≡ parentheses_length enclosed }
+{
+    if enclosed { 2 } else { 0 }
+}
+
+fn col_len(col: Col) -> usize
+    ensures { result ≡ col_length col }
+{
+    match col {
+        Col::Id => 2,
+        Col::Value => 5,
+    }
+}
+
+fn cmp_len(cmp: Cmp) -> usize
+    ensures { result ≡ cmp_length cmp }
+{
+    match cmp {
+        Cmp::Eq | Cmp::Lt | Cmp::Gt => 3,
+        Cmp::Ne | Cmp::Le | Cmp::Ge => 4,
+    }
+}
+
+fn room_after_numbers(room: usize, numbers: &[Value]) -> Option<usize>
+    ensures { Leaves room (numbers_length numbers.now) result }
+{
+    let Some((first, rest)) = numbers.split_first() else {
+        return Some(room);
+    };
+    let mut room = room_after_number(room, first.number())?;
+    for number in rest {
+        room = room_after_number(room.checked_sub(2)?, number.number())?;
+    }
+    Some(room)
+}
+
+fn room_after_pred(room: usize, pred: &Pred) -> Option<usize>
+    ensures { Leaves room (pred_length pred.now) result }
+{
+    match &pred.kind {
+        PredKind::Compare { col, cmp, number } => {
+            let room = room.checked_sub(col_len(*col) + cmp_len(*cmp))?;
+            room_after_number(room, number.number())
+        }
+        PredKind::Remainder { col, modulus, rest } => {
+            let room = room.checked_sub(col_len(*col) + 6)?;
+            let room = room_after_natural(room, modulus.number())?;
+            room_after_number(room, rest.number())
+        }
+        PredKind::OneOf { col, numbers } => {
+            let room = room.checked_sub(col_len(*col) + 6)?;
+            room_after_numbers(room, numbers.as_slice())
+        }
+        PredKind::Not(p) => {
+            let room = room.checked_sub(4 + parentheses_len(is_joined(p)))?;
+            room_after_pred(room, p)
+        }
+        PredKind::And(p, q) => {
+            let room = room.checked_sub(
+                5 + parentheses_len(is_or(p)) + parentheses_len(is_joined(q)),
+            )?;
+            let room = room_after_pred(room, p)?;
+            room_after_pred(room, q)
+        }
+        PredKind::Or(p, q) => {
+            let room = room.checked_sub(4 + parentheses_len(is_or(q)))?;
+            let room = room_after_pred(room, p)?;
+            room_after_pred(room, q)
+        }
+    }
+}
+
+fn room_after_where(room: usize, pred: &Option<Pred>) -> Option<usize>
+    ensures { Leaves room (where_length pred.now) result }
+{
+    match pred {
+        None => Some(room),
+        Some(p) => room_after_pred(room.checked_sub(7)?, p),
+    }
+}
+
+fn room_after_expr(room: usize, expr: Expr) -> Option<usize>
+    ensures { Leaves room (expr_length expr) result }
+{
+    match expr {
+        Expr::Set(n) => room_after_number(room, n.number()),
+        Expr::Plus(n) | Expr::Minus(n) => room_after_number(room.checked_sub(8)?, n.number()),
+    }
+}
+
+fn room_after_row(room: usize, id: RowId, value: Value) -> Option<usize>
+    ensures { Leaves room (row_length id value) result }
+{
+    let room = room_after_natural(room.checked_sub(4)?, id.number())?;
+    room_after_number(room, value.number())
+}
+
+fn room_after_statement(room: usize, statement: &Statement) -> Option<usize>
+    ensures { Leaves room (statement_length statement.now) result }
+{
+    match statement {
+        Statement::Select { pred } => room_after_where(room.checked_sub(18)?, pred),
+        Statement::Update { expr, pred } => {
+            let room = room_after_expr(room.checked_sub(24)?, *expr)?;
+            room_after_where(room, pred)
+        }
+        Statement::Insert { id, value } => room_after_row(room.checked_sub(36)?, *id, *value),
+        Statement::Delete { pred } => room_after_where(room.checked_sub(16)?, pred),
+    }
+}
+
+fn room_after_setup(room: usize, rows: &[(RowId, Value)]) -> Option<usize>
+    ensures { Leaves room (setup_length rows.now) result }
+{
+    let Some((first, rest)) = rows.split_first() else {
+        return room.checked_sub(9);
+    };
+    let mut room = room_after_row(room.checked_sub(7)?, first.0, first.1)?;
+    for (id, value) in rest {
+        room = room_after_row(room.checked_sub(2)?, *id, *value)?;
+    }
+    Some(room)
+}

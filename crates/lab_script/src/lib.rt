@@ -1,0 +1,33 @@
+//! Scripts of statements for sessions, and their serial transcript.
+#![tactic(auto)]
+
+mod atom;
+mod command;
+mod cursor;
+mod fault;
+mod fits;
+mod line;
+mod parse;
+mod parser;
+mod predicate;
+mod print;
+mod ranges;
+mod round_trip;
+mod row;
+mod script;
+mod serial;
+mod setup;
+mod spelling;
+mod statement;
+mod statement_text;
+mod stop;
+mod token;
+mod transcript;
+
+pub use fault::{ScriptFault, ScriptFaultKind, print_script_fault};
+pub use parse::parse_script;
+pub use print::{PrintFault, print_script, print_statement};
+pub use script::{Line, Lines, Script};
+pub use serial::run_serial;
+pub use statement_text::parse_statement;
+pub use transcript::{Transcript, print_transcript};

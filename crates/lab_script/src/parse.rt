@@ -1,0 +1,147 @@
+//! Reading a script's text line by line.
+
+ghost use Rattle.std.specs.Prelude.{◌≡◌, ◌+◌, ◌≤◌, length, [], IfOk, OnOk, IfErr, IfSome, MatchResult, MatchBool, List, ℕ, Some, None};
+ghost use Rattle.lab_table.specs.Table.{Table as Rows};
+ghost use Rattle.lab_script.specs.declared.script.Script.{Script as Whole};
+ghost use Rattle.lab_script.specs.Grammar.{IsSetup};
+ghost use Rattle.lab_script.specs.Script.{Spells, LineSpells, BeginsSetup, AddsCommands};
+ghost use Rattle.lab_script.specs.Fault.{IsFaultOf, IsLineFault, IsTokensFault};
+ghost use Rattle.lab_script.specs.Limits.{ScriptPrints};
+
+use crate::fault::{ScriptFault, ScriptFaultKind};
+use crate::line::{code_and_remark, is_ascii_code, is_blank_code, session_of};
+use crate::parser::read_commands;
+use crate::script::{Lines, Script};
+use crate::setup::read_setup;
+use crate::token::{Token, Word, tokens_into};
+use bstr::ByteSlice;
+use std::alloc::Global;
+
+/// The most lines of a text.
+const MAX_LINES: u32 = 2000;
+
+/// The most bytes of a line, without what ends it.
+pub const MAX_LINE_BYTES: usize = 4000;
+
+/// The most commands of a script.
+const MAX_COMMANDS: usize = 1999;
+
+/// The script that a text spells: the setup, then lines of statements with a session in their remarks.
+/// The first faulty line in the text and what is wrong with it, or NoMemory where a growth was refused.
+/// A text that ends before its setup has NoSetup, at one more than the number of its lines.
+pub fn parse_script(alloc: Global, text: &[u8]) -> Result<Script, ScriptFault>
+    ensures found { IfOk result (λ script. Spells text.now script) }
+    // A text spells one script at most, and it is read unless memory runs out.
+    ensures only { (script : Whole) → Spells text.now script → MatchResult result (λ read. read ≡ script) (λ fault. fault ≡ ScriptFault.NoMemory) }
+    ensures prints { IfOk result ScriptPrints }
+    ensures fault { IfErr result (IsFaultOf text.now) }
+{
+    let mut tokens = Vec::new(alloc);
+    let mut script = None;
+    let mut number: u32 = 0;
+    for line in text.lines() {
+        number += 1;
+        read_line(alloc, &mut script, number, line, &mut tokens)?;
+    }
+    script.ok_or(ScriptFault::At {
+        line: number + 1,
+        kind: ScriptFaultKind::NoSetup,
+    })
+}
+
+/// Reads a line with this number behind lines that spell nothing yet or a script.
+/// The tokens are only the room for those of the line.
+fn read_line(
+    alloc: Global,
+    script: &mut Option<Script>,
+    number: u32,
+    line: &[u8],
+    tokens: &mut Vec<Token>,
+) -> Result<(), ScriptFault>
+    requires few { IfSome script.old (λ s. length s.lines ≤ 1999) }
+    ensures found { OnOk result (LineSpells number line.now script.old script.new) }
+    ensures fault { IfErr result (IsLineFault number line.now script.old) }
+{
+    if number > MAX_LINES || line.len() > MAX_LINE_BYTES {
+        return Err(at(number, ScriptFaultKind::TooLong));
+    }
+    let (code, remark) = code_and_remark(line);
+    if !is_ascii_code(code) {
+        return Err(at(number, ScriptFaultKind::NotAscii));
+    }
+    if is_blank_code(code) {
+        return Ok(());
+    }
+    tokens_into(tokens, code)?;
+    match script {
+        None => {
+            *script = Some(setup_script(alloc, number, tokens)?);
+            Ok(())
+        }
+        Some(script) => add_commands(alloc, script, number, tokens, remark),
+    }
+}
+
+/// This kind of fault at a line.
+fn at(line: u32, kind: ScriptFaultKind) -> ScriptFault
+    ensures { result ≡ ScriptFault.At line kind }
+{
+    ScriptFault::At { line, kind }
+}
+
+/// Whether the first token is `setup`.
+fn begins_setup(tokens: &[Token]) -> bool
+    ensures { MatchBool result (BeginsSetup tokens.now) (BeginsSetup tokens.now → ⊥) }
+{
+    match tokens.split_first() {
+        None => false,
+        Some((first, _)) => *first == Token::Word(Word::Setup),
+    }
+}
+
+/// The script with the setup of the line that has these tokens.
+fn setup_script(alloc: Global, number: u32, tokens: &[Token]) -> Result<Script, ScriptFault>
+    ensures found { IfOk result (λ script. (table : Rows) × IsSetup tokens.now table × (script ≡ record { setup = table; lines = [] })) }
+    ensures fault { (remark : List ℕ) → IfErr result (IsTokensFault number tokens.now remark None) }
+{
+    if !begins_setup(tokens) {
+        return Err(at(number, ScriptFaultKind::NoSetup));
+    }
+    match read_setup(alloc, tokens) {
+        Ok(setup) => Ok(Script {
+            setup,
+            lines: Lines::new(Vec::new(alloc)),
+        }),
+        Err(stop) => Err(stop.at(number)),
+    }
+}
+
+/// Adds the commands of the line that has these tokens and this remark.
+fn add_commands(
+    alloc: Global,
+    script: &mut Script,
+    number: u32,
+    tokens: &[Token],
+    remark: &[u8],
+) -> Result<(), ScriptFault>
+    requires few { length script.old.lines ≤ 1999 }
+    ensures found { OnOk result (AddsCommands number tokens.now remark.now script.old script.new) }
+    ensures fault { IfErr result (IsTokensFault number tokens.now remark.now (Some script.old)) }
+{
+    if begins_setup(tokens) {
+        return Err(at(number, ScriptFaultKind::SetupRepeated));
+    }
+    let room = MAX_COMMANDS - script.lines.as_slice().len();
+    let commands = match read_commands(alloc, tokens, room) {
+        Ok(commands) => commands,
+        Err(stop) => return Err(stop.at(number)),
+    };
+    let Some(session) = session_of(remark) else {
+        return Err(at(number, ScriptFaultKind::NoSession));
+    };
+    script.add(session, number, commands)?;
+    Ok(())
+}
+
+#[cfg(test)]
+mod tests;

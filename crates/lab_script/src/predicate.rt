@@ -1,0 +1,109 @@
+//! Predicates, read from tokens.
+
+ghost use Rattle.std.specs.Prelude.{◌≡◌, ◌≤◌, length, Some};
+ghost use Rattle.lab_table.specs.Predicate as predicate;
+ghost use Rattle.lab_script.specs.Reading.{Gives};
+ghost use Rattle.lab_script.specs.ReadingPredicates.{term_at, conj_at, pred_at, where_at};
+
+use crate::cursor::Parser;
+use crate::stop::{GrammarFault, Stop};
+use crate::token::{Token, Word};
+use lab_table::{Pred, PredKind};
+use std::alloc::Global;
+
+/// How many parentheses and `not`s of a predicate may be open at one place.
+const MAX_DEPTH: u8 = 16;
+
+impl Parser<'_> {
+    /// The predicate behind a `where`, if one stands here.
+    #[tactic(auto, unfolding(crate::specs::ReadingPredicates::where_at))]
+    pub fn where_clause(&mut self, alloc: Global) -> Result<Option<Pred>, Stop>
+        ensures { Gives (λ x. (x, self.new)) result (where_at self.old) }
+    {
+        if self.took(Token::Word(Word::Where)) {
+            let pred = self.pred(alloc, MAX_DEPTH)?;
+            Ok(Some(pred))
+        } else {
+            Ok(None)
+        }
+    }
+
+    /// A predicate that may have an `or` at its top, under which this many parentheses and `not`s may still be open.
+    #[cycle(pred)]
+    #[tactic(auto, unfolding(crate::specs::ReadingPredicates::pred_at))]
+    fn pred(&mut self, alloc: Global, depth: u8) -> Result<Pred, Stop>
+        ensures gives { Gives (λ x. (x, self.new)) result (pred_at depth self.old) }
+        ensures shorter { length self.new ≤ length self.old }
+    {
+        let mut pred = self.conj(alloc, depth)?;
+        while self.took(Token::Word(Word::Or)) {
+            let right = self.conj(alloc, depth)?;
+            pred = disjunction(alloc, pred, right)?;
+        }
+        Ok(pred)
+    }
+
+    /// A predicate that may have an `and` at its top.
+    #[cycle(pred)]
+    #[tactic(auto, unfolding(crate::specs::ReadingPredicates::conj_at))]
+    fn conj(&mut self, alloc: Global, depth: u8) -> Result<Pred, Stop>
+        ensures gives { Gives (λ x. (x, self.new)) result (conj_at depth self.old) }
+        ensures shorter { length self.new ≤ length self.old }
+    {
+        let mut pred = self.term(alloc, depth)?;
+        while self.took(Token::Word(Word::And)) {
+            let right = self.term(alloc, depth)?;
+            pred = conjunction(alloc, pred, right)?;
+        }
+        Ok(pred)
+    }
+
+    /// A predicate with neither at its top.
+    #[cycle(pred)]
+    #[tactic(auto, unfolding(crate::specs::ReadingPredicates::term_at, crate::specs::ReadingPredicates::pred_at, crate::specs::ReadingPredicates::conj_at))]
+    fn term(&mut self, alloc: Global, depth: u8) -> Result<Pred, Stop>
+        ensures gives { Gives (λ x. (x, self.new)) result (term_at depth self.old) }
+        ensures shorter { length self.new ≤ length self.old }
+    {
+        if self.took(Token::Word(Word::Not)) {
+            if depth == 0 {
+                return Err(Stop::Fault(GrammarFault::TooDeep));
+            }
+            let pred = self.term(alloc, depth - 1)?;
+            return negation(alloc, pred);
+        }
+        if self.took(Token::Open) {
+            if depth == 0 {
+                return Err(Stop::Fault(GrammarFault::TooDeep));
+            }
+            let pred = self.pred(alloc, depth - 1)?;
+            self.expect(Token::Close)?;
+            return Ok(pred);
+        }
+        self.atom(alloc)
+    }
+}
+
+fn negation(alloc: Global, pred: Pred) -> Result<Pred, Stop>
+    ensures { Gives (λ x. x) result (Some (predicate.Not pred)) }
+{
+    Ok(Pred {
+        kind: PredKind::Not(Box::new(alloc, pred)?),
+    })
+}
+
+fn conjunction(alloc: Global, left: Pred, right: Pred) -> Result<Pred, Stop>
+    ensures { Gives (λ x. x) result (Some (predicate.And left right)) }
+{
+    Ok(Pred {
+        kind: PredKind::And(Box::new(alloc, left)?, Box::new(alloc, right)?),
+    })
+}
+
+fn disjunction(alloc: Global, left: Pred, right: Pred) -> Result<Pred, Stop>
+    ensures { Gives (λ x. x) result (Some (predicate.Or left right)) }
+{
+    Ok(Pred {
+        kind: PredKind::Or(Box::new(alloc, left)?, Box::new(alloc, right)?),
+    })
+}

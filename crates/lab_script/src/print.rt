@@ -1,0 +1,105 @@
+//! Statements and scripts in printed form, where that keeps the limits of a text.
+
+ghost use Rattle.std.specs.Prelude.{◌≡◌, ◌≢◌, ◌≤◌, ◌<◌, length, IfOk, OnOk, Err};
+ghost use Rattle.lab_script.specs.Printed.{printed_statement, printed_script};
+ghost use Rattle.lab_script.specs.Depth.{statement_depth};
+ghost use Rattle.lab_script.specs.Limits.{StatementPrints, CommandPrints, IsDeep, IsLong, ScriptPrints, BreaksDepth, BreaksLength};
+
+use crate::fits::{depth_fits, setup_fits, statement_fits};
+use crate::script::Script;
+use crate::spelling::{put_line, put_setup, put_statement};
+use lab_table::{Command, Statement};
+use std::alloc::{AllocError, Global};
+use thiserror::Error;
+
+/// Why a value has no printed text.
+#[derive(Clone, Copy, Debug, PartialEq, Eq, Error)]
+pub enum PrintFault {
+    /// A growth was refused.
+    #[error("no memory")]
+    NoMemory,
+    /// More than 16 parentheses and `not`s of a statement would be open at one place.
+    #[error("a statement is too deep")]
+    TooDeep,
+    /// A statement would have more than 1,000 bytes, the line of a setup more than 4,000,
+    /// or a script more than 2,000 lines.
+    #[error("the text is too long")]
+    TooLong,
+}
+
+impl From<AllocError> for PrintFault {
+    ghost use Rattle.std.specs.Prelude.{◌≡◌};
+    ghost use Rattle.lab_script.specs.declared.print.PrintFault.TheVariants.{NoMemory};
+
+    ghost from_gives = { λ _ fault. fault ≡ NoMemory };
+
+    fn from(_: AllocError) -> PrintFault {
+        PrintFault::NoMemory
+    }
+}
+
+/// A statement in printed form, if that keeps the limits of a text.
+/// TooDeep comes before TooLong; NoMemory where a growth was refused.
+pub fn print_statement(alloc: Global, statement: &Statement) -> Result<Vec<u8>, PrintFault>
+    ensures text { IfOk result (λ text. text.items ≡ printed_statement statement.now) }
+    ensures prints { OnOk result (StatementPrints statement.now) }
+    ensures too_deep { result ≡ Err PrintFault.TooDeep → 16 < statement_depth statement.now }
+    ensures too_long { result ≡ Err PrintFault.TooLong → (statement_depth statement.now ≤ 16) × (1000 < length (printed_statement statement.now)) }
+{
+    check_statement(statement)?;
+    let mut text = Vec::new(alloc);
+    put_statement(&mut text, statement)?;
+    Ok(text)
+}
+
+/// A script in printed form, if that keeps the limits of a text; each line ends with a newline.
+/// TooDeep and TooLong only where the text would break that limit; NoMemory where a growth was refused.
+pub fn print_script(alloc: Global, script: &Script) -> Result<Vec<u8>, PrintFault>
+    ensures text { IfOk result (λ text. text.items ≡ printed_script script.now) }
+    ensures prints { OnOk result (ScriptPrints script.now) }
+    ensures too_deep { result ≡ Err PrintFault.TooDeep → BreaksDepth script.now }
+    ensures too_long { result ≡ Err PrintFault.TooLong → BreaksLength script.now }
+{
+    let lines = script.lines.as_slice();
+    if lines.len() > 1999 || !setup_fits(&script.setup) {
+        return Err(PrintFault::TooLong);
+    }
+    let mut text = Vec::new(alloc);
+    put_setup(&mut text, &script.setup)?;
+    text.extend_from_slice(b"\n")?;
+    for line in lines {
+        check_command(&line.command)?;
+        put_line(&mut text, line)?;
+    }
+    Ok(text)
+}
+
+/// Whether a statement's printed form keeps the limits of a text, and else which one it breaks: depth first.
+pub fn check_statement(statement: &Statement) -> Result<(), PrintFault>
+    ensures prints { OnOk result (StatementPrints statement.now) }
+    ensures too_deep { result ≡ Err PrintFault.TooDeep → 16 < statement_depth statement.now }
+    ensures too_long { result ≡ Err PrintFault.TooLong → (statement_depth statement.now ≤ 16) × (1000 < length (printed_statement statement.now)) }
+    ensures memory { result ≢ Err PrintFault.NoMemory }
+{
+    if !depth_fits(statement) {
+        Err(PrintFault::TooDeep)
+    } else if !statement_fits(statement) {
+        Err(PrintFault::TooLong)
+    } else {
+        Ok(())
+    }
+}
+
+fn check_command(command: &Command) -> Result<(), PrintFault>
+    ensures prints { OnOk result (CommandPrints command.now) }
+    ensures too_deep { result ≡ Err PrintFault.TooDeep → IsDeep command.now }
+    ensures too_long { result ≡ Err PrintFault.TooLong → IsLong command.now }
+{
+    match command {
+        Command::Begin | Command::Commit | Command::Abort => Ok(()),
+        Command::Run(statement) => check_statement(statement),
+    }
+}
+
+#[cfg(test)]
+mod tests;

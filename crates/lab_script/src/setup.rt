@@ -1,0 +1,125 @@
+//! The setup, read from tokens.
+
+ghost use Rattle.std.specs.Prelude.{◌≡◌, ◌==◌, ◌≤◌, length, Some, None, IfOk, MatchBool, if◌then◌else◌};
+ghost use Rattle.lab_table.specs.Table.{Table as Spelled};
+ghost use Rattle.lab_script.specs.Grammar.{IsSetup};
+ghost use Rattle.lab_script.specs.Reading.{Gives};
+ghost use Rattle.lab_script.specs.ReadingSetup.{row_onto, rows_at, no_rows_at, table_at, ends_setup, setup_at};
+
+use crate::cursor::Parser;
+use crate::fits::setup_fits;
+use crate::stop::{GrammarFault, Stop};
+use crate::token::{Token, Word};
+use lab_table::Table;
+use std::alloc::Global;
+
+impl Parser<'_> {
+    /// Adds a row to the table; DuplicateSetupRow where it is present.
+    #[tactic(auto, unfolding(crate::specs::ReadingSetup::row_onto))]
+    fn row_onto(&mut self, alloc: Global, table: &mut Table) -> Result<(), Stop>
+        ensures gives { Gives (λ x. (table.new, self.new)) result (row_onto table.old self.old) }
+        ensures shorter { length self.new ≤ length self.old }
+    {
+        let row = self.row()?;
+        if table.add(alloc, row.0, row.1)? {
+            Ok(())
+        } else {
+            Err(Stop::Fault(GrammarFault::DuplicateSetupRow))
+        }
+    }
+
+    /// The table of one row or more.
+    fn rows(&mut self, alloc: Global) -> Result<Table, Stop>
+        ensures { Gives (λ x. (x, self.new)) result (rows_at self.old) }
+    {
+        let mut table = Table::new(alloc);
+        loop {
+            self.row_onto(alloc, &mut table)?;
+            if !self.took(Token::Comma) {
+                return Ok(table);
+            }
+        }
+    }
+
+    /// Takes the parentheses that stand for no row, if they are the first.
+    #[tactic(auto, unfolding(crate::specs::ReadingSetup::no_rows_at))]
+    fn took_no_rows(&mut self) -> bool
+        ensures { MatchBool result (no_rows_at self.old ≡ Some self.new) ((no_rows_at self.old ≡ None) × (self.new ≡ self.old)) }
+    {
+        let mut ahead = Parser { rest: self.rest };
+        if ahead.took(Token::Open) && ahead.took(Token::Close) {
+            self.rest = ahead.rest;
+            true
+        } else {
+            false
+        }
+    }
+
+    /// The table of a setup.
+    #[tactic(auto, unfolding(crate::specs::ReadingSetup::table_at))]
+    fn table(&mut self, alloc: Global) -> Result<Table, Stop>
+        ensures { Gives (λ x. (x, self.new)) result (table_at self.old) }
+    {
+        if self.took_no_rows() {
+            Ok(Table::new(alloc))
+        } else {
+            self.rows(alloc)
+        }
+    }
+
+    /// Nothing is left.
+    fn nothing(&self) -> Result<(), Stop>
+        ensures { Gives (λ x. x) result (if length self.now == 0 then Some tt else None) }
+    {
+        if self.rest.is_empty() {
+            Ok(())
+        } else {
+            Err(Stop::Fault(GrammarFault::UnknownStatement))
+        }
+    }
+
+    /// The end of the setup of this table, which is its `;` or the end of the line.
+    /// TooLong where the printed line is over 4,000 bytes; then what stands behind the `;` doesn't matter.
+    fn setup_end(&mut self, table: &Table) -> Result<(), Stop>
+        ensures { Gives (λ x. x) result (if ends_setup table.now self.old then Some tt else None) }
+    {
+        if !self.took(Token::Semicolon) {
+            self.nothing()?;
+        }
+        if setup_fits(table) {
+            self.nothing()
+        } else {
+            Err(Stop::Fault(GrammarFault::TooLong))
+        }
+    }
+
+    /// A setup, all of the line.
+    #[tactic(auto, unfolding(crate::specs::ReadingSetup::setup_at))]
+    fn setup(&mut self, alloc: Global) -> Result<Table, Stop>
+        ensures { Gives (λ x. x) result (setup_at self.old) }
+    {
+        self.expect(Token::Word(Word::Setup))?;
+        let table = self.table(alloc)?;
+        self.setup_end(&table)?;
+        Ok(table)
+    }
+}
+
+/// The table that the tokens of a setup spell; all of them must belong to it.
+///
+/// Of its faults the first from the left counts: UnknownStatement for a token, or the end, that no setup
+/// has there; NumberOutOfRange for an id or a value out of its range; DuplicateSetupRow at the end of a row
+/// that came before; TooLong at the end of a setup whose printed line is over 4,000 bytes.
+/// NoMemory may come in place of any other answer.
+pub fn read_setup(alloc: Global, tokens: &[Token]) -> Result<Table, Stop>
+    // What is read is in the grammar.
+    ensures found { IfOk result (λ table. IsSetup tokens.now table) }
+    // What is in the grammar is read, unless memory runs out.
+    ensures only { (table : Spelled) → IsSetup tokens.now table → Gives (λ x. x) result (Some table) }
+{
+    let mut parser = Parser { rest: tokens };
+    parser.setup(alloc)
+}
+
+#[cfg(test)]
+mod tests;

@@ -1,0 +1,262 @@
+//! The printed form. Each function appends a text; after NoMemory, part of it may stand there.
+
+ghost use Rattle.std.specs.Prelude.{◌≡◌, ◌++◌, ◌||◌, [], codes, if◌then◌else◌, OnOk};
+ghost use Rattle.std.specs.Fmt.{decimal, signed_decimal};
+ghost use Rattle.lab_script.specs.Printed.{printed_col, printed_cmp, joined, printed_numbers, printed_pred, printed_where, printed_expr, printed_id, printed_row, is_and, is_or, rows_or, printed_statement, printed_command, printed_setup, printed_line};
+
+use crate::script::Line;
+use itoa::Buffer;
+use lab_table::{
+    Cmp, Col, Command, Expr, NoMemory, Pred, PredKind, RowId, Statement, Table, Value,
+};
+
+/// Appends a number in decimal.
+pub fn put_number(out: &mut Vec<u8>, n: i64) -> Result<(), NoMemory>
+    ensures { OnOk result (out.new.items ≡ out.old.items ++ signed_decimal n) }
+{
+    out.extend_from_slice(Buffer::new().format(n).as_bytes())
+}
+
+fn put_natural(out: &mut Vec<u8>, n: u32) -> Result<(), NoMemory>
+    ensures { OnOk result (out.new.items ≡ out.old.items ++ decimal n) }
+{
+    out.extend_from_slice(Buffer::new().format(n).as_bytes())
+}
+
+/// Appends the name of a row.
+pub fn put_id(out: &mut Vec<u8>, id: RowId) -> Result<(), NoMemory>
+    ensures { OnOk result (out.new.items ≡ out.old.items ++ printed_id id) }
+{
+    put_natural(out, id.number())
+}
+
+fn put_col(out: &mut Vec<u8>, col: Col) -> Result<(), NoMemory>
+    ensures { OnOk result (out.new.items ≡ out.old.items ++ printed_col col) }
+{
+    match col {
+        Col::Id => out.extend_from_slice(b"id"),
+        Col::Value => out.extend_from_slice(b"value"),
+    }
+}
+
+fn put_cmp(out: &mut Vec<u8>, cmp: Cmp) -> Result<(), NoMemory>
+    ensures { OnOk result (out.new.items ≡ out.old.items ++ printed_cmp cmp) }
+{
+    match cmp {
+        Cmp::Eq => out.extend_from_slice(b" = "),
+        Cmp::Ne => out.extend_from_slice(b" <> "),
+        Cmp::Lt => out.extend_from_slice(b" < "),
+        Cmp::Le => out.extend_from_slice(b" <= "),
+        Cmp::Gt => out.extend_from_slice(b" > "),
+        Cmp::Ge => out.extend_from_slice(b" >= "),
+    }
+}
+
+fn put_numbers(out: &mut Vec<u8>, numbers: &[Value]) -> Result<(), NoMemory>
+    ensures { OnOk result (out.new.items ≡ out.old.items ++ joined (printed_numbers numbers.now)) }
+{
+    let Some((first, rest)) = numbers.split_first() else {
+        return Ok(());
+    };
+    put_number(out, first.number())?;
+    for number in rest {
+        out.extend_from_slice(b", ")?;
+        put_number(out, number.number())?;
+    }
+    Ok(())
+}
+
+fn put_open(out: &mut Vec<u8>, enclosed: bool) -> Result<(), NoMemory>
+    ensures { OnOk result (out.new.items ≡ out.old.items ++ (if enclosed then codes "(" else [])) }
+{
+    if enclosed {
+        out.extend_from_slice(b"(")?;
+    }
+    Ok(())
+}
+
+fn put_close(out: &mut Vec<u8>, enclosed: bool) -> Result<(), NoMemory>
+    ensures { OnOk result (out.new.items ≡ out.old.items ++ (if enclosed then codes ")" else [])) }
+{
+    if enclosed {
+        out.extend_from_slice(b")")?;
+    }
+    Ok(())
+}
+
+/// Appends a predicate.
+pub fn put_pred(out: &mut Vec<u8>, pred: &Pred) -> Result<(), NoMemory>
+    ensures { OnOk result (out.new.items ≡ out.old.items ++ printed_pred pred.now) }
+{
+    match &pred.kind {
+        PredKind::Compare { col, cmp, number } => {
+            put_col(out, *col)?;
+            put_cmp(out, *cmp)?;
+            put_number(out, number.number())
+        }
+        PredKind::Remainder { col, modulus, rest } => {
+            put_col(out, *col)?;
+            out.extend_from_slice(b" % ")?;
+            put_natural(out, modulus.number())?;
+            out.extend_from_slice(b" = ")?;
+            put_number(out, rest.number())
+        }
+        PredKind::OneOf { col, numbers } => {
+            put_col(out, *col)?;
+            out.extend_from_slice(b" in (")?;
+            put_numbers(out, numbers.as_slice())?;
+            out.extend_from_slice(b")")
+        }
+        PredKind::Not(p) => {
+            out.extend_from_slice(b"not ")?;
+            put_open(out, is_joined(p))?;
+            put_pred(out, p)?;
+            put_close(out, is_joined(p))
+        }
+        PredKind::And(p, q) => {
+            put_open(out, is_or(p))?;
+            put_pred(out, p)?;
+            put_close(out, is_or(p))?;
+            out.extend_from_slice(b" and ")?;
+            put_open(out, is_joined(q))?;
+            put_pred(out, q)?;
+            put_close(out, is_joined(q))
+        }
+        PredKind::Or(p, q) => {
+            put_pred(out, p)?;
+            out.extend_from_slice(b" or ")?;
+            put_open(out, is_or(q))?;
+            put_pred(out, q)?;
+            put_close(out, is_or(q))
+        }
+    }
+}
+
+/// Whether a predicate has an or at its top.
+pub fn is_or(pred: &Pred) -> bool
+    ensures { result ≡ is_or pred.now }
+{
+    matches!(pred.kind, PredKind::Or(..))
+}
+
+/// Whether a predicate has an and or an or at its top.
+pub fn is_joined(pred: &Pred) -> bool
+    ensures { result ≡ (is_and pred.now || is_or pred.now) }
+{
+    matches!(pred.kind, PredKind::And(..) | PredKind::Or(..))
+}
+
+fn put_where(out: &mut Vec<u8>, pred: &Option<Pred>) -> Result<(), NoMemory>
+    ensures { OnOk result (out.new.items ≡ out.old.items ++ printed_where pred.now) }
+{
+    match pred {
+        None => Ok(()),
+        Some(p) => {
+            out.extend_from_slice(b" where ")?;
+            put_pred(out, p)
+        }
+    }
+}
+
+fn put_expr(out: &mut Vec<u8>, expr: Expr) -> Result<(), NoMemory>
+    ensures { OnOk result (out.new.items ≡ out.old.items ++ printed_expr expr) }
+{
+    match expr {
+        Expr::Set(n) => put_number(out, n.number()),
+        Expr::Plus(n) => {
+            out.extend_from_slice(b"value + ")?;
+            put_number(out, n.number())
+        }
+        Expr::Minus(n) => {
+            out.extend_from_slice(b"value - ")?;
+            put_number(out, n.number())
+        }
+    }
+}
+
+fn put_row(out: &mut Vec<u8>, id: RowId, value: Value) -> Result<(), NoMemory>
+    ensures { OnOk result (out.new.items ≡ out.old.items ++ printed_row id value) }
+{
+    out.extend_from_slice(b"(")?;
+    put_id(out, id)?;
+    out.extend_from_slice(b", ")?;
+    put_number(out, value.number())?;
+    out.extend_from_slice(b")")
+}
+
+/// Appends a statement.
+pub fn put_statement(out: &mut Vec<u8>, statement: &Statement) -> Result<(), NoMemory>
+    ensures { OnOk result (out.new.items ≡ out.old.items ++ printed_statement statement.now) }
+{
+    match statement {
+        Statement::Select { pred } => {
+            out.extend_from_slice(b"select * from test")?;
+            put_where(out, pred)
+        }
+        Statement::Update { expr, pred } => {
+            out.extend_from_slice(b"update test set value = ")?;
+            put_expr(out, *expr)?;
+            put_where(out, pred)
+        }
+        Statement::Insert { id, value } => {
+            out.extend_from_slice(b"insert into test (id, value) values ")?;
+            put_row(out, *id, *value)
+        }
+        Statement::Delete { pred } => {
+            out.extend_from_slice(b"delete from test")?;
+            put_where(out, pred)
+        }
+    }
+}
+
+/// Appends a command.
+pub fn put_command(out: &mut Vec<u8>, command: &Command) -> Result<(), NoMemory>
+    ensures { OnOk result (out.new.items ≡ out.old.items ++ printed_command command.now) }
+{
+    match command {
+        Command::Begin => out.extend_from_slice(b"begin"),
+        Command::Commit => out.extend_from_slice(b"commit"),
+        Command::Abort => out.extend_from_slice(b"abort"),
+        Command::Run(statement) => put_statement(out, statement),
+    }
+}
+
+fn put_rows_or(out: &mut Vec<u8>, none: &[u8], rows: &[(RowId, Value)]) -> Result<(), NoMemory>
+    ensures { OnOk result (out.new.items ≡ out.old.items ++ rows_or none.now rows.now) }
+{
+    let Some((first, rest)) = rows.split_first() else {
+        return out.extend_from_slice(none);
+    };
+    put_row(out, first.0, first.1)?;
+    for (id, value) in rest {
+        out.extend_from_slice(b", ")?;
+        put_row(out, *id, *value)?;
+    }
+    Ok(())
+}
+
+/// Appends rows as a list; `none` where there is no row.
+pub fn put_list(out: &mut Vec<u8>, rows: &[(RowId, Value)]) -> Result<(), NoMemory>
+    ensures { OnOk result (out.new.items ≡ out.old.items ++ rows_or (codes "none") rows.now) }
+{
+    put_rows_or(out, b"none", rows)
+}
+
+/// Appends the line of a setup, without its newline.
+pub fn put_setup(out: &mut Vec<u8>, table: &Table) -> Result<(), NoMemory>
+    ensures { OnOk result (out.new.items ≡ out.old.items ++ printed_setup table.now) }
+{
+    out.extend_from_slice(b"setup ")?;
+    put_rows_or(out, b"()", table.rows())?;
+    out.extend_from_slice(b";")
+}
+
+/// Appends the line of a command, with its newline.
+pub fn put_line(out: &mut Vec<u8>, line: &Line) -> Result<(), NoMemory>
+    ensures { OnOk result (out.new.items ≡ out.old.items ++ printed_line line.now) }
+{
+    put_command(out, &line.command)?;
+    out.extend_from_slice(b"; -- T")?;
+    put_natural(out, u32::from(line.session.number()))?;
+    out.extend_from_slice(b"\n")
+}

@@ -1,0 +1,159 @@
+//! Statements, read from tokens.
+
+ghost use Rattle.std.specs.Prelude.{◌≡◌, ◌==◌, nat_le, if◌then◌else◌, length, Some, None};
+ghost use Rattle.lab_script.specs.Printed.{printed_statement};
+ghost use Rattle.lab_script.specs.Reading.{Gives};
+ghost use Rattle.lab_script.specs.ReadingStatements.{expr_at, select_at, update_at, insert_at, delete_at, statement_at, ended_at, whole_statement_at};
+
+use crate::cursor::Parser;
+use crate::fits::statement_fits;
+use crate::stop::{GrammarFault, Stop};
+use crate::token::{Token, Word};
+use lab_table::{Expr, Statement};
+use std::alloc::Global;
+
+impl Parser<'_> {
+    /// One statement, which is all that is left, but for a semicolon.
+    #[tactic(auto, unfolding(crate::specs::ReadingStatements::whole_statement_at))]
+    pub fn whole_statement(&mut self, alloc: Global) -> Result<Statement, Stop>
+        ensures { Gives (λ x. x) result (whole_statement_at self.old) }
+    {
+        let statement = self.statement(alloc)?;
+        self.ended()?;
+        check_length(&statement)?;
+        self.nothing_left()?;
+        Ok(statement)
+    }
+
+    /// One of the four kinds of statement.
+    #[tactic(auto, unfolding(crate::specs::ReadingStatements::statement_at))]
+    pub fn statement(&mut self, alloc: Global) -> Result<Statement, Stop>
+        ensures { Gives (λ x. (x, self.new)) result (statement_at self.old) }
+    {
+        if self.took(Token::Word(Word::Select)) {
+            self.select(alloc)
+        } else if self.took(Token::Word(Word::Update)) {
+            self.update(alloc)
+        } else if self.took(Token::Word(Word::Insert)) {
+            self.insert()
+        } else {
+            self.expect(Token::Word(Word::Delete))?;
+            self.delete(alloc)
+        }
+    }
+
+    /// A select, from behind its first word on.
+    #[tactic(auto, unfolding(crate::specs::ReadingStatements::select_at))]
+    fn select(&mut self, alloc: Global) -> Result<Statement, Stop>
+        ensures { Gives (λ x. (x, self.new)) result (select_at self.old) }
+    {
+        self.expect_all(&[
+            Token::Star,
+            Token::Word(Word::From),
+            Token::Word(Word::Test),
+        ])?;
+        let pred = self.where_clause(alloc)?;
+        Ok(Statement::Select { pred })
+    }
+
+    /// An update, from behind its first word on.
+    #[tactic(auto, unfolding(crate::specs::ReadingStatements::update_at))]
+    fn update(&mut self, alloc: Global) -> Result<Statement, Stop>
+        ensures { Gives (λ x. (x, self.new)) result (update_at self.old) }
+    {
+        self.expect_all(&[
+            Token::Word(Word::Test),
+            Token::Word(Word::Set),
+            Token::Word(Word::Value),
+            Token::Equal,
+        ])?;
+        let expr = self.expr()?;
+        let pred = self.where_clause(alloc)?;
+        Ok(Statement::Update { expr, pred })
+    }
+
+    /// The new value of an update.
+    #[tactic(auto, unfolding(crate::specs::ReadingStatements::expr_at))]
+    fn expr(&mut self) -> Result<Expr, Stop>
+        ensures { Gives (λ x. (x, self.new)) result (expr_at self.old) }
+    {
+        if !self.took(Token::Word(Word::Value)) {
+            Ok(Expr::Set(self.number()?))
+        } else if self.took(Token::Plus) {
+            Ok(Expr::Plus(self.number()?))
+        } else {
+            self.expect(Token::Minus)?;
+            Ok(Expr::Minus(self.number()?))
+        }
+    }
+
+    /// An insert, from behind its first word on.
+    #[tactic(auto, unfolding(crate::specs::ReadingStatements::insert_at))]
+    fn insert(&mut self) -> Result<Statement, Stop>
+        ensures { Gives (λ x. (x, self.new)) result (insert_at self.old) }
+    {
+        self.expect_all(&[
+            Token::Word(Word::Into),
+            Token::Word(Word::Test),
+            Token::Open,
+            Token::Word(Word::Id),
+            Token::Comma,
+            Token::Word(Word::Value),
+            Token::Close,
+            Token::Word(Word::Values),
+        ])?;
+        let (id, value) = self.row()?;
+        Ok(Statement::Insert { id, value })
+    }
+
+    /// A delete, from behind its first word on.
+    #[tactic(auto, unfolding(crate::specs::ReadingStatements::delete_at))]
+    fn delete(&mut self, alloc: Global) -> Result<Statement, Stop>
+        ensures { Gives (λ x. (x, self.new)) result (delete_at self.old) }
+    {
+        self.expect_all(&[Token::Word(Word::From), Token::Word(Word::Test)])?;
+        let pred = self.where_clause(alloc)?;
+        Ok(Statement::Delete { pred })
+    }
+
+    /// The end of a statement: nothing is left, or a semicolon.
+    #[tactic(auto, unfolding(crate::specs::ReadingStatements::ended_at))]
+    pub fn ended(&mut self) -> Result<(), Stop>
+        ensures { Gives (λ x. self.new) result (ended_at self.old) }
+    {
+        match self.rest.split_first() {
+            None => Ok(()),
+            Some((first, rest)) => {
+                if *first != Token::Semicolon {
+                    return Err(Stop::Fault(GrammarFault::UnknownStatement));
+                }
+                self.rest = rest;
+                Ok(())
+            }
+        }
+    }
+
+    /// Nothing is left.
+    fn nothing_left(&mut self) -> Result<(), Stop>
+        ensures gives { Gives (λ x. x) result (if length self.old == 0 then Some tt else None) }
+        ensures same { self.new ≡ self.old }
+    {
+        if self.is_done() {
+            Ok(())
+        } else {
+            Err(Stop::Fault(GrammarFault::UnknownStatement))
+        }
+    }
+}
+
+/// The printed form is as short as it must be.
+#[tactic(auto, using(crate::proofs::Same::same_test))]
+pub fn check_length(statement: &Statement) -> Result<(), Stop>
+    ensures { Gives (λ x. x) result (if nat_le (length (printed_statement statement.now)) 1000 then Some tt else None) }
+{
+    if statement_fits(statement) {
+        Ok(())
+    } else {
+        Err(Stop::Fault(GrammarFault::TooLong))
+    }
+}

@@ -1,0 +1,121 @@
+//! What a script does where its transactions run whole. After NoMemory, part of what was to be appended may stand there.
+
+ghost use Rattle.std.specs.Prelude.{◌≡◌, ◌++◌, [], None, codes, IfOk, IfErr, OnOk, ◌⊎◌, ◌≢◌, Some};
+ghost use Rattle.lab_script.specs.Printed.{printed_id, printed_statement, rows_or};
+ghost use Rattle.lab_script.specs.Told.{broken_with, fault_text, limit_broken};
+ghost use Rattle.lab_script.specs.Transcript.{heading_text};
+
+use crate::print::{PrintFault, check_statement};
+use crate::spelling::{put_id, put_list, put_statement};
+use itoa::Buffer;
+use lab_table::{NoMemory, RowId, Session, Statement, TableFault, Value};
+use std::alloc::{AllocError, Global};
+use std::marker::Model;
+
+/// What a script does where its transactions run whole: the text is made as they run, and `print_transcript` hands it out.
+#[derive(Drop)]
+pub struct Transcript {
+    text: Vec<u8>,
+    unprintable: Option<PrintFault>,
+}
+
+impl Model for Transcript {
+    ghost use Rattle.lab_script.specs.Told.{Told};
+
+    ghost Value = { Told };
+
+    ghost view = { λ t. record { text = t.text.items; unprintable = t.unprintable } };
+}
+
+impl Transcript {
+    /// A transcript without a line.
+    pub(crate) fn new(alloc: Global) -> Transcript
+        ensures { result ≡ record { text = []; unprintable = None } }
+    {
+        Transcript {
+            text: Vec::new(alloc),
+            unprintable: None,
+        }
+    }
+
+    /// Appends bytes.
+    pub(crate) fn put(&mut self, bytes: &[u8]) -> Result<(), NoMemory>
+        ensures text { OnOk result (self.new.text ≡ self.old.text ++ bytes.now) }
+        ensures unprintable { OnOk result (self.new.unprintable ≡ self.old.unprintable) }
+    {
+        self.text.extend_from_slice(bytes)
+    }
+
+    /// Appends the first line of a transaction.
+    pub(crate) fn put_heading(&mut self, number: usize, session: Session) -> Result<(), NoMemory>
+        ensures text { OnOk result (self.new.text ≡ self.old.text ++ heading_text number session) }
+        ensures unprintable { OnOk result (self.new.unprintable ≡ self.old.unprintable) }
+    {
+        let text = &mut self.text;
+        text.extend_from_slice(b"txn ")?;
+        text.extend_from_slice(Buffer::new().format(number).as_bytes())?;
+        text.extend_from_slice(b" T")?;
+        text.extend_from_slice(Buffer::new().format(session.number()).as_bytes())?;
+        text.extend_from_slice(b"\n")
+    }
+
+    /// Appends a statement, and notes the limit that it breaks, if none was broken before.
+    pub(crate) fn put_statement(&mut self, statement: &Statement) -> Result<(), NoMemory>
+        ensures text { OnOk result (self.new.text ≡ self.old.text ++ printed_statement statement.now) }
+        ensures unprintable { OnOk result (self.new.unprintable ≡ broken_with self.old.unprintable statement.now) }
+    {
+        put_statement(&mut self.text, statement)?;
+        if self.unprintable.is_none() {
+            self.unprintable = limit_broken(statement);
+        }
+        Ok(())
+    }
+
+    /// Appends rows as a list.
+    pub(crate) fn put_rows(&mut self, rows: &[(RowId, Value)]) -> Result<(), NoMemory>
+        ensures text { OnOk result (self.new.text ≡ self.old.text ++ rows_or (codes "none") rows.now) }
+        ensures unprintable { OnOk result (self.new.unprintable ≡ self.old.unprintable) }
+    {
+        put_list(&mut self.text, rows)
+    }
+
+    /// Appends why a statement was refused; NoMemory also where that is the fault.
+    pub(crate) fn put_fault(&mut self, fault: &TableFault) -> Result<(), NoMemory>
+        ensures text { OnOk result (self.new.text ≡ self.old.text ++ fault_text fault.now) }
+        ensures unprintable { OnOk result (self.new.unprintable ≡ self.old.unprintable) }
+        ensures refused { OnOk result (fault.now ≢ TableFault.NoMemory) }
+    {
+        match fault {
+            TableFault::NoMemory => Err(AllocError),
+            TableFault::DuplicateKey { id } => self.put_refusal(b"DuplicateKey ", *id),
+            TableFault::OutOfRange { id } => self.put_refusal(b"OutOfRange ", *id),
+        }
+    }
+
+    fn put_refusal(&mut self, reason: &[u8], id: RowId) -> Result<(), NoMemory>
+        ensures text { OnOk result (self.new.text ≡ self.old.text ++ (reason.now ++ printed_id id)) }
+        ensures unprintable { OnOk result (self.new.unprintable ≡ self.old.unprintable) }
+    {
+        self.text.extend_from_slice(reason)?;
+        put_id(&mut self.text, id)
+    }
+}
+
+fn limit_broken(statement: &Statement) -> Option<PrintFault>
+    ensures { result ≡ limit_broken statement.now }
+{
+    check_statement(statement).err()
+}
+
+/// The text of a transcript, if each statement in it keeps the limits of a text.
+/// TooDeep or TooLong as the first that doesn't, depth first; NoMemory where a growth was refused.
+pub fn print_transcript(alloc: Global, told: &Transcript) -> Result<Vec<u8>, PrintFault>
+    ensures text { IfOk result (λ text. text.items ≡ told.now.text) }
+    ensures printed { IfOk result (λ text. told.now.unprintable ≡ None) }
+    ensures fault { IfErr result (λ fault. (fault ≡ PrintFault.NoMemory) ⊎ (told.now.unprintable ≡ Some fault)) }
+{
+    match told.unprintable {
+        None => Ok(Vec::from_slice(alloc, &told.text)?),
+        Some(fault) => Err(fault),
+    }
+}
