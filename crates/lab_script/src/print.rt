@@ -3,9 +3,12 @@
 ghost use Rattle.std.specs.Prelude.{◌≡◌, ◌≢◌, ◌≤◌, ◌<◌, length, IfOk, OnOk, Err};
 ghost use Rattle.lab_script.specs.Printed.{printed_statement, printed_script};
 ghost use Rattle.lab_script.specs.Depth.{statement_depth};
+ghost use Rattle.lab_script.specs.Renumbered.{renumbered};
+ghost use Rattle.lab_script.specs.Script.{Spells, SpellsStatement};
 ghost use Rattle.lab_script.specs.Limits.{StatementPrints, CommandPrints, IsDeep, IsLong, ScriptPrints, BreaksDepth, BreaksLength};
 
 use crate::fits::{depth_fits, setup_fits, statement_fits};
+use crate::round_trip::{printed_script_spells, printed_statement_spells};
 use crate::script::Script;
 use crate::spelling::{put_line, put_setup, put_statement};
 use lab_table::{Command, Statement};
@@ -42,6 +45,8 @@ impl From<AllocError> for PrintFault {
 /// TooDeep comes before TooLong; NoMemory where a growth was refused.
 pub fn print_statement(alloc: Global, statement: &Statement) -> Result<Vec<u8>, PrintFault>
     ensures text { IfOk result (λ text. text.items ≡ printed_statement statement.now) }
+    // What is printed is read as the same statement again.
+    ensures again { IfOk result (λ text. SpellsStatement text.items statement.now) }
     ensures prints { OnOk result (StatementPrints statement.now) }
     ensures too_deep { result ≡ Err PrintFault.TooDeep → 16 < statement_depth statement.now }
     ensures too_long { result ≡ Err PrintFault.TooLong → (statement_depth statement.now ≤ 16) × (1000 < length (printed_statement statement.now)) }
@@ -49,6 +54,7 @@ pub fn print_statement(alloc: Global, statement: &Statement) -> Result<Vec<u8>, 
     check_statement(statement)?;
     let mut text = Vec::new(alloc);
     put_statement(&mut text, statement)?;
+    printed_statement_spells(statement);
     Ok(text)
 }
 
@@ -56,6 +62,8 @@ pub fn print_statement(alloc: Global, statement: &Statement) -> Result<Vec<u8>, 
 /// TooDeep and TooLong only where the text would break that limit; NoMemory where a growth was refused.
 pub fn print_script(alloc: Global, script: &Script) -> Result<Vec<u8>, PrintFault>
     ensures text { IfOk result (λ text. text.items ≡ printed_script script.now) }
+    // What is printed is read as the same script again, its commands on lines 2, 3 and so on.
+    ensures again { IfOk result (λ text. Spells text.items (renumbered script.now)) }
     ensures prints { OnOk result (ScriptPrints script.now) }
     ensures too_deep { result ≡ Err PrintFault.TooDeep → BreaksDepth script.now }
     ensures too_long { result ≡ Err PrintFault.TooLong → BreaksLength script.now }
@@ -71,6 +79,7 @@ pub fn print_script(alloc: Global, script: &Script) -> Result<Vec<u8>, PrintFaul
         check_command(&line.command)?;
         put_line(&mut text, line)?;
     }
+    printed_script_spells(script);
     Ok(text)
 }
 
