@@ -90,18 +90,20 @@ pub cut_there : (line : List ℕ) (i : ℕ) → OccursAt line dashes i → ((k :
 cut_there line i at none =
     let fits : i + 2 ≤ length line = at.fits in
     let all = until line i (omega arith) (λ k low. none k (omega arith) low) in
-    let here = begins line i at in
-    (sym (append-nil (take i line)) ∙ ap (λ (l : List ℕ). take i line ++ l) (sym (code_stops (drop i line) here)) ∙ all.0,
-     take_rest line (i + 2) ∙ sym (drop-drop 2 i line) ∙ sym (remark_starts (drop i line) here) ∙ all.1)
+    let here = begins line i at in (
+      sym (append-nil (take i line)) ∙ ap (λ (l : List ℕ). take i line ++ l) (sym (code_stops (drop i line) here)) ∙ all.0,
+      take_rest line (i + 2) ∙ sym (drop-drop 2 i line) ∙ sym (remark_starts (drop i line) here) ∙ all.1,
+    )
 
 -- without two dashes the whole line is code
 pub no_cut : (line : List ℕ) → ((k : ℕ) → 0 ≤ k → k < length line + 1 → OccursAt line dashes k → ⊥) → (line ≡ code_of line) × ([] ≡ remark_of line)
 no_cut line none =
     let all = until line (length line) (omega arith) (λ k low. none k (omega arith) (omega arith)) in
-    let past : drop (length line) line ≡ [] = drop_all (length line) line (omega arith) in
-    (sym (append-nil line) ∙ ap (λ (l : List ℕ). l ++ []) (sym (take_all (length line) line (omega arith)))
-     ∙ ap (λ (l : List ℕ). take (length line) line ++ code_of l) (sym past) ∙ all.0,
-     ap remark_of (sym past) ∙ all.1)
+    let past : drop (length line) line ≡ [] = drop_all (length line) line (omega arith) in (
+      sym (append-nil line) ∙ ap (λ (l : List ℕ). l ++ []) (sym (take_all (length line) line (omega arith)))
+          ∙ ap (λ (l : List ℕ). take (length line) line ++ code_of l) (sym past) ∙ all.0,
+      ap remark_of (sym past) ∙ all.1,
+    )
 
 -- blanks before the session don't matter
 session_behind : (bytes : List ℕ) → session_of bytes ≡ session_of (drop (prefix_len is_blank bytes) bytes)

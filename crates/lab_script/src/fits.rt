@@ -42,6 +42,7 @@ fn nests_within(pred: &Pred, enclosed: bool, depth: usize) -> bool
 }
 
 /// Whether a statement's printed form has at most 1,000 bytes.
+#[tactic(auto, using(crate::proofs::Lengths::length_statement))]
 pub fn statement_fits(statement: &Statement) -> bool
     ensures { IsTrue result ↔ (length (printed_statement statement.now) ≤ 1000) }
 {
@@ -49,6 +50,7 @@ pub fn statement_fits(statement: &Statement) -> bool
 }
 
 /// Whether the line of a setup has at most 4,000 bytes, without its newline.
+#[tactic(auto, using(crate::proofs::Lengths::length_setup))]
 pub fn setup_fits(table: &Table) -> bool
     ensures { IsTrue result ↔ (length (printed_setup table.now) ≤ 4000) }
 {

@@ -3,12 +3,11 @@ use super::{PrintFault, print_script, print_statement};
 use crate::script::{Line, Lines, Script};
 use crate::spelling::put_list;
 use lab_table::{
-    Cmp, Col, Command, Expr, Modulus, NoMemory, Numbers, Pred, PredKind, RowId, Session, Statement,
-    Table, Value,
+    Cmp, Col, Command, Expr, Modulus, Numbers, Pred, PredKind, RowId, Session, Statement, Table,
+    Value,
 };
 use std::alloc::Global;
 use std::process::Abort;
-use std::test::Fail;
 
 fn value(rt: &impl Abort, number: i64) -> Value {
     Value::new(number).expect(rt, "a value")
@@ -25,6 +24,27 @@ fn compare(rt: &impl Abort, col: Col, cmp: Cmp, number: i64) -> Pred {
     }
 }
 
+fn negated(rt: &impl Abort, alloc: Global, p: Pred) -> Pred {
+    let p = Box::new(alloc, p).ok().expect(rt, "memory");
+    Pred {
+        kind: PredKind::Not(p),
+    }
+}
+
+fn joined(rt: &impl Abort, alloc: Global, is_and: bool, p: Pred, q: Pred) -> Pred {
+    let p = Box::new(alloc, p).ok().expect(rt, "memory");
+    let q = Box::new(alloc, q).ok().expect(rt, "memory");
+    if is_and {
+        Pred {
+            kind: PredKind::And(p, q),
+        }
+    } else {
+        Pred {
+            kind: PredKind::Or(p, q),
+        }
+    }
+}
+
 /// A part of a predicate, behind the parts that it joins.
 #[derive(Clone, Copy)]
 enum Part {
@@ -34,68 +54,48 @@ enum Part {
     Or,
 }
 
-fn negated(alloc: Global, p: Pred) -> Result<Pred, NoMemory> {
-    Ok(Pred {
-        kind: PredKind::Not(Box::new(alloc, p)?),
-    })
-}
-
-fn joined(alloc: Global, part: Part, p: Pred, q: Pred) -> Result<Pred, NoMemory> {
-    let (p, q) = (Box::new(alloc, p)?, Box::new(alloc, q)?);
-    let kind = match part {
-        Part::And => PredKind::And(p, q),
-        _ => PredKind::Or(p, q),
-    };
-    Ok(Pred { kind })
-}
-
 /// The predicate of these parts, over `id = N`.
-fn pred_of(rt: &impl Abort, alloc: Global, parts: &[Part]) -> Result<Pred, NoMemory> {
+fn pred_of(rt: &impl Abort, alloc: Global, parts: &[Part]) -> Pred {
     let mut preds = Vec::new(alloc);
     for part in parts {
         let pred = match part {
             Part::Id(number) => compare(rt, Col::Id, Cmp::Eq, *number),
-            Part::Not => negated(alloc, preds.pop().expect(rt, "a predicate"))?,
+            Part::Not => negated(rt, alloc, preds.pop().expect(rt, "a predicate")),
             Part::And | Part::Or => {
                 let q = preds.pop().expect(rt, "a right predicate");
-                joined(alloc, *part, preds.pop().expect(rt, "a left predicate"), q)?
+                let p = preds.pop().expect(rt, "a left predicate");
+                joined(rt, alloc, matches!(part, Part::And), p, q)
             }
         };
-        preds.push(pred)?;
+        preds.push(pred).ok().expect(rt, "memory");
     }
-    Ok(preds.pop().expect(rt, "a predicate"))
+    preds.pop().expect(rt, "a predicate")
 }
 
-fn one_of(rt: &impl Abort, alloc: Global, numbers: &[i64]) -> Result<Pred, NoMemory> {
+fn one_of(rt: &impl Abort, alloc: Global, numbers: &[i64]) -> Pred {
     let mut items = Vec::new(alloc);
     for number in numbers {
-        items.push(value(rt, *number))?;
+        items.push(value(rt, *number)).expect(rt, "memory");
     }
-    Ok(Pred {
+    Pred {
         kind: PredKind::OneOf {
             col: Col::Id,
             numbers: Numbers::new(items),
         },
-    })
+    }
 }
 
 fn select(p: Pred) -> Statement {
     Statement::Select { pred: Some(p) }
 }
 
-fn prints(
-    rt: &impl Abort,
-    alloc: Global,
-    statement: &Statement,
-    expected: &str,
-) -> Result<(), PrintFault> {
-    let text = print_statement(alloc, statement)?;
+fn prints(rt: &impl Abort, alloc: Global, statement: Statement, expected: &str) {
+    let text = print_statement(alloc, &statement).expect(rt, "a text");
     assert_eq!(rt; text.as_slice(), expected.as_bytes());
-    Ok(())
 }
 
 #[test]
-fn parentheses_stand_where_the_tree_needs_them(rt: HostRuntime) -> Result<(), Fail> {
+fn parentheses_stand_where_the_tree_needs_them(rt: HostRuntime) {
     use Part::{And, Id, Not, Or};
     for (parts, expected) in [
         (
@@ -131,14 +131,13 @@ fn parentheses_stand_where_the_tree_needs_them(rt: HostRuntime) -> Result<(), Fa
             "select * from test where not (id = 1 or id = 2) and id = 3",
         ),
     ] {
-        let pred = pred_of(&rt, rt.alloc(), parts)?;
-        prints(&rt, rt.alloc(), &select(pred), expected)?;
+        let pred = pred_of(&rt, rt.alloc(), parts);
+        prints(&rt, rt.alloc(), select(pred), expected);
     }
-    Ok(())
 }
 
 #[test]
-fn comparisons(rt: HostRuntime) -> Result<(), Fail> {
+fn comparisons(rt: HostRuntime) {
     for (col, cmp, number, expected) in [
         (Col::Id, Cmp::Eq, 1, "delete from test where id = 1"),
         (
@@ -168,13 +167,12 @@ fn comparisons(rt: HostRuntime) -> Result<(), Fail> {
         ),
     ] {
         let pred = Some(compare(&rt, col, cmp, number));
-        prints(&rt, rt.alloc(), &Statement::Delete { pred }, expected)?;
+        prints(&rt, rt.alloc(), Statement::Delete { pred }, expected);
     }
-    Ok(())
 }
 
 #[test]
-fn lists_and_remainders(rt: HostRuntime) -> Result<(), Fail> {
+fn lists_of_numbers(rt: HostRuntime) {
     for (numbers, expected) in [
         ([].as_slice(), "select * from test where id in ()"),
         ([5].as_slice(), "select * from test where id in (5)"),
@@ -183,14 +181,14 @@ fn lists_and_remainders(rt: HostRuntime) -> Result<(), Fail> {
             "select * from test where id in (5, -6, 7)",
         ),
     ] {
-        prints(
-            &rt,
-            rt.alloc(),
-            &select(one_of(&rt, rt.alloc(), numbers)?),
-            expected,
-        )?;
+        let pred = one_of(&rt, rt.alloc(), numbers);
+        prints(&rt, rt.alloc(), select(pred), expected);
     }
-    let remainder = Pred {
+}
+
+#[test]
+fn remainders(rt: HostRuntime) {
+    let pred = Pred {
         kind: PredKind::Remainder {
             col: Col::Value,
             modulus: Modulus::new(3).expect(&rt, "a modulus"),
@@ -200,251 +198,243 @@ fn lists_and_remainders(rt: HostRuntime) -> Result<(), Fail> {
     prints(
         &rt,
         rt.alloc(),
-        &select(remainder),
+        select(pred),
         "select * from test where value % 3 = -1",
-    )?;
-    Ok(())
+    );
 }
 
 #[test]
-fn updates(rt: HostRuntime) -> Result<(), Fail> {
+fn updates(rt: HostRuntime) {
     for (expr, expected) in [
-        (Expr::Set(value(&rt, -11)), "update test set value = -11"),
+        (
+            Expr::Set(value(&rt, -11)),
+            "update test set value = -11 where id = 2",
+        ),
         (
             Expr::Plus(value(&rt, 1)),
-            "update test set value = value + 1",
+            "update test set value = value + 1 where id = 2",
         ),
         (
             Expr::Minus(value(&rt, -3)),
-            "update test set value = value - -3",
+            "update test set value = value - -3 where id = 2",
         ),
     ] {
-        prints(
-            &rt,
-            rt.alloc(),
-            &Statement::Update { expr, pred: None },
-            expected,
-        )?;
+        let pred = Some(compare(&rt, Col::Id, Cmp::Eq, 2));
+        prints(&rt, rt.alloc(), Statement::Update { expr, pred }, expected);
     }
-    let two = Statement::Update {
-        expr: Expr::Plus(value(&rt, 30)),
-        pred: Some(compare(&rt, Col::Id, Cmp::Eq, 2)),
-    };
-    prints(
-        &rt,
-        rt.alloc(),
-        &two,
-        "update test set value = value + 30 where id = 2",
-    )?;
-    Ok(())
 }
 
 #[test]
-fn statements_without_a_where(rt: HostRuntime) -> Result<(), Fail> {
-    let insert = Statement::Insert {
-        id: row(&rt, 999_999),
-        value: value(&rt, -30),
-    };
+fn statements_without_a_where(rt: HostRuntime) {
+    let (id, number) = (row(&rt, 999_999), value(&rt, -30));
+    let insert = Statement::Insert { id, value: number };
     prints(
         &rt,
         rt.alloc(),
-        &insert,
+        insert,
         "insert into test (id, value) values (999999, -30)",
-    )?;
+    );
+    let update = Statement::Update {
+        expr: Expr::Set(number),
+        pred: None,
+    };
+    prints(&rt, rt.alloc(), update, "update test set value = -30");
     prints(
         &rt,
         rt.alloc(),
-        &Statement::Select { pred: None },
+        Statement::Select { pred: None },
         "select * from test",
-    )?;
+    );
     prints(
         &rt,
         rt.alloc(),
-        &Statement::Delete { pred: None },
+        Statement::Delete { pred: None },
         "delete from test",
-    )?;
-    Ok(())
+    );
+}
+
+/// How long the text of a selection is.
+fn length(alloc: Global, p: Pred) -> Result<usize, PrintFault> {
+    Ok(print_statement(alloc, &select(p))?.len())
 }
 
 /// `not` so many times before `id = 1`.
-fn nots(rt: &impl Abort, alloc: Global, count: u32) -> Result<Pred, NoMemory> {
+fn nots(rt: &impl Abort, alloc: Global, count: u32) -> Pred {
     let mut p = compare(rt, Col::Id, Cmp::Eq, 1);
     for _ in 0..count {
-        p = negated(alloc, p)?;
+        p = negated(rt, alloc, p);
     }
-    Ok(p)
+    p
 }
 
 /// `id = 1 or (id = 1 or (.. id = 1))` with so many parentheses.
-fn ors(rt: &impl Abort, alloc: Global, count: u32) -> Result<Pred, NoMemory> {
-    let mut p = pred_of(rt, alloc, &[Part::Id(1), Part::Id(1), Part::Or])?;
+fn ors(rt: &impl Abort, alloc: Global, count: u32) -> Pred {
+    let mut p = pred_of(rt, alloc, &[Part::Id(1), Part::Id(1), Part::Or]);
     for _ in 0..count {
-        p = joined(alloc, Part::Or, compare(rt, Col::Id, Cmp::Eq, 1), p)?;
+        p = joined(rt, alloc, false, compare(rt, Col::Id, Cmp::Eq, 1), p);
     }
-    Ok(p)
+    p
 }
 
-/// `id in (1, 1, .., last)` with so many numbers.
-fn ones(rt: &impl Abort, alloc: Global, count: u32, last: i64) -> Result<Pred, NoMemory> {
-    let mut numbers = Vec::new(alloc);
-    for _ in 1..count {
-        numbers.push(1)?;
+#[test]
+fn sixteen_deep_is_printed(rt: HostRuntime) {
+    for (count, expected) in [
+        (16, Ok(31 + 16 * 4)),
+        (17, Err(PrintFault::TooDeep)),
+        // 1,231 bytes too
+        (300, Err(PrintFault::TooDeep)),
+    ] {
+        assert_eq!(rt; length(rt.alloc(), nots(&rt, rt.alloc(), count)), expected);
     }
-    numbers.push(last)?;
+    for (count, expected) in [
+        (16, Ok(25 + 18 * 6 + 17 * 4 + 16 * 2)),
+        (17, Err(PrintFault::TooDeep)),
+    ] {
+        assert_eq!(rt; length(rt.alloc(), ors(&rt, rt.alloc(), count)), expected);
+    }
+}
+
+/// `id in (1, 1, .., last)` with 323 numbers: 1,000 bytes in a selection, if the last has one digit.
+fn ones(rt: &impl Abort, alloc: Global, last: i64) -> Pred {
+    let mut numbers = [1; 323];
+    numbers[322] = last;
     one_of(rt, alloc, &numbers)
 }
 
 #[test]
-fn sixteen_deep_is_printed(rt: HostRuntime) -> Result<(), Fail> {
-    let a = rt.alloc();
+fn a_thousand_bytes_are_printed(rt: HostRuntime) {
+    assert_eq!(rt; length(rt.alloc(), ones(&rt, rt.alloc(), 1)), Ok(1000));
     assert_eq!(rt;
-        print_statement(a, &select(nots(&rt, a, 16)?))?.len(),
-        31 + 16 * 4
-    );
-    assert_eq!(rt;
-        print_statement(a, &select(nots(&rt, a, 17)?)),
-        Err(PrintFault::TooDeep)
-    );
-    assert_eq!(rt;
-        print_statement(a, &select(ors(&rt, a, 16)?))?.len(),
-        25 + 18 * 6 + 17 * 4 + 16 * 2
-    );
-    assert_eq!(rt;
-        print_statement(a, &select(ors(&rt, a, 17)?)),
-        Err(PrintFault::TooDeep)
-    );
-    assert_eq!(rt;
-        print_statement(a, &select(nots(&rt, a, 300)?)),
-        Err(PrintFault::TooDeep)
-    );
-    Ok(())
-}
-
-#[test]
-fn a_thousand_bytes_are_printed(rt: HostRuntime) -> Result<(), Fail> {
-    let a = rt.alloc();
-    // 33 bytes beside the numbers, which take 3 each, but the last takes 1
-    assert_eq!(rt;
-        print_statement(a, &select(ones(&rt, a, 323, 1)?))?.len(),
-        1000
-    );
-    assert_eq!(rt;
-        print_statement(a, &select(ones(&rt, a, 323, 10)?)),
+        length(rt.alloc(), ones(&rt, rt.alloc(), 10)),
         Err(PrintFault::TooLong)
     );
-    Ok(())
 }
 
-fn line(rt: &impl Abort, session: u8, command: Command) -> Line {
-    Line {
-        session: Session::new(session).expect(rt, "a session"),
-        command,
-        text_line: 0,
-    }
-}
-
-/// So many begins of one session.
-fn begins(rt: &impl Abort, alloc: Global, count: u32) -> Result<Lines, NoMemory> {
+/// These commands, each of another session.
+fn lines_of(rt: &impl Abort, alloc: Global, commands: Vec<Command>) -> Lines {
     let mut lines = Lines::new(Vec::new(alloc));
-    for _ in 0..count {
-        lines.push(line(rt, 1, Command::Begin))?;
+    let mut number = 0;
+    for command in commands {
+        number = number % 9 + 1;
+        let session = Session::new(number).expect(rt, "a session");
+        let line = Line {
+            session,
+            command,
+            text_line: 0,
+        };
+        lines.push(line).expect(rt, "memory");
     }
-    Ok(lines)
+    lines
 }
 
-fn table(rt: &impl Abort, alloc: Global, rows: &[(u32, i64)]) -> Result<Table, NoMemory> {
+/// So many begins.
+fn begins(rt: &impl Abort, alloc: Global, count: u32) -> Lines {
+    let mut commands = Vec::new(alloc);
+    for _ in 0..count {
+        commands.push(Command::Begin).ok().expect(rt, "memory");
+    }
+    lines_of(rt, alloc, commands)
+}
+
+/// A begin and a selection.
+fn one_selection(rt: &impl Abort, alloc: Global, p: Pred) -> Lines {
+    let mut commands = Vec::new(alloc);
+    commands.push(Command::Begin).ok().expect(rt, "memory");
+    commands
+        .push(Command::Run(select(p)))
+        .ok()
+        .expect(rt, "memory");
+    lines_of(rt, alloc, commands)
+}
+
+fn table(rt: &impl Abort, alloc: Global, rows: &[(u32, i64)]) -> Table {
     let mut table = Table::new(alloc);
     for (id, number) in rows {
-        table.add(alloc, row(rt, *id), value(rt, *number))?;
+        table
+            .add(alloc, row(rt, *id), value(rt, *number))
+            .expect(rt, "memory");
     }
-    Ok(table)
+    table
+}
+
+/// 399 rows. With a last value of six digits the line of this setup has 4,000 bytes.
+fn long_setup(rt: &impl Abort, alloc: Global, last: i64) -> Table {
+    let mut rows = [(0, 0); 399];
+    for (row, id) in rows.iter_mut().zip(100..) {
+        *row = (id, 0);
+    }
+    rows[398].1 = last;
+    table(rt, alloc, &rows)
+}
+
+fn script_length(alloc: Global, setup: Table, lines: Lines) -> Result<usize, PrintFault> {
+    Ok(print_script(alloc, &Script { setup, lines })?.len())
 }
 
 #[test]
-fn scripts(rt: HostRuntime) -> Result<(), Fail> {
-    let a = rt.alloc();
-    let mut lines = begins(&rt, a, 1)?;
+fn scripts(rt: HostRuntime) {
+    let setup = table(&rt, rt.alloc(), &[(2, -20), (1, 10)]);
+    let mut commands = Vec::new(rt.alloc());
     let one = select(compare(&rt, Col::Id, Cmp::Eq, 1));
-    lines.push(line(&rt, 9, Command::Run(one)))?;
-    lines.push(line(&rt, 1, Command::Commit))?;
-    lines.push(line(&rt, 2, Command::Abort))?;
-    let setup = table(&rt, a, &[(2, -20), (1, 10)])?;
-    assert_eq!(rt;
-        print_script(a, &Script { setup, lines })?.as_slice(),
-        b"setup (1, 10), (2, -20);\nbegin; -- T1\nselect * from test where id = 1; -- T9\ncommit; -- T1\nabort; -- T2\n".as_slice()
-    );
-    let (setup, lines) = (Table::new(a), Lines::new(Vec::new(a)));
-    assert_eq!(rt;
-        print_script(a, &Script { setup, lines })?.as_slice(),
-        b"setup ();\n".as_slice()
-    );
-    Ok(())
-}
-
-/// A setup of 399 rows. With a last value of six digits its line has 4,000 bytes.
-fn long_setup(rt: &impl Abort, alloc: Global, last: i64) -> Result<Table, NoMemory> {
-    let mut table = Table::new(alloc);
-    for id in 100..498 {
-        table.add(alloc, row(rt, id), value(rt, 0))?;
+    for command in [
+        Command::Begin,
+        Command::Run(one),
+        Command::Commit,
+        Command::Abort,
+    ] {
+        commands.push(command).ok().expect(&rt, "memory");
     }
-    table.add(alloc, row(rt, 498), value(rt, last))?;
-    Ok(table)
-}
-
-fn script_fault(alloc: Global, setup: Table, lines: Lines) -> Option<PrintFault> {
-    print_script(alloc, &Script { setup, lines }).err()
-}
-
-#[test]
-fn the_longest_script_is_printed(rt: HostRuntime) -> Result<(), Fail> {
-    let a = rt.alloc();
-    let lines = begins(&rt, a, 1999)?;
-    let setup = long_setup(&rt, a, 100_000)?;
+    let lines = lines_of(&rt, rt.alloc(), commands);
+    let text = print_script(rt.alloc(), &Script { setup, lines }).expect(&rt, "a text");
     assert_eq!(rt;
-        print_script(a, &Script { setup, lines })?.len(),
-        4001 + 1999 * 13
+        text.as_slice(),
+        b"setup (1, 10), (2, -20);\nbegin; -- T1\nselect * from test where id = 1; -- T2\ncommit; -- T3\nabort; -- T4\n".as_slice()
     );
-    let lines = begins(&rt, a, 2000)?;
-    assert_eq!(rt;
-        script_fault(a, Table::new(a), lines),
-        Some(PrintFault::TooLong)
-    );
-    let setup = long_setup(&rt, a, 1_000_000)?;
-    assert_eq!(rt;
-        script_fault(a, setup, Lines::new(Vec::new(a))),
-        Some(PrintFault::TooLong)
-    );
-    Ok(())
 }
 
 #[test]
-fn a_statement_of_a_script_keeps_its_limits(rt: HostRuntime) -> Result<(), Fail> {
-    let a = rt.alloc();
-    let mut deep = begins(&rt, a, 1)?;
-    deep.push(line(&rt, 1, Command::Run(select(nots(&rt, a, 17)?))))?;
-    assert_eq!(rt;
-        script_fault(a, Table::new(a), deep),
-        Some(PrintFault::TooDeep)
-    );
-    let mut long = begins(&rt, a, 1)?;
-    long.push(line(&rt, 1, Command::Run(select(ones(&rt, a, 323, 10)?))))?;
-    assert_eq!(rt;
-        script_fault(a, Table::new(a), long),
-        Some(PrintFault::TooLong)
-    );
-    Ok(())
+fn a_script_of_an_empty_setup(rt: HostRuntime) {
+    let (setup, lines) = (Table::new(rt.alloc()), begins(&rt, rt.alloc(), 0));
+    let text = print_script(rt.alloc(), &Script { setup, lines }).expect(&rt, "a text");
+    assert_eq!(rt; text.as_slice(), b"setup ();\n".as_slice());
 }
 
 #[test]
-fn lists_of_rows(rt: HostRuntime) -> Result<(), Fail> {
-    let mut text = Vec::new(rt.alloc());
+fn the_longest_script_is_printed(rt: HostRuntime) {
+    for (last, count, expected) in [
+        (100_000, 1999, Ok(4001 + 1999 * 13)),
+        (100_000, 2000, Err(PrintFault::TooLong)),
+        (1_000_000, 0, Err(PrintFault::TooLong)),
+    ] {
+        let setup = long_setup(&rt, rt.alloc(), last);
+        let lines = begins(&rt, rt.alloc(), count);
+        assert_eq!(rt; script_length(rt.alloc(), setup, lines), expected);
+    }
+}
+
+#[test]
+fn the_statements_of_a_script_keep_their_limits(rt: HostRuntime) {
+    let deep = one_selection(&rt, rt.alloc(), nots(&rt, rt.alloc(), 17));
+    let fault = script_length(rt.alloc(), Table::new(rt.alloc()), deep);
+    assert_eq!(rt; fault, Err(PrintFault::TooDeep));
+    let long = one_selection(&rt, rt.alloc(), ones(&rt, rt.alloc(), 10));
+    let fault = script_length(rt.alloc(), Table::new(rt.alloc()), long);
+    assert_eq!(rt; fault, Err(PrintFault::TooLong));
+}
+
+#[test]
+fn lists_of_rows(rt: HostRuntime) {
     let rows = [
         (row(&rt, 1), value(&rt, 10)),
         (row(&rt, 2), value(&rt, -20)),
     ];
-    put_list(&mut text, &[])?;
-    put_list(&mut text, &rows[..1])?;
-    put_list(&mut text, &rows)?;
-    assert_eq!(rt; text.as_slice(), b"none(1, 10)(1, 10), (2, -20)".as_slice());
-    Ok(())
+    for (rows, expected) in [
+        (&rows[..0], "none"),
+        (&rows[..1], "(1, 10)"),
+        (&rows[..], "(1, 10), (2, -20)"),
+    ] {
+        let mut text = Vec::new(rt.alloc());
+        put_list(&mut text, rows).expect(&rt, "memory");
+        assert_eq!(rt; text.as_slice(), expected.as_bytes());
+    }
 }

@@ -1,8 +1,6 @@
 //! Setups, and the rows or the fault that each gives.
 use super::read_setup;
-use crate::fault::GrammarFault::{
-    DuplicateSetupRow, NumberOutOfRange, TooLong, UnknownStatement,
-};
+use crate::stop::GrammarFault::{DuplicateSetupRow, NumberOutOfRange, TooLong, UnknownStatement};
 use crate::stop::{GrammarFault, Stop};
 use crate::token::tokens_of;
 use lab_table::{NoMemory, Table};
