@@ -69,7 +69,7 @@ impl Script {
     ghost use Rattle.lab_script.specs.Script.{extended};
 
     /// Adds commands of a session from this line of the text; NoMemory where a growth was refused.
-    pub fn add(
+    pub(crate) fn add(
         &mut self,
         session: Session,
         text_line: u32,

@@ -78,12 +78,12 @@ fn a_copy_of_a_predicate_is_the_same(rt: HostRuntime) -> Result<(), Fail> {
 fn check_copies(rt: &impl Abort, alloc: Global, statement: Statement) -> Result<(), Fail> {
     let copy = statement.copy(alloc)?;
     assert!(rt; are_alike(alloc, &copy, &statement)?);
-    check_command(rt, alloc, Command::Run(statement))
+    check_command(rt, alloc, &Command::Run(statement))
 }
 
-fn check_command(rt: &impl Abort, alloc: Global, command: Command) -> Result<(), Fail> {
+fn check_command(rt: &impl Abort, alloc: Global, command: &Command) -> Result<(), Fail> {
     let copy = command.copy(alloc)?;
-    assert!(rt; are_alike(alloc, &copy, &command)?);
+    assert!(rt; are_alike(alloc, &copy, command)?);
     Ok(())
 }
 
@@ -102,7 +102,7 @@ fn copies_of_statements_and_commands_are_the_same(rt: HostRuntime) -> Result<(),
         check_copies(&rt, alloc, Statement::Delete { pred })?;
     }
     check_copies(&rt, alloc, Statement::Insert { id, value: number })?;
-    check_command(&rt, alloc, Command::Begin)?;
-    check_command(&rt, alloc, Command::Commit)?;
-    check_command(&rt, alloc, Command::Abort)
+    check_command(&rt, alloc, &Command::Begin)?;
+    check_command(&rt, alloc, &Command::Commit)?;
+    check_command(&rt, alloc, &Command::Abort)
 }

@@ -76,16 +76,46 @@ fn a_copy_of_a_table_stands_alone(rt: HostRuntime) -> Result<(), Fail> {
     Ok(())
 }
 
-/// Runs a statement on a table of these rows: what it lists, and the table after it.
-fn ran(
+/// Runs a statement on a table of these rows, and compares what it lists, and the table after it.
+fn check_run(
     rt: &impl Abort,
     alloc: Global,
     rows: &[(u32, i64)],
     statement: &Statement,
-) -> Result<(Vec<(u32, i64)>, Vec<(u32, i64)>), Fail> {
+    listed: &[(u32, i64)],
+    after: &[(u32, i64)],
+) -> Result<(), Fail> {
     let mut table = table_of(rt, alloc, rows)?;
-    let listed = table.run(alloc, statement)?;
-    Ok((plain(alloc, &listed)?, plain(alloc, table.rows())?))
+    let answer = table.run(alloc, statement)?;
+    assert_eq!(rt; plain(alloc, &answer)?.as_slice(), listed, "{statement:?}");
+    assert_eq!(rt;
+        plain(alloc, table.rows())?.as_slice(),
+        after,
+        "{statement:?}"
+    );
+    Ok(())
+}
+
+/// Runs a statement on a table of these rows, and compares its refusal; the table is as before.
+fn check_refusal(
+    rt: &impl Abort,
+    alloc: Global,
+    rows: &[(u32, i64)],
+    statement: &Statement,
+    fault: TableFault,
+) -> Result<(), Fail> {
+    let mut table = table_of(rt, alloc, rows)?;
+    assert_eq!(rt;
+        table.run(alloc, statement).err(),
+        Some(fault),
+        "{statement:?}"
+    );
+    assert_eq!(rt;
+        plain(alloc, table.rows())?.as_slice(),
+        rows,
+        "{statement:?}"
+    );
+    Ok(())
 }
 
 const ROWS: [(u32, i64); 3] = [(1, 10), (2, 20), (3, 30)];
@@ -93,9 +123,9 @@ const ROWS: [(u32, i64); 3] = [(1, 10), (2, 20), (3, 30)];
 #[test]
 fn a_select_lists_and_a_delete_removes(rt: HostRuntime) -> Result<(), Fail> {
     let alloc = rt.alloc();
-    // the rows whose value compares so with the number, and the others
     let ends: &[(u32, i64)] = &[(1, 10), (3, 30)];
     let none: &[(u32, i64)] = &[];
+    // the rows whose value compares so with the number, and the others
     for (cmp, number, matching, others) in [
         (Cmp::Eq, 20, &ROWS[1..2], ends),
         (Cmp::Le, 20, &ROWS[..2], &ROWS[2..]),
@@ -104,31 +134,41 @@ fn a_select_lists_and_a_delete_removes(rt: HostRuntime) -> Result<(), Fail> {
         (Cmp::Eq, 40, none, &ROWS),
     ] {
         let pred = Some(compare(&rt, Col::Value, cmp, number));
-        let (listed, after) = ran(&rt, alloc, &ROWS, &Statement::Select { pred })?;
-        assert_eq!(rt; listed.as_slice(), matching, "select {cmp:?} {number}");
-        assert_eq!(rt;
-            after.as_slice(),
-            ROWS.as_slice(),
-            "select {cmp:?} {number}"
-        );
+        check_run(
+            &rt,
+            alloc,
+            &ROWS,
+            &Statement::Select { pred },
+            matching,
+            &ROWS,
+        )?;
         let pred = Some(compare(&rt, Col::Value, cmp, number));
-        let (listed, after) = ran(&rt, alloc, &ROWS, &Statement::Delete { pred })?;
-        assert_eq!(rt; listed.as_slice(), matching, "delete {cmp:?} {number}");
-        assert_eq!(rt; after.as_slice(), others, "delete {cmp:?} {number}");
+        check_run(
+            &rt,
+            alloc,
+            &ROWS,
+            &Statement::Delete { pred },
+            matching,
+            others,
+        )?;
     }
-    Ok(())
-}
-
-#[test]
-fn without_where_every_row_matches(rt: HostRuntime) -> Result<(), Fail> {
-    let alloc = rt.alloc();
-    let (listed, after) = ran(&rt, alloc, &ROWS, &Statement::Select { pred: None })?;
-    assert_eq!(rt; listed.as_slice(), ROWS.as_slice());
-    assert_eq!(rt; after.as_slice(), ROWS.as_slice());
-    let (listed, after) = ran(&rt, alloc, &ROWS, &Statement::Delete { pred: None })?;
-    assert_eq!(rt; listed.as_slice(), ROWS.as_slice());
-    assert!(rt; after.is_empty());
-    Ok(())
+    // every row, without where
+    check_run(
+        &rt,
+        alloc,
+        &ROWS,
+        &Statement::Select { pred: None },
+        &ROWS,
+        &ROWS,
+    )?;
+    check_run(
+        &rt,
+        alloc,
+        &ROWS,
+        &Statement::Delete { pred: None },
+        &ROWS,
+        none,
+    )
 }
 
 #[test]
@@ -149,31 +189,29 @@ fn an_update_lists_old_values_and_writes_new_ones(rt: HostRuntime) -> Result<(),
         (Expr::Plus(ten), 4, &ROWS[3..], ROWS),
     ] {
         let pred = Some(compare(&rt, Col::Id, Cmp::Ge, least));
-        let (listed, changed) = ran(&rt, rt.alloc(), &ROWS, &Statement::Update { expr, pred })?;
-        assert_eq!(rt; listed.as_slice(), matching, "{expr:?} from {least}");
-        assert_eq!(rt;
-            changed.as_slice(),
-            after.as_slice(),
-            "{expr:?} from {least}"
-        );
+        let update = Statement::Update { expr, pred };
+        check_run(&rt, rt.alloc(), &ROWS, &update, matching, &after)?;
     }
     Ok(())
 }
 
 #[test]
 fn an_insert_lists_none(rt: HostRuntime) -> Result<(), Fail> {
-    for (id, after) in [
+    let rows = [(2, 20), (4, 40)];
+    for (number, after) in [
         (1, [(1, 7), (2, 20), (4, 40)]),
         (3, [(2, 20), (3, 7), (4, 40)]),
         (5, [(2, 20), (4, 40), (5, 7)]),
     ] {
-        let insert = Statement::Insert {
-            id: row(&rt, id),
-            value: value(&rt, 7),
-        };
-        let (listed, changed) = ran(&rt, rt.alloc(), &[(2, 20), (4, 40)], &insert)?;
-        assert!(rt; listed.is_empty());
-        assert_eq!(rt; changed.as_slice(), after.as_slice(), "row {id}");
+        let (id, value) = (row(&rt, number), value(&rt, 7));
+        check_run(
+            &rt,
+            rt.alloc(),
+            &rows,
+            &Statement::Insert { id, value },
+            &[],
+            &after,
+        )?;
     }
     Ok(())
 }
@@ -183,46 +221,38 @@ const EDGES: [(u32, i64); 4] = [(1, 10), (3, MOST), (5, -MOST), (7, MOST)];
 #[test]
 fn an_update_out_of_range_names_the_least_row(rt: HostRuntime) -> Result<(), Fail> {
     let one = value(&rt, 1);
-    for (expr, least, id) in [
+    for (expr, least, number) in [
         (Expr::Plus(one), 1, 3),
         (Expr::Plus(one), 4, 7),
         (Expr::Minus(one), 1, 5),
     ] {
         let pred = Some(compare(&rt, Col::Id, Cmp::Ge, least));
-        let mut table = table_of(&rt, rt.alloc(), &EDGES)?;
-        let fault = table
-            .run(rt.alloc(), &Statement::Update { expr, pred })
-            .err();
-        assert_eq!(rt;
+        let fault = TableFault::OutOfRange {
+            id: row(&rt, number),
+        };
+        check_refusal(
+            &rt,
+            rt.alloc(),
+            &EDGES,
+            &Statement::Update { expr, pred },
             fault,
-            Some(TableFault::OutOfRange { id: row(&rt, id) }),
-            "{expr:?} from {least}"
-        );
-        assert_eq!(rt;
-            plain(rt.alloc(), table.rows())?.as_slice(),
-            EDGES.as_slice(),
-            "{expr:?} from {least}"
-        );
+        )?;
     }
     Ok(())
 }
 
 #[test]
 fn an_insert_of_a_present_row_is_refused(rt: HostRuntime) -> Result<(), Fail> {
-    let mut table = table_of(&rt, rt.alloc(), &EDGES)?;
     for number in [1, 3, 5, 7] {
-        let id = row(&rt, number);
-        let insert = Statement::Insert {
-            id,
-            value: value(&rt, 2),
-        };
-        let fault = table.run(rt.alloc(), &insert).err();
-        assert_eq!(rt; fault, Some(TableFault::DuplicateKey { id }));
-        assert_eq!(rt;
-            plain(rt.alloc(), table.rows())?.as_slice(),
-            EDGES.as_slice(),
-            "row {id}"
-        );
+        let (id, value) = (row(&rt, number), value(&rt, 2));
+        let fault = TableFault::DuplicateKey { id };
+        check_refusal(
+            &rt,
+            rt.alloc(),
+            &EDGES,
+            &Statement::Insert { id, value },
+            fault,
+        )?;
     }
     Ok(())
 }
