@@ -264,7 +264,14 @@ fn writes_nothing_where_memory_is_refused(rt: HostRuntime) -> Result<(), Fail> {
                 assert_eq!(rt; status(run), case.status);
                 break;
             }
-            let wanted = if writer.calls == 0 { 4 } else { 3 };
+            // A growth that was refused may be tried again with a smaller size, and then all is written.
+            let wanted = if writer.calls == 0 {
+                4
+            } else if writer.text.as_slice() == case.text {
+                case.status
+            } else {
+                3
+            };
             assert_eq!(rt; status(run), wanted, "at growth {growth}");
         }
     }
