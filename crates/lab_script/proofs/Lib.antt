@@ -36,5 +36,4 @@ pub mod PrintedLines
 pub mod PrintedCommands
 pub mod PrintedSetups
 pub mod PrintedScripts
-pub mod ByteLines
 pub mod Walked
