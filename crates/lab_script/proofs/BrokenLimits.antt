@@ -16,7 +16,7 @@ use Rattle.lab_script.specs.Depth.{statement_depth}
 use Rattle.lab_script.specs.Printed.{printed_statement}
 use Rattle.lab_script.specs.Limits.{StatementPrints, CommandPrints, AllPrint, SomeLine}
 use Rattle.lab_script.specs.Transcript.{statements_on, statements_of, inside_after, is_begin, nobody, whole_of, transactions, table_with, table_after}
-use Rattle.lab_script.specs.Told.{Breaks, shown_of, shown, limit_broken, broken_with, first_broken, unprintable}
+use Rattle.lab_script.specs.Told.{Breaks, shown_of, shown, limit_broken, first_broken, unprintable}
 
 -- a statement that prints breaks no limit
 prints : (fault : PrintFault) (s : Statement) → StatementPrints s → Breaks fault (Run s) → ⊥

@@ -1,11 +1,9 @@
 -- What the grammar allows keeps the limits of what is printed.
-use Rattle.std.proofs.Common.{◌≡◌, ℕ, suc, max, ◌≤◌, Bool, true, false, List, [], ◌∷◌, ◌++◌, length, Option, Some, None, refl, arith}
+use Rattle.std.proofs.Common.{◌≡◌, ℕ, suc, ◌≤◌, Bool, true, false, List, [], ◌∷◌, ◌++◌, Option, refl, arith}
 use Rattle.std.specs.Prelude.{◌||◌}
 use Rattle.lab_table.specs.Predicate.{Predicate}
-use Rattle.lab_table.specs.Predicate as predicate
 use Rattle.lab_table.specs.declared.statement.Statement.{Statement}
 use Rattle.lab_table.specs.declared.statement.Command.{Command}
-use Rattle.lab_table.specs.declared.statement.Command.TheVariants as command
 use Rattle.lab_script.specs.declared.token.Token.{Token}
 use Rattle.lab_script.specs.Grammar.{Kind, P, A, N, IsAtom, IsPred, IsWhere, IsStatement, IsCommand, IsCommands}
 use Rattle.lab_script.specs.Grammar as grammar

@@ -1,5 +1,4 @@
 pub mod Tokens
-pub mod Rows
 pub mod Same
 pub mod Loops
 pub mod Numbers
@@ -32,6 +31,7 @@ pub mod PrintedText
 pub mod PrintedNumbers
 pub mod PrintedPreds
 pub mod PrintedStatements
+pub mod StatementRead
 pub mod PrintedLines
 pub mod PrintedCommands
 pub mod PrintedSetups

@@ -13,6 +13,7 @@ one a = Some a
 abbrev pub Reader : Type 0 → Type 0
 Reader X = List Token → Option (X × List Token)
 
+-- what gives nothing wherever a reading does fails as that reading does
 pub fails_none : {A B : Type 0} (e : Stop) (r : Option A) → Fails e r → (s : Option B) → (r ≡ None → s ≡ None) → Fails e s
 fails_none stop.NoMemory r h s f = tt
 fails_none (stop.Fault kind) r h s f = f h

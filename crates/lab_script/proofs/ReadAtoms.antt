@@ -1,6 +1,6 @@
 -- Comparisons, remainders and lists that are read are those of the grammar, and the other way round.
-use Rattle.std.proofs.Common.{◌≡◌, ℕ, zero, suc, ◌+◌, ◌≤◌, ◌<◌, Bool, true, false, cond, List, [], ◌∷◌, ◌++◌, length, Option, Some, None, refl, sym, ap, subst, ◌∙◌, append_assoc, length-append, arith}
-use Rattle.std.specs.Prelude.{ℤ, pos, negsuc, ◌-ℤ◌, ◌&&◌, nat_le}
+use Rattle.std.proofs.Common.{◌≡◌, ℕ, zero, suc, ◌+◌, ◌≤◌, List, [], ◌∷◌, ◌++◌, length, Option, Some, None, refl, sym, ap, subst, ◌∙◌, append_assoc, length-append, arith}
+use Rattle.std.specs.Prelude.{ℤ, pos, ◌&&◌, nat_le}
 use Rattle.std.proofs.lemmas.Bool.{le-leb, leb-true}
 use Rattle.lab_table.specs.Predicate.{Predicate}
 use Rattle.lab_table.specs.Predicate as predicate
@@ -13,12 +13,12 @@ use Rattle.lab_script.specs.declared.token.Token.{Token}
 use Rattle.lab_script.specs.declared.token.Token.TheVariants as token
 use Rattle.lab_script.specs.Grammar.{IsNumber, IsNumbers, IsNumberList, IsAtom, col_token, cmp_token}
 use Rattle.lab_script.specs.Grammar as grammar
-use Rattle.lab_script.specs.Reading.{◌>>=◌, when, after, digits_at, number_at, more_of}
+use Rattle.lab_script.specs.Reading.{◌>>=◌, after, digits_at, number_at, more_of}
 use Rattle.lab_script.specs.ReadingPredicates.{cmp_of, col_at, cmp_at, modulus_at, one_more, numbers_at, number_list_at, compare_at, remainder_at, one_of_at, atom_at}
 use Rattle.lab_script.proofs.Same.{and_both, after_is, bind_some, some_is, when_takes}
 use Rattle.lab_script.proofs.ReadNumbers.{Taken, number_again, number_takes, digits_take, guard_some, under}
 use Rattle.lab_script.proofs.ReadRows.{not_negative}
-use Rattle.lab_script.proofs.Loops.{goes_on, ends}
+use Rattle.lab_script.proofs.Loops.{ends}
 
 -- a column
 

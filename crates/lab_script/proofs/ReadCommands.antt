@@ -1,6 +1,6 @@
 -- The commands that are read of a line are those of the grammar, and the other way round.
-use Rattle.std.proofs.Common.{◌≡◌, ℕ, zero, suc, ◌+◌, ◌≤◌, ◌<◌, Bool, true, false, cond, List, [], ◌∷◌, ◌++◌, length, drop, Option, Some, None, refl, sym, ap, subst, ◌∙◌, append_assoc, append-nil, length-append, one-add, arith, inl, inr}
-use Rattle.std.specs.Prelude.{◌⊎◌, ◌==◌, nat_le, nat_lt, Result, Ok, Err, IfOk}
+use Rattle.std.proofs.Common.{◌≡◌, ℕ, zero, suc, ◌+◌, ◌≤◌, ◌<◌, Bool, true, cond, List, [], ◌∷◌, ◌++◌, length, drop, Option, Some, None, refl, sym, ap, subst, ◌∙◌, append_assoc, append-nil, length-append, one-add, arith, inl, inr}
+use Rattle.std.specs.Prelude.{nat_lt, Result, Ok, Err, IfOk}
 use Rattle.std.specs.List.{prefix_len}
 use Rattle.std.proofs.lemmas.Bool.{le-leb, leb-true, lt-ltb, ltb-true}
 use Rattle.lab_table.specs.declared.statement.Statement.{Statement}
@@ -14,10 +14,10 @@ use Rattle.lab_script.specs.declared.stop.Stop.{Stop}
 use Rattle.lab_script.specs.Grammar.{words, IsStatement, IsCommand, IsCommands}
 use Rattle.lab_script.specs.Grammar as grammar
 use Rattle.lab_script.specs.Printed.{printed_statement}
-use Rattle.lab_script.specs.Reading.{Fails, Gives, ◌>>=◌, is_token, when, after, after_all}
+use Rattle.lab_script.specs.Reading.{Fails, Gives, ◌>>=◌, after, after_all}
 use Rattle.lab_script.specs.ReadingStatements.{statement_at, ended_at}
 use Rattle.lab_script.specs.ReadingCommands.{is_word, words_at, level_at, command_at, is_short, closed_at, added, step_at, more_commands, commands_at}
-use Rattle.lab_script.proofs.Same.{after_is, bind_some, some_is, when_takes}
+use Rattle.lab_script.proofs.Same.{bind_some, some_is, when_takes}
 use Rattle.lab_script.proofs.ReadNumbers.{Taken, guard_some, under}
 use Rattle.lab_script.proofs.ReadStatements.{after_all_is, statement_again, statement_takes, Closes, nothing, semicolon, unjoined, ended_is}
 use Rattle.lab_script.proofs.Loops.{fails_none}

@@ -1,5 +1,5 @@
 -- Predicates that are read are those of the grammar, and the other way round.
-use Rattle.std.proofs.Common.{◌≡◌, ℕ, zero, suc, ◌+◌, ◌≤◌, ◌<◌, List, [], ◌∷◌, ◌++◌, length, Option, Some, None, refl, sym, ap, subst, ◌∙◌, append_assoc, length-append, arith}
+use Rattle.std.proofs.Common.{◌≡◌, ℕ, zero, suc, ◌≤◌, ◌<◌, List, [], ◌∷◌, ◌++◌, length, Option, Some, None, refl, sym, ap, subst, ◌∙◌, append_assoc, length-append, arith}
 use Rattle.lab_table.specs.Predicate.{Predicate}
 use Rattle.lab_table.specs.Predicate as predicate
 use Rattle.lab_table.specs.declared.predicate.Col.TheVariants as col
@@ -8,7 +8,7 @@ use Rattle.lab_script.specs.declared.token.Token.{Token}
 use Rattle.lab_script.specs.declared.token.Token.TheVariants as token
 use Rattle.lab_script.specs.Grammar.{Kind, P, A, N, IsAtom, IsPred, IsWhere}
 use Rattle.lab_script.specs.Grammar as grammar
-use Rattle.lab_script.specs.Reading.{◌>>=◌, when, after, more_of}
+use Rattle.lab_script.specs.Reading.{after, more_of}
 use Rattle.lab_script.specs.ReadingPredicates.{atom_at, joined_of, term_at, conj_at, pred_at, where_at}
 use Rattle.lab_script.proofs.Same.{after_is, bind_some, some_is, when_takes}
 use Rattle.lab_script.proofs.ReadNumbers.{Taken, under}

@@ -1,9 +1,8 @@
 -- Statements that are read are those of the grammar, and the other way round.
-use Rattle.std.proofs.Common.{◌≡◌, ℕ, zero, suc, ◌+◌, ◌≤◌, ◌<◌, Bool, true, false, cond, List, [], ◌∷◌, ◌++◌, length, Option, Some, None, refl, sym, ap, subst, ◌∙◌, append_assoc, length-append, arith, inl, inr}
+use Rattle.std.proofs.Common.{◌≡◌, ◌≤◌, List, [], ◌∷◌, ◌++◌, length, Option, Some, None, refl, sym, ap, subst, ◌∙◌, append_assoc, inl, inr}
 use Rattle.std.specs.Prelude.{ℤ, ◌&&◌, ◌==◌, ◌⊎◌, nat_le, Result, Ok, Err, IfOk}
-use Rattle.std.proofs.lemmas.Bool.{eqb-true, le-leb, leb-true, cases_Bool}
+use Rattle.std.proofs.lemmas.Bool.{eqb-true, le-leb, leb-true}
 use Rattle.std.proofs.lemmas.List.{nil_from_length}
-use Rattle.lab_table.specs.Predicate.{Predicate}
 use Rattle.lab_table.specs.declared.statement.Statement.{Statement}
 use Rattle.lab_table.specs.declared.statement.Statement.TheVariants as statement
 use Rattle.lab_table.specs.declared.statement.Expr.{Expr}
@@ -15,7 +14,7 @@ use Rattle.lab_script.specs.Grammar.{IsNumber, IsExpr, IsStatement, IsEnd}
 use Rattle.lab_script.specs.Grammar as grammar
 use Rattle.lab_script.specs.Printed.{printed_statement}
 use Rattle.lab_script.specs.declared.stop.Stop.{Stop}
-use Rattle.lab_script.specs.Reading.{Gives, ◌>>=◌, is_token, when, after, after_all, number_at}
+use Rattle.lab_script.specs.Reading.{Gives, is_token, after, after_all}
 use Rattle.lab_script.specs.ReadingRows.{row_at}
 use Rattle.lab_script.specs.ReadingPredicates.{where_at}
 use Rattle.lab_script.specs.ReadingStatements.{expr_at, select_at, update_at, insert_at, delete_at, statement_at, ended_at, whole_statement_at}

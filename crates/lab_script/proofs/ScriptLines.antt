@@ -1,5 +1,5 @@
 -- What lines spell: a line makes one thing at most of what stands before it, and so do lines.
-use Rattle.std.proofs.Common.{◌≡◌, ℕ, ◌+◌, ◌≤◌, Bool, true, false, cond, List, [], ◌∷◌, ◌++◌, length, map, Option, Some, None, refl, sym, ap, subst, ◌∙◌, arith, length-append, suc}
+use Rattle.std.proofs.Common.{◌≡◌, ℕ, ◌+◌, ◌≤◌, Bool, true, cond, List, [], ◌∷◌, ◌++◌, length, map, Option, Some, refl, sym, ap, subst, ◌∙◌, arith, length-append}
 use Rattle.std.specs.Prelude.{◌-◌, IfSome}
 use Rattle.std.specs.List.{list_all}
 use Rattle.std.specs.Char.{to_ascii_lowercase, is_ascii_digit}
@@ -10,8 +10,8 @@ use Rattle.lab_script.specs.declared.script.Script.{Script}
 use Rattle.lab_script.specs.declared.token.Word.TheVariants as word
 use Rattle.lab_script.specs.declared.token.Token.{Token}
 use Rattle.lab_script.specs.declared.token.Token.TheVariants as token
-use Rattle.lab_script.specs.Token.{Part, gap, letters, whole, is_letter, is_blank, mark, tokens, tokens_from}
-use Rattle.lab_script.specs.Grammar.{IsCommands, IsSetup}
+use Rattle.lab_script.specs.Token.{gap, letters, whole, is_letter, is_blank, mark, tokens, tokens_from}
+use Rattle.lab_script.specs.Grammar.{IsCommands}
 use Rattle.lab_script.specs.Script as script
 use Rattle.lab_script.specs.Script.{code_of, remark_of, session_of, is_passed, IsFit, BeginsSetup, extended, LineSpells, LinesSpell}
 use Rattle.lab_script.proofs.Same.{and_both}

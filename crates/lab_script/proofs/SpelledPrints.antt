@@ -1,11 +1,11 @@
 -- A script that a text spells prints.
-use Rattle.std.proofs.Common.{◌≡◌, ℕ, ◌+◌, ◌≤◌, List, [], ◌∷◌, ◌++◌, length, map, Option, Some, None, subst, sym, arith, length-append}
+use Rattle.std.proofs.Common.{◌≡◌, ℕ, ◌+◌, List, [], ◌∷◌, ◌++◌, length, map, Option, Some, None, subst, sym, arith, length-append}
 use Rattle.std.specs.Prelude.{IfSome}
 use Rattle.std.proofs.lemmas.List.{length-map}
 use Rattle.lab_table.specs.declared.statement.Command.{Command}
 use Rattle.lab_script.specs.declared.script.Line.{Line}
 use Rattle.lab_script.specs.declared.script.Script.{Script}
-use Rattle.lab_script.specs.Limits.{CommandPrints, AllPrint, ScriptPrints}
+use Rattle.lab_script.specs.Limits.{AllPrint, ScriptPrints}
 use Rattle.lab_script.specs.Script as script
 use Rattle.lab_script.specs.Script.{LineSpells, LinesSpell, Spells}
 use Rattle.lab_script.proofs.GrammarPrints.{EachPrints, commands_print}

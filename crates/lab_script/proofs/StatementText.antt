@@ -1,19 +1,13 @@
 -- The tokens of the text of one statement.
-use Rattle.std.proofs.Common.{◌≡◌, ℕ, ◌<◌, ◌≤◌, ◌⊎◌, Bool, true, false, cond, List, [], ◌∷◌, ◌++◌, length, refl, sym, ap, subst, ◌∙◌, inl, inr, ⊎_elim, arith, Some, None}
+use Rattle.std.proofs.Common.{◌≡◌, ℕ, ◌<◌, ◌≤◌, Bool, true, cond, List, [], ◌∷◌, ◌++◌, length, refl, sym, ap, subst, ◌∙◌, inl, inr, ⊎_elim, arith}
 use Rattle.std.specs.List.{list_all}
 use Rattle.std.proofs.lemmas.Bool.{cases_Bool}
 use Rattle.lab_table.specs.declared.statement.Statement.{Statement}
-use Rattle.lab_script.specs.declared.stop.GrammarFault.{GrammarFault}
-use Rattle.lab_script.specs.declared.stop.GrammarFault.TheVariants as grammar
-use Rattle.lab_script.specs.declared.stop.Stop.{Stop}
-use Rattle.lab_script.specs.declared.stop.Stop.TheVariants as stop
 use Rattle.lab_script.specs.declared.token.Token.{Token}
 use Rattle.lab_script.specs.declared.token.Token.TheVariants as token
 use Rattle.lab_script.specs.Token.{tokens}
 use Rattle.lab_script.specs.Grammar.{IsWholeStatement}
-use Rattle.lab_script.specs.Reading.{Fails}
 use Rattle.lab_script.specs.Script.{begins_remark, code_of, is_code_byte, SpellsStatement, AreStatementTokens}
-use Rattle.lab_script.specs.Fault.{SaysOfStatement, IsStatementFault, kind_of, stop_at}
 use Rattle.lab_script.proofs.KnownTokens.{closed_known}
 
 -- code that is as long as the text is the text

@@ -5,7 +5,7 @@ use Rattle.lab_table.specs.Table.{Table}
 use Rattle.lab_table.specs.declared.statement.Statement.{Statement}
 use Rattle.lab_script.specs.declared.script.Line.{Line}
 use Rattle.lab_script.specs.declared.print.PrintFault.{PrintFault}
-use Rattle.lab_script.specs.Transcript.{Whole, statements_of, commits_of, inside_after, is_begin, marked, nobody, whole_of, transactions, body_text, committed, table_after, whole_text, serial_text}
+use Rattle.lab_script.specs.Transcript.{Whole, statements_of, commits_of, inside_after, is_begin, whole_of, transactions, body_text, committed, table_after, whole_text, serial_text}
 use Rattle.lab_script.specs.Told.{Told, shown_of, shown, broken_with, first_broken}
 
 -- what a transcript holds, and the table that commits, once a transaction has ended

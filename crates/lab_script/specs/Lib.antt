@@ -15,4 +15,5 @@ pub mod ReadingRows
 pub mod ReadingSetup
 pub mod ReadingPredicates
 pub mod ReadingStatements
+pub mod StatementText
 pub mod ReadingCommands

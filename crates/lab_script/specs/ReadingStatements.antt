@@ -1,5 +1,5 @@
 -- Reading a statement from left to right: it and the tokens behind it, or nothing.
-use Rattle.std.specs.Prelude.{◌≡◌, ◌≤◌, ◌++◌, ◌&&◌, length, ◌==◌, nat_le, if◌then◌else◌, List, [], ◌∷◌, Option, Some, None}
+use Rattle.std.specs.Prelude.{◌&&◌, length, ◌==◌, nat_le, if◌then◌else◌, List, [], ◌∷◌, Option, Some, None}
 use Rattle.lab_table.specs.declared.statement.Statement.{Statement}
 use Rattle.lab_table.specs.declared.statement.Statement.TheVariants as statement
 use Rattle.lab_table.specs.declared.statement.Expr.{Expr}
@@ -7,7 +7,6 @@ use Rattle.lab_table.specs.declared.statement.Expr.TheVariants as expr
 use Rattle.lab_script.specs.declared.token.Word.TheVariants as word
 use Rattle.lab_script.specs.declared.token.Token.{Token}
 use Rattle.lab_script.specs.declared.token.Token.TheVariants as token
-use Rattle.lab_script.specs.Grammar.{IsStatement, IsEnd}
 use Rattle.lab_script.specs.Printed.{printed_statement}
 use Rattle.lab_script.specs.Reading.{◌>>=◌, is_token, when, after, after_all, number_at}
 use Rattle.lab_script.specs.ReadingRows.{row_at}

@@ -1,6 +1,6 @@
 //! A cursor over tokens, and the numbers that it reads.
 
-ghost use Rattle.std.specs.Prelude.{◌≡◌, ◌==◌, ◌≤◌, ◌<◌, length, List, Some, None, IfOk, MatchBool};
+ghost use Rattle.std.specs.Prelude.{◌≡◌, ◌==◌, ◌≤◌, ◌<◌, length, List, Some, None, IfOk, MatchBool, if◌then◌else◌};
 ghost use Rattle.lab_script.specs.Reading.{after, after_all, digits_at, magnitude_at, number_at, Gives};
 
 use crate::stop::{GrammarFault, Stop};
@@ -29,6 +29,17 @@ impl<'a> Parser<'a> {
         ensures { result ≡ (length self.now == 0) }
     {
         self.rest.is_empty()
+    }
+
+    /// Nothing may be left.
+    pub fn nothing_left(&self) -> Result<(), Stop>
+        ensures { Gives (λ x. x) result (if length self.now == 0 then Some tt else None) }
+    {
+        if self.is_done() {
+            Ok(())
+        } else {
+            Err(Stop::Fault(GrammarFault::UnknownStatement))
+        }
     }
 
     /// Takes this token, if it is the first.

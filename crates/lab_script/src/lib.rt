@@ -26,7 +26,7 @@ mod transcript;
 
 pub use fault::{ScriptFault, ScriptFaultKind, print_script_fault};
 pub use parse::parse_script;
-pub use print::{PrintFault, print_script, print_statement};
+pub use print::{PrintFault, check_statement, print_script, print_statement};
 pub use script::{Line, Lines, Script};
 pub use serial::run_serial;
 pub use statement_text::parse_statement;

@@ -1,10 +1,11 @@
 //! Statements and scripts in printed form, where that keeps the limits of a text.
 
-ghost use Rattle.std.specs.Prelude.{◌≡◌, ◌≢◌, ◌≤◌, ◌<◌, length, IfOk, OnOk, Err};
+ghost use Rattle.std.specs.Prelude.{◌≡◌, ◌≢◌, ◌≤◌, ◌<◌, length, Some, IfOk, OnOk, Err};
 ghost use Rattle.lab_script.specs.Printed.{printed_statement, printed_script};
 ghost use Rattle.lab_script.specs.Depth.{statement_depth};
 ghost use Rattle.lab_script.specs.Renumbered.{renumbered};
 ghost use Rattle.lab_script.specs.Script.{Spells, SpellsStatement};
+ghost use Rattle.lab_script.specs.StatementText.{statement_in};
 ghost use Rattle.lab_script.specs.Limits.{StatementPrints, CommandPrints, IsDeep, IsLong, ScriptPrints, BreaksDepth, BreaksLength};
 
 use crate::fits::{depth_fits, setup_fits, statement_fits};
@@ -47,6 +48,8 @@ pub fn print_statement(alloc: Global, statement: &Statement) -> Result<Vec<u8>, 
     ensures text { IfOk result (λ text. text.items ≡ printed_statement statement.now) }
     // What is printed is read as the same statement again.
     ensures again { IfOk result (λ text. SpellsStatement text.items statement.now) }
+    // The same as a function of the text.
+    ensures read { IfOk result (λ text. statement_in text.items ≡ Some statement.now) }
     ensures prints { OnOk result (StatementPrints statement.now) }
     ensures too_deep { result ≡ Err PrintFault.TooDeep → 16 < statement_depth statement.now }
     ensures too_long { result ≡ Err PrintFault.TooLong → (statement_depth statement.now ≤ 16) × (1000 < length (printed_statement statement.now)) }
@@ -83,7 +86,11 @@ pub fn print_script(alloc: Global, script: &Script) -> Result<Vec<u8>, PrintFaul
     Ok(text)
 }
 
-/// Whether a statement's printed form keeps the limits of a text, and else which one it breaks: depth first.
+/// Whether a statement's printed form keeps the limits of a text, before it is printed: Ok exactly where
+/// `print_statement` gives a text unless memory runs out.
+/// TooDeep where more than 16 parentheses and `not`s would be open at one place; else TooLong where the
+/// text would have more than 1,000 bytes. It takes no memory and never answers NoMemory.
+/// By it a caller refuses a statement that can't be written down before running or keeping it.
 pub fn check_statement(statement: &Statement) -> Result<(), PrintFault>
     ensures prints { OnOk result (StatementPrints statement.now) }
     ensures too_deep { result ≡ Err PrintFault.TooDeep → 16 < statement_depth statement.now }

@@ -1,6 +1,6 @@
 //! The setup, read from tokens.
 
-ghost use Rattle.std.specs.Prelude.{◌≡◌, ◌==◌, ◌≤◌, length, Some, None, IfOk, MatchBool, if◌then◌else◌};
+ghost use Rattle.std.specs.Prelude.{◌≡◌, ◌≤◌, length, Some, None, IfOk, MatchBool, if◌then◌else◌};
 ghost use Rattle.lab_table.specs.Table.{Table as Spelled};
 ghost use Rattle.lab_script.specs.Grammar.{IsSetup};
 ghost use Rattle.lab_script.specs.Reading.{Gives};
@@ -67,27 +67,16 @@ impl Parser<'_> {
         }
     }
 
-    /// Nothing is left.
-    fn nothing(&self) -> Result<(), Stop>
-        ensures { Gives (λ x. x) result (if length self.now == 0 then Some tt else None) }
-    {
-        if self.rest.is_empty() {
-            Ok(())
-        } else {
-            Err(Stop::Fault(GrammarFault::UnknownStatement))
-        }
-    }
-
     /// The end of the setup of this table, which is its `;` or the end of the line.
     /// TooLong where the printed line is over 4,000 bytes; then what stands behind the `;` doesn't matter.
     fn setup_end(&mut self, table: &Table) -> Result<(), Stop>
         ensures { Gives (λ x. x) result (if ends_setup table.now self.old then Some tt else None) }
     {
         if !self.took(Token::Semicolon) {
-            self.nothing()?;
+            self.nothing_left()?;
         }
         if setup_fits(table) {
-            self.nothing()
+            self.nothing_left()
         } else {
             Err(Stop::Fault(GrammarFault::TooLong))
         }

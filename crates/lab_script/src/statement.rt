@@ -1,6 +1,6 @@
 //! Statements, read from tokens.
 
-ghost use Rattle.std.specs.Prelude.{◌≡◌, ◌==◌, nat_le, if◌then◌else◌, length, Some, None};
+ghost use Rattle.std.specs.Prelude.{◌==◌, nat_le, if◌then◌else◌, length, Some, None};
 ghost use Rattle.lab_script.specs.Printed.{printed_statement};
 ghost use Rattle.lab_script.specs.Reading.{Gives};
 ghost use Rattle.lab_script.specs.ReadingStatements.{expr_at, select_at, update_at, insert_at, delete_at, statement_at, ended_at, whole_statement_at};
@@ -130,18 +130,6 @@ impl Parser<'_> {
                 self.rest = rest;
                 Ok(())
             }
-        }
-    }
-
-    /// Nothing is left.
-    fn nothing_left(&mut self) -> Result<(), Stop>
-        ensures gives { Gives (λ x. x) result (if length self.old == 0 then Some tt else None) }
-        ensures same { self.new ≡ self.old }
-    {
-        if self.is_done() {
-            Ok(())
-        } else {
-            Err(Stop::Fault(GrammarFault::UnknownStatement))
         }
     }
 }

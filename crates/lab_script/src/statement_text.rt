@@ -1,9 +1,10 @@
 //! Reading the text of one statement.
 
-ghost use Rattle.std.specs.Prelude.{◌≡◌, IfOk, IfErr, MatchResult};
+ghost use Rattle.std.specs.Prelude.{◌≡◌, ◌≢◌, Some, None, IfOk, IfErr, MatchResult};
 ghost use Rattle.lab_table.specs.declared.statement.Statement.{Statement as Spelled};
 ghost use Rattle.lab_script.specs.Script.{SpellsStatement, AreStatementTokens};
 ghost use Rattle.lab_script.specs.Fault.{IsStatementFault};
+ghost use Rattle.lab_script.specs.StatementText.{statement_in};
 
 use crate::fault::{ScriptFault, ScriptFaultKind};
 use crate::line::{code_and_remark, is_ascii_code};
@@ -16,11 +17,14 @@ use std::alloc::Global;
 /// The statement that a text spells, on its line 1, with or without a `;`.
 /// The text is code of at most 4,000 bytes, without newline or remark.
 /// What is wrong with it, or NoMemory where a growth was refused.
+#[tactic(auto, using(crate::proofs::StatementRead::none_in))]
 pub fn parse_statement(alloc: Global, text: &[u8]) -> Result<Statement, ScriptFault>
     ensures found { IfOk result (λ statement. SpellsStatement text.now statement) }
     // A text spells one statement at most, and it is read unless memory runs out.
     ensures only { (statement : Spelled) → SpellsStatement text.now statement → MatchResult result (λ read. read ≡ statement) (λ fault. fault ≡ ScriptFault.NoMemory) }
     ensures fault { IfErr result (IsStatementFault text.now) }
+    // The same as a function of the text: what it gives is read, or memory ran out.
+    ensures read { MatchResult result (λ statement. statement_in text.now ≡ Some statement) (λ fault. fault ≢ ScriptFault.NoMemory → statement_in text.now ≡ None) }
 {
     if text.len() > MAX_LINE_BYTES {
         return Err(ScriptFault::At {

@@ -1,5 +1,5 @@
 // The printed form of statements and scripts, and its limits.
-use super::{PrintFault, print_script, print_statement};
+use super::{PrintFault, check_statement, print_script, print_statement};
 use crate::script::{Line, Lines, Script};
 use crate::spelling::put_list;
 use lab_table::{
@@ -308,6 +308,19 @@ fn a_thousand_bytes_are_printed(rt: HostRuntime) {
         length(rt.alloc(), ones(&rt, rt.alloc(), 10)),
         Err(PrintFault::TooLong)
     );
+}
+
+#[test]
+fn a_check_tells_which_limit_is_broken(rt: HostRuntime) {
+    let alloc = rt.alloc();
+    let deepest = select(nots(&rt, alloc, 16));
+    assert_eq!(rt; check_statement(&deepest), Ok(()));
+    let too_deep = select(nots(&rt, alloc, 17));
+    assert_eq!(rt; check_statement(&too_deep), Err(PrintFault::TooDeep));
+    let longest = select(ones(&rt, alloc, 1));
+    assert_eq!(rt; check_statement(&longest), Ok(()));
+    let too_long = select(ones(&rt, alloc, 11));
+    assert_eq!(rt; check_statement(&too_long), Err(PrintFault::TooLong));
 }
 
 /// These commands, each of another session.

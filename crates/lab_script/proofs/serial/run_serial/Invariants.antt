@@ -1,4 +1,4 @@
-use Rattle.std.proofs.Common.{◌≡◌, ℕ, ◌+◌, ◌≤◌, length}
+use Rattle.std.proofs.Common.{◌≡◌, ◌+◌, ◌≤◌, length}
 use Rattle.lab_script.specs.Told.{unprintable}
 use Rattle.lab_script.specs.Transcript.{marked, transcript}
 use Rattle.lab_script.proofs.StillTold.{told_by}

@@ -1,4 +1,4 @@
-use Rattle.std.proofs.Common.{List, Option, Some, length, sym, ap, arith}
+use Rattle.std.proofs.Common.{List, Option, Some, sym, ap, arith}
 use Rattle.std.specs.Prelude.{ℤ}
 use Rattle.std.proofs.lemmas.Result.{err_from_is_err_and}
 use Rattle.lab_script.specs.declared.token.Token.TheVariants as token

@@ -1,0 +1,68 @@
+-- The statement that a text spells is what reading the text gives.
+use Rattle.std.proofs.Common.{◌≡◌, ℕ, Bool, true, false, cond, List, length, Option, Some, None, refl, ap, ◌∙◌, arith}
+use Rattle.std.specs.Prelude.{◌&&◌, nat_le}
+use Rattle.std.specs.List.{list_all}
+use Rattle.std.proofs.lemmas.Bool.{eqb-true, eq-eqb, le-leb, leb-true}
+use Rattle.lab_table.specs.declared.statement.Statement.{Statement}
+use Rattle.lab_script.specs.Token.{tokens}
+use Rattle.lab_script.specs.Printed.{printed_statement}
+use Rattle.lab_script.specs.Limits.{StatementPrints}
+use Rattle.lab_script.specs.Ranges.{StatementInRange}
+use Rattle.lab_script.specs.ReadingStatements.{whole_statement_at}
+use Rattle.lab_script.specs.Script.{code_of, is_code_byte, SpellsStatement}
+use Rattle.lab_script.specs.StatementText.{is_code_alone, statement_in}
+use Rattle.lab_script.proofs.Same.{and_both}
+use Rattle.lab_script.proofs.ReadStatements.{whole_again, whole_takes}
+use Rattle.lab_script.proofs.StatementText.{all_code}
+use Rattle.lab_script.proofs.PrintedStatements.{statement_spells}
+
+-- three conditions that hold, at once
+all_true : (a b c : Bool) → a ≡ true → b ≡ true → c ≡ true → (a && (b && c)) ≡ true
+all_true a b c e f g = rw (e, f, g) refl
+
+-- what is found under a condition
+found_under : {A : Type 0} (b : Bool) (r : Option A) (y : A) → cond b r None ≡ Some y → (b ≡ true) × (r ≡ Some y)
+found_under true r y e = (refl, e)
+found_under false r y e = absurd cc
+
+-- where nothing can be found, nothing is
+nothing_found : {A : Type 0} (r : Option A) → ((y : A) → r ≡ Some y → ⊥) → r ≡ None
+nothing_found None none = refl
+nothing_found (Some y) none = absurd (none y refl)
+
+-- a text that spells a statement is code alone
+spelled_alone : (text : List ℕ) (s : Statement) → SpellsStatement text s → is_code_alone text ≡ true
+spelled_alone text s h =
+    all_true _ _ _ (le-leb (length text) 4000 h.bytes) h.ascii (eq-eqb (length (code_of text)) (length text) (ap length h.no_remark))
+
+-- what a text spells is read from it
+pub spells_in : (text : List ℕ) (s : Statement) → SpellsStatement text s → statement_in text ≡ Some s
+unfolding statement_in
+spells_in text s h =
+    ap (λ (b : Bool). cond b (whole_statement_at (tokens text)) None) (spelled_alone text s h)
+    ∙ whole_again (record { parts = h.parts; printed = h.printed })
+
+-- what is read from a text it spells
+pub in_spells : (text : List ℕ) (s : Statement) → statement_in text ≡ Some s → SpellsStatement text s
+unfolding statement_in
+in_spells text s read =
+    let found = found_under (is_code_alone text) (whole_statement_at (tokens text)) s read in
+    let short = and_both (nat_le (length text) 4000) _ found.0 in
+    let code = and_both (list_all is_code_byte text) _ short.1 in
+    let len : length (code_of text) ≡ length text = eqb-true _ _ code.1 in
+    let whole = whole_takes (tokens text) s found.1 in
+    record {
+      bytes = leb-true _ _ short.0;
+      ascii = code.0;
+      no_remark = all_code text (omega arith);
+      parts = whole.parts;
+      printed = whole.printed;
+    }
+
+-- from a printed statement the same statement is read
+pub printed_in : (s : Statement) → StatementPrints s → StatementInRange s → statement_in (printed_statement s) ≡ Some s
+printed_in s prints range = spells_in (printed_statement s) s (statement_spells s range prints)
+
+-- from a text that spells nothing nothing is read
+pub none_in : (text : List ℕ) → ((s : Statement) → SpellsStatement text s → ⊥) → statement_in text ≡ None
+none_in text none = nothing_found (statement_in text) (λ s read. none s (in_spells text s read))

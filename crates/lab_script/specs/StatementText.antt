@@ -1,0 +1,15 @@
+-- The statement that a text spells, as a function of the text.
+use Rattle.std.specs.Prelude.{ℕ, Bool, ◌&&◌, ◌==◌, nat_le, if◌then◌else◌, List, length, Option, None}
+use Rattle.std.specs.List.{list_all}
+use Rattle.lab_table.specs.declared.statement.Statement.{Statement}
+use Rattle.lab_script.specs.Token.{tokens}
+use Rattle.lab_script.specs.Script.{code_of, is_code_byte}
+use Rattle.lab_script.specs.ReadingStatements.{whole_statement_at}
+
+-- whether a text is code without a remark, and no longer than a line may be
+abbrev pub is_code_alone : List ℕ → Bool
+is_code_alone text = nat_le (length text) 4000 && (list_all is_code_byte text && length (code_of text) == length text)
+
+-- the statement that a text spells, if it spells one
+unfoldable pub statement_in : List ℕ → Option Statement
+statement_in text = if is_code_alone text then whole_statement_at (tokens text) else None
