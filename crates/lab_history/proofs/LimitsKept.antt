@@ -1,0 +1,25 @@
+-- The limits on ids and entries, where the counts are known.
+use Rattle.std.proofs.Common.{◌≡◌, ◌≤◌, ℕ, map, sum, Some, None, Ok, Err, ap, ◌∙◌}
+use Rattle.std.specs.Prelude.{nat_lt}
+use Rattle.std.proofs.lemmas.Bool.{lt-ltb, le-ltb}
+use Rattle.lab_history.specs.Faults.{◌>>=◌, refused_if}
+use Rattle.lab_history.specs.History.{History}
+use Rattle.lab_history.specs.Kept.{operations, named_rows, distinct_rows, op_entries}
+use Rattle.lab_history.specs.Limits.{within_limits}
+use Rattle.lab_history.specs.Walked.{txns_counted}
+use Rattle.lab_history.specs.declared.fault.FileFault.TheVariants as fault
+use Rattle.lab_history.specs.declared.fault.Limit.TheVariants as limit
+use Rattle.lab_history.proofs.CountedEntries.{few_entries, many_entries}
+
+-- there are few ids: the entries decide
+few_ids : (h : History) → distinct_rows (named_rows h) ≤ 1000 → within_limits h ≡ refused_if (nat_lt 200000 (sum (map op_entries (operations h.txns)))) (fault.OverLimit limit.Entries)
+few_ids h few = ap (λ b. refused_if b (fault.OverLimit limit.Ids) >>= λ _. refused_if (nat_lt 200000 (sum (map op_entries (operations h.txns)))) (fault.OverLimit limit.Entries)) (le-ltb 1000 (distinct_rows (named_rows h)) few)
+
+pub limits_kept : (h : History) → distinct_rows (named_rows h) ≤ 1000 → sum (map op_entries (operations h.txns)) ≤ 200000 → within_limits h ≡ Ok tt
+limits_kept h ids entries = few_ids h ids ∙ ap (λ b. refused_if b (fault.OverLimit limit.Entries)) (le-ltb 200000 (sum (map op_entries (operations h.txns))) entries)
+
+pub entries_within : (h : History) (n : ℕ) → distinct_rows (named_rows h) ≤ 1000 → txns_counted 0 h.txns ≡ Some n → within_limits h ≡ Ok tt
+entries_within h n ids is = limits_kept h ids (few_entries h.txns n is)
+
+pub entries_over : (h : History) → distinct_rows (named_rows h) ≤ 1000 → txns_counted 0 h.txns ≡ None → within_limits h ≡ Err (fault.OverLimit limit.Entries)
+entries_over h ids is = few_ids h ids ∙ ap (λ b. refused_if b (fault.OverLimit limit.Entries)) (lt-ltb 200000 (sum (map op_entries (operations h.txns))) (many_entries h.txns is))

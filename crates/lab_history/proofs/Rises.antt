@@ -1,0 +1,93 @@
+-- A list that is read rises by its rows, strictly.
+use Rattle.std.proofs.Common.{◌≡◌, ℕ, ◌+◌, Bool, true, false, T, List, [], ◌∷◌, Option, Some, None, Result, Ok, Err, ◌&&◌, Less, Equal, Greater, Ordering, refl, sym, subst, is_lt}
+use Rattle.std.specs.Prelude.{if◌then◌else◌}
+use Rattle.std.specs.FinMap.Entries.{below_all}
+use Rattle.std.specs.FinMap as finite
+use Rattle.serde_json.specs.Data.{Data, Items, no_items, item}
+use Rattle.serde_json.specs.Find.{as_array}
+use Rattle.lab_table.specs.Row.{Row, row_cmp, rows_total}
+use Rattle.lab_history.specs.Faults.{required}
+use Rattle.lab_history.specs.Entries.{follows, entries_from, entries_in}
+use Rattle.lab_history.specs.declared.fault.FileFault.{FileFault}
+use Rattle.lab_history.specs.declared.path.ListPlace.{ListPlace}
+use Rattle.lab_history.specs.declared.path.Path.TheVariants as path
+use Rattle.lab_history.proofs.Steps.{both_ok}
+
+-- all rows of a list come behind one, where there is one
+abbrev pub AllFollow : {X : Type 0} → Option Row → List (Row × X) → Type 0
+AllFollow None xs = Unit {0}
+AllFollow (Some row) xs = T (below_all row_cmp row xs)
+
+pub both_tests : (a b : Bool) → T a → T b → T (a && b)
+both_tests true b p q = q
+both_tests false b p q = p
+
+pub test_left : (a b : Bool) → T (a && b) → T a
+test_left true b p = tt
+test_left false b p = p
+
+pub test_right : (a b : Bool) → T (a && b) → T b
+test_right true b p = p
+test_right false b p = absurd p
+
+is_less : (o : Ordering) → T (is_lt o) → o ≡ Less
+is_less Less lt = refl
+is_less Equal lt = absurd lt
+is_less Greater lt = absurd lt
+
+-- what comes behind a row comes behind those before it
+behind_both : {X : Type 0} (a b : Row) (xs : List (Row × X)) → T (is_lt (row_cmp a b)) → T (below_all row_cmp b xs) → T (below_all row_cmp a xs)
+behind_both a b [] lt all = tt
+behind_both a b (x ∷ xs) lt all =
+    let less = rows_total.trans a b x.0 (is_less _ lt) (is_less _ (test_left _ _ all)) in
+    both_tests _ _ (subst (λ o. T (is_lt o)) (sym less) tt) (behind_both a b xs lt (test_right _ _ all))
+
+-- a row that follows, and those behind it
+head_follows : {X : Type 0} (before : Option Row) (x : Row × X) (xs : List (Row × X)) → follows before x.0 ≡ true → T (below_all row_cmp x.0 xs) → AllFollow before (x ∷ xs)
+head_follows None x xs e all = tt
+head_follows (Some row) x xs e all = let lt = subst T (sym e) tt in both_tests _ _ lt (behind_both row x.0 xs lt all)
+
+-- the first row of those that follow
+pub first_follows : {X : Type 0} (before : Option Row) (x : Row × X) (xs : List (Row × X)) → AllFollow before (x ∷ xs) → T (follows before x.0)
+first_follows None x xs all = tt
+first_follows (Some row) x xs all = test_left _ _ all
+
+under : {A : Type 0} (b : Bool) (r : Result A FileFault) (g : FileFault) (y : A) → (if b then r else Err g) ≡ Ok y → (b ≡ true) × (r ≡ Ok y)
+under true r g y e = (refl, e)
+under false r g y e = absurd cc
+
+module _ {X : Type 0} (read : ℕ → Data → Result (Row × X) FileFault) (place : ListPlace) where
+  -- what was read of a list with a first member
+  pub entries_step : (i : ℕ) (before : Option Row) (d : Data) (ds : Items) (x : Row × X) (xs : List (Row × X)) → entries_from read place i before (item d ds) ≡ Ok (x ∷ xs)
+      → (read i d ≡ Ok x) × (follows before x.0 ≡ true) × (entries_from read place (i + 1) (Some x.0) ds ≡ Ok xs)
+  entries_step i before d ds x xs e =
+      let first = both_ok (read i d) _ (x ∷ xs) e in
+      let placed = under (follows before first.0.0) _ _ (x ∷ xs) first.2 in
+      let rest = both_ok (entries_from read place (i + 1) (Some first.0.0) ds) _ (x ∷ xs) placed.1 in
+      let same : first.0 ≡ x = cc in
+      let others : rest.0 ≡ xs = cc in (
+        subst (λ y. read i d ≡ Ok y) same first.1,
+        subst (λ (y : Row × X). follows before y.0 ≡ true) same placed.0,
+        subst (λ ys. entries_from read place (i + 1) (Some x.0) ds ≡ Ok ys) others (subst (λ (y : Row × X). entries_from read place (i + 1) (Some y.0) ds ≡ Ok rest.0) same rest.1),
+      )
+
+  pub entries_some : (i : ℕ) (before : Option Row) (d : Data) (ds : Items) → entries_from read place i before (item d ds) ≡ Ok [] → ⊥
+  entries_some i before d ds e =
+      let first = both_ok (read i d) _ [] e in
+      let placed = under (follows before first.0.0) _ _ [] first.2 in
+      let rest = both_ok (entries_from read place (i + 1) (Some first.0.0) ds) _ [] placed.1 in
+      absurd cc
+
+  rise_from : (i : ℕ) (before : Option Row) (ds : Items) (xs : List (Row × X)) → entries_from read place i before ds ≡ Ok xs → T (finite.is_sorted row_cmp xs) × AllFollow before xs
+  rise_from i None no_items [] e = (tt, tt)
+  rise_from i (Some row) no_items [] e = (tt, tt)
+  rise_from i before no_items (x ∷ xs) e = absurd cc
+  rise_from i before (item d ds) [] e = absurd (entries_some i before d ds e)
+  rise_from i before (item d ds) (x ∷ xs) e =
+      let step = entries_step i before d ds x xs e in
+      let rest = rise_from (i + 1) (Some x.0) ds xs step.2 in
+      (both_tests _ _ rest.1 rest.0, head_follows before x xs step.1 rest.1)
+
+  -- a list that is read rises
+  pub entries_rise : (d : Data) (xs : List (Row × X)) → entries_in read place d ≡ Ok xs → T (finite.is_sorted row_cmp xs)
+  entries_rise d xs e = let found = both_ok (required (path.List place) (as_array d)) _ xs e in (rise_from 0 None found.0 xs found.2).0

@@ -1,0 +1,8 @@
+use Rattle.std.proofs.Common.{◌≡◌, ◌++◌, drop, Ok}
+use Rattle.serde_json.specs.View.{items_view}
+use Rattle.lab_history.specs.Faults.{◌>>=◌}
+use Rattle.lab_history.specs.Entries.{installers_from}
+use Rattle.lab_history.proofs.entry.numbers_of.Given as goal
+
+abbrev pub invariant-loop-at : goal.invariant-loop-at
+invariant-loop-at l = (installers_from l.index l.at (items_view (drop l.at l.numbers)) >>= λ ns. Ok (l.found.items ++ ns)) ≡ installers_from l.index 0 (items_view l.numbers)

@@ -1,0 +1,14 @@
+use Rattle.std.proofs.Common.{sym, subst}
+use Rattle.serde_json.specs.View.{view}
+use Rattle.lab_history.specs.VersionName.{new_states}
+use Rattle.lab_history.specs.Faults.{Gives}
+use Rattle.lab_history.proofs.States.{gives_more, rises_seen, states_read}
+use Rattle.lab_history.proofs.entry.writes_of.Goals as goal
+
+pub returns-clause-read : goal.returns-clause-read
+returns-clause-read c =
+    subst (λ r. Gives (λ entries. new_states entries.items) c.entries_of.result r) (sym (states_read c.args.place (view c.args.json.now)))
+    (gives_more (λ entries. entries.items) new_states c.entries_of.result _ c.entries_of.ensures.read)
+
+pub returns-clause-rises : goal.returns-clause-rises
+returns-clause-rises c = rises_seen (λ entries. entries.items) c.entries_of.result c.entries_of.ensures.rises

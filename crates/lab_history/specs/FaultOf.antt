@@ -1,0 +1,79 @@
+-- When a fault is true of a JSON value: told by the value itself, at the place that the fault names.
+use Rattle.std.specs.Prelude.{◌≡◌, ◌≢◌, ℕ, ◌+◌, ◌<◌, false, Option, Some, None, option_and_then, List, map, sum, Ok, codes}
+use Rattle.std.specs.Ordering.{is_lt}
+use Rattle.serde_json.specs.Data.{Data, array, Items, no_items, item}
+use Rattle.serde_json.specs.Find.{as_number, as_u64, as_array, as_str, at}
+use Rattle.lab_table.specs.Row.{Row, row_cmp}
+use Rattle.lab_script.specs.StatementText.{statement_in}
+use Rattle.lab_history.specs.Entries.{id_in, txn_in_number}
+use Rattle.lab_history.specs.Fitting.{fits}
+use Rattle.lab_history.specs.Format.{at_key, count, parts_in}
+use Rattle.lab_history.specs.History.{History}
+use Rattle.lab_history.specs.Kept.{operations, named_rows, distinct_rows, op_entries}
+use Rattle.lab_history.specs.ValueAt.{txn_at, operation_at, list_at, value_at}
+use Rattle.lab_history.specs.declared.fault.FileFault.{FileFault}
+use Rattle.lab_history.specs.declared.fault.FileFault.TheVariants as fault
+use Rattle.lab_history.specs.declared.fault.Limit.{Limit}
+use Rattle.lab_history.specs.declared.fault.Limit.TheVariants as limit
+use Rattle.lab_history.specs.declared.path.ListPlace.{ListPlace}
+use Rattle.lab_history.specs.declared.path.Path.{Path}
+use Rattle.lab_history.specs.declared.path.Path.TheVariants as path
+
+-- the value at a path may not stand there
+abbrev pub IsWrong : Data → Path → Type 0
+IsWrong d p = (v : Data) × (value_at d p ≡ Some v) × (fits p v ≡ false)
+
+-- the transaction at a place has a number
+abbrev pub IsNumber : Data → ℕ → ℕ → Type 0
+IsNumber d txn n = (t : Data) × (txn_at d txn ≡ Some t) × (txn_in_number (at_key (codes "no") t) ≡ Some n)
+
+-- two transactions have a number
+abbrev pub IsRepeated : Data → ℕ → Type 0
+IsRepeated d n = (i j : ℕ) × (i < j) × IsNumber d i n × IsNumber d j n
+
+-- an operation, counted from 1, of a transaction with a number has a statement that isn't read
+abbrev pub IsBadStatement : Data → ℕ → ℕ → Type 0
+IsBadStatement d n number = (txn op : ℕ) × (o : Data) × (text : List ℕ) × IsNumber d txn n × (number ≡ op + 1) × (operation_at d txn op ≡ Some o)
+    × (as_str (at_key (codes "statement") o) ≡ Some text) × (statement_in text ≡ None)
+
+-- the row that a member of a list begins with
+abbrev pub row_of : Data → Option Row
+row_of m = option_and_then id_in (at 0 m)
+
+-- two neighbours of a list begin with rows of which the first isn't below the second
+abbrev pub FallsSomewhere : Data → Type 0
+FallsSomewhere l = (index : ℕ) × (a b : Data) × (before after : Row) × (at index l ≡ Some a) × (at (index + 1) l ≡ Some b)
+    × (row_of a ≡ Some before) × (row_of b ≡ Some after) × (is_lt (row_cmp before after) ≡ false)
+
+-- the list at a path falls somewhere
+abbrev pub IsUnsorted : Data → Path → Type 0
+IsUnsorted d p = (place : ListPlace) × (l : Data) × (p ≡ path.List place) × (list_at d place ≡ Some l) × FallsSomewhere l
+
+-- how many operations a transaction lists, and some transactions together
+abbrev pub listed_ops : Option Items → ℕ
+listed_ops None = 0
+listed_ops (Some ds) = count ds
+
+abbrev pub all_ops : Items → ℕ
+all_ops no_items = 0
+all_ops (item t ts) = listed_ops (as_array (at_key (codes "ops") t)) + all_ops ts
+
+-- there is more of something than a file may have
+abbrev pub IsOverLimit : Data → Limit → Type 0
+IsOverLimit d limit.Bytes = ⊥
+IsOverLimit d limit.Transactions = (ts : Items) × (at_key (codes "transactions") d ≡ array ts) × (1000 < count ts)
+IsOverLimit d limit.Operations = (ts : Items) × (at_key (codes "transactions") d ≡ array ts) × (10000 < all_ops ts)
+IsOverLimit d limit.Ids = (h : History) × (parts_in d ≡ Ok h) × (1000 < distinct_rows (named_rows h))
+IsOverLimit d limit.Entries = (h : History) × (parts_in d ≡ Ok h) × (200000 < sum (map op_entries (operations h.txns)))
+IsOverLimit d limit.Statement = ⊥
+
+-- the fault is true of the value; none that comes from memory, from bytes or from a recording is
+abbrev pub IsTrueFault : Data → FileFault → Type 0
+IsTrueFault d fault.NoMemory = ⊥
+IsTrueFault d fault.NotJson = ⊥
+IsTrueFault d (fault.WrongFormat p) = IsWrong d p
+IsTrueFault d (fault.WrongVersion n) = (option_and_then as_u64 (as_number (at_key (codes "version") d)) ≡ Some n) × (n ≢ 1)
+IsTrueFault d (fault.RepeatedTxn n) = IsRepeated d n
+IsTrueFault d (fault.BadStatement n number) = IsBadStatement d n number
+IsTrueFault d (fault.Unsorted p) = IsUnsorted d p
+IsTrueFault d (fault.OverLimit which) = IsOverLimit d which

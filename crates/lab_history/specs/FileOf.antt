@@ -1,0 +1,79 @@
+-- Which JSON value is the file of which history: the table of the format.
+use Rattle.std.specs.Prelude.{◌≡◌, ◌≢◌, ℕ, ⊤, List, [], ◌∷◌, Option, Some, option_and_then, codes}
+use Rattle.std.specs.FinMap as finite
+use Rattle.std.specs.FinMap.{FinMap}
+use Rattle.serde_json.specs.Data.{Data, string, array, object, Items, no_items, item, no_members, member}
+use Rattle.serde_json.specs.Find.{as_number, as_u64, as_array}
+use Rattle.lab_table.specs.Row.{Row, row_cmp}
+use Rattle.lab_script.specs.StatementText.{statement_in}
+use Rattle.lab_history.specs.Entries.{id_in, txn_in_number, op_in_number, value_in, written_in}
+use Rattle.lab_history.specs.History.{History}
+use Rattle.lab_history.specs.Kept.{Keeps}
+use Rattle.lab_history.specs.declared.operation.Op.{Op}
+use Rattle.lab_history.specs.declared.operation.VersionName.{VersionName}
+use Rattle.lab_history.specs.declared.operation.VersionName.TheVariants.{Of}
+use Rattle.lab_history.specs.declared.transaction.Txn.{Txn}
+use Rattle.lab_history.specs.declared.transaction.Outcome.{Outcome}
+use Rattle.lab_history.specs.declared.transaction.Outcome.TheVariants.{Committed, Aborted}
+
+-- the items of a list stand for these, one by one
+abbrev pub AreEach : {X : Type 0} → (Data → X → Type 0) → Items → List X → Type 0
+AreEach Is no_items [] = ⊤
+AreEach Is no_items (x ∷ xs) = ⊥
+AreEach Is (item d ds) [] = ⊥
+AreEach Is (item d ds) (x ∷ xs) = Is d x × AreEach Is ds xs
+
+-- a list whose items stand for these
+abbrev pub IsListOf : {X : Type 0} → (Data → X → Type 0) → Data → List X → Type 0
+IsListOf Is d xs = (ds : Items) × (d ≡ array ds) × AreEach Is ds xs
+
+-- a list whose items stand for the entries of a finite map, by rising row
+abbrev pub IsMapOf : {X : Type 0} → (Data → Row × X → Type 0) → Data → FinMap row_cmp X → Type 0
+IsMapOf Is d m = IsListOf Is d (finite.entries m)
+
+-- [id, x]
+abbrev pub IsPair : {X : Type 0} → (Data → Option X) → Data → Row × X → Type 0
+IsPair read d entry = (a b : Data) × (d ≡ array (item a (item b no_items))) × (id_in a ≡ Some entry.0) × (read b ≡ Some entry.1)
+
+-- [id, txn, op]
+abbrev pub IsVersion : Data → Row × VersionName → Type 0
+IsVersion d entry = (a b c : Data) × (txn op : ℕ) × (d ≡ array (item a (item b (item c no_items)))) × (id_in a ≡ Some entry.0)
+    × (txn_in_number b ≡ Some txn) × (op_in_number c ≡ Some op) × (entry.1 ≡ Of txn op)
+
+-- [id, [txn, ..]], with at least one
+abbrev pub IsInstalled : Data → Row × List ℕ → Type 0
+IsInstalled d entry = (a b : Data) × (d ≡ array (item a (item b no_items))) × (id_in a ≡ Some entry.0)
+    × IsListOf (λ e n. txn_in_number e ≡ Some n) b entry.1 × (entry.1 ≢ [])
+
+-- {rows, statement, view, writes}; the statement is any text that spells it
+abbrev pub IsOperation : Data → Op → Type 0
+IsOperation d op = (rows view writes : Data) × (text : List ℕ)
+    × (d ≡ object (member (codes "rows") rows (member (codes "statement") (string text) (member (codes "view") view (member (codes "writes") writes no_members)))))
+    × (statement_in text ≡ Some op.statement) × IsMapOf IsVersion view op.view × IsMapOf (IsPair value_in) rows op.rows × IsMapOf (IsPair written_in) writes op.writes
+
+-- how an outcome is spelled
+abbrev pub outcome_text : Outcome → List ℕ
+outcome_text Committed = codes "committed"
+outcome_text Aborted = codes "aborted"
+
+-- {no, ops, outcome}
+abbrev pub IsTransaction : Data → Txn → Type 0
+IsTransaction d txn = (number ops : Data)
+    × (d ≡ object (member (codes "no") number (member (codes "ops") ops (member (codes "outcome") (string (outcome_text txn.outcome)) no_members))))
+    × (txn_in_number number ≡ Some txn.no) × IsListOf IsOperation ops txn.ops
+
+-- the value is a file of the history, which is within the limits
+pub record IsFileOf (d : Data) (h : History) : Type 0 where
+  pub initial : Data
+  pub transactions : Data
+  pub installed : Data
+  pub end : Data
+  pub version : Data
+  pub tree : d ≡ object (member (codes "end") end (member (codes "format") (string (codes "hermitage-history")) (member (codes "initial") initial
+      (member (codes "installed") installed (member (codes "transactions") transactions (member (codes "version") version no_members))))))
+  pub version_is : option_and_then as_u64 (as_number version) ≡ Some 1
+  pub initial_is : IsMapOf (IsPair value_in) initial h.initial
+  pub transactions_are : IsListOf IsTransaction transactions h.txns
+  pub installed_is : IsMapOf IsInstalled installed h.installed
+  pub end_is : IsMapOf (IsPair value_in) end h.end_table
+  pub keeps : Keeps h

@@ -1,0 +1,5 @@
+-- A history as contracts see it: its initial table, its transactions, who installed each row, and the table in the end.
+use Rattle.lab_history.specs.declared.parts.Parts.{Parts}
+
+abbrev pub History : Type 0
+History = Parts

@@ -1,0 +1,8 @@
+-- Who installed which rows.
+use Rattle.std.specs.Prelude.{ℕ, List}
+use Rattle.std.specs.FinMap.{FinMap}
+use Rattle.lab_table.specs.Row.{row_cmp}
+
+-- the transactions that installed each row, in order
+abbrev pub Installed : Type 0
+Installed = FinMap row_cmp (List ℕ)

@@ -1,0 +1,67 @@
+-- What every history keeps.
+use Rattle.std.specs.Prelude.{◌≡◌, ℕ, ◌+◌, ◌≤◌, Bool, true, false, ◌==◌, ◌&&◌, nat_le, List, [], ◌∷◌, ◌++◌, length, map, flat_map, sum, cond}
+use Rattle.std.specs.List.{list_any, list_all}
+use Rattle.std.specs.FinMap as finite
+use Rattle.lab_table.specs.Row.{Row, row_eq}
+use Rattle.lab_script.specs.Limits.{StatementPrints}
+use Rattle.lab_history.specs.History.{History}
+use Rattle.lab_history.specs.declared.transaction.Txn.{Txn}
+use Rattle.lab_history.specs.declared.operation.Op.{Op}
+use Rattle.lab_history.specs.declared.operation.VersionName.{VersionName}
+use Rattle.lab_history.specs.declared.operation.VersionName.TheVariants.{Initial, Of}
+
+-- no number comes twice
+abbrev pub AllDistinct : List ℕ → Type 0
+AllDistinct [] = Unit {0}
+AllDistinct (n ∷ ns) = (list_any (λ m. m == n) ns ≡ false) × AllDistinct ns
+
+-- the operations of all transactions, in order
+abbrev pub operations : List Txn → List Op
+operations txns = flat_map (λ t. t.ops) txns
+
+-- the rows that an operation's lists name
+abbrev pub op_rows : Op → List Row
+op_rows op = finite.keys op.view ++ finite.keys op.rows ++ finite.keys op.writes
+
+-- the rows that all lists of a history name, in the order of the file
+abbrev pub named_rows : History → List Row
+named_rows h = finite.keys h.initial ++ flat_map op_rows (operations h.txns) ++ finite.keys h.installed ++ finite.keys h.end_table
+
+-- how many different rows there are in a list
+abbrev pub distinct_rows : List Row → ℕ
+distinct_rows [] = 0
+distinct_rows (row ∷ rows) = cond (list_any (row_eq row) rows) 0 1 + distinct_rows rows
+
+-- the entries of an operation's view, rows and writes
+abbrev pub op_entries : Op → ℕ
+op_entries op = length (finite.entries op.view) + length (finite.entries op.rows) + length (finite.entries op.writes)
+
+-- a version that a view may list: not the initial one, and of an operation from 1 to 10,000
+abbrev pub is_listed : VersionName → Bool
+is_listed Initial = false
+is_listed (Of txn op) = nat_le 1 op && nat_le op 10000
+
+-- an operation whose statement prints and whose view lists such versions
+pub record OpKeeps (op : Op) : Type 0 where
+  pub prints : StatementPrints op.statement
+  pub listed : list_all is_listed (finite.values op.view) ≡ true
+
+-- each operation does
+abbrev pub OpsKeep : List Op → Type 0
+OpsKeep [] = Unit {0}
+OpsKeep (op ∷ ops) = OpKeeps op × OpsKeep ops
+
+-- whether a list of installers has one
+abbrev pub has_installer : List ℕ → Bool
+has_installer [] = false
+has_installer (n ∷ ns) = true
+
+-- what a history keeps: its limits, distinct numbers, and operations and installers that a file can hold
+pub record Keeps (h : History) : Type 0 where
+  pub transactions : length h.txns ≤ 1000
+  pub distinct : AllDistinct (map (λ t. t.no) h.txns)
+  pub few_operations : length (operations h.txns) ≤ 10000
+  pub operations_keep : OpsKeep (operations h.txns)
+  pub installers : list_all has_installer (finite.values h.installed) ≡ true
+  pub ids : distinct_rows (named_rows h) ≤ 1000
+  pub entries : sum (map op_entries (operations h.txns)) ≤ 200000

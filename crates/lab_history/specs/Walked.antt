@@ -1,0 +1,50 @@
+-- The rows and the entries of a history's lists, counted along the lists.
+use Rattle.std.specs.Prelude.{ℕ, ◌+◌, nat_le, List, [], ◌∷◌, length, Option, Some, None, option_and_then, if◌then◌else◌}
+use Rattle.std.specs.BTreeSet.{insert_key}
+use Rattle.std.specs.FinMap as finite
+use Rattle.lab_table.specs.Row.{Row, row_cmp}
+use Rattle.lab_history.specs.History.{History}
+use Rattle.lab_history.specs.declared.operation.Op.{Op}
+use Rattle.lab_history.specs.declared.transaction.Txn.{Txn}
+
+-- ---- rising lists of different rows
+
+-- with the rows of a list
+abbrev pub with_rows : {X : Type 0} → List Row → List (Row × X) → List Row
+with_rows seen [] = seen
+with_rows seen (e ∷ es) = with_rows (insert_key row_cmp seen e.0) es
+
+-- with those of an operation's lists
+abbrev pub with_op : List Row → Op → List Row
+with_op seen op = with_rows (with_rows (with_rows seen (finite.entries op.view)) (finite.entries op.rows)) (finite.entries op.writes)
+
+abbrev pub with_ops : List Row → List Op → List Row
+with_ops seen [] = seen
+with_ops seen (op ∷ ops) = with_ops (with_op seen op) ops
+
+abbrev pub with_txns : List Row → List Txn → List Row
+with_txns seen [] = seen
+with_txns seen (t ∷ ts) = with_txns (with_ops seen t.ops) ts
+
+-- those of all lists of a history
+abbrev pub rows_in : History → List Row
+rows_in h = with_rows (with_rows (with_txns (with_rows [] (finite.entries h.initial)) h.txns) (finite.entries h.installed)) (finite.entries h.end_table)
+
+-- ---- counts of entries, none past the limit
+
+-- with those of one list
+abbrev pub counted : ℕ → ℕ → Option ℕ
+counted total n = if nat_le (total + n) 200000 then Some (total + n) else None
+
+abbrev pub op_counted : ℕ → Op → Option ℕ
+op_counted total op =
+    option_and_then (λ more. option_and_then (λ most. counted most (length (finite.entries op.writes))) (counted more (length (finite.entries op.rows))))
+    (counted total (length (finite.entries op.view)))
+
+abbrev pub ops_counted : ℕ → List Op → Option ℕ
+ops_counted total [] = Some total
+ops_counted total (op ∷ ops) = option_and_then (λ more. ops_counted more ops) (op_counted total op)
+
+abbrev pub txns_counted : ℕ → List Txn → Option ℕ
+txns_counted total [] = Some total
+txns_counted total (t ∷ ts) = option_and_then (λ more. txns_counted more ts) (ops_counted total t.ops)

@@ -1,0 +1,164 @@
+//! Histories from their parts.
+
+ghost use Rattle.std.specs.Prelude.{◌≡◌, ◌≢◌, ◌⊎◌, ◌<◌, ◌≤◌, [], length, Ok, Err, IfOk, IfErr};
+ghost use Rattle.lab_history.specs.Kept.{Keeps};
+ghost use Rattle.lab_history.specs.Faults.{Gives};
+ghost use Rattle.lab_history.specs.PartsFault.{IsPartsFault};
+ghost use Rattle.lab_history.specs.Checked.{statement_prints, listed_from, op_checked, ops_checked, txns_checked, installed_checked, checked};
+ghost use Rattle.lab_history.specs.Kept as kept;
+ghost use Rattle.lab_history.specs.declared.fault.FileFault.TheVariants as fault;
+ghost use Rattle.lab_history.specs.declared.path.Path.TheVariants as path;
+
+use crate::fault::{FileFault, Limit};
+use crate::history::History;
+use crate::limits::check_limits;
+use crate::operation::{Op, VersionName};
+use crate::parts::Parts;
+use crate::path::{ListPlace, Path};
+use crate::stop::Stop;
+use crate::transaction::{Installers, Txn};
+use lab_script::check_statement;
+use lab_table::{RowId, Statement, TxnNo};
+use std::alloc::Global;
+use std::collections::BTreeSet;
+
+/// The most transactions of a history.
+const MOST_TXNS: usize = 1_000;
+
+/// The most operations of all its transactions together.
+const MOST_OPERATIONS: usize = 10_000;
+
+impl History {
+    /// The history of these parts, or their first fault in the order of a file's walk, with the parts.
+    /// NoMemory, where a growth was refused, may come in place of any other answer.
+    pub fn from_parts(alloc: Global, parts: Parts) -> Result<History, (Parts, FileFault)>
+        ensures found { IfOk result (λ history. (history ≡ parts) × (checked parts ≡ Ok tt)) }
+        ensures back { IfErr result (λ refused. refused.0 ≡ parts) }
+        ensures fault { IfErr result (λ refused. (refused.1 ≡ FileFault.NoMemory) ⊎ (checked parts ≡ Err refused.1)) }
+        // A history comes exactly where the parts keep the rules of its type.
+        ensures keeps { IfOk result (λ history. Keeps parts) }
+        ensures only { IfErr result (λ refused. refused.1 ≢ FileFault.NoMemory → (Keeps parts → ⊥)) }
+        // What the fault names is so.
+        ensures truth { IfErr result (λ refused. refused.1 ≢ FileFault.NoMemory → IsPartsFault parts refused.1) }
+    {
+        match check_parts(alloc, &parts) {
+            Ok(()) => match History::assembled(alloc, parts) {
+                Ok(history) => Ok(history),
+                Err((parts, _)) => Err((parts, FileFault::NoMemory)),
+            },
+            Err(Stop::NoMemory) => Err((parts, FileFault::NoMemory)),
+            Err(Stop::Fault(fault)) => Err((parts, fault)),
+        }
+    }
+}
+
+/// The first fault of the parts, in the order of a file's walk.
+fn check_parts(alloc: Global, parts: &Parts) -> Result<(), Stop>
+    ensures { Gives (λ _. tt) result (checked parts.now) }
+{
+    let txns = parts.txns.as_slice();
+    if txns.len() > MOST_TXNS {
+        return Err(Stop::Fault(FileFault::OverLimit {
+            which: Limit::Transactions,
+        }));
+    }
+    check_txns(alloc, txns)?;
+    check_installed(parts.installed.entries())?;
+    check_limits(alloc, parts)
+}
+
+/// Their numbers are distinct, the operations of all together are within the limit, and each operation is sound.
+fn check_txns(alloc: Global, txns: &[Txn]) -> Result<(), Stop>
+    ensures { Gives (λ _. tt) result (txns_checked [] 0 txns.now) }
+{
+    let mut numbers = BTreeSet::new(alloc);
+    let mut operations = 0;
+    for (index, txn) in txns.iter().enumerate() {
+        if !numbers.insert(txn.no)? {
+            return Err(Stop::Fault(FileFault::RepeatedTxn { no: txn.no }));
+        }
+        let ops = txn.ops.as_slice();
+        if ops.len() > MOST_OPERATIONS - operations {
+            return Err(Stop::Fault(FileFault::OverLimit {
+                which: Limit::Operations,
+            }));
+        }
+        operations += ops.len();
+        check_ops(index, txn.no, ops)?;
+    }
+    Ok(())
+}
+
+/// The operations of the transaction at a place, which has this number.
+fn check_ops(txn: usize, by: TxnNo, ops: &[Op]) -> Result<(), FileFault>
+    requires { length ops.now ≤ 10000 }
+    ensures { result ≡ ops_checked txn by 0 ops.now }
+{
+    for (index, op) in ops.iter().enumerate() {
+        check_op(txn, by, index, op)?;
+    }
+    Ok(())
+}
+
+/// Its statement prints, and its view lists versions that a file can hold.
+fn check_op(txn: usize, by: TxnNo, index: usize, op: &Op) -> Result<(), FileFault>
+    requires { index < 10000 }
+    ensures { result ≡ op_checked txn by index op.now }
+{
+    if !prints(&op.statement) {
+        return Err(FileFault::BadStatement {
+            txn: by,
+            op: index as u32 + 1,
+        });
+    }
+    check_view(ListPlace::View { txn, op: index }, op.view.entries())
+}
+
+fn prints(statement: &Statement) -> bool
+    ensures { result ≡ statement_prints statement.now }
+{
+    check_statement(statement).is_ok()
+}
+
+fn check_view(place: ListPlace, entries: &[(RowId, VersionName)]) -> Result<(), FileFault>
+    ensures { result ≡ listed_from place 0 entries.now }
+{
+    for (index, entry) in entries.iter().enumerate() {
+        if !is_listed(entry.1) {
+            return Err(wrong_member(place, index));
+        }
+    }
+    Ok(())
+}
+
+/// Whether a view may list a version.
+fn is_listed(version: VersionName) -> bool
+    ensures { result ≡ kept.is_listed version }
+{
+    match version {
+        VersionName::Initial => false,
+        VersionName::Of { op, .. } => 1 <= op && op <= 10_000,
+    }
+}
+
+fn check_installed(entries: &[(RowId, Installers)]) -> Result<(), FileFault>
+    ensures { result ≡ installed_checked 0 entries.now }
+{
+    for (index, entry) in entries.iter().enumerate() {
+        if entry.1.as_slice().is_empty() {
+            return Err(wrong_member(ListPlace::Installed, index));
+        }
+    }
+    Ok(())
+}
+
+fn wrong_member(place: ListPlace, index: usize) -> FileFault
+    ensures { result ≡ fault.WrongFormat (path.Member place index) }
+{
+    FileFault::WrongFormat {
+        path: Path::Member(place, index),
+    }
+}
+
+#[cfg(test)]
+mod tests;

@@ -1,0 +1,306 @@
+//! The numbers of a history file, and its lists whose members begin with a row.
+
+ghost use Rattle.std.specs.Prelude.{◌≡◌, ℕ, T, IfOk, Result};
+ghost use Rattle.std.specs.FinMap as map;
+ghost use Rattle.serde_json.specs.Data.{Data};
+ghost use Rattle.serde_json.specs.Find.{as_array};
+ghost use Rattle.serde_json.specs.View.{view, items_view};
+ghost use Rattle.lab_table.specs.Row.{Row, row_cmp};
+ghost use Rattle.lab_history.specs.VersionName.{new_states};
+ghost use Rattle.lab_history.specs.Faults.{Gives, required as spec_required};
+ghost use Rattle.lab_history.specs.Entries.{id_in, txn_in_number, op_in_number, value_in, pair_in, triple_in, installers_from, entries_in, values_in, writes_in, view_in, installed_in};
+ghost use Rattle.lab_history.specs.Entries.{installers_of as spec_installers_of};
+ghost use Rattle.lab_history.specs.WrittenState.{state_in};
+ghost use Rattle.lab_history.specs.declared.fault.FileFault.{FileFault};
+ghost use Rattle.lab_history.specs.declared.fault.FileFault.TheVariants as fault;
+ghost use Rattle.lab_history.specs.declared.stop.Stop.TheVariants as stop;
+ghost use Rattle.lab_history.specs.declared.path.ListPlace.{ListPlace};
+
+use crate::fault::FileFault;
+use crate::operation::{State, VersionName};
+use crate::order::follows;
+use crate::path::{ListPlace, Path};
+use crate::stop::Stop;
+use crate::transaction::Installers;
+use lab_table::{RowId, TxnNo, Value};
+use serde_json::Value as Json;
+use std::alloc::Global;
+
+/// The id of a row.
+fn id_of(json: &Json) -> Option<RowId>
+    ensures { result ≡ id_in (view json.now) }
+{
+    let number = json.as_u64()?;
+    if 1 <= number && number <= 999_999 {
+        RowId::new(number as u32)
+    } else {
+        None
+    }
+}
+
+/// The number of a transaction.
+pub fn txn_of(json: &Json) -> Option<TxnNo>
+    ensures { result ≡ txn_in_number (view json.now) }
+{
+    let number = json.as_u64()?;
+    if 1 <= number && number <= 1_000_000 {
+        TxnNo::new(number as u32)
+    } else {
+        None
+    }
+}
+
+/// The number of an operation within its transaction.
+fn op_of(json: &Json) -> Option<u32>
+    ensures { result ≡ op_in_number (view json.now) }
+{
+    let number = json.as_u64()?;
+    if 1 <= number && number <= 10_000 {
+        Some(number as u32)
+    } else {
+        None
+    }
+}
+
+/// What a row has in the column value.
+fn value_of(json: &Json) -> Option<Value>
+    ensures { result ≡ value_in (view json.now) }
+{
+    Value::new(json.as_i64()?)
+}
+
+/// What is written to a row.
+fn written_of(json: &Json) -> Option<State>
+    ensures { result ≡ state_in (view json.now) }
+{
+    match json {
+        Json::Null => Some(State::Absent),
+        Json::Number(_) => Some(State::Present(value_of(json)?)),
+        _ => None,
+    }
+}
+
+/// A value that isn't of the format.
+fn wrong(path: Path) -> Stop
+    ensures { result ≡ stop.Fault (fault.WrongFormat path) }
+{
+    Stop::Fault(FileFault::WrongFormat { path })
+}
+
+/// What has to be at a place.
+pub fn required<X>(found: Option<X>, path: Path) -> Result<X, Stop>
+    ensures { Gives (λ x. x) result (spec_required path found) }
+{
+    found.ok_or(wrong(path))
+}
+
+/// The parts of a member that has two.
+#[tactic(auto, using(crate::proofs::Members::no_pair))]
+fn pair<'a>(place: ListPlace, index: usize, json: &'a Json) -> Result<(&'a Json, &'a Json), Stop>
+    ensures { Gives (λ parts. (view parts.0.now, view parts.1.now)) result (pair_in place index (as_array (view json.now))) }
+{
+    let path = Path::Member(place, index);
+    let parts = required(json.as_array(), path)?;
+    let [first, second] = parts.as_slice() else {
+        return Err(wrong(path));
+    };
+    Ok((first, second))
+}
+
+/// The parts of a member that has three.
+#[tactic(auto, using(crate::proofs::Members::no_triple))]
+fn triple<'a>(
+    place: ListPlace,
+    index: usize,
+    json: &'a Json,
+) -> Result<(&'a Json, &'a Json, &'a Json), Stop>
+    ensures { Gives (λ parts. (view parts.0.now, view parts.1.now, view parts.2.now)) result (triple_in place index (as_array (view json.now))) }
+{
+    let path = Path::Member(place, index);
+    let parts = required(json.as_array(), path)?;
+    let [first, second, third] = parts.as_slice() else {
+        return Err(wrong(path));
+    };
+    Ok((first, second, third))
+}
+
+/// The numbers of the transactions that installed a row.
+fn numbers_of(alloc: Global, index: usize, numbers: &[Json]) -> Result<Vec<TxnNo>, Stop>
+    ensures { Gives (λ found. found.items) result (installers_from index 0 (items_view numbers.now)) }
+{
+    let mut found = Vec::with_capacity(alloc, numbers.len())?;
+    for (at, number) in numbers.iter().enumerate() {
+        found.push(required(txn_of(number), Path::Installer(index, at))?)?;
+    }
+    Ok(found)
+}
+
+/// The installers of a row, of which there is at least one.
+#[tactic(auto, using(crate::proofs::Members::no_installer, crate::proofs::Members::some_installer))]
+fn installers_of(alloc: Global, index: usize, json: &Json) -> Result<Installers, Stop>
+    ensures { Gives (λ installers. installers) result (spec_installers_of index (as_array (view json.now))) }
+{
+    let path = Path::Part(ListPlace::Installed, index, 1);
+    let numbers = required(json.as_array(), path)?;
+    if numbers.is_empty() {
+        return Err(wrong(path));
+    }
+    Ok(Installers::new(numbers_of(alloc, index, numbers)?))
+}
+
+/// What stands behind the row in a member of a list.
+trait Entry: Sized + Drop {
+    ghost read: { ListPlace → ℕ → Data → Result (Row × Self) FileFault };
+
+    /// The member of a list with this index.
+    fn read(
+        alloc: Global,
+        place: ListPlace,
+        index: usize,
+        json: &Json,
+    ) -> Result<(RowId, Self), Stop>
+        ensures { Gives (λ entry. entry) result (read place index (view json.now)) };
+}
+
+/// `[id, value]`.
+impl Entry for Value {
+    ghost use Rattle.serde_json.specs.Find.{as_array};
+    ghost use Rattle.lab_history.specs.Entries.{pair_of, value_in};
+
+    ghost read = { λ place index d. pair_of value_in place index (as_array d) };
+
+    fn read(
+        _alloc: Global,
+        place: ListPlace,
+        index: usize,
+        json: &Json,
+    ) -> Result<(RowId, Value), Stop> {
+        let (id, value) = pair(place, index, json)?;
+        let id = required(id_of(id), Path::Part(place, index, 0))?;
+        let value = required(value_of(value), Path::Part(place, index, 1))?;
+        Ok((id, value))
+    }
+}
+
+/// `[id, value]`, or `[id, null]`.
+impl Entry for State {
+    ghost use Rattle.serde_json.specs.Find.{as_array};
+    ghost use Rattle.lab_history.specs.Entries.{pair_of};
+    ghost use Rattle.lab_history.specs.WrittenState.{state_in};
+
+    ghost read = { λ place index d. pair_of state_in place index (as_array d) };
+
+    fn read(
+        _alloc: Global,
+        place: ListPlace,
+        index: usize,
+        json: &Json,
+    ) -> Result<(RowId, State), Stop> {
+        let (id, state) = pair(place, index, json)?;
+        let id = required(id_of(id), Path::Part(place, index, 0))?;
+        let state = required(written_of(state), Path::Part(place, index, 1))?;
+        Ok((id, state))
+    }
+}
+
+/// `[id, txn, op]`.
+impl Entry for VersionName {
+    ghost use Rattle.serde_json.specs.Find.{as_array};
+    ghost use Rattle.lab_history.specs.Entries.{version_of};
+
+    ghost read = { λ place index d. version_of place index (as_array d) };
+
+    fn read(
+        _alloc: Global,
+        place: ListPlace,
+        index: usize,
+        json: &Json,
+    ) -> Result<(RowId, VersionName), Stop> {
+        let (id, txn, op) = triple(place, index, json)?;
+        let id = required(id_of(id), Path::Part(place, index, 0))?;
+        let txn = required(txn_of(txn), Path::Part(place, index, 1))?;
+        let op = required(op_of(op), Path::Part(place, index, 2))?;
+        Ok((id, VersionName::Of { txn, op }))
+    }
+}
+
+/// `[id, [txn, ..]]`. Only one list has such members.
+impl Entry for Installers {
+    ghost use Rattle.serde_json.specs.Find.{as_array};
+    ghost use Rattle.lab_history.specs.Entries.{installed_of};
+
+    ghost read = { λ _ index d. installed_of index (as_array d) };
+
+    fn read(
+        alloc: Global,
+        _: ListPlace,
+        index: usize,
+        json: &Json,
+    ) -> Result<(RowId, Installers), Stop> {
+        let (id, installers) = pair(ListPlace::Installed, index, json)?;
+        let id = required(id_of(id), Path::Part(ListPlace::Installed, index, 0))?;
+        let installers = installers_of(alloc, index, installers)?;
+        Ok((id, installers))
+    }
+}
+
+/// A list whose members begin with a row.
+fn entries_of<E: Entry>(
+    alloc: Global,
+    place: ListPlace,
+    json: &Json,
+) -> Result<Vec<(RowId, E)>, Stop>
+    ensures read { Gives (λ entries. entries.items) result (entries_in (E.read place) place (view json.now)) }
+    ensures rises { IfOk result (λ entries. T (map.is_sorted row_cmp entries.items)) }
+{
+    let members = required(json.as_array(), Path::List(place))?;
+    let mut entries = Vec::with_capacity(alloc, members.len())?;
+    let mut before = None;
+    for (index, member) in members.as_slice().iter().enumerate() {
+        let entry = E::read(alloc, place, index, member)?;
+        if !follows(before, entry.0) {
+            return Err(Stop::Fault(FileFault::Unsorted {
+                path: Path::List(place),
+            }));
+        }
+        before = Some(entry.0);
+        entries.push(entry)?;
+    }
+    Ok(entries)
+}
+
+/// A list of rows with their values.
+pub fn values_of(alloc: Global, place: ListPlace, json: &Json) -> Result<Vec<(RowId, Value)>, Stop>
+    ensures read { Gives (λ entries. entries.items) result (values_in place (view json.now)) }
+    ensures rises { IfOk result (λ entries. T (map.is_sorted row_cmp entries.items)) }
+{
+    entries_of(alloc, place, json)
+}
+
+/// A list of written rows with their new states.
+pub fn writes_of(alloc: Global, place: ListPlace, json: &Json) -> Result<Vec<(RowId, State)>, Stop>
+    ensures read { Gives (λ entries. new_states entries.items) result (writes_in place (view json.now)) }
+    ensures rises { IfOk result (λ entries. T (map.is_sorted row_cmp (new_states entries.items))) }
+{
+    entries_of(alloc, place, json)
+}
+
+/// A list of rows with the versions that were seen.
+pub fn view_of(
+    alloc: Global,
+    place: ListPlace,
+    json: &Json,
+) -> Result<Vec<(RowId, VersionName)>, Stop>
+    ensures read { Gives (λ entries. entries.items) result (view_in place (view json.now)) }
+    ensures rises { IfOk result (λ entries. T (map.is_sorted row_cmp entries.items)) }
+{
+    entries_of(alloc, place, json)
+}
+
+/// The list of the rows that were installed, with their installers.
+pub fn installed_of(alloc: Global, json: &Json) -> Result<Vec<(RowId, Installers)>, Stop>
+    ensures read { Gives (λ entries. entries.items) result (installed_in (view json.now)) }
+    ensures rises { IfOk result (λ entries. T (map.is_sorted row_cmp entries.items)) }
+{
+    entries_of(alloc, ListPlace::Installed, json)
+}

@@ -1,0 +1,96 @@
+//! Why there is no history, or no file of one.
+
+use crate::path::Path;
+use lab_table::TxnNo;
+use std::alloc::{AllocError, AllocFailed};
+use thiserror::Error;
+
+/// What a history or its file has too many of.
+#[derive(Clone, Copy, Debug, PartialEq, Eq)]
+pub enum Limit {
+    /// A file has at most 8,388,608 bytes.
+    Bytes,
+    /// At most 1,000 transactions.
+    Transactions,
+    /// At most 10,000 operations of all transactions together.
+    Operations,
+    /// At most 1,000 different ids in all lists together.
+    Ids,
+    /// At most 200,000 entries of views, rows and writes together.
+    Entries,
+    /// A statement is printed in at most 1,000 bytes, at most 16 deep. A file has no such statement; a recording may.
+    Statement,
+}
+
+/// Why a file or parts are no history.
+#[derive(Clone, Copy, Debug, PartialEq, Eq, Error)]
+pub enum FileFault {
+    /// A growth was refused.
+    #[error("no memory")]
+    NoMemory,
+    /// The bytes are no JSON text.
+    #[error("the file is no JSON text")]
+    NotJson,
+    /// The innermost value that isn't of the format; where a key is missing or too many, their object.
+    #[error("a value is not of the format")]
+    WrongFormat { path: Path },
+    /// The file's version is another than 1.
+    #[error("version {number} of the format is not known")]
+    WrongVersion { number: u64 },
+    /// An earlier transaction has the same number.
+    #[error("a transaction's number comes twice")]
+    RepeatedTxn { no: TxnNo },
+    /// The statement of an operation, counted from 1 within its transaction, isn't read, or doesn't print.
+    #[error("a statement is not read")]
+    BadStatement { txn: TxnNo, op: u32 },
+    /// A list's rows don't rise strictly.
+    #[error("the rows of a list do not rise")]
+    Unsorted { path: Path },
+    /// There is too much of something.
+    #[error("there is too much of something")]
+    OverLimit { which: Limit },
+}
+
+impl From<AllocError> for FileFault {
+    ghost use Rattle.std.specs.Prelude.{◌≡◌};
+    ghost use Rattle.lab_history.specs.declared.fault.FileFault.TheVariants.{NoMemory};
+
+    ghost from_gives = { λ _ fault. fault ≡ NoMemory };
+
+    fn from(_: AllocError) -> FileFault {
+        FileFault::NoMemory
+    }
+}
+
+impl<T: Drop> From<AllocFailed<T>> for FileFault {
+    ghost use Rattle.std.specs.Prelude.{◌≡◌};
+    ghost use Rattle.lab_history.specs.declared.fault.FileFault.TheVariants.{NoMemory};
+
+    ghost from_gives = { λ _ fault. fault ≡ NoMemory };
+
+    fn from(_: AllocFailed<T>) -> FileFault {
+        FileFault::NoMemory
+    }
+}
+
+/// Why a history has no file.
+#[derive(Clone, Copy, Debug, PartialEq, Eq, Error)]
+pub enum WriteFault {
+    /// A growth was refused.
+    #[error("no memory")]
+    NoMemory,
+    /// The text would have more than 8,388,608 bytes.
+    #[error("the text is too long")]
+    TooLong,
+}
+
+impl From<AllocError> for WriteFault {
+    ghost use Rattle.std.specs.Prelude.{◌≡◌};
+    ghost use Rattle.lab_history.specs.declared.fault.WriteFault.TheVariants.{NoMemory};
+
+    ghost from_gives = { λ _ fault. fault ≡ NoMemory };
+
+    fn from(_: AllocError) -> WriteFault {
+        WriteFault::NoMemory
+    }
+}

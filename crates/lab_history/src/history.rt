@@ -1,0 +1,87 @@
+//! Histories.
+
+ghost use Rattle.std.specs.Prelude.{◌≡◌, IfOk, IfErr};
+ghost use Rattle.lab_history.specs.Index.{IsIndexOf};
+ghost use Rattle.lab_history.specs.Kept.{Keeps};
+
+use crate::index::Index;
+use crate::parts::Parts;
+use crate::transaction::{Installed, Txns};
+use lab_table::{NoMemory, Table};
+use std::alloc::Global;
+use std::marker::Model;
+
+/// What transactions did to a table: the table before, the transactions, who installed each row, and the table after.
+///
+/// A history keeps its limits: at most 1,000 transactions, 10,000 operations, 1,000 different ids over all lists and
+/// 200,000 entries of views, rows and writes together; different transaction numbers; statements that print; views
+/// that list versions by operations from 1 to 10,000; and no empty list of installers.
+#[derive(Drop)]
+pub struct History {
+    parts: Parts,
+    index: Index,
+}
+
+impl Model for History {
+    ghost use Rattle.lab_history.specs.History as spec;
+    ghost use Rattle.lab_history.specs.Index.{IsIndexOf};
+    ghost use Rattle.lab_history.specs.Kept.{Keeps};
+    ghost use Rattle.lab_history.specs.contracts.parts.Parts as stored;
+
+    ghost Value = { spec.History };
+
+    ghost coded = { stored.the_row.coded };
+
+    ghost view = { λ h. h.parts };
+
+    ghost invariant = { λ h. Keeps h.parts × IsIndexOf h.index h.parts };
+}
+
+impl History {
+    /// The history of these parts; NoMemory, with the parts as they were, where a growth was refused.
+    pub(crate) fn assembled(alloc: Global, parts: Parts) -> Result<History, (Parts, NoMemory)>
+        requires { Keeps parts }
+        ensures ok { IfOk result (λ history. history ≡ parts) }
+        ensures back { IfErr result (λ refused. refused.0 ≡ parts) }
+    {
+        match Index::of(alloc, &parts) {
+            Ok(index) => Ok(History { parts, index }),
+            Err(refused) => Err((parts, refused)),
+        }
+    }
+
+    /// Its index.
+    pub(crate) fn index(&self) -> &Index
+        ensures { IsIndexOf result.now self.now }
+    {
+        &self.index
+    }
+
+    /// The table before the first transaction.
+    pub fn initial(&self) -> &Table
+        ensures { result.now ≡ self.now.initial }
+    {
+        &self.parts.initial
+    }
+
+    /// The transactions, in the order of the file.
+    pub fn txns(&self) -> &Txns
+        ensures { result.now ≡ self.now.txns }
+    {
+        &self.parts.txns
+    }
+
+    /// The transactions that installed each row.
+    pub fn installed(&self) -> &Installed
+        ensures { result.now ≡ self.now.installed }
+    {
+        &self.parts.installed
+    }
+
+    /// The table in the end.
+    pub fn end_table(&self) -> &Table
+        ensures { result.now ≡ self.now.end_table }
+    {
+        &self.parts.end_table
+    }
+}

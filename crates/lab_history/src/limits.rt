@@ -1,0 +1,154 @@
+//! The limits on whole histories.
+
+ghost use Rattle.std.specs.Prelude.{◌≡◌, ◌≤◌, IfOk, OnOk, IfSome};
+ghost use Rattle.lab_history.specs.Faults.{Gives};
+ghost use Rattle.lab_history.specs.Kept.{named_rows, distinct_rows};
+ghost use Rattle.lab_history.specs.Limits.{within_limits};
+ghost use Rattle.lab_history.specs.declared.fault.FileFault.TheVariants as fault;
+ghost use Rattle.lab_history.specs.declared.stop.Stop.TheVariants as stop;
+ghost use Rattle.lab_history.specs.Walked.{with_rows, with_op, with_ops, with_txns, counted, op_counted, ops_counted, txns_counted};
+
+use crate::fault::{FileFault, Limit};
+use crate::operation::Op;
+use crate::parts::Parts;
+use crate::stop::Stop;
+use crate::transaction::Txn;
+use lab_table::{NoMemory, RowId};
+use std::alloc::Global;
+use std::collections::BTreeSet;
+use std::marker::Model;
+
+/// The most different ids over all lists of a history.
+const MOST_IDS: usize = 1_000;
+
+/// The most entries of views, rows and writes together.
+const MOST_ENTRIES: usize = 200_000;
+
+/// Whether parts keep the limits on ids and entries.
+pub fn check_limits(alloc: Global, parts: &Parts) -> Result<(), Stop>
+    ensures { Gives (λ _. tt) result (within_limits parts.now) }
+{
+    if count_ids(alloc, parts)? > MOST_IDS {
+        return Err(over(Limit::Ids));
+    }
+    match count_txns(parts.txns.as_slice()) {
+        Some(_) => Ok(()),
+        None => Err(over(Limit::Entries)),
+    }
+}
+
+fn over(which: Limit) -> Stop
+    ensures { result ≡ stop.Fault (fault.OverLimit which) }
+{
+    Stop::Fault(FileFault::OverLimit { which })
+}
+
+fn count_ids(alloc: Global, parts: &Parts) -> Result<usize, NoMemory>
+    ensures { IfOk result (λ count. count ≡ distinct_rows (named_rows parts.now)) }
+{
+    let mut ids = Ids {
+        seen: BTreeSet::new(alloc),
+    };
+    ids.add_rows(parts.initial.rows())?;
+    ids.add_txns(parts.txns.as_slice())?;
+    ids.add_rows(parts.installed.entries())?;
+    ids.add_rows(parts.end_table.rows())?;
+    Ok(ids.seen.len())
+}
+
+/// The different rows that were met.
+#[derive(Drop)]
+struct Ids {
+    seen: BTreeSet<RowId>,
+}
+
+impl Model for Ids {
+    ghost use Rattle.std.specs.Prelude.{List};
+    ghost use Rattle.lab_table.specs.Row.{Row};
+
+    ghost Value = { List Row };
+
+    ghost view = { λ ids. ids.seen.keys };
+}
+
+impl Ids {
+    fn add_rows<X>(&mut self, entries: &[(RowId, X)]) -> Result<(), NoMemory>
+        ensures { OnOk result (self.new ≡ with_rows self.old entries.now) }
+    {
+        for entry in entries {
+            self.seen.insert(entry.0)?;
+        }
+        Ok(())
+    }
+
+    fn add_op(&mut self, op: &Op) -> Result<(), NoMemory>
+        ensures { OnOk result (self.new ≡ with_op self.old op.now) }
+    {
+        self.add_rows(op.view.entries())?;
+        self.add_rows(op.rows.entries())?;
+        self.add_rows(op.writes.entries())
+    }
+
+    fn add_ops(&mut self, ops: &[Op]) -> Result<(), NoMemory>
+        ensures { OnOk result (self.new ≡ with_ops self.old ops.now) }
+    {
+        for op in ops {
+            self.add_op(op)?;
+        }
+        Ok(())
+    }
+
+    fn add_txns(&mut self, txns: &[Txn]) -> Result<(), NoMemory>
+        ensures { OnOk result (self.new ≡ with_txns self.old txns.now) }
+    {
+        for txn in txns {
+            self.add_ops(txn.ops.as_slice())?;
+        }
+        Ok(())
+    }
+}
+
+/// So many entries more, if that keeps the limit.
+fn count(total: usize, more: usize) -> Option<usize>
+    requires { total ≤ 200000 }
+    ensures value { result ≡ counted total more }
+    ensures few { IfSome result (λ sum. sum ≤ 200000) }
+{
+    if more <= MOST_ENTRIES - total {
+        Some(total + more)
+    } else {
+        None
+    }
+}
+
+fn count_op(total: usize, op: &Op) -> Option<usize>
+    requires { total ≤ 200000 }
+    ensures value { result ≡ op_counted total op.now }
+    ensures few { IfSome result (λ sum. sum ≤ 200000) }
+{
+    let total = count(total, op.view.entries().len())?;
+    let total = count(total, op.rows.entries().len())?;
+    count(total, op.writes.entries().len())
+}
+
+fn count_ops(before: usize, ops: &[Op]) -> Option<usize>
+    requires { before ≤ 200000 }
+    ensures value { result ≡ ops_counted before ops.now }
+    ensures few { IfSome result (λ sum. sum ≤ 200000) }
+{
+    let mut total = before;
+    for op in ops {
+        total = count_op(total, op)?;
+    }
+    Some(total)
+}
+
+fn count_txns(txns: &[Txn]) -> Option<usize>
+    ensures { result ≡ txns_counted 0 txns.now }
+{
+    let mut total = 0;
+    for txn in txns {
+        total = count_ops(total, txn.ops.as_slice())?;
+    }
+    Some(total)
+}

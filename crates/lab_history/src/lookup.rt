@@ -1,0 +1,65 @@
+//! Look-ups in a history: transactions by their numbers, versions, last writes and installers. They take no memory,
+//! and find what they look for by halving.
+
+ghost use Rattle.std.specs.Prelude.{◌≡◌, option_map};
+ghost use Rattle.std.specs.Option.{option_copied};
+ghost use Rattle.std.specs.FinMap as map;
+ghost use Rattle.lab_history.specs.Version.{find_txn, op_at, version_state, last_write, ops_of, installers, place_in};
+ghost use Rattle.lab_history.specs.VersionName.{state_value};
+
+use crate::history::History;
+use crate::operation::{Op, State, VersionName};
+use crate::transaction::Txn;
+use lab_table::{RowId, TxnNo};
+
+impl History {
+    /// The transaction with this number, if there is one.
+    pub fn txn(&self, number: TxnNo) -> Option<&Txn>
+        ensures { option_copied result ≡ find_txn self.now.txns number }
+    {
+        let place = self.index().numbers.get(number)?;
+        self.txns().as_slice().get(place)
+    }
+
+    /// What a version of a row is, or None where there is no such version. The initial version of a row that the
+    /// initial table lacks is absent.
+    pub fn version_state(&self, row: RowId, version: VersionName) -> Option<State>
+        ensures { option_map state_value result ≡ version_state self.now row version }
+    {
+        match version {
+            VersionName::Initial => Some(self.initial_state(row)),
+            VersionName::Of { txn, op } => op_of(self.txn(txn)?, op)?.writes.get(row),
+        }
+    }
+
+    /// The number of a transaction's last operation that writes a row, or None where none does.
+    pub fn last_write(&self, txn: TxnNo, row: RowId) -> Option<u32>
+        ensures { result ≡ last_write (ops_of self.now txn) row }
+    {
+        self.index().last_writes.get((txn, row))
+    }
+
+    /// The place of a transaction among the installers of a row, counted from 1, or None where it isn't among them.
+    pub fn installer_place(&self, row: RowId, txn: TxnNo) -> Option<usize>
+        ensures { result ≡ place_in (installers self.now row) txn }
+    {
+        self.index().places.get((row, txn))
+    }
+
+    fn initial_state(&self, row: RowId) -> State
+        ensures { state_value result ≡ map.get self.now.initial row }
+    {
+        match self.initial().get(row) {
+            None => State::Absent,
+            Some(value) => State::Present(value),
+        }
+    }
+}
+
+/// The operation of a transaction with this number.
+fn op_of(txn: &Txn, number: u32) -> Option<&Op>
+    ensures { option_copied result ≡ op_at txn.now.ops number }
+{
+    txn.ops.as_slice().get(number.checked_sub(1)? as usize)
+}
+

@@ -1,0 +1,33 @@
+//! Entries whose rows rise strictly.
+
+ghost use Rattle.std.specs.Prelude.{◌≡◌};
+ghost use Rattle.std.specs.FinMap as map;
+ghost use Rattle.lab_table.specs.Row.{row_cmp};
+ghost use Rattle.lab_history.specs.Entries as entry;
+
+use lab_table::RowId;
+
+/// Whether a row comes after the one before it, if there is one.
+pub fn follows(before: Option<RowId>, row: RowId) -> bool
+    ensures { result ≡ entry.follows before row }
+{
+    match before {
+        None => true,
+        Some(before) => before < row,
+    }
+}
+
+/// Whether each row comes after the one before it.
+#[tactic(auto, using(crate::proofs::Rising::rises_all))]
+pub fn rises<X>(entries: &[(RowId, X)]) -> bool
+    ensures { result ≡ map.is_sorted row_cmp entries.now }
+{
+    let mut before = None;
+    for (row, _) in entries {
+        if !follows(before, *row) {
+            return false;
+        }
+        before = Some(*row);
+    }
+    true
+}

@@ -1,0 +1,52 @@
+//! Places in a history file.
+
+/// A list of a history file whose members begin with a row.
+/// Transactions and their operations are counted from 0, in the order of the file.
+#[derive(Clone, Copy, Debug, PartialEq, Eq)]
+pub enum ListPlace {
+    /// The rows of the initial table.
+    Initial,
+    /// The rows of the table in the end.
+    End,
+    /// The rows with the transactions that installed them.
+    Installed,
+    /// The versions that an operation saw.
+    View { txn: usize, op: usize },
+    /// The rows that an operation listed.
+    Rows { txn: usize, op: usize },
+    /// The rows that an operation wrote.
+    Writes { txn: usize, op: usize },
+}
+
+/// The place of a value in a history file. Members are counted from 0.
+#[derive(Clone, Copy, Debug, PartialEq, Eq)]
+pub enum Path {
+    /// The whole value.
+    Root,
+    /// The name of the format.
+    Format,
+    /// The version of the format.
+    Version,
+    /// A list.
+    List(ListPlace),
+    /// A member of a list.
+    Member(ListPlace, usize),
+    /// A part of a member of a list.
+    Part(ListPlace, usize, usize),
+    /// One of the installers of a row: the member of `installed`, and the place in its inner list.
+    Installer(usize, usize),
+    /// The list of the transactions.
+    Transactions,
+    /// A transaction.
+    Transaction(usize),
+    /// The number of a transaction.
+    Number(usize),
+    /// How a transaction ended.
+    Outcome(usize),
+    /// The list of the operations of a transaction.
+    Operations(usize),
+    /// An operation of a transaction.
+    Operation(usize, usize),
+    /// The statement of an operation of a transaction.
+    Statement(usize, usize),
+}

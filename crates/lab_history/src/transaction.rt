@@ -1,0 +1,156 @@
+//! Transactions, and who installed which rows.
+
+ghost use Rattle.std.specs.Prelude.{◌≡◌, ◌↔◌, T, IsOk, IfOk, IfErr};
+ghost use Rattle.std.specs.Option.{option_copied};
+ghost use Rattle.std.specs.FinMap as map;
+ghost use Rattle.lab_table.specs.Row.{row_cmp};
+
+use crate::keyed::value_of_row;
+use crate::operation::Ops;
+use crate::order::rises;
+use lab_table::{RowId, TxnNo};
+use std::marker::Model;
+
+/// How a transaction ended.
+#[derive(Clone, Copy, Debug, PartialEq, Eq)]
+pub enum Outcome {
+    Committed,
+    Aborted,
+}
+
+/// A transaction.
+#[derive(Drop)]
+pub struct Txn {
+    /// Its number, from 1 to 1,000,000.
+    pub no: TxnNo,
+    /// How it ended.
+    pub outcome: Outcome,
+    /// What it ran, in order.
+    pub ops: Ops,
+}
+
+/// Transactions, in the order of a file.
+#[derive(Drop)]
+pub struct Txns {
+    items: Vec<Txn>,
+}
+
+impl Model for Txns {
+    ghost use Rattle.std.specs.Prelude.{List};
+    ghost use Rattle.std.specs.Coded.{coded_list};
+    ghost use Rattle.lab_history.specs.declared.transaction.Txn.{Txn};
+    ghost use Rattle.lab_history.specs.contracts.transaction.Txn as txn;
+
+    ghost Value = { List Txn };
+
+    ghost coded = { coded_list txn.the_row.coded };
+
+    ghost view = { λ t. t.items.items };
+}
+
+impl Txns {
+    /// These transactions.
+    pub fn new(items: Vec<Txn>) -> Txns
+        ensures { result ≡ items.items }
+    {
+        Txns { items }
+    }
+
+    /// The transactions, in order.
+    pub fn as_slice(&self) -> &[Txn]
+        ensures { result.now ≡ self.now }
+    {
+        &self.items
+    }
+}
+
+/// The transactions that installed a row, in order.
+#[derive(Drop)]
+pub struct Installers {
+    items: Vec<TxnNo>,
+}
+
+impl Model for Installers {
+    ghost use Rattle.std.specs.Prelude.{ℕ, List};
+
+    ghost Value = { List ℕ };
+
+    ghost view = { λ i. i.items.items };
+}
+
+impl Installers {
+    /// These installers.
+    pub fn new(items: Vec<TxnNo>) -> Installers
+        ensures { result ≡ items.items }
+    {
+        Installers { items }
+    }
+
+    /// The numbers of the installers, in order.
+    pub fn as_slice(&self) -> &[TxnNo]
+        ensures { result.now ≡ self.now }
+    {
+        &self.items
+    }
+}
+
+/// The transactions that installed each row, by rising row.
+#[derive(Drop)]
+pub struct Installed {
+    entries: Vec<(RowId, Installers)>,
+}
+
+impl Model for Installed {
+    ghost use Rattle.std.specs.FinMap as map;
+    ghost use Rattle.std.specs.Prelude.{T, ℕ};
+    ghost use Rattle.std.specs.Coded.{coded_ℕ, coded_list};
+    ghost use Rattle.lab_table.specs.Row.{row_cmp, coded_row};
+    ghost use Rattle.lab_history.specs.Installed.{Installed};
+
+    ghost Value = { Installed };
+
+    ghost coded = { map.code coded_row (coded_list coded_ℕ) };
+
+    ghost view = { λ i. map.from_sorted i.entries.items };
+
+    ghost invariant = { λ i. T (map.is_sorted row_cmp i.entries.items) };
+}
+
+impl Installed {
+    /// The installers of these rows, which rise strictly.
+    pub fn new(entries: Vec<(RowId, Installers)>) -> Installed
+        requires { T (map.is_sorted row_cmp entries.items) }
+        ensures { result ≡ map.from_sorted entries.items }
+    {
+        Installed { entries }
+    }
+
+    /// The installers of these rows, or the entries back where their rows don't rise strictly. It takes no memory.
+    pub fn from_entries(
+        entries: Vec<(RowId, Installers)>,
+    ) -> Result<Installed, Vec<(RowId, Installers)>>
+        ensures found { IfOk result (λ made. made ≡ map.from_sorted entries.items) }
+        ensures only { IsOk result ↔ T (map.is_sorted row_cmp entries.items) }
+        ensures back { IfErr result (λ back. back ≡ entries) }
+    {
+        if rises(&entries) {
+            Ok(Installed { entries })
+        } else {
+            Err(entries)
+        }
+    }
+
+    /// The entries, by rising row.
+    pub fn entries(&self) -> &[(RowId, Installers)]
+        ensures { result.now ≡ map.entries self.now }
+    {
+        &self.entries
+    }
+
+    /// The installers of a row, if it has any.
+    pub fn get(&self, row: RowId) -> Option<&Installers>
+        ensures { option_copied result ≡ map.get self.now row }
+    {
+        value_of_row(&self.entries, row)
+    }
+}
