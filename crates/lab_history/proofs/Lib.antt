@@ -33,3 +33,15 @@ pub mod LimitsKept
 pub mod CheckedTxns
 pub mod KeptParts
 pub mod PartsFaults
+pub mod Appended
+pub mod WrittenLists
+pub mod WrittenViews
+pub mod WrittenStates
+pub mod CodeBytes
+pub mod KeptOperations
+pub mod WrittenTrees
+pub mod Keys
+pub mod Counts
+pub mod OpsRead
+pub mod TxnsRead
+pub mod TextFaults

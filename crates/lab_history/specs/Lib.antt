@@ -17,3 +17,6 @@ pub mod Fitting
 pub mod FaultOf
 pub mod Keyed
 pub mod Index
+pub mod Tree
+pub mod PathText
+pub mod FileRead

@@ -20,7 +20,7 @@ use crate::fault::FileFault;
 use crate::operation::{State, VersionName};
 use crate::order::follows;
 use crate::path::{ListPlace, Path};
-use crate::stop::Stop;
+use crate::stop::{Stop, wrong};
 use crate::transaction::Installers;
 use lab_table::{RowId, TxnNo, Value};
 use serde_json::Value as Json;
@@ -78,13 +78,6 @@ fn written_of(json: &Json) -> Option<State>
         Json::Number(_) => Some(State::Present(value_of(json)?)),
         _ => None,
     }
-}
-
-/// A value that isn't of the format.
-fn wrong(path: Path) -> Stop
-    ensures { result ≡ stop.Fault (fault.WrongFormat path) }
-{
-    Stop::Fault(FileFault::WrongFormat { path })
 }
 
 /// What has to be at a place.

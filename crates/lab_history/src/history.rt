@@ -50,6 +50,14 @@ impl History {
         }
     }
 
+    /// Its parts.
+    pub(crate) fn parts(&self) -> &Parts
+        ensures value { result.now ≡ self.now }
+        ensures keeps { Keeps self.now }
+    {
+        &self.parts
+    }
+
     /// Its index.
     pub(crate) fn index(&self) -> &Index
         ensures { IsIndexOf result.now self.now }

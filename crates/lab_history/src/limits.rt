@@ -11,7 +11,7 @@ ghost use Rattle.lab_history.specs.Walked.{with_rows, with_op, with_ops, with_tx
 use crate::fault::{FileFault, Limit};
 use crate::operation::Op;
 use crate::parts::Parts;
-use crate::stop::Stop;
+use crate::stop::{Stop, over};
 use crate::transaction::Txn;
 use lab_table::{NoMemory, RowId};
 use std::alloc::Global;
@@ -35,12 +35,6 @@ pub fn check_limits(alloc: Global, parts: &Parts) -> Result<(), Stop>
         Some(_) => Ok(()),
         None => Err(over(Limit::Entries)),
     }
-}
-
-fn over(which: Limit) -> Stop
-    ensures { result ≡ stop.Fault (fault.OverLimit which) }
-{
-    Stop::Fault(FileFault::OverLimit { which })
 }
 
 fn count_ids(alloc: Global, parts: &Parts) -> Result<usize, NoMemory>

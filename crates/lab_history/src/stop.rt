@@ -1,6 +1,9 @@
 //! Why a part of a file or of a history was not taken.
 
-use crate::fault::FileFault;
+ghost use Rattle.std.specs.Prelude.{◌≡◌};
+
+use crate::fault::{FileFault, Limit};
+use crate::path::Path;
 use std::alloc::{AllocError, AllocFailed};
 
 /// Want of memory stands apart from the faults, since no contract says when it comes.
@@ -41,4 +44,18 @@ impl From<FileFault> for Stop {
     fn from(fault: FileFault) -> Stop {
         Stop::Fault(fault)
     }
+}
+
+/// What stops the reading at a value that isn't of the format.
+pub fn wrong(path: Path) -> Stop
+    ensures { result ≡ Stop.Fault (FileFault.WrongFormat path) }
+{
+    Stop::Fault(FileFault::WrongFormat { path })
+}
+
+/// What stops the reading where there is too much of something.
+pub fn over(which: Limit) -> Stop
+    ensures { result ≡ Stop.Fault (FileFault.OverLimit which) }
+{
+    Stop::Fault(FileFault::OverLimit { which })
 }

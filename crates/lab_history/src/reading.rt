@@ -1,0 +1,148 @@
+//! Reading a history file.
+
+ghost use Rattle.std.specs.Prelude.{◌≡◌, ◌≢◌, ◌⊎◌, ◌≤◌, ◌<◌, length, Ok, Err, Some, None, IfOk, IfErr, MatchResult};
+ghost use Rattle.std.specs.Prelude.{IsUtf8};
+ghost use Rattle.serde_json.specs.View.{view};
+ghost use Rattle.serde_json.specs.Data.{Data};
+ghost use Rattle.serde_json.specs.Read.{read as read_text};
+ghost use Rattle.lab_history.specs.Faults.{Gives};
+ghost use Rattle.lab_history.specs.FaultOf.{IsTrueFault};
+ghost use Rattle.lab_history.specs.FileRead.{ReadsAs};
+ghost use Rattle.lab_history.specs.Format.{format_in, version_in, parts_in, history_in};
+
+mod earlier;
+mod keys;
+mod lists;
+mod operation;
+mod transaction;
+
+use crate::fault::{FileFault, Limit};
+use crate::history::History;
+use crate::limits::check_limits;
+use crate::parts::Parts;
+use crate::path::{ListPlace, Path};
+use crate::stop::{Stop, wrong};
+use crate::transaction::Installed;
+use keys::{has_keys, text_at};
+use lab_table::Table;
+use lists::{installed_at, values_at};
+use serde_json::Value as Json;
+use std::alloc::Global;
+use transaction::txns_of;
+
+/// The most bytes of a history file.
+pub const MAX_FILE_BYTES: usize = 8_388_608;
+
+/// Whether a value is an object that says it is a history file.
+fn check_format(json: &Json) -> Result<(), Stop>
+    ensures { Gives (λ _. tt) result (format_in (view json.now)) }
+{
+    if !json.is_object() {
+        return Err(wrong(Path::Root));
+    }
+    match text_at(json, "format") {
+        Some("hermitage-history") => Ok(()),
+        _ => Err(wrong(Path::Format)),
+    }
+}
+
+/// Whether a value says that it is of version 1 of the format.
+fn check_version(json: &Json) -> Result<(), Stop>
+    ensures { Gives (λ _. tt) result (version_in (view json.now)) }
+{
+    match json.get("version").and_then(Json::as_u64) {
+        Some(1) => Ok(()),
+        Some(number) => Err(Stop::Fault(FileFault::WrongVersion { number })),
+        None => Err(wrong(Path::Version)),
+    }
+}
+
+/// The parts of the history that a value holds.
+fn parts_of(alloc: Global, json: &Json) -> Result<Parts, Stop>
+    ensures { Gives (λ parts. parts) result (parts_in (view json.now)) }
+{
+    check_format(json)?;
+    check_version(json)?;
+    if !has_keys(
+        json,
+        &[
+            "end",
+            "format",
+            "initial",
+            "installed",
+            "transactions",
+            "version",
+        ],
+    ) {
+        return Err(wrong(Path::Root));
+    }
+    let initial = values_at(alloc, json, "initial", ListPlace::Initial)?;
+    let txns = txns_of(alloc, json)?;
+    let installed = installed_at(alloc, json)?;
+    let end = values_at(alloc, json, "end", ListPlace::End)?;
+    Ok(Parts {
+        initial: Table::from_rising(initial),
+        txns,
+        installed: Installed::new(installed),
+        end_table: Table::from_rising(end),
+    })
+}
+
+/// The parts of the history that a file holds. Its value is given back before the limits are looked at.
+fn parts_in_file(alloc: Global, bytes: &[u8]) -> Result<Parts, Stop>
+    ensures { ReadsAs parts_in bytes.now result }
+{
+    match Json::from_slice(alloc, bytes) {
+        Ok(json) => parts_of(alloc, &json),
+        Err(error) => {
+            if error.is_memory() {
+                Err(Stop::NoMemory)
+            } else {
+                Err(Stop::Fault(FileFault::NotJson))
+            }
+        }
+    }
+}
+
+/// The history that a file of any length holds.
+#[tactic(auto, using(crate::proofs::ReadKeeps::read_keeps))]
+fn history_in_file(alloc: Global, bytes: &[u8]) -> Result<History, Stop>
+    ensures { ReadsAs history_in bytes.now result }
+{
+    let parts = parts_in_file(alloc, bytes)?;
+    check_limits(alloc, &parts)?;
+    match History::assembled(alloc, parts) {
+        Ok(history) => Ok(history),
+        Err(_) => Err(Stop::NoMemory),
+    }
+}
+
+/// The history that a file holds, or the first fault in the order of the file: `OverLimit` of its bytes, `NotJson`,
+/// what is wrong with its parts, and at last `OverLimit` of ids and then of entries. `NoMemory` where a growth was
+/// refused.
+#[tactic(auto, using(crate::proofs::TextFaults::no_text_fault, crate::proofs::FaultsAreTrue::fault_is_true))]
+pub fn read_history(alloc: Global, bytes: &[u8]) -> Result<History, FileFault>
+    ensures found { IfOk result (λ history. (d : Data) × IsUtf8 bytes.now × (read_text bytes.now ≡ Some d) × (history_in d ≡ Ok history)) }
+    ensures short { IfOk result (λ history. length bytes.now ≤ 8388608) }
+    ensures only { (d : Data) → length bytes.now ≤ 8388608 → IsUtf8 bytes.now → read_text bytes.now ≡ Some d
+        → MatchResult result (λ history. history_in d ≡ Ok history) (λ fault. (fault ≡ FileFault.NoMemory) ⊎ (history_in d ≡ Err fault)) }
+    ensures bytes { 8388608 < length bytes.now → result ≡ Err (FileFault.OverLimit Limit.Bytes) }
+    ensures not_json { result ≡ Err FileFault.NotJson → (d : Data) → IsUtf8 bytes.now → read_text bytes.now ≢ Some d }
+    ensures true_fault { (d : Data) → length bytes.now ≤ 8388608 → IsUtf8 bytes.now → read_text bytes.now ≡ Some d → IfErr result (λ fault. (fault ≡ FileFault.NoMemory) ⊎ IsTrueFault d fault) }
+    ensures no_text { length bytes.now ≤ 8388608 → ((d : Data) → IsUtf8 bytes.now → read_text bytes.now ≢ Some d)
+        → IfErr result (λ fault. (fault ≡ FileFault.NoMemory) ⊎ (fault ≡ FileFault.NotJson)) }
+{
+    if bytes.len() > MAX_FILE_BYTES {
+        return Err(FileFault::OverLimit {
+            which: Limit::Bytes,
+        });
+    }
+    match history_in_file(alloc, bytes) {
+        Ok(history) => Ok(history),
+        Err(Stop::NoMemory) => Err(FileFault::NoMemory),
+        Err(Stop::Fault(fault)) => Err(fault),
+    }
+}
+
+#[cfg(test)]
+mod tests;

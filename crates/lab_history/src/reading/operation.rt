@@ -1,0 +1,71 @@
+//! The operations of a history file.
+
+ghost use Rattle.std.specs.Prelude.{◌≡◌, ◌≤◌, ◌<◌, length, IfOk};
+ghost use Rattle.serde_json.specs.View.{view, items_view};
+ghost use Rattle.lab_script.specs.StatementText.{statement_in};
+ghost use Rattle.lab_history.specs.Faults.{Gives};
+ghost use Rattle.lab_history.specs.Format.{op_in, ops_from};
+
+use super::keys::{has_keys, text_at};
+use super::lists::{values_at, view_at, writes_at};
+use crate::fault::FileFault;
+use crate::operation::{Op, Ops, Rows, View, Writes};
+use crate::path::{ListPlace, Path};
+use crate::stop::{Stop, wrong};
+use lab_script::{ScriptFault, parse_statement};
+use lab_table::{NoMemory, Statement, TxnNo};
+use serde_json::Value as Json;
+use std::alloc::{AllocError, Global};
+
+/// The statement that a text spells, if it spells one.
+fn statement_of(alloc: Global, text: &str) -> Result<Option<Statement>, NoMemory>
+    ensures { IfOk result (λ statement. statement_in text.now ≡ statement) }
+{
+    match parse_statement(alloc, text.as_bytes()) {
+        Ok(statement) => Ok(Some(statement)),
+        Err(ScriptFault::NoMemory) => Err(AllocError),
+        Err(ScriptFault::At { .. }) => Ok(None),
+    }
+}
+
+/// The operation at a place of the transaction with this place and this number.
+fn op_of(alloc: Global, txn: usize, number: TxnNo, op: usize, json: &Json) -> Result<Op, Stop>
+    requires { op < 10000 }
+    ensures { Gives (λ read. read) result (op_in txn number op (view json.now)) }
+{
+    if !has_keys(json, &["rows", "statement", "view", "writes"]) {
+        return Err(wrong(Path::Operation(txn, op)));
+    }
+    let Some(text) = text_at(json, "statement") else {
+        return Err(wrong(Path::Statement(txn, op)));
+    };
+    let Some(statement) = statement_of(alloc, text)? else {
+        return Err(Stop::Fault(FileFault::BadStatement {
+            txn: number,
+            op: op as u32 + 1,
+        }));
+    };
+    let view = view_at(alloc, json, ListPlace::View { txn, op })?;
+    let rows = values_at(alloc, json, "rows", ListPlace::Rows { txn, op })?;
+    let writes = writes_at(alloc, json, ListPlace::Writes { txn, op })?;
+    Ok(Op {
+        statement,
+        view: View::new(view),
+        rows: Rows::new(rows),
+        writes: Writes::new(writes),
+    })
+}
+
+/// The operations of the transaction with this place and this number.
+#[tactic(auto, using(crate::proofs::OpsRead::op_read, crate::proofs::OpsRead::op_fault, crate::proofs::OpsRead::ops_end))]
+pub fn ops_of(alloc: Global, txn: usize, number: TxnNo, items: &[Json]) -> Result<Ops, Stop>
+    requires { length items.now ≤ 10000 }
+    ensures read { Gives (λ ops. ops) result (ops_from txn number 0 (items_view items.now)) }
+    ensures count { IfOk result (λ ops. length ops ≡ length items.now) }
+{
+    let mut ops = Vec::with_capacity(alloc, items.len())?;
+    for (index, item) in items.iter().enumerate() {
+        ops.push(op_of(alloc, txn, number, index, item)?)?;
+    }
+    Ok(Ops::new(ops))
+}
