@@ -1,0 +1,147 @@
+-- What a session gives, and what the rules answer to it.
+use Rattle.std.proofs.Common.{◌≡◌, ◌≢◌, ℕ, Option, Some, None, ◌⊎◌, inl, inr, List, [], ◌∷◌, length, reverse, ◌<◌, ◌≤◌, sym, ap, subst, ◌∙◌, arith}
+use Rattle.std.proofs.lemmas.List.{length-reverse}
+use Rattle.std.proofs.Common.{refl}
+use Rattle.std.specs.Prelude.{MatchOption, Result, Ok, Err, IfOk, ⊤, Contains, Bool, true, false, ◌==◌}
+use Rattle.std.specs.declared.alloc.AllocError.{AllocError}
+use Rattle.lab_table.specs.Table.{Table, Rows, Writes}
+use Rattle.lab_table.specs.Statement.{listed, written, fails}
+use Rattle.lab_history.specs.VersionName.{View}
+use Rattle.lab_table.specs.declared.statement.Statement.{Statement}
+use Rattle.lab_table.specs.declared.statement.Command.TheVariants.{Run}
+use Rattle.lab_engine.specs.declared.event.Level.{Level}
+use Rattle.lab_engine.specs.declared.event.EngineFault.{EngineFault}
+use Rattle.lab_engine.specs.declared.event.EngineFault.TheVariants.{DuplicateKey, OutOfRange, Deadlock, WriteConflict, NoTransaction, AlreadyBegun, Busy}
+use Rattle.lab_engine.specs.declared.event.Outcome.{Outcome}
+use Rattle.lab_engine.specs.declared.event.Outcome.TheVariants.{Begun, Rows as Listed, Committed, Aborted, Waits, Refused}
+use Rattle.lab_engine.specs.Sight.{Listed as Seen, IsSight, IsFirstConflict, version_in}
+use Rattle.lab_engine.specs.declared.rules.Conflict.{Conflict}
+use Rattle.lab_engine.specs.Effect.{IsEffectOn, IsRefusalOn, IsResultOn}
+use Rattle.lab_engine.specs.WaitsFor.{AreBlockers}
+use Rattle.lab_table.specs.declared.statement.Command.{Command}
+use Rattle.lab_engine.specs.declared.situation.Situation.{Situation}
+use Rattle.lab_engine.specs.declared.situation.RunningTxn.{RunningTxn}
+use Rattle.lab_engine.specs.declared.event.LogEvent.{LogEvent}
+use Rattle.lab_engine.specs.Log.{Past, Version, Txn, past_of, active, waiting, asked, begun}
+use Rattle.lab_engine.specs.Rules.{Gives, MayAsk, Asks, IsFree, IsCircle, IsEffect, MayCommit, in_view}
+use Rattle.lab_engine.specs.Answer.{MayGive, Answers}
+use Rattle.lab_engine.specs.Situation.{Describes, Agree, IsRunning, running_of}
+use Rattle.lab_engine.proofs.Describing.{begun_at_most}
+
+-- a command that runs no statement is given at rest
+at_rest : (past : Past) (session : ℕ) (command : Command) → asked command ≡ None → MayGive past session command → waiting past session ≡ None
+at_rest past session command isnt (inl none) = none
+at_rest past session command isnt (inr held) =
+    let is : asked command ≡ Some held.0 = ap asked held.2 in
+    let clash : None ≡ Some held.0 = sym isnt ∙ is in
+    cc
+
+pub gives : (past : Past) (session : ℕ) (command given : Command) (txn : Txn) → command ≡ given → asked given ≡ None → MayGive past session command → active past session ≡ Some txn
+    → Gives past session command given txn
+gives past session command given txn is isnt may has = record { command_is = is; at_rest = at_rest past session command (ap asked is ∙ isnt) may; active_is = has }
+
+-- a session that gives a statement may ask for it
+pub may_ask : (past : Past) (session : ℕ) (command : Command) (s : Statement) → asked command ≡ Some s → MayGive past session command → MayAsk past session s
+may_ask past session command s is (inl none) = inl none
+may_ask past session command s is (inr held) =
+    let same : Some held.0 ≡ Some s = sym (ap asked held.2) ∙ is in
+    inr (held.1 ∙ same)
+
+-- fewer have begun than there are events
+pub begun_below : (log : List LogEvent) (n : ℕ) → n ≡ begun (past_of log) → length log < 100000 → n < 100000
+begun_below log n is room =
+    let within : begun (past_of log) ≤ length (past_of log) = begun_at_most (past_of log) in
+    let len : length (past_of log) ≡ length log = length-reverse log in
+    omega (arith, within, len, is, room)
+
+-- ---- statements
+
+-- what a search for a circle found
+abbrev Searched : Level → Table → Past → ℕ → Statement → Option (List ℕ) → Type 0
+Searched level setup past session s found = MatchOption found ((circle : List ℕ) → ¬ IsCircle level setup past session s circle) (IsCircle level setup past session s)
+
+-- what holds of each Ok that another thing holds of
+if_ok : {X E : Type 0} (P Q : X → Type 0) (r : Result X E) → ((x : X) → P x → Q x) → IfOk r P → IfOk r Q
+if_ok P Q (Ok x) more p = more x p
+if_ok P Q (Err e) more p = tt
+
+module _ (level : Level) (setup : Table) (past : Past) (session : ℕ) (s : Statement) (txn : Txn) (asks : Asks past session (Run s) s txn) where
+  module _ (free : IsFree level setup past session s) (versions : Seen) (sight : IsSight level setup past txn versions) where
+    effect : (view : View) (rows : Rows) (writes : Writes) → IsEffectOn (version_in versions) s view rows writes → IsEffect level setup past txn s view rows writes
+    effect view rows writes e = record {
+      runs = λ row. ap (λ (v : Version). fails s row v.state) (sym (sight row)) ∙ e.runs row;
+      view_is = λ row. e.view_is row ∙ ap (λ (v : Version). in_view v.name) (sight row);
+      rows_are = λ row. e.rows_are row ∙ ap (λ (v : Version). listed s row v.state) (sight row);
+      writes_are = λ row. e.writes_are row ∙ ap (λ (v : Version). written s row v.state) (sight row);
+    }
+
+    refusal_answers : (fault : EngineFault) → IsRefusalOn (version_in versions) s fault → Answers level setup past session (Run s) (Refused fault)
+    refusal_answers (DuplicateKey row) f =
+        ((s, txn, asks, free, f.0, ap (λ (v : Version). fails s row v.state) (sym (sight row)) ∙ f.1), λ eq. cc)
+    refusal_answers (OutOfRange row) f =
+        ((s, txn, asks, free, f.0, ap (λ (v : Version). fails s row v.state) (sym (sight row)) ∙ f.1,
+          λ other below. ap (λ (v : Version). fails s other v.state) (sym (sight other)) ∙ f.2 other below), λ eq. cc)
+    refusal_answers (Deadlock circle) f = absurd f
+    refusal_answers (WriteConflict row by) f = absurd f
+    refusal_answers NoTransaction f = absurd f
+    refusal_answers AlreadyBegun f = absurd f
+    refusal_answers Busy f = absurd f
+
+    result_answers : (outcome : Outcome) → IsResultOn (version_in versions) s outcome → Answers level setup past session (Run s) outcome
+    result_answers (Begun number) f = absurd f
+    result_answers (Listed view rows writes) f = ((s, txn, asks, free, effect view rows writes f), λ eq. cc)
+    result_answers Committed f = absurd f
+    result_answers Aborted f = absurd f
+    result_answers (Waits on) f = absurd f
+    result_answers (Refused fault) f = refusal_answers fault f
+
+    pub unblocked_answers : (r : Result Outcome AllocError) → IfOk r (IsResultOn (version_in versions) s) → IfOk r (Answers level setup past session (Run s))
+    unblocked_answers r f = if_ok (IsResultOn (version_in versions) s) (Answers level setup past session (Run s)) r result_answers f
+
+  module _ (on : List ℕ) (blockers : AreBlockers level setup past session s on) where
+    -- where nobody blocks it the statement is free
+    pub nobody_blocks : on ≡ [] → IsFree level setup past session s
+    nobody_blocks none other blocked =
+        let has : Contains [] other = subst (λ (l : List ℕ). Contains l other) none ((blockers.are other).1 blocked) in
+        absurd (omega (arith, has.1))
+
+    -- it waits where no circle was found
+    pub waits_answers : on ≢ [] → (found : Option (List ℕ)) → found ≡ None → Searched level setup past session s found → Answers level setup past session (Run s) (Waits on)
+    waits_answers some found is searched =
+        ((s, txn, asks, blockers.rising, blockers.are, some, subst (Searched level setup past session s) is searched), λ eq. cc)
+
+  -- it is refused where one was
+  pub deadlock_answers : (circle : List ℕ) (found : Option (List ℕ)) → found ≡ Some circle → Searched level setup past session s found
+      → Answers level setup past session (Run s) (Refused (Deadlock circle))
+  deadlock_answers circle found is searched = ((s, txn, asks, subst (Searched level setup past session s) is searched), λ eq. cc)
+
+-- a session with an active transaction asks for a statement that it may ask for
+pub asking : {past : Past} {session : ℕ} (s : Statement) (txn : Txn) → MayAsk past session s → active past session ≡ Some txn → Asks past session (Run s) s txn
+asking s txn may has = record { command_is = refl; may_ask = may; active_is = has }
+
+-- a list that is empty, and one that isn't, by what is_empty says of it
+pub none_empty : (shown xs : List ℕ) → shown ≡ xs → true ≡ (length shown == 0) → xs ≡ []
+none_empty shown [] same is = refl
+none_empty shown (x ∷ xs) same is = let len : length shown ≡ length (x ∷ xs) = ap length same in grind (arith, len, is)
+
+pub some_empty : (shown xs : List ℕ) → shown ≡ xs → (length shown == 0) ≡ false → xs ≢ []
+some_empty shown xs same is none = let len : length shown ≡ length {A = ℕ} [] = ap length (same ∙ none) in grind (arith, len, is)
+
+-- what the rules say of a commit, where they found no conflict and where they found one
+abbrev Looked : Level → Past → Txn → Option Conflict → Type 0
+Looked level past txn found = MatchOption found (MayCommit level past txn) (IsFirstConflict level past txn)
+
+pub conflict_none : (level : Level) (past : Past) (txn : Txn) (r : Result (Option Conflict) AllocError) (found : Option Conflict) → r ≡ Ok found → found ≡ None
+    → IfOk r (Looked level past txn) → MayCommit level past txn
+conflict_none level past txn r found ok none looked =
+    subst (Looked level past txn) none (subst (λ (x : Result (Option Conflict) AllocError). IfOk x (Looked level past txn)) ok looked)
+
+pub conflict_some : (level : Level) (past : Past) (txn : Txn) (r : Result (Option Conflict) AllocError) (found : Option Conflict) (conflict : Conflict) → r ≡ Ok found → found ≡ Some conflict
+    → IfOk r (Looked level past txn) → IsFirstConflict level past txn conflict
+conflict_some level past txn r found conflict ok some looked =
+    subst (Looked level past txn) some (subst (λ (x : Result (Option Conflict) AllocError). IfOk x (Looked level past txn)) ok looked)
+
+-- what is answered to a statement is answered to the command that runs it
+pub ran : (level : Level) (setup : Table) (past : Past) (session : ℕ) (r : Result Outcome AllocError) (command given : Command) → command ≡ given
+    → IfOk r (Answers level setup past session given) → IfOk r (Answers level setup past session command)
+ran level setup past session r command given is ok = subst (λ (c : Command). IfOk r (Answers level setup past session c)) (sym is) ok

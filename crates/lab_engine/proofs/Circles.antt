@@ -1,0 +1,107 @@
+-- Circles of sessions, each blocked by the next, as walks along the graph of who waits for whom.
+use Rattle.std.proofs.Common.{◌≡◌, ℕ, suc, refl, sym, subst, ◌∙◌, arith, Bool, true, false, List, [], ◌∷◌, inl, inr}
+use Rattle.std.specs.Prelude.{IsTrue, Option, Some, None, Result, Ok, Err, IfOk, IfSome, MatchOption, Contains}
+use Rattle.std.proofs.lemmas.Bool.{both_ways, cases_eq}
+use Rattle.lab_table.specs.Table.{Table}
+use Rattle.lab_table.specs.declared.statement.Statement.{Statement}
+use Rattle.lab_engine.specs.declared.event.Level.{Level}
+use Rattle.lab_engine.specs.declared.waits.Wait.{Wait}
+use Rattle.lab_engine.specs.Log.{Past, waiting}
+use Rattle.lab_engine.specs.Rules.{BlockedBy, IsChain, IsCircle, MayAsk}
+use Rattle.lab_engine.specs.Recording.{IsRetryable}
+use Rattle.lab_engine.specs.WaitsFor.{waits_for, IsWalk, IsRound, WaitsOn, AreWaits, AreWaitsWith}
+use Rattle.lab_engine.specs.Released.{IsReleased}
+use Rattle.lab_engine.proofs.Locks.{some_same}
+use Rattle.lab_engine.proofs.Waiting.{asked_is}
+
+-- a walk begins with a step
+first_step : (waits : List Wait) (session : ℕ) (rest : List ℕ) (goal : ℕ) → IsWalk waits session rest goal → (other : ℕ) × IsTrue (waits_for waits session other)
+first_step waits session [] goal walk = (goal, walk)
+first_step waits session (next ∷ rest) goal (first, walk) = (next, first)
+
+-- a walk is a chain where each on it waits for those that the graph has
+chain_of : (level : Level) (setup : Table) (past : Past) (waits : List Wait) (goal : ℕ) (rest : List ℕ) (waiter : ℕ) (asked : Statement)
+    → ((next : ℕ) → Contains rest next → (other : ℕ) → IsTrue (waits_for waits next other) → WaitsOn level setup past next other)
+    → ((other : ℕ) → IsTrue (waits_for waits waiter other) → BlockedBy level setup past waiter asked other)
+    → IsWalk waits waiter rest goal → IsChain level setup past waiter asked rest goal
+chain_of level setup past waits goal [] waiter asked on own walk = own goal walk
+chain_of level setup past waits goal (next ∷ rest) waiter asked on own (first, walk) =
+    let step : (other : ℕ) × IsTrue (waits_for waits next other) = first_step waits next rest goal walk in
+    let here : Contains (next ∷ rest) next = (0, omega arith, refl) in
+    let held : WaitsOn level setup past next step.0 = on next here step.0 step.1 in (
+      own next first,
+      held.0,
+      held.1,
+      chain_of level setup past waits goal rest next held.0 (λ k c. on k (suc c.0, omega arith, c.2))
+          (λ other w. let o : WaitsOn level setup past next other = on next here other w in subst (λ t. BlockedBy level setup past next t other) (some_same o.0 held.0 (sym o.1 ∙ held.1)) o.2) walk,
+    )
+
+-- a chain is a walk where the graph has whom each on it waits for
+walk_of : (level : Level) (setup : Table) (past : Past) (waits : List Wait) (goal : ℕ) (rest : List ℕ) (waiter : ℕ) (asked : Statement)
+    → ((next : ℕ) (s : Statement) → waiting past next ≡ Some s → (other : ℕ) → BlockedBy level setup past next s other → IsTrue (waits_for waits next other))
+    → ((other : ℕ) → BlockedBy level setup past waiter asked other → IsTrue (waits_for waits waiter other))
+    → IsChain level setup past waiter asked rest goal → IsWalk waits waiter rest goal
+walk_of level setup past waits goal [] waiter asked all own chain = own goal chain
+walk_of level setup past waits goal (next ∷ rest) waiter asked all own (b, s, is, chain) = (own next b, walk_of level setup past waits goal rest next s all (all next s is) chain)
+
+-- a round of the graph with what a session asks for is a circle
+round_circle : (level : Level) (setup : Table) (past : Past) (waits : List Wait) (session : ℕ) (s : Statement) → AreWaitsWith level setup past session s waits
+    → (circle : List ℕ) → IsRound waits session circle → IsCircle level setup past session s circle
+round_circle level setup past waits session s h [] round = round
+round_circle level setup past waits session s h (first ∷ rest) (own, walk, avoids) = (
+  own,
+  chain_of level setup past waits session rest session s
+      (λ next c other. (h.1 next other (λ same. avoids (subst (Contains rest) same c))).0) (λ other. (h.0 other).0) walk,
+)
+
+-- a circle is a walk of it
+circle_walk : (level : Level) (setup : Table) (past : Past) (waits : List Wait) (session : ℕ) (s : Statement) → AreWaitsWith level setup past session s waits → MayAsk past session s
+    → (circle : List ℕ) → IsCircle level setup past session s circle → (rest : List ℕ) × IsWalk waits session rest session
+circle_walk level setup past waits session s h may [] circle = absurd circle
+circle_walk level setup past waits session s h may (first ∷ rest) (own, chain) = (rest, walk_of level setup past waits session rest session s all (λ other. (h.0 other).1) chain)
+  where
+    all : (next : ℕ) (t : Statement) → waiting past next ≡ Some t → (other : ℕ) → BlockedBy level setup past next t other → IsTrue (waits_for waits next other)
+    all next t is other b = elim (cases_eq next session) [
+      | inl same ↦ subst (λ k. IsTrue (waits_for waits k other)) (sym same)
+          ((h.0 other).1 (subst (λ u. BlockedBy level setup past session u other) (asked_is past session s t may (subst (λ k. waiting past k ≡ Some t) same is)) (subst (λ k. BlockedBy level setup past k t other) same b)))
+      | inr apart ↦ (h.1 next other apart).1 (t, is, b)
+    ]
+
+-- what a search of the graph says of a deadlock
+pub deadlock_is : {E : Type 0} (level : Level) (setup : Table) (past : Past) (waits : List Wait) (session : ℕ) (s : Statement) → AreWaitsWith level setup past session s waits → MayAsk past session s
+    → (result : Result (Option (List ℕ)) E) → IfOk result (λ found. IfSome found (IsRound waits session)) → IfOk result (λ found. found ≡ None → (rest : List ℕ) → ¬ IsWalk waits session rest session)
+    → IfOk result (λ found. MatchOption found ((circle : List ℕ) → ¬ IsCircle level setup past session s circle) (IsCircle level setup past session s))
+deadlock_is level setup past waits session s h may (Ok (Some circle)) found none = round_circle level setup past waits session s h circle found
+deadlock_is level setup past waits session s h may (Ok None) found none = λ circle c. let w = circle_walk level setup past waits session s h may circle c in none refl w.0 w.1
+deadlock_is level setup past waits session s h may (Err e) found none = tt
+
+-- a waiting session that is released is retryable
+pub released_retryable : (level : Level) (setup : Table) (past : Past) (waits : List Wait) (session : ℕ) (s : Statement) → AreWaits level setup past waits → waiting past session ≡ Some s
+    → IsReleased waits session → IsRetryable level setup past session
+released_retryable level setup past waits session s h is (inl nobody) = (s, is, inl (λ other b. both_ways _ (nobody other) ((h session other).1 (s, is, b))))
+released_retryable level setup past waits session s h is (inr (rest, walk)) = (
+  s,
+  is,
+  inr (
+    session ∷ rest,
+    (
+      refl,
+      chain_of level setup past waits session rest session s (λ next c other. (h next other).0)
+          (λ other w. let held = (h session other).0 w in subst (λ t. BlockedBy level setup past session t other) (some_same held.0 s (sym held.1 ∙ is)) held.2) walk,
+    ),
+  ),
+)
+
+-- a retryable session is released
+pub retryable_released : (level : Level) (setup : Table) (past : Past) (waits : List Wait) (session : ℕ) → AreWaits level setup past waits → IsRetryable level setup past session → IsReleased waits session
+retryable_released level setup past waits session h (s, is, inl free) = inl nobody
+  where
+    at : (other : ℕ) (b : Bool) → waits_for waits session other ≡ b → b ≡ false
+    at other true q = let held = (h session other).0 q in absurd (free other (subst (λ t. BlockedBy level setup past session t other) (some_same held.0 s (sym held.1 ∙ is)) held.2))
+    at other false q = refl
+
+    nobody : (other : ℕ) → waits_for waits session other ≡ false
+    nobody other = at other (waits_for waits session other) refl
+retryable_released level setup past waits session h (s, is, inr ([], c)) = absurd c
+retryable_released level setup past waits session h (s, is, inr (first ∷ rest, c)) =
+    inr (rest, walk_of level setup past waits session rest session s (λ next t waits_with other b. (h next other).1 (t, waits_with, b)) (λ other b. (h session other).1 (s, is, b)) c.1)

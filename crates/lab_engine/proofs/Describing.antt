@@ -1,0 +1,207 @@
+-- What a situation says of sessions, rows and numbers.
+use Rattle.std.proofs.Common.{◌≡◌, ◌≢◌, ℕ, zero, suc, ◌+◌, ◌≤◌, ◌<◌, true, false, cond, List, [], ◌∷◌, map, length, Option, Some, None, refl, sym, ap, subst, ◌∙◌, arith, inl, inr, Contains, IsSome, option_map, ◌==◌, T}
+use Rattle.std.specs.Prelude.{⊤}
+use Rattle.std.proofs.lemmas.Bool.Decides.{eqb_tells}
+use Rattle.std.proofs.lemmas.List.{length-map, length-reverse}
+use Rattle.std.specs.FinMap as map
+use Rattle.std.specs.FinMap.{empty, get-empty}
+use Rattle.lab_table.specs.Row.{Row, row_cmp}
+use Rattle.lab_table.specs.Table.{Rows, Writes}
+use Rattle.lab_table.specs.declared.statement.Statement.{Statement}
+use Rattle.lab_table.specs.declared.statement.Command.{Command}
+use Rattle.lab_table.specs.declared.statement.Command.TheVariants.{Begin, Commit, Abort, Run}
+use Rattle.lab_history.specs.VersionName.{View}
+use Rattle.lab_history.specs.declared.operation.Op.{Op}
+use Rattle.lab_engine.specs.declared.event.Outcome.{Outcome}
+use Rattle.lab_engine.specs.declared.event.Outcome.TheVariants.{Begun, Rows as Listed, Committed, Aborted, Waits, Refused}
+use Rattle.lab_engine.specs.declared.event.LogEvent.{LogEvent}
+use Rattle.lab_engine.specs.declared.situation.RunningTxn.{RunningTxn}
+use Rattle.lab_engine.specs.declared.situation.SessionState.{SessionState}
+use Rattle.lab_engine.specs.declared.situation.Situation.{Situation}
+use Rattle.lab_engine.specs.Log.{Past, Txn, active, active_after, ops_after, is_fatal, asked, waiting, waiting_after, begun, begun_after, commits, last_installed}
+use Rattle.lab_engine.proofs.Locks.{some_same}
+use Rattle.lab_engine.specs.Situation.{Describes, DescribesSession, DescribesAll, Agree, IsRunning, HasRoom, all_sessions, running_of, grown}
+
+-- an active transaction, if any, has run at most so many operations
+abbrev AtMost : ℕ → Option Txn → Type 0
+AtMost n None = ⊤
+AtMost n (Some txn) = length txn.ops ≤ n
+
+more : (n : ℕ) (txn : Option Txn) → AtMost n txn → AtMost (suc n) txn
+more n None h = tt
+more n (Some txn) h = omega arith
+
+ran_one : (command : Command) (view : View) (rows : Rows) (writes : Writes) (n : ℕ) (txn : Option Txn) → AtMost n txn
+    → AtMost (suc n) (option_map (λ t. record { no = t.no; ops = ops_after command view rows writes t.ops; before = t.before }) txn)
+ran_one command view rows writes n None h = tt
+ran_one Begin view rows writes n (Some txn) h = omega arith
+ran_one Commit view rows writes n (Some txn) h = omega arith
+ran_one Abort view rows writes n (Some txn) h = omega arith
+ran_one (Run s) view rows writes n (Some txn) h = omega arith
+
+after_one : (command : Command) (outcome : Outcome) (past : Past) (n : ℕ) (txn : Option Txn) → AtMost n txn → AtMost (suc n) (active_after command outcome past txn)
+after_one command (Begun number) past n txn h = omega arith
+after_one command (Listed view rows writes) past n txn h = ran_one command view rows writes n txn h
+after_one command Committed past n txn h = tt
+after_one command Aborted past n txn h = tt
+after_one command (Waits on) past n txn h = more n txn h
+after_one command (Refused fault) past n txn h = elim (is_fatal fault) as (λ b. AtMost (suc n) (cond b None txn)) [ true ↦ tt | false ↦ more n txn h ]
+
+at_most : (past : Past) (session : ℕ) → AtMost (length past) (active past session)
+at_most [] session = tt
+at_most (event ∷ past) session =
+    elim (event.session == session) as (λ b. AtMost (suc (length past)) (cond b (active_after event.command event.outcome past (active past session)) (active past session))) [
+      | true ↦ after_one event.command event.outcome past (length past) (active past session) (at_most past session)
+      | false ↦ more (length past) (active past session) (at_most past session)
+    ]
+
+-- an active transaction has run at most as many operations as there were events
+pub ops_at_most : (past : Past) (session : ℕ) (txn : Txn) → active past session ≡ Some txn → length txn.ops ≤ length past
+ops_at_most past session txn is = subst (λ t. AtMost (length past) t) is (at_most past session)
+
+begun_more : (outcome : Outcome) (b n : ℕ) → b ≤ n → begun_after outcome b ≤ suc n
+begun_more (Begun number) b n h = omega arith
+begun_more (Listed view rows writes) b n h = omega arith
+begun_more Committed b n h = omega arith
+begun_more Aborted b n h = omega arith
+begun_more (Waits on) b n h = omega arith
+begun_more (Refused fault) b n h = omega arith
+
+-- at most as many transactions have begun as there were events
+pub begun_at_most : (past : Past) → begun past ≤ length past
+begun_at_most [] = omega arith
+begun_at_most (event ∷ past) = begun_more event.outcome (begun past) (length past) (begun_at_most past)
+
+-- as many statements are kept of a transaction as it ran operations
+pub statements_length : (txn : Txn) (running : RunningTxn) → IsRunning txn running → length running.statements.items ≡ length txn.ops
+statements_length txn running is =
+    sym (length-map running.statements.items (λ s. s.now)) ∙ ap length is.statements ∙ length-reverse (map (λ op. op.statement) txn.ops) ∙ length-map txn.ops (λ op. op.statement)
+
+room : (n : ℕ) (txn : Option Txn) (running : Option RunningTxn) → Agree txn running → AtMost n txn → n < 100000 → HasRoom running
+room n txn None agree most few = tt
+room n None (Some running) agree most few = absurd agree
+room n (Some txn) (Some running) agree most few = let same = statements_length txn running agree in omega (arith, same, most, few)
+
+-- what is kept of a session has room for one more statement
+pub has_room : (past : Past) (state : SessionState) → DescribesSession past state → length past < 100000 → HasRoom state.running
+has_room past state is few = room (length past) (active past state.session) state.running is.running (at_most past state.session) few
+
+-- a transaction that begins
+pub begins_running : (past : Past) (number before : ℕ) (running : RunningTxn) → running.number ≡ number → running.before ≡ length past → running.statements.items ≡ [] → running.last ≡ empty
+    → IsRunning (record { no = number; ops = []; before = past }) running
+begins_running past number before running is_number is_before none last_is = record {
+  number = is_number;
+  before = is_before;
+  statements = ap (map (λ s. s.now)) none;
+  last = λ row. ap (λ m. map.get m row) last_is ∙ get-empty row_cmp row;
+}
+
+-- an operation of a statement is one more where the command runs it
+pub ops_run : (command : Command) (s : Statement) (view : View) (rows : Rows) (writes : Writes) (txn : Txn) → asked command ≡ Some s
+    → grown txn (record { statement = s; view = view; rows = rows; writes = writes }) ≡ record { no = txn.no; ops = ops_after command view rows writes txn.ops; before = txn.before }
+ops_run Begin s view rows writes txn h = cc
+ops_run Commit s view rows writes txn h = cc
+ops_run Abort s view rows writes txn h = cc
+ops_run (Run t) s view rows writes txn h = ap (λ o. grown txn (record { statement = o; view = view; rows = rows; writes = writes })) (sym (some_same t s h))
+
+-- a transaction that runs a statement
+pub runs_agree : (command : Command) (s : Statement) (view : View) (rows : Rows) (writes : Writes) (txn : Option Txn) (before : Option RunningTxn) (old new : RunningTxn) → asked command ≡ Some s
+    → before ≡ Some old → Agree txn before → ((t : Txn) (op : Op) → IsRunning t old → op.statement ≡ s → op.writes ≡ writes → IsRunning (grown t op) new)
+    → Agree (option_map (λ t. record { no = t.no; ops = ops_after command view rows writes t.ops; before = t.before }) txn) (Some new)
+runs_agree command s view rows writes txn before old new asks is agree run = at txn (subst (λ r. Agree txn r) is agree)
+  where
+    at : (txn : Option Txn) → Agree txn (Some old) → Agree (option_map (λ t. record { no = t.no; ops = ops_after command view rows writes t.ops; before = t.before }) txn) (Some new)
+    at None agree = agree
+    at (Some t) agree = subst (λ k. IsRunning k new) (ops_run command s view rows writes t asks) (run t (record { statement = s; view = view; rows = rows; writes = writes }) agree refl refl)
+
+no_txn : (txn : Option Txn) → ¬ IsSome txn → Agree txn None
+no_txn None h = tt
+no_txn (Some txn) h = absurd (h refl)
+
+not_first : (x y : ℕ) (xs : List ℕ) → x ≢ y → Contains (x ∷ xs) y → Contains xs y
+not_first x y xs apart (zero, few, is) = absurd (apart is)
+not_first x y xs apart (suc k, few, is) = (k, omega arith, is)
+
+agrees_in : (past : Past) (states : List SessionState) (session : ℕ) → DescribesAll past states → (IsSome (active past session) → Contains (map (λ state. state.session) states) session)
+    → Agree (active past session) (running_of states session)
+agrees_in past [] session all there = no_txn (active past session) (λ some. absurd (omega (arith, (there some).1)))
+agrees_in past (state ∷ states) session all there = elim (eqb_tells state.session session) [
+  | inl p ↦ subst (λ b. Agree (active past session) (cond b state.running (running_of states session))) (sym p.0) (subst (λ n. Agree (active past n) state.running) p.1 all.0.running)
+  | inr p ↦ subst (λ b. Agree (active past session) (cond b state.running (running_of states session))) (sym p.0)
+      (agrees_in past states session all.1 (λ some. not_first state.session session (map (λ state. state.session) states) p.1 (there some)))
+]
+
+-- what a situation keeps of a session's transaction agrees with it
+pub running_agrees : (past : Past) (situation : Situation) → Describes past situation → (session : ℕ) → Agree (active past session) (running_of situation.sessions.items session)
+running_agrees past situation is session =
+    agrees_in past situation.sessions.items session is.states (λ some. subst (λ l. Contains l session) (sym is.sessions) (is.active_is session some))
+
+kept_txn : (txn : Option Txn) (running : RunningTxn) → Agree txn (Some running) → (t : Txn) × (txn ≡ Some t) × IsRunning t running
+kept_txn None running agree = absurd agree
+kept_txn (Some t) running agree = (t, refl, agree)
+
+kept_none : (txn : Option Txn) → Agree txn None → txn ≡ None
+kept_none None agree = refl
+kept_none (Some t) agree = absurd agree
+
+kept_some : (txn : Txn) (running : Option RunningTxn) → Agree (Some txn) running → (r : RunningTxn) × (running ≡ Some r) × IsRunning txn r
+kept_some txn None agree = absurd agree
+kept_some txn (Some r) agree = (r, refl, agree)
+
+-- where one is kept, the session has an active transaction
+pub running_txn : (past : Past) (situation : Situation) → Describes past situation → (session : ℕ) (running : RunningTxn) → running_of situation.sessions.items session ≡ Some running
+    → (txn : Txn) × (active past session ≡ Some txn) × IsRunning txn running
+running_txn past situation is session running kept = kept_txn (active past session) running (subst (λ r. Agree (active past session) r) kept (running_agrees past situation is session))
+
+-- where none is kept, it has none
+pub running_none : (past : Past) (situation : Situation) → Describes past situation → (session : ℕ) → running_of situation.sessions.items session ≡ None → active past session ≡ None
+running_none past situation is session kept = kept_none (active past session) (subst (λ r. Agree (active past session) r) kept (running_agrees past situation is session))
+
+-- an active transaction is kept
+pub txn_running : (past : Past) (situation : Situation) → Describes past situation → (session : ℕ) (txn : Txn) → active past session ≡ Some txn
+    → (running : RunningTxn) × (running_of situation.sessions.items session ≡ Some running) × IsRunning txn running
+txn_running past situation is session txn act =
+    kept_some txn (running_of situation.sessions.items session) (subst (λ t. Agree t (running_of situation.sessions.items session)) act (running_agrees past situation is session))
+
+-- nobody else becomes active by an event
+active_in : (past : Past) (event : LogEvent) → Contains all_sessions event.session → ((session : ℕ) → IsSome (active past session) → Contains all_sessions session)
+    → (session : ℕ) → IsSome (active (event ∷ past) session) → Contains all_sessions session
+active_in past event own before session some = elim (eqb_tells event.session session) [
+  | inl p ↦ subst (λ n. Contains all_sessions n) p.1 own
+  | inr p ↦ before session (subst (λ b. IsSome (cond b (active_after event.command event.outcome past (active past session)) (active past session))) p.0 some)
+]
+
+-- nobody else waits after an event
+waiting_in : (past : Past) (event : LogEvent) → Contains all_sessions event.session → ((session : ℕ) → IsSome (waiting past session) → Contains all_sessions session)
+    → (session : ℕ) → IsSome (waiting (event ∷ past) session) → Contains all_sessions session
+waiting_in past event own before session some = elim (eqb_tells event.session session) [
+  | inl p ↦ subst (λ n. Contains all_sessions n) p.1 own
+  | inr p ↦ before session (subst (λ b. IsSome (cond b (waiting_after event.command event.outcome (waiting past session)) (waiting past session))) p.0 some)
+]
+
+-- a situation goes on by an event where its parts do
+pub goes_on : (past : Past) (event : LogEvent) (old new : Situation) → Describes past old → Contains all_sessions event.session → map (λ state. state.session) new.sessions.items ≡ all_sessions
+    → DescribesAll (event ∷ past) new.sessions.items → ((row : Row) → map.get new.committed row ≡ last_installed (commits (event ∷ past)) row)
+    → new.begun ≡ begun_after event.outcome old.begun → new.events ≡ old.events + 1 → Describes (event ∷ past) new
+goes_on past event old new is own sessions states committed begins counted = record {
+  sessions = sessions;
+  states = states;
+  active_is = active_in past event own is.active_is;
+  waiting_is = waiting_in past event own is.waiting_is;
+  committed = committed;
+  begun = begins ∙ ap (begun_after event.outcome) is.begun;
+  events = let before = is.events in omega (arith, counted, before);
+}
+
+-- the situation before any event
+pub starts : (situation : Situation) → map (λ state. state.session) situation.sessions.items ≡ all_sessions → DescribesAll [] situation.sessions.items → situation.committed ≡ empty → situation.begun ≡ 0 → situation.events ≡ 0
+    → Describes [] situation
+starts situation sessions states none begins counted = record {
+  sessions = sessions;
+  states = states;
+  active_is = λ session some. absurd (subst T (sym some) tt);
+  waiting_is = λ session some. absurd (subst T (sym some) tt);
+  committed = λ row. ap (λ m. map.get m row) none ∙ get-empty row_cmp row;
+  begun = begins;
+  events = counted;
+}

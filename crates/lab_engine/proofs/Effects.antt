@@ -1,0 +1,302 @@
+-- What is made of each row that is seen, row by row, and which row keeps a statement from running.
+use Rattle.std.proofs.Common.{◌≡◌, ◌∙◌, refl, sym, ap, subst, ℤ, Bool, true, false, cond, not, ◌&&◌, ◌||◌, T, List, [], ◌∷◌, ◌⊎◌, inl, inr}
+use Rattle.std.specs.Prelude.{Option, Some, None, option_map, option_and_then, unwrap_or}
+use Rattle.std.specs.List.{cons_option, list_any}
+use Rattle.std.specs.Ordering.{is_lt, ordering_reverse}
+use Rattle.std.specs.declared.cmp.Ordering.{Ordering}
+use Rattle.std.specs.declared.cmp.Ordering.TheVariants.{Less, Equal, Greater}
+use Rattle.std.proofs.lemmas.Bool.{true≢false}
+use Rattle.std.specs.FinMap.{FinMap, find, is_sorted, get, entries, entries_sorted, get-entries, from_sorted, get-from_sorted}
+use Rattle.std.specs.FinMap.Entries.{below_all}
+use Rattle.lab_table.specs.Row.{Row, row_cmp, row_eq, rows_total}
+use Rattle.lab_table.specs.Table.{State, Rows}
+use Rattle.lab_table.specs.Statement.{where_holds, listed, written, fails, overflows, applied, in_range, apply}
+use Rattle.lab_table.specs.Predicate.{Predicate}
+use Rattle.lab_table.specs.declared.statement.Expr.{Expr}
+use Rattle.lab_table.specs.declared.statement.Statement.{Statement}
+use Rattle.lab_table.specs.declared.statement.Statement.TheVariants.{Select, Update, Insert, Delete}
+use Rattle.lab_table.proofs.Maps.{both, same_row, row_eq_self, find_below}
+use Rattle.lab_history.specs.VersionName.{View, state_value, new_states}
+use Rattle.lab_history.specs.declared.operation.VersionName.{VersionName}
+use Rattle.lab_history.specs.declared.operation.State.{State as Left}
+use Rattle.lab_history.specs.declared.operation.State.TheVariants.{Absent, Present}
+use Rattle.lab_engine.specs.Log.{Version}
+use Rattle.lab_engine.specs.Rules.{in_view, IsBelow, IsUpdate}
+use Rattle.lab_engine.specs.Sight.{Listed, version_in}
+use Rattle.lab_engine.specs.EachRow.{with_row, each_row, value_rewritten, rewritten, first_failing}
+use Rattle.lab_engine.specs.Effect.{IsEffectFault}
+use Rattle.lab_engine.specs.declared.effect.EffectFault.TheVariants.{OutOfRange}
+use Rattle.lab_engine.proofs.Locks.{none_some, some_same}
+use Rattle.lab_engine.proofs.Holding.{absent, none_of_any, behind}
+
+-- two tests that hold
+joined : (a b : Bool) → T a → T b → T (a && b)
+joined true b p q = q
+joined false b p q = p
+
+module _ {A B : Type 0} (f : Row → A → Option B) where
+  below_each : (x : Row) (es : List (Row × A)) → T (below_all row_cmp x es) → T (below_all row_cmp x (each_row f es))
+  below_each x [] h = tt
+  below_each x (e ∷ es) h =
+      let parts = both (is_lt (row_cmp x e.0)) (below_all row_cmp x es) h in
+      let rest = below_each x es parts.1 in
+      elim (f e.0 e.1) as (λ o. T (below_all row_cmp x (cons_option (with_row e.0 o) (each_row f es)))) [
+        | None ↦ rest
+        | Some b ↦ joined (is_lt (row_cmp x e.0)) (below_all row_cmp x (each_row f es)) parts.0 rest
+      ]
+
+  -- what is made of each row of a sorted list is sorted
+  pub sorted_each : (es : List (Row × A)) → T (is_sorted row_cmp es) → T (is_sorted row_cmp (each_row f es))
+  sorted_each [] h = tt
+  sorted_each (e ∷ es) h =
+      let parts = both (below_all row_cmp e.0 es) (is_sorted row_cmp es) h in
+      let rest = sorted_each es parts.1 in
+      elim (f e.0 e.1) as (λ o. T (is_sorted row_cmp (cons_option (with_row e.0 o) (each_row f es)))) [
+        | None ↦ rest
+        | Some b ↦ joined (below_all row_cmp e.0 (each_row f es)) (is_sorted row_cmp (each_row f es)) (below_each e.0 es parts.0) rest
+      ]
+
+  -- the row of an entry is found with what is made of it
+  find_own : (q : Row) (e : Row × A) (rest : List (Row × B)) → row_eq q e.0 ≡ true → find row_cmp q rest ≡ None → (o : Option B) → find row_cmp q (cons_option (with_row e.0 o) rest) ≡ o
+  find_own q e rest own none None = none
+  find_own q e rest own none (Some b) = ap (λ t. cond t (Some b) (find row_cmp q rest)) own
+
+  -- another row is found among the rest
+  find_other : (q : Row) (e : Row × A) (rest : List (Row × B)) → row_eq q e.0 ≡ false → (o : Option B) → find row_cmp q (cons_option (with_row e.0 o) rest) ≡ find row_cmp q rest
+  find_other q e rest other None = refl
+  find_other q e rest other (Some b) = ap (λ t. cond t (Some b) (find row_cmp q rest)) other
+
+  -- a row is found with what is made of what it was found with
+  find_each : (q : Row) (es : List (Row × A)) → T (is_sorted row_cmp es) → find row_cmp q (each_row f es) ≡ option_and_then (f q) (find row_cmp q es)
+  find_each q [] h = refl
+  find_each q (e ∷ es) h =
+      let parts = both (below_all row_cmp e.0 es) (is_sorted row_cmp es) h in
+      let rest = find_each q es parts.1 in
+      elim (row_eq q e.0) as (λ t. row_eq q e.0 ≡ t → find row_cmp q (each_row f (e ∷ es)) ≡ option_and_then (f q) (cond t (Some e.1) (find row_cmp q es))) [
+        | true ↦ λ t.
+            let same : q ≡ e.0 = same_row q e.0 t in
+            let none : find row_cmp q es ≡ None = find_below q es (subst (λ x. T (below_all row_cmp x es)) (sym same) parts.0) in
+            find_own q e (each_row f es) t (rest ∙ ap (option_and_then (f q)) none) (f e.0 e.1) ∙ ap (λ x. f x e.1) (sym same)
+        | false ↦ λ t. find_other q e (each_row f es) t (f e.0 e.1) ∙ rest
+      ] refl
+
+  -- the map of what is made of each row, row by row
+  pub get_each : (m : FinMap row_cmp A) (q : Row) → get (from_sorted {R = row_cmp} (each_row f (entries m))) q ≡ option_and_then (f q) (get m q)
+  get_each m q =
+      get-from_sorted row_cmp (each_row f (entries m)) q (sorted_each (entries m) (entries_sorted m))
+      ∙ find_each q (entries m) (entries_sorted m) ∙ ap (option_and_then (f q)) (sym (get-entries m q))
+
+-- new states as the code has them, made of each row
+pub states_of_each : {A : Type 0} (f : Row → A → Option Left) (es : List (Row × A)) → new_states (each_row f es) ≡ each_row (λ row v. option_map state_value (f row v)) es
+states_of_each f [] = refl
+states_of_each {A} f (e ∷ es) = at (f e.0 e.1) (states_of_each f es)
+  where
+    at : (o : Option Left) → new_states (each_row f es) ≡ each_row (λ row v. option_map state_value (f row v)) es
+        → new_states (cons_option (with_row e.0 o) (each_row f es)) ≡ cons_option (with_row e.0 (option_map state_value o)) (each_row (λ row v. option_map state_value (f row v)) es)
+    at None rest = rest
+    at (Some left) rest = ap (λ es'. (e.0, state_value left) ∷ es') rest
+
+-- what a view names is what is seen
+named : (o : Option Version) → option_and_then (λ (v : Version). in_view v.name) o ≡ in_view (unwrap_or o absent).name
+named None = refl
+named (Some v) = refl
+
+-- an absent row isn't listed
+unlisted : (s : Statement) (q : Row) → listed s q None ≡ None
+unlisted (Select pred) q = refl
+unlisted (Update expr pred) q = refl
+unlisted (Insert id new) q = refl
+unlisted (Delete pred) q = refl
+
+-- what is listed is listed of what is seen
+listed_is : (s : Statement) (q : Row) (o : Option Version) → option_and_then (λ (v : Version). listed s q v.state) o ≡ listed s q (unwrap_or o absent).state
+listed_is s q None = sym (unlisted s q)
+listed_is s q (Some v) = refl
+
+-- a list that is made of each row of a map is sorted
+pub sorted_made : {A B : Type 0} (f : Row → A → Option B) (m : FinMap row_cmp A) (es : List (Row × A)) (items : List (Row × B)) → es ≡ entries m → items ≡ each_row f es → T (is_sorted row_cmp items)
+sorted_made f m es items of_map made = subst (λ k. T (is_sorted row_cmp k)) (sym (made ∙ ap (each_row f) of_map)) (sorted_each f (entries m) (entries_sorted m))
+
+-- the view of what is seen
+pub view_made : (m : Listed) (es : List (Row × Version)) (items : List (Row × VersionName)) (view : View) → es ≡ entries m → items ≡ each_row (λ row (v : Version). in_view v.name) es
+    → view ≡ from_sorted items → (q : Row) → get view q ≡ in_view (version_in m q).name
+view_made m es items view of_map made is q =
+    ap (λ k. get k q) (is ∙ ap (λ k. from_sorted {R = row_cmp} k) (made ∙ ap (each_row (λ row (v : Version). in_view v.name)) of_map))
+    ∙ get_each (λ row (v : Version). in_view v.name) m q ∙ named (get m q)
+
+-- the rows that a statement lists
+pub rows_made : (s : Statement) (m : Listed) (es : List (Row × Version)) (items : List (Row × ℤ)) (rows : Rows) → es ≡ entries m → items ≡ each_row (λ row (v : Version). listed s row v.state) es
+    → rows ≡ from_sorted items → (q : Row) → get rows q ≡ listed s q (version_in m q).state
+rows_made s m es items rows of_map made is q =
+    ap (λ k. get k q) (is ∙ ap (λ k. from_sorted {R = row_cmp} k) (made ∙ ap (each_row (λ row (v : Version). listed s row v.state)) of_map))
+    ∙ get_each (λ row (v : Version). listed s row v.state) m q ∙ listed_is s q (get m q)
+
+-- a result in range is what is written
+fits_alike : (new : ℤ) (fits : Bool) → not fits ≡ false → option_map state_value (option_map (λ value. Present value) (cond fits (Some new) None)) ≡ Some (Some new)
+fits_alike new true h = refl
+fits_alike new false h = absurd (true≢false h)
+
+updated_alike : (expr : Expr) (old : ℤ) (selected : Bool) → overflows expr (cond selected (Some old) None) ≡ false
+    → option_map state_value (cond selected (option_map (λ value. Present value) (apply expr old)) None) ≡ option_map (λ old. Some (applied expr old)) (cond selected (Some old) None)
+updated_alike expr old true h = fits_alike (applied expr old) (in_range (applied expr old)) h
+updated_alike expr old false h = refl
+
+-- the state of a row that was deleted
+abbrev gone : State
+gone = None
+
+deleted_alike : (old : ℤ) (selected : Bool) → option_map state_value (cond selected (Some Absent) None) ≡ option_map (λ (old : ℤ). gone) (cond selected (Some old) None)
+deleted_alike old true = refl
+deleted_alike old false = refl
+
+-- a statement rewrites a row as it writes it, and doesn't write an absent one
+record Rewrites (s : Statement) : Type 0 where
+  present : (q : Row) (old : ℤ) → fails s q (Some old) ≡ false → option_map state_value (value_rewritten s q old) ≡ written s q (Some old)
+  absent_one : (q : Row) → written s q None ≡ None
+
+update_rewrites : (expr : Expr) (pred : Option Predicate) → Rewrites (Update expr pred)
+update_rewrites expr pred = record { present = λ q old h. updated_alike expr old (where_holds pred q old) h; absent_one = λ q. refl }
+
+delete_rewrites : (pred : Option Predicate) → Rewrites (Delete pred)
+delete_rewrites pred = record { present = λ q old h. deleted_alike old (where_holds pred q old); absent_one = λ q. refl }
+
+rewrites_state : (s : Statement) → Rewrites s → (q : Row) (state : State) → fails s q state ≡ false → option_map state_value (rewritten s q state) ≡ written s q state
+rewrites_state s all q None h = sym (all.absent_one q)
+rewrites_state s all q (Some old) h = all.present q old h
+
+rewrites_seen : (s : Statement) → Rewrites s → (q : Row) (o : Option Version) → fails s q (unwrap_or o absent).state ≡ false
+    → option_and_then (λ (v : Version). option_map state_value (rewritten s q v.state)) o ≡ written s q (unwrap_or o absent).state
+rewrites_seen s all q None h = sym (all.absent_one q)
+rewrites_seen s all q (Some v) h = rewrites_state s all q v.state h
+
+-- new states as the code has them: sorted, and those that a statement writes of the rows seen, if none of these keeps it from running
+pub record AreWritten (s : Statement) (m : Listed) (items : List (Row × Left)) : Type 0 where
+  pub sorted : T (is_sorted row_cmp (new_states items))
+  pub found : ((q : Row) → fails s q (version_in m q).state ≡ false) → (q : Row) → find row_cmp q (new_states items) ≡ written s q (version_in m q).state
+
+states_made : (s : Statement) → Rewrites s → (m : Listed) (es : List (Row × Version)) (items : List (Row × Left)) → es ≡ entries m → items ≡ each_row (λ row (v : Version). rewritten s row v.state) es
+    → AreWritten s m items
+states_made s all m es items of_map made =
+    let f : Row → Version → Option Left = λ row v. rewritten s row v.state in
+    let g : Row → Version → Option State = λ row v. option_map state_value (rewritten s row v.state) in
+    let same : new_states items ≡ each_row g (entries m) = ap new_states (made ∙ ap (each_row f) of_map) ∙ states_of_each f (entries m) in
+    record {
+      sorted = subst (λ k. T (is_sorted row_cmp k)) (sym same) (sorted_each g (entries m) (entries_sorted m));
+      found = λ runs q.
+          ap (find row_cmp q) same ∙ find_each g q (entries m) (entries_sorted m) ∙ ap (option_and_then (g q)) (sym (get-entries m q))
+          ∙ rewrites_seen s all q (get m q) (runs q);
+    }
+
+-- what an update writes
+pub update_made : (s : Statement) (expr : Expr) (pred : Option Predicate) (m : Listed) (es : List (Row × Version)) (items : List (Row × Left)) → s ≡ Update expr pred
+    → es ≡ entries m → items ≡ each_row (λ row (v : Version). rewritten s row v.state) es → AreWritten s m items
+update_made s expr pred m es items is of_map made = states_made s (subst Rewrites (sym is) (update_rewrites expr pred)) m es items of_map made
+
+-- what a delete writes
+pub delete_made : (s : Statement) (pred : Option Predicate) (m : Listed) (es : List (Row × Version)) (items : List (Row × Left)) → s ≡ Delete pred
+    → es ≡ entries m → items ≡ each_row (λ row (v : Version). rewritten s row v.state) es → AreWritten s m items
+delete_made s pred m es items is of_map made = states_made s (subst Rewrites (sym is) (delete_rewrites pred)) m es items of_map made
+
+-- where none fails, a test of all finds none
+none_failing : (s : Statement) (es : List (Row × Version)) → first_failing s es ≡ None → list_any (λ e. fails s e.0 e.1.state) es ≡ false
+none_failing s [] h = refl
+none_failing s (e ∷ es) h =
+    elim (fails s e.0 e.1.state) as (λ b. cond b (Some e.0) (first_failing s es) ≡ None → (b || list_any (λ e. fails s e.0 e.1.state) es) ≡ false) [
+      | true ↦ λ is. none_some _ (sym is)
+      | false ↦ λ is. none_failing s es is
+    ] h
+
+-- a test for less
+is_less : (r : Ordering) → T (is_lt r) → r ≡ Less
+is_less Less h = refl
+is_less Equal h = absurd h
+is_less Greater h = absurd h
+
+-- a row that is found behind a row that is below all comes after that
+after_found : (x : Row) (es : List (Row × Version)) (q : Row) (v : Version) → T (below_all row_cmp x es) → find row_cmp q es ≡ Some v → row_cmp x q ≡ Less
+after_found x [] q v below h = none_some _ h
+after_found x (e ∷ es) q v below h =
+    let parts = both (is_lt (row_cmp x e.0)) (below_all row_cmp x es) below in
+    elim (row_eq q e.0) as (λ t. row_eq q e.0 ≡ t → cond t (Some e.1) (find row_cmp q es) ≡ Some v → row_cmp x q ≡ Less) [
+      | true ↦ λ t is. ap (row_cmp x) (same_row q e.0 t) ∙ is_less (row_cmp x e.0) parts.0
+      | false ↦ λ t is. after_found x es q v parts.1 is
+    ] refl h
+
+-- two rows aren't each below the other
+not_both_ways : {P : Type 0} (a b : Row) → row_cmp a b ≡ Less → row_cmp b a ≡ Less → P
+not_both_ways a b p q = absurd (subst (λ r. T (is_lt r)) (sym p ∙ rows_total.antisymm a b ∙ ap ordering_reverse q) tt)
+
+-- a row fails, and none below it
+record IsFirst (s : Statement) (at : Row → Option Version) (row : Row) : Type 0 where
+  version : Version
+  found : at row ≡ Some version
+  fails_there : fails s row version.state ≡ true
+  before : (other : Row) (u : Version) → IsBelow other row → at other ≡ Some u → fails s other u.state ≡ false
+
+first_is : (s : Statement) (es : List (Row × Version)) (row : Row) → T (is_sorted row_cmp es) → first_failing s es ≡ Some row → IsFirst s (λ q. find row_cmp q es) row
+first_is s [] row h first = none_some _ first
+first_is s (e ∷ es) row h first = at (first_is s es row parts.1) (fails s e.0 e.1.state) refl first
+  where
+    parts : T (below_all row_cmp e.0 es) × T (is_sorted row_cmp es)
+    parts = both (below_all row_cmp e.0 es) (is_sorted row_cmp es) h
+
+    -- what is found is the first entry's, or behind it
+    found_either : (q : Row) (u : Version) → find row_cmp q (e ∷ es) ≡ Some u → ((q ≡ e.0) × (e.1 ≡ u)) ⊎ (find row_cmp q es ≡ Some u)
+    found_either q u is = elim (row_eq q e.0) as (λ t. row_eq q e.0 ≡ t → cond t (Some e.1) (find row_cmp q es) ≡ Some u → ((q ≡ e.0) × (e.1 ≡ u)) ⊎ (find row_cmp q es ≡ Some u)) [
+      | true ↦ λ t own. inl (same_row q e.0 t, some_same e.1 u own)
+      | false ↦ λ t rest. inr rest
+    ] refl is
+
+    at : (first_failing s es ≡ Some row → IsFirst s (λ q. find row_cmp q es) row) → (b : Bool) → fails s e.0 e.1.state ≡ b
+        → cond b (Some e.0) (first_failing s es) ≡ Some row → IsFirst s (λ q. find row_cmp q (e ∷ es)) row
+    at later true f is = subst (IsFirst s (λ q. find row_cmp q (e ∷ es))) (some_same e.0 row is) (record {
+      version = e.1;
+      found = ap (λ t. cond t (Some e.1) (find row_cmp e.0 es)) (row_eq_self e.0);
+      fails_there = f;
+      before = λ other u below is. elim (found_either other u is) [
+        | inl own ↦ not_both_ways e.0 e.0 (subst (λ k. row_cmp k e.0 ≡ Less) own.0 below) (subst (λ k. row_cmp k e.0 ≡ Less) own.0 below)
+        | inr rest ↦ not_both_ways other e.0 below (after_found e.0 es other u parts.0 rest)
+      ];
+    })
+    at later false f is =
+        let rest = later is in
+        record {
+          version = rest.version;
+          found = behind e es row rest.version parts.0 rest.found;
+          fails_there = rest.fails_there;
+          before = λ other u below is. elim (found_either other u is) [
+            | inl own ↦ subst (λ k. fails s k u.state ≡ false) (sym own.0) (subst (λ (k : Version). fails s e.0 k.state ≡ false) own.1 f)
+            | inr there ↦ rest.before other u below there
+          ];
+        }
+
+module _ (s : Statement) (m : Listed) (es : List (Row × Version)) (of_map : es ≡ entries m) (nothing : (q : Row) → fails s q None ≡ false) where
+  -- where no row that is seen fails, none does
+  runs_all : first_failing s es ≡ None → (q : Row) → fails s q (version_in m q).state ≡ false
+  runs_all none q = at (get m q) refl
+    where
+      at : (o : Option Version) → get m q ≡ o → fails s q (unwrap_or o absent).state ≡ false
+      at None is = nothing q
+      at (Some v) is = none_of_any (λ e. fails s e.0 e.1.state) m (none_failing s (entries m) (ap (first_failing s) (sym of_map) ∙ none)) q v is
+
+  -- the first row that fails
+  fails_first : (row : Row) → first_failing s es ≡ Some row → (fails s row (version_in m row).state ≡ true) × ((other : Row) → IsBelow other row → fails s other (version_in m other).state ≡ false)
+  fails_first row first =
+      let f = first_is s (entries m) row (entries_sorted m) (ap (first_failing s) (sym of_map) ∙ first) in
+      (ap (λ o. fails s row (unwrap_or o absent).state) (get-entries m row ∙ f.found) ∙ f.fails_there, λ other below. at f other below (get m other) refl)
+    where
+      at : IsFirst s (λ q. find row_cmp q (entries m)) row → (other : Row) → IsBelow other row → (o : Option Version) → get m other ≡ o → fails s other (unwrap_or o absent).state ≡ false
+      at f other below None is = nothing other
+      at f other below (Some u) is = f.before other u below (sym (get-entries m other) ∙ is)
+
+-- an update runs where no row that is seen fails
+pub update_runs : (s : Statement) (expr : Expr) (pred : Option Predicate) (m : Listed) (es : List (Row × Version)) → s ≡ Update expr pred → es ≡ entries m
+    → first_failing s es ≡ None → (q : Row) → fails s q (version_in m q).state ≡ false
+update_runs s expr pred m es is of_map none = runs_all s m es of_map (λ q. ap (λ k. fails k q None) is) none
+
+-- else the first such row is named
+pub update_fails : (s : Statement) (expr : Expr) (pred : Option Predicate) (m : Listed) (es : List (Row × Version)) (row : Row) → s ≡ Update expr pred → es ≡ entries m
+    → first_failing s es ≡ Some row → IsEffectFault (version_in m) s (OutOfRange row)
+update_fails s expr pred m es row is of_map first =
+    let f = fails_first s m es of_map (λ q. ap (λ k. fails k q None) is) row first in
+    (subst IsUpdate (sym is) tt, f.0, f.1)

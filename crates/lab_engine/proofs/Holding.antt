@@ -1,0 +1,95 @@
+-- What a test of the entries of a map of rows says row by row, and pending writes of rows that a statement would write.
+use Rattle.std.proofs.Common.{◌≡◌, ◌∙◌, refl, sym, ap, subst, Bool, true, false, cond, ◌||◌, T, List, [], ◌∷◌, map, reverse, inl, inr}
+use Rattle.std.specs.Prelude.{Option, Some, None, is_some, IsSome}
+use Rattle.std.specs.List.{list_any}
+use Rattle.std.proofs.lemmas.Bool.{or_cases, or_parts, true≢false}
+use Rattle.std.proofs.lemmas.List.Sorted.{list_any-IsPermutation, IsPermutation-reverse}
+use Rattle.std.specs.FinMap.{FinMap, find, is_sorted, get, entries, entries_sorted, get-entries}
+use Rattle.std.specs.FinMap.Entries.{below_all}
+use Rattle.lab_table.specs.Row.{Row, row_cmp, row_eq}
+use Rattle.lab_table.specs.Table.{Table, State}
+use Rattle.lab_table.specs.Statement.{matches}
+use Rattle.lab_table.specs.declared.statement.Statement.{Statement}
+use Rattle.lab_table.proofs.Maps.{both, same_row, row_eq_self, find_below}
+use Rattle.lab_history.specs.declared.operation.Op.{Op}
+use Rattle.lab_history.specs.declared.operation.VersionName.TheVariants.{Initial}
+use Rattle.lab_engine.specs.declared.event.Level.{Level}
+use Rattle.lab_engine.specs.Log.{Past, Version, Txn, version_by, has_read}
+use Rattle.lab_engine.specs.Rules.{would_write, HoldsWrite}
+use Rattle.lab_engine.specs.Sight.{Listed, version_in, IsSight}
+use Rattle.lab_engine.specs.Pending.{writes_over}
+use Rattle.lab_engine.proofs.Locks.{none_some, some_same}
+
+-- the version of a row that is absent from the start
+abbrev pub absent : Version
+absent = record { name = Initial; state = None }
+
+-- an entry of which a test holds
+abbrev pub Found : {A : Type 0} → (Row × A → Bool) → (Row → Option A) → Type 0
+Found {A} p at = (row : Row) × (v : A) × (at row ≡ Some v) × (p (row, v) ≡ true)
+
+-- a row that is found behind an entry that is below the others isn't that entry's
+pub behind : {A : Type 0} (e : Row × A) (es : List (Row × A)) (row : Row) (v : A) → T (below_all row_cmp e.0 es) → find row_cmp row es ≡ Some v → find row_cmp row (e ∷ es) ≡ Some v
+behind {A} e es row v below h =
+    elim (row_eq row e.0) as (λ b. row_eq row e.0 ≡ b → cond b (Some e.1) (find row_cmp row es) ≡ Some v) [
+      | true ↦ λ t. none_some _ (sym (find_below row es (subst (λ x. T (below_all row_cmp x es)) (sym (same_row row e.0 t)) below)) ∙ h)
+      | false ↦ λ t. h
+    ] refl
+
+found_in : {A : Type 0} (p : Row × A → Bool) (es : List (Row × A)) → T (is_sorted row_cmp es) → list_any p es ≡ true → Found p (λ row. find row_cmp row es)
+found_in p [] h any = absurd (true≢false (sym any))
+found_in {A} p (e ∷ es) h any =
+    let parts = both (below_all row_cmp e.0 es) (is_sorted row_cmp es) h in
+    elim (or_cases (p e) (list_any p es) any) [
+      | inl here ↦ (e.0, e.1, ap (λ b. cond b (Some e.1) (find row_cmp e.0 es)) (row_eq_self e.0), here)
+      | inr there ↦ let f = found_in p es parts.1 there in (f.0, f.1, behind e es f.0 f.1 parts.0 f.2, f.3)
+    ]
+
+none_in : {A : Type 0} (p : Row × A → Bool) (es : List (Row × A)) → list_any p es ≡ false → (row : Row) (v : A) → find row_cmp row es ≡ Some v → p (row, v) ≡ false
+none_in p [] any row v h = none_some _ h
+none_in {A} p (e ∷ es) any row v h =
+    let parts = or_parts (p e) (list_any p es) any in
+    elim (row_eq row e.0) as (λ b. row_eq row e.0 ≡ b → cond b (Some e.1) (find row_cmp row es) ≡ Some v → p (row, v) ≡ false) [
+      | true ↦ λ t is. ap p (λ i. (same_row row e.0 t i, sym (some_same e.1 v is) i)) ∙ parts.0
+      | false ↦ λ t is. none_in p es parts.1 row v is
+    ] refl h
+
+-- a test that holds of an entry holds of a row and what the map has of it
+pub found_of_any : {A : Type 0} (p : Row × A → Bool) (m : FinMap row_cmp A) → list_any p (entries m) ≡ true → Found p (get m)
+found_of_any p m any =
+    let f = found_in p (entries m) (entries_sorted m) any in
+    (f.0, f.1, get-entries m f.0 ∙ f.2, f.3)
+
+-- a test that holds of no entry holds of no row and what the map has of it
+pub none_of_any : {A : Type 0} (p : Row × A → Bool) (m : FinMap row_cmp A) → list_any p (entries m) ≡ false → (row : Row) (v : A) → get m row ≡ Some v → p (row, v) ≡ false
+none_of_any p m any row v h = none_in p (entries m) any row v (sym (get-entries m row) ∙ h)
+
+-- operations have read what one of their statements matches
+any-read : (ops : List Op) (row : Row) (state : State) → list_any (λ s. matches s row state) (map (λ op. op.statement) ops) ≡ has_read ops row state
+any-read [] row state = refl
+any-read (op ∷ ops) row state = ap (λ b. matches op.statement row state || b) (any-read ops row state)
+
+-- in whichever order they stand
+pub any_read : (statements : List Statement) (ops : List Op) (row : Row) (state : State) → statements ≡ reverse (map (λ op. op.statement) ops) → list_any (λ s. matches s row state) statements ≡ has_read ops row state
+any_read statements ops row state same =
+    ap (list_any (λ s. matches s row state)) same
+    ∙ sym (list_any-IsPermutation (λ s. matches s row state) (map (λ op. op.statement) ops) (reverse (map (λ op. op.statement) ops)) (IsPermutation-reverse (map (λ op. op.statement) ops)))
+    ∙ any-read ops row state
+
+module _ (level : Level) (setup : Table) (past : Past) (asker : Txn) (sees : Listed) (sight : IsSight level setup past asker sees)
+    (s : Statement) (holder : Txn) (pending : Listed) (last : (row : Row) → get pending row ≡ version_by holder row) where
+  -- the transaction has a pending write of a row that the statement would write
+  pub holds_write : writes_over sees s pending ≡ true → HoldsWrite level setup past asker s holder
+  holds_write any =
+      let f = found_of_any (λ entry. would_write s entry.0 (version_in sees entry.0).state) pending any in
+      (f.0, ap is_some (sym (last f.0) ∙ f.2), ap (λ v. would_write s f.0 v.state) (sym (sight f.0)) ∙ f.3)
+
+  -- the transaction has none
+  pub holds_no_write : writes_over sees s pending ≡ false → ¬ HoldsWrite level setup past asker s holder
+  holds_no_write any (row, wrote, writes) =
+      at (version_by holder row) refl wrote
+    where
+      at : (own : Option Version) → version_by holder row ≡ own → IsSome own → ⊥
+      at None is some = absurd (true≢false (sym some))
+      at (Some v) is some = true≢false (sym writes ∙ ap (λ u. would_write s row u.state) (sym (sight row))
+          ∙ none_of_any (λ entry. would_write s entry.0 (version_in sees entry.0).state) pending any row v (last row ∙ is))

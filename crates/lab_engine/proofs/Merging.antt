@@ -1,0 +1,294 @@
+-- Sorted lists of rows with their versions: one entry put into them, and two of them merged.
+use Rattle.std.proofs.Common.{◌≡◌, ℕ, zero, suc, ◌+◌, ℤ, Bool, true, false, cond, ◌&&◌, T, List, [], ◌∷◌, ◌++◌, map, take, drop, Option, Some, None, refl, sym, ap, ◌∙◌, subst, slice_get, slice_set, ◌==◌, option_map, append_assoc}
+use Rattle.std.specs.Bool.{⊤}
+use Rattle.std.specs.Option.{option_or}
+use Rattle.std.specs.List.{prefix_len, insert as insert_at}
+use Rattle.std.specs.Ordering.{is_eq, is_lt, is_gt}
+use Rattle.std.specs.declared.cmp.Ordering.{Ordering}
+use Rattle.std.specs.declared.cmp.Ordering.TheVariants.{Less, Equal, Greater}
+use Rattle.std.specs.FinMap.{find, is_sorted, get, from_sorted, insert, put, entries, same_entries_map, entries-insert, entries-from_sorted, get-entries, get-from_sorted, get-insert}
+use Rattle.std.specs.FinMap.Entries.{below_all, by_order, is_sorted-put, find-put}
+use Rattle.lab_table.specs.Row.{Row, row_cmp, row_eq, rows_total, rows_apart, rows_tested}
+use Rattle.lab_table.specs.Table.{Table, State, Writes}
+use Rattle.lab_history.specs.VersionName.{new_states}
+use Rattle.lab_history.specs.declared.operation.State.{State as Written}
+use Rattle.lab_history.specs.declared.operation.VersionName.{VersionName}
+use Rattle.lab_history.specs.declared.operation.VersionName.TheVariants.{Initial}
+use Rattle.lab_table.proofs.Maps.{both, find_below, find-map, same_row}
+use Rattle.lab_engine.specs.Log.{Version}
+use Rattle.lab_engine.specs.Sight.{Listed, comes_after, listed_version}
+use Rattle.lab_engine.specs.Merging.{initial_entry, written_entry, written_version, is_row, is_row_at, merged, without_row, insert_each}
+use Rattle.lab_engine.proofs.Searching.{next, less, turned, turned_back, lower}
+
+-- rows with their versions
+abbrev pub Entries : Type 0
+Entries = List (Row × Version)
+
+-- both of two tests
+and : (a b : Bool) → T a → T b → T (a && b)
+and true b p q = q
+and false b p q = p
+
+-- nothing is both true and not
+never : (P : Type 0) → false ≡ true → P
+never P h = absurd (subst T (sym h) tt)
+
+-- a row tests as the one that it is
+is_own : (a b : Row) (r : Ordering) → row_cmp a b ≡ r → (a == b) ≡ is_eq r
+is_own a b r q = rows_tested a b ∙ ap is_eq q
+
+-- what is below all is so whatever is made of the values
+below-map : {A B : Type 0} (f : A → B) (x : Row) (es : List (Row × A)) → T (below_all row_cmp x es) → T (below_all row_cmp x (map (λ (e : Row × A). (e.0, f e.1)) es))
+below-map f x [] h = tt
+below-map f x (e ∷ es) h = let parts = both (is_lt (row_cmp x e.0)) (below_all row_cmp x es) h in and _ _ parts.0 (below-map f x es parts.1)
+
+-- a sorted list stays sorted whatever is made of the values
+sorted-map : {A B : Type 0} (f : A → B) (es : List (Row × A)) → T (is_sorted row_cmp es) → T (is_sorted row_cmp (map (λ (e : Row × A). (e.0, f e.1)) es))
+sorted-map f [] h = tt
+sorted-map f (e ∷ es) h = let parts = both (below_all row_cmp e.0 es) (is_sorted row_cmp es) h in and _ _ (below-map f e.0 es parts.0) (sorted-map f es parts.1)
+
+-- the initial version of a row's value
+initial : ℤ → Version
+initial value = record { name = Initial; state = Some value }
+
+listed_as : (o : State) → option_map initial o ≡ listed_version o
+unfolding initial
+listed_as None = refl
+listed_as (Some value) = refl
+
+-- the initial versions of a table's rows are in order
+pub initial_sorted : (es : List (Row × ℤ)) (made : Entries) → T (is_sorted row_cmp es) → made ≡ map initial_entry es → T (is_sorted row_cmp made)
+unfolding initial
+initial_sorted es made h is = subst (λ l. T (is_sorted row_cmp l)) (sym is) (sorted-map initial es h)
+
+-- they are what the table lists
+pub initial_found : (table : Table) (made : Entries) (row : Row) → T (is_sorted row_cmp made) → made ≡ map initial_entry (entries table) → get (from_sorted {R = row_cmp} made) row ≡ listed_version (get table row)
+unfolding initial
+initial_found table made row h is =
+    get-from_sorted row_cmp made row h ∙ ap (find row_cmp row) is ∙ find-map initial row (entries table)
+    ∙ ap (option_map initial) (sym (get-entries table row)) ∙ listed_as (get table row)
+
+-- the version of this name, in a state
+named : VersionName → State → Version
+named name state = record { name = name; state = state }
+
+written_as : (name : VersionName) (o : Option State) → option_map (named name) o ≡ written_version name o
+unfolding named
+written_as name None = refl
+written_as name (Some state) = refl
+
+-- written rows with their versions, by their new states
+written_states : (name : VersionName) (writes : List (Row × Written)) → map (written_entry name) writes ≡ map (λ (e : Row × State). (e.0, named name e.1)) (new_states writes)
+unfolding named
+written_states name [] = refl
+written_states name (e ∷ es) = ap (λ l. written_entry name e ∷ l) (written_states name es)
+
+-- written rows with their versions are in order
+pub written_sorted : (name : VersionName) (writes : List (Row × Written)) (made : Entries) → T (is_sorted row_cmp (new_states writes)) → made ≡ map (written_entry name) writes → T (is_sorted row_cmp made)
+written_sorted name writes made h is = subst (λ l. T (is_sorted row_cmp l)) (sym (is ∙ written_states name writes)) (sorted-map (named name) (new_states writes) h)
+
+-- they are what was written
+pub written_found : (name : VersionName) (all : Writes) (writes : List (Row × Written)) (made : Entries) (row : Row) → new_states writes ≡ entries all → T (is_sorted row_cmp made)
+    → made ≡ map (written_entry name) writes → get (from_sorted {R = row_cmp} made) row ≡ written_version name (get all row)
+written_found name all writes made row states h is =
+    get-from_sorted row_cmp made row h ∙ ap (find row_cmp row) (is ∙ written_states name writes) ∙ find-map (named name) row (new_states writes)
+    ∙ ap (option_map (named name)) (ap (find row_cmp row) states ∙ sym (get-entries all row)) ∙ written_as name (get all row)
+
+-- a version in the place of the row's own
+pub replaced : (row : Row) (v : Version) (es : Entries) → is_row_at es (prefix_len (comes_after row) es) row ≡ true → slice_set es (prefix_len (comes_after row) es) (row, v) ≡ put row_cmp row v es
+replaced row v [] h = never _ h
+replaced row v (e ∷ es) h = at (λ own. replaced row v es own) (row_cmp row e.0) refl h
+  where
+    at : (is_row_at es (prefix_len (comes_after row) es) row ≡ true → slice_set es (prefix_len (comes_after row) es) (row, v) ≡ put row_cmp row v es)
+        → (r : Ordering) → row_cmp row e.0 ≡ r → is_row row (slice_get (e ∷ es) (cond (is_gt r) (1 + prefix_len (comes_after row) es) 0)) ≡ true
+        → slice_set (e ∷ es) (cond (is_gt r) (1 + prefix_len (comes_after row) es) 0) (row, v) ≡ by_order r ((row, v) ∷ e ∷ es) ((e.0, v) ∷ es) (e ∷ put row_cmp row v es)
+    at rest Less q own = never _ (sym (is_own row e.0 Less q) ∙ own)
+    at rest Equal q own = ap (λ k. (k, v) ∷ es) (rows_apart row e.0 q)
+    at rest Greater q own =
+        let step = next (prefix_len (comes_after row) es) in
+        ap (λ n. slice_set (e ∷ es) n (row, v)) step ∙ ap (λ l. e ∷ l) (rest (sym (ap (λ n. is_row row (slice_get (e ∷ es) n)) step) ∙ own))
+
+-- a version before those that come after the row, none of which is its own
+pub inserted : (row : Row) (v : Version) (es : Entries) → is_row_at es (prefix_len (comes_after row) es) row ≡ false
+    → take (prefix_len (comes_after row) es) es ++ (row, v) ∷ drop (prefix_len (comes_after row) es) es ≡ put row_cmp row v es
+inserted row v [] h = refl
+inserted row v (e ∷ es) h = at (λ own. inserted row v es own) (row_cmp row e.0) refl h
+  where
+    at : (is_row_at es (prefix_len (comes_after row) es) row ≡ false → take (prefix_len (comes_after row) es) es ++ (row, v) ∷ drop (prefix_len (comes_after row) es) es ≡ put row_cmp row v es)
+        → (r : Ordering) → row_cmp row e.0 ≡ r → is_row row (slice_get (e ∷ es) (cond (is_gt r) (1 + prefix_len (comes_after row) es) 0)) ≡ false
+        → take (cond (is_gt r) (1 + prefix_len (comes_after row) es) 0) (e ∷ es) ++ (row, v) ∷ drop (cond (is_gt r) (1 + prefix_len (comes_after row) es) 0) (e ∷ es)
+        ≡ by_order r ((row, v) ∷ e ∷ es) ((e.0, v) ∷ es) (e ∷ put row_cmp row v es)
+    at rest Less q own = refl
+    at rest Equal q own = never _ (sym own ∙ is_own row e.0 Equal q)
+    at rest Greater q own =
+        let step = next (prefix_len (comes_after row) es) in
+        ap (λ n. take n (e ∷ es) ++ (row, v) ∷ drop n (e ∷ es)) step
+        ∙ ap (λ l. e ∷ l) (rest (sym (ap (λ n. is_row row (slice_get (e ∷ es) n)) step) ∙ own))
+
+-- the entries with the one that was put are in order
+pub put_sorted : (row : Row) (v : Version) (es news : Entries) → T (is_sorted row_cmp es) → news ≡ put row_cmp row v es → T (is_sorted row_cmp news)
+put_sorted row v es news h is = subst (λ l. T (is_sorted row_cmp l)) (sym is) (is_sorted-put row_cmp rows_total row v es h)
+
+-- they are the map with that entry
+pub put_map : (row : Row) (v : Version) (es news : Entries) (old : Listed) → T (is_sorted row_cmp es) → from_sorted es ≡ old → news ≡ put row_cmp row v es → from_sorted {R = row_cmp} news ≡ insert old row v
+put_map row v es news old h view is =
+    same_entries_map _ _ (
+    entries-from_sorted row_cmp news (put_sorted row v es news h is) ∙ is
+    ∙ sym (entries-insert rows_total (from_sorted es) row v ∙ ap (put row_cmp row v) (entries-from_sorted row_cmp es h))
+    )
+    ∙ ap (λ m. insert m row v) view
+
+-- a version before those that come after the row, in the place of the row's own if it is there
+split : (row : Row) (v : Version) (es : Entries) → take (prefix_len (comes_after row) es) es ++ (row, v) ∷ without_row row (drop (prefix_len (comes_after row) es) es) ≡ put row_cmp row v es
+split row v [] = refl
+split row v (e ∷ es) = at (split row v es) (row_cmp row e.0) refl
+  where
+    at : take (prefix_len (comes_after row) es) es ++ (row, v) ∷ without_row row (drop (prefix_len (comes_after row) es) es) ≡ put row_cmp row v es
+        → (r : Ordering) → row_cmp row e.0 ≡ r
+        → take (cond (is_gt r) (1 + prefix_len (comes_after row) es) 0) (e ∷ es) ++ (row, v) ∷ without_row row (drop (cond (is_gt r) (1 + prefix_len (comes_after row) es) 0) (e ∷ es))
+        ≡ by_order r ((row, v) ∷ e ∷ es) ((e.0, v) ∷ es) (e ∷ put row_cmp row v es)
+    at rest Less q = ap (λ b. (row, v) ∷ cond b es (e ∷ es)) (is_own row e.0 Less q)
+    at rest Equal q = ap (λ b. (row, v) ∷ cond b es (e ∷ es)) (is_own row e.0 Equal q) ∙ ap (λ k. (k, v) ∷ es) (rows_apart row e.0 q)
+    at rest Greater q =
+        ap (λ n. take n (e ∷ es) ++ (row, v) ∷ without_row row (drop n (e ∷ es))) (next (prefix_len (comes_after row) es)) ∙ ap (λ l. e ∷ l) rest
+
+-- each entry of a list put into another
+put_each : Entries → Entries → Entries
+put_each es [] = es
+put_each es (e ∷ over) = put_each (put row_cmp e.0 e.1 es) over
+
+-- each entry of a list stands before all of another
+AllBelow : Entries → Entries → Type 0
+AllBelow [] over = ⊤
+AllBelow (x ∷ xs) over = T (below_all row_cmp x.0 over) × AllBelow xs over
+
+-- an entry before all that are put stays in front
+past_one : (x : Row × Version) (es over : Entries) → T (below_all row_cmp x.0 over) → x ∷ put_each es over ≡ put_each (x ∷ es) over
+unfolding put_each
+past_one x es [] h = refl
+past_one x es (e ∷ over) h =
+    let parts = both (is_lt (row_cmp x.0 e.0)) (below_all row_cmp x.0 over) h in
+    past_one x (put row_cmp e.0 e.1 es) over parts.1
+    ∙ ap (λ r. put_each (by_order r ((e.0, e.1) ∷ x ∷ es) ((x.0, e.1) ∷ es) (x ∷ put row_cmp e.0 e.1 es)) over) (sym (turned_back x.0 e.0 (less _ parts.0)))
+
+-- so do all that stand before
+past : (xs es over : Entries) → AllBelow xs over → xs ++ put_each es over ≡ put_each (xs ++ es) over
+unfolding AllBelow
+past [] es over h = refl
+past (x ∷ xs) es over h = ap (λ l. x ∷ l) (past xs es over h.1) ∙ past_one x (xs ++ es) over h.0
+
+-- what a row comes after stands before what the row stands before
+front_below : (row : Row) (es over : Entries) → T (below_all row_cmp row over) → AllBelow (take (prefix_len (comes_after row) es) es) over
+unfolding AllBelow
+front_below row [] over h = tt
+front_below row (e ∷ es) over h = at (front_below row es over h) (row_cmp row e.0) refl
+  where
+    at : AllBelow (take (prefix_len (comes_after row) es) es) over → (r : Ordering) → row_cmp row e.0 ≡ r → AllBelow (take (cond (is_gt r) (1 + prefix_len (comes_after row) es) 0) (e ∷ es)) over
+    at rest Less q = tt
+    at rest Equal q = tt
+    at rest Greater q = subst (λ n. AllBelow (take n (e ∷ es)) over) (sym (next (prefix_len (comes_after row) es))) (lower e.0 row over (turned row e.0 q) h, rest)
+
+-- to merge is to put each entry
+merged_put : (under over : Entries) → T (is_sorted row_cmp over) → merged under over ≡ put_each under over
+unfolding put_each AllBelow
+merged_put under [] h = refl
+merged_put under (e ∷ over) h =
+    let parts = both (below_all row_cmp e.0 over) (is_sorted row_cmp over) h in
+    let front = take (prefix_len (comes_after e.0) under) under in
+    let left = without_row e.0 (drop (prefix_len (comes_after e.0) under) under) in
+    ap (λ l. front ++ e ∷ l) (merged_put left over parts.1)
+    ∙ ap (λ l. front ++ l) (past_one e left over parts.0)
+    ∙ past front (e ∷ left) over (front_below e.0 under over parts.0)
+    ∙ ap (λ l. put_each l over) (split e.0 e.1 under)
+
+each_sorted : (es over : Entries) → T (is_sorted row_cmp es) → T (is_sorted row_cmp (put_each es over))
+unfolding put_each
+each_sorted es [] h = h
+each_sorted es (e ∷ over) h = each_sorted (put row_cmp e.0 e.1 es) over (is_sorted-put row_cmp rows_total e.0 e.1 es h)
+
+-- the entry before all others counts as one of them
+first_stays : (row : Row) (e : Row × Version) (over : Entries) (old : Option Version) → T (below_all row_cmp e.0 over)
+    → option_or (find row_cmp row over) (cond (row_eq row e.0) (Some e.1) old) ≡ option_or (find row_cmp row (e ∷ over)) old
+first_stays row e over old below =
+    elim (row_eq row e.0) as (λ b. row_eq row e.0 ≡ b → option_or (find row_cmp row over) (cond b (Some e.1) old) ≡ option_or (cond b (Some e.1) (find row_cmp row over)) old) [
+      | true ↦ λ t. ap (λ o. option_or o (Some e.1)) (find_below row over (subst (λ x. T (below_all row_cmp x over)) (sym (same_row row e.0 t)) below))
+      | false ↦ λ t. refl
+    ] refl
+
+each_found : (row : Row) (es over : Entries) → T (is_sorted row_cmp over) → find row_cmp row (put_each es over) ≡ option_or (find row_cmp row over) (find row_cmp row es)
+unfolding put_each
+each_found row es [] h = refl
+each_found row es (e ∷ over) h =
+    let parts = both (below_all row_cmp e.0 over) (is_sorted row_cmp over) h in
+    each_found row (put row_cmp e.0 e.1 es) over parts.1
+    ∙ ap (option_or (find row_cmp row over)) (find-put row_cmp rows_total row e.0 e.1 es)
+    ∙ first_stays row e over (find row_cmp row es) parts.0
+
+-- two lists merged are in order
+pub merged_sorted : (under over made : Entries) → T (is_sorted row_cmp under) → T (is_sorted row_cmp over) → made ≡ merged under over → T (is_sorted row_cmp made)
+merged_sorted under over made low high is = subst (λ l. T (is_sorted row_cmp l)) (sym (is ∙ merged_put under over high)) (each_sorted under over low)
+
+-- a row is found as the second has it, else as the first has it
+pub merged_found : (below above : Listed) (under over made : Entries) (row : Row) → T (is_sorted row_cmp under) → T (is_sorted row_cmp over) → from_sorted under ≡ below → from_sorted over ≡ above
+    → made ≡ merged under over → get (from_sorted {R = row_cmp} made) row ≡ option_or (get above row) (get below row)
+merged_found below above under over made row low high under_is over_is is =
+    get-from_sorted row_cmp made row (merged_sorted under over made low high is) ∙ ap (find row_cmp row) (is ∙ merged_put under over high) ∙ each_found row under over high
+    ∙ ap (λ o. option_or o (find row_cmp row under)) (sym (get-from_sorted row_cmp over row high) ∙ ap (λ m. get m row) over_is)
+    ∙ ap (option_or (get above row)) (sym (get-from_sorted row_cmp under row low) ∙ ap (λ m. get m row) under_is)
+
+-- what is left of a sorted list is in order
+sorted-drop : (n : ℕ) (es : Entries) → T (is_sorted row_cmp es) → T (is_sorted row_cmp (drop n es))
+sorted-drop zero es h = h
+sorted-drop (suc n) [] h = h
+sorted-drop (suc n) (e ∷ es) h = sorted-drop n es (both (below_all row_cmp e.0 es) (is_sorted row_cmp es) h).1
+
+sorted-without : (row : Row) (es : Entries) → T (is_sorted row_cmp es) → T (is_sorted row_cmp (without_row row es))
+sorted-without row [] h = h
+sorted-without row (e ∷ es) h =
+    elim (row == e.0) as (λ b. T (is_sorted row_cmp (cond b es (e ∷ es)))) [
+      | true ↦ (both (below_all row_cmp e.0 es) (is_sorted row_cmp es) h).1
+      | false ↦ h
+    ]
+
+-- what is left to merge after an entry is in order
+pub left_sorted : (row : Row) (n : ℕ) (left rest : Entries) → T (is_sorted row_cmp left) → rest ≡ without_row row (drop n left) → T (is_sorted row_cmp rest)
+left_sorted row n left rest h is = subst (λ l. T (is_sorted row_cmp l)) (sym is) (sorted-without row (drop n left) (sorted-drop n left h))
+
+-- one more entry merged
+pub merge_step : (made news left rest over whole : Entries) (e : Row × Version) (n : ℕ) → made ++ merged left (e ∷ over) ≡ whole → n ≡ prefix_len (comes_after e.0) left
+    → news ≡ (made ++ take n left) ++ e ∷ [] → rest ≡ without_row e.0 (drop n left) → news ++ merged rest over ≡ whole
+merge_step made news left rest over whole e n before place new is =
+    ap (λ l. l ++ merged rest over) new
+    ∙ append_assoc (made ++ take n left) (e ∷ []) (merged rest over)
+    ∙ append_assoc made (take n left) (e ∷ merged rest over)
+    ∙ ap (λ l. made ++ (take n left ++ e ∷ merged l over)) is
+    ∙ ap (λ k. made ++ (take k left ++ e ∷ merged (without_row e.0 (drop k left)) over)) place
+    ∙ before
+
+-- the same, as `put_entry` finds it
+pub replaced_at : (row : Row) (v : Version) (es seen tested : Entries) (n : ℕ) → seen ≡ es → tested ≡ es → n ≡ prefix_len (comes_after row) seen → is_row_at tested n row ≡ true
+    → slice_set es n (row, v) ≡ put row_cmp row v es
+replaced_at row v es seen tested n is also place own =
+    let at : n ≡ prefix_len (comes_after row) es = place ∙ ap (prefix_len (comes_after row)) is in
+    ap (λ k. slice_set es k (row, v)) at ∙ replaced row v es (sym (ap (λ l. is_row_at l n row) also ∙ ap (λ k. is_row_at es k row) at) ∙ own)
+
+pub inserted_at : (row : Row) (v : Version) (es seen tested : Entries) (n : ℕ) → seen ≡ es → tested ≡ es → n ≡ prefix_len (comes_after row) seen → is_row_at tested n row ≡ false
+    → insert_at es n (row, v) ≡ put row_cmp row v es
+inserted_at row v es seen tested n is also place own =
+    let at : n ≡ prefix_len (comes_after row) es = place ∙ ap (prefix_len (comes_after row)) is in
+    ap (λ k. insert_at es k (row, v)) at ∙ inserted row v es (sym (ap (λ l. is_row_at l n row) also ∙ ap (λ k. is_row_at es k row) at) ∙ own)
+
+each_inserted : (row : Row) (versions : Listed) (over : Entries) → T (is_sorted row_cmp over) → get (insert_each versions over) row ≡ option_or (find row_cmp row over) (get versions row)
+each_inserted row versions [] h = refl
+each_inserted row versions (e ∷ over) h =
+    let parts = both (below_all row_cmp e.0 over) (is_sorted row_cmp over) h in
+    each_inserted row (insert versions e.0 e.1) over parts.1
+    ∙ ap (option_or (find row_cmp row over)) (get-insert rows_total versions e.0 e.1 row)
+    ∙ first_stays row e over (get versions row) parts.0
+
+-- a row is found as the entries that were put have it, else as before
+pub cover_found : (old above : Listed) (over seen : Entries) (row : Row) → T (is_sorted row_cmp over) → from_sorted over ≡ above → seen ≡ over
+    → get (insert_each old seen) row ≡ option_or (get above row) (get old row)
+cover_found old above over seen row h is same =
+    ap (λ l. get (insert_each old l) row) same ∙ each_inserted row old over h
+    ∙ ap (λ o. option_or o (get old row)) (sym (get-from_sorted row_cmp over row h) ∙ ap (λ m. get m row) is)

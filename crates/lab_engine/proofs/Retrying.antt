@@ -1,0 +1,70 @@
+-- Which waiting sessions are retryable.
+use Rattle.std.proofs.Common.{◌≡◌, ℕ, ◌+◌, ◌≤◌, ◌<◌, refl, sym, ap, subst, ◌∙◌, ◌||◌, List, inl, inr, length, take, get_or}
+use Rattle.std.specs.Prelude.{◌==◌, IsTrue, IsSome, Option, Some, None, option_map, is_some}
+use Rattle.std.proofs.lemmas.Bool.{eqb-true, both_ways, or_cases}
+use Rattle.std.proofs.lemmas.List.{take_all}
+use Rattle.std.proofs.lemmas.List.Folds.{list_any_more}
+use Rattle.lab_table.specs.Table.{Table}
+use Rattle.lab_engine.specs.declared.event.Level.{Level}
+use Rattle.lab_engine.specs.declared.situation.SessionState.{SessionState}
+use Rattle.lab_engine.specs.declared.situation.Situation.{Situation}
+use Rattle.lab_engine.specs.declared.waits.Wait.{Wait}
+use Rattle.lab_engine.specs.Log.{Past, waiting}
+use Rattle.lab_engine.specs.Recording.{IsRetryable, NoneRetryable, IsLeastRetryable}
+use Rattle.lab_engine.specs.Situation.{Describes, DescribesSession}
+use Rattle.lab_engine.specs.WaitsFor.{AreWaits}
+use Rattle.lab_engine.specs.Released.{IsReleased}
+use Rattle.lab_engine.proofs.Circles.{released_retryable, retryable_released}
+use Rattle.lab_engine.proofs.Rising.{RiseFrom, sessions_rise, is_among, among, earlier}
+use Rattle.lab_engine.proofs.Waiting.{some_is, waiter_there}
+
+-- what there is
+some_of : {A : Type 0} (o : Option A) → IsSome o → (x : A) × (o ≡ Some x)
+some_of None h = absurd (both_ways _ refl h)
+some_of (Some x) h = (x, refl)
+
+-- a change of a value keeps that there is one
+is_some_map : {A B : Type 0} (f : A → B) (o : Option A) → is_some (option_map f o) ≡ is_some o
+is_some_map f None = refl
+is_some_map f (Some x) = refl
+
+-- a state waits where its session does
+state_waits : (past : Past) (state : SessionState) → DescribesSession past state → is_some state.waits ≡ is_some (waiting past state.session)
+state_waits past state d = sym (is_some_map (λ s. s.now) state.waits) ∙ ap is_some d.waits
+
+-- a state that waits and is released is that of a retryable session
+pub state_retryable : (level : Level) (setup : Table) (past : Past) (waits : List Wait) (state : SessionState) → DescribesSession past state → AreWaits level setup past waits
+    → IsSome state.waits × IsReleased waits state.session → IsRetryable level setup past state.session
+state_retryable level setup past waits state d h (some, released) =
+    let s = some_of (waiting past state.session) (sym (state_waits past state d) ∙ some) in
+    released_retryable level setup past waits state.session s.0 h s.1 released
+
+-- and none other is
+pub state_released : (level : Level) (setup : Table) (past : Past) (waits : List Wait) (state : SessionState) → DescribesSession past state → AreWaits level setup past waits
+    → IsRetryable level setup past state.session → IsSome state.waits × IsReleased waits state.session
+state_released level setup past waits state d h r = (state_waits past state d ∙ some_is (waiting past state.session) r.0 r.1, retryable_released level setup past waits state.session h r)
+
+-- one more state whose session isn't retryable
+pub none_step : (level : Level) (setup : Table) (past : Past) (states : List SessionState) (i : ℕ) (state : SessionState) → i < length states → state ≡ get_or states i state
+    → ((session : ℕ) → IsTrue (is_among session (take i states)) → IsRetryable level setup past session → ⊥) → (IsRetryable level setup past state.session → ⊥)
+    → (session : ℕ) → IsTrue (is_among session (take (i + 1) states)) → IsRetryable level setup past session → ⊥
+none_step level setup past states i state lt is none own session there r = elim (or_cases (is_among session (take i states)) (state.session == session) (sym more ∙ there)) [
+  | inl p ↦ none session p r
+  | inr p ↦ own (subst (IsRetryable level setup past) (sym (eqb-true state.session session p)) r)
+]
+  where
+    more : is_among session (take (i + 1) states) ≡ (is_among session (take i states) || (state.session == session))
+    more = list_any_more (λ (s : SessionState). s.session == session) states i state lt ∙ ap (λ (s : SessionState). is_among session (take i states) || (s.session == session)) (sym is)
+
+-- once all are passed, none is
+pub none_retryable : (level : Level) (setup : Table) (past : Past) (situation : Situation) (passed : ℕ) → Describes past situation → length situation.sessions.items ≤ passed
+    → ((session : ℕ) → IsTrue (is_among session (take passed situation.sessions.items)) → IsRetryable level setup past session → ⊥) → NoneRetryable level setup past
+none_retryable level setup past situation passed d all none session r =
+    none session (ap (is_among session) (take_all passed situation.sessions.items all) ∙ among situation.sessions.items session (waiter_there past situation session r.0 d r.1)) r
+
+-- the first that is retryable is the least
+pub least_retryable : (level : Level) (setup : Table) (past : Past) (situation : Situation) (i : ℕ) (state : SessionState) → Describes past situation → i < length situation.sessions.items
+    → state ≡ get_or situation.sessions.items i state → ((session : ℕ) → IsTrue (is_among session (take i situation.sessions.items)) → IsRetryable level setup past session → ⊥)
+    → IsRetryable level setup past state.session → IsLeastRetryable level setup past state.session
+least_retryable level setup past situation i state d lt is none r =
+    (r, λ other less o. none other (earlier 0 situation.sessions.items i state other (subst (RiseFrom 0) (sym d.sessions) sessions_rise) lt is (waiter_there past situation other o.0 d o.1) less) o)

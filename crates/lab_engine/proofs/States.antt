@@ -1,0 +1,152 @@
+-- What is kept of the sessions, as a list.
+use Rattle.std.proofs.Common.{◌≡◌, ◌≢◌, ℕ, zero, suc, ◌+◌, ◌-◌, ◌≤◌, ◌<◌, false, cond, List, [], ◌∷◌, ◌++◌, map, length, drop, set, get_or, None, refl, sym, ap, subst, ◌∙◌, arith, Contains, append_assoc, ◌==◌}
+use Rattle.std.specs.Prelude.{⊤}
+use Rattle.std.proofs.lemmas.Bool.{ne_eqb}
+use Rattle.std.proofs.lemmas.List.{length-map}
+use Rattle.lab_engine.specs.declared.event.LogEvent.{LogEvent}
+use Rattle.lab_engine.specs.declared.situation.SessionState.{SessionState}
+use Rattle.lab_engine.specs.declared.situation.Situation.{Situation}
+use Rattle.lab_engine.specs.Log.{Past, active, active_after, waiting, waiting_after}
+use Rattle.lab_engine.specs.Situation.{Describes, DescribesSession, DescribesAll, Agree, HasRoom, all_sessions}
+use Rattle.lab_engine.proofs.Describing.{has_room}
+
+-- after an event of another session what is kept of a session still agrees
+other_session : (past : Past) (event : LogEvent) (state : SessionState) → event.session ≢ state.session → DescribesSession past state → DescribesSession (event ∷ past) state
+other_session past event state apart is =
+    let other : (event.session == state.session) ≡ false = ne_eqb event.session state.session apart in
+    record {
+      waits = is.waits ∙ sym (ap (λ b. cond b (waiting_after event.command event.outcome (waiting past state.session)) (waiting past state.session)) other);
+      running = subst (λ b. Agree (cond b (active_after event.command event.outcome past (active past state.session)) (active past state.session)) state.running) (sym other) is.running;
+    }
+
+-- the sessions of some states rise by one from a number on
+abbrev Rise : ℕ → List SessionState → Type 0
+Rise n [] = ⊤
+Rise n (state ∷ states) = (state.session ≡ n) × Rise (suc n) states
+
+abbrev NumbersRise : ℕ → List ℕ → Type 0
+NumbersRise n [] = ⊤
+NumbersRise n (x ∷ xs) = (x ≡ n) × NumbersRise (suc n) xs
+
+rise_from : (n : ℕ) (states : List SessionState) → NumbersRise n (map (λ state. state.session) states) → Rise n states
+rise_from n [] h = tt
+rise_from n (state ∷ states) h = (h.0, rise_from (suc n) states h.1)
+
+all_rise : (states : List SessionState) → map (λ state. state.session) states ≡ all_sessions → Rise 1 states
+all_rise states is = rise_from 1 states (subst (λ l. NumbersRise 1 l) (sym is) (refl, (refl, (refl, (refl, (refl, (refl, (refl, (refl, (refl, tt))))))))))
+
+-- the states behind a session's
+behind : (past : Past) (event : LogEvent) (n : ℕ) (states : List SessionState) → Rise n states → event.session < n → DescribesAll past states → DescribesAll (event ∷ past) states
+behind past event n [] rise below all = tt
+behind past event n (state ∷ states) rise below all =
+    (other_session past event state (λ same. absurd (omega (arith, same, rise.0, below))) all.0, behind past event (suc n) states rise.1 (omega arith) all.1)
+
+set_one : (past : Past) (event : LogEvent) (n k : ℕ) (states : List SessionState) (new : SessionState) → Rise n states → event.session ≡ n + k → DescribesAll past states
+    → DescribesSession (event ∷ past) new → DescribesAll (event ∷ past) (set states k new)
+set_one past event n k [] new rise at all is = tt
+set_one past event n zero (state ∷ states) new rise at all is = (is, behind past event (suc n) states rise.1 (omega arith) all.1)
+set_one past event n (suc k) (state ∷ states) new rise at all is =
+    (other_session past event state (λ same. absurd (omega (arith, same, rise.0, at))) all.0, set_one past event (suc n) k states new rise.1 (omega arith) all.1 is)
+
+-- what is kept of the session at a place agrees with the log
+pub describes_one : (past : Past) (k : ℕ) (states : List SessionState) (d : SessionState) → k < length states → DescribesAll past states → DescribesSession past (get_or states k d)
+describes_one past k [] d few all = absurd (omega arith)
+describes_one past zero (state ∷ states) d few all = all.0
+describes_one past (suc k) (state ∷ states) d few all = describes_one past k states d (omega arith) all.1
+
+-- the session at a place
+session_one : (n k : ℕ) (states : List SessionState) (d : SessionState) → Rise n states → k < length states → (get_or states k d).session ≡ n + k
+session_one n k [] d rise few = absurd (omega arith)
+session_one n zero (state ∷ states) d rise few = omega (arith, rise.0)
+session_one n (suc k) (state ∷ states) d rise few = let rest = session_one (suc n) k states d rise.1 (omega arith) in omega (arith, rest)
+
+-- the sessions of a list with one state replaced
+sessions_one : (k : ℕ) (states : List SessionState) (new d : SessionState) → k < length states → new.session ≡ (get_or states k d).session → map (λ state. state.session) (set states k new) ≡ map (λ state. state.session) states
+sessions_one k [] new d few same = refl
+sessions_one zero (state ∷ states) new d few same = ap (λ n. n ∷ map (λ state. state.session) states) same
+sessions_one (suc k) (state ∷ states) new d few same = ap (λ l. state.session ∷ l) (sessions_one k states new d (omega arith) same)
+
+-- a session's state stands at its number, counted from 1
+module _ (states : List SessionState) (n k : ℕ) (state : SessionState) (sessions : map (λ state. state.session) states ≡ all_sessions) (low : 1 ≤ n) (high : n ≤ 9) (place : k ≡ n - 1) (is : state ≡ get_or states k state) where
+  there : k < length states
+  there = let same = sym (length-map states (λ state. state.session)) ∙ ap length sessions in omega (arith, same, place, low, high)
+
+  -- what is kept of it has room for one more statement
+  pub room_at : (past : Past) → DescribesAll past states → length past < 100000 → HasRoom state.running
+  room_at past all few = has_room past state (subst (λ s. DescribesSession past s) (sym is) (describes_one past k states state there all)) few
+
+  -- the sessions stay
+  pub sessions_stay : (new : SessionState) → new.session ≡ state.session → map (λ state. state.session) (set states k new) ≡ all_sessions
+  sessions_stay new same = sessions_one k states new state there (same ∙ ap (λ s. s.session) is) ∙ sessions
+
+  -- all states go on with an event where the session's own does
+  pub states_go_on : (past : Past) (event : LogEvent) (new : SessionState) → n ≡ event.session → DescribesAll past states
+      → (DescribesSession past state → event.session ≡ state.session → DescribesSession (event ∷ past) new) → DescribesAll (event ∷ past) (set states k new)
+  states_go_on past event new own all go_on =
+      let rise = all_rise states sessions in
+      let number : (get_or states k state).session ≡ 1 + k = session_one 1 k states state rise there in
+      let there_is : n ≡ (get_or states k state).session = omega (arith, number, place, low) in
+      let same : event.session ≡ state.session = sym own ∙ there_is ∙ ap (λ s. s.session) (sym is) in
+      set_one past event 1 k states new rise (omega (arith, own, place, low)) all (go_on (subst (λ s. DescribesSession past s) (sym is) (describes_one past k states state there all)) same)
+
+map-append : {A B : Type 0} (f : A → B) (xs ys : List A) → map f (xs ++ ys) ≡ map f xs ++ map f ys
+map-append f [] ys = refl
+map-append f (x ∷ xs) ys = ap (λ l. f x ∷ l) (map-append f xs ys)
+
+-- the sessions from a number on
+session_next : (n : ℕ) → 1 ≤ n → n ≤ 9 → drop (n - 1) all_sessions ≡ n ∷ drop (n + 1 - 1) all_sessions
+session_next zero low high = absurd (omega arith)
+session_next (suc zero) low high = refl
+session_next (suc (suc zero)) low high = refl
+session_next (suc (suc (suc zero))) low high = refl
+session_next (suc (suc (suc (suc zero)))) low high = refl
+session_next (suc (suc (suc (suc (suc zero))))) low high = refl
+session_next (suc (suc (suc (suc (suc (suc zero)))))) low high = refl
+session_next (suc (suc (suc (suc (suc (suc (suc zero))))))) low high = refl
+session_next (suc (suc (suc (suc (suc (suc (suc (suc zero)))))))) low high = refl
+session_next (suc (suc (suc (suc (suc (suc (suc (suc (suc zero))))))))) low high = refl
+session_next (suc (suc (suc (suc (suc (suc (suc (suc (suc (suc n)))))))))) low high = absurd (omega arith)
+
+-- a number from 1 to 9 is a session's
+pub is_session : (n : ℕ) → 1 ≤ n → n ≤ 9 → Contains all_sessions n
+is_session zero low high = absurd (omega arith)
+is_session (suc zero) low high = (0, omega arith, refl)
+is_session (suc (suc zero)) low high = (1, omega arith, refl)
+is_session (suc (suc (suc zero))) low high = (2, omega arith, refl)
+is_session (suc (suc (suc (suc zero)))) low high = (3, omega arith, refl)
+is_session (suc (suc (suc (suc (suc zero))))) low high = (4, omega arith, refl)
+is_session (suc (suc (suc (suc (suc (suc zero)))))) low high = (5, omega arith, refl)
+is_session (suc (suc (suc (suc (suc (suc (suc zero))))))) low high = (6, omega arith, refl)
+is_session (suc (suc (suc (suc (suc (suc (suc (suc zero)))))))) low high = (7, omega arith, refl)
+is_session (suc (suc (suc (suc (suc (suc (suc (suc (suc zero))))))))) low high = (8, omega arith, refl)
+is_session (suc (suc (suc (suc (suc (suc (suc (suc (suc (suc n)))))))))) low high = absurd (omega arith)
+
+all_more : (past : Past) (states : List SessionState) (state : SessionState) → DescribesAll past states → DescribesSession past state → DescribesAll past (states ++ state ∷ [])
+all_more past [] state all is = (is, tt)
+all_more past (first ∷ states) state all is = (all.0, all_more past states state all.1 is)
+
+-- one more session that has done nothing
+pub idle_one : (n session : ℕ) (states news : List SessionState)
+    → (map (λ state. state.session) states ++ drop (n - 1) all_sessions ≡ all_sessions) × DescribesAll [] states × (1 ≤ n) × (n ≤ 10) → n < 10 → session ≡ n
+    → news ≡ states ++ record { session = session; waits = None; running = None } ∷ []
+    → (map (λ state. state.session) news ++ drop (n + 1 - 1) all_sessions ≡ all_sessions) × DescribesAll [] news × (1 ≤ n + 1) × (n + 1 ≤ 10)
+idle_one n session states news (sessions, all, low, high) below is new =
+    let state : SessionState = record { session = session; waits = None; running = None } in (
+      ap (λ l. map (λ state. state.session) l ++ drop (n + 1 - 1) all_sessions) new
+          ∙ ap (λ l. l ++ drop (n + 1 - 1) all_sessions) (map-append (λ state. state.session) states (state ∷ []))
+          ∙ append_assoc (map (λ state. state.session) states) (session ∷ []) (drop (n + 1 - 1) all_sessions)
+          ∙ ap (λ l. map (λ state. state.session) states ++ l) (ap (λ k. k ∷ drop (n + 1 - 1) all_sessions) is ∙ sym (session_next n low (omega arith)))
+          ∙ sessions,
+      subst (λ l. DescribesAll [] l) (sym new) (all_more [] states state all (record { waits = refl; running = tt })),
+      omega arith,
+      omega arith,
+    )
+
+-- each session has its state, at its number counted from 1
+pub state_at : (past : Past) (situation : Situation) → Describes past situation → (k : ℕ) (d : SessionState) → k < length situation.sessions.items
+    → ((get_or situation.sessions.items k d).session ≡ 1 + k) × DescribesSession past (get_or situation.sessions.items k d)
+state_at past situation is k d few = (session_one 1 k situation.sessions.items d (all_rise situation.sessions.items is.sessions) few, describes_one past k situation.sessions.items d few is.states)
+
+-- there are nine
+pub nine_states : (past : Past) (situation : Situation) → Describes past situation → length situation.sessions.items ≡ 9
+nine_states past situation is = sym (length-map situation.sessions.items (λ state. state.session)) ∙ ap length is.sessions

@@ -1,0 +1,40 @@
+use Rattle.std.proofs.Common.{◌≡◌, ◌∷◌, ◌++◌, ◌<◌, ℕ, false, refl, sym, ap, subst, ◌∙◌, arith}
+use Rattle.std.specs.Prelude.{IsTrue, vec_len}
+use Rattle.std.proofs.lemmas.List.{nil_from_length}
+use Rattle.std.proofs.lemmas.Bool.{eqb-true, eqb-false}
+use Rattle.std.specs.List.{All}
+use Rattle.lab_engine.specs.WaitsFor.{IsRound, waits_for}
+use Rattle.lab_engine.specs.Hops.{is_reached, trail, AreHops, IsNewHop}
+use Rattle.lab_engine.proofs.Walks.{trail_round, no_walk, more_hops, fewer_missing, missing}
+use Rattle.lab_engine.proofs.circle.shortest_circle.Goals as goal
+
+-- what isn't 0 is more
+some_length : (n : ℕ) → (n ≡ 0 → ⊥) → 0 < n
+some_length n h = omega arith
+
+pub returns-in-Some-clause-found : goal.returns-in-Some-clause-found
+returns-in-Some-clause-found c =
+    subst (IsRound c.args.waits.now c.args.session) (sym (c.in_ok-circle_by.ensures ∙ ap (λ hops. c.args.session ∷ trail hops c.in-Some.first) c.deref-in-Some.ensures.value))
+    (trail_round c.args.waits.now c.args.session c.loop-first.hops.items c.in-Some.first c.loop-first.invariant c.in-Some.ensures.waits
+    (subst (λ hops. IsTrue (is_reached hops c.args.session c.in-Some.first)) c.deref.ensures.value c.in-Some.ensures.reached))
+
+pub returns-then-is_empty-clause-none : goal.returns-then-is_empty-clause-none
+returns-then-is_empty-clause-none c = λ none rest.
+    no_walk c.args.waits.now c.deref-in-loop-first.result.now c.args.session (c.in_ok-layer.ensures.none (nil_from_length _ (sym c.in_ok-layer.layer.ok.0 ∙ eqb-true (vec_len c.in_ok-layer.layer) 0 (sym c.is_empty.ensures ∙ c.if-is_empty.true)))) c.args.session rest
+    (subst (λ hops. (other : ℕ) → IsTrue (is_reached hops c.args.session other) → waits_for c.args.waits.now c.args.session other ≡ false)
+    (c.deref.ensures.value ∙ sym c.deref-in-loop-first.ensures.value) (c.in_default.ensures.none refl))
+
+pub loop-first-smaller : goal.loop-first-smaller
+loop-first-smaller c =
+    subst (λ hops. missing hops c.args.session c.args.waits.now < missing c.loop-first.hops.items c.args.session c.args.waits.now)
+    (sym (c.in_ok-extend_from_slice.ensures.items ∙ ap (λ hops. c.in_ok-layer.layer.items ++ hops) c.deref-in-loop-first-2.ensures.value))
+    (fewer_missing c.args.waits.now c.args.session c.loop-first.hops.items c.in_ok-layer.layer.items
+    (subst (λ hops. All (IsNewHop c.args.waits.now hops c.args.session) c.in_ok-layer.layer.items) c.deref-in-loop-first.ensures.value c.in_ok-layer.ensures.new)
+    (some_length _ (λ none. eqb-false (vec_len c.in_ok-layer.layer) 0 (sym c.is_empty.ensures ∙ c.if-is_empty.false) (c.in_ok-layer.layer.ok.0 ∙ none))))
+
+pub loop-first-preserved : goal.loop-first-preserved
+loop-first-preserved c =
+    subst (AreHops c.args.waits.now c.args.session)
+    (sym (c.in_ok-extend_from_slice.ensures.items ∙ ap (λ hops. c.in_ok-layer.layer.items ++ hops) c.deref-in-loop-first-2.ensures.value))
+    (more_hops c.args.waits.now c.args.session c.loop-first.hops.items c.in_ok-layer.layer.items c.loop-first.invariant
+    (subst (λ hops. All (IsNewHop c.args.waits.now hops c.args.session) c.in_ok-layer.layer.items) c.deref-in-loop-first.ensures.value c.in_ok-layer.ensures.new))

@@ -1,0 +1,20 @@
+use Rattle.std.proofs.Common.{sym, subst, refl, arith}
+use Rattle.lab_engine.specs.Log.{active, commits}
+use Rattle.lab_engine.specs.Situation.{Agree, running_of}
+use Rattle.lab_engine.proofs.Describing.{begun_at_most, running_agrees, goes_on}
+use Rattle.lab_engine.proofs.situation.Situation.take_in.Goals as goal
+
+pub begun_next-self-requires : goal.begun_next-self-requires
+begun_next-self-requires c =
+    let few = c.requires.room.2 in
+    let most = begun_at_most c.requires.room.0 in
+    let is = c.requires.room.1.begun in
+    omega (arith, few, most, is)
+
+pub returns : goal.returns
+returns c = λ past is.
+    goes_on past c.args.event.now c.args.self.now _ is c.go_on.ensures.session c.in_ok-go_on.ensures.sessions (c.in_ok-go_on.ensures.states past is.states is.events)
+    (c.in_ok-install.ensures (active past c.args.event.now.session) (commits past)
+    (subst (λ l. Agree (active past c.args.event.now.session) (running_of l c.args.event.now.session)) (sym c.deref.ensures.value) (running_agrees past c.args.self.now is c.args.event.now.session))
+    is.committed)
+    c.begun_next-self.ensures refl

@@ -1,0 +1,9 @@
+use Rattle.std.proofs.Common.{◌≡◌, T, ◌++◌, drop}
+use Rattle.std.specs.FinMap.{is_sorted}
+use Rattle.lab_table.specs.Row.{row_cmp}
+use Rattle.lab_engine.specs.Merging.{merged}
+use Rattle.lab_engine.proofs.version.merged_entries.Given as goal
+
+-- the entries so far and what is left to merge make the whole
+abbrev pub invariant-loop-entry : goal.invariant-loop-entry
+invariant-loop-entry l = (l.entries.items ++ merged l.left (drop l.entry-index l.over) ≡ merged l.under l.over) × T (is_sorted row_cmp l.left)

@@ -1,0 +1,17 @@
+pub mod Log
+pub mod Rules
+pub mod Laws
+pub mod Recording
+pub mod Engine
+pub mod Situation
+pub mod Sight
+pub mod Effect
+pub mod Pending
+pub mod WaitsFor
+pub mod Answer
+pub mod Journal
+pub mod Look
+pub mod Merging
+pub mod EachRow
+pub mod Hops
+pub mod Released

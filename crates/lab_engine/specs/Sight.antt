@@ -1,0 +1,39 @@
+-- What a transaction sees, as a map of versions has it.
+use Rattle.std.specs.Prelude.{◌≡◌, ℕ, Bool, Option, Some, None, unwrap_or}
+use Rattle.std.specs.Ordering.{is_gt}
+use Rattle.std.specs.FinMap as map
+use Rattle.std.specs.FinMap.{FinMap}
+use Rattle.lab_table.specs.Row.{Row, row_cmp}
+use Rattle.lab_table.specs.Table.{Table, State}
+use Rattle.lab_history.specs.declared.operation.VersionName.TheVariants.{Initial}
+use Rattle.lab_engine.specs.declared.event.Level.{Level}
+use Rattle.lab_engine.specs.declared.event.Level.TheVariants.{Snapshot}
+use Rattle.lab_engine.specs.declared.rules.Conflict.{Conflict}
+use Rattle.lab_engine.specs.Log.{Past, Version, Txn, seen}
+use Rattle.lab_engine.specs.Rules.{Conflicts, IsBelow}
+
+-- rows with a version each
+abbrev pub Listed : Type 0
+Listed = FinMap row_cmp Version
+
+-- the version that a table gives a row that it has
+abbrev pub listed_version : State → Option Version
+listed_version None = None
+listed_version (Some value) = Some (record { name = Initial; state = Some value })
+
+-- the version of a row in a map of them; a row that isn't there is absent from the start
+abbrev pub version_in : Listed → Row → Version
+version_in versions row = unwrap_or (map.get versions row) (record { name = Initial; state = None })
+
+-- whether a row comes after an entry
+abbrev pub comes_after : Row → Row × Version → Bool
+comes_after row entry = is_gt (row_cmp row entry.0)
+
+-- a map of versions is what a transaction sees
+abbrev pub IsSight : Level → Table → Past → Txn → Listed → Type 0
+IsSight level setup past txn versions = (row : Row) → version_in versions row ≡ seen level setup past txn row
+
+-- the least row at which a commit conflicts, and the first to install it; only at snapshot
+abbrev pub IsFirstConflict : Level → Past → Txn → Conflict → Type 0
+IsFirstConflict level past txn conflict = (level ≡ Snapshot) × Conflicts past txn conflict.row conflict.by
+    × ((other : Row) (number : ℕ) → IsBelow other conflict.row → ¬ Conflicts past txn other number)

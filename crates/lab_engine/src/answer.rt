@@ -1,0 +1,137 @@
+//! What an engine answers to a command.
+
+ghost use Rattle.std.specs.Prelude.{◌≡◌, ◌<◌, ◌∷◌, Some, None, length, IfOk};
+ghost use Rattle.lab_table.specs.Table.{Table as Rows};
+ghost use Rattle.lab_engine.specs.declared.event.Level.{Level as Kind};
+ghost use Rattle.lab_engine.specs.Sight.{version_in};
+ghost use Rattle.lab_engine.specs.Effect.{IsResultOn, IsRefusalOn, IsEffectFault};
+ghost use Rattle.lab_table.specs.Row.{Row};
+ghost use Rattle.lab_table.specs.declared.statement.Statement.{Statement as Asked};
+ghost use Rattle.lab_engine.specs.Log.{Version as Seen};
+ghost use Rattle.lab_table.specs.declared.statement.Command.TheVariants.{Run};
+ghost use Rattle.lab_engine.specs.Log.{Txn, past_of, active};
+ghost use Rattle.lab_engine.specs.Rules.{MayAsk};
+ghost use Rattle.lab_engine.specs.Situation.{Describes, IsRunning};
+ghost use Rattle.lab_engine.specs.Answer.{MayGive, Answers};
+
+use crate::effect::{EffectFault, effect_of};
+use crate::event::{EngineFault, LogEvent, Outcome};
+use crate::rules::Rules;
+use crate::sight::seen_by;
+use crate::situation::{RunningTxn, Situation};
+use crate::waits::{blockers, deadlock};
+use crate::version::Versions;
+use lab_table::{Command, NoMemory, Session, Statement, Table, TxnNo};
+use std::alloc::{AllocError, Global};
+
+/// What the rules answer to a command of a session that doesn't wait, or waits with this command.
+/// NoMemory where a growth was refused.
+pub fn answer_to<R: Rules>(
+    alloc: Global,
+    rules: &R,
+    setup: &Table,
+    log: &[LogEvent],
+    situation: &Situation<'_>,
+    session: Session,
+    command: &Command,
+) -> Result<Outcome, NoMemory>
+    requires room { length log.now < 100000 }
+    requires situation { Describes (past_of log.now) situation.now }
+    requires may { MayGive (past_of log.now) session command.now }
+    ensures { IfOk result (Answers (R.kind rules.now) setup.now (past_of log.now) session command.now) }
+{
+    let Some(running) = situation.running(session) else {
+        return Ok(without_transaction(log, situation, session, command));
+    };
+    match command {
+        Command::Begin => Ok(Outcome::Refused(EngineFault::AlreadyBegun)),
+        Command::Commit => match rules.conflict(alloc, log, session)? {
+            None => Ok(Outcome::Committed),
+            Some(conflict) => Ok(Outcome::Refused(EngineFault::WriteConflict {
+                row: conflict.row,
+                by: conflict.by,
+            })),
+        },
+        Command::Abort => Ok(Outcome::Aborted),
+        Command::Run(statement) => run_statement(
+            alloc, rules, setup, log, situation, session, running, statement,
+        ),
+    }
+}
+
+/// What the rules answer to a command of a session that has no active transaction.
+fn without_transaction(
+    log: &[LogEvent],
+    situation: &Situation<'_>,
+    session: Session,
+    command: &Command,
+) -> Outcome
+    requires room { length log.now < 100000 }
+    requires situation { Describes (past_of log.now) situation.now }
+    requires none { active (past_of log.now) session ≡ None }
+    ensures { (level : Kind) (setup : Rows) → Answers level setup (past_of log.now) session command.now result }
+{
+    match command {
+        Command::Begin => match TxnNo::new(situation.begun + 1) {
+            Some(number) => Outcome::Begun(number),
+            None => unreachable!(),
+        },
+        Command::Commit | Command::Abort | Command::Run(_) => {
+            Outcome::Refused(EngineFault::NoTransaction)
+        }
+    }
+}
+
+/// What the rules answer to a statement of an active transaction.
+/// NoMemory where a growth was refused.
+pub fn run_statement<R: Rules>(
+    alloc: Global,
+    rules: &R,
+    setup: &Table,
+    log: &[LogEvent],
+    situation: &Situation<'_>,
+    session: Session,
+    running: &RunningTxn<'_>,
+    statement: &Statement,
+) -> Result<Outcome, NoMemory>
+    requires room { length log.now < 100000 }
+    requires situation { Describes (past_of log.now) situation.now }
+    requires may { MayAsk (past_of log.now) session statement.now }
+    requires running { (txn : Txn) × (active (past_of log.now) session ≡ Some txn) × IsRunning txn running.now }
+    ensures { IfOk result (Answers (R.kind rules.now) setup.now (past_of log.now) session (Run statement.now)) }
+{
+    let seen = seen_by(alloc, rules.level(), setup, log, situation, running)?;
+    let on = blockers(alloc, rules, setup, situation, session, &seen, statement)?;
+    if on.as_slice().is_empty() {
+        return unblocked(alloc, statement, &seen);
+    }
+    match deadlock(alloc, rules, setup, log, situation, session, &on)? {
+        Some(circle) => Ok(Outcome::Refused(EngineFault::Deadlock { circle })),
+        None => Ok(Outcome::Waits { on }),
+    }
+}
+
+/// What a statement that nobody blocks answers on what is seen. NoMemory where a growth was refused.
+fn unblocked(alloc: Global, statement: &Statement, seen: &Versions) -> Result<Outcome, NoMemory>
+    ensures { IfOk result (IsResultOn (version_in seen.now) statement.now) }
+{
+    match effect_of(alloc, statement, seen) {
+        Ok(effect) => Ok(Outcome::Rows {
+            view: effect.view,
+            rows: effect.rows,
+            writes: effect.writes,
+        }),
+        Err(fault) => Ok(Outcome::Refused(refusal(fault)?)),
+    }
+}
+
+/// The refusal of a statement that can't run, but for want of memory.
+fn refusal(fault: EffectFault) -> Result<EngineFault, NoMemory>
+    ensures { (sees : Row → Seen) (s : Asked) → IsEffectFault sees s fault → IfOk result (IsRefusalOn sees s) }
+{
+    match fault {
+        EffectFault::NoMemory => Err(AllocError),
+        EffectFault::DuplicateKey { id } => Ok(EngineFault::DuplicateKey { id }),
+        EffectFault::OutOfRange { id } => Ok(EngineFault::OutOfRange { id }),
+    }
+}

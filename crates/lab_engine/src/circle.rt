@@ -1,0 +1,143 @@
+//! Circles of sessions that wait for each other.
+//!
+//! A circle is a walk from a session back to it, which is looked for from its end. Each turn reaches those that wait for
+//! one reached by an earlier turn, so the first walk that is found is a shortest one. Each goes on to the least such
+//! session, so the walk is the least of the shortest.
+
+ghost use Rattle.std.specs.Prelude.{◌≡◌, ◌==◌, ◌∷◌, ◌⊎◌, [], true, false, None, Some, List, ℕ, IfOk, IfSome, IsTrue};
+ghost use Rattle.std.specs.List.{All, list_any};
+ghost use Rattle.lab_engine.specs.WaitsFor.{IsWalk, IsRound, waits_for};
+ghost use Rattle.lab_engine.specs.Hops.{is_reached, trail, AreHops, IsNewHop};
+
+use crate::event::Sessions;
+use crate::waits::Wait;
+use lab_table::{NoMemory, Session};
+use std::alloc::Global;
+
+/// A session, and the one that it waits for on its walk to the goal.
+#[derive(Clone, Copy)]
+struct Hop {
+    session: Session,
+    next: Session,
+}
+
+/// Whether a session waits for another one.
+fn is_waiting_for(waits: &[Wait], session: Session, other: Session) -> bool
+    ensures { result ≡ waits_for waits.now session other }
+{
+    waits.iter().any(|wait| wait.session == session && wait.on.as_slice().contains(&other))
+}
+
+/// Whether a session has a hop.
+fn has_hop(hops: &[Hop], session: Session) -> bool
+    ensures { result ≡ list_any (λ hop. hop.session == session) hops.now }
+{
+    hops.iter().any(|hop| hop.session == session)
+}
+
+/// Whether a session is the goal, or has a hop.
+fn has_reached(hops: &[Hop], goal: Session, session: Session) -> bool
+    ensures { result ≡ is_reached hops.now goal session }
+{
+    session == goal || has_hop(hops, session)
+}
+
+/// The lesser of this session and the least so far.
+fn lesser(least: Option<Session>, session: Session) -> Session
+    ensures { (result ≡ session) ⊎ (least ≡ Some result) }
+{
+    match least {
+        Some(other) if other < session => other,
+        _ => session,
+    }
+}
+
+/// The session reached by which this one's walk goes on: the goal, where it waits for that, else the least that it
+/// waits for; or None where it waits for nobody reached.
+fn next_of(waits: &[Wait], hops: &[Hop], goal: Session, session: Session) -> Option<Session>
+    ensures waits { IfSome result (λ next. IsTrue (waits_for waits.now session next)) }
+    ensures reached { IfSome result (λ next. IsTrue (is_reached hops.now goal next)) }
+    ensures none { result ≡ None → (other : ℕ) → IsTrue (is_reached hops.now goal other) → waits_for waits.now session other ≡ false }
+{
+    if is_waiting_for(waits, session, goal) {
+        return Some(goal);
+    }
+    let mut least = None;
+    for hop in hops {
+        if is_waiting_for(waits, session, hop.session) {
+            least = Some(lesser(least, hop.session));
+        }
+    }
+    least
+}
+
+/// The hops of all that aren't reached and wait for one that is. NoMemory where a growth was refused.
+fn next_layer(
+    alloc: Global,
+    waits: &[Wait],
+    hops: &[Hop],
+    goal: Session,
+) -> Result<Vec<Hop>, NoMemory>
+    ensures new { IfOk result (λ layer. All (IsNewHop waits.now hops.now goal) layer.items) }
+    ensures none { IfOk result (λ layer. layer.items ≡ [] → (session other : ℕ) → is_reached hops.now goal session ≡ false
+        → IsTrue (waits_for waits.now session other) → is_reached hops.now goal other ≡ false) }
+{
+    let mut layer = Vec::new(alloc);
+    for wait in waits {
+        if !has_reached(hops, goal, wait.session) {
+            if let Some(next) = next_of(waits, hops, goal, wait.session) {
+                layer.push(Hop {
+                    session: wait.session,
+                    next,
+                })?;
+            }
+        }
+    }
+    Ok(layer)
+}
+
+/// The circle from a session on that waits for the first of these. From there the hops lead on, each to one behind it.
+/// NoMemory where a growth was refused.
+fn circle_by(
+    alloc: Global,
+    hops: &[Hop],
+    session: Session,
+    first: Session,
+) -> Result<Sessions, NoMemory>
+    ensures { IfOk result (λ circle. circle ≡ session ∷ trail hops.now first) }
+{
+    let mut circle = Vec::new(alloc);
+    circle.push(session)?;
+    let mut at = first;
+    for hop in hops {
+        if hop.session == at {
+            circle.push(at)?;
+            at = hop.next;
+        }
+    }
+    Ok(Sessions::new(circle))
+}
+
+/// A shortest circle from this session on, of these the least in its list; or None where there is no circle.
+/// NoMemory where a growth was refused.
+pub fn shortest_circle(
+    alloc: Global,
+    waits: &[Wait],
+    session: Session,
+) -> Result<Option<Sessions>, NoMemory>
+    ensures found { IfOk result (λ found. IfSome found (IsRound waits.now session)) }
+    ensures none { IfOk result (λ found. found ≡ None → (rest : List ℕ) → ¬ IsWalk waits.now session rest session) }
+{
+    let mut hops = Vec::new(alloc);
+    loop {
+        if let Some(first) = next_of(waits, &hops, session, session) {
+            return Ok(Some(circle_by(alloc, &hops, session, first)?));
+        }
+        let mut layer = next_layer(alloc, waits, &hops, session)?;
+        if layer.is_empty() {
+            return Ok(None);
+        }
+        layer.extend_from_slice(&hops)?;
+        hops = layer;
+    }
+}

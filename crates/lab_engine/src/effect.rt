@@ -1,0 +1,209 @@
+//! What a statement does to the rows that a transaction sees.
+
+ghost use Rattle.std.specs.Prelude.{◌≡◌, ◌≢◌, T, false, Some, None, ◌∷◌, [], IfOk, IfErr, IfSome, MatchOption};
+ghost use Rattle.std.specs.FinMap as map;
+ghost use Rattle.lab_table.specs.Row.{Row, row_cmp};
+ghost use Rattle.lab_table.specs.Statement.{listed, written, fails};
+ghost use Rattle.lab_history.specs.VersionName.{new_states};
+ghost use Rattle.lab_history.specs.declared.operation.State.TheVariants.{Present};
+ghost use Rattle.lab_engine.specs.Rules.{in_view};
+ghost use Rattle.lab_engine.specs.Sight.{version_in};
+ghost use Rattle.lab_engine.specs.EachRow.{with_row, each_row, rewritten};
+ghost use Rattle.lab_engine.specs.EachRow as made;
+ghost use Rattle.lab_engine.specs.Effect.{IsEffectOn, IsEffectFault};
+ghost use Rattle.lab_engine.specs.declared.effect.EffectFault.TheVariants.{NoMemory};
+
+use crate::on_row::{fails_at, listed_value, rewritten_state};
+use crate::pending::version_seen;
+use crate::version::{Version, Versions};
+use lab_history::{Rows, State, VersionName, View, Writes};
+use lab_table::{NoMemory, RowId, Statement, Value};
+use std::alloc::{AllocError, Global};
+
+/// What a statement saw, listed and wrote.
+#[derive(Drop)]
+pub struct Effect {
+    pub view: View,
+    pub rows: Rows,
+    pub writes: Writes,
+}
+
+/// Why a statement didn't run.
+#[derive(Clone, Copy, Debug, PartialEq, Eq)]
+pub enum EffectFault {
+    /// A growth of memory was refused.
+    NoMemory,
+    /// The row that the insert adds is present.
+    DuplicateKey { id: RowId },
+    /// The update's result is out of range at this row, the least such.
+    OutOfRange { id: RowId },
+}
+
+impl From<AllocError> for EffectFault {
+    ghost use Rattle.std.specs.Prelude.{◌≡◌};
+    ghost use Rattle.lab_engine.specs.declared.effect.EffectFault.TheVariants.{NoMemory};
+
+    ghost from_gives = { λ _ fault. fault ≡ NoMemory };
+
+    fn from(_: AllocError) -> EffectFault {
+        EffectFault::NoMemory
+    }
+}
+
+fn name_at(entry: &(RowId, Version)) -> Option<(RowId, VersionName)>
+    ensures { result ≡ with_row entry.now.0 (in_view entry.now.1.name) }
+{
+    match entry.1.name {
+        VersionName::Initial => None,
+        VersionName::Of { txn, op } => Some((entry.0, VersionName::Of { txn, op })),
+    }
+}
+
+fn names(alloc: Global, entries: &[(RowId, Version)]) -> Result<Vec<(RowId, VersionName)>, NoMemory>
+    ensures { IfOk result (λ v. v.items ≡ each_row (λ row version. in_view version.name) entries.now) }
+{
+    entries
+        .iter()
+        .filter_map(|entry| name_at(entry))
+        .collect(alloc)
+}
+
+/// The view of these versions: those that the setup doesn't have.
+fn view_of(alloc: Global, seen: &Versions) -> Result<View, NoMemory>
+    ensures { IfOk result (λ view. (row : Row) → map.get view row ≡ in_view (version_in seen.now row).name) }
+{
+    Ok(View::new(names(alloc, seen.entries())?))
+}
+
+fn value_at(statement: &Statement, entry: &(RowId, Version)) -> Option<(RowId, Value)>
+    ensures { result ≡ with_row entry.now.0 (listed statement.now entry.now.0 entry.now.1.state) }
+{
+    let value = listed_value(statement, entry.0, entry.1.state)?;
+    Some((entry.0, value))
+}
+
+fn values(
+    alloc: Global,
+    statement: &Statement,
+    entries: &[(RowId, Version)],
+) -> Result<Vec<(RowId, Value)>, NoMemory>
+    ensures { IfOk result (λ v. v.items ≡ each_row (λ row version. listed statement.now row version.state) entries.now) }
+{
+    entries
+        .iter()
+        .filter_map(|entry| value_at(statement, entry))
+        .collect(alloc)
+}
+
+/// The rows that a statement lists.
+fn rows_of(alloc: Global, statement: &Statement, seen: &Versions) -> Result<Rows, NoMemory>
+    ensures { IfOk result (λ rows. (row : Row) → map.get rows row ≡ listed statement.now row (version_in seen.now row).state) }
+{
+    Ok(Rows::new(values(alloc, statement, seen.entries())?))
+}
+
+fn state_at(statement: &Statement, entry: &(RowId, Version)) -> Option<(RowId, State)>
+    ensures { result ≡ with_row entry.now.0 (rewritten statement.now entry.now.0 entry.now.1.state) }
+{
+    let state = rewritten_state(statement, entry.0, entry.1.state)?;
+    Some((entry.0, state))
+}
+
+fn states(
+    alloc: Global,
+    statement: &Statement,
+    entries: &[(RowId, Version)],
+) -> Result<Vec<(RowId, State)>, NoMemory>
+    ensures { IfOk result (λ v. v.items ≡ each_row (λ row version. rewritten statement.now row version.state) entries.now) }
+{
+    entries
+        .iter()
+        .filter_map(|entry| state_at(statement, entry))
+        .collect(alloc)
+}
+
+fn inserted(alloc: Global, id: RowId, value: Value) -> Result<Vec<(RowId, State)>, NoMemory>
+    ensures { IfOk result (λ v. v.items ≡ (id, Present value) ∷ []) }
+{
+    let mut written = Vec::new(alloc);
+    written.push((id, State::Present(value)))?;
+    Ok(written)
+}
+
+/// What a statement that no row keeps from running writes. An insert writes its row alone, which may not be among those seen.
+fn written_states(
+    alloc: Global,
+    statement: &Statement,
+    seen: &Versions,
+) -> Result<Vec<(RowId, State)>, NoMemory>
+    ensures sorted { IfOk result (λ v. T (map.is_sorted row_cmp (new_states v.items))) }
+    ensures found { ((row : Row) → fails statement.now row (version_in seen.now row).state ≡ false)
+        → IfOk result (λ v. (row : Row) → map.find row_cmp row (new_states v.items) ≡ written statement.now row (version_in seen.now row).state) }
+{
+    match statement {
+        Statement::Select { .. } => Ok(Vec::new(alloc)),
+        Statement::Update { .. } => states(alloc, statement, seen.entries()),
+        Statement::Insert { id, value } => inserted(alloc, *id, *value),
+        Statement::Delete { .. } => states(alloc, statement, seen.entries()),
+    }
+}
+
+fn writes_of(alloc: Global, statement: &Statement, seen: &Versions) -> Result<Writes, NoMemory>
+    ensures { ((row : Row) → fails statement.now row (version_in seen.now row).state ≡ false)
+        → IfOk result (λ writes. (row : Row) → map.get writes row ≡ written statement.now row (version_in seen.now row).state) }
+{
+    Ok(Writes::new(written_states(alloc, statement, seen)?))
+}
+
+fn first_failing(statement: &Statement, entries: &[(RowId, Version)]) -> Option<RowId>
+    ensures { result ≡ made.first_failing statement.now entries.now }
+{
+    for entry in entries {
+        if fails_at(statement, entry.0, entry.1.state) {
+            return Some(entry.0);
+        }
+    }
+    None
+}
+
+/// Why a statement can't run on rows that are seen at these versions, if it can't.
+fn fault_of(statement: &Statement, seen: &Versions) -> Option<EffectFault>
+    ensures fault { MatchOption result ((row : Row) → fails statement.now row (version_in seen.now row).state ≡ false)
+        (IsEffectFault (version_in seen.now) statement.now) }
+    ensures own { IfSome result (λ fault. fault ≢ NoMemory) }
+{
+    match statement {
+        Statement::Select { .. } => None,
+        Statement::Update { .. } => {
+            let id = first_failing(statement, seen.entries())?;
+            Some(EffectFault::OutOfRange { id })
+        }
+        Statement::Insert { id, .. } => {
+            if version_seen(seen, *id).state.is_some() {
+                Some(EffectFault::DuplicateKey { id: *id })
+            } else {
+                None
+            }
+        }
+        Statement::Delete { .. } => None,
+    }
+}
+
+/// What a statement does to rows that are seen at these versions.
+pub fn effect_of(
+    alloc: Global,
+    statement: &Statement,
+    seen: &Versions,
+) -> Result<Effect, EffectFault>
+    ensures ok { IfOk result (λ e. IsEffectOn (version_in seen.now) statement.now e.view e.rows e.writes) }
+    ensures fault { IfErr result (IsEffectFault (version_in seen.now) statement.now) }
+{
+    if let Some(fault) = fault_of(statement, seen) {
+        return Err(fault);
+    }
+    Ok(Effect {
+        view: view_of(alloc, seen)?,
+        rows: rows_of(alloc, statement, seen)?,
+        writes: writes_of(alloc, statement, seen)?,
+    })
+}

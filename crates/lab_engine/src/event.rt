@@ -1,0 +1,154 @@
+//! The events of a log.
+
+ghost use Rattle.std.specs.Prelude.{◌≡◌, IfOk};
+
+use lab_history::{Rows, View, Writes};
+use lab_table::{Command, NoMemory, RowId, Session, TxnNo};
+use std::alloc::Global;
+use std::marker::Model;
+
+/// What an engine promises.
+#[derive(Clone, Copy, Debug, PartialEq, Eq)]
+pub enum Level {
+    /// What runs at the same time is as if it ran in turn; statements wait for readers and writers.
+    Locking,
+    /// A statement sees what has committed by then, and waits for writers.
+    Committed,
+    /// A transaction sees what had committed at its begin; nobody waits.
+    Snapshot,
+}
+
+/// Sessions in an order.
+#[derive(Drop)]
+pub struct Sessions {
+    items: Vec<Session>,
+}
+
+impl Model for Sessions {
+    ghost use Rattle.std.specs.Prelude.{ℕ, List};
+
+    ghost Value = { List ℕ };
+
+    ghost view = { λ s. s.items.items };
+}
+
+/// Why an engine refused a command. Refusals 2 to 5 abort the transaction; 6 to 8 change nothing but the log.
+#[derive(Drop)]
+pub enum EngineFault {
+    /// Refusal 2: the row that the insert adds is present.
+    DuplicateKey { id: RowId },
+    /// Refusal 3: the update would give a row a value out of range. The row named is the least such.
+    OutOfRange { id: RowId },
+    /// Refusal 4: the sessions wait in a circle, from the asking one on: each is blocked by the next, and the last by
+    /// the first.
+    Deadlock { circle: Sessions },
+    /// Refusal 5, of a commit: another transaction has installed a row that this one wrote, since its begin. The row
+    /// named is the least such, and the transaction the first to install it since then.
+    WriteConflict { row: RowId, by: TxnNo },
+    /// Refusal 6: the session has no active transaction.
+    NoTransaction,
+    /// Refusal 7, of a begin: the session has an active transaction.
+    AlreadyBegun,
+    /// Refusal 8: a command of the session waits.
+    Busy,
+}
+
+/// What an engine answered.
+#[derive(Drop)]
+pub enum Outcome {
+    /// A transaction began, and has this number.
+    Begun(TxnNo),
+    /// A statement ran: the versions that it saw, the rows that it lists, and what it wrote.
+    Rows {
+        view: View,
+        rows: Rows,
+        writes: Writes,
+    },
+    /// The transaction committed.
+    Committed,
+    /// The transaction was aborted, as it asked for.
+    Aborted,
+    /// The statement waits for these sessions, by rising number.
+    Waits {
+        on: Sessions,
+    },
+    /// The command was refused.
+    Refused(EngineFault),
+}
+
+/// One event of a log: a session's command, and what the engine answered.
+#[derive(Drop)]
+pub struct LogEvent {
+    pub session: Session,
+    pub command: Command,
+    pub outcome: Outcome,
+}
+
+impl Sessions {
+    /// These sessions.
+    pub fn new(items: Vec<Session>) -> Sessions
+        ensures { result ≡ items.items }
+    {
+        Sessions { items }
+    }
+
+    /// The sessions, in order.
+    pub fn as_slice(&self) -> &[Session]
+        ensures { result.now ≡ self.now }
+    {
+        &self.items
+    }
+
+    /// A copy; NoMemory where a growth was refused.
+    pub fn copy(&self, alloc: Global) -> Result<Sessions, NoMemory>
+        ensures { IfOk result (λ copy. copy ≡ self.now) }
+    {
+        Ok(Sessions {
+            items: Vec::from_slice(alloc, &self.items)?,
+        })
+    }
+}
+
+impl EngineFault {
+    /// A copy; NoMemory where a growth was refused.
+    pub fn copy(&self, alloc: Global) -> Result<EngineFault, NoMemory>
+        ensures { IfOk result (λ copy. copy ≡ self.now) }
+    {
+        Ok(match self {
+            EngineFault::DuplicateKey { id } => EngineFault::DuplicateKey { id: *id },
+            EngineFault::OutOfRange { id } => EngineFault::OutOfRange { id: *id },
+            EngineFault::Deadlock { circle } => EngineFault::Deadlock {
+                circle: circle.copy(alloc)?,
+            },
+            EngineFault::WriteConflict { row, by } => {
+                EngineFault::WriteConflict { row: *row, by: *by }
+            }
+            EngineFault::NoTransaction => EngineFault::NoTransaction,
+            EngineFault::AlreadyBegun => EngineFault::AlreadyBegun,
+            EngineFault::Busy => EngineFault::Busy,
+        })
+    }
+}
+
+impl Outcome {
+    /// A copy; NoMemory where a growth was refused.
+    pub fn copy(&self, alloc: Global) -> Result<Outcome, NoMemory>
+        ensures { IfOk result (λ copy. copy ≡ self.now) }
+    {
+        match self {
+            Outcome::Begun(number) => Ok(Outcome::Begun(*number)),
+            Outcome::Rows { view, rows, writes } => {
+                let view = view.copy(alloc)?;
+                let rows = rows.copy(alloc)?;
+                let writes = writes.copy(alloc)?;
+                Ok(Outcome::Rows { view, rows, writes })
+            }
+            Outcome::Committed => Ok(Outcome::Committed),
+            Outcome::Aborted => Ok(Outcome::Aborted),
+            Outcome::Waits { on } => Ok(Outcome::Waits {
+                on: on.copy(alloc)?,
+            }),
+            Outcome::Refused(fault) => Ok(Outcome::Refused(fault.copy(alloc)?)),
+        }
+    }
+}

@@ -1,0 +1,35 @@
+//! Who holds a write of a row that a statement would write.
+
+ghost use Rattle.std.specs.Prelude.{◌≡◌};
+ghost use Rattle.lab_engine.specs.Sight.{version_in};
+ghost use Rattle.lab_engine.specs.Pending.{writes_over};
+
+use crate::on_row::would_write;
+use crate::situation::RunningTxn;
+use crate::version::{Version, Versions};
+use lab_history::VersionName;
+use lab_table::{RowId, Statement};
+
+/// The version of a row that is seen: the one listed, else that of a row absent from the start.
+pub fn version_seen(seen: &Versions, row: RowId) -> Version
+    ensures { result ≡ version_in seen.now row }
+{
+    match seen.get(row) {
+        Some(version) => version,
+        None => Version {
+            name: VersionName::Initial,
+            state: None,
+        },
+    }
+}
+
+/// Whether a transaction has a pending write of a row that the statement would write as these versions are seen.
+pub fn holds_write(seen: &Versions, statement: &Statement, holder: &RunningTxn<'_>) -> bool
+    ensures { result ≡ writes_over seen.now statement.now holder.now.last }
+{
+    holder.last.entries().iter().any(|entry| would_write(
+        statement,
+        entry.0,
+        version_seen(seen, entry.0).state,
+    ))
+}

@@ -1,0 +1,287 @@
+//! What one pass over a log finds.
+
+ghost use Rattle.std.specs.Prelude.{◌≡◌, ◌<◌, [], ◌∷◌, length, option_map, Option, List, Contains, IfOk};
+ghost use Rattle.std.specs.Prelude as list;
+ghost use Rattle.std.specs.FinMap as map;
+ghost use Rattle.lab_table.specs.Row.{Row};
+ghost use Rattle.lab_table.specs.Table.{Rows};
+ghost use Rattle.lab_history.specs.VersionName.{View};
+ghost use Rattle.lab_history.specs.declared.operation.Op.{Op};
+ghost use Rattle.lab_engine.specs.Log.{Past, past_of, Txn, active_after, ops_after, commits_after, begun_after, last_installed};
+ghost use Rattle.lab_engine.specs.Situation.{Describes, DescribesSession, DescribesAll, Agree, IsRunning, HasRoom, all_sessions, running_of, grown};
+
+use crate::event::{LogEvent, Outcome};
+use crate::look::{asked_statement, is_busy, is_fatal_fault, waits_after};
+use crate::version::Versions;
+use lab_history::{VersionName, Writes};
+use lab_table::{Command, NoMemory, Session, Statement, TxnNo};
+use std::alloc::Global;
+
+/// An active transaction.
+#[derive(Drop)]
+pub struct RunningTxn<'a> {
+    /// Its number.
+    pub number: TxnNo,
+    /// How many events stand before its begin.
+    pub before: usize,
+    /// The statements that it ran, in order.
+    pub statements: Vec<&'a Statement>,
+    /// The last version of each row that it wrote.
+    pub last: Versions,
+}
+
+/// What a session is doing.
+#[derive(Drop)]
+pub struct SessionState<'a> {
+    pub session: Session,
+    /// The statement that it waits with.
+    pub waits: Option<&'a Statement>,
+    /// Its active transaction.
+    pub running: Option<RunningTxn<'a>>,
+}
+
+/// Where a log leaves its sessions and rows.
+#[derive(Drop)]
+pub struct Situation<'a> {
+    /// Each of the sessions 1 to 9, by rising number.
+    pub sessions: Vec<SessionState<'a>>,
+    /// The last installed version of each row that was ever installed.
+    pub committed: Versions,
+    /// How many transactions have begun.
+    pub begun: u32,
+    /// How many events there were.
+    pub events: usize,
+}
+
+impl<'a> Situation<'a> {
+    /// The situation after these events, the oldest first. NoMemory where a growth was refused.
+    pub fn of(alloc: Global, log: &'a [LogEvent]) -> Result<Situation<'a>, NoMemory>
+        requires { length log.now < 100000 }
+        ensures { IfOk result (Describes (past_of log.now)) }
+    {
+        let mut situation = Situation {
+            sessions: idle_sessions(alloc)?,
+            committed: Versions::new(alloc),
+            begun: 0,
+            events: 0,
+        };
+        for event in log {
+            situation.take_in(alloc, event)?;
+        }
+        Ok(situation)
+    }
+
+    /// The situation after these events, the oldest first, and one more. NoMemory where a growth was refused.
+    pub fn after(
+        alloc: Global,
+        log: &'a [LogEvent],
+        event: &'a LogEvent,
+    ) -> Result<Situation<'a>, NoMemory>
+        requires { length log.now < 100000 }
+        ensures { IfOk result (Describes (event.now ∷ past_of log.now)) }
+    {
+        let mut situation = Situation::of(alloc, log)?;
+        situation.take_in(alloc, event)?;
+        Ok(situation)
+    }
+
+    /// The active transaction of a session.
+    pub fn running(&self, session: Session) -> Option<&RunningTxn<'a>>
+        ensures { option_map (λ r. r.now) result ≡ running_of self.now.sessions.items session }
+    {
+        running_in(&self.sessions, session)
+    }
+
+    /// Goes on by one event. After NoMemory the situation is of no use.
+    pub fn take_in(&mut self, alloc: Global, event: &'a LogEvent) -> Result<(), NoMemory>
+        requires room { (past : Past) × Describes past self.old × (length past < 100000) }
+        ensures { (past : Past) → Describes past self.old → IfOk result (λ _. Describes (event.now ∷ past) self.new) }
+    {
+        install(alloc, &mut self.committed, &self.sessions, event)?;
+        go_on(alloc, &mut self.sessions, event, self.events)?;
+        self.begun = begun_next(&event.outcome, self.begun);
+        self.events += 1;
+        Ok(())
+    }
+}
+
+impl<'a> SessionState<'a> {
+    /// Goes on by one event of the session, with so many events before it.
+    fn take_in(&mut self, alloc: Global, event: &'a LogEvent, before: usize) -> Result<(), NoMemory>
+        requires { HasRoom self.old.running }
+        ensures session { self.new.session ≡ self.old.session }
+        ensures state { (past : Past) → DescribesSession past self.old → event.now.session ≡ self.old.session → before ≡ length past
+            → IfOk result (λ _. DescribesSession (event.now ∷ past) self.new) }
+    {
+        if !is_busy(&event.outcome) {
+            self.waits = waits_after(event);
+        }
+        self.running = running_next(alloc, self.running.take(), event, before)?;
+        Ok(())
+    }
+}
+
+impl<'a> RunningTxn<'a> {
+    /// A transaction that begins, with so many events before.
+    fn begin(alloc: Global, number: TxnNo, before: usize) -> RunningTxn<'a>
+        ensures { (past : Past) → before ≡ length past → IsRunning (record { no = number; ops = []; before = past }) result }
+    {
+        RunningTxn {
+            number,
+            before,
+            statements: Vec::new(alloc),
+            last: Versions::new(alloc),
+        }
+    }
+
+    /// Goes on by an operation.
+    fn run(
+        &mut self,
+        alloc: Global,
+        statement: &'a Statement,
+        writes: &Writes,
+    ) -> Result<(), NoMemory>
+        requires { length self.old.statements.items < 100000 }
+        ensures { (txn : Txn) (op : Op) → IsRunning txn self.old → op.statement ≡ statement.now → op.writes ≡ writes.now
+            → IfOk result (λ _. IsRunning (grown txn op) self.new) }
+    {
+        let name = VersionName::Of {
+            txn: self.number,
+            op: self.statements.len() as u32 + 1,
+        };
+        let written = Versions::written(alloc, writes, name)?;
+        self.last.cover(alloc, &written)?;
+        self.statements.push(statement)?;
+        Ok(())
+    }
+}
+
+/// Every session, with no transaction.
+fn idle_sessions<'a>(alloc: Global) -> Result<Vec<SessionState<'a>>, NoMemory>
+    ensures sessions { IfOk result (λ v. list.map (λ state. state.session) v.items ≡ all_sessions) }
+    ensures idle { IfOk result (λ v. DescribesAll [] v.items) }
+{
+    let mut states = Vec::new(alloc);
+    for number in 1..10 {
+        let Some(session) = Session::new(number) else {
+            unreachable!()
+        };
+        states.push(SessionState {
+            session,
+            waits: None,
+            running: None,
+        })?;
+    }
+    Ok(states)
+}
+
+fn running_in<'a, 's>(
+    states: &'s [SessionState<'a>],
+    session: Session,
+) -> Option<&'s RunningTxn<'a>>
+    ensures { option_map (λ r. r.now) result ≡ running_of states.now session }
+{
+    for state in states {
+        if state.session == session {
+            return state.running.as_ref();
+        }
+    }
+    None
+}
+
+/// The active transaction of an event's session after it.
+fn running_next<'a>(
+    alloc: Global,
+    running: Option<RunningTxn<'a>>,
+    event: &'a LogEvent,
+    before: usize,
+) -> Result<Option<RunningTxn<'a>>, NoMemory>
+    requires { HasRoom running }
+    ensures { (past : Past) (txn : Option Txn) → Agree txn running.entry → before ≡ length past
+        → IfOk result (Agree (active_after event.now.command event.now.outcome past txn)) }
+{
+    match &event.outcome {
+        Outcome::Begun(number) => Ok(Some(RunningTxn::begin(alloc, *number, before))),
+        Outcome::Rows { writes, .. } => run_in(alloc, running, &event.command, writes),
+        Outcome::Committed => Ok(None),
+        Outcome::Aborted => Ok(None),
+        Outcome::Waits { .. } => Ok(running),
+        Outcome::Refused(fault) => {
+            if is_fatal_fault(fault) {
+                Ok(None)
+            } else {
+                Ok(running)
+            }
+        }
+    }
+}
+
+/// The active transaction, if any, after an operation.
+fn run_in<'a>(
+    alloc: Global,
+    running: Option<RunningTxn<'a>>,
+    command: &'a Command,
+    writes: &Writes,
+) -> Result<Option<RunningTxn<'a>>, NoMemory>
+    requires { HasRoom running }
+    ensures { (txn : Option Txn) (view : View) (rows : Rows) → Agree txn running.entry
+        → IfOk result (Agree (option_map (λ t. record { no = t.no; ops = ops_after command.now view rows writes.now t.ops; before = t.before }) txn)) }
+{
+    let Some(mut active) = running else {
+        return Ok(None);
+    };
+    let Some(statement) = asked_statement(command) else {
+        return Ok(Some(active));
+    };
+    active.run(alloc, statement, writes)?;
+    Ok(Some(active))
+}
+
+/// Goes on by one event in its session, with so many events before it.
+fn go_on<'a>(
+    alloc: Global,
+    states: &mut Vec<SessionState<'a>>,
+    event: &'a LogEvent,
+    before: usize,
+) -> Result<(), NoMemory>
+    requires sessions { list.map (λ state. state.session) states.old.items ≡ all_sessions }
+    requires room { (past : Past) × DescribesAll past states.old.items × (length past < 100000) }
+    ensures session { Contains all_sessions event.now.session }
+    ensures sessions { IfOk result (λ _. list.map (λ state. state.session) states.new.items ≡ all_sessions) }
+    ensures states { (past : Past) → DescribesAll past states.old.items → before ≡ length past → IfOk result (λ _. DescribesAll (event.now ∷ past) states.new.items) }
+{
+    states[usize::from(event.session.number() - 1)].take_in(alloc, event, before)?;
+    Ok(())
+}
+
+/// Puts the versions that a commit installs over those committed before.
+fn install(
+    alloc: Global,
+    committed: &mut Versions,
+    states: &[SessionState<'_>],
+    event: &LogEvent,
+) -> Result<(), NoMemory>
+    ensures { (txn : Option Txn) (txns : List Txn) → Agree txn (running_of states.now event.now.session)
+        → ((row : Row) → map.get committed.old row ≡ last_installed txns row)
+        → IfOk result (λ _. (row : Row) → map.get committed.new row ≡ last_installed (commits_after event.now.outcome txn txns) row) }
+{
+    match &event.outcome {
+        Outcome::Committed => {
+            if let Some(running) = running_in(states, event.session) {
+                committed.cover(alloc, &running.last)?;
+            }
+            Ok(())
+        }
+        _ => Ok(()),
+    }
+}
+
+fn begun_next(outcome: &Outcome, begun: u32) -> u32
+    requires { begun < 100000 }
+    ensures { result ≡ begun_after outcome.now begun }
+{
+    match outcome {
+        Outcome::Begun(_) => begun + 1,
+        _ => begun,
+    }
+}

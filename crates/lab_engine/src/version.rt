@@ -1,0 +1,256 @@
+//! The versions of rows.
+
+ghost use Rattle.std.specs.Prelude.{◌≡◌, T, ◌≤◌, length, IfOk, OnErr};
+ghost use Rattle.std.specs.Prelude as list;
+ghost use Rattle.std.specs.List.{prefix_len};
+ghost use Rattle.std.specs.FinMap as map;
+ghost use Rattle.std.specs.Option.{option_or};
+ghost use Rattle.lab_table.specs.Row.{Row, row_cmp};
+ghost use Rattle.lab_engine.specs.Sight.{listed_version, comes_after};
+ghost use Rattle.lab_history.specs.VersionName.{state_value};
+ghost use Rattle.lab_engine.specs.Merging.{initial_entry, written_entry, written_version, insert_each, is_row_at, merged, without_row};
+
+use lab_history::{State, VersionName, Writes};
+use lab_table::{NoMemory, RowId, Table, Value};
+use std::alloc::Global;
+use std::marker::Model;
+
+/// So many versions are put one by one, each by halving; more are merged by a walk through both lists.
+const FEW: usize = 8;
+
+/// A version of a row: its name, and the row's value in it, or None where the row is absent.
+#[derive(Clone, Copy, Debug, PartialEq, Eq)]
+pub struct Version {
+    pub name: VersionName,
+    pub state: Option<Value>,
+}
+
+/// A version of each of some rows. It is kept sorted by row, so a row is found by halving.
+#[derive(Debug, Drop)]
+pub struct Versions {
+    entries: Vec<(RowId, Version)>,
+}
+
+impl Model for Versions {
+    ghost use Rattle.std.specs.Prelude.{T};
+    ghost use Rattle.std.specs.FinMap as map;
+    ghost use Rattle.lab_table.specs.Row.{row_cmp, coded_row};
+    ghost use Rattle.lab_engine.specs.declared.version.Version.{Version};
+    ghost use Rattle.lab_engine.specs.contracts.version.Version as version;
+
+    ghost Value = { map.FinMap row_cmp Version };
+
+    ghost coded = { map.code coded_row version.the_row.coded };
+
+    ghost view = { λ v. map.from_sorted v.entries.items };
+
+    ghost invariant = { λ v. T (map.is_sorted row_cmp v.entries.items) };
+}
+
+impl Versions {
+    /// Versions of no row; it takes no memory.
+    pub fn new(alloc: Global) -> Versions
+        ensures { result ≡ map.empty }
+    {
+        Versions {
+            entries: Vec::new(alloc),
+        }
+    }
+
+    /// The initial version of each row that the table has. NoMemory where a growth was refused.
+    pub fn of_table(alloc: Global, table: &Table) -> Result<Versions, NoMemory>
+        ensures { IfOk result (λ made. (row : Row) → map.get made row ≡ listed_version (map.get table.now row)) }
+    {
+        Ok(Versions {
+            entries: initial_entries(alloc, table.rows())?,
+        })
+    }
+
+    /// The versions that an operation wrote. NoMemory where a growth was refused.
+    pub fn written(alloc: Global, writes: &Writes, name: VersionName) -> Result<Versions, NoMemory>
+        ensures { IfOk result (λ made. (row : Row) → map.get made row ≡ written_version name (map.get writes.now row)) }
+    {
+        Ok(Versions {
+            entries: written_entries(alloc, writes.entries(), name)?,
+        })
+    }
+
+    /// The version of a row, or None where there is none of it.
+    pub fn get(&self, row: RowId) -> Option<Version>
+        ensures { result ≡ map.get self.now row }
+    {
+        version_at(&self.entries, row)
+    }
+
+    /// The rows with their versions, by rising row.
+    pub fn entries(&self) -> &[(RowId, Version)]
+        ensures { result.now ≡ map.entries self.now }
+    {
+        &self.entries
+    }
+
+    /// Gives a row this version, in the place of the one that it has, if any.
+    /// The one refusal is want of memory, and leaves all as it was.
+    pub fn put(&mut self, _alloc: Global, row: RowId, version: Version) -> Result<(), NoMemory>
+        ensures ok { IfOk result (λ _. self.new ≡ map.insert self.old row version) }
+        ensures err { OnErr result (self.new ≡ self.old) }
+    {
+        put_entry(&mut self.entries, row, version)?;
+        Ok(())
+    }
+
+    /// Puts the others' versions over these: of a row that both have, the other's stays.
+    /// After NoMemory some may have been put.
+    pub fn cover(&mut self, alloc: Global, over: &Versions) -> Result<(), NoMemory>
+        ensures { IfOk result (λ _. (row : Row) → map.get self.new row ≡ option_or (map.get over.now row) (map.get self.old row)) }
+    {
+        if over.entries.len() <= FEW {
+            self.put_each(alloc, &over.entries)?;
+        } else {
+            *self = self.under(alloc, over)?;
+        }
+        Ok(())
+    }
+
+    fn put_each(&mut self, alloc: Global, entries: &[(RowId, Version)]) -> Result<(), NoMemory>
+        ensures { IfOk result (λ _. self.new ≡ insert_each self.old entries.now) }
+    {
+        for entry in entries {
+            self.put(alloc, entry.0, entry.1)?;
+        }
+        Ok(())
+    }
+
+    /// These versions with the others' over them: of a row that both have, the other's stays.
+    /// NoMemory where a growth was refused.
+    pub fn under(&self, alloc: Global, over: &Versions) -> Result<Versions, NoMemory>
+        ensures { IfOk result (λ made. (row : Row) → map.get made row ≡ option_or (map.get over.now row) (map.get self.now row)) }
+    {
+        Ok(Versions {
+            entries: merged_entries(alloc, &self.entries, &over.entries)?,
+        })
+    }
+}
+
+fn initial_entries(
+    alloc: Global,
+    rows: &[(RowId, Value)],
+) -> Result<Vec<(RowId, Version)>, NoMemory>
+    ensures { IfOk result (λ v. v.items ≡ list.map initial_entry rows.now) }
+{
+    rows.iter()
+        .map(|row| {
+            (
+                row.0,
+                Version {
+                    name: VersionName::Initial,
+                    state: Some(row.1),
+                },
+            )
+        })
+        .collect(alloc)
+}
+
+fn value_of(state: State) -> Option<Value>
+    ensures { result ≡ state_value state }
+{
+    match state {
+        State::Absent => None,
+        State::Present(value) => Some(value),
+    }
+}
+
+fn written_entries(
+    alloc: Global,
+    writes: &[(RowId, State)],
+    name: VersionName,
+) -> Result<Vec<(RowId, Version)>, NoMemory>
+    ensures { IfOk result (λ v. v.items ≡ list.map (written_entry name) writes.now) }
+{
+    writes
+        .iter()
+        .map(|write| {
+            (
+                write.0,
+                Version {
+                    name,
+                    state: value_of(write.1),
+                },
+            )
+        })
+        .collect(alloc)
+}
+
+fn stands_at(entries: &[(RowId, Version)], place: usize, row: RowId) -> bool
+    ensures { result ≡ is_row_at entries.now place row }
+{
+    match entries.get(place) {
+        Some(entry) => row == entry.0,
+        None => false,
+    }
+}
+
+fn put_entry(
+    entries: &mut Vec<(RowId, Version)>,
+    row: RowId,
+    version: Version,
+) -> Result<(), NoMemory>
+    requires { T (map.is_sorted row_cmp entries.old.items) }
+    ensures ok { IfOk result (λ _. entries.new.items ≡ map.put row_cmp row version entries.old.items) }
+    ensures err { OnErr result (entries.new.items ≡ entries.old.items) }
+{
+    let place = place_of(entries, row);
+    if stands_at(entries, place, row) {
+        entries[place] = (row, version);
+    } else {
+        entries.insert(place, (row, version))?;
+    }
+    Ok(())
+}
+
+/// The entries behind the row's, of a list that has none before it.
+fn behind(entries: &[(RowId, Version)], row: RowId) -> &[(RowId, Version)]
+    ensures { result.now ≡ without_row row entries.now }
+{
+    match entries.split_first() {
+        Some((first, rest)) => { if row == first.0 { rest } else { entries } }
+        None => entries,
+    }
+}
+
+/// Walks through both lists at once: what stands before each entry that lies over, then that entry.
+fn merged_entries(
+    alloc: Global,
+    under: &[(RowId, Version)],
+    over: &[(RowId, Version)],
+) -> Result<Vec<(RowId, Version)>, NoMemory>
+    requires { T (map.is_sorted row_cmp under.now) }
+    ensures { IfOk result (λ v. v.items ≡ merged under.now over.now) }
+{
+    let mut entries = Vec::new(alloc);
+    let mut left = under;
+    for entry in over {
+        let (before, rest) = left.split_at(place_of(left, entry.0));
+        entries.extend_from_slice(before)?;
+        entries.push(*entry)?;
+        left = behind(rest, entry.0);
+    }
+    entries.extend_from_slice(left)?;
+    Ok(entries)
+}
+
+fn version_at(entries: &[(RowId, Version)], row: RowId) -> Option<Version>
+    requires { T (map.is_sorted row_cmp entries.now) }
+    ensures { result ≡ map.find row_cmp row entries.now }
+{
+    let entry = entries.get(place_of(entries, row))?;
+    if row == entry.0 { Some(entry.1) } else { None }
+}
+
+fn place_of(entries: &[(RowId, Version)], row: RowId) -> usize
+    requires { T (map.is_sorted row_cmp entries.now) }
+    ensures value { result ≡ prefix_len (comes_after row) entries.now }
+    ensures bound { result ≤ length entries.now }
+{
+    entries.partition_point(|entry| row > entry.0)
+}

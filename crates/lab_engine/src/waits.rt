@@ -1,0 +1,202 @@
+//! Who waits for whom.
+
+ghost use Rattle.std.specs.Prelude.{◌≡◌, ◌==◌, ◌&&◌, not, ◌<◌, ◌↔◌, Some, true, false, List, ℕ, length, IfOk, IsSome, IsTrue, MatchOption};
+ghost use Rattle.std.specs.List.{Contains, list_any};
+ghost use Rattle.lab_table.specs.declared.statement.Statement.{Statement as Asked};
+ghost use Rattle.lab_engine.specs.Log.{Past, Txn, active};
+ghost use Rattle.lab_engine.specs.Rules.{BlockedBy, IsCircle, MayAsk};
+ghost use Rattle.lab_engine.specs.Recording.{NoneRetryable, IsLeastRetryable};
+ghost use Rattle.lab_engine.specs.Situation.{Describes, DescribesSession, HasBegins};
+ghost use Rattle.lab_engine.specs.Sight.{IsSight};
+ghost use Rattle.lab_engine.specs.WaitsFor.{AreBlockers, AreWaits, WaitsOn};
+ghost use Rattle.lab_engine.specs.Released.{IsReleased};
+
+use crate::circle::shortest_circle;
+use crate::event::{LogEvent, Sessions};
+use crate::rules::Rules;
+use crate::sight::seen_by;
+use crate::situation::{SessionState, Situation};
+use crate::version::Versions;
+use lab_table::{NoMemory, Session, Statement, Table};
+use std::alloc::Global;
+
+/// A session, and those that block its statement, by rising number.
+#[derive(Drop)]
+pub struct Wait {
+    pub session: Session,
+    pub on: Sessions,
+}
+
+/// Whether another session, which is in this state, blocks a statement of one that sees these versions.
+fn is_blocked_by<R: Rules>(
+    rules: &R,
+    setup: &Table,
+    situation: &Situation<'_>,
+    session: Session,
+    seen: &Versions,
+    statement: &Statement,
+    state: &SessionState<'_>,
+) -> bool
+    ensures yes { (past : Past) (txn : Txn) → Describes past situation.now → DescribesSession past state.now → active past session ≡ Some txn
+        → IsSight (R.kind rules.now) setup.now past txn seen.now → result ≡ true → BlockedBy (R.kind rules.now) setup.now past session statement.now state.now.session }
+    ensures never { (past : Past) (txn : Txn) → Describes past situation.now → DescribesSession past state.now → active past session ≡ Some txn
+        → IsSight (R.kind rules.now) setup.now past txn seen.now → result ≡ false → ¬ BlockedBy (R.kind rules.now) setup.now past session statement.now state.now.session }
+{
+    if state.session == session {
+        return false;
+    }
+    match &state.running {
+        None => false,
+        Some(holder) => rules.blocks(setup, situation, seen, statement, holder),
+    }
+}
+
+/// The sessions that block a statement of a session that sees these versions, by rising number.
+/// NoMemory where a growth was refused.
+pub fn blockers<R: Rules>(
+    alloc: Global,
+    rules: &R,
+    setup: &Table,
+    situation: &Situation<'_>,
+    session: Session,
+    seen: &Versions,
+    statement: &Statement,
+) -> Result<Sessions, NoMemory>
+    ensures { (past : Past) (txn : Txn) → Describes past situation.now → active past session ≡ Some txn
+        → IsSight (R.kind rules.now) setup.now past txn seen.now
+        → IfOk result (AreBlockers (R.kind rules.now) setup.now past session statement.now) }
+{
+    let mut on = Vec::new(alloc);
+    for state in &situation.sessions {
+        if is_blocked_by(rules, setup, situation, session, seen, statement, state) {
+            on.push(state.session)?;
+        }
+    }
+    Ok(Sessions::new(on))
+}
+
+/// Those that block the statement that a session waits with; nobody where it doesn't wait.
+/// NoMemory where a growth was refused.
+fn waits_on<R: Rules>(
+    alloc: Global,
+    rules: &R,
+    setup: &Table,
+    log: &[LogEvent],
+    situation: &Situation<'_>,
+    state: &SessionState<'_>,
+) -> Result<Sessions, NoMemory>
+    requires { length log.now < 100000 }
+    ensures { (past : Past) → Describes past situation.now → HasBegins past log.now → DescribesSession past state.now
+        → IfOk result (λ on. (other : ℕ) → Contains on other ↔ WaitsOn (R.kind rules.now) setup.now past state.now.session other) }
+{
+    let Some(statement) = state.waits else {
+        return Ok(Sessions::new(Vec::new(alloc)));
+    };
+    let Some(running) = &state.running else {
+        return Ok(Sessions::new(Vec::new(alloc)));
+    };
+    let seen = seen_by(alloc, rules.level(), setup, log, situation, running)?;
+    blockers(
+        alloc,
+        rules,
+        setup,
+        situation,
+        state.session,
+        &seen,
+        statement,
+    )
+}
+
+/// Who waits for whom. NoMemory where a growth was refused.
+pub fn all_waits<R: Rules>(
+    alloc: Global,
+    rules: &R,
+    setup: &Table,
+    log: &[LogEvent],
+    situation: &Situation<'_>,
+) -> Result<Vec<Wait>, NoMemory>
+    requires { length log.now < 100000 }
+    ensures { (past : Past) → Describes past situation.now → HasBegins past log.now
+        → IfOk result (λ waits. AreWaits (R.kind rules.now) setup.now past waits.items) }
+{
+    let mut waits = Vec::new(alloc);
+    for state in &situation.sessions {
+        let on = waits_on(alloc, rules, setup, log, situation, state)?;
+        if !on.as_slice().is_empty() {
+            waits.push(Wait {
+                session: state.session,
+                on,
+            })?;
+        }
+    }
+    Ok(waits)
+}
+
+/// The circle on which a session would stand that asks for a statement which these block; or None where there is none.
+/// NoMemory where a growth was refused.
+pub fn deadlock<R: Rules>(
+    alloc: Global,
+    rules: &R,
+    setup: &Table,
+    log: &[LogEvent],
+    situation: &Situation<'_>,
+    session: Session,
+    on: &Sessions,
+) -> Result<Option<Sessions>, NoMemory>
+    requires { length log.now < 100000 }
+    ensures { (past : Past) (s : Asked) → Describes past situation.now → HasBegins past log.now → MayAsk past session s
+        → AreBlockers (R.kind rules.now) setup.now past session s on.now
+        → IfOk result (λ found. MatchOption found ((circle : List ℕ) → ¬ IsCircle (R.kind rules.now) setup.now past session s circle)
+        (IsCircle (R.kind rules.now) setup.now past session s)) }
+{
+    let mut waits = all_waits(alloc, rules, setup, log, situation)?;
+    waits.push(Wait {
+        session,
+        on: on.copy(alloc)?,
+    })?;
+    shortest_circle(alloc, &waits, session)
+}
+
+/// Whether a session waits for somebody.
+fn is_held(waits: &[Wait], session: Session) -> bool
+    ensures { result ≡ list_any (λ wait. wait.session == session && not (length wait.on == 0)) waits.now }
+{
+    waits.iter().any(|wait| wait.session == session && !wait.on.as_slice().is_empty())
+}
+
+/// Whether a session's statement waits and may go on: it waits for nobody, or stands on a circle.
+/// NoMemory where a growth was refused.
+fn is_released(alloc: Global, waits: &[Wait], state: &SessionState<'_>) -> Result<bool, NoMemory>
+    ensures { IfOk result (λ released. IsTrue released ↔ (IsSome state.now.waits × IsReleased waits.now state.now.session)) }
+{
+    if state.waits.is_none() {
+        return Ok(false);
+    }
+    if !is_held(waits, state.session) {
+        return Ok(true);
+    }
+    let circle = shortest_circle(alloc, waits, state.session)?;
+    Ok(circle.is_some())
+}
+
+/// The least session whose waiting statement has nothing in its way, or stands on a circle.
+/// NoMemory where a growth was refused.
+pub fn retryable<R: Rules>(
+    alloc: Global,
+    rules: &R,
+    setup: &Table,
+    log: &[LogEvent],
+    situation: &Situation<'_>,
+) -> Result<Option<Session>, NoMemory>
+    requires { length log.now < 100000 }
+    ensures { (past : Past) → Describes past situation.now → HasBegins past log.now
+        → IfOk result (λ found. MatchOption found (NoneRetryable (R.kind rules.now) setup.now past) (IsLeastRetryable (R.kind rules.now) setup.now past)) }
+{
+    let waits = all_waits(alloc, rules, setup, log, situation)?;
+    for state in &situation.sessions {
+        if is_released(alloc, &waits, state)? {
+            return Ok(Some(state.session));
+        }
+    }
+    Ok(None)
+}

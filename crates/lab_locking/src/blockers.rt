@@ -1,0 +1,101 @@
+//! Whose writes and reads stand in a statement's way.
+
+ghost use Rattle.std.specs.Prelude.{◌≡◌};
+ghost use Rattle.std.specs.Prelude as list;
+ghost use Rattle.std.specs.FinMap as map;
+ghost use Rattle.lab_engine.specs.Rules as rules;
+ghost use Rattle.lab_engine.specs.Situation.{statements_of};
+ghost use Rattle.lab_locking.specs.Blockers as spec;
+
+use lab_engine::{RunningTxn, Version, Versions, matches_row, version_seen, would_write};
+use lab_table::{RowId, Statement, Table, Value};
+
+fn committed_state(setup: &Table, committed: &Versions, row: RowId) -> Option<Value>
+    ensures { result ≡ spec.committed_state setup.now (map.get committed.now row) row }
+{
+    match committed.get(row) {
+        Some(version) => version.state,
+        None => setup.get(row),
+    }
+}
+
+/// Whether a transaction has a pending write of a row whose committed or pending state matches the statement.
+pub fn holds_match(
+    setup: &Table,
+    committed: &Versions,
+    statement: &Statement,
+    holder: &RunningTxn<'_>,
+) -> bool
+    ensures { result ≡ spec.matches_pending setup.now committed.now statement.now holder.now.last }
+{
+    holder.last.entries().iter().any(|entry| {
+        matches_row(
+            statement,
+            entry.0,
+            committed_state(setup, committed, entry.0),
+        ) || matches_row(statement, entry.0, entry.1.state)
+    })
+}
+
+/// The state that a statement would leave of a row that it sees in this state; a result out of range is none.
+fn state_left(statement: &Statement, row: RowId, state: Option<Value>) -> Option<Value>
+    ensures { result ≡ rules.new_state statement.now row state }
+{
+    match statement {
+        Statement::Select { .. } => None,
+        Statement::Update { expr, .. } => {
+            let Some(value) = state else {
+                return None;
+            };
+            if matches_row(statement, row, Some(value)) {
+                expr.apply(value)
+            } else {
+                None
+            }
+        }
+        Statement::Insert { id, value } => { if row == *id { Some(*value) } else { None } }
+        Statement::Delete { .. } => None,
+    }
+}
+
+fn any_matches(ran: &[&Statement], row: RowId, state: &Option<Value>) -> bool
+    ensures { result ≡ spec.any_matches (list.map (λ s. s.now) ran.now) row state.now }
+{
+    for statement in ran {
+        if matches_row(statement, row, *state) {
+            return true;
+        }
+    }
+    false
+}
+
+fn row_was_read(ran: &[&Statement], statement: &Statement, row: RowId, version: &Version) -> bool
+    ensures { result ≡ spec.row_was_read (list.map (λ s. s.now) ran.now) statement.now row version.now.state }
+{
+    would_write(statement, row, version.state)
+        && (any_matches(ran, row, &version.state)
+            || any_matches(ran, row, &state_left(statement, row, version.state)))
+}
+
+fn listed_was_read(ran: &[&Statement], statement: &Statement, seen: &Versions) -> bool
+    ensures { result ≡ spec.listed_was_read (list.map (λ s. s.now) ran.now) statement.now seen.now }
+{
+    seen.entries()
+        .iter()
+        .any(|entry| row_was_read(ran, statement, entry.0, &entry.1))
+}
+
+/// Whether a transaction has run a statement that matches a row before or after the statement would write it.
+pub fn has_read(seen: &Versions, statement: &Statement, holder: &RunningTxn<'_>) -> bool
+    ensures { result ≡ spec.was_read (statements_of holder.now) statement.now seen.now }
+{
+    match statement {
+        Statement::Select { .. } => listed_was_read(&holder.statements, statement, seen),
+        Statement::Update { .. } => listed_was_read(&holder.statements, statement, seen),
+        Statement::Insert { id, .. } => {
+            let version = version_seen(seen, *id);
+            row_was_read(&holder.statements, statement, *id, &version)
+        }
+        Statement::Delete { .. } => listed_was_read(&holder.statements, statement, seen),
+    }
+}

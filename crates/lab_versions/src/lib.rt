@@ -1,0 +1,13 @@
+//! The two engines that keep versions of rows: nobody waits for a reader.
+//!
+//! [`SnapshotEngine`] lets each transaction see what had committed at its begin, and of two that wrote a row since
+//! then refuses the second one's commit. [`CommittedEngine`] lets each statement see what has committed by now, and
+//! makes it wait for those that have written a row that it would write.
+#![tactic(auto)]
+
+mod committed;
+mod conflict;
+mod snapshot;
+
+pub use committed::{CommittedEngine, CommittedRules};
+pub use snapshot::{SnapshotEngine, SnapshotRules};
