@@ -38,7 +38,7 @@ any_inserted q k [] = refl
 any_inserted q k (x ∷ xs) = by (row_cmp k x) refl (any_inserted q k xs)
   where
     by : (r : Ordering) → row_cmp k x ≡ r → list_any (row_eq q) (insert_key row_cmp xs k) ≡ (row_eq q k || list_any (row_eq q) xs)
-      → list_any (row_eq q) (match_ordering r (k ∷ x ∷ xs) (x ∷ xs) (x ∷ insert_key row_cmp xs k)) ≡ (row_eq q k || (row_eq q x || list_any (row_eq q) xs))
+        → list_any (row_eq q) (match_ordering r (k ∷ x ∷ xs) (x ∷ xs) (x ∷ insert_key row_cmp xs k)) ≡ (row_eq q k || (row_eq q x || list_any (row_eq q) xs))
     by Less e h = refl
     by Equal e h = twice (row_eq q x) (list_any (row_eq q) xs) ∙ ap (λ y. row_eq q y || (row_eq q x || list_any (row_eq q) xs)) (sym (rows_apart k x e))
     by Greater e h = ap (λ b. row_eq q x || b) h ∙ swapped (row_eq q x) (row_eq q k) (list_any (row_eq q) xs)
@@ -126,8 +126,8 @@ op_added : (seen : List Row) (op : Op) → with_op seen op ≡ rows_added seen (
 op_added seen op =
     list_added (with_rows (with_rows seen (entries op.view)) (entries op.rows)) (entries op.writes)
     ∙ ap (λ s. rows_added s (keys op.writes))
-      (list_added (with_rows seen (entries op.view)) (entries op.rows) ∙ ap (λ s. rows_added s (keys op.rows)) (list_added seen (entries op.view))
-       ∙ added_both seen (keys op.view) (keys op.rows))
+    (list_added (with_rows seen (entries op.view)) (entries op.rows) ∙ ap (λ s. rows_added s (keys op.rows)) (list_added seen (entries op.view))
+    ∙ added_both seen (keys op.view) (keys op.rows))
     ∙ added_both seen (keys op.view ++ keys op.rows) (keys op.writes)
 
 ops_added : (seen : List Row) (ops : List Op) → with_ops seen ops ≡ rows_added seen (flat_map op_rows ops)

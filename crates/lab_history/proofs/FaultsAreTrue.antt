@@ -1,5 +1,5 @@
 -- A fault that reading has is true.
-use Rattle.std.proofs.Common.{◌≡◌, ◌≢◌, ℕ, ◌==◌, ⊎_elim, Bool, true, false, List, Option, Some, None, is_some, option_and_then, Ok, Err, if◌then◌else◌, codes, nat_lt, bytes_eq, refl, sym, ap, subst, ltb-true, eq-eqb}
+use Rattle.std.proofs.Common.{◌≡◌, ◌≢◌, ℕ, ◌==◌, ⊎_elim, true, false, List, Option, Some, None, is_some, option_and_then, Ok, Err, if◌then◌else◌, codes, nat_lt, bytes_eq, refl, sym, ap, subst, ltb-true, eq-eqb}
 use Rattle.std.specs.Prelude.{⊤}
 use Rattle.serde_json.specs.Data.{Data}
 use Rattle.serde_json.specs.Find.{as_number, as_u64, as_object, as_str}

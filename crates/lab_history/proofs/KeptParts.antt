@@ -128,17 +128,18 @@ fresh_parted before t [] f = (tt, refl)
 fresh_parted before t (u ∷ us) f =
     let rest : AreFresh before us × (list_any (λ m. m == t.no) (map (λ m. m.no) us) ≡ false) = fresh_parted before t us f.1 in
     let here : (list_any (λ m. m.no == u.no) before ≡ false) × (list_any (λ m. m.no == u.no) (t ∷ []) ≡ false) =
-        or_parts (list_any (λ m. m.no == u.no) before) (list_any (λ m. m.no == u.no) (t ∷ [])) (sym (list_any-append (λ m. m.no == u.no) before (t ∷ [])) ∙ f.0) in
+    or_parts (list_any (λ m. m.no == u.no) before) (list_any (λ m. m.no == u.no) (t ∷ [])) (sym (list_any-append (λ m. m.no == u.no) before (t ∷ [])) ∙ f.0) in
     let apart : ((t.no == u.no) ≡ false) × (false ≡ false) = or_parts (t.no == u.no) false here.1 in
     ((here.0, rest.0), or_from (u.no == t.no) (list_any (λ m. m == t.no) (map (λ m. m.no) us)) (apart_back t.no u.no apart.0) rest.1)
 
 fresh_joined : (before : List Txn) (t : Txn) (ts : List Txn) → AreFresh before ts → list_any (λ m. m == t.no) (map (λ m. m.no) ts) ≡ false → AreFresh (before ++ t ∷ []) ts
 fresh_joined before t [] f h = tt
 fresh_joined before t (u ∷ us) f h =
-    let apart : ((u.no == t.no) ≡ false) × (list_any (λ m. m == t.no) (map (λ m. m.no) us) ≡ false) = or_parts (u.no == t.no) (list_any (λ m. m == t.no) (map (λ m. m.no) us)) h in
-    (list_any-append (λ m. m.no == u.no) before (t ∷ [])
-     ∙ or_from (list_any (λ m. m.no == u.no) before) (list_any (λ m. m.no == u.no) (t ∷ [])) f.0 (or_from (t.no == u.no) false (apart_back u.no t.no apart.0) refl),
-     fresh_joined before t us f.1 apart.1)
+    let apart : ((u.no == t.no) ≡ false) × (list_any (λ m. m == t.no) (map (λ m. m.no) us) ≡ false) = or_parts (u.no == t.no) (list_any (λ m. m == t.no) (map (λ m. m.no) us)) h in (
+      list_any-append (λ m. m.no == u.no) before (t ∷ [])
+          ∙ or_from (list_any (λ m. m.no == u.no) before) (list_any (λ m. m.no == u.no) (t ∷ [])) f.0 (or_from (t.no == u.no) false (apart_back u.no t.no apart.0) refl),
+      fresh_joined before t us f.1 apart.1,
+    )
 
 none_fresh : (ts : List Txn) → AreFresh [] ts
 none_fresh [] = tt
@@ -161,10 +162,10 @@ txns_pass before index [] few h = record { fresh = tt; distinct = tt; few = omeg
 txns_pass before index (t ∷ ts) few h =
     let parts = both_pass (txn_checked before index t) (λ _. txns_checked (before ++ t ∷ []) (index + 1) ts) tt h in
     let number = both_pass (refused_if (list_any (λ m. m.no == t.no) before) (fault.RepeatedTxn t.no))
-        (λ _. refused_if (nat_lt 10000 (length (operations before) + length t.ops)) (fault.OverLimit limit.Operations) >>= λ _. ops_checked index t.no 0 t.ops) tt parts.0 in
+    (λ _. refused_if (nat_lt 10000 (length (operations before) + length t.ops)) (fault.OverLimit limit.Operations) >>= λ _. ops_checked index t.no 0 t.ops) tt parts.0 in
     let count = both_pass (refused_if (nat_lt 10000 (length (operations before) + length t.ops)) (fault.OverLimit limit.Operations)) (λ _. ops_checked index t.no 0 t.ops) tt number.1 in
     let within : length (operations before) + length t.ops ≤ 10000 =
-        ltb-false 10000 (length (operations before) + length t.ops) (not_refused (nat_lt 10000 (length (operations before) + length t.ops)) (fault.OverLimit limit.Operations) count.0) in
+    ltb-false 10000 (length (operations before) + length t.ops) (not_refused (nat_lt 10000 (length (operations before) + length t.ops)) (fault.OverLimit limit.Operations) count.0) in
     let rest : TxnsKeep (before ++ t ∷ []) ts = txns_pass (before ++ t ∷ []) (index + 1) ts (omega (arith, within, operations_behind before t)) parts.1 in
     let old : AreFresh before ts × (list_any (λ m. m == t.no) (map (λ m. m.no) ts) ≡ false) = fresh_parted before t ts rest.fresh in
     record {
@@ -181,11 +182,11 @@ pass_txns before index (t ∷ ts) k =
     passed_then (txn_checked before index t) (λ _. txns_checked (before ++ t ∷ []) (index + 1) ts)
     (operations_decide before index t k.fresh.0 (omega (arith, k.few, counted_behind t ts)) ∙ pass_ops index t.no 0 t.ops ops.0)
     ∙ pass_txns (before ++ t ∷ []) (index + 1) ts (record {
-        fresh = fresh_joined before t ts k.fresh.1 k.distinct.0;
-        distinct = k.distinct.1;
-        few = omega (arith, k.few, operations_behind before t, counted_behind t ts);
-        ops = ops.1;
-      })
+      fresh = fresh_joined before t ts k.fresh.1 k.distinct.0;
+      distinct = k.distinct.1;
+      few = omega (arith, k.few, operations_behind before t, counted_behind t ts);
+      ops = ops.1;
+    })
 
 -- ---- installed rows
 

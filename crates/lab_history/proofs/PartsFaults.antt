@@ -148,14 +148,14 @@ module _ (h : History) (f : FileFault) where
             subst (IsPartsFault h) refused.1
             (repeated old.i (length before) old.txn t (slice_get_within before old.i old.txn old.stands) (ap (λ l. slice_get l old.i) all ∙ in_front before (t ∷ ts) old.i old.txn old.stands) here old.is)
         | inr second ↦ elim (first_or_second (refused_if many (fault.OverLimit limit.Operations)) (λ _. ops_checked (length before) t.no 0 t.ops) f second) [
-            | inl over ↦
-                let refused : (many ≡ true) × (fault.OverLimit limit.Operations ≡ f) = refused_for many (fault.OverLimit limit.Operations) f over in
-                subst (IsPartsFault h) refused.1
-                (many_operations (omega (arith, ltb-true 10000 (length (operations before) + length t.ops) refused.0, operations_of_all before t ts, ap (λ l. length (operations l)) all)))
-            | inr ops ↦
-                let rest : IsOpsFault (length before) t.no 0 t.ops f = ops_fault (length before) t.no 0 t.ops f ops in
-                of_operation (length before) rest.j t rest.op f here rest.stands (subst (λ n. IsOpFault (length before) t.no n rest.op f) (omega arith) rest.is)
-          ]
+          | inl over ↦
+              let refused : (many ≡ true) × (fault.OverLimit limit.Operations ≡ f) = refused_for many (fault.OverLimit limit.Operations) f over in
+              subst (IsPartsFault h) refused.1
+              (many_operations (omega (arith, ltb-true 10000 (length (operations before) + length t.ops) refused.0, operations_of_all before t ts, ap (λ l. length (operations l)) all)))
+          | inr ops ↦
+              let rest : IsOpsFault (length before) t.no 0 t.ops f = ops_fault (length before) t.no 0 t.ops f ops in
+              of_operation (length before) rest.j t rest.op f here rest.stands (subst (λ n. IsOpFault (length before) t.no n rest.op f) (omega arith) rest.is)
+        ]
       ]
 
   txns_fault : (before ts : List Txn) → h.txns ≡ before ++ ts → (index : ℕ) → length before ≡ index → txns_checked before index ts ≡ Err f → IsPartsFault h f
@@ -223,7 +223,7 @@ fault_true h f e =
           let refused : (nat_lt 1000 (length h.txns) ≡ true) × (fault.OverLimit limit.Transactions ≡ f) = refused_for (nat_lt 1000 (length h.txns)) (fault.OverLimit limit.Transactions) f here in
           subst (IsPartsFault h) refused.1 (many_transactions (ltb-true 1000 (length h.txns) refused.0))
       | inr later ↦ elim (first_or_second (txns_checked [] 0 h.txns) (λ _. installed_checked 0 (finite.entries h.installed) >>= λ _. within_limits h) f later) [
-          | inl ran ↦ txns_fault h f [] h.txns refl 0 refl ran
-          | inr rest ↦ rest_fault h f rest
-        ]
+        | inl ran ↦ txns_fault h f [] h.txns refl 0 refl ran
+        | inr rest ↦ rest_fault h f rest
+      ]
     ]

@@ -3,7 +3,7 @@ use Rattle.std.specs.Prelude.{◌≡◌, ◌≢◌, ℕ, ⊤, List, [], ◌∷�
 use Rattle.std.specs.FinMap as finite
 use Rattle.std.specs.FinMap.{FinMap}
 use Rattle.serde_json.specs.Data.{Data, string, array, object, Items, no_items, item, no_members, member}
-use Rattle.serde_json.specs.Find.{as_number, as_u64, as_array}
+use Rattle.serde_json.specs.Find.{as_number, as_u64}
 use Rattle.lab_table.specs.Row.{Row, row_cmp}
 use Rattle.lab_script.specs.StatementText.{statement_in}
 use Rattle.lab_history.specs.Entries.{id_in, txn_in_number, op_in_number, value_in, written_in}

@@ -1,5 +1,5 @@
 -- The history file, version 1: the history that a JSON value holds, or its first fault.
-use Rattle.std.specs.Prelude.{◌≡◌, ℕ, ◌+◌, ⊤, ◌&&◌, ◌==◌, nat_lt, Bool, true, false, List, [], ◌∷◌, ◌++◌, length, Option, Some, None, option_and_then, unwrap_or, Result, Ok, Err, if◌then◌else◌, codes}
+use Rattle.std.specs.Prelude.{ℕ, ◌+◌, ⊤, ◌&&◌, ◌==◌, nat_lt, Bool, true, false, List, [], ◌∷◌, ◌++◌, length, Option, Some, None, option_and_then, unwrap_or, Result, Ok, Err, if◌then◌else◌, codes}
 use Rattle.std.specs.Str.{bytes_eq}
 use Rattle.std.specs.List.{list_any}
 use Rattle.std.specs.FinMap as finite
@@ -46,8 +46,10 @@ keyed place keys d = required place (if has_keys keys (as_object d) then Some tt
 
 abbrev pub root_keys : List (List ℕ)
 root_keys = codes "end" ∷ codes "format" ∷ codes "initial" ∷ codes "installed" ∷ codes "transactions" ∷ codes "version" ∷ []
+
 abbrev pub txn_keys : List (List ℕ)
 txn_keys = codes "no" ∷ codes "ops" ∷ codes "outcome" ∷ []
+
 abbrev pub op_keys : List (List ℕ)
 op_keys = codes "rows" ∷ codes "statement" ∷ codes "view" ∷ codes "writes" ∷ []
 

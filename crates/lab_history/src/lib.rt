@@ -1,4 +1,16 @@
 //! Histories: what transactions saw and wrote, and in which order their writes were installed.
+//!
+//! A [`History`] has a table to begin with, transactions with their operations, the order in which the versions of each
+//! row were installed, and the table in the end. It is read from a file by [`read_history`], or made from its [`Parts`]
+//! by `History::from_parts`, and written by [`write_history`]. Either way it keeps the limits and the rules of the
+//! format; whether it is sound, or serializable, isn't looked at here.
+//!
+//! A version of a row is named by the operation that wrote it ([`VersionName`]). `History::version_state` answers what
+//! a version is, `last_write` a transaction's last operation that wrote a row, and `installer_place` the place of a
+//! transaction among those that installed a row; each is found by halving.
+//!
+//! A file or parts that are refused name their first fault, a [`FileFault`], whose [`Path`] leads to the value that is
+//! wrong. Want of memory may come in place of any other answer, and leaves parts as they were.
 #![tactic(auto)]
 
 mod checking;

@@ -60,7 +60,9 @@ fn table_to(rt: &impl Abort, alloc: Global, count: u32) -> Table {
     let value = Value::new(0).expect(rt, "a value");
     let mut table = Table::new(alloc);
     for number in 1..=count {
-        table.add(alloc, row(rt, number), value).expect(rt, "memory");
+        table
+            .add(alloc, row(rt, number), value)
+            .expect(rt, "memory");
     }
     table
 }
@@ -89,9 +91,7 @@ fn over(which: Limit) -> Option<FileFault> {
 
 #[test]
 fn counts_and_numbers(rt: HostRuntime) {
-    let repeated = FileFault::RepeatedTxn {
-        no: txn_no(&rt, 1),
-    };
+    let repeated = FileFault::RepeatedTxn { no: txn_no(&rt, 1) };
     for (rows, count, last, expected) in [
         (1_000, 999, 1_000, None),
         (1_001, 1, 2, over(Limit::Ids)),

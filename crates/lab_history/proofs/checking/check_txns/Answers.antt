@@ -47,8 +47,9 @@ loop-index-preserved c =
     let new = sym (c.loop-index.invariant.1 t.no) ∙ was_absent (contains nat_cmp c.loop-index.numbers t.no) c.in_ok-insert.field-0 c.in_ok-insert.ensures.added c.if-not-branch.false in
     let ops : c.as_slice-ops.result.now ≡ t.ops = c.as_slice-ops.ensures in
     let few : length (operations (take i ts)) + length t.ops ≤ 10000 = omega (arith, c.if-ops-operations.false, ap length ops, c.loop-index.invariant.2, c.loop-index.invariant.3) in
-    let sound = sym (c.check_ops.ensures ∙ ap (ops_checked i t.no 0) ops) ∙ c.in_ok-check_ops.was in
-    (sym (walk_goes ts i t c.loop-index-test.true c.index-txns-index.is (operations_decide (take i ts) i t new few ∙ sound)) ∙ c.loop-index.invariant.0,
-     (λ q. grind (arith, common_steps, c.loop-index.invariant.1 q)),
-     omega (arith, operations_here ts i t c.loop-index-test.true c.index-txns-index.is, c.loop-index.invariant.2, ap length ops),
-     omega (arith, c.if-ops-operations.false, c.loop-index.invariant.3))
+    let sound = sym (c.check_ops.ensures ∙ ap (ops_checked i t.no 0) ops) ∙ c.in_ok-check_ops.was in (
+      sym (walk_goes ts i t c.loop-index-test.true c.index-txns-index.is (operations_decide (take i ts) i t new few ∙ sound)) ∙ c.loop-index.invariant.0,
+      (λ q. grind (arith, common_steps, c.loop-index.invariant.1 q)),
+      omega (arith, operations_here ts i t c.loop-index-test.true c.index-txns-index.is, c.loop-index.invariant.2, ap length ops),
+      omega (arith, c.if-ops-operations.false, c.loop-index.invariant.3),
+    )
