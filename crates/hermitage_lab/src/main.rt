@@ -4,6 +4,8 @@
 mod ending;
 mod input;
 mod output;
+#[cfg(test)]
+mod replay;
 mod serial;
 #[cfg(test)]
 mod tests;
