@@ -1,8 +1,8 @@
 -- What a session gives, and what the rules answer to it.
-use Rattle.std.proofs.Common.{◌≡◌, ◌≢◌, ℕ, Option, Some, None, ◌⊎◌, inl, inr, List, [], ◌∷◌, length, reverse, ◌<◌, ◌≤◌, sym, ap, subst, ◌∙◌, arith}
+use Rattle.std.proofs.Common.{◌≡◌, ◌≢◌, ℕ, Option, Some, None, inl, inr, List, [], ◌∷◌, length, ◌<◌, ◌≤◌, sym, ap, subst, ◌∙◌, arith}
 use Rattle.std.proofs.lemmas.List.{length-reverse}
 use Rattle.std.proofs.Common.{refl}
-use Rattle.std.specs.Prelude.{MatchOption, Result, Ok, Err, IfOk, ⊤, Contains, Bool, true, false, ◌==◌}
+use Rattle.std.specs.Prelude.{MatchOption, Result, Ok, Err, IfOk, Contains, true, false, ◌==◌}
 use Rattle.std.specs.declared.alloc.AllocError.{AllocError}
 use Rattle.lab_table.specs.Table.{Table, Rows, Writes}
 use Rattle.lab_table.specs.Statement.{listed, written, fails}
@@ -19,13 +19,10 @@ use Rattle.lab_engine.specs.declared.rules.Conflict.{Conflict}
 use Rattle.lab_engine.specs.Effect.{IsEffectOn, IsRefusalOn, IsResultOn}
 use Rattle.lab_engine.specs.WaitsFor.{AreBlockers}
 use Rattle.lab_table.specs.declared.statement.Command.{Command}
-use Rattle.lab_engine.specs.declared.situation.Situation.{Situation}
-use Rattle.lab_engine.specs.declared.situation.RunningTxn.{RunningTxn}
 use Rattle.lab_engine.specs.declared.event.LogEvent.{LogEvent}
 use Rattle.lab_engine.specs.Log.{Past, Version, Txn, past_of, active, waiting, asked, begun}
 use Rattle.lab_engine.specs.Rules.{Gives, MayAsk, Asks, IsFree, IsCircle, IsEffect, MayCommit, in_view}
 use Rattle.lab_engine.specs.Answer.{MayGive, Answers}
-use Rattle.lab_engine.specs.Situation.{Describes, Agree, IsRunning, running_of}
 use Rattle.lab_engine.proofs.Describing.{begun_at_most}
 
 -- a command that runs no statement is given at rest
@@ -78,9 +75,18 @@ module _ (level : Level) (setup : Table) (past : Past) (session : ℕ) (s : Stat
     refusal_answers : (fault : EngineFault) → IsRefusalOn (version_in versions) s fault → Answers level setup past session (Run s) (Refused fault)
     refusal_answers (DuplicateKey row) f =
         ((s, txn, asks, free, f.0, ap (λ (v : Version). fails s row v.state) (sym (sight row)) ∙ f.1), λ eq. cc)
-    refusal_answers (OutOfRange row) f =
-        ((s, txn, asks, free, f.0, ap (λ (v : Version). fails s row v.state) (sym (sight row)) ∙ f.1,
-          λ other below. ap (λ (v : Version). fails s other v.state) (sym (sight other)) ∙ f.2 other below), λ eq. cc)
+    refusal_answers (OutOfRange row) f = (
+      (
+        s,
+        txn,
+        asks,
+        free,
+        f.0,
+        ap (λ (v : Version). fails s row v.state) (sym (sight row)) ∙ f.1,
+        λ other below. ap (λ (v : Version). fails s other v.state) (sym (sight other)) ∙ f.2 other below,
+      ),
+      λ eq. cc,
+    )
     refusal_answers (Deadlock circle) f = absurd f
     refusal_answers (WriteConflict row by) f = absurd f
     refusal_answers NoTransaction f = absurd f

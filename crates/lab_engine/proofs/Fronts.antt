@@ -1,8 +1,8 @@
 -- The events before a transaction's begin, as the front of a log.
-use Rattle.std.proofs.Common.{◌≡◌, ◌≤◌, ℕ, List, [], ◌∷◌, ◌++◌, length, take, reverse, Some, refl, sym, ap, subst, ◌∙◌, arith}
+use Rattle.std.proofs.Common.{◌≡◌, ℕ, List, [], ◌∷◌, ◌++◌, length, take, reverse, refl, sym, ap, ◌∙◌, arith}
 use Rattle.std.proofs.lemmas.List.{reverse-append, reverse-reverse, length-reverse, take-append-le}
 use Rattle.lab_engine.specs.declared.event.LogEvent.{LogEvent}
-use Rattle.lab_engine.specs.Log.{Past, past_of, Txn, active}
+use Rattle.lab_engine.specs.Log.{Past, past_of, Txn}
 use Rattle.lab_engine.specs.Laws.{Began}
 use Rattle.lab_engine.specs.Situation.{HasBegins}
 use Rattle.lab_engine.proofs.Begins.{begins_hold}
@@ -28,10 +28,10 @@ front log newer before is =
     let whole : log ≡ reverse before ++ reverse newer = sym (reverse-reverse log) ∙ ap reverse is ∙ reverse-append newer before in
     let len : length (reverse before) ≡ length before = length-reverse before in
     let taken : take (length before) log ≡ reverse before =
-        ap (λ (l : List LogEvent). take (length before) l) whole
-        ∙ ap (λ (n : ℕ). take n (reverse before ++ reverse newer)) (sym len)
-        ∙ take-append-le (length (reverse before)) (reverse before) (reverse newer) (omega (arith))
-        ∙ take_all (reverse before) in
+    ap (λ (l : List LogEvent). take (length before) l) whole
+    ∙ ap (λ (n : ℕ). take n (reverse before ++ reverse newer)) (sym len)
+    ∙ take-append-le (length (reverse before)) (reverse before) (reverse newer) (omega (arith))
+    ∙ take_all (reverse before) in
     sym (reverse-reverse before) ∙ ap reverse (sym taken)
 
 -- a log has the events before each begin of its past

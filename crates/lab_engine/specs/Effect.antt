@@ -1,5 +1,5 @@
 -- What a statement does to rows that are seen.
-use Rattle.std.specs.Prelude.{◌≡◌, Bool, false, is_some, IsTrue}
+use Rattle.std.specs.Prelude.{◌≡◌, false, IsTrue}
 use Rattle.std.specs.FinMap as map
 use Rattle.lab_table.specs.Row.{Row}
 use Rattle.lab_table.specs.Table.{Rows, Writes}

@@ -1,5 +1,5 @@
 -- Who waits for whom, as a graph.
-use Rattle.std.specs.Prelude.{◌≡◌, ◌≢◌, ◌==◌, ℕ, Bool, ◌&&◌, Option, Some, None, List, [], ◌∷◌, Contains, IsTrue, ◌↔◌}
+use Rattle.std.specs.Prelude.{◌≡◌, ◌≢◌, ◌==◌, ℕ, Bool, ◌&&◌, Some, List, [], ◌∷◌, Contains, IsTrue, ◌↔◌}
 use Rattle.std.specs.List.{list_any}
 use Rattle.std.specs.List.Sorted.{IsStrictlyIncreasing}
 use Rattle.lab_table.specs.Table.{Table}
@@ -7,7 +7,7 @@ use Rattle.lab_table.specs.declared.statement.Statement.{Statement}
 use Rattle.lab_engine.specs.declared.event.Level.{Level}
 use Rattle.lab_engine.specs.declared.waits.Wait.{Wait}
 use Rattle.lab_engine.specs.Log.{Past, waiting}
-use Rattle.lab_engine.specs.Rules.{BlockedBy, IsCircle}
+use Rattle.lab_engine.specs.Rules.{BlockedBy}
 
 -- whether one session waits for another
 abbrev pub waits_for : List Wait → ℕ → ℕ → Bool

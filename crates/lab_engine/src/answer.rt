@@ -19,8 +19,8 @@ use crate::event::{EngineFault, LogEvent, Outcome};
 use crate::rules::Rules;
 use crate::sight::seen_by;
 use crate::situation::{RunningTxn, Situation};
-use crate::waits::{blockers, deadlock};
 use crate::version::Versions;
+use crate::waits::{blockers, deadlock};
 use lab_table::{Command, NoMemory, Session, Statement, Table, TxnNo};
 use std::alloc::{AllocError, Global};
 

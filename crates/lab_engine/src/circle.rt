@@ -118,7 +118,8 @@ fn circle_by(
     Ok(Sessions::new(circle))
 }
 
-/// A shortest circle from this session on, of these the least in its list; or None where there is no circle.
+/// A circle from this session on, or None where there is none. Of several the shortest is answered, and of those the
+/// least in its list, which is tested and not part of the contract.
 /// NoMemory where a growth was refused.
 pub fn shortest_circle(
     alloc: Global,

@@ -23,8 +23,11 @@ use std::alloc::{AllocError, Global};
 /// What a statement saw, listed and wrote.
 #[derive(Drop)]
 pub struct Effect {
+    /// The versions that it saw, but for the initial ones.
     pub view: View,
+    /// The rows that it lists, with the values that it saw.
     pub rows: Rows,
+    /// What it left of each row that it wrote.
     pub writes: Writes,
 }
 
@@ -130,7 +133,8 @@ fn inserted(alloc: Global, id: RowId, value: Value) -> Result<Vec<(RowId, State)
     Ok(written)
 }
 
-/// What a statement that no row keeps from running writes. An insert writes its row alone, which may not be among those seen.
+/// What a statement that no row keeps from running writes.
+/// An insert writes its row alone, which may not be among those seen.
 fn written_states(
     alloc: Global,
     statement: &Statement,
@@ -190,6 +194,7 @@ fn fault_of(statement: &Statement, seen: &Versions) -> Option<EffectFault>
 }
 
 /// What a statement does to rows that are seen at these versions.
+/// It is refused where a row that is seen keeps it from running, or for want of memory.
 pub fn effect_of(
     alloc: Global,
     statement: &Statement,

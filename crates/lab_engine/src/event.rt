@@ -77,6 +77,7 @@ pub enum Outcome {
 }
 
 /// One event of a log: a session's command, and what the engine answered.
+/// The event of a retry has the command that waited.
 #[derive(Drop)]
 pub struct LogEvent {
     pub session: Session,
@@ -85,7 +86,7 @@ pub struct LogEvent {
 }
 
 impl Sessions {
-    /// These sessions.
+    /// These sessions, in this order; it takes no memory.
     pub fn new(items: Vec<Session>) -> Sessions
         ensures { result ≡ items.items }
     {

@@ -5,11 +5,11 @@ ghost use Rattle.lab_engine.specs.Log.{past_of, waiting};
 ghost use Rattle.lab_engine.specs.Answer.{MayGive, Answers, IsRetryChoice};
 ghost use Rattle.lab_engine.specs.Engine.{IsStep, IsRetry};
 
-use crate::engine::Engine;
 use crate::answer::answer_to;
+use crate::engine::Engine;
 use crate::event::{EngineFault, Level, LogEvent, Outcome};
-use crate::rules::Rules;
 use crate::look::{is_active, waiting_statement};
+use crate::rules::Rules;
 use crate::situation::Situation;
 use crate::waits::retryable;
 use lab_table::{Command, NoMemory, Session, Table};

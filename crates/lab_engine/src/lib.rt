@@ -1,9 +1,15 @@
 //! The rules of the engines, and what all engines share.
 //!
 //! An [`Engine`] runs the commands of sessions, one at a time, and keeps a log of [`LogEvent`]s. Each [`Outcome`] is one
-//! that the rules of its [`Level`] permit after the events before it. A [`Journal`] is an engine of any [`Rules`], which
-//! say who blocks a statement and which commits conflict: it keeps its setup and its log, and answers each question by
-//! one pass over the log, whose result is a [`Situation`].
+//! that the rules of its [`Level`] permit after the events before it. What the rules refuse is an outcome too, by an
+//! [`EngineFault`]. The calls themselves are refused for want of memory alone, and then nothing has changed.
+//!
+//! Each command goes to `step`. A statement that others are in the way of answers `Waits`, and its session is answered
+//! Busy until `retry` has run the statement anew. `retryable` names a session for which that is of use.
+//!
+//! A [`Journal`] is an engine of any [`Rules`], which say who blocks a statement and which commits conflict: it keeps
+//! its setup and its log, and answers each question by passes over the log, of which each finds a [`Situation`]. The
+//! engines themselves are in `lab_locking` and `lab_versions`.
 #![tactic(auto)]
 
 mod answer;
@@ -22,18 +28,12 @@ mod situation;
 mod version;
 mod waits;
 
-pub use answer::{answer_to, run_statement};
-pub use circle::shortest_circle;
-pub use effect::{Effect, EffectFault, effect_of};
 pub use engine::Engine;
 pub use event::{EngineFault, Level, LogEvent, Outcome, Sessions};
 pub use journal::Journal;
 pub use laws::{law_of_begins, law_of_commits, law_of_locks, law_of_numbers, law_of_records};
-pub use look::{asked_statement, is_active, waiting_statement};
 pub use on_row::{matches_row, would_write};
 pub use pending::{holds_write, version_seen};
 pub use rules::{Conflict, Rules};
-pub use sight::seen_by;
 pub use situation::{RunningTxn, SessionState, Situation};
 pub use version::{Version, Versions};
-pub use waits::{Wait, all_waits, blockers, deadlock, retryable};

@@ -30,13 +30,7 @@ fn stays_active(outcome: &Outcome, before: bool) -> bool
         Outcome::Committed => false,
         Outcome::Aborted => false,
         Outcome::Waits { .. } => before,
-        Outcome::Refused(fault) => {
-            if is_fatal_fault(fault) {
-                false
-            } else {
-                before
-            }
-        }
+        Outcome::Refused(fault) => { if is_fatal_fault(fault) { false } else { before } }
     }
 }
 

@@ -17,7 +17,8 @@ fn is_selected(pred: &Option<Pred>, row: RowId, value: Value) -> bool
     }
 }
 
-/// Whether a row in this state, None where it is absent, matches a statement's predicate.
+/// Whether a row in this state, None where it is absent, matches a statement's predicate. An absent row matches none,
+/// and an insert's predicate is that the row is the one it adds.
 pub fn matches_row(statement: &Statement, row: RowId, state: Option<Value>) -> bool
     ensures { result ≡ matches statement.now row state }
 {

@@ -16,7 +16,9 @@ use std::alloc::Global;
 /// A row that another transaction has installed since the begin of one that wrote it, and the first such transaction.
 #[derive(Clone, Copy, Debug, PartialEq, Eq)]
 pub struct Conflict {
+    /// The least such row.
     pub row: RowId,
+    /// The transaction that was the first to install it since the begin.
     pub by: TxnNo,
 }
 
@@ -29,7 +31,8 @@ pub trait Rules {
     fn level(&self) -> Level
         ensures { result ≡ kind self.now };
 
-    /// Whether a transaction of another session blocks a statement of one that sees these versions.
+    /// Whether a transaction of another session blocks a statement of one that sees these versions, after the events
+    /// of this situation.
     fn blocks(
         &self,
         setup: &Table,
@@ -43,7 +46,8 @@ pub trait Rules {
         ensures never { (past : Past) (asker txn : Txn) → Describes past situation.now → IsSight (kind self.now) setup.now past asker seen.now
             → IsRunning txn holder.now → result ≡ false → ¬ Blocks (kind self.now) setup.now past asker statement.now txn };
 
-    /// Why a session's active transaction may not commit, if it may not. NoMemory where a growth was refused.
+    /// Why a session's active transaction may not commit after these events, if it may not; None where it may.
+    /// NoMemory where a growth was refused.
     fn conflict(
         &self,
         alloc: Global,

@@ -52,7 +52,8 @@ fn committed_seen(
 }
 
 /// The versions that an active transaction sees: its own last ones over those committed now,
-/// or at snapshot over those committed at its begin, over the setup's. NoMemory where a growth was refused.
+/// or at snapshot over those committed at its begin, over the setup's. Of the log only the events before its begin are
+/// looked at. NoMemory where a growth was refused.
 pub fn seen_by(
     alloc: Global,
     level: Level,

@@ -34,9 +34,9 @@ pub struct RunningTxn<'a> {
 #[derive(Drop)]
 pub struct SessionState<'a> {
     pub session: Session,
-    /// The statement that it waits with.
+    /// The statement that it waits with, if it waits.
     pub waits: Option<&'a Statement>,
-    /// Its active transaction.
+    /// Its active transaction, if it has one.
     pub running: Option<RunningTxn<'a>>,
 }
 
@@ -85,7 +85,7 @@ impl<'a> Situation<'a> {
         Ok(situation)
     }
 
-    /// The active transaction of a session.
+    /// The active transaction of a session, or None where it has none.
     pub fn running(&self, session: Session) -> Option<&RunningTxn<'a>>
         ensures { option_map (λ r. r.now) result ≡ running_of self.now.sessions.items session }
     {

@@ -107,7 +107,8 @@ fn waits_on<R: Rules>(
     )
 }
 
-/// Who waits for whom. NoMemory where a growth was refused.
+/// Who waits for whom: each session whose statement waits and is blocked, by rising number, with those that block it.
+/// NoMemory where a growth was refused.
 pub fn all_waits<R: Rules>(
     alloc: Global,
     rules: &R,

@@ -1,7 +1,10 @@
 //! The engine that locks rows and predicates: what it lets run is serializable.
 //!
 //! A statement waits for each other active transaction that has a pending write of a row that matches it, or of a row
-//! that it would write, or that has run a statement that matches a row before or after it would write it.
+//! that it would write, or that has run a statement that matches a row before or after it would write it. Where those
+//! that it would wait for wait for it in turn, it is refused, and its transaction aborted.
+//!
+//! To use it, make a [`LockEngine`] of a table by `new`, and hand it commands as any `lab_engine::Engine`.
 #![tactic(auto)]
 
 mod blockers;

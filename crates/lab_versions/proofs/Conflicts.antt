@@ -138,9 +138,10 @@ module _ (txn by : Txn) (done : List Txn) where
 
       -- it takes the least common row, where none of the lesser was taken before
       takes : (number : ℕ) → by.no ≡ number → IsUntaken txn done row → ((r : Row) → IsBelow r row → IsUntaken txn done r) → IsFound txn (by ∷ done) (Some (record { row = row; by = number }))
-      takes number number_is is lesser =
-          (newly row number number_is (written row (common (Some row) found).0) (ap is_some (sym (others_are row)) ∙ (common (Some row) found).1) is,
-           λ r below wrote. untaken r (below_apart r below wrote) (lesser r below) wrote)
+      takes number number_is is lesser = (
+        newly row number number_is (written row (common (Some row) found).0) (ap is_some (sym (others_are row)) ∙ (common (Some row) found).1) is,
+        λ r below wrote. untaken r (below_apart r below wrote) (lesser r below) wrote,
+      )
 
       pub first_taken : (number : ℕ) → by.no ≡ number → IsFound txn done None → IsFound txn (by ∷ done) (Some (record { row = row; by = number }))
       first_taken number number_is is = takes number number_is (is row) (λ r below. is r)
@@ -159,9 +160,10 @@ module _ (txn by : Txn) (done : List Txn) where
         at Greater is = absurd (true≢false (ap is_lt (sym (rows_total.antisymm row x ∙ ap ordering_reverse is)) ∙ above))
 
       pub still_taken : (conflict : Conflict) → is_lt (row_cmp row conflict.row) ≡ false → IsFound txn done (Some conflict) → IsFound txn (by ∷ done) (Some conflict)
-      still_taken conflict above is =
-          (still conflict.row conflict.by is.0,
-           λ r below wrote. untaken r (below_apart r (below_both r conflict.row above below) wrote) (is.1 r below) wrote)
+      still_taken conflict above is = (
+        still conflict.row conflict.by is.0,
+        λ r below wrote. untaken r (below_apart r (below_both r conflict.row above below) wrote) (is.1 r below) wrote,
+      )
 
 -- ---- one event more
 

@@ -24,11 +24,7 @@ fn common_row(own: &Versions, others: &Versions) -> Option<RowId>
 }
 
 /// The conflict of a transaction that wrote these rows, after another one's commit.
-fn after_commit(
-    found: Option<Conflict>,
-    own: &Versions,
-    other: &RunningTxn<'_>,
-) -> Option<Conflict>
+fn after_commit(found: Option<Conflict>, own: &Versions, other: &RunningTxn<'_>) -> Option<Conflict>
     ensures { (txn by : Txn) (done : List Txn) → IsLastOf txn own.now → IsRunning by other.now → IsFound txn done found → IsFound txn (by ∷ done) result }
 {
     let Some(row) = common_row(own, &other.last) else {

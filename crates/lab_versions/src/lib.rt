@@ -3,6 +3,8 @@
 //! [`SnapshotEngine`] lets each transaction see what had committed at its begin, and of two that wrote a row since
 //! then refuses the second one's commit. [`CommittedEngine`] lets each statement see what has committed by now, and
 //! makes it wait for those that have written a row that it would write.
+//!
+//! To use one, make it of a table by `new`, and hand it commands as any `lab_engine::Engine`.
 #![tactic(auto)]
 
 mod committed;

@@ -4,7 +4,9 @@ ghost use Rattle.std.specs.Prelude.{◌≡◌, []};
 ghost use Rattle.lab_engine.specs.declared.event.Level.TheVariants.{Snapshot};
 
 use crate::conflict::first_conflict;
-use lab_engine::{Conflict, Engine, Journal, Level, LogEvent, Outcome, Rules, RunningTxn, Situation, Versions};
+use lab_engine::{
+    Conflict, Engine, Journal, Level, LogEvent, Outcome, Rules, RunningTxn, Situation, Versions,
+};
 use lab_table::{Command, NoMemory, Session, Statement, Table};
 use std::alloc::Global;
 

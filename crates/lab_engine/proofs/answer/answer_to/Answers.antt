@@ -1,4 +1,4 @@
-use Rattle.std.proofs.Common.{◌≡◌, refl, sym, ap, ◌∙◌, Some, None}
+use Rattle.std.proofs.Common.{refl, sym}
 use Rattle.lab_engine.specs.Log.{past_of}
 use Rattle.lab_engine.proofs.Describing.{running_txn, running_none}
 use Rattle.lab_engine.proofs.Answering.{gives, conflict_none, conflict_some, ran}
@@ -22,9 +22,14 @@ returns-in-Abort g c = let t = running_txn (past_of c.args.log.now) c.args.situa
     ((t.0, gives _ _ _ _ t.0 c.in-Abort.is refl c.requires.may t.1), λ eq. cc)
 
 pub returns-in-None : goal.returns-in-None
-returns-in-None g c = let t = running_txn (past_of c.args.log.now) c.args.situation.now c.requires.situation c.args.session c.in-Some.running.now (sym c.in-Some.ensures) in
-    ((t.0, gives _ _ _ _ t.0 c.in-Commit.is refl c.requires.may t.1,
-      conflict_none _ _ t.0 _ _ c.in_ok-conflict-in-Commit.was c.in-None.is (c.conflict.ensures t.0 t.1)), λ eq. cc)
+returns-in-None g c = let t = running_txn (past_of c.args.log.now) c.args.situation.now c.requires.situation c.args.session c.in-Some.running.now (sym c.in-Some.ensures) in (
+  (
+    t.0,
+    gives _ _ _ _ t.0 c.in-Commit.is refl c.requires.may t.1,
+    conflict_none _ _ t.0 _ _ c.in_ok-conflict-in-Commit.was c.in-None.is (c.conflict.ensures t.0 t.1),
+  ),
+  λ eq. cc,
+)
 
 pub returns-in-Some-2 : goal.returns-in-Some-2
 returns-in-Some-2 g c = let t = running_txn (past_of c.args.log.now) c.args.situation.now c.requires.situation c.args.session c.in-Some.running.now (sym c.in-Some.ensures) in

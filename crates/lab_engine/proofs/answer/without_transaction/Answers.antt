@@ -1,4 +1,4 @@
-use Rattle.std.proofs.Common.{◌≡◌, ℕ, ◌<◌, ◌≤◌, arith, Bool, true, false}
+use Rattle.std.proofs.Common.{◌≡◌, arith, true, false}
 use Rattle.lab_engine.proofs.Answering.{begun_below}
 use Rattle.lab_engine.proofs.answer.without_transaction.Goals as goal
 

@@ -20,8 +20,8 @@ returns-after-lt c = λ txn by done own other found.
     elim c.if-lt.branch [
       | then-lt w ↦ subst (λ (k : Conflict). IsFound txn (by ∷ done) (Some k)) (sym w.result-is)
           (lesser_taken txn by done c.args.own.now c.args.other.now.last own other.last c.in-Some.row (sym c.common_row.ensures ∙ c.in-Some.is)
-           c.args.other.now.number c.in-Some-found.conflict (sym other.number) (sym c.lt.ensures ∙ w.if-lt.true) before)
+          c.args.other.now.number c.in-Some-found.conflict (sym other.number) (sym c.lt.ensures ∙ w.if-lt.true) before)
       | else-lt w ↦ subst (λ (k : Conflict). IsFound txn (by ∷ done) (Some k)) (sym w.result-is)
           (still_taken txn by done c.args.own.now c.args.other.now.last own other.last c.in-Some.row (sym c.common_row.ensures ∙ c.in-Some.is)
-           c.in-Some-found.conflict (sym c.lt.ensures ∙ w.if-lt.false) before)
+          c.in-Some-found.conflict (sym c.lt.ensures ∙ w.if-lt.false) before)
     ]

@@ -22,6 +22,6 @@ returns c = λ txn is.
     let running = the_running (past_of c.args.log.now) c.in_ok-situation.situation c.args.session c.in-Some.running.now txn c.in_ok-situation.ensures (sym c.in-Some.ensures) is in
     let begin = begin_is c.args.log.now c.split_at.result.0.now c.args.session c.in-Some.running.now txn is running c.split_at.ensures.front in
     let whole : c.split_at.result.0.now ++ c.split_at.result.1.now ≡ c.args.log.now =
-        ap₂ (λ (before since : List LogEvent). before ++ since) c.split_at.ensures.front c.split_at.ensures.back ∙ take-append-drop c.in-Some.running.now.before c.args.log.now in
+    ap₂ (λ (before since : List LogEvent). before ++ since) c.split_at.ensures.front c.split_at.ensures.back ∙ take-append-drop c.in-Some.running.now.before c.args.log.now in
     answers (past_of c.args.log.now) txn c.first_conflict.result
     (subst (λ (log : List LogEvent). IfOk c.first_conflict.result (IsFound txn (commits (past_of log)))) whole (c.first_conflict.ensures txn running.last begin))
