@@ -335,6 +335,34 @@ fn too_many_bytes_and_ids(rt: HostRuntime) -> Result<(), Fail> {
     Ok(())
 }
 
+/// An operation that lists so many rows.
+fn operation_of_rows(alloc: Global, count: u32) -> Result<Vec<u8>, NoMemory> {
+    let mut text = Vec::from_slice(alloc, b"{\"rows\":[[1,0]")?;
+    for id in 2..=count {
+        text.extend_from_slice(format!(in alloc; ",[{id},0]")?.as_bytes())?;
+    }
+    text.extend_from_slice(b"],\"statement\":\"select * from test\",\"view\":[],\"writes\":[]}")?;
+    Ok(text)
+}
+
+/// The file has four entries; 199 operations of 1,000 rows and one more are added.
+#[test]
+fn too_many_entries(rt: HostRuntime) -> Result<(), Fail> {
+    let full = operation_of_rows(rt.alloc(), 1_000)?;
+    for (last, fault) in [(996_u32, None), (997, over(Limit::Entries))] {
+        let mut ops = Vec::from_slice(rt.alloc(), b"\"ops\":[")?;
+        for _ in 0..199 {
+            ops.extend_from_slice(&full)?;
+            ops.extend_from_slice(b",")?;
+        }
+        ops.extend_from_slice(&operation_of_rows(rt.alloc(), last)?)?;
+        ops.extend_from_slice(b"]")?;
+        let text = edited(rt.alloc(), "\"ops\":[]", &ops)?;
+        assert_eq!(rt; fault_of(rt.alloc(), &text), fault, "{last}");
+    }
+    Ok(())
+}
+
 /// Too many members are told before the first of them, here no object, is looked at.
 #[test]
 fn too_many_transactions_and_operations(rt: HostRuntime) -> Result<(), Fail> {
