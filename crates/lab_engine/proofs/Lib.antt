@@ -20,3 +20,9 @@ pub mod Rising
 pub mod Waiting
 pub mod Circles
 pub mod Retrying
+pub mod LogsTold
+pub mod ToldMaps
+pub mod Recordings
+pub mod ListedVersions
+pub mod BrokenLimits
+pub mod LimitOrder

@@ -15,3 +15,6 @@ pub mod Merging
 pub mod EachRow
 pub mod Hops
 pub mod Released
+pub mod RecordedLog
+pub mod Told
+pub mod OverLimit
