@@ -70,6 +70,10 @@ printed_in s prints range = spells_in (printed_statement s) s (statement_spells 
 pub none_in : (text : List ℕ) → ((s : Statement) → SpellsStatement text s → ⊥) → statement_in text ≡ None
 none_in text none = nothing_found (statement_in text) (λ s read. none s (in_spells text s read))
 
+-- a text from which nothing is read spells nothing
+pub nothing_in : (text : List ℕ) → statement_in text ≡ None → (s : Statement) → SpellsStatement text s → ⊥
+nothing_in text none s spells = let read = spells_in text s spells in absurd cc
+
 -- a text spells one statement at most
 pub spells_once : (text : List ℕ) (s t : Statement) → SpellsStatement text s → SpellsStatement text t → s ≡ t
 spells_once text s t one other = some_is s t (sym (spells_in text s one) ∙ spells_in text t other)
