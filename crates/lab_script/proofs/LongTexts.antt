@@ -5,13 +5,14 @@ use Rattle.std.specs.Prelude.{slice_get}
 use Rattle.std.specs.Str.Lines.{lines, lines_of_parts, strip_carriage_return}
 use Rattle.std.proofs.lemmas.Bool.{cases_lt, false≢true}
 use Rattle.std.proofs.lemmas.List.{append-nil, take_all, take_at, take-append-le, take-append-drop, length-take, length-drop, get_or_append_left}
+use Rattle.std.proofs.lemmas.Option.{slice_get_within}
 use Rattle.std.proofs.Math.Dec.{eqb-suc-zero}
-use Rattle.std.proofs.Math.Seq.{get_or-append_seam, take-append-add}
+use Rattle.std.proofs.Math.Seq.{get_or-append_seam}
 use Rattle.lab_script.specs.declared.fault.ScriptFault.{ScriptFault}
 use Rattle.lab_script.specs.declared.fault.ScriptFault.TheVariants as fault
 use Rattle.lab_script.specs.declared.fault.ScriptFaultKind.{ScriptFaultKind}
 use Rattle.lab_script.specs.declared.script.Script.{Script}
-use Rattle.lab_script.specs.Script.{LinesSpell, Spells, IsFaultless}
+use Rattle.lab_script.specs.Script.{LinesSpell, Spells}
 use Rattle.lab_script.specs.Fault as wrong
 use Rattle.lab_script.specs.Fault.{IsWrong, IsFaultyLine, IsFaultOf}
 use Rattle.lab_script.proofs.FirstFault.{seam}
@@ -166,23 +167,19 @@ module _ (text more : List ℕ) (up : IsCutUp text) (long : 8388608 < length tex
   same_spelled i script le spells = subst (λ (ls : List (List ℕ)). LinesSpell 1 None ls script) (same_front i le) spells
 
   -- a fault in a line that ends in the text
-  early : (number : ℕ) (kind : ScriptFaultKind) → number ≤ length up.ended → (IsFaultless (lines text) number → ⊥) → IsFaultyLine text number kind → IsFaultOf (text ++ more) (fault.At number kind)
-  early number kind le faulty line =
+  early : (number : ℕ) (kind : ScriptFaultKind) → number ≤ length up.ended → IsFaultyLine text number kind → IsFaultOf (text ++ more) (fault.At number kind)
+  early number kind le line =
       let counted : number ≡ line.index + 1 = line.counted in
-      let size : length (lines (text ++ more)) ≡ length up.ended + length (lines (up.tail ++ more)) = ap length lines_there ∙ length-append up.ended (lines (up.tail ++ more)) in
-      let spelled = same_spelled line.index line.before (omega arith) line.spelled in (
-        inl (line.index, counted, omega arith, (line.before, spelled), λ faultless. faulty (faultless.0, subst (λ (ls : List (List ℕ)). LinesSpell 1 None ls faultless.0) (sym (same_front number le)) faultless.1)),
-        inl (record {
-          index = line.index;
-          counted = counted;
-          line = line.line;
-          stands = sym (same_line line.index (omega arith)) ∙ line.stands;
-          before = line.before;
-          spelled = spelled;
-          faulty = line.faulty;
-          says = line.says;
-        }),
-      )
+      inl (record {
+        index = line.index;
+        counted = counted;
+        line = line.line;
+        stands = sym (same_line line.index (omega arith)) ∙ line.stands;
+        before = line.before;
+        spelled = same_spelled line.index line.before (omega arith) line.spelled;
+        faulty = line.faulty;
+        says = line.says;
+      })
 
   -- a fault in the line that the text's end cuts, which is too long
   module _ (number : ℕ) (kind : ScriptFaultKind) (last : length up.ended < number) (within : number ≤ length (lines text)) (line : IsFaultyLine text number kind) where
@@ -230,49 +227,33 @@ module _ (text more : List ℕ) (up : IsCutUp text) (long : 8388608 < length tex
     wide_there : 4000 < length first.line
     wide_there = let size : length up.tail ≤ length first.line + 1 = first.size in let more_than = wide in omega arith
 
-    -- the lines up to it spell nothing
-    not_faultless : IsFaultless (lines (text ++ more)) number → ⊥
-    not_faultless faultless =
-        let counted : number ≡ length up.ended + 1 = line.counted ∙ ap (λ (n : ℕ). n + 1) at_end in
-        let front : take number (lines (text ++ more)) ≡ up.ended ++ first.line ∷ [] =
-        ap (λ (n : ℕ). take n (lines (text ++ more))) counted ∙ ap (take (length up.ended + 1)) there ∙ take-append-add up.ended (first.line ∷ first.others) 1 in
-        let parts = lines_front 1 None up.ended (first.line ∷ []) faultless.0 (subst (λ (ls : List (List ℕ)). LinesSpell 1 None ls faultless.0) front faultless.1) in
-        let fit = fit_of parts.2.1 in
-        let short : length first.line ≤ 4000 = fit.bytes in
-        let over = wide_there in
-        omega arith
-
     late : IsFaultOf (text ++ more) (fault.At number kind)
     late =
-        let counted : number ≡ line.index + 1 = line.counted in
         let place = at_end in
-        let size : length (lines (text ++ more)) ≡ length up.ended + length (first.line ∷ first.others) = ap length there ∙ length-append up.ended (first.line ∷ first.others) in
-        let spelled = same_spelled line.index line.before (omega arith) line.spelled in (
-          inl (line.index, counted, omega arith, (line.before, spelled), not_faultless),
-          inl (record {
-            index = line.index;
-            counted = counted;
-            line = first.line;
-            stands = ap (slice_get (lines (text ++ more))) at_end ∙ ap (λ (ls : List (List ℕ)). slice_get ls (length up.ended)) there ∙ seam up.ended first.line first.others;
-            before = line.before;
-            spelled = spelled;
-            faulty = λ after spells. let fit = fit_of spells in let short : length first.line ≤ 4000 = fit.bytes in let over = wide_there in omega arith;
-            says = over_too first.line line.says wide_here wide_there;
-          }),
-        )
+        inl (record {
+          index = line.index;
+          counted = line.counted;
+          line = first.line;
+          stands = ap (slice_get (lines (text ++ more))) at_end ∙ ap (λ (ls : List (List ℕ)). slice_get ls (length up.ended)) there ∙ seam up.ended first.line first.others;
+          before = line.before;
+          spelled = same_spelled line.index line.before (omega arith) line.spelled;
+          faulty = λ after spells. let fit = fit_of spells in let short : length first.line ≤ 4000 = fit.bytes in let over = wide_there in omega arith;
+          says = over_too first.line line.says wide_here wide_there;
+        })
 
   too_long : (after : Option Script) → LinesSpell 1 None (lines text) after → ⊥
   too_long after spells = let size = spelled_size up after spells in omega arith
 
   fault_stays : (f : ScriptFault) → IsFaultOf text f → IsFaultOf (text ++ more) f
   fault_stays fault.NoMemory is = tt
-  fault_stays (fault.At number kind) (inl first, inl line) =
+  fault_stays (fault.At number kind) (inl line) =
+      let inside : line.index < length (lines text) = slice_get_within (lines text) line.index line.line line.stands in
+      let counted : number ≡ line.index + 1 = line.counted in
       ⊎_elim
-      (λ (last : length up.ended < number). late number kind last first.2 line)
-      (λ (le : number ≤ length up.ended). early number kind le first.4 line)
+      (λ (last : length up.ended < number). late number kind last (omega arith) line)
+      (λ (le : number ≤ length up.ended). early number kind le line)
       (cases_lt (length up.ended) number)
-  fault_stays (fault.At number kind) (inl first, inr without) = absurd (too_long None without.spelled)
-  fault_stays (fault.At number kind) (inr none, other) = absurd (too_long None none.0)
+  fault_stays (fault.At number kind) (inr without) = absurd (too_long None without.spelled)
 
 -- a text that spells a script is short
 pub script_short : (text : List ℕ) (s : Script) → Spells text s → length text ≤ 8008000
