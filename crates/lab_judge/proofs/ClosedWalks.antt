@@ -18,7 +18,7 @@ times test (e ∷ es) = cond (test e.kind) (1 + times test es) (times test es)
 pub times_are : (test : Kind → Bool) (es : List Edge) → times test es ≡ count_kind test es
 times_are test es = is_count_by (times test) (λ e. test e.kind) refl (λ _ _. refl) es
 
-times_append : (test : Kind → Bool) (xs ys : List Edge) → times test (xs ++ ys) ≡ times test xs + times test ys
+pub times_append : (test : Kind → Bool) (xs ys : List Edge) → times test (xs ++ ys) ≡ times test xs + times test ys
 times_append test [] ys = omega arith
 times_append test (e ∷ xs) ys =
     elim (test e.kind) as (λ b. cond b (1 + times test (xs ++ ys)) (times test (xs ++ ys)) ≡ cond b (1 + times test xs) (times test xs) + times test ys) [
@@ -66,14 +66,6 @@ such test (e ∷ es) some = at (such test es) (test e.kind) refl some
         let more : HasSuch test es = later s in
         record { front = e ∷ more.front; edge = more.edge; rest = more.rest; parts = ap (λ l. e ∷ l) more.parts; passes = more.passes }
 
--- beside the one edge that passes the test there is none
-pub none_beside : (test : Kind → Bool) (xs : List Edge) (e : Edge) (ys : List Edge) → test e.kind ≡ true → times test (xs ++ e ∷ ys) ≡ 1 → times test (ys ++ xs) ≡ 0
-none_beside test xs e ys passes one =
-    let all : times test (xs ++ e ∷ ys) ≡ times test xs + times test (e ∷ ys) = times_append test xs (e ∷ ys) in
-    let here : times test (e ∷ ys) ≡ 1 + times test ys = ap (λ b. cond b (1 + times test ys) (times test ys)) passes in
-    let turned : times test (ys ++ xs) ≡ times test ys + times test xs = times_append test ys xs in
-    omega arith
-
 module _ (h : History) where
   -- two walks, one behind the other, are a walk
   pub joined : (a : ℕ) (xs : List Edge) (b : ℕ) (ys : List Edge) (c : ℕ) → IsWalk h a xs b → IsWalk h b ys c → IsWalk h a (xs ++ ys) c
@@ -111,5 +103,5 @@ module _ (h : History) where
   turned_at n es w = turned (take n es) (drop n es) (subst (IsClosedWalk h) (sym (take-append-drop n es)) w)
 
 -- and has as many edges of each kind
-pub counts_at : (test : Kind → Bool) (n : ℕ) (es : List Edge) → times test (drop n es ++ take n es) ≡ times test es
-counts_at test n es = times_turned test (drop n es) (take n es) ∙ ap (times test) (take-append-drop n es)
+pub counts_at : (test : Kind → Bool) (n : ℕ) (es : List Edge) → count_kind test (drop n es ++ take n es) ≡ count_kind test es
+counts_at test n es = sym (times_are test (drop n es ++ take n es)) ∙ times_turned test (drop n es) (take n es) ∙ ap (times test) (take-append-drop n es) ∙ times_are test es

@@ -9,6 +9,8 @@ ghost use Rattle.lab_judge.specs.Runs.{HoldsEachOnce};
 ghost use Rattle.lab_judge.specs.Phenomena.{NoWalk, IsClosedWalk};
 ghost use Rattle.lab_judge.specs.Judgement.{JudgesAll, JudgesAtFault};
 
+mod closed;
+mod grade;
 mod opening;
 
 use crate::nodes::Nodes;
