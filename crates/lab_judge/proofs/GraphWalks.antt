@@ -1,23 +1,21 @@
 -- Walks along edges, and paths of the graph of these edges.
-use Rattle.std.proofs.Common.{◌≡◌, ℕ, zero, suc, ◌+◌, ◌<◌, ◌≤◌, ◌==◌, Bool, true, false, cond, List, [], ◌∷◌, map, refl, sym, ap, ◌∙◌, subst, arith, slice_index}
-use Rattle.std.specs.Prelude.{Contains, IsTrue, not, ◌↔◌, ⊤}
-use Rattle.std.specs.List.{All}
+use Rattle.std.proofs.Common.{◌≡◌, ℕ, ◌≤◌, ◌==◌, Bool, true, false, List, [], ◌∷◌, map, refl, sym, ap, ◌∙◌, subst, arith, slice_index}
+use Rattle.std.specs.Prelude.{Contains, IsTrue, not}
 use Rattle.std.proofs.lemmas.Bool.{eq-eqb}
-use Rattle.std.proofs.lemmas.List.Elements.{All-contains}
 use Rattle.lab_order.specs.Arrows.{Arrows, has_arrow}
 use Rattle.lab_order.specs.Order.{IsOrder}
 use Rattle.lab_order.specs.Order.{position as rank}
-use Rattle.lab_order.specs.Path.{Leads, IsPath, Reaches}
+use Rattle.lab_order.specs.Path.{Leads, IsPath}
 use Rattle.lab_history.specs.History.{History}
 use Rattle.lab_deps.specs.Edges.{IsEdge}
 use Rattle.lab_deps.specs.declared.edge.Edge.{Edge}
 use Rattle.lab_judge.specs.Allowed.{allows}
-use Rattle.lab_judge.specs.Graphs.{HasEnds, joins, IsGraphOf, LeadsAlong, last_of, count_others}
+use Rattle.lab_judge.specs.Graphs.{joins, IsGraphOf, LeadsAlong, last_of, count_others}
 use Rattle.lab_judge.specs.Openings.{HasEdgesOf, IsClosedOf, LeadsBack}
-use Rattle.lab_judge.specs.Phenomena.{IsWalk, IsClosedWalk}
+use Rattle.lab_judge.specs.Phenomena.{IsWalk}
 use Rattle.lab_judge.specs.Places.{position}
 use Rattle.lab_judge.specs.declared.allowed.Allowed.{Allowed}
-use Rattle.lab_judge.proofs.ClosedWalks.{times, times_are, Through, none_forbidden}
+use Rattle.lab_judge.proofs.ClosedWalks.{times_are, Through, none_forbidden}
 use Rattle.lab_judge.proofs.Joined.{passes_some, along_path, path_ends, read}
 use Rattle.lab_judge.proofs.Numbers.{stands}
 

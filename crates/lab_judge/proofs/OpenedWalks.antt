@@ -1,6 +1,6 @@
 -- Closed walks that an edge opens: such an edge leads back, and an edge that leads back opens one.
 use Rattle.std.proofs.Common.{◌≡◌, ℕ, ◌+◌, ◌≤◌, Bool, true, false, cond, List, [], ◌∷◌, ◌++◌, refl, sym, ap, ◌∙◌, subst, arith}
-use Rattle.std.specs.Prelude.{Contains, ◌↔◌, not, ⊤}
+use Rattle.std.specs.Prelude.{Contains, ◌↔◌, not}
 use Rattle.std.specs.List.{All}
 use Rattle.std.proofs.lemmas.Bool.{false≢true}
 use Rattle.std.proofs.lemmas.List.Elements.{All-contains}
@@ -11,7 +11,7 @@ use Rattle.lab_deps.specs.declared.edge.Edge.{Edge}
 use Rattle.lab_deps.specs.declared.edge.Kind.{Kind}
 use Rattle.lab_deps.specs.declared.edge.Kind.TheVariants.{Write, ItemRead, PredicateRead, ItemAnti, PredicateAnti}
 use Rattle.lab_judge.specs.Allowed.{allows}
-use Rattle.lab_judge.specs.Graphs.{IsGraphOf, count_others}
+use Rattle.lab_judge.specs.Graphs.{IsGraphOf}
 use Rattle.lab_judge.specs.Openings.{opens, IsOpenedWalk, IsOpening}
 use Rattle.lab_judge.specs.Phenomena.{IsWalk, IsClosedWalk, count_kind}
 use Rattle.lab_judge.specs.declared.allowed.Allowed.{Allowed}
@@ -22,7 +22,7 @@ use Rattle.lab_judge.proofs.ClosedWalks.{times, times_are, times_append, Through
 use Rattle.lab_judge.proofs.GraphWalks.{all_through, leads_back}
 
 -- where every kind is allowed, there is no other
-none_other : (es : List Edge) → times (λ k. not (allows allowed.All k)) es ≡ 0
+pub none_other : (es : List Edge) → times (λ k. not (allows allowed.All k)) es ≡ 0
 none_other [] = refl
 none_other (e ∷ es) = none_other es
 

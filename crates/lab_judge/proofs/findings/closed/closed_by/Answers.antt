@@ -1,4 +1,4 @@
-use Rattle.std.proofs.Common.{◌∷◌, ◌≤◌, sym, subst, ap, ◌∙◌}
+use Rattle.std.proofs.Common.{◌≤◌, sym, subst, ap, ◌∙◌}
 use Rattle.std.specs.Prelude.{not}
 use Rattle.std.proofs.lemmas.List.Elements.{All-contains}
 use Rattle.lab_deps.specs.declared.edge.Kind.{Kind}

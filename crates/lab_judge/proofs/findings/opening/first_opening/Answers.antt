@@ -1,4 +1,3 @@
-use Rattle.std.proofs.Common.{subst, sym}
 use Rattle.std.proofs.lemmas.List.Elements.{All-same, All-drop}
 use Rattle.lab_judge.specs.Graphs.{HasEnds}
 use Rattle.lab_judge.specs.Openings.{IsOpening}
