@@ -1,6 +1,6 @@
 //! Committed transactions as the nodes of a graph.
 
-ghost use Rattle.std.specs.Prelude.{◌≡◌, ◌<◌, ◌≤◌, ◌&&◌, ◌==◌, ℕ, None, length, map, filter, slice_get, Contains, IfOk, IfSome};
+ghost use Rattle.std.specs.Prelude.{◌≡◌, ◌<◌, ◌≤◌, ◌&&◌, ◌==◌, ℕ, None, length, map, filter, slice_get, slice_index, Contains, IfOk, IfSome};
 ghost use Rattle.std.specs.List.Sorted.{IsStrictlyIncreasing};
 ghost use Rattle.lab_history.specs.Version.{outcome_of};
 ghost use Rattle.lab_deps.specs.Soundness.{has_committed};
@@ -80,6 +80,7 @@ impl Nodes {
     pub(crate) fn number(&self, node: u32) -> TxnNo
         requires { node < length self.now }
         ensures number { slice_get self.now node ≡ Some result }
+        ensures value { result ≡ slice_index self.now node }
         ensures node { position self.now result ≡ node }
     {
         self.numbers[node as usize]
