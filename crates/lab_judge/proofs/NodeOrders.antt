@@ -32,7 +32,7 @@ module _ (h : History) (nodes : List ℕ) (once : HoldsEachOnce h nodes) where
   times_is : (n : ℕ) → times n nodes ≡ cond (has_committed (outcome_of h n)) 1 0
   times_is n = times-count n nodes ∙ once n
 
-  at_most : (n : ℕ) → times n nodes ≤ 1
+  pub at_most : (n : ℕ) → times n nodes ≤ 1
   at_most n = elim (has_committed (outcome_of h n)) as (λ b. times n nodes ≡ cond b 1 0 → times n nodes ≤ 1) [ true ↦ λ e. omega (arith, e) | false ↦ λ e. omega (arith, e) ] (times_is n)
 
   -- the node of what a node has is that node

@@ -56,6 +56,7 @@ impl Nodes {
     pub(crate) fn node(&self, number: TxnNo) -> Option<u32>
         ensures found { IfSome result (λ node. slice_get self.now node ≡ Some number) }
         ensures place { IfSome result (λ node. node ≡ position self.now number) }
+        ensures few { IfSome result (λ node. node ≤ 1000000) }
         ensures none { result ≡ None → ¬ Contains self.now number }
     {
         match self.numbers.binary_search(&number) {
@@ -69,6 +70,7 @@ impl Nodes {
         requires { Contains self.now number }
         ensures place { result ≡ position self.now number }
         ensures within { result < length self.now }
+        ensures few { result ≤ 1000000 }
     {
         let Some(node) = self.node(number) else {
             unreachable!()
