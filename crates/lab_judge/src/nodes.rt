@@ -1,6 +1,6 @@
 //! Committed transactions as the nodes of a graph.
 
-ghost use Rattle.std.specs.Prelude.{◌≡◌, ◌<◌, ◌≤◌, ◌&&◌, ◌==◌, ℕ, None, length, map, filter, slice_get, Contains, IfOk, IfSome};
+ghost use Rattle.std.specs.Prelude.{◌≡◌, ◌<◌, ◌≤◌, ◌&&◌, ◌==◌, ℕ, None, length, map, filter, slice_get, slice_index, Contains, IfOk, IfSome};
 ghost use Rattle.std.specs.List.Sorted.{IsStrictlyIncreasing};
 ghost use Rattle.lab_history.specs.Version.{outcome_of};
 ghost use Rattle.lab_deps.specs.Soundness.{has_committed};
@@ -56,6 +56,7 @@ impl Nodes {
     pub(crate) fn node(&self, number: TxnNo) -> Option<u32>
         ensures found { IfSome result (λ node. slice_get self.now node ≡ Some number) }
         ensures place { IfSome result (λ node. node ≡ position self.now number) }
+        ensures few { IfSome result (λ node. node ≤ 1000000) }
         ensures none { result ≡ None → ¬ Contains self.now number }
     {
         match self.numbers.binary_search(&number) {
@@ -69,6 +70,7 @@ impl Nodes {
         requires { Contains self.now number }
         ensures place { result ≡ position self.now number }
         ensures within { result < length self.now }
+        ensures few { result ≤ 1000000 }
     {
         let Some(node) = self.node(number) else {
             unreachable!()
@@ -80,6 +82,7 @@ impl Nodes {
     pub(crate) fn number(&self, node: u32) -> TxnNo
         requires { node < length self.now }
         ensures number { slice_get self.now node ≡ Some result }
+        ensures value { result ≡ slice_index self.now node }
         ensures node { position self.now result ≡ node }
     {
         self.numbers[node as usize]
