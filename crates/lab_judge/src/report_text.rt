@@ -95,19 +95,6 @@ fn put_level(out: &mut Vec<u8>, level: Grade) -> Result<(), NoMemory>
     ensures { OnOk result (out.new.items ≡ out.old.items ++ line_text (codes "level") (grade_name level)) }
 {
     out.extend_from_slice(b"level: ")?;
-    out.extend_from_slice(grade_name(level).as_bytes())?;
+    out.extend_from_slice(level.name().as_bytes())?;
     out.extend_from_slice(b"\n")
-}
-
-fn grade_name(level: Grade) -> &'static str
-    ensures { result.now ≡ grade_name level }
-{
-    match level {
-        Grade::BelowPl1 => "below PL-1",
-        Grade::Pl1 => "PL-1",
-        Grade::Pl2 => "PL-2",
-        Grade::Pl299 => "PL-2.99",
-        Grade::Pl3 => "PL-3",
-        Grade::Unsound => "unsound",
-    }
 }
