@@ -1,0 +1,48 @@
+//! The judgements of many files, by several threads.
+
+ghost use Rattle.std.specs.Prelude.{◌≡◌, IfOk};
+ghost use Rattle.std.specs.List.{AllZip};
+ghost use Rattle.lab_judge.specs.FileAnswer.{IsFileAnswer};
+
+use crate::judging::judge_bytes;
+use crate::report::Report;
+use lab_history::FileFault;
+use lab_table::NoMemory;
+use rayon::prelude::*;
+use std::alloc::{AllocError, Global};
+use std::thread::Threads;
+
+/// The judgement of one file, with want of memory apart.
+fn judged(alloc: Global, bytes: &[u8]) -> Result<Result<Report, FileFault>, NoMemory>
+    ensures { IfOk result (IsFileAnswer bytes.now) }
+{
+    match judge_bytes(alloc, bytes) {
+        Err(FileFault::NoMemory) => Err(AllocError),
+        answer => Ok(answer),
+    }
+}
+
+/// Judges the history of each of these files' bytes: as many answers as files, in the order of the files, each a
+/// judgement or a true refusal of its file, whatever the number of workers. NoMemory where a growth was refused.
+///
+/// It starts threads, as many as there are processors, and waits for them.
+pub fn judge_all<R: Threads + Sync>(
+    rt: &R,
+    alloc: Global,
+    files: &[Vec<u8>],
+) -> Result<Vec<Result<Report, FileFault>>, NoMemory>
+    ensures { IfOk result (λ answers. AllZip (λ file answer. IsFileAnswer file.items answer) files.now answers.items) }
+{
+    let all = files
+        .par_iter()
+        .map(
+            |file: &Vec<u8>| -> Result<Result<Report, FileFault>, NoMemory>
+                ensures { IfOk result (IsFileAnswer file.entry.now.items) }
+            { judged(alloc, file.as_slice()) },
+        )
+        .collect::<Result<Vec<Result<Report, FileFault>>, NoMemory>>(rt, alloc);
+    match all {
+        Ok(Ok(answers)) => Ok(answers),
+        _ => Err(AllocError),
+    }
+}
