@@ -153,19 +153,21 @@ fn parts_that_are_refused_memory_come_back(rt: HostRuntime) -> Result<(), Fail> 
 const SHORT_LIFE: &[u8] =
     br#"{"end":[[1,10]],"format":"hermitage-history","initial":[[1,10]],"installed":[[3,[1,2]]],"transactions":[{"no":1,"ops":[{"rows":[],"statement":"insert into test (id, value) values (3, 30)","view":[],"writes":[[3,30]]},{"rows":[[3,30]],"statement":"update test set value = 31 where id = 3","view":[[3,1,1]],"writes":[[3,31]]}],"outcome":"committed"},{"no":2,"ops":[{"rows":[[3,31]],"statement":"delete from test where id = 3","view":[[3,1,2]],"writes":[[3,null]]}],"outcome":"committed"}],"version":1}"#;
 
-/// The value of row 3 as an operation left it, or initially where the operation is 0; -1 where it is absent, and -2
-/// where there is no such version.
-fn value_of(history: &History, no: u32, op: u32) -> Result<i64, Fail> {
-    let version = if op == 0 {
-        VersionName::Initial
+/// Row 3 as an operation of a transaction left it.
+fn written(history: &History, no: u32, op: u32) -> Result<Option<State>, Fail> {
+    let id = row(3)?;
+    let txn = txn_no(no)?;
+    Ok(history.version_state(id, VersionName::Of { txn, op }))
+}
+
+/// A value; no row for -1, and no version for -2.
+fn state(number: i64) -> Option<State> {
+    if number == -2 {
+        None
+    } else if number == -1 {
+        Some(State::Absent)
     } else {
-        let txn = txn_no(no)?;
-        VersionName::Of { txn, op }
-    };
-    match history.version_state(row(3)?, version) {
-        Some(State::Present(value)) => Ok(value.number()),
-        Some(State::Absent) => Ok(-1),
-        None => Ok(-2),
+        Value::new(number).map(State::Present)
     }
 }
 
@@ -184,15 +186,11 @@ fn short_life(alloc: Global) -> Result<History, Fail> {
 #[test]
 fn versions(rt: HostRuntime) -> Result<(), Fail> {
     let history = short_life(rt.alloc())?;
-    for (no, op, value) in [
-        (1, 0, -1),
-        (1, 1, 30),
-        (1, 2, 31),
-        (2, 1, -1),
-        (2, 2, -2),
-        (3, 1, -2),
-    ] {
-        assert_eq!(rt; value_of(&history, no, op)?, value, "{no} {op}");
+    let initial = history.version_state(row(3)?, VersionName::Initial);
+    assert_eq!(rt; initial, state(-1));
+    for (no, op, value) in [(1, 1, 30), (1, 2, 31), (2, 1, -1), (2, 2, -2), (3, 1, -2)] {
+        let found = written(&history, no, op)?;
+        assert_eq!(rt; found, state(value), "{no} {op}");
     }
     Ok(())
 }
