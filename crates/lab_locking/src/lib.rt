@@ -1,4 +1,4 @@
-//! The engine that locks rows and predicates: what it lets run is serializable.
+//! The engine that locks rows and predicates until the end of their transaction.
 //!
 //! A statement waits for each other active transaction that has a pending write of a row that matches it, or of a row
 //! that it would write, or that has run a statement that matches a row before or after it would write it. Where those

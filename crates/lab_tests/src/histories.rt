@@ -153,38 +153,53 @@ fn parts_that_are_refused_memory_come_back(rt: HostRuntime) -> Result<(), Fail> 
 const SHORT_LIFE: &[u8] =
     br#"{"end":[[1,10]],"format":"hermitage-history","initial":[[1,10]],"installed":[[3,[1,2]]],"transactions":[{"no":1,"ops":[{"rows":[],"statement":"insert into test (id, value) values (3, 30)","view":[],"writes":[[3,30]]},{"rows":[[3,30]],"statement":"update test set value = 31 where id = 3","view":[[3,1,1]],"writes":[[3,31]]}],"outcome":"committed"},{"no":2,"ops":[{"rows":[[3,31]],"statement":"delete from test where id = 3","view":[[3,1,2]],"writes":[[3,null]]}],"outcome":"committed"}],"version":1}"#;
 
+/// Row 3 as an operation of a transaction left it.
+fn written(history: &History, no: u32, op: u32) -> Result<Option<State>, Fail> {
+    let id = row(3)?;
+    let txn = txn_no(no)?;
+    Ok(history.version_state(id, VersionName::Of { txn, op }))
+}
+
+/// A value; no row for -1, and no version for -2.
+fn state(number: i64) -> Option<State> {
+    if number == -2 {
+        None
+    } else if number == -1 {
+        Some(State::Absent)
+    } else {
+        Value::new(number).map(State::Present)
+    }
+}
+
+/// The last operation of a transaction that writes row 3, and the transaction's place among its installers; 0 for
+/// none.
+fn write_of(history: &History, no: u32) -> Result<(u32, usize), Fail> {
+    let last = history.last_write(txn_no(no)?, row(3)?);
+    let place = history.installer_place(row(3)?, txn_no(no)?);
+    Ok((last.unwrap_or(0), place.unwrap_or(0)))
+}
+
+fn short_life(alloc: Global) -> Result<History, Fail> {
+    Ok(read_history(alloc, SHORT_LIFE).ok().ok_or("a history")?)
+}
+
 #[test]
-fn versions_and_their_installers(rt: HostRuntime) -> Result<(), Fail> {
-    let history = read_history(rt.alloc(), SHORT_LIFE)
-        .ok()
-        .ok_or("a history")?;
-    let present = |number: i64| Value::new(number).map(State::Present);
-    for (no, op, state) in [
-        (1, 1, present(30)),
-        (1, 2, present(31)),
-        (2, 1, Some(State::Absent)),
-        (2, 2, None),
-        (3, 1, None),
-    ] {
-        let txn = txn_no(no)?;
-        let found = history.version_state(row(3)?, VersionName::Of { txn, op });
-        assert_eq!(rt; found, state, "{no} {op}");
+fn versions(rt: HostRuntime) -> Result<(), Fail> {
+    let history = short_life(rt.alloc())?;
+    let initial = history.version_state(row(3)?, VersionName::Initial);
+    assert_eq!(rt; initial, state(-1));
+    for (no, op, value) in [(1, 1, 30), (1, 2, 31), (2, 1, -1), (2, 2, -2), (3, 1, -2)] {
+        let found = written(&history, no, op)?;
+        assert_eq!(rt; found, state(value), "{no} {op}");
     }
-    for (id, state) in [(1, present(10)), (3, Some(State::Absent))] {
-        let found = history.version_state(row(id)?, VersionName::Initial);
-        assert_eq!(rt; found, state, "{id}");
-    }
-    for (no, last, place) in [
-        (1, Some(2), Some(1)),
-        (2, Some(1), Some(2)),
-        (3, None, None),
-    ] {
-        assert_eq!(rt; history.last_write(txn_no(no)?, row(3)?), last, "{no}");
-        assert_eq!(rt;
-            history.installer_place(row(3)?, txn_no(no)?),
-            place,
-            "{no}"
-        );
+    Ok(())
+}
+
+#[test]
+fn last_writes_and_installers(rt: HostRuntime) -> Result<(), Fail> {
+    let history = short_life(rt.alloc())?;
+    for (no, last, place) in [(1, 2, 1), (2, 1, 2), (3, 0, 0)] {
+        assert_eq!(rt; write_of(&history, no)?, (last, place), "{no}");
     }
     Ok(())
 }

@@ -7,8 +7,8 @@ use lab_script::{
     PrintFault, ScriptFault, parse_script, parse_statement, print_script, print_script_fault,
     print_statement, print_transcript, run_serial,
 };
-use lab_table::{Command, NoMemory, Table, TableFault};
-use std::alloc::{AllocError, Global};
+use lab_table::{Command, Table, TableFault};
+use std::alloc::Global;
 use std::test::Fail;
 
 /// The table of a setup.
@@ -132,61 +132,101 @@ fn texts_that_are_refused_memory_are_not_made(rt: HostRuntime) -> Result<(), Fai
 const SHORT_LIFE: &str =
     r#"{"end":[[1,10]],"format":"hermitage-history","initial":[[1,10]],"installed":[[3,[1]]],"transactions":[{"no":1,"ops":[{"rows":[],"statement":"insert into test (id, value) values (3, 30)","view":[],"writes":[[3,30]]},{"rows":[[3,30]],"statement":"update test set value = 31 where id = 3","view":[[3,1,1]],"writes":[[3,31]]},{"rows":[[3,31]],"statement":"delete from test where id = 3","view":[[3,1,2]],"writes":[[3,null]]}],"outcome":"committed"},{"no":2,"ops":[{"rows":[[1,10]],"statement":"select * from test","view":[[3,1,3]],"writes":[]}],"outcome":"aborted"}],"version":1}"#;
 
-/// The history of that file; None where memory was refused.
-fn history(alloc: Global) -> Result<Option<History>, Fail> {
+/// What a call came to.
+#[derive(Clone, Copy, Debug, PartialEq, Eq)]
+enum Made {
+    Right,
+    Wrong,
+    NoMemory,
+}
+
+/// Reads that file, and looks whether it gives two transactions.
+fn read(alloc: Global) -> Made {
     match read_history(alloc, SHORT_LIFE.as_bytes()) {
-        Ok(history) => Ok(Some(history)),
-        Err(FileFault::NoMemory) => Ok(None),
-        Err(_) => Err(Fail::from("a history")),
+        Ok(history) => {
+            if history.txns().as_slice().len() == 2 {
+                Made::Right
+            } else {
+                Made::Wrong
+            }
+        }
+        Err(FileFault::NoMemory) => Made::NoMemory,
+        Err(_) => Made::Wrong,
     }
 }
 
-/// Whether a copy of an operation has the same parts.
-fn is_copied(alloc: Global, op: &Op) -> Result<bool, NoMemory> {
-    let copy = op.copy(alloc)?;
-    Ok(
-        copy.view.entries() == op.view.entries()
-            && copy.rows.entries() == op.rows.entries()
-            && copy.writes.entries() == op.writes.entries(),
-    )
+/// Writes a history, and looks whether it gives that file.
+fn written(alloc: Global, history: &History) -> Made {
+    match write_history(alloc, history) {
+        Ok(text) => {
+            if text.as_slice() == SHORT_LIFE.as_bytes() {
+                Made::Right
+            } else {
+                Made::Wrong
+            }
+        }
+        Err(WriteFault::NoMemory) => Made::NoMemory,
+        Err(_) => Made::Wrong,
+    }
+}
+
+/// Whether two operations list the same.
+fn are_alike(a: &Op, b: &Op) -> bool {
+    a.view.entries() == b.view.entries()
+        && a.rows.entries() == b.rows.entries()
+        && a.writes.entries() == b.writes.entries()
+}
+
+/// Copies the first transaction's second operation, and looks whether it lists the same.
+fn copied_operation(alloc: Global, history: &History) -> Made {
+    let [first, ..] = history.txns().as_slice() else {
+        return Made::Wrong;
+    };
+    let [_, second, ..] = first.ops.as_slice() else {
+        return Made::Wrong;
+    };
+    match second.copy(alloc) {
+        Ok(copy) => {
+            if are_alike(&copy, second) {
+                Made::Right
+            } else {
+                Made::Wrong
+            }
+        }
+        Err(_) => Made::NoMemory,
+    }
+}
+
+/// One of the three calls.
+fn outcome(alloc: Global, history: &History, call: u8) -> Made {
+    if call == 0 {
+        read(alloc)
+    } else if call == 1 {
+        written(alloc, history)
+    } else {
+        copied_operation(alloc, history)
+    }
 }
 
 #[test]
 fn histories_that_are_refused_memory_are_not_made(rt: HostRuntime) -> Result<(), Fail> {
-    let alloc = rt.alloc();
-    let whole = history(alloc)?.ok_or("a history")?;
-    let [first, ..] = whole.txns().as_slice() else {
-        return Err(Fail::from("a transaction"));
-    };
-    for growth in 1..5_000u16 {
-        refuse(alloc, growth);
-        let read = history(alloc)?;
-        let read_refused = was_refused(alloc);
-        assert!(rt; read.is_some() || read_refused, "at growth {growth}");
-        refuse(alloc, growth);
-        let written = write_history(alloc, &whole);
-        let write_refused = was_refused(alloc);
-        match written {
-            Ok(written) => assert_eq!(rt; written.as_slice(), SHORT_LIFE.as_bytes()),
-            Err(fault) => {
-                assert!(rt; write_refused, "at growth {growth}");
-                assert_eq!(rt; fault, WriteFault::NoMemory);
+    let whole = read_history(rt.alloc(), SHORT_LIFE.as_bytes())
+        .ok()
+        .ok_or("a history")?;
+    for call in 0..3u8 {
+        for growth in 1..5_000u16 {
+            refuse(rt.alloc(), growth);
+            let made = outcome(rt.alloc(), &whole, call);
+            let refused = was_refused(rt.alloc());
+            assert!(rt; made != Made::Wrong, "{call}, at growth {growth}");
+            assert!(rt;
+                refused || made == Made::Right,
+                "{call}, at growth {growth}"
+            );
+            if !refused {
+                break;
             }
         }
-        refuse(alloc, growth);
-        let copied = first.ops.as_slice().get(1).map(|op| is_copied(alloc, op));
-        let copy_refused = was_refused(alloc);
-        assert_eq!(rt;
-            copied,
-            Some(if copy_refused {
-                Err(AllocError)
-            } else {
-                Ok(true)
-            })
-        );
-        if !read_refused && !write_refused && !copy_refused {
-            return Ok(());
-        }
     }
-    Err(Fail::from("no end of growths"))
+    Ok(())
 }
