@@ -21,8 +21,10 @@ pub mod ScriptLines
 pub mod TextLines
 pub mod ReadLines
 pub mod KnownTokens
+pub mod HeldTokens
 pub mod StatementText
 pub mod FirstFault
+pub mod LongTexts
 pub mod SpelledPrints
 pub mod StatementLines
 pub mod StillTold
