@@ -1,5 +1,5 @@
 -- Dependencies as the arrows of a graph, whose nodes are the places of transactions in a list.
-use Rattle.std.specs.Prelude.{◌≡◌, ℕ, ◌==◌, ◌&&◌, Bool, not, List, [], ◌∷◌, length, Contains, IsTrue, ⊤}
+use Rattle.std.specs.Prelude.{◌≡◌, ℕ, ◌==◌, ◌&&◌, ◌||◌, nat_lt, Bool, not, List, [], ◌∷◌, length, Contains, IsTrue, ⊤}
 use Rattle.std.specs.List.{list_any, count_by}
 use Rattle.lab_order.specs.Arrows.{Arrows, nodes_of, has_arrow}
 use Rattle.lab_deps.specs.declared.edge.Edge.{Edge}
@@ -33,3 +33,7 @@ last_of from (n ∷ ns) = last_of n ns
 -- how many dependencies have a kind that isn't allowed
 abbrev pub count_others : Allowed → List Edge → ℕ
 count_others allowed es = count_by (λ e. not (allows allowed e.kind)) es
+
+-- whether a dependency stands before those of the second transaction on the first
+abbrev pub stands_before : ℕ → ℕ → Edge → Bool
+stands_before from to e = nat_lt e.from from || (e.from == from && nat_lt e.to to)

@@ -6,7 +6,7 @@ ghost use Rattle.lab_judge.specs.Allowed.{allows};
 use lab_deps::Kind;
 
 /// Which dependencies a graph or a walk may be made of.
-#[derive(Clone, Copy, Debug, PartialEq, Eq)]
+#[derive(Clone, Copy)]
 pub(crate) enum Allowed {
     /// Each kind.
     All,

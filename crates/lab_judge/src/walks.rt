@@ -1,7 +1,8 @@
 //! Walks along dependencies.
 
-ghost use Rattle.std.specs.Prelude.{◌≡◌, ◌<◌, ℕ, true, None, slice_index, length, Contains, IfOk, IfSome};
+ghost use Rattle.std.specs.Prelude.{◌≡◌, ◌<◌, ◌≤◌, ℕ, true, false, None, slice_index, length, Contains, IfOk, IfSome};
 ghost use Rattle.std.specs.List.{All};
+ghost use Rattle.std.specs.List.Sorted.{IsPartitionPoint};
 ghost use Rattle.lab_order.specs.Arrows.{Arrows};
 ghost use Rattle.lab_order.specs.Order.{IsCircle};
 ghost use Rattle.lab_history.specs.History.{History};
@@ -9,7 +10,7 @@ ghost use Rattle.lab_deps.specs.Edges.{IsEdge};
 ghost use Rattle.lab_deps.specs.EdgeOrder.{IsInOrder};
 ghost use Rattle.lab_deps.specs.declared.edge.Edge.{Edge as Spelled};
 ghost use Rattle.lab_judge.specs.Allowed.{allows};
-ghost use Rattle.lab_judge.specs.Graphs.{HasEnds, IsGraphOf, LeadsAlong, last_of, count_others};
+ghost use Rattle.lab_judge.specs.Graphs.{HasEnds, IsGraphOf, LeadsAlong, last_of, count_others, stands_before};
 ghost use Rattle.lab_judge.specs.Phenomena.{IsWalk, IsClosedWalk};
 
 use crate::allowed::Allowed;
@@ -80,8 +81,36 @@ fn least_between(edges: &[Edge], allowed: Allowed, from: TxnNo, to: TxnNo) -> Op
     ensures kind { IfSome result (λ e. allows allowed e.kind ≡ true) }
     ensures none { result ≡ None → (e : Spelled) → Contains edges.now e → e.from ≡ from → e.to ≡ to → allows allowed e.kind ≡ true → ⊥ }
 {
+    let start = first_between(edges, from, to);
+    first_allowed(&edges[start..], allowed, from, to)
+}
+
+/// The first of these dependencies that is one of the second transaction on the first and is allowed.
+fn first_allowed(edges: &[Edge], allowed: Allowed, from: TxnNo, to: TxnNo) -> Option<Edge>
+    ensures found { IfSome result (λ e. Contains edges.now e) }
+    ensures from { IfSome result (λ e. e.from ≡ from) }
+    ensures to { IfSome result (λ e. e.to ≡ to) }
+    ensures kind { IfSome result (λ e. allows allowed e.kind ≡ true) }
+    ensures none { result ≡ None → (e : Spelled) → Contains edges.now e → e.from ≡ from → e.to ≡ to → allows allowed e.kind ≡ true → ⊥ }
+{
     edges
         .iter()
         .find(|edge| edge.from == from && edge.to == to && allowed.allows(edge.kind))
         .copied()
+}
+
+/// How many dependencies stand before those of the second transaction on the first; found by halving.
+fn first_between(edges: &[Edge], from: TxnNo, to: TxnNo) -> usize
+    requires { IsInOrder edges.now }
+    ensures bound { result ≤ length edges.now }
+    ensures point { IsPartitionPoint (λ e. stands_before from to e ≡ true) (λ e. stands_before from to e ≡ false) edges.now result }
+{
+    edges.partition_point(|edge| stands_before(edge, from, to))
+}
+
+/// Whether a dependency stands before those of the second transaction on the first.
+fn stands_before(edge: &Edge, from: TxnNo, to: TxnNo) -> bool
+    ensures { result ≡ stands_before from to edge.now }
+{
+    edge.from < from || edge.from == from && edge.to < to
 }

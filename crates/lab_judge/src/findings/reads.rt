@@ -14,7 +14,8 @@ use std::alloc::Global;
 pub(crate) fn find_aborted_read(alloc: Global, history: &History) -> Result<Finding, NoMemory>
     ensures { IfOk result (FindsFault history.now fault.AbortedRead) }
 {
-    match first_aborted_read(alloc, history)? {
+    let first = first_aborted_read(alloc, history)?;
+    match first {
         None => Ok(Finding::Absent),
         Some(read) => Ok(Finding::At {
             txn: read.txn,
@@ -28,7 +29,8 @@ pub(crate) fn find_aborted_read(alloc: Global, history: &History) -> Result<Find
 pub(crate) fn find_intermediate_read(alloc: Global, history: &History) -> Result<Finding, NoMemory>
     ensures { IfOk result (FindsFault history.now fault.IntermediateRead) }
 {
-    match first_intermediate_read(alloc, history)? {
+    let first = first_intermediate_read(alloc, history)?;
+    match first {
         None => Ok(Finding::Absent),
         Some(read) => Ok(Finding::At {
             txn: read.txn,
