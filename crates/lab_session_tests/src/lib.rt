@@ -1,0 +1,9 @@
+//! Tests of sessions: what no contract says of locks and threads, and what the program can't show.
+#![tactic(auto)]
+
+#[cfg(test)]
+mod again;
+#[cfg(test)]
+mod meeting;
+#[cfg(test)]
+mod seats;
