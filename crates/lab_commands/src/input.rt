@@ -2,7 +2,7 @@
 
 ghost use Rattle.std.specs.Prelude.{◌≡◌, ◌⊎◌, ◌≤◌, ◌<◌, length, IfOk, OnOk, IfSome};
 ghost use Rattle.std.specs.Io.KnownBytes.{IsAtEnd};
-ghost use Rattle.hermitage_lab.specs.Input.{read_of, Takes, most_bytes};
+ghost use Rattle.lab_commands.specs.Input.{read_of, Takes, most_bytes};
 
 use crate::ending::RunFault;
 use std::alloc::Global;

@@ -4,8 +4,8 @@ ghost use Rattle.std.specs.Prelude.{◌≡◌, ◌⊎◌, List, ℕ, IfOk, IfErr
 ghost use Rattle.std.specs.Io.KnownBytes.{Appends, Keeps};
 ghost use Rattle.lab_script.specs.Limits.{ScriptPrints};
 ghost use Rattle.lab_script.specs.Transcript.{transcript};
-ghost use Rattle.hermitage_lab.specs.Input.{read_of};
-ghost use Rattle.hermitage_lab.specs.Serial.{IsSerialAnswer};
+ghost use Rattle.lab_commands.specs.Input.{read_of};
+ghost use Rattle.lab_commands.specs.Serial.{IsSerialAnswer};
 
 use crate::ending::{Ending, RunFault};
 use crate::input::read_input;

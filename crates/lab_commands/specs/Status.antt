@@ -1,9 +1,9 @@
 -- The program's exit statuses.
 use Rattle.std.specs.Prelude.{ℕ}
-use Rattle.hermitage_lab.specs.declared.ending.Ending.{Ending}
-use Rattle.hermitage_lab.specs.declared.ending.Ending.TheVariants.{Done, Refused}
-use Rattle.hermitage_lab.specs.declared.ending.RunFault.{RunFault}
-use Rattle.hermitage_lab.specs.declared.ending.RunFault.TheVariants.{NoMemory, Unread, Unwritten}
+use Rattle.lab_commands.specs.declared.ending.Ending.{Ending}
+use Rattle.lab_commands.specs.declared.ending.Ending.TheVariants.{Done, Refused}
+use Rattle.lab_commands.specs.declared.ending.RunFault.{RunFault}
+use Rattle.lab_commands.specs.declared.ending.RunFault.TheVariants.{NoMemory, Unread, Unwritten}
 
 -- the status of a run whose text was written
 abbrev pub ending_status : Ending → ℕ

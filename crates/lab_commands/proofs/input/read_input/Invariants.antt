@@ -1,6 +1,6 @@
 use Rattle.std.proofs.Common.{[], ◌<◌, length}
-use Rattle.hermitage_lab.specs.Input.{Takes, most_bytes}
-use Rattle.hermitage_lab.proofs.input.read_input.Given as goal
+use Rattle.lab_commands.specs.Input.{Takes, most_bytes}
+use Rattle.lab_commands.proofs.input.read_input.Given as goal
 
 abbrev pub invariant-loop : goal.invariant-loop
 invariant-loop g l =

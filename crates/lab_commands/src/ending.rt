@@ -1,7 +1,7 @@
 //! How runs end, and the program's exit statuses.
 
 ghost use Rattle.std.specs.Prelude.{◌≡◌, MatchResult};
-ghost use Rattle.hermitage_lab.specs.Status.{ending_status, fault_status};
+ghost use Rattle.lab_commands.specs.Status.{ending_status, fault_status};
 
 use std::alloc::AllocError;
 
@@ -27,7 +27,7 @@ pub enum RunFault {
 
 impl From<AllocError> for RunFault {
     ghost use Rattle.std.specs.Prelude.{◌≡◌};
-    ghost use Rattle.hermitage_lab.specs.declared.ending.RunFault.TheVariants.{NoMemory};
+    ghost use Rattle.lab_commands.specs.declared.ending.RunFault.TheVariants.{NoMemory};
 
     ghost from_gives = { λ _ fault. fault ≡ NoMemory };
 

@@ -1,7 +1,7 @@
 use Rattle.std.proofs.Common.{rules}
-use Rattle.hermitage_lab.specs.Input.{most_bytes}
-use Rattle.hermitage_lab.proofs.Taken.{takes_more, read_whole}
-use Rattle.hermitage_lab.proofs.input.read_input.Goals as goal
+use Rattle.lab_commands.specs.Input.{most_bytes}
+use Rattle.lab_commands.proofs.Taken.{takes_more, read_whole}
+use Rattle.lab_commands.proofs.input.read_input.Goals as goal
 
 pub returns-in-End : goal.returns-in-End
 returns-in-End g c =

@@ -1,5 +1,5 @@
 use Rattle.std.proofs.Common.{inl, refl}
-use Rattle.hermitage_lab.proofs.serial.answer.Goals as goal
+use Rattle.lab_commands.proofs.transcribing.answer.Goals as goal
 
 pub returns-in_ok-transcript_of-in-Ok : goal.returns-in_ok-transcript_of-in-Ok
 returns-in_ok-transcript_of-in-Ok c =

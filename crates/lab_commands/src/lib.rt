@@ -1,0 +1,13 @@
+//! The subcommands of the program, each over a reader and a writer.
+//!
+//! Each function reads its whole input before its first write, writes one text whole, and answers how the run ended: an
+//! [`Ending`] where the text was written, a [`RunFault`] where it wasn't. [`status`] is the exit status of either.
+#![tactic(auto)]
+
+mod ending;
+mod input;
+mod output;
+mod transcribing;
+
+pub use ending::{Ending, RunFault, status};
+pub use transcribing::serial;
