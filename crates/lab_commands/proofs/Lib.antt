@@ -1,1 +1,2 @@
+mod FileFaults
 mod Taken

@@ -1,3 +1,4 @@
 pub mod Input
 pub mod Status
 pub mod Serial
+pub mod HistoryFile
