@@ -1,5 +1,5 @@
 -- What a refusal of a history file says of its bytes, and of the whole input that they are the front of.
-use Rattle.std.proofs.Common.{◌≡◌, ◌≢◌, ◌⊎◌, inl, inr, ℕ, ◌≤◌, ◌<◌, List, length, take, Option, Some, None, Result, Ok, Err, refl, Bool, true, false, false≢true, sym, ◌∙◌, ap, take_all, arith}
+use Rattle.std.proofs.Common.{◌≡◌, ◌≢◌, ◌⊎◌, inl, inr, ℕ, ◌≤◌, ◌<◌, List, length, take, Option, Some, None, Result, Ok, Err, refl, Bool, true, false, sym, ◌∙◌, ap, take_all, arith}
 use Rattle.std.proofs.lemmas.List.{length-take}
 use Rattle.std.proofs.lemmas.Bool.{cases_lt, false≢true}
 use Rattle.std.proofs.lemmas.Option.{none-some}

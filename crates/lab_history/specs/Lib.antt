@@ -19,4 +19,5 @@ pub mod Keyed
 pub mod Index
 pub mod Tree
 pub mod PathText
+pub mod LimitName
 pub mod FileRead

@@ -22,6 +22,25 @@ pub enum Limit {
     Statement,
 }
 
+impl Limit {
+    ghost use Rattle.std.specs.Prelude.{◌≡◌};
+    ghost use Rattle.lab_history.specs.LimitName.{limit_name};
+
+    /// What there is too much of, as a printed fault has it.
+    pub fn name(self) -> &'static str
+        ensures { result.now ≡ limit_name self }
+    {
+        match self {
+            Limit::Bytes => "bytes",
+            Limit::Transactions => "transactions",
+            Limit::Operations => "operations",
+            Limit::Ids => "ids",
+            Limit::Entries => "entries",
+            Limit::Statement => "statement",
+        }
+    }
+}
+
 /// Why a file or parts are no history.
 #[derive(Clone, Copy, Debug, PartialEq, Eq, Error)]
 pub enum FileFault {

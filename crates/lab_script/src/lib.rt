@@ -26,8 +26,9 @@ mod transcript;
 
 pub use fault::{ScriptFault, ScriptFaultKind, print_script_fault};
 pub use parse::parse_script;
-pub use print::{PrintFault, check_statement, print_script, print_statement};
+pub use print::{PrintFault, check_statement, print_script, print_statement, put_printable};
 pub use script::{Line, Lines, Script};
 pub use serial::run_serial;
+pub use spelling::{put_id, put_list};
 pub use statement_text::parse_statement;
 pub use transcript::{Transcript, print_transcript};

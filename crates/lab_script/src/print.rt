@@ -1,7 +1,7 @@
 //! Statements and scripts in printed form, where that keeps the limits of a text.
 
-ghost use Rattle.std.specs.Prelude.{◌≡◌, ◌≢◌, ◌≤◌, ◌<◌, length, Some, IfOk, OnOk, Err};
-ghost use Rattle.lab_script.specs.Printed.{printed_statement, printed_script};
+ghost use Rattle.std.specs.Prelude.{◌≡◌, ◌≢◌, ◌++◌, ◌≤◌, ◌<◌, length, Some, IfOk, OnOk, Err};
+ghost use Rattle.lab_script.specs.Printed.{printed_command, printed_statement, printed_script};
 ghost use Rattle.lab_script.specs.Depth.{statement_depth};
 ghost use Rattle.lab_script.specs.Renumbered.{renumbered};
 ghost use Rattle.lab_script.specs.Script.{Spells, SpellsStatement};
@@ -11,7 +11,7 @@ ghost use Rattle.lab_script.specs.Limits.{StatementPrints, CommandPrints, IsDeep
 use crate::fits::{depth_fits, setup_fits, statement_fits};
 use crate::round_trip::{printed_script_spells, printed_statement_spells};
 use crate::script::Script;
-use crate::spelling::{put_line, put_setup, put_statement};
+use crate::spelling::{put_command, put_line, put_setup, put_statement};
 use lab_table::{Command, Statement};
 use std::alloc::{AllocError, Global};
 use thiserror::Error;
@@ -104,6 +104,19 @@ pub fn check_statement(statement: &Statement) -> Result<(), PrintFault>
     } else {
         Ok(())
     }
+}
+
+/// Appends a command in printed form, if that keeps the limits of a text.
+/// TooDeep comes before TooLong, and then nothing is appended; after NoMemory, part of the text may stand there.
+pub fn put_printable(out: &mut Vec<u8>, command: &Command) -> Result<(), PrintFault>
+    ensures text { OnOk result (out.new.items ≡ out.old.items ++ printed_command command.now) }
+    ensures prints { OnOk result (CommandPrints command.now) }
+    ensures too_deep { result ≡ Err PrintFault.TooDeep → IsDeep command.now }
+    ensures too_long { result ≡ Err PrintFault.TooLong → IsLong command.now }
+{
+    check_command(command)?;
+    put_command(out, command)?;
+    Ok(())
 }
 
 fn check_command(command: &Command) -> Result<(), PrintFault>
