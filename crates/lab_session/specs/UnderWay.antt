@@ -1,0 +1,37 @@
+-- What a play by one thread knows after each event.
+use Rattle.std.specs.Prelude.{◌≡◌, ℕ, ◌≤◌, ◌<◌, Bool, List, [], ◌∷◌, ◌++◌, false, slice_index_or, ⊤}
+use Rattle.lab_table.specs.declared.statement.Command.{Command}
+use Rattle.lab_engine.specs.declared.event.Outcome.{Outcome}
+use Rattle.lab_engine.specs.declared.event.LogEvent.{LogEvent}
+use Rattle.lab_engine.specs.Log.{Past, past_of}
+use Rattle.lab_engine.specs.Recording.{Line, given, AllFollowScript}
+use Rattle.lab_engine.specs.Journal.{Kept}
+use Rattle.lab_session.specs.Bench.{IsSoundRun}
+
+-- the numbers kept of the sessions, each at its session's number
+abbrev pub AreCounts : (ℕ → ℕ) → List ℕ → Type 0
+AreCounts of counts = (session : ℕ) → session < 10 → slice_index_or counts session 0 ≡ of session
+
+-- the tests kept of the sessions from 1 to 9, each at its session's number
+abbrev pub AreTests : (ℕ → Bool) → List Bool → Type 0
+AreTests of tests = (session : ℕ) → 1 ≤ session → session < 10 → slice_index_or tests session false ≡ of session
+
+-- a number is a session's
+abbrev pub IsSession : ℕ → Type 0
+IsSession session = (1 ≤ session) × (session ≤ 9)
+
+-- each event is a session's
+abbrev pub AllOfSessions : Past → Type 0
+AllOfSessions [] = ⊤
+AllOfSessions (event ∷ past) = AllOfSessions past × IsSession event.session
+
+-- a log has one more event, of this session and command
+abbrev pub HasMore : List LogEvent → List LogEvent → ℕ → Command → Type 0
+HasMore old new session command = (outcome : Outcome) × (new ≡ old ++ record { session = session; command = command; outcome = outcome } ∷ [])
+
+-- a play that has followed a script so far, with how many lines each session has given
+pub record IsUnderWay (run : Kept) (lines : List Line) (counts : List ℕ) : Type 0 where
+  pub sound : IsSoundRun run
+  pub follows : AllFollowScript run.level run.setup lines (past_of run.log)
+  pub of_sessions : AllOfSessions (past_of run.log)
+  pub counted : AreCounts (given (past_of run.log)) counts

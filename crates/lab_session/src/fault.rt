@@ -1,0 +1,97 @@
+//! Why a run isn't closed, and why a play has no recording.
+
+ghost use Rattle.std.specs.Prelude.{◌≡◌};
+ghost use Rattle.lab_session.specs.Closing.{close_fault_of};
+ghost use Rattle.lab_session.specs.Play.{unclosed_fault, stopped_fault};
+
+use crate::bench::BenchFault;
+use lab_engine::RecordFault;
+use lab_history::Limit;
+use lab_table::Session;
+use std::alloc::AllocError;
+
+/// Why a run wasn't closed. Nothing has changed then.
+#[derive(Clone, Copy, Debug, PartialEq, Eq)]
+pub enum CloseFault {
+    /// Refusal 1: a growth was refused.
+    NoMemory,
+    /// Refusal 2: a session has no seat.
+    SeatMissing { session: Session },
+    /// Refusal 3: the list of a session's seat isn't its calls in the log. The first place, counted from 1, at which
+    /// they differ or one of them has ended.
+    ReceiptDiffers { session: Session, place: usize },
+    /// Refusal 4: the recording would have too much of something.
+    OverLimit { which: Limit },
+    /// Refusal 5: a session has two seats.
+    SeatRepeated { session: Session },
+}
+
+/// Why a call in a lab was refused. Where `waiting` is true the command still waits, and the seat holds it.
+#[derive(Clone, Copy, Debug, PartialEq, Eq)]
+pub enum LabFault {
+    /// Refusal 1: a growth was refused.
+    NoMemory { waiting: bool },
+    /// Refusal 2: the log has 100,000 events.
+    Full { waiting: bool },
+    /// Refusal 3: the seat holds no command.
+    NothingWaiting,
+}
+
+/// Why a play has no recording.
+#[derive(Clone, Copy, Debug, PartialEq, Eq)]
+pub enum PlayFault {
+    /// Refusal 1: a growth was refused.
+    NoMemory,
+    /// Refusal 2: the recording would have too much of something.
+    OverLimit { which: Limit },
+    /// Refusal 3: the run wasn't closed.
+    Close { fault: CloseFault },
+    /// Refusal 4: a thread wasn't given.
+    NoThread,
+    /// Refusal 5: the log has 100,000 events.
+    Full,
+}
+
+impl From<AllocError> for PlayFault {
+    ghost use Rattle.std.specs.Prelude.{◌≡◌};
+    ghost use Rattle.lab_session.specs.declared.fault.PlayFault.TheVariants.{NoMemory};
+
+    ghost from_gives = { λ _ fault. fault ≡ NoMemory };
+
+    fn from(_: AllocError) -> PlayFault {
+        PlayFault::NoMemory
+    }
+}
+
+/// Why a run isn't closed, where the log has no recording.
+pub(crate) fn unrecorded(fault: RecordFault) -> CloseFault
+    ensures { result ≡ close_fault_of fault }
+{
+    match fault {
+        RecordFault::NoMemory => CloseFault::NoMemory,
+        RecordFault::OverLimit { which } => CloseFault::OverLimit { which },
+    }
+}
+
+/// Why a play has no recording, where its run isn't closed.
+pub(crate) fn unclosed(fault: CloseFault) -> PlayFault
+    ensures { result ≡ unclosed_fault fault }
+{
+    match fault {
+        CloseFault::NoMemory => PlayFault::NoMemory,
+        CloseFault::OverLimit { which } => PlayFault::OverLimit { which },
+        CloseFault::SeatMissing { .. }
+        | CloseFault::ReceiptDiffers { .. }
+        | CloseFault::SeatRepeated { .. } => PlayFault::Close { fault },
+    }
+}
+
+/// Why a play has no recording, where its bench refused.
+pub(crate) fn stopped(fault: BenchFault) -> PlayFault
+    ensures { result ≡ stopped_fault fault }
+{
+    match fault {
+        BenchFault::NoMemory => PlayFault::NoMemory,
+        BenchFault::Full => PlayFault::Full,
+    }
+}
