@@ -107,7 +107,8 @@ pub fn check_statement(statement: &Statement) -> Result<(), PrintFault>
 }
 
 /// Appends a command in printed form, if that keeps the limits of a text.
-/// TooDeep comes before TooLong, and then nothing is appended; after NoMemory, part of the text may stand there.
+/// TooDeep and TooLong only where it breaks that limit; NoMemory where a growth was refused, and then part of the text
+/// may stand there.
 pub fn put_printable(out: &mut Vec<u8>, command: &Command) -> Result<(), PrintFault>
     ensures text { OnOk result (out.new.items ≡ out.old.items ++ printed_command command.now) }
     ensures prints { OnOk result (CommandPrints command.now) }

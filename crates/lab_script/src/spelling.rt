@@ -23,7 +23,7 @@ fn put_natural(out: &mut Vec<u8>, n: u32) -> Result<(), NoMemory>
     out.extend_from_slice(Buffer::new().format(n).as_bytes())
 }
 
-/// Appends the name of a row.
+/// Appends the name of a row. NoMemory where a growth was refused, and then part of it may stand there.
 pub fn put_id(out: &mut Vec<u8>, id: RowId) -> Result<(), NoMemory>
     ensures { OnOk result (out.new.items ≡ out.old.items ++ printed_id id) }
 {
@@ -235,7 +235,8 @@ fn put_rows_or(out: &mut Vec<u8>, none: &[u8], rows: &[(RowId, Value)]) -> Resul
     Ok(())
 }
 
-/// Appends rows as a list; `none` where there is no row.
+/// Appends rows as a list; `none` where there is no row. NoMemory where a growth was refused, and then part of the list
+/// may stand there.
 pub fn put_list(out: &mut Vec<u8>, rows: &[(RowId, Value)]) -> Result<(), NoMemory>
     ensures { OnOk result (out.new.items ≡ out.old.items ++ rows_or (codes "none") rows.now) }
 {
