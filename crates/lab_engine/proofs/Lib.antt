@@ -16,6 +16,7 @@ pub mod Merging
 pub mod States
 pub mod Effects
 pub mod Walks
+mod ShortestWalks
 pub mod Rising
 pub mod Waiting
 pub mod Circles

@@ -27,7 +27,7 @@ left_false true b h = h
 left_false false b h = refl
 
 -- the goal is reached
-goal_reached : (hops : List Hop) (goal : ℕ) → is_reached hops goal goal ≡ true
+pub goal_reached : (hops : List Hop) (goal : ℕ) → is_reached hops goal goal ≡ true
 goal_reached hops goal = ap (λ b. b || list_any (λ hop. hop.session == goal) hops) (eq-eqb goal goal refl)
 
 -- where nobody who isn't reached waits for one who is, no walk to the goal begins with a session that waits for none who is
@@ -160,15 +160,10 @@ fewer_missing waits goal hops (hop ∷ new) all some =
     let first : IsNewHop waits hops goal hop = all 0 hop (omega arith) in
     missing_lt (hop ∷ new) hops goal hop.session waits first.new (hop_reaches hop (new ++ hops) goal) (waiter waits hop.session hop.next first.waits)
 
--- where none so far who isn't reached waits for one who is, and all are passed, nobody does
-pub nobody_missing : (waits : List Wait) (hops : List Hop) (goal passed : ℕ) → length waits ≤ passed
-    → ((session other : ℕ) → is_reached hops goal session ≡ false → IsTrue (list_any (λ wait. wait.session == session) (take passed waits)) → IsTrue (is_reached hops goal other) → waits_for waits session other ≡ false)
-    → (session other : ℕ) → is_reached hops goal session ≡ false → IsTrue (waits_for waits session other) → is_reached hops goal other ≡ false
-nobody_missing waits hops goal passed all none session other unreached waits_on = at _ refl
-  where
-    at : (b : Bool) → is_reached hops goal other ≡ b → b ≡ false
-    at true q = absurd (both_ways _ (none session other unreached (ap (list_any (λ wait. wait.session == session)) (take_all passed waits all) ∙ waiter waits session other waits_on) q) waits_on)
-    at false q = refl
+-- all that wait are passed where the whole graph is
+pub waiter_passed : (waits : List Wait) (passed : ℕ) → length waits ≤ passed → (session other : ℕ) → IsTrue (waits_for waits session other)
+    → IsTrue (list_any (λ wait. wait.session == session) (take passed waits))
+waiter_passed waits passed all session other waits_on = ap (list_any (λ wait. wait.session == session)) (take_all passed waits all) ∙ waiter waits session other waits_on
 
 -- a list with an element isn't empty
 filled : (o : ℕ) (on : List ℕ) → not (length (o ∷ on) == 0) ≡ true

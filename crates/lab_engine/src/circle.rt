@@ -4,7 +4,7 @@
 //! one reached by an earlier turn, so the first walk that is found is a shortest one. Each goes on to the least such
 //! session, so the walk is the least of the shortest.
 
-ghost use Rattle.std.specs.Prelude.{◌≡◌, ◌==◌, ◌∷◌, ◌⊎◌, [], true, false, None, Some, List, ℕ, IfOk, IfSome, IsTrue};
+ghost use Rattle.std.specs.Prelude.{◌≡◌, ◌≤◌, ◌==◌, ◌+◌, ◌∷◌, ◌++◌, ◌⊎◌, [], true, false, None, Some, List, ℕ, length, IfOk, IfSome, IsTrue};
 ghost use Rattle.std.specs.List.{All, list_any};
 ghost use Rattle.lab_engine.specs.WaitsFor.{IsWalk, IsRound, waits_for};
 ghost use Rattle.lab_engine.specs.Hops.{is_reached, trail, AreHops, IsNewHop};
@@ -79,8 +79,8 @@ fn next_layer(
     goal: Session,
 ) -> Result<Vec<Hop>, NoMemory>
     ensures new { IfOk result (λ layer. All (IsNewHop waits.now hops.now goal) layer.items) }
-    ensures none { IfOk result (λ layer. layer.items ≡ [] → (session other : ℕ) → is_reached hops.now goal session ≡ false
-        → IsTrue (waits_for waits.now session other) → is_reached hops.now goal other ≡ false) }
+    ensures all { IfOk result (λ layer. (session other : ℕ) → IsTrue (waits_for waits.now session other) → IsTrue (is_reached hops.now goal other)
+        → IsTrue (is_reached (layer.items ++ hops.now) goal session)) }
 {
     let mut layer = Vec::new(alloc);
     for wait in waits {
@@ -118,8 +118,8 @@ fn circle_by(
     Ok(Sessions::new(circle))
 }
 
-/// A circle from this session on, or None where there is none. Of several the shortest is answered, and of those the
-/// least in its list, which is tested and not part of the contract.
+/// A circle from this session on, than which none is shorter; or None where there is none. Of the shortest ones the
+/// least in its list is answered, which is tested and not part of the contract.
 /// NoMemory where a growth was refused.
 pub fn shortest_circle(
     alloc: Global,
@@ -127,6 +127,7 @@ pub fn shortest_circle(
     session: Session,
 ) -> Result<Option<Sessions>, NoMemory>
     ensures found { IfOk result (λ found. IfSome found (IsRound waits.now session)) }
+    ensures shortest { IfOk result (λ found. IfSome found (λ circle. (rest : List ℕ) → IsWalk waits.now session rest session → length circle ≤ 1 + length rest)) }
     ensures none { IfOk result (λ found. found ≡ None → (rest : List ℕ) → ¬ IsWalk waits.now session rest session) }
 {
     let mut hops = Vec::new(alloc);

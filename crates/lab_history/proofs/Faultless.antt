@@ -5,7 +5,7 @@ use Rattle.std.specs.List.{list_any}
 use Rattle.std.proofs.lemmas.Bool.{or_parts}
 use Rattle.serde_json.specs.Data.{Data, array, Items, no_items, item}
 use Rattle.serde_json.specs.Find.{as_array, as_object, as_str, as_number, as_u64, at}
-use Rattle.lab_script.specs.StatementText.{statement_in}
+use Rattle.lab_script.specs.Script.{SpellsStatement}
 use Rattle.lab_history.specs.Entries.{txn_in_number, value_in, written_in}
 use Rattle.lab_history.specs.FaultOf.{all_ops, IsWrong, IsRepeated, IsBadStatement, IsUnsorted, IsOverLimit, IsTrueFault}
 use Rattle.lab_history.specs.Fitting.{fits}
@@ -163,10 +163,10 @@ module _ (d : Data) (h : History) (file : IsFileOf d h) where
 
   not_bad : (n number : ℕ) → IsBadStatement d n number → ⊥
   not_bad n number (txn, op, o, text, of, counted, here, spelled, bad) =
-      let is = (op_of txn op o here).1 in
+      let found = op_of txn op o here in
+      let is = found.1 in
       let same : is.3 ≡ text = let there = sym (ap (λ u. as_str (at_key (codes "statement") u)) is.4) ∙ spelled in cc in
-      let read = sym (ap statement_in same) ∙ is.5 in
-      absurd cc
+      bad found.0.statement (subst (λ t. SpellsStatement t found.0.statement) same is.5)
 
   not_unsorted : (p : Path) → IsUnsorted d p → ⊥
   not_unsorted p (place, l, is, here, falls) = (good_at place l here).rises falls

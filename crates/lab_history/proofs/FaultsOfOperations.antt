@@ -4,6 +4,7 @@ use Rattle.serde_json.specs.Data.{Data, Items, no_items, item}
 use Rattle.serde_json.specs.Find.{as_str, at, get_item, as_object}
 use Rattle.lab_table.specs.declared.statement.Statement.{Statement}
 use Rattle.lab_script.specs.StatementText.{statement_in}
+use Rattle.lab_script.proofs.StatementRead.{nothing_in}
 use Rattle.lab_history.specs.Faults.{required}
 use Rattle.lab_history.specs.Entries.{txn_in_number, value_in, written_in, values_in, writes_in, view_in}
 use Rattle.lab_history.specs.FaultOf.{IsTrueFault}
@@ -38,7 +39,7 @@ module _ (d t o : Data) (txn n index : ℕ) (there : txn_at d txn ≡ Some t) (n
   spelled_fault : (text : List ℕ) → as_str (at_key (codes "statement") o) ≡ Some text → spelled_in n (index + 1) (statement_in text) ≡ Err f → IsTrueFault d f
   spelled_fault text is e =
       let bad = spelled_err n (index + 1) (statement_in text) f e in
-      subst (IsTrueFault d) (sym bad.1) (txn, index, o, text, (t, there, numbered), refl, at_operation, is, bad.0)
+      subst (IsTrueFault d) (sym bad.1) (txn, index, o, text, (t, there, numbered), refl, at_operation, is, nothing_in text bad.0)
 
   view_at : option_map (at_key (codes "view")) (operation_at d txn index) ≡ Some (at_key (codes "view") o)
   view_at = ap (option_map (at_key (codes "view"))) at_operation

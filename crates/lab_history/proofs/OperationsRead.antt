@@ -12,6 +12,7 @@ use Rattle.lab_history.specs.Format.{keyed, op_keys, spelled_in, op_in, ops_from
 use Rattle.lab_history.specs.declared.operation.Op.{Op}
 use Rattle.lab_history.specs.declared.path.ListPlace.TheVariants as list
 use Rattle.lab_history.specs.declared.path.Path.TheVariants as path
+use Rattle.lab_script.proofs.StatementRead.{spells_in, in_spells}
 use Rattle.lab_history.proofs.Steps.{both_ok, step_on, required_ok}
 use Rattle.lab_history.proofs.Trees.{string_of, keyed_shape}
 use Rattle.lab_history.proofs.ListsRead.{map_again}
@@ -43,7 +44,7 @@ module _ (txn by index : ℕ) where
         writes,
         text.0,
         ap (λ s. op_tree rows s view writes) (string_of statement text.0 (required_ok (path.Statement txn index) (as_str statement) text.0 text.1)),
-        spelled_ok by (index + 1) (statement_in text.0) spelled.0 spelled.1,
+        in_spells text.0 spelled.0 (spelled_ok by (index + 1) (statement_in text.0) spelled.0 spelled.1),
         view_read (list.View txn index) view seen.0 seen.1,
         values_read (list.Rows txn index) rows listed.0 listed.1,
         writes_read (list.Writes txn index) writes written.0 written.1,
@@ -63,7 +64,7 @@ module _ (txn by index : ℕ) where
       let made : Op = record { statement = op.statement; view = finite.from_sorted (finite.entries op.view); rows = finite.from_sorted (finite.entries op.rows); writes = finite.from_sorted (finite.entries op.writes) } in
       let again : made ≡ op = λ i. record { statement = op.statement; view = map_again op.view i; rows = map_again op.rows i; writes = map_again op.writes i } in
       ap (op_in txn by index) is.4
-      ∙ step_on _ (ap (spelled_in by (index + 1)) is.5)
+      ∙ step_on _ (ap (spelled_in by (index + 1)) (spells_in is.3 op.statement is.5))
       (step_on _ (view_is_read (list.View txn index) is.1 op.view is.6)
       (step_on _ (values_are_read (list.Rows txn index) is.0 op.rows is.7)
       (step_on _ (writes_are_read (list.Writes txn index) is.2 op.writes is.8) (ap (λ (o : Op). Ok o) again))))

@@ -4,7 +4,8 @@ use Rattle.std.specs.Ordering.{is_lt}
 use Rattle.serde_json.specs.Data.{Data, array, Items, no_items, item}
 use Rattle.serde_json.specs.Find.{as_number, as_u64, as_array, as_str, at}
 use Rattle.lab_table.specs.Row.{Row, row_cmp}
-use Rattle.lab_script.specs.StatementText.{statement_in}
+use Rattle.lab_table.specs.declared.statement.Statement.{Statement}
+use Rattle.lab_script.specs.Script.{SpellsStatement}
 use Rattle.lab_history.specs.Entries.{id_in, txn_in_number}
 use Rattle.lab_history.specs.Fitting.{fits}
 use Rattle.lab_history.specs.Format.{at_key, count, parts_in}
@@ -31,10 +32,10 @@ IsNumber d txn n = (t : Data) × (txn_at d txn ≡ Some t) × (txn_in_number (at
 abbrev pub IsRepeated : Data → ℕ → Type 0
 IsRepeated d n = (i j : ℕ) × (i < j) × IsNumber d i n × IsNumber d j n
 
--- an operation, counted from 1, of a transaction with a number has a statement that isn't read
+-- an operation, counted from 1, of a transaction with a number has a text that spells no statement
 abbrev pub IsBadStatement : Data → ℕ → ℕ → Type 0
 IsBadStatement d n number = (txn op : ℕ) × (o : Data) × (text : List ℕ) × IsNumber d txn n × (number ≡ op + 1) × (operation_at d txn op ≡ Some o)
-    × (as_str (at_key (codes "statement") o) ≡ Some text) × (statement_in text ≡ None)
+    × (as_str (at_key (codes "statement") o) ≡ Some text) × ((s : Statement) → SpellsStatement text s → ⊥)
 
 -- the row that a member of a list begins with
 abbrev pub row_of : Data → Option Row

@@ -5,7 +5,7 @@ use Rattle.std.specs.FinMap.{FinMap}
 use Rattle.serde_json.specs.Data.{Data, string, array, object, Items, no_items, item, no_members, member}
 use Rattle.serde_json.specs.Find.{as_number, as_u64}
 use Rattle.lab_table.specs.Row.{Row, row_cmp}
-use Rattle.lab_script.specs.StatementText.{statement_in}
+use Rattle.lab_script.specs.Script.{SpellsStatement}
 use Rattle.lab_history.specs.Entries.{id_in, txn_in_number, op_in_number, value_in, written_in}
 use Rattle.lab_history.specs.History.{History}
 use Rattle.lab_history.specs.Kept.{Keeps}
@@ -45,11 +45,11 @@ abbrev pub IsInstalled : Data → Row × List ℕ → Type 0
 IsInstalled d entry = (a b : Data) × (d ≡ array (item a (item b no_items))) × (id_in a ≡ Some entry.0)
     × IsListOf (λ e n. txn_in_number e ≡ Some n) b entry.1 × (entry.1 ≢ [])
 
--- {rows, statement, view, writes}; the statement is any text that spells it
+-- {rows, statement, view, writes}; the statement is any text that the grammar has for it
 abbrev pub IsOperation : Data → Op → Type 0
 IsOperation d op = (rows view writes : Data) × (text : List ℕ)
     × (d ≡ object (member (codes "rows") rows (member (codes "statement") (string text) (member (codes "view") view (member (codes "writes") writes no_members)))))
-    × (statement_in text ≡ Some op.statement) × IsMapOf IsVersion view op.view × IsMapOf (IsPair value_in) rows op.rows × IsMapOf (IsPair written_in) writes op.writes
+    × SpellsStatement text op.statement × IsMapOf IsVersion view op.view × IsMapOf (IsPair value_in) rows op.rows × IsMapOf (IsPair written_in) writes op.writes
 
 -- how an outcome is spelled
 abbrev pub outcome_text : Outcome → List ℕ

@@ -13,7 +13,7 @@ use std::alloc::Global;
 
 /// Strict two-phase locking of rows and predicates; each commit is let through.
 #[derive(Clone, Copy, Debug, PartialEq, Eq)]
-pub struct LockRules {}
+struct LockRules {}
 
 impl Rules for LockRules {
     ghost kind = { λ _. Locking };

@@ -10,4 +10,4 @@
 mod blockers;
 mod engine;
 
-pub use engine::{LockEngine, LockRules};
+pub use engine::LockEngine;

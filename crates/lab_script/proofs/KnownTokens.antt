@@ -1,29 +1,33 @@
--- No statement has a byte that begins no token.
-use Rattle.std.proofs.Common.{◌≡◌, ℕ, Bool, true, false, List, [], ◌∷◌, ◌++◌, refl, sym, ap, ◌∙◌}
-use Rattle.std.specs.Prelude.{ℤ, ◌&&◌, Option}
+-- The grammar has no byte that begins no token, and no number past 1,000,000,000.
+use Rattle.std.proofs.Common.{◌≡◌, ℕ, Bool, true, false, List, [], ◌∷◌, ◌++◌, map, refl, sym, ap, ◌∙◌}
+use Rattle.std.specs.Prelude.{ℤ, ◌≤◌, ◌&&◌, nat_le, Option}
 use Rattle.std.specs.List.{list_all}
-use Rattle.std.proofs.lemmas.Bool.{false≢true}
+use Rattle.std.proofs.lemmas.Bool.{false≢true, le-leb}
 use Rattle.std.proofs.Math.Bool.{and-false, and_assoc}
 use Rattle.lab_table.specs.Predicate.{Predicate}
 use Rattle.lab_table.specs.Row.{Row}
+use Rattle.lab_table.specs.Table.{Table}
 use Rattle.lab_table.specs.declared.statement.Statement.{Statement}
+use Rattle.lab_table.specs.declared.statement.Command.{Command}
 use Rattle.lab_table.specs.declared.predicate.Col.{Col}
 use Rattle.lab_table.specs.declared.predicate.Col.TheVariants as col
 use Rattle.lab_table.specs.declared.predicate.Cmp.{Cmp}
 use Rattle.lab_table.specs.declared.predicate.Cmp.TheVariants as cmp
 use Rattle.lab_table.specs.declared.statement.Expr.{Expr}
+use Rattle.lab_script.specs.declared.token.Word.{Word}
 use Rattle.lab_script.specs.declared.token.Word.TheVariants as word
 use Rattle.lab_script.specs.declared.token.Token.{Token}
 use Rattle.lab_script.specs.declared.token.Token.TheVariants as token
 use Rattle.lab_script.specs.Grammar as grammar
-use Rattle.lab_script.specs.Grammar.{Kind, col_token, cmp_token, IsNumber, IsNumbers, IsNumberList, IsAtom, IsPred, IsWhere, IsExpr, IsId, IsRow, IsStatement, IsEnd, IsWholeStatement}
+use Rattle.lab_script.specs.Grammar.{Kind, col_token, cmp_token, IsNumber, IsNumbers, IsNumberList, IsAtom, IsPred, IsWhere, IsExpr, IsId, IsRow, IsStatement, IsCommand, IsCommands, IsRows, IsRowList, IsEnd, IsSetup, IsWholeStatement}
 
 -- whether a token is one of the grammar
-abbrev is_known : Token → Bool
+abbrev pub is_known : Token → Bool
 is_known token.Unknown = false
+is_known (token.Digits n) = nat_le n 1000000000
 is_known t = true
 
-abbrev AllKnown : List Token → Type 0
+abbrev pub AllKnown : List Token → Type 0
 AllKnown ts = list_all is_known ts ≡ true
 
 one : (t : Token) (ts : List Token) → is_known t ≡ true → AllKnown ts → AllKnown (t ∷ ts)
@@ -37,8 +41,8 @@ both : (ts rest : List Token) → AllKnown ts → AllKnown rest → AllKnown (ts
 both ts rest one other = joined ts rest ∙ ap (λ (v : Bool). v && list_all is_known rest) one ∙ other
 
 number_known : {ts : List Token} {z : ℤ} → IsNumber ts z → AllKnown ts
-number_known (grammar.positive n le) = refl
-number_known (grammar.negative n le) = refl
+number_known (grammar.positive n le) = one (token.Digits n) [] (le-leb n 1000000000 le) refl
+number_known (grammar.negative n le) = one (token.Digits n) [] (le-leb n 1000000000 le) refl
 
 numbers_known : {ts : List Token} {zs : List ℤ} → IsNumbers ts zs → AllKnown ts
 numbers_known (IsNumbers.last is) = number_known is
@@ -99,9 +103,41 @@ end_known : {ts : List Token} → IsEnd ts → AllKnown ts
 end_known grammar.open_end = refl
 end_known grammar.semicolon = refl
 
+-- one statement, with a semicolon behind it or none
+pub whole_known : {ts : List Token} {s : Statement} → IsWholeStatement ts s → AllKnown ts
+whole_known whole = let parts = whole.parts in ap (list_all is_known) parts.2 ∙ both parts.0 parts.1 (statement_known parts.3) (end_known parts.4)
+
+words_known : (ws : List Word) → AllKnown (map (λ w. token.Word w) ws)
+words_known [] = refl
+words_known (w ∷ ws) = words_known ws
+
+command_known : {ts : List Token} {cs : List Command} → IsCommand ts cs → AllKnown ts
+command_known IsCommand.begin = refl
+command_known IsCommand.commit = refl
+command_known IsCommand.abort = refl
+command_known IsCommand.rollback = refl
+command_known (IsCommand.level w ws) = words_known ws
+command_known (IsCommand.run is short) = statement_known is
+
+-- the commands of a line
+pub commands_known : {ts : List Token} {cs : List Command} → IsCommands ts cs → AllKnown ts
+commands_known (IsCommands.one is) = command_known is
+commands_known (IsCommands.closed {ts = ts} is) = both ts (token.Semicolon ∷ []) (command_known is) refl
+commands_known (IsCommands.more {ts = ts} {rest = others} is rest) = both ts (token.Semicolon ∷ others) (command_known is) (commands_known rest)
+
+rows_known : {ts : List Token} {rows : List (Row × ℤ)} → IsRows ts rows → AllKnown ts
+rows_known (IsRows.last is) = row_known is
+rows_known (IsRows.more {ts = ts} {rest = others} is rest) = both ts (token.Comma ∷ others) (row_known is) (rows_known rest)
+
+row_list_known : {ts : List Token} {rows : List (Row × ℤ)} → IsRowList ts rows → AllKnown ts
+row_list_known IsRowList.none = refl
+row_list_known (IsRowList.some is) = rows_known is
+
+-- the setup
+pub setup_known : {ts : List Token} {table : Table} → IsSetup ts table → AllKnown ts
+setup_known (IsSetup.setup {ts = ts} {end = end} is distinct ends short) = both ts end (row_list_known is) (end_known ends)
+
 -- no statement ends in a byte that begins no token
 pub closed_known : (ts : List Token) (s : Statement) → IsWholeStatement (ts ++ token.Unknown ∷ []) s → ⊥
 closed_known ts s closed =
-    let parts = closed.parts in
-    let all : AllKnown (ts ++ token.Unknown ∷ []) = ap (list_all is_known) parts.2 ∙ both parts.0 parts.1 (statement_known parts.3) (end_known parts.4) in
-    false≢true (sym (and-false (list_all is_known ts)) ∙ sym (joined ts (token.Unknown ∷ [])) ∙ all)
+    false≢true (sym (and-false (list_all is_known ts)) ∙ sym (joined ts (token.Unknown ∷ [])) ∙ whole_known closed)

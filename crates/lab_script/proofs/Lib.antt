@@ -21,6 +21,7 @@ pub mod ScriptLines
 pub mod TextLines
 pub mod ReadLines
 pub mod KnownTokens
+pub mod HeldTokens
 pub mod StatementText
 pub mod FirstFault
 pub mod SpelledPrints

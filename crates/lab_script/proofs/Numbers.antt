@@ -1,5 +1,5 @@
 -- A printed number is one token.
-use Rattle.std.proofs.Common.{◌≡◌, ℕ, zero, suc, ◌+◌, ◌-◌, ◌*◌, ◌/◌, ◌%◌, ◌^◌, ◌≤◌, ◌<◌, min, Bool, true, false, cond, List, [], ◌∷◌, ◌++◌, refl, sym, ap, ◌∙◌, arith, inl, inr}
+use Rattle.std.proofs.Common.{◌≡◌, ℕ, zero, suc, ◌+◌, ◌-◌, ◌*◌, ◌/◌, ◌%◌, ◌^◌, ◌≤◌, ◌<◌, Bool, true, false, cond, List, [], ◌∷◌, ◌++◌, refl, sym, ap, ◌∙◌, arith, inl, inr}
 use Rattle.std.specs.Prelude.{◌==◌}
 use Rattle.std.proofs.lemmas.Bool.{cases_Bool, eqb-true, eq-eqb}
 use Rattle.std.proofs.lemmas.Bool.Decides.{nat_tests}
@@ -23,16 +23,16 @@ no_blank : (d : ℕ) → d < 10 → is_blank (48 + d) ≡ false
 no_blank d lt = grind (arith, nat_tests)
 
 -- a digit behind a number
-longer_number : (m d n : ℕ) (bs : List ℕ) → d < 10 → n ≡ 10 * m + d → n ≤ 1000000000 → tokens_from (whole (token.Digits m)) (digit_glyph false d ∷ bs) ≡ tokens_from (whole (token.Digits n)) bs
-longer_number m d n bs lt is le =
-    let value : min (10 * m + ((48 + d) - 48)) 1000000001 ≡ n = omega arith in
+longer_number : (m d n : ℕ) (bs : List ℕ) → d < 10 → n ≡ 10 * m + d → tokens_from (whole (token.Digits m)) (digit_glyph false d ∷ bs) ≡ tokens_from (whole (token.Digits n)) bs
+longer_number m d n bs lt is =
+    let value : 10 * m + ((48 + d) - 48) ≡ n = omega arith in
     ap (λ (b : ℕ). tokens_from (whole (token.Digits m)) (b ∷ bs)) (glyph_is d lt) ∙ digit_goes_on m (48 + d) bs (one_digit d lt) ∙ ap (λ (k : ℕ). tokens_from (whole (token.Digits k)) bs) value
 
 first_digit : (d : ℕ) (bs : List ℕ) → d < 10 → tokens (digit_glyph false d ∷ bs) ≡ tokens_from (whole (token.Digits d)) bs
 first_digit d bs lt =
     let value : 10 * 0 + d ≡ d = omega arith in
     ap (λ (b : ℕ). tokens (b ∷ bs)) (glyph_is d lt) ∙ digits_begin (48 + d) bs (no_blank d lt) (no_letter d lt) (one_digit d lt)
-    ∙ ap (λ (b : ℕ). tokens_from (whole (token.Digits 0)) (b ∷ bs)) (sym (glyph_is d lt)) ∙ longer_number 0 d d bs lt (omega arith) (omega arith)
+    ∙ ap (λ (b : ℕ). tokens_from (whole (token.Digits 0)) (b ∷ bs)) (sym (glyph_is d lt)) ∙ longer_number 0 d d bs lt (omega arith)
 
 pub chosen : {A : Type 0} (b : Bool) (x y : A) → b ≡ true → cond b x y ≡ x
 chosen true x y e = refl
@@ -42,26 +42,25 @@ other : {A : Type 0} (b : Bool) (x y : A) → b ≡ false → cond b x y ≡ y
 other false x y e = refl
 other true x y e = absurd cc
 
-last_digit : (k n : ℕ) (acc : List ℕ) → n ≤ 1000000000 → n / 10 ≡ 0 → tokens (digits_onto (suc k) 10 false n acc) ≡ tokens_from (whole (token.Digits n)) acc
-last_digit k n acc le small =
+last_digit : (k n : ℕ) (acc : List ℕ) → n / 10 ≡ 0 → tokens (digits_onto (suc k) 10 false n acc) ≡ tokens_from (whole (token.Digits n)) acc
+last_digit k n acc small =
     let is : (n / 10 == 0) ≡ true = eq-eqb (n / 10) 0 small in
     let same : n % 10 ≡ n = omega arith in
     ap tokens (chosen (n / 10 == 0) (digit_glyph false (n % 10) ∷ acc) (digits_onto k 10 false (n / 10) (digit_glyph false (n % 10) ∷ acc)) is)
     ∙ first_digit (n % 10) acc (omega arith) ∙ ap (λ (m : ℕ). tokens_from (whole (token.Digits m)) acc) same
 
-digits_are : (k n : ℕ) (acc : List ℕ) → n ≤ 1000000000 → n < 10 ^ suc k → tokens (digits_onto (suc k) 10 false n acc) ≡ tokens_from (whole (token.Digits n)) acc
-digits_are zero n acc le lt = let small : n / 10 ≡ 0 = omega arith in last_digit zero n acc le small
-digits_are (suc k) n acc le lt =
+digits_are : (k n : ℕ) (acc : List ℕ) → n < 10 ^ suc k → tokens (digits_onto (suc k) 10 false n acc) ≡ tokens_from (whole (token.Digits n)) acc
+digits_are zero n acc lt = let small : n / 10 ≡ 0 = omega arith in last_digit zero n acc small
+digits_are (suc k) n acc lt =
     elim (cases_Bool (n / 10 == 0)) [
-      | inl is ↦ last_digit (suc k) n acc le (eqb-true (n / 10) 0 is)
+      | inl is ↦ last_digit (suc k) n acc (eqb-true (n / 10) 0 is)
       | inr isnt ↦
           let below : n / 10 < 10 ^ suc k = omega (arith, pow-succ' 10 (suc k)) in
-          let less : n / 10 ≤ 1000000000 = omega arith in
           let digit : n % 10 < 10 = omega arith in
           let value : n ≡ 10 * (n / 10) + n % 10 = omega arith in
           ap tokens (other (n / 10 == 0) (digit_glyph false (n % 10) ∷ acc) (digits_onto (suc k) 10 false (n / 10) (digit_glyph false (n % 10) ∷ acc)) isnt)
-          ∙ digits_are k (n / 10) (digit_glyph false (n % 10) ∷ acc) less below
-          ∙ longer_number (n / 10) (n % 10) n acc digit value le
+          ∙ digits_are k (n / 10) (digit_glyph false (n % 10) ∷ acc) below
+          ∙ longer_number (n / 10) (n % 10) n acc digit value
     ]
 
 onto_append : (k n : ℕ) (acc bs : List ℕ) → digits_onto k 10 false n acc ++ bs ≡ digits_onto k 10 false n (acc ++ bs)
@@ -76,4 +75,4 @@ onto_append (suc k) n acc bs =
 -- a printed number goes on as a number that has been read
 pub decimal_are : (n : ℕ) (bs : List ℕ) → n ≤ 1000000000 → tokens (decimal n ++ bs) ≡ tokens_from (whole (token.Digits n)) bs
 unfolding digits
-decimal_are n bs le = ap tokens (onto_append 64 n [] bs) ∙ digits_are 63 n bs le (omega arith)
+decimal_are n bs le = ap tokens (onto_append 64 n [] bs) ∙ digits_are 63 n bs (omega arith)

@@ -1,5 +1,5 @@
 -- What a line spells, and what is wrong with it, from its code, its remark and its tokens.
-use Rattle.std.proofs.Common.{◌≡◌, ℕ, ◌≤◌, true, false, List, [], length, Option, Some, None, refl, sym, ap, subst, ◌∙◌}
+use Rattle.std.proofs.Common.{◌≡◌, ℕ, ◌≤◌, true, false, List, [], length, map, Option, Some, None, refl, sym, ap, subst, ◌∙◌}
 use Rattle.std.specs.List.{list_all}
 use Rattle.lab_table.specs.Table.{Table}
 use Rattle.lab_script.specs.declared.fault.ScriptFault.{ScriptFault}
@@ -8,11 +8,13 @@ use Rattle.lab_script.specs.declared.fault.ScriptFaultKind.TheVariants as kinds
 use Rattle.lab_script.specs.declared.script.Script.{Script}
 use Rattle.lab_script.specs.declared.token.Token.{Token}
 use Rattle.lab_script.specs.Token.{is_blank, tokens}
+use Rattle.lab_script.specs.HeldTokens.{held, held_tokens}
 use Rattle.lab_script.specs.Grammar.{IsCommands, IsSetup}
 use Rattle.lab_script.specs.Script as script
 use Rattle.lab_script.specs.Script.{code_of, remark_of, is_code_byte, session_of, extended, IsFit, AddsCommands, LineSpells}
 use Rattle.lab_script.specs.Fault as wrong
 use Rattle.lab_script.specs.Fault.{IsOver, IsKept, SaysOfTokens, IsTokensFault, IsLineFault}
+use Rattle.lab_script.proofs.HeldTokens.{held_setup, held_commands, held_says}
 
 -- a line within its limits, with this code and remark
 pub record IsSplit (number : ℕ) (line code remark : List ℕ) : Type 0 where
@@ -38,20 +40,23 @@ module _ {number : ℕ} {line code remark : List ℕ} (split : IsSplit number li
   kept : list_all is_code_byte code ≡ true → list_all is_blank code ≡ false → IsKept number line
   kept is isnt = (fit is, ap (list_all is_blank) (sym split.code_is) ∙ isnt)
 
-  module _ (ts : List Token) (of_code : ts ≡ tokens code) (ascii : list_all is_code_byte code ≡ true) where
-    of_line : ts ≡ tokens (code_of line)
-    of_line = of_code ∙ ap tokens split.code_is
+  module _ (ts : List Token) (of_code : ts ≡ held_tokens code) (ascii : list_all is_code_byte code ≡ true) where
+    of_line : ts ≡ map held (tokens (code_of line))
+    of_line = of_code ∙ ap held_tokens split.code_is
 
     pub tokens_fault : (before : Option Script) (f : ScriptFault) → list_all is_blank code ≡ false → IsTokensFault number ts remark before f → IsLineFault number line before f
     tokens_fault before fault.NoMemory isnt says = tt
-    tokens_fault before (fault.At n kind) isnt says =
-        (says.0, wrong.of_tokens (kept ascii isnt) (subst (λ (r : List ℕ). SaysOfTokens kind (tokens (code_of line)) r before) split.remark_is (subst (λ (t : List Token). SaysOfTokens kind t remark before) of_line says.1)))
+    tokens_fault before (fault.At n kind) isnt says = (
+      says.0,
+      wrong.of_tokens (kept ascii isnt) (subst (λ (r : List ℕ). SaysOfTokens kind (tokens (code_of line)) r before) split.remark_is
+          (held_says kind (tokens (code_of line)) remark before (subst (λ (t : List Token). SaysOfTokens kind t remark before) of_line says.1))),
+    )
 
     pub setup_line : (s : Script) → (table : Table) × IsSetup ts table × (s ≡ record { setup = table; lines = [] }) → LineSpells number line None (Some s)
     setup_line s (table, is, e) =
-        subst (λ (r : Script). LineSpells number line None (Some r)) (sym e) (script.setup (fit ascii) (subst (λ (t : List Token). IsSetup t table) of_line is))
+        subst (λ (r : Script). LineSpells number line None (Some r)) (sym e) (script.setup (fit ascii) (held_setup _ table (subst (λ (t : List Token). IsSetup t table) of_line is)))
 
     pub commands_line : (s r : Script) → AddsCommands number ts remark s r → LineSpells number line (Some s) (Some r)
     commands_line s r (cs, session, is, named, room, e) =
         subst (λ (t : Script). LineSpells number line (Some s) (Some t)) (sym e)
-        (script.commands s (fit ascii) (subst (λ (t : List Token). IsCommands t cs) of_line is) (ap session_of (sym split.remark_is) ∙ named) room)
+        (script.commands s (fit ascii) (held_commands _ cs (subst (λ (t : List Token). IsCommands t cs) of_line is)) (ap session_of (sym split.remark_is) ∙ named) room)

@@ -1,9 +1,12 @@
 -- The statement that a text spells is what reading the text gives.
-use Rattle.std.proofs.Common.{◌≡◌, ℕ, Bool, true, false, cond, List, length, Option, Some, None, refl, ap, ◌∙◌, arith}
+use Rattle.std.proofs.Common.{◌≡◌, ℕ, Bool, true, false, cond, List, length, Option, Some, None, ◌≢◌, refl, sym, ap, ◌∙◌, arith}
 use Rattle.std.specs.Prelude.{◌&&◌, nat_le}
 use Rattle.std.specs.List.{list_all}
 use Rattle.std.proofs.lemmas.Bool.{eqb-true, eq-eqb, le-leb, leb-true}
 use Rattle.lab_table.specs.declared.statement.Statement.{Statement}
+use Rattle.lab_script.specs.declared.fault.ScriptFault.{ScriptFault}
+use Rattle.lab_script.specs.declared.fault.ScriptFault.TheVariants as fault
+use Rattle.lab_script.specs.Fault.{IsStatementFault}
 use Rattle.lab_script.specs.Token.{tokens}
 use Rattle.lab_script.specs.Printed.{printed_statement}
 use Rattle.lab_script.specs.Limits.{StatementPrints}
@@ -11,7 +14,7 @@ use Rattle.lab_script.specs.Ranges.{StatementInRange}
 use Rattle.lab_script.specs.ReadingStatements.{whole_statement_at}
 use Rattle.lab_script.specs.Script.{code_of, is_code_byte, SpellsStatement}
 use Rattle.lab_script.specs.StatementText.{is_code_alone, statement_in}
-use Rattle.lab_script.proofs.Same.{and_both}
+use Rattle.lab_script.proofs.Same.{and_both, some_is}
 use Rattle.lab_script.proofs.ReadStatements.{whole_again, whole_takes}
 use Rattle.lab_script.proofs.StatementText.{all_code}
 use Rattle.lab_script.proofs.PrintedStatements.{statement_spells}
@@ -66,3 +69,20 @@ printed_in s prints range = spells_in (printed_statement s) s (statement_spells 
 -- from a text that spells nothing nothing is read
 pub none_in : (text : List ℕ) → ((s : Statement) → SpellsStatement text s → ⊥) → statement_in text ≡ None
 none_in text none = nothing_found (statement_in text) (λ s read. none s (in_spells text s read))
+
+-- a text from which nothing is read spells nothing
+pub nothing_in : (text : List ℕ) → statement_in text ≡ None → (s : Statement) → SpellsStatement text s → ⊥
+nothing_in text none s spells = let read = spells_in text s spells in absurd cc
+
+-- a text spells one statement at most
+pub spells_once : (text : List ℕ) (s t : Statement) → SpellsStatement text s → SpellsStatement text t → s ≡ t
+spells_once text s t one other = some_is s t (sym (spells_in text s one) ∙ spells_in text t other)
+
+-- where a text has a fault, it spells nothing, or there was no memory
+pub fault_only : (text : List ℕ) (f : ScriptFault) → IsStatementFault text f → (s : Statement) → SpellsStatement text s → f ≡ fault.NoMemory
+fault_only text fault.NoMemory is s spells = refl
+fault_only text (fault.At n kind) is s spells = absurd (is.1 s spells)
+
+pub fault_read : (text : List ℕ) (f : ScriptFault) → IsStatementFault text f → f ≢ fault.NoMemory → statement_in text ≡ None
+fault_read text fault.NoMemory is not = absurd (not refl)
+fault_read text (fault.At n kind) is not = none_in text is.1

@@ -1,13 +1,21 @@
 -- The tokens of the text of one statement.
-use Rattle.std.proofs.Common.{◌≡◌, ℕ, ◌<◌, ◌≤◌, Bool, true, cond, List, [], ◌∷◌, ◌++◌, length, refl, sym, ap, subst, ◌∙◌, inl, inr, ⊎_elim, arith}
+use Rattle.std.proofs.Common.{◌≡◌, ℕ, ◌<◌, ◌≤◌, Bool, true, cond, List, [], ◌∷◌, ◌++◌, length, Some, refl, sym, ap, subst, ◌∙◌, inl, inr, ⊎_elim, arith}
 use Rattle.std.specs.List.{list_all}
 use Rattle.std.proofs.lemmas.Bool.{cases_Bool}
 use Rattle.lab_table.specs.declared.statement.Statement.{Statement}
+use Rattle.lab_script.specs.declared.stop.GrammarFault.{GrammarFault}
+use Rattle.lab_script.specs.declared.stop.GrammarFault.TheVariants as grammar
+use Rattle.lab_script.specs.declared.stop.Stop.{Stop}
+use Rattle.lab_script.specs.declared.stop.Stop.TheVariants as stop
 use Rattle.lab_script.specs.declared.token.Token.{Token}
 use Rattle.lab_script.specs.declared.token.Token.TheVariants as token
 use Rattle.lab_script.specs.Token.{tokens}
+use Rattle.lab_script.specs.Fault.{SaysOfStatement, IsStatementFault, kind_of, stop_at}
 use Rattle.lab_script.specs.Grammar.{IsWholeStatement}
-use Rattle.lab_script.specs.Script.{begins_remark, code_of, is_code_byte, SpellsStatement, AreStatementTokens}
+use Rattle.lab_script.specs.HeldTokens.{held, held_tokens, AreStatementTokens}
+use Rattle.lab_script.specs.Script.{begins_remark, code_of, is_code_byte, SpellsStatement}
+use Rattle.lab_script.specs.Reading.{Fails}
+use Rattle.lab_script.proofs.HeldTokens.{held_whole, whole_held}
 use Rattle.lab_script.proofs.KnownTokens.{closed_known}
 
 -- code that is as long as the text is the text
@@ -26,16 +34,16 @@ all_code (b ∷ bytes) within =
     ]
 
 -- the tokens of a text that is all code, and of one that isn't
-pub code_tokens : (text code : List ℕ) {ts found : List Token} → code ≡ code_of text → length text ≤ length code → ts ≡ found → found ≡ tokens code → AreStatementTokens text ts
+pub code_tokens : (text code : List ℕ) {ts found : List Token} → code ≡ code_of text → length text ≤ length code → ts ≡ found → found ≡ held_tokens code → AreStatementTokens text ts
 code_tokens text code is within same found =
     let all : code_of text ≡ text = all_code text (subst (λ (c : List ℕ). length text ≤ length c) is within) in
-    inl (all, same ∙ found ∙ ap tokens (is ∙ all))
+    inl (all, same ∙ found ∙ ap held_tokens (is ∙ all))
 
-pub remark_tokens : (text code : List ℕ) {ts found : List Token} → code ≡ code_of text → length code < length text → ts ≡ found ++ token.Unknown ∷ [] → found ≡ tokens code → AreStatementTokens text ts
+pub remark_tokens : (text code : List ℕ) {ts found : List Token} → code ≡ code_of text → length code < length text → ts ≡ found ++ token.Unknown ∷ [] → found ≡ held_tokens code → AreStatementTokens text ts
 remark_tokens text code is shorter same found =
     inr (
       λ all. let len : length code ≡ length text = ap length (is ∙ all) in absurd (omega arith),
-      same ∙ ap (λ (t : List Token). t ++ token.Unknown ∷ []) (found ∙ ap tokens is),
+      same ∙ ap (λ (t : List Token). t ++ token.Unknown ∷ []) (found ∙ ap held_tokens is),
     )
 
 module _ (text : List ℕ) (ts : List Token) (are : AreStatementTokens text ts) (short : length text ≤ 4000) (ascii : list_all is_code_byte text ≡ true) where
@@ -43,12 +51,33 @@ module _ (text : List ℕ) (ts : List Token) (are : AreStatementTokens text ts) 
   pub text_spells : (s : Statement) → IsWholeStatement ts s → SpellsStatement text s
   text_spells s closed =
       ⊎_elim
-      (λ (whole : _). record {
+      (λ (all : _). let whole = held_whole (tokens text) s (subst (λ (t : List Token). IsWholeStatement t s) all.1 closed) in record {
         bytes = short;
         ascii = ascii;
-        no_remark = whole.0;
-        parts = (closed.parts.0, closed.parts.1, sym whole.1 ∙ closed.parts.2, closed.parts.3, closed.parts.4);
-        printed = closed.printed;
+        no_remark = all.0;
+        parts = whole.parts;
+        printed = whole.printed;
       })
-      (λ (cut : _). absurd (closed_known (tokens (code_of text)) s (subst (λ (t : List Token). IsWholeStatement t s) cut.1 closed)))
+      (λ (cut : _). absurd (closed_known (held_tokens (code_of text)) s (subst (λ (t : List Token). IsWholeStatement t s) cut.1 closed)))
       are
+
+  -- what the text spells, these tokens spell
+  spelled_tokens : (s : Statement) → SpellsStatement text s → IsWholeStatement ts s
+  spelled_tokens s spells =
+      ⊎_elim
+      (λ (all : _). subst (λ (t : List Token). IsWholeStatement t s) (sym all.1) (whole_held (tokens text) s (record { parts = spells.parts; printed = spells.printed })))
+      (λ (cut : _). absurd (cut.0 spells.no_remark))
+      are
+
+  says_of : (f : GrammarFault) → SaysOfStatement (kind_of f) text
+  says_of grammar.UnknownStatement = (short, ascii)
+  says_of grammar.BadPredicate = (short, ascii)
+  says_of grammar.NumberOutOfRange = (short, ascii)
+  says_of grammar.TooDeep = (short, ascii)
+  says_of grammar.TooLong = inr ascii
+  says_of grammar.DuplicateSetupRow = (short, ascii)
+
+  -- where reading these tokens stopped, the text spells nothing
+  pub stop_fault : (s : Stop) → ((t : Statement) → IsWholeStatement ts t → Fails s (Some t)) → IsStatementFault text (stop_at s 1)
+  stop_fault stop.NoMemory fails = tt
+  stop_fault (stop.Fault f) fails = (refl, λ t spells. let none = fails t (spelled_tokens t spells) in absurd cc, says_of f)

@@ -1,5 +1,5 @@
 -- How tokens go on.
-use Rattle.std.proofs.Common.{◌≡◌, ℕ, ◌+◌, ◌-◌, ◌*◌, ◌<◌, min, Bool, true, false, cond, ◌==◌, List, [], ◌∷◌, ◌++◌, length, take, drop, map, Option, Some, None, refl, sym, ap, ◌∙◌, append_assoc, suc, arith, subst, get_or, drop-cons, add-one, inl, inr}
+use Rattle.std.proofs.Common.{◌≡◌, ℕ, ◌+◌, ◌-◌, ◌*◌, ◌<◌, ◌≤◌, min, Bool, true, false, cond, ◌==◌, List, [], ◌∷◌, ◌++◌, length, take, drop, map, Option, Some, None, refl, sym, ap, ◌∙◌, append_assoc, suc, arith, subst, get_or, drop-cons, add-one, inl, inr}
 use Rattle.std.proofs.Math.Numerals.{one-add}
 use Rattle.std.specs.Prelude.{is_some, unwrap_or, option_map}
 use Rattle.std.proofs.lemmas.Bool.Decides.{nat_tests}
@@ -11,6 +11,7 @@ use Rattle.lab_script.specs.declared.token.Word.{Word}
 use Rattle.lab_script.specs.declared.token.Token.{Token}
 use Rattle.lab_script.specs.declared.token.Token.TheVariants as token
 use Rattle.lab_script.specs.Token.{Part, gap, letters, whole, is_letter, is_blank, word_named, mark, begun, longer, ended, longer_token, tokens, tokens_from}
+use Rattle.lab_script.specs.HeldTokens.{held, held_from, held_tokens}
 
 pub goes_on : (part more : Part) (b : ℕ) (bs : List ℕ) → longer part b ≡ Some more → tokens_from part (b ∷ bs) ≡ tokens_from more bs
 goes_on part more b bs h = ap (λ (o : Option Part). cond (is_some o) [] (ended part) ++ tokens_from (unwrap_or o (begun b)) bs) h
@@ -87,25 +88,25 @@ word_begins b bs p q =
     from_part bs _ _ (second (is_blank b) (is_letter b) gap (letters (to_ascii_lowercase b ∷ [])) (cond (is_ascii_digit b) (whole (token.Digits (b - 48))) (whole (mark b))) p q)
     ∙ sym (goes_on (letters []) (letters (to_ascii_lowercase b ∷ [])) b bs (ap (λ (v : Bool). cond v (Some (letters (to_ascii_lowercase b ∷ []))) None) q))
 
-pub digit_goes_on : (n b : ℕ) (bs : List ℕ) → is_ascii_digit b ≡ true → tokens_from (whole (token.Digits n)) (b ∷ bs) ≡ tokens_from (whole (token.Digits (min (10 * n + (b - 48)) 1000000001))) bs
-digit_goes_on n b bs q = goes_on (whole (token.Digits n)) (whole (token.Digits (min (10 * n + (b - 48)) 1000000001))) b bs (ap (λ (v : Bool). option_map whole (cond v (Some (token.Digits (min (10 * n + (b - 48)) 1000000001))) None)) q)
+pub digit_goes_on : (n b : ℕ) (bs : List ℕ) → is_ascii_digit b ≡ true → tokens_from (whole (token.Digits n)) (b ∷ bs) ≡ tokens_from (whole (token.Digits (10 * n + (b - 48)))) bs
+digit_goes_on n b bs q = goes_on (whole (token.Digits n)) (whole (token.Digits (10 * n + (b - 48)))) b bs (ap (λ (v : Bool). option_map whole (cond v (Some (token.Digits (10 * n + (b - 48)))) None)) q)
 
 pub digit_ends : (n b : ℕ) (bs : List ℕ) → is_ascii_digit b ≡ false → tokens_from (whole (token.Digits n)) (b ∷ bs) ≡ token.Digits n ∷ tokens (b ∷ bs)
-digit_ends n b bs q = breaks (whole (token.Digits n)) b bs (ap (λ (v : Bool). option_map whole (cond v (Some (token.Digits (min (10 * n + (b - 48)) 1000000001))) None)) q)
+digit_ends n b bs q = breaks (whole (token.Digits n)) b bs (ap (λ (v : Bool). option_map whole (cond v (Some (token.Digits (10 * n + (b - 48)))) None)) q)
 
-is_small : (b : ℕ) → is_ascii_digit b ≡ true → min (10 * 0 + (b - 48)) 1000000001 ≡ b - 48
-is_small b q = grind (arith, nat_tests)
+first_of_digits : (b : ℕ) → 10 * 0 + (b - 48) ≡ b - 48
+first_of_digits b = omega arith
 
 pub digits_begin : (b : ℕ) (bs : List ℕ) → is_blank b ≡ false → is_letter b ≡ false → is_ascii_digit b ≡ true → tokens (b ∷ bs) ≡ tokens_from (whole (token.Digits 0)) (b ∷ bs)
 digits_begin b bs p q r =
     from_part bs _ _ (third (is_blank b) (is_letter b) (is_ascii_digit b) gap (letters (to_ascii_lowercase b ∷ [])) (whole (token.Digits (b - 48))) (whole (mark b)) p q r)
-    ∙ ap (λ (n : ℕ). tokens_from (whole (token.Digits n)) bs) (sym (is_small b r)) ∙ sym (digit_goes_on 0 b bs r)
+    ∙ ap (λ (n : ℕ). tokens_from (whole (token.Digits n)) bs) (sym (first_of_digits b)) ∙ sym (digit_goes_on 0 b bs r)
 
 pub mark_begins : (b : ℕ) (bs : List ℕ) → is_blank b ≡ false → is_letter b ≡ false → is_ascii_digit b ≡ false → tokens (b ∷ bs) ≡ tokens_from (whole (mark b)) bs
 mark_begins b bs p q r =
     from_part bs _ _ (last (is_blank b) (is_letter b) (is_ascii_digit b) gap (letters (to_ascii_lowercase b ∷ [])) (whole (token.Digits (b - 48))) (whole (mark b)) p q r)
 
-pub digits_on : (n i : ℕ) (bs : List ℕ) → i < length bs → is_ascii_digit (get_or bs i 0) ≡ true → tokens_from (whole (token.Digits n)) (drop i bs) ≡ tokens_from (whole (token.Digits (min (10 * n + (get_or bs i 0 - 48)) 1000000001))) (drop (i + 1) bs)
+pub digits_on : (n i : ℕ) (bs : List ℕ) → i < length bs → is_ascii_digit (get_or bs i 0) ≡ true → tokens_from (whole (token.Digits n)) (drop i bs) ≡ tokens_from (whole (token.Digits (10 * n + (get_or bs i 0 - 48)))) (drop (i + 1) bs)
 digits_on n i bs lt q = ap (tokens_from (whole (token.Digits n))) (drop-cons bs i 0 lt ∙ ap (λ (k : ℕ). get_or bs i 0 ∷ drop k bs) (sym (add-one i))) ∙ digit_goes_on n (get_or bs i 0) (drop (i + 1) bs) q
 
 pub digits_end : (n i : ℕ) (bs : List ℕ) → i < length bs → is_ascii_digit (get_or bs i 0) ≡ false → tokens_from (whole (token.Digits n)) (drop i bs) ≡ token.Digits n ∷ tokens (drop i bs)
@@ -118,28 +119,53 @@ pub whole_run : (t : Token) (bs : List ℕ) → ((b : ℕ) → longer_token t b 
 whole_run t [] h = refl
 whole_run t (b ∷ bs) h = rw (h b) refl
 
+-- a token that no byte makes longer, and that is held as it is
 record Still (t : Token) : Type 0 where
   ends : (n : ℕ) → longer_token t n ≡ None
+  kept : held t ≡ t
 
 either : (v : Bool) (t u : Token) → Still t → Still u → Still (cond v t u)
 either true t u p q = p
 either false t u p q = q
 
 others : (b : ℕ) → (b == 60) ≡ false → (b == 62) ≡ false → Still (mark b)
-others b p q = rw (p, q) (either (b == 40) token.Open _ (record { ends = λ n. refl }) (either (b == 41) token.Close _ (record { ends = λ n. refl }) (either (b == 44) token.Comma _ (record { ends = λ n. refl }) (either (b == 59) token.Semicolon _ (record { ends = λ n. refl }) (either (b == 42) token.Star _ (record { ends = λ n. refl }) (either (b == 61) token.Equal _ (record { ends = λ n. refl }) (either (b == 37) token.Percent _ (record { ends = λ n. refl }) (either (b == 43) token.Plus _ (record { ends = λ n. refl }) (either (b == 45) token.Minus _ (record { ends = λ n. refl }) (record { ends = λ n. refl }))))))))))
+others b p q = rw (p, q) (either (b == 40) token.Open _ (record { ends = λ n. refl; kept = refl }) (either (b == 41) token.Close _ (record { ends = λ n. refl; kept = refl }) (either (b == 44) token.Comma _ (record { ends = λ n. refl; kept = refl }) (either (b == 59) token.Semicolon _ (record { ends = λ n. refl; kept = refl }) (either (b == 42) token.Star _ (record { ends = λ n. refl; kept = refl }) (either (b == 61) token.Equal _ (record { ends = λ n. refl; kept = refl }) (either (b == 37) token.Percent _ (record { ends = λ n. refl; kept = refl }) (either (b == 43) token.Plus _ (record { ends = λ n. refl; kept = refl }) (either (b == 45) token.Minus _ (record { ends = λ n. refl; kept = refl }) (record { ends = λ n. refl; kept = refl }))))))))))
 
-pub mark_run : (b : ℕ) (bs : List ℕ) → (b == 60) ≡ false → (b == 62) ≡ false → tokens_from (whole (mark b)) bs ≡ mark b ∷ tokens bs
-mark_run b bs p q = whole_run (mark b) bs (λ n. (others b p q).ends n)
+mark_run : (b : ℕ) (bs : List ℕ) → (b == 60) ≡ false → (b == 62) ≡ false → held_from (whole (mark b)) bs ≡ mark b ∷ held_tokens bs
+mark_run b bs p q =
+    let still = others b p q in
+    ap (map held) (whole_run (mark b) bs (λ n. still.ends n)) ∙ ap (λ (t : Token). t ∷ held_tokens bs) still.kept
 
 isnt_eq : (a b : ℕ) → (a ≡ b → ⊥) → (a == b) ≡ false
 isnt_eq a b h = false_from_ne_true (a == b) (λ e. h (eqb-true a b e))
 
 -- the same, as the code meets them
-pub other_mark : (b : ℕ) (bs : List ℕ) (t : Token) → t ≡ mark b → (b ≡ 60 → ⊥) → (b ≡ 62 → ⊥) → tokens_from (whole (mark b)) bs ≡ t ∷ tokens bs
-other_mark b bs t e p q = mark_run b bs (isnt_eq b 60 p) (isnt_eq b 62 q) ∙ ap (λ (u : Token). u ∷ tokens bs) (sym e)
+pub other_mark : (b : ℕ) (bs : List ℕ) (t : Token) → t ≡ mark b → (b ≡ 60 → ⊥) → (b ≡ 62 → ⊥) → held_from (whole (mark b)) bs ≡ t ∷ held_tokens bs
+other_mark b bs t e p q = mark_run b bs (isnt_eq b 60 p) (isnt_eq b 62 q) ∙ ap (λ (u : Token). u ∷ held_tokens bs) (sym e)
 
-pub whole_word : (bs text rest : List ℕ) (len : ℕ) (word : Word) → len ≡ prefix_len is_letter bs → text ≡ take len bs → rest ≡ drop len bs → word ≡ word_named (map to_ascii_lowercase text) → tokens_from (letters []) bs ≡ token.Word word ∷ tokens rest
-whole_word bs text rest len word p q r e = rw (e, q, r, p) (letters_run bs [])
+word_run : (bs text rest : List ℕ) (len : ℕ) (word : Word) → len ≡ prefix_len is_letter bs → text ≡ take len bs → rest ≡ drop len bs → word ≡ word_named (map to_ascii_lowercase text) → tokens_from (letters []) bs ≡ token.Word word ∷ tokens rest
+word_run bs text rest len word p q r e = rw (e, q, r, p) (letters_run bs [])
+
+pub whole_word : (bs text rest : List ℕ) (len : ℕ) (word : Word) → len ≡ prefix_len is_letter bs → text ≡ take len bs → rest ≡ drop len bs → word ≡ word_named (map to_ascii_lowercase text) → held_from (letters []) bs ≡ token.Word word ∷ held_tokens rest
+whole_word bs text rest len word p q r e = ap (map held) (word_run bs text rest len word p q r e)
+
+-- what is held of digits depends on their number only as far as it is told apart
+told_apart : (n m b : ℕ) → min n 1000000001 ≡ min m 1000000001 → min (10 * n + (b - 48)) 1000000001 ≡ min (10 * m + (b - 48)) 1000000001
+told_apart n m b same = omega arith
+
+pub held_alike : (n m : ℕ) (bs : List ℕ) → min n 1000000001 ≡ min m 1000000001 → held_from (whole (token.Digits n)) bs ≡ held_from (whole (token.Digits m)) bs
+held_alike n m [] same = ap (λ (k : ℕ). token.Digits k ∷ []) same
+held_alike n m (b ∷ bs) same =
+    elim (cases_Bool (is_ascii_digit b)) [
+      | inl is ↦ ap (map held) (digit_goes_on n b bs is) ∙ held_alike (10 * n + (b - 48)) (10 * m + (b - 48)) bs (told_apart n m b same) ∙ sym (ap (map held) (digit_goes_on m b bs is))
+      | inr isnt ↦ ap (map held) (digit_ends n b bs isnt) ∙ ap (λ (k : ℕ). token.Digits k ∷ held_tokens (b ∷ bs)) same ∙ sym (ap (map held) (digit_ends m b bs isnt))
+    ]
+
+-- one more digit of a number
+pub held_on : (n digit next i : ℕ) (bs text : List ℕ) → held_from (whole (token.Digits n)) (drop i bs) ≡ held_from (whole (token.Digits 0)) text → i < length bs → is_ascii_digit (get_or bs i 0) ≡ true
+    → digit ≡ get_or bs i 0 - 48 → next ≡ min (10 * n + digit) 1000000001 → held_from (whole (token.Digits next)) (drop (i + 1) bs) ≡ held_from (whole (token.Digits 0)) text
+held_on n digit next i bs text so_far lt q d is =
+    held_alike next (10 * n + (get_or bs i 0 - 48)) (drop (i + 1) bs) (omega arith) ∙ sym (ap (map held) (digits_on n i bs lt q)) ∙ so_far
 
 skipped : (bs mid : List ℕ) (k : ℕ) → k ≡ prefix_len is_blank bs → mid ≡ drop k bs → tokens bs ≡ tokens mid
 skipped bs mid k p q = rw (q, p) (blanks_run bs)
@@ -150,14 +176,14 @@ not_blank bs mid after k b p q r = front_stops is_blank bs b after (ap (λ (n : 
 pub found_none : (bs mid : List ℕ) (k : ℕ) → k ≡ prefix_len is_blank bs → mid ≡ drop k bs → mid ≡ [] → tokens bs ≡ []
 found_none bs mid k p q r = skipped bs mid k p q ∙ ap tokens r
 
-pub found_word : (bs mid after : List ℕ) (k b : ℕ) (r : List Token) → k ≡ prefix_len is_blank bs → mid ≡ drop k bs → mid ≡ b ∷ after → is_letter b ≡ true → tokens_from (letters []) mid ≡ r → tokens bs ≡ r
+pub found_word : (bs mid after : List ℕ) (k b : ℕ) (r : List Token) → k ≡ prefix_len is_blank bs → mid ≡ drop k bs → mid ≡ b ∷ after → is_letter b ≡ true → held_from (letters []) mid ≡ r → held_tokens bs ≡ r
 found_word bs mid after k b r p q e is h =
-    skipped bs mid k p q ∙ ap tokens e ∙ word_begins b after (not_blank bs mid after k b p q e) is ∙ ap (tokens_from (letters [])) (sym e) ∙ h
+    ap (map held) (skipped bs mid k p q ∙ ap tokens e ∙ word_begins b after (not_blank bs mid after k b p q e) is ∙ ap (tokens_from (letters [])) (sym e)) ∙ h
 
-pub found_digits : (bs mid after : List ℕ) (k b : ℕ) (r : List Token) → k ≡ prefix_len is_blank bs → mid ≡ drop k bs → mid ≡ b ∷ after → is_letter b ≡ false → is_ascii_digit b ≡ true → tokens_from (whole (token.Digits 0)) mid ≡ r → tokens bs ≡ r
+pub found_digits : (bs mid after : List ℕ) (k b : ℕ) (r : List Token) → k ≡ prefix_len is_blank bs → mid ≡ drop k bs → mid ≡ b ∷ after → is_letter b ≡ false → is_ascii_digit b ≡ true → held_from (whole (token.Digits 0)) mid ≡ r → held_tokens bs ≡ r
 found_digits bs mid after k b r p q e isnt is h =
-    skipped bs mid k p q ∙ ap tokens e ∙ digits_begin b after (not_blank bs mid after k b p q e) isnt is ∙ ap (tokens_from (whole (token.Digits 0))) (sym e) ∙ h
+    ap (map held) (skipped bs mid k p q ∙ ap tokens e ∙ digits_begin b after (not_blank bs mid after k b p q e) isnt is ∙ ap (tokens_from (whole (token.Digits 0))) (sym e)) ∙ h
 
-pub found_mark : (bs mid after : List ℕ) (k b : ℕ) (r : List Token) → k ≡ prefix_len is_blank bs → mid ≡ drop k bs → mid ≡ b ∷ after → is_letter b ≡ false → is_ascii_digit b ≡ false → tokens_from (whole (mark b)) after ≡ r → tokens bs ≡ r
+pub found_mark : (bs mid after : List ℕ) (k b : ℕ) (r : List Token) → k ≡ prefix_len is_blank bs → mid ≡ drop k bs → mid ≡ b ∷ after → is_letter b ≡ false → is_ascii_digit b ≡ false → held_from (whole (mark b)) after ≡ r → held_tokens bs ≡ r
 found_mark bs mid after k b r p q e isnt isnt' h =
-    skipped bs mid k p q ∙ ap tokens e ∙ mark_begins b after (not_blank bs mid after k b p q e) isnt isnt' ∙ h
+    ap (map held) (skipped bs mid k p q ∙ ap tokens e ∙ mark_begins b after (not_blank bs mid after k b p q e) isnt isnt') ∙ h

@@ -6,6 +6,7 @@ pub mod Depth
 pub mod Limits
 pub mod Ranges
 pub mod Script
+pub mod HeldTokens
 pub mod Fault
 pub mod Renumbered
 pub mod Reading

@@ -116,9 +116,3 @@ pub record SpellsStatement (text : List ℕ) (s : Statement) : Type 0 where
   pub no_remark : code_of text ≡ text
   pub parts : (ts end : _) × (tokens text ≡ ts ++ end) × IsStatement ts s × IsEnd end
   pub printed : length (printed_statement s) ≤ 1000
-
--- the tokens of a statement's text: those of its code, and one that is none where two dashes stand behind it
-abbrev pub AreStatementTokens : List ℕ → List Token → Type 0
-AreStatementTokens text ts =
-    ((code_of text ≡ text) × (ts ≡ tokens text))
-    ⊎ ((code_of text ≡ text → ⊥) × (ts ≡ tokens (code_of text) ++ token.Unknown ∷ []))

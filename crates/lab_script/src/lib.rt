@@ -6,6 +6,7 @@ mod command;
 mod cursor;
 mod fault;
 mod fits;
+mod laws;
 mod line;
 mod parse;
 mod parser;
@@ -25,6 +26,7 @@ mod token;
 mod transcript;
 
 pub use fault::{ScriptFault, ScriptFaultKind, print_script_fault};
+pub use laws::statement_is_read_from_its_text;
 pub use parse::parse_script;
 pub use print::{PrintFault, check_statement, print_script, print_statement, put_printable};
 pub use script::{Line, Lines, Script};

@@ -2,7 +2,8 @@
 
 ghost use Rattle.std.specs.Prelude.{◌≡◌, ◌≢◌, Some, None, IfOk, IfErr, MatchResult};
 ghost use Rattle.lab_table.specs.declared.statement.Statement.{Statement as Spelled};
-ghost use Rattle.lab_script.specs.Script.{SpellsStatement, AreStatementTokens};
+ghost use Rattle.lab_script.specs.HeldTokens.{AreStatementTokens};
+ghost use Rattle.lab_script.specs.Script.{SpellsStatement};
 ghost use Rattle.lab_script.specs.Fault.{IsStatementFault};
 ghost use Rattle.lab_script.specs.StatementText.{statement_in};
 

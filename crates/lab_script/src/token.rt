@@ -5,7 +5,8 @@ ghost use Rattle.std.specs.Str.{bytes_eq};
 ghost use Rattle.std.specs.List.{prefix_len};
 ghost use Rattle.std.specs.Char.{to_ascii_lowercase};
 ghost use Rattle.lab_script.specs.declared.token.Token.TheVariants as token;
-ghost use Rattle.lab_script.specs.Token.{letters, whole, is_letter, is_blank, word_named, tokens, tokens_from, mark};
+ghost use Rattle.lab_script.specs.Token.{letters, whole, is_letter, is_blank, word_named, tokens, mark};
+ghost use Rattle.lab_script.specs.HeldTokens.{held_from, held_tokens};
 
 use lab_table::NoMemory;
 use std::alloc::Global;
@@ -65,7 +66,7 @@ pub enum Token {
 }
 
 /// One above the greatest number of any text.
-pub const TOO_LARGE: u64 = 1_000_000_001;
+const TOO_LARGE: u64 = 1_000_000_001;
 
 fn is_word(text: &[u8], name: &[u8]) -> bool
     ensures { result ≡ bytes_eq (map to_ascii_lowercase text.now) (map to_ascii_lowercase name.now) }
@@ -163,7 +164,7 @@ pub fn blanks_len(bytes: &[u8]) -> usize
 /// The word at the front, and what follows it.
 #[tactic(auto, using(crate::proofs::Tokens::letters_run))]
 fn word_at(bytes: &[u8]) -> (Token, &[u8])
-    ensures { tokens_from (letters []) bytes.now ≡ result.0 ∷ tokens result.1.now }
+    ensures { held_from (letters []) bytes.now ≡ result.0 ∷ held_tokens result.1.now }
 {
     let (text, rest) = bytes.split_at(letters_len(bytes));
     (Token::Word(Word::named(text)), rest)
@@ -171,7 +172,7 @@ fn word_at(bytes: &[u8]) -> (Token, &[u8])
 
 /// The digits at the front, and what follows them.
 fn digits_at(bytes: &[u8]) -> (Token, &[u8])
-    ensures { tokens_from (whole (token.Digits 0)) bytes.now ≡ result.0 ∷ tokens result.1.now }
+    ensures { held_from (whole (token.Digits 0)) bytes.now ≡ result.0 ∷ held_tokens result.1.now }
 {
     let mut number: u64 = 0;
     for (i, byte) in bytes.iter().enumerate() {
@@ -185,7 +186,7 @@ fn digits_at(bytes: &[u8]) -> (Token, &[u8])
 
 /// The token that `<` begins, and what follows it.
 fn less_at(after: &[u8]) -> (Token, &[u8])
-    ensures { tokens_from (whole token.Less) after.now ≡ result.0 ∷ tokens result.1.now }
+    ensures { held_from (whole token.Less) after.now ≡ result.0 ∷ held_tokens result.1.now }
 {
     match after {
         [] => (Token::Less, after),
@@ -203,7 +204,7 @@ fn less_at(after: &[u8]) -> (Token, &[u8])
 
 /// The token that `>` begins, and what follows it.
 fn greater_at(after: &[u8]) -> (Token, &[u8])
-    ensures { tokens_from (whole token.Greater) after.now ≡ result.0 ∷ tokens result.1.now }
+    ensures { held_from (whole token.Greater) after.now ≡ result.0 ∷ held_tokens result.1.now }
 {
     match after {
         [b'=', rest @ ..] => (Token::AtLeast, rest),
@@ -233,7 +234,7 @@ fn mark_of(byte: u8) -> Token
 
 /// The mark that begins with this byte, and what follows it.
 fn mark_at(first: u8, after: &[u8]) -> (Token, &[u8])
-    ensures { tokens_from (whole (mark first)) after.now ≡ result.0 ∷ tokens result.1.now }
+    ensures { held_from (whole (mark first)) after.now ≡ result.0 ∷ held_tokens result.1.now }
 {
     if first == b'<' {
         less_at(after)
@@ -246,7 +247,7 @@ fn mark_at(first: u8, after: &[u8]) -> (Token, &[u8])
 
 /// The token at the front, and what follows it.
 fn token_at(bytes: &[u8]) -> Option<(Token, &[u8])>
-    ensures { MatchOption result (tokens bytes.now ≡ []) (λ found. tokens bytes.now ≡ found.0 ∷ tokens found.1.now) }
+    ensures { MatchOption result (tokens bytes.now ≡ []) (λ found. held_tokens bytes.now ≡ found.0 ∷ held_tokens found.1.now) }
 {
     let (_, rest) = bytes.split_at(blanks_len(bytes));
     match rest.split_first() {
@@ -263,18 +264,19 @@ fn token_at(bytes: &[u8]) -> Option<(Token, &[u8])>
     }
 }
 
-/// The tokens of a text; NoMemory where a growth was refused.
+/// The tokens of a text, with a number past every range as `TOO_LARGE`; NoMemory where a growth was refused.
 pub fn tokens_of(alloc: Global, text: &[u8]) -> Result<Vec<Token>, NoMemory>
-    ensures { IfOk result (λ found. found.items ≡ tokens text.now) }
+    ensures { IfOk result (λ found. found.items ≡ held_tokens text.now) }
 {
     let mut found = Vec::new(alloc);
     tokens_into(&mut found, text)?;
     Ok(found)
 }
 
-/// Puts the tokens of a text in place of what was found before; NoMemory where a growth was refused.
+/// Puts the tokens of a text, with a number past every range as `TOO_LARGE`, in place of what was found before;
+/// NoMemory where a growth was refused.
 pub fn tokens_into(found: &mut Vec<Token>, text: &[u8]) -> Result<(), NoMemory>
-    ensures { OnOk result (found.new.items ≡ tokens text.now) }
+    ensures { OnOk result (found.new.items ≡ held_tokens text.now) }
 {
     found.clear();
     let mut rest = text;

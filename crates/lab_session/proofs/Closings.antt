@@ -1,5 +1,5 @@
 -- What the refusals of a run's end say.
-use Rattle.std.proofs.Common.{◌≡◌, ℕ, ◌≤◌, ◌<◌, arith, sym, subst, List, []}
+use Rattle.std.proofs.Common.{◌≡◌, ℕ, arith, subst, List, []}
 use Rattle.lab_table.specs.Table.{Table}
 use Rattle.lab_engine.specs.declared.event.Level.{Level}
 use Rattle.lab_engine.specs.declared.recording.RecordFault.{RecordFault}

@@ -12,7 +12,7 @@ use std::alloc::Global;
 
 /// A statement is blocked by those that have written a row that it would write; each commit is let through.
 #[derive(Clone, Copy, Debug, PartialEq, Eq)]
-pub struct CommittedRules {}
+struct CommittedRules {}
 
 impl Rules for CommittedRules {
     ghost kind = { λ _. Committed };

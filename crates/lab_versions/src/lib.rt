@@ -11,5 +11,5 @@ mod committed;
 mod conflict;
 mod snapshot;
 
-pub use committed::{CommittedEngine, CommittedRules};
-pub use snapshot::{SnapshotEngine, SnapshotRules};
+pub use committed::CommittedEngine;
+pub use snapshot::SnapshotEngine;

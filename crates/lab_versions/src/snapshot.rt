@@ -12,7 +12,7 @@ use std::alloc::Global;
 
 /// Nobody blocks a statement; a commit conflicts where a row that it wrote was installed by another since its begin.
 #[derive(Clone, Copy, Debug, PartialEq, Eq)]
-pub struct SnapshotRules {}
+struct SnapshotRules {}
 
 impl Rules for SnapshotRules {
     ghost kind = { λ _. Snapshot };

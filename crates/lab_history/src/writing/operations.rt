@@ -1,11 +1,11 @@
 //! The operations and transactions of a history as JSON values.
 
-ghost use Rattle.std.specs.Prelude.{◌≡◌, Some, IfOk, OnOk};
+ghost use Rattle.std.specs.Prelude.{◌≡◌, IfOk, OnOk};
 ghost use Rattle.serde_json.specs.Data.{string};
 ghost use Rattle.serde_json.specs.View.{view};
 ghost use Rattle.lab_script.specs.Limits.{StatementPrints};
 ghost use Rattle.lab_script.specs.Printed.{printed_statement};
-ghost use Rattle.lab_script.specs.StatementText.{statement_in};
+ghost use Rattle.lab_script.specs.Script.{SpellsStatement};
 ghost use Rattle.lab_history.specs.FileOf.{outcome_text, IsListOf, IsOperation, IsTransaction};
 ghost use Rattle.lab_history.specs.Kept.{operations, OpKeeps, OpsKeep};
 ghost use Rattle.lab_history.specs.Tree.{list_tree, op_tree, txn_tree};
@@ -22,7 +22,7 @@ use std::alloc::{AllocError, Global};
 fn statement_json(alloc: Global, statement: &Statement) -> Result<Json, NoMemory>
     requires { StatementPrints statement.now }
     ensures value { IfOk result (λ v. view v ≡ string (printed_statement statement.now)) }
-    ensures read { OnOk result (statement_in (printed_statement statement.now) ≡ Some statement.now) }
+    ensures again { OnOk result (SpellsStatement (printed_statement statement.now) statement.now) }
 {
     let text = match print_statement(alloc, statement) {
         Ok(text) => text,

@@ -1,10 +1,11 @@
-use Rattle.lab_engine.specs.Hops.{AreHops}
+use Rattle.std.proofs.Common.{ℕ}
+use Rattle.lab_engine.specs.Hops.{IsSearched}
 use Rattle.lab_engine.proofs.Walks.{missing}
 use Rattle.lab_engine.proofs.circle.shortest_circle.Given as goal
 
--- each hop leads on towards the session
+-- some turns of the search are done
 abbrev pub invariant-loop-first : goal.invariant-loop-first
-invariant-loop-first l = AreHops l.waits l.session l.hops.items
+invariant-loop-first l = (turns : ℕ) × IsSearched l.waits l.session l.hops.items turns
 
 -- each turn reaches another one
 abbrev pub decreases-loop-first : goal.decreases-loop-first

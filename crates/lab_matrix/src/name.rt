@@ -1,0 +1,54 @@
+//! The names of the cases.
+
+ghost use Rattle.std.specs.Prelude.{◌≡◌, IfOk};
+ghost use Rattle.lab_matrix.specs.Listings.{case_script};
+
+use crate::cases;
+use lab_script::Script;
+use lab_table::NoMemory;
+use std::alloc::Global;
+
+/// A case: an interleaving that shows one anomaly where an engine lets it happen. Written after the cases of Martin
+/// Kleppmann's Hermitage; the listings are this laboratory's own.
+#[derive(Clone, Copy, Debug, PartialEq, Eq)]
+pub enum CaseName {
+    /// Two transactions write the same two rows in turn.
+    G0,
+    /// One reads what another one wrote and then aborts.
+    G1a,
+    /// One reads a value that another one overwrites before it commits.
+    G1b,
+    /// Each of two reads what the other one wrote.
+    G1c,
+    /// Observed transaction vanishes: one sees a part of what another one overwrote.
+    Otv,
+    /// Predicate many preceders: a row comes into what a predicate matches between two reads.
+    Pmp,
+    /// Lost update: two read a row, and both write it.
+    P4,
+    /// Read skew: one reads a row before and another row after what a second one writes to both.
+    GSingle,
+    /// Write skew on rows: each of two reads both rows, and writes one of them.
+    G2Item,
+    /// Write skew on a predicate: each of two reads by a predicate, and inserts a row that it matches.
+    G2,
+}
+
+/// The script of a case: a listing of commands, one on each text line from line 2 on, over the table (1, 10), (2, 20).
+/// NoMemory where a growth was refused.
+pub fn case(alloc: Global, name: CaseName) -> Result<Script, NoMemory>
+    ensures { IfOk result (λ script. script ≡ case_script name) }
+{
+    match name {
+        CaseName::G0 => cases::g0(alloc),
+        CaseName::G1a => cases::g1a(alloc),
+        CaseName::G1b => cases::g1b(alloc),
+        CaseName::G1c => cases::g1c(alloc),
+        CaseName::Otv => cases::otv(alloc),
+        CaseName::Pmp => cases::pmp(alloc),
+        CaseName::P4 => cases::p4(alloc),
+        CaseName::GSingle => cases::g_single(alloc),
+        CaseName::G2Item => cases::g2_item(alloc),
+        CaseName::G2 => cases::g2(alloc),
+    }
+}

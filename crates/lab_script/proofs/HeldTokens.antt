@@ -1,0 +1,97 @@
+-- What tokens as they are held spell is what the tokens spell: no number of the grammar is past 1,000,000,000.
+use Rattle.std.proofs.Common.{◌≡◌, ℕ, ◌≤◌, min, true, List, [], ◌∷◌, length, map, Option, Some, None, refl, sym, ap, subst, ◌∙◌, arith}
+use Rattle.std.specs.Prelude.{is_some}
+use Rattle.std.specs.List.{list_all}
+use Rattle.std.proofs.lemmas.Bool.{leb-true}
+use Rattle.lab_table.specs.Table.{Table}
+use Rattle.lab_table.specs.declared.statement.Command.{Command}
+use Rattle.lab_table.specs.declared.statement.Statement.{Statement}
+use Rattle.lab_script.specs.declared.fault.ScriptFaultKind.{ScriptFaultKind}
+use Rattle.lab_script.specs.declared.fault.ScriptFaultKind.TheVariants as kinds
+use Rattle.lab_script.specs.declared.script.Script.{Script}
+use Rattle.lab_script.specs.declared.token.Word.TheVariants as word
+use Rattle.lab_script.specs.declared.token.Token.{Token}
+use Rattle.lab_script.specs.declared.token.Token.TheVariants as token
+use Rattle.lab_script.specs.Grammar.{IsCommands, IsSetup, IsWholeStatement}
+use Rattle.lab_script.specs.HeldTokens.{held}
+use Rattle.lab_script.specs.Script.{BeginsSetup}
+use Rattle.lab_script.specs.Fault.{SpellsNothing, LacksSession, SaysOfTokens}
+use Rattle.lab_script.proofs.Same.{and_both}
+use Rattle.lab_script.proofs.KnownTokens.{is_known, AllKnown, commands_known, setup_known, whole_known}
+
+-- a token that is one of the grammar, or is held as one, is held as it is
+known_kept : (t : Token) → is_known t ≡ true → held t ≡ t
+known_kept (token.Digits n) is = let small : n ≤ 1000000000 = leb-true n 1000000000 is in let same : min n 1000000001 ≡ n = omega arith in ap (λ (k : ℕ). token.Digits k) same
+known_kept t is = refl
+
+held_kept : (t : Token) → is_known (held t) ≡ true → held t ≡ t
+held_kept (token.Digits n) is = let small : min n 1000000001 ≤ 1000000000 = leb-true (min n 1000000001) 1000000000 is in let same : min n 1000000001 ≡ n = omega arith in ap (λ (k : ℕ). token.Digits k) same
+held_kept t is = refl
+
+-- and so are such tokens
+all_kept : (ts : List Token) → AllKnown ts → map held ts ≡ ts
+all_kept [] is = refl
+all_kept (t ∷ ts) is =
+    let both = and_both (is_known t) (list_all is_known ts) is in
+    ap (λ (u : Token). u ∷ map held ts) (known_kept t both.0) ∙ ap (λ (us : List Token). t ∷ us) (all_kept ts both.1)
+
+all_held_kept : (ts : List Token) → AllKnown (map held ts) → map held ts ≡ ts
+all_held_kept [] is = refl
+all_held_kept (t ∷ ts) is =
+    let both = and_both (is_known (held t)) (list_all is_known (map held ts)) is in
+    ap (λ (u : Token). u ∷ map held ts) (held_kept t both.0) ∙ ap (λ (us : List Token). t ∷ us) (all_held_kept ts both.1)
+
+-- setups, commands and statements are the same
+pub held_setup : (ts : List Token) (table : Table) → IsSetup (map held ts) table → IsSetup ts table
+held_setup ts table is = subst (λ (us : List Token). IsSetup us table) (all_held_kept ts (setup_known is)) is
+
+setup_held : (ts : List Token) (table : Table) → IsSetup ts table → IsSetup (map held ts) table
+setup_held ts table is = subst (λ (us : List Token). IsSetup us table) (sym (all_kept ts (setup_known is))) is
+
+pub held_commands : (ts : List Token) (cs : List Command) → IsCommands (map held ts) cs → IsCommands ts cs
+held_commands ts cs is = subst (λ (us : List Token). IsCommands us cs) (all_held_kept ts (commands_known is)) is
+
+commands_held : (ts : List Token) (cs : List Command) → IsCommands ts cs → IsCommands (map held ts) cs
+commands_held ts cs is = subst (λ (us : List Token). IsCommands us cs) (sym (all_kept ts (commands_known is))) is
+
+pub held_whole : (ts : List Token) (s : Statement) → IsWholeStatement (map held ts) s → IsWholeStatement ts s
+held_whole ts s is = subst (λ (us : List Token). IsWholeStatement us s) (all_held_kept ts (whole_known is)) is
+
+pub whole_held : (ts : List Token) (s : Statement) → IsWholeStatement ts s → IsWholeStatement (map held ts) s
+whole_held ts s is = subst (λ (us : List Token). IsWholeStatement us s) (sym (all_kept ts (whole_known is))) is
+
+-- the first token is setup where it is held so
+setup_word : (t : Token) → held t ≡ token.Word word.Setup → t ≡ token.Word word.Setup
+setup_word (token.Digits n) e = absurd cc
+setup_word t e = e
+
+held_begins : (ts : List Token) → BeginsSetup (map held ts) → BeginsSetup ts
+held_begins [] begins = let e = begins.1 in absurd cc
+held_begins (t ∷ ts) begins =
+    let e = begins.1 in
+    let first : held t ≡ token.Word word.Setup = cc in
+    (ts, ap (λ (u : Token). u ∷ ts) (setup_word t first))
+
+begins_held : (ts : List Token) → BeginsSetup ts → BeginsSetup (map held ts)
+begins_held ts begins = (map held begins.0, ap (map held) begins.1)
+
+held_nothing : (ts : List Token) (before : Option Script) → SpellsNothing (map held ts) before → SpellsNothing ts before
+held_nothing ts None says = (held_begins ts says.0, λ table is. says.1 table (setup_held ts table is))
+held_nothing ts (Some script) says = (λ begins. says.0 (begins_held ts begins), λ cs is room. says.1 cs (commands_held ts cs is) room)
+
+held_lacks : (ts : List Token) (remark : List ℕ) (before : Option Script) → LacksSession (map held ts) remark before → LacksSession ts remark before
+held_lacks ts remark None says = says
+held_lacks ts remark (Some script) ((cs, is, room), none) = ((cs, held_commands ts cs is, room), none)
+
+-- what is wrong with the tokens as they are held is wrong with them
+pub held_says : (kind : ScriptFaultKind) (ts : List Token) (remark : List ℕ) (before : Option Script) → SaysOfTokens kind (map held ts) remark before → SaysOfTokens kind ts remark before
+held_says kinds.NotAscii ts remark before says = says
+held_says kinds.NoSetup ts remark before says = (says.0, λ begins. says.1 (begins_held ts begins))
+held_says kinds.SetupRepeated ts remark before says = (says.0, held_begins ts says.1)
+held_says kinds.NoSession ts remark before says = held_lacks ts remark before says
+held_says kinds.UnknownStatement ts remark before says = held_nothing ts before says
+held_says kinds.BadPredicate ts remark before says = held_nothing ts before says
+held_says kinds.NumberOutOfRange ts remark before says = held_nothing ts before says
+held_says kinds.TooDeep ts remark before says = held_nothing ts before says
+held_says kinds.TooLong ts remark before says = held_nothing ts before says
+held_says kinds.DuplicateSetupRow ts remark before says = held_nothing ts before says
