@@ -1,6 +1,6 @@
 -- No fault is true of a file: each value of it fits at its place, and it keeps the limits.
-use Rattle.std.proofs.Common.{◌≡◌, ℕ, zero, suc, ◌+◌, ◌≤◌, ◌<◌, ◌==◌, true, false, List, [], ◌∷◌, map, length, Option, Some, None, is_some, option_and_then, option_map, slice_get, codes, refl, sym, ap, subst, ◌∙◌, arith, eq-eqb, length-append}
-use Rattle.std.specs.Prelude.{sum}
+use Rattle.std.proofs.Common.{◌≡◌, ℕ, zero, suc, ◌+◌, ◌≤◌, ◌<◌, ◌==◌, Bool, true, false, List, [], ◌∷◌, map, length, Option, Some, None, is_some, option_and_then, option_map, slice_get, codes, refl, sym, ap, subst, ◌∙◌, arith, eq-eqb, length-append}
+use Rattle.std.specs.Prelude.{sum, nat_lt, if◌then◌else◌}
 use Rattle.std.specs.List.{list_any}
 use Rattle.std.proofs.lemmas.Bool.{or_parts}
 use Rattle.serde_json.specs.Data.{Data, array, Items, no_items, item}
@@ -8,7 +8,7 @@ use Rattle.serde_json.specs.Find.{as_array, as_object, as_str, as_number, as_u64
 use Rattle.lab_script.specs.Script.{SpellsStatement}
 use Rattle.lab_history.specs.Entries.{txn_in_number, value_in, written_in}
 use Rattle.lab_history.specs.FaultOf.{all_ops, IsWrong, IsRepeated, IsBadStatement, IsUnsorted, IsOverLimit, IsTrueFault}
-use Rattle.lab_history.specs.Fitting.{fits}
+use Rattle.lab_history.specs.Fitting.{fits, parts_of}
 use Rattle.lab_history.specs.ValueAt.{txn_at, operation_at, list_at, value_at}
 use Rattle.lab_history.specs.FileOf.{AreEach, IsFileOf, IsOperation, IsTransaction, outcome_text}
 use Rattle.lab_history.specs.Format.{at_key, has_keys, txn_keys, op_keys, outcome_named, count}
@@ -69,6 +69,11 @@ each_lists (item t ds) (txn ∷ txns) each =
     let both : length (operations (txn ∷ txns)) ≡ length txn.ops + length (operations txns) = length-append txn.ops _ in
     omega (arith, own, rest, both)
 
+-- what is found under a condition
+under : (b : Bool) (r : Option Data) (v : Data) → (if b then r else None) ≡ Some v → r ≡ Some v
+under true r v e = e
+under false r v e = absurd cc
+
 module _ (d : Data) (h : History) (file : IsFileOf d h) where
   transactions_at : at_key (codes "transactions") d ≡ array file.transactions_are.0
   transactions_at = ap (at_key (codes "transactions")) file.tree ∙ file.transactions_are.1
@@ -118,7 +123,8 @@ module _ (d : Data) (h : History) (file : IsFileOf d h) where
   fits_at (path.Member place index) v e =
       let found = both_some (list_at d place) (at index) v e in (good_at place found.0 found.1).sizes index v found.2
   fits_at (path.Part place index part) v e =
-      let member = both_some (option_and_then (at index) (list_at d place)) (at part) v e in
+      let there = under (nat_lt part (parts_of place)) (option_and_then (at part) (value_at d (path.Member place index))) v e in
+      let member = both_some (option_and_then (at index) (list_at d place)) (at part) v there in
       let found = both_some (list_at d place) (at index) member.0 member.1 in
       (good_at place found.0 found.1).parts index part member.0 v found.2 member.2
   fits_at (path.Installer index part) v e =

@@ -1,5 +1,6 @@
 -- The faults of lists whose members begin with a row are true.
 use Rattle.std.proofs.Common.{◌≡◌, ℕ, suc, ◌+◌, ◌⊎◌, inl, inr, ⊎_elim, Bool, true, false, List, Option, Some, None, is_some, option_and_then, Result, Ok, Err, if◌then◌else◌, is_lt, refl, sym, ap, subst, ◌∙◌, arith, ne_eqb, codes}
+use Rattle.std.specs.Prelude.{nat_lt}
 use Rattle.serde_json.specs.Data.{Data, array, Items, no_items, item}
 use Rattle.serde_json.specs.Find.{as_array, at, get_item}
 use Rattle.lab_table.specs.Row.{Row, row_cmp}
@@ -106,8 +107,10 @@ module _ (d l : Data) (place : ListPlace) (stands : list_at d place ≡ Some l) 
   wrong_size : {n : ℕ} → parts_of place ≡ n → has_size n (as_array m) ≡ false → f ≡ fault.WrongFormat (path.Member place k) → IsTrueFault d f
   wrong_size many size is = is_wrong d f (path.Member place k) m is at_member (ap (λ n. has_size n (as_array m)) many ∙ size)
 
-  wrong_part : (part : ℕ) (v : Data) → at part m ≡ Some v → fits (path.Part place k part) v ≡ false → f ≡ fault.WrongFormat (path.Part place k part) → IsTrueFault d f
-  wrong_part part v here wrong is = is_wrong d f (path.Part place k part) v is (ap (option_and_then (at part)) at_member ∙ here) wrong
+  wrong_part : (part : ℕ) (v : Data) → nat_lt part (parts_of place) ≡ true → at part m ≡ Some v → fits (path.Part place k part) v ≡ false → f ≡ fault.WrongFormat (path.Part place k part) → IsTrueFault d f
+  wrong_part part v is_part here wrong is =
+      is_wrong d f (path.Part place k part) v is
+      (ap (λ (b : Bool). if b then (option_and_then (at part) (value_at d (path.Member place k))) else None) is_part ∙ ap (option_and_then (at part)) at_member ∙ here) wrong
 
   -- [id, x]
   module _ {X : Type 0} (read : Data → Option X) (two : parts_of place ≡ 2) (second : (v : Data) → second_fits place v ≡ is_some (read v)) where
@@ -117,9 +120,9 @@ module _ (d l : Data) (place : ListPlace) (stands : list_at d place ≡ Some l) 
     pair_items_fault (Some (item a no_items)) is e = wrong_size two (ap (has_size 2) is) cc
     pair_items_fault (Some (item a (item b no_items))) is e =
         let tree = array_of m _ is in
-        ⊎_elim (λ missing. let r = required_err (path.Part place k 0) (id_in a) f missing in wrong_part 0 a (ap (at 0) tree) (ap is_some r.0) r.1)
+        ⊎_elim (λ missing. let r = required_err (path.Part place k 0) (id_in a) f missing in wrong_part 0 a (ap (nat_lt 0) two) (ap (at 0) tree) (ap is_some r.0) r.1)
         (λ found. ⊎_elim
-        (λ missing. let r = required_err (path.Part place k 1) (read b) f missing in wrong_part 1 b (ap (at 1) tree) (second b ∙ ap is_some r.0) r.1)
+        (λ missing. let r = required_err (path.Part place k 1) (read b) f missing in wrong_part 1 b (ap (nat_lt 1) two) (ap (at 1) tree) (second b ∙ ap is_some r.0) r.1)
         (λ other. absurd cc)
         (either_err (required (path.Part place k 1) (read b)) _ f found.2))
         (either_err (required (path.Part place k 0) (id_in a)) _ f e)
@@ -134,11 +137,11 @@ module _ (d l : Data) (place : ListPlace) (stands : list_at d place ≡ Some l) 
     version_items_fault (Some (item a (item b no_items))) is e = wrong_size three (ap (has_size 3) is) cc
     version_items_fault (Some (item a (item b (item c no_items)))) is e =
         let tree = array_of m _ is in
-        ⊎_elim (λ missing. let r = required_err (path.Part place k 0) (id_in a) f missing in wrong_part 0 a (ap (at 0) tree) (ap is_some r.0) r.1)
+        ⊎_elim (λ missing. let r = required_err (path.Part place k 0) (id_in a) f missing in wrong_part 0 a (ap (nat_lt 0) three) (ap (at 0) tree) (ap is_some r.0) r.1)
         (λ found. ⊎_elim
-        (λ missing. let r = required_err (path.Part place k 1) (txn_in_number b) f missing in wrong_part 1 b (ap (at 1) tree) (second b ∙ ap is_some r.0) r.1)
+        (λ missing. let r = required_err (path.Part place k 1) (txn_in_number b) f missing in wrong_part 1 b (ap (nat_lt 1) three) (ap (at 1) tree) (second b ∙ ap is_some r.0) r.1)
         (λ third. ⊎_elim
-        (λ missing. let r = required_err (path.Part place k 2) (op_in_number c) f missing in wrong_part 2 c (ap (at 2) tree) (ap is_some r.0) r.1)
+        (λ missing. let r = required_err (path.Part place k 2) (op_in_number c) f missing in wrong_part 2 c (ap (nat_lt 2) three) (ap (at 2) tree) (ap is_some r.0) r.1)
         (λ other. absurd cc)
         (either_err (required (path.Part place k 2) (op_in_number c)) _ f third.2))
         (either_err (required (path.Part place k 1) (txn_in_number b)) _ f found.2))
@@ -158,8 +161,8 @@ installer_err index i all (item v ds) f tail e =
 
 module _ (d : Data) (k : ℕ) (m : Data) (member : at k (at_key (codes "installed") d) ≡ Some m) (f : FileFault) where
   second_items_fault : (v : Data) (o : Option Items) → at 1 m ≡ Some v → as_array v ≡ o → installers_of k o ≡ Err f → IsTrueFault d f
-  second_items_fault v None here is e = wrong_part d (at_key (codes "installed") d) list.Installed refl k m member f 1 v here (ap has_items is) cc
-  second_items_fault v (Some no_items) here is e = wrong_part d (at_key (codes "installed") d) list.Installed refl k m member f 1 v here (ap has_items is) cc
+  second_items_fault v None here is e = wrong_part d (at_key (codes "installed") d) list.Installed refl k m member f 1 v refl here (ap has_items is) cc
+  second_items_fault v (Some no_items) here is e = wrong_part d (at_key (codes "installed") d) list.Installed refl k m member f 1 v refl here (ap has_items is) cc
   second_items_fault v (Some (item a ds)) here is e =
       let found = installer_err k 0 (item a ds) (item a ds) f (tail_all (item a ds)) e in
       is_wrong d f (path.Installer k found.0) found.1 found.4
@@ -173,7 +176,7 @@ module _ (d : Data) (k : ℕ) (m : Data) (member : at k (at_key (codes "installe
   installed_items_fault (Some (item a (item b no_items))) is e =
       let tree = array_of m _ is in
       ⊎_elim (λ missing. let r = required_err (path.Part list.Installed k 0) (id_in a) f missing in
-      wrong_part d (at_key (codes "installed") d) list.Installed refl k m member f 0 a (ap (at 0) tree) (ap is_some r.0) r.1)
+      wrong_part d (at_key (codes "installed") d) list.Installed refl k m member f 0 a refl (ap (at 0) tree) (ap is_some r.0) r.1)
       (λ found. ⊎_elim (λ wrong. second_items_fault b (as_array b) (ap (at 1) tree) refl wrong) (λ other. absurd cc) (either_err (installers_of k (as_array b)) _ f found.2))
       (either_err (required (path.Part list.Installed k 0) (id_in a)) _ f e)
   installed_items_fault (Some (item a (item b (item c ds)))) is e =

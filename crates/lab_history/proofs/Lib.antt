@@ -25,6 +25,7 @@ pub mod Halving
 pub mod SortedRows
 pub mod FirstValues
 pub mod LastWrites
+pub mod Greatest
 pub mod TxnPlaces
 pub mod InstallerPlaces
 pub mod CountedEntries

@@ -39,7 +39,7 @@ second_fits (list.View txn op) v = is_some (txn_in_number v)
 second_fits (list.Rows txn op) v = is_some (value_in v)
 second_fits (list.Writes txn op) v = is_some (written_in v)
 
--- whether a value may be a part of a member: a row, what stands behind it, the operation of a version
+-- whether a value may be a part of a member: a row, what stands behind it, and of a version, which alone has a third part, its operation
 abbrev pub part_fits : ListPlace → ℕ → Data → Bool
 part_fits place zero v = is_some (id_in v)
 part_fits place (suc zero) v = second_fits place v

@@ -1,7 +1,8 @@
 -- The value at a place of a history file.
-use Rattle.std.specs.Prelude.{ℕ, Option, Some, option_and_then, option_map, codes}
+use Rattle.std.specs.Prelude.{ℕ, nat_lt, if◌then◌else◌, Option, Some, None, option_and_then, option_map, codes}
 use Rattle.serde_json.specs.Data.{Data}
 use Rattle.serde_json.specs.Find.{at}
+use Rattle.lab_history.specs.Fitting.{parts_of}
 use Rattle.lab_history.specs.Format.{at_key}
 use Rattle.lab_history.specs.declared.path.ListPlace.{ListPlace}
 use Rattle.lab_history.specs.declared.path.ListPlace.TheVariants as list
@@ -24,14 +25,14 @@ list_at d (list.View txn op) = option_map (at_key (codes "view")) (operation_at 
 list_at d (list.Rows txn op) = option_map (at_key (codes "rows")) (operation_at d txn op)
 list_at d (list.Writes txn op) = option_map (at_key (codes "writes")) (operation_at d txn op)
 
--- the value at a path; null at a key that is missing
+-- the value at a path; null at a key that is missing, and nothing at a part that no member of the list has
 abbrev pub value_at : Data → Path → Option Data
 value_at d path.Root = Some d
 value_at d path.Format = Some (at_key (codes "format") d)
 value_at d path.Version = Some (at_key (codes "version") d)
 value_at d (path.List place) = list_at d place
 value_at d (path.Member place index) = option_and_then (at index) (list_at d place)
-value_at d (path.Part place index part) = option_and_then (at part) (option_and_then (at index) (list_at d place))
+value_at d (path.Part place index part) = if nat_lt part (parts_of place) then option_and_then (at part) (option_and_then (at index) (list_at d place)) else None
 value_at d (path.Installer index part) = option_and_then (at part) (option_and_then (at 1) (at index (at_key (codes "installed") d)))
 value_at d path.Transactions = Some (at_key (codes "transactions") d)
 value_at d (path.Transaction txn) = txn_at d txn

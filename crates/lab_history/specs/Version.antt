@@ -1,6 +1,6 @@
 -- Words for a history: its transactions, operations, versions and their states.
 use Rattle.std.specs.Option.{option_or}
-use Rattle.std.specs.Prelude.{◌≡◌, ℕ, zero, suc, ◌==◌, Bool, cond, Option, Some, None, is_some, option_map, option_and_then, unwrap_or, List, [], ◌∷◌, slice_get}
+use Rattle.std.specs.Prelude.{◌≡◌, ℕ, zero, suc, ◌+◌, ◌≤◌, ◌==◌, Bool, true, cond, Option, Some, None, is_some, option_map, option_and_then, unwrap_or, List, [], ◌∷◌, slice_get}
 use Rattle.std.specs.FinMap as map
 use Rattle.lab_table.specs.Row.{Row}
 use Rattle.lab_table.specs.Table.{State}
@@ -69,6 +69,14 @@ abbrev pub last_write : List Op → Row → Option ℕ
 last_write [] row = None
 last_write (op ∷ ops) row = option_or (option_map (λ k. suc k) (last_write ops row)) (cond (is_some (new_state op row)) (Some 1) None)
 
+-- the operation at a place, counted from 1, writes a row
+abbrev pub WritesAt : List Op → ℕ → Row → Type 0
+WritesAt ops k row = (op : Op) × (op_at ops k ≡ Some op) × (is_some (new_state op row) ≡ true)
+
+-- the operation at a place writes a row, and none at a greater place does
+abbrev pub IsLastWrite : List Op → Row → ℕ → Type 0
+IsLastWrite ops row k = WritesAt ops k row × ((later : ℕ) → WritesAt ops later row → later ≤ k)
+
 -- whether a transaction writes a row
 abbrev pub writes_row : History → ℕ → Row → Bool
 writes_row h n row = is_some (last_write (ops_of h n) row)
@@ -85,6 +93,14 @@ installers h row = unwrap_or (map.get h.installed row) []
 abbrev pub place_in : List ℕ → ℕ → Option ℕ
 place_in [] n = None
 place_in (m ∷ ms) n = cond (m == n) (Some 1) (option_map (λ p. suc p) (place_in ms n))
+
+-- a number stands at a place of a list, counted from 1
+abbrev pub StandsAt : List ℕ → ℕ → ℕ → Type 0
+StandsAt ns p n = (index : ℕ) × (p ≡ index + 1) × (slice_get ns index ≡ Some n)
+
+-- the least place at which a number stands
+abbrev pub IsPlaceOf : List ℕ → ℕ → ℕ → Type 0
+IsPlaceOf ns n p = StandsAt ns p n × ((other : ℕ) → StandsAt ns other n → p ≤ other)
 
 -- a row's versions are the initial one and then those of its installers: the state of the version at a place, counted from 0
 abbrev pub state_at : History → Row → ℕ → State

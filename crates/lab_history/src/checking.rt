@@ -159,6 +159,3 @@ fn wrong_member(place: ListPlace, index: usize) -> FileFault
         path: Path::Member(place, index),
     }
 }
-
-#[cfg(test)]
-mod tests;

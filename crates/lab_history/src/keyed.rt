@@ -78,6 +78,3 @@ fn place_of<K: Ord + Copy, V>(entries: &[(K, V)], key: K) -> usize
 {
     entries.partition_point(|entry| entry.0.cmp(&key).is_lt())
 }
-
-#[cfg(test)]
-mod tests;

@@ -1,11 +1,14 @@
-//! Laws of the history file.
+//! Laws of histories and their file. The functions have nothing to do: their contracts are the laws.
 
-ghost use Rattle.std.specs.Prelude.{◌≡◌, ◌↔◌, Ok, Err};
+ghost use Rattle.std.specs.Prelude.{◌≡◌, ◌↔◌, ℕ, List, Some, None, Ok, Err};
 ghost use Rattle.serde_json.specs.Data.{Data};
+ghost use Rattle.lab_table.specs.Row.{Row};
 ghost use Rattle.lab_history.specs.FileOf.{IsFileOf};
 ghost use Rattle.lab_history.specs.FaultOf.{IsTrueFault};
 ghost use Rattle.lab_history.specs.Format.{history_in};
 ghost use Rattle.lab_history.specs.History.{History as HistoryValue};
+ghost use Rattle.lab_history.specs.Version.{last_write, WritesAt, IsLastWrite, place_in, StandsAt, IsPlaceOf};
+ghost use Rattle.lab_history.specs.declared.operation.Op.{Op as OpValue};
 ghost use Rattle.lab_history.specs.declared.fault.FileFault.{FileFault as FaultValue};
 
 /// The history that is read from a JSON value is the one that the value is a file of, by the table of the format;
@@ -19,4 +22,18 @@ pub fn history_is_read_from_its_file()
 pub fn faults_are_true()
     ensures told { (d : Data) (f : FaultValue) → history_in d ≡ Err f → IsTrueFault d f }
     ensures faultless { (d : Data) (h : HistoryValue) → IsFileOf d h → (f : FaultValue) → IsTrueFault d f → ⊥ }
+{}
+
+/// A transaction's last write of a row is the greatest number of its operations that write the row, counted from 1;
+/// there is none exactly where none of them writes it.
+pub fn last_write_is_the_greatest()
+    ensures last { (ops : List OpValue) (row : Row) (k : ℕ) → (last_write ops row ≡ Some k) ↔ IsLastWrite ops row k }
+    ensures none { (ops : List OpValue) (row : Row) → (last_write ops row ≡ None) ↔ ((k : ℕ) → WritesAt ops k row → ⊥) }
+{}
+
+/// A transaction's place among a row's installers is the first at which its number stands, counted from 1;
+/// there is none exactly where the number isn't in the list.
+pub fn place_is_the_first()
+    ensures place { (ns : List ℕ) (n : ℕ) (p : ℕ) → (place_in ns n ≡ Some p) ↔ IsPlaceOf ns n p }
+    ensures none { (ns : List ℕ) (n : ℕ) → (place_in ns n ≡ None) ↔ ((p : ℕ) → StandsAt ns p n → ⊥) }
 {}

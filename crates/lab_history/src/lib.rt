@@ -34,7 +34,9 @@ mod writing;
 
 pub use fault::{FileFault, Limit, WriteFault};
 pub use history::History;
-pub use laws::{faults_are_true, history_is_read_from_its_file};
+pub use laws::{
+    faults_are_true, history_is_read_from_its_file, last_write_is_the_greatest, place_is_the_first,
+};
 pub use operation::{Op, Ops, Rows, State, VersionName, View, Writes};
 pub use parts::Parts;
 pub use path::{ListPlace, Path};

@@ -62,6 +62,3 @@ fn op_of(txn: &Txn, number: u32) -> Option<&Op>
 {
     txn.ops.as_slice().get(number.checked_sub(1)? as usize)
 }
-
-#[cfg(test)]
-mod tests;

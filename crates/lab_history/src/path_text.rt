@@ -91,6 +91,3 @@ fn put_index(out: &mut Vec<u8>, index: usize) -> Result<(), NoMemory>
     out.extend_from_slice(b"/")?;
     out.extend_from_slice(Buffer::new().format(index).as_bytes())
 }
-
-#[cfg(test)]
-mod tests;

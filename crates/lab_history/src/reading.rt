@@ -143,6 +143,3 @@ pub fn read_history(alloc: Global, bytes: &[u8]) -> Result<History, FileFault>
         Err(Stop::Fault(fault)) => Err(fault),
     }
 }
-
-#[cfg(test)]
-mod tests;

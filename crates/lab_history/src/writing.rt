@@ -59,6 +59,3 @@ pub fn write_history(alloc: Global, history: &History) -> Result<Vec<u8>, WriteF
     }
     Ok(text)
 }
-
-#[cfg(test)]
-mod tests;

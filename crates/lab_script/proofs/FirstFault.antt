@@ -1,9 +1,10 @@
 -- Where a text has its first fault, read line by line.
-use Rattle.std.proofs.Common.{◌≡◌, ℕ, ◌+◌, ◌≤◌, true, false, List, [], ◌∷◌, ◌++◌, length, take, drop, Option, Some, None, Result, Ok, Err, refl, sym, ap, subst, ◌∙◌, inl, inr, ⊎_elim, arith, length-append, append_assoc}
+use Rattle.std.proofs.Common.{◌≡◌, ℕ, zero, suc, ◌+◌, ◌<◌, ◌≤◌, true, false, List, [], ◌∷◌, ◌++◌, length, take, drop, Option, Some, None, Result, Ok, Err, refl, sym, ap, subst, ◌∙◌, inl, inr, ⊎_elim, arith, length-append, append_assoc}
 use Rattle.std.specs.Prelude.{is_some, slice_get, MatchResult, IfOk, IfErr, ok_or}
 use Rattle.std.specs.Str.Lines.{lines}
 use Rattle.std.proofs.lemmas.Bool.{false≢true}
-use Rattle.std.proofs.lemmas.List.{append-nil, take_at, take-append-drop}
+use Rattle.std.proofs.lemmas.List.{append-nil, take_at, length-take-le}
+use Rattle.std.proofs.lemmas.Option.{slice_get_within}
 use Rattle.lab_script.specs.declared.fault.ScriptFault.{ScriptFault}
 use Rattle.lab_script.specs.declared.fault.ScriptFault.TheVariants as fault
 use Rattle.lab_script.specs.declared.fault.ScriptFaultKind.{ScriptFaultKind}
@@ -13,7 +14,7 @@ use Rattle.lab_script.specs.declared.token.Token.{Token}
 use Rattle.lab_script.specs.Token.{tokens}
 use Rattle.lab_script.specs.Grammar.{IsCommands}
 use Rattle.lab_script.specs.Script as script
-use Rattle.lab_script.specs.Script.{code_of, remark_of, session_of, is_passed, IsFit, BeginsSetup, LineSpells, LinesSpell, Spells, IsFaultless, IsFirstFault}
+use Rattle.lab_script.specs.Script.{code_of, remark_of, session_of, is_passed, IsFit, BeginsSetup, LineSpells, LinesSpell, Spells}
 use Rattle.lab_script.specs.Fault as wrong
 use Rattle.lab_script.specs.Fault.{SpellsNothing, LacksSession, SaysOfTokens, IsWrong, IsFaultyLine, IsWithoutSetup, IsFaultOf, IsLineFault}
 use Rattle.lab_script.proofs.ReadCommands.{no_setup}
@@ -102,19 +103,36 @@ wrong_is_faulty (wrong.over long) after spells =
 wrong_is_faulty (wrong.not_ascii few short isnt) after spells = false≢true (sym isnt ∙ (fit_of spells).ascii)
 wrong_is_faulty (wrong.of_tokens {kind = kind} kept says) after spells = tokens_are_faulty kind kept.1 says spells
 
--- a text with a fault at a line spells nothing
-pub fault_spells_nothing : (text : List ℕ) (number : ℕ) (s : Script) → IsFirstFault text number → Spells text s → ⊥
-fault_spells_nothing text number s (inl first) spells =
+-- a list round the element at a place
+round_place : {A : Type 0} (xs : List A) (i : ℕ) (x : A) → slice_get xs i ≡ Some x → xs ≡ take i xs ++ x ∷ drop (suc i) xs
+round_place [] i x e = absurd cc
+round_place (y ∷ ys) zero x e = let same : y ≡ x = cc in ap (λ z. z ∷ ys) same
+round_place (y ∷ ys) (suc i) x e = ap (λ zs. y ∷ zs) (round_place ys i x e)
+
+-- a text with a faulty line spells nothing
+line_spells_nothing : {text : List ℕ} {number : ℕ} {kind : ScriptFaultKind} (s : Script) → IsFaultyLine text number kind → Spells text s → ⊥
+line_spells_nothing {text} {number} s line spells =
     let ls = lines text in
-    let front = lines_front 1 None (take number ls) (drop number ls) (Some s)
-    (subst (λ (l : List (List ℕ)). LinesSpell 1 None l (Some s)) (sym (take-append-drop number ls)) spells) in
-    first.4 (front.0, front.1)
-fault_spells_nothing text number s (inr first) spells =
-    let none : ◌≡◌ {A = Option Script} None (Some s) = lines_once 1 None (lines text) first.0 spells in
+    let front = take line.index ls in
+    let parts = lines_front 1 None front (line.line ∷ drop (suc line.index) ls) (Some s)
+    (subst (λ (l : List (List ℕ)). LinesSpell 1 None l (Some s)) (round_place ls line.index line.line line.stands) spells) in
+    let inside : line.index < length ls = slice_get_within ls line.index line.line line.stands in
+    let size : length front ≡ line.index = length-take-le line.index ls (omega arith) in
+    let counted : number ≡ line.index + 1 = line.counted in
+    let place : 1 + length front ≡ number = omega arith in
+    line.faulty parts.2.0
+    (subst (λ (n : ℕ). LineSpells n line.line line.before parts.2.0) place
+    (subst (λ (b : Option Script). LineSpells (1 + length front) line.line b parts.2.0) (lines_once 1 None front parts.1 line.spelled) parts.2.1))
+
+-- a text with a fault spells nothing
+pub fault_spells_nothing : (text : List ℕ) (number : ℕ) (kind : ScriptFaultKind) (s : Script) → IsFaultOf text (fault.At number kind) → Spells text s → ⊥
+fault_spells_nothing text number kind s (inl line) spells = line_spells_nothing s line spells
+fault_spells_nothing text number kind s (inr without) spells =
+    let none : ◌≡◌ {A = Option Script} None (Some s) = lines_once 1 None (lines text) without.spelled spells in
     absurd cc
 
 -- where the front of a list ends, the next element stands
-seam : {A : Type 0} (xs : List A) (y : A) (ys : List A) → slice_get (xs ++ y ∷ ys) (length xs) ≡ Some y
+pub seam : {A : Type 0} (xs : List A) (y : A) (ys : List A) → slice_get (xs ++ y ∷ ys) (length xs) ≡ Some y
 seam [] y ys = refl
 seam (x ∷ xs) y ys = seam xs y ys
 
@@ -126,40 +144,22 @@ module _ {text : List ℕ} {number : ℕ} {line : List ℕ} {rest : List (List �
   stands_there : slice_get (lines text) number ≡ Some line
   stands_there = ap (λ (ls : List (List ℕ)). slice_get ls number) read.whole ∙ ap (slice_get (read.front ++ line ∷ rest)) (sym read.counted) ∙ seam read.front line rest
 
-  -- where the lines up to this one spell something, so does this one
-  spells_then : {after : Option Script} → LinesSpell 1 None (take (number + 1) (lines text)) after → LineSpells (number + 1) line before after
-  spells_then {after} all =
-      let through = read.front ++ line ∷ [] in
-      let len : length through ≡ number + 1 = length-append read.front (line ∷ []) ∙ ap (λ (n : ℕ). n + 1) read.counted in
-      let front : take (number + 1) (lines text) ≡ through =
-      ap (take (number + 1)) (read.whole ∙ sym (append_assoc read.front (line ∷ []) rest)) ∙ take_at through rest (number + 1) len in
-      let cut = lines_front 1 None read.front (line ∷ []) after (subst (λ (ls : List (List ℕ)). LinesSpell 1 None ls after) front all) in
-      let place : 1 + length read.front ≡ number + 1 = let counted : length read.front ≡ number = read.counted in omega arith in
-      subst (λ (n : ℕ). LineSpells n line before after) place
-      (subst (λ (s : Option Script). LineSpells (1 + length read.front) line s after) (lines_once 1 None read.front cut.1 read.spelled)
-      (subst (λ (s : Option Script). LineSpells (1 + length read.front) line cut.0 s) (sym cut.2.2) cut.2.1))
-
   -- the fault at the first line that is wrong is the text's
   pub line_fault : {kind : ScriptFaultKind} → IsWrong (number + 1) line before kind → IsFaultOf text (fault.At (number + 1) kind)
-  line_fault w =
-      let size : length (lines text) ≡ length read.front + length (line ∷ rest) = ap length read.whole ∙ length-append read.front (line ∷ rest) in
-      let counted : length read.front ≡ number = read.counted in (
-        inl (number, refl, omega arith, (before, before_it), λ faultless. wrong_is_faulty w faultless.0 (spells_then faultless.1)),
-        inl (record { index = number; counted = refl; line = line; stands = stands_there; before = before; spelled = before_it; faulty = wrong_is_faulty w; says = w }),
-      )
+  line_fault w = inl (record { index = number; counted = refl; line = line; stands = stands_there; before = before; spelled = before_it; faulty = wrong_is_faulty w; says = w })
 
 -- a text that ends before its setup
 pub end_fault : {text : List ℕ} {number : ℕ} → IsReadTo text number [] None → IsFaultOf text (fault.At (number + 1) kinds.NoSetup)
 end_fault {text} {number} read =
     let size : number + 1 ≡ length (lines text) + 1 = ap (λ (n : ℕ). n + 1) (sym (ap length (read.whole ∙ append-nil read.front) ∙ read.counted)) in
-    (inr (all_read read, size), inr (record { counted = size; spelled = all_read read; missing = refl }))
+    inr (record { counted = size; spelled = all_read read; missing = refl })
 
 -- what reading a text gave is the script that it spells, or there was no memory
 pub only_read : (text : List ℕ) (result : Result Script ScriptFault) → MatchResult result (λ r. Spells text r) (IsFaultOf text)
     → (s : Script) → Spells text s → MatchResult result (λ r. r ≡ s) (λ f. f ≡ fault.NoMemory)
 only_read text (Ok r) is s spells = some_is (lines_once 1 None (lines text) is spells)
 only_read text (Err fault.NoMemory) is s spells = refl
-only_read text (Err (fault.At number kind)) is s spells = absurd (fault_spells_nothing text number s is.0 spells)
+only_read text (Err (fault.At number kind)) is s spells = absurd (fault_spells_nothing text number kind s is spells)
 
 -- the fault of a line is the text's
 pub line_faults : {text : List ℕ} {number : ℕ} {line : List ℕ} {rest : List (List ℕ)} {before : Option Script}

@@ -1,6 +1,6 @@
 -- The grammar has no byte that begins no token, and no number past 1,000,000,000.
 use Rattle.std.proofs.Common.{◌≡◌, ℕ, Bool, true, false, List, [], ◌∷◌, ◌++◌, map, refl, sym, ap, ◌∙◌}
-use Rattle.std.specs.Prelude.{ℤ, ◌≤◌, ◌&&◌, nat_le, Option}
+use Rattle.std.specs.Prelude.{ℤ, ◌&&◌, nat_le, Option}
 use Rattle.std.specs.List.{list_all}
 use Rattle.std.proofs.lemmas.Bool.{false≢true, le-leb}
 use Rattle.std.proofs.Math.Bool.{and-false, and_assoc}

@@ -24,6 +24,7 @@ pub mod KnownTokens
 pub mod HeldTokens
 pub mod StatementText
 pub mod FirstFault
+pub mod LongTexts
 pub mod SpelledPrints
 pub mod StatementLines
 pub mod StillTold

@@ -12,7 +12,7 @@ use Rattle.lab_script.specs.declared.token.Token.TheVariants as token
 use Rattle.lab_script.specs.Token.{tokens}
 use Rattle.lab_script.specs.Fault.{SaysOfStatement, IsStatementFault, kind_of, stop_at}
 use Rattle.lab_script.specs.Grammar.{IsWholeStatement}
-use Rattle.lab_script.specs.HeldTokens.{held, held_tokens, AreStatementTokens}
+use Rattle.lab_script.specs.HeldTokens.{held_tokens, AreStatementTokens}
 use Rattle.lab_script.specs.Script.{begins_remark, code_of, is_code_byte, SpellsStatement}
 use Rattle.lab_script.specs.Reading.{Fails}
 use Rattle.lab_script.proofs.HeldTokens.{held_whole, whole_held}

@@ -11,27 +11,27 @@ use Rattle.std.proofs.lemmas.List.{take_all, drop_all, take_at, drop_at}
 use Rattle.bstr.specs.Text.{line_len, lines_of, no_cr, without_terminator}
 use Rattle.bstr.proofs.lemmas.LineLemmas.{lines-step, lines-nil}
 
-abbrev is_newline : ℕ → Bool
+abbrev pub is_newline : ℕ → Bool
 is_newline b = b == 10
 
 -- bytes without a newline are one part
-record IsWhole (bytes : List ℕ) : Type 0 where
-  len : line_len bytes ≡ length bytes
-  part : slice_split is_newline bytes ≡ bytes ∷ []
-  free : (k : ℕ) → (get_or bytes k 0 == 10) ≡ false
+pub record IsWhole (bytes : List ℕ) : Type 0 where
+  pub len : line_len bytes ≡ length bytes
+  pub part : slice_split is_newline bytes ≡ bytes ∷ []
+  pub free : (k : ℕ) → (get_or bytes k 0 == 10) ≡ false
 
--- the first newline cuts bytes in two
-record IsCut (bytes : List ℕ) : Type 0 where
-  front : List ℕ
-  rest : List ℕ
-  whole : bytes ≡ front ++ 10 ∷ rest
-  len : line_len bytes ≡ length front + 1
-  parts : slice_split is_newline bytes ≡ front ∷ slice_split is_newline rest
+-- the first newline cuts bytes in two, whatever stands behind it
+pub record IsCut (bytes : List ℕ) : Type 0 where
+  pub front : List ℕ
+  pub rest : List ℕ
+  pub whole : bytes ≡ front ++ 10 ∷ rest
+  pub len : line_len bytes ≡ length front + 1
+  pub parts : (after : List ℕ) → slice_split is_newline (front ++ 10 ∷ after) ≡ front ∷ slice_split is_newline after
 
 longer : (n : ℕ) → suc (n + 1) ≡ suc n + 1
 longer n = omega arith
 
-cut : (bytes : List ℕ) → IsWhole bytes ⊎ IsCut bytes
+pub cut : (bytes : List ℕ) → IsWhole bytes ⊎ IsCut bytes
 unfolding line_len
 cut [] = inl (record { len = refl; part = refl; free = λ k. refl })
 cut (b ∷ bytes) = elim (cases_Bool (is_newline b)) [ inl is ↦ inr (here is) | inr isnt ↦ elim (cut bytes) [ inl more ↦ inl (on isnt more) | inr more ↦ inr (behind isnt more) ] ]
@@ -42,7 +42,7 @@ cut (b ∷ bytes) = elim (cases_Bool (is_newline b)) [ inl is ↦ inr (here is) 
       rest = bytes;
       whole = ap (λ (x : ℕ). x ∷ bytes) (eqb-true b 10 is);
       len = ap (λ (v : Bool). cond v 1 (suc (line_len bytes))) is;
-      parts = ap (λ (v : Bool). cond v ([] ∷ slice_split is_newline bytes) (onto_first b (slice_split is_newline bytes))) is;
+      parts = λ after. refl;
     }
 
     none : is_newline b ≡ false → ((k : ℕ) → (get_or bytes k 0 == 10) ≡ false) → (k : ℕ) → (get_or (b ∷ bytes) k 0 == 10) ≡ false
@@ -62,7 +62,8 @@ cut (b ∷ bytes) = elim (cases_Bool (is_newline b)) [ inl is ↦ inr (here is) 
       rest = more.rest;
       whole = ap (λ (bs : List ℕ). b ∷ bs) more.whole;
       len = ap (λ (v : Bool). cond v 1 (suc (line_len bytes))) isnt ∙ ap suc more.len ∙ longer (length more.front);
-      parts = ap (λ (v : Bool). cond v ([] ∷ slice_split is_newline bytes) (onto_first b (slice_split is_newline bytes))) isnt ∙ ap (onto_first b) more.parts;
+      parts = λ after. let behind = more.front ++ 10 ∷ after in
+          ap (λ (v : Bool). cond v ([] ∷ slice_split is_newline behind) (onto_first b (slice_split is_newline behind))) isnt ∙ ap (onto_first b) (more.parts after);
     }
 
 -- one carriage return at the end is lost, of no bytes none
@@ -99,10 +100,10 @@ unended (b ∷ bytes) whole =
 
 -- there is always a part
 some_part : (bytes : List ℕ) → (part : List ℕ) × (parts : List (List ℕ)) × (slice_split is_newline bytes ≡ part ∷ parts)
-some_part bytes = elim (cut bytes) [ inl whole ↦ (bytes, [], whole.part) | inr two ↦ (two.front, slice_split is_newline two.rest, two.parts) ]
+some_part bytes = elim (cut bytes) [ inl whole ↦ (bytes, [], whole.part) | inr two ↦ (two.front, slice_split is_newline two.rest, ap (slice_split is_newline) two.whole ∙ two.parts two.rest) ]
 
 -- a part behind which there are others is a line of its own
-parts_step : (front rest : List ℕ) → lines_of_parts (front ∷ slice_split is_newline rest) ≡ strip_carriage_return front ∷ lines rest
+pub parts_step : (front rest : List ℕ) → lines_of_parts (front ∷ slice_split is_newline rest) ≡ strip_carriage_return front ∷ lines rest
 parts_step front rest =
     let some = some_part rest in
     ap (λ (ps : List (List ℕ)). lines_of_parts (front ∷ ps)) some.2 ∙ ap (λ (ps : List (List ℕ)). strip_carriage_return front ∷ lines_of_parts ps) (sym some.2)
@@ -129,7 +130,7 @@ same (suc fuel) bytes within =
           ap (map without_terminator) (first_line bytes two)
           ∙ ap (λ (l : List ℕ). l ∷ map without_terminator (lines_of two.rest)) (ended two.front)
           ∙ ap (λ (ls : List (List ℕ)). strip_carriage_return two.front ∷ ls) (same fuel two.rest (omega arith))
-          ∙ sym (parts_step two.front two.rest) ∙ ap lines_of_parts (sym two.parts)
+          ∙ sym (parts_step two.front two.rest) ∙ ap lines_of_parts (sym (ap (slice_split is_newline) two.whole ∙ two.parts two.rest))
     ]
 
 -- the lines that bstr gives are those of the definition

@@ -18,7 +18,7 @@ use Rattle.lab_script.specs.declared.script.Script.{Script}
 use Rattle.lab_script.specs.declared.token.Token.{Token}
 use Rattle.lab_script.specs.Token.{tokens}
 use Rattle.lab_script.specs.Grammar.{IsCommands, IsSetup}
-use Rattle.lab_script.specs.Script.{code_of, remark_of, session_of, is_code_byte, is_ascii_code, is_passed, IsFit, BeginsSetup, SpellsStatement, IsFirstFault, LineSpells, LinesSpell}
+use Rattle.lab_script.specs.Script.{code_of, remark_of, session_of, is_code_byte, is_ascii_code, is_passed, IsFit, BeginsSetup, SpellsStatement, LineSpells, LinesSpell}
 use Rattle.lab_script.specs.Printed.{newline}
 
 -- a line that is longer than a line may be, or comes after the last that a text may have
@@ -59,7 +59,7 @@ pub data IsWrong (number : ℕ) (line : List ℕ) (before : Option Script) : Scr
   not_ascii : number ≤ 2000 → length line ≤ 4000 → is_ascii_code line ≡ false → IsWrong number line before kinds.NotAscii
   of_tokens : {kind : ScriptFaultKind} → IsKept number line → SaysOfTokens kind (tokens (code_of line)) (remark_of line) before → IsWrong number line before kind
 
--- the line behind some lines that aren't faulty is faulty, and what the kind says holds of it
+-- the lines before this one spell something, and with it they spell nothing: it is the first faulty one, and what the kind says holds of it
 pub record IsFaultyLine (text : List ℕ) (number : ℕ) (kind : ScriptFaultKind) : Type 0 where
   pub index : ℕ
   pub counted : number ≡ index + 1
@@ -76,10 +76,10 @@ pub record IsWithoutSetup (text : List ℕ) (number : ℕ) (kind : ScriptFaultKi
   pub spelled : LinesSpell 1 None (lines text) None
   pub missing : kind ≡ kinds.NoSetup
 
--- the fault is true of the text
+-- the fault is true of the text: its line is the first faulty one, or no line is faulty and there is no setup
 abbrev pub IsFaultOf : List ℕ → ScriptFault → Type 0
 IsFaultOf text fault.NoMemory = Unit {0}
-IsFaultOf text (fault.At line kind) = IsFirstFault text line × (IsFaultyLine text line kind ⊎ IsWithoutSetup text line kind)
+IsFaultOf text (fault.At line kind) = IsFaultyLine text line kind ⊎ IsWithoutSetup text line kind
 
 -- the fault is true of a line with this number
 abbrev pub IsLineFault : ℕ → List ℕ → Option Script → ScriptFault → Type 0

@@ -4,6 +4,7 @@ use Rattle.lab_script.specs.declared.token.Word.{Word}
 use Rattle.lab_script.specs.declared.token.Word.TheVariants as word
 use Rattle.lab_script.specs.declared.token.Token.{Token}
 use Rattle.lab_script.specs.declared.token.Token.TheVariants as token
+use Rattle.lab_script.specs.declared.stop.GrammarFault.TheVariants as grammar
 use Rattle.lab_script.specs.declared.stop.Stop.{Stop}
 use Rattle.lab_script.specs.declared.stop.Stop.TheVariants as stop
 
@@ -74,6 +75,12 @@ None >>= f = None
 abbrev pub Fails : {Y : Type 0} → Stop → Option Y → Type 0
 Fails stop.NoMemory read = Unit {0}
 Fails (stop.Fault kind) read = read ≡ None
+
+-- reading stopped because something is too long, or memory ran out
+abbrev pub StopsTooLong : {X : Type 0} → Result X Stop → Type 0
+StopsTooLong (Ok x) = ⊥
+StopsTooLong (Err stop.NoMemory) = Unit {0}
+StopsTooLong (Err (stop.Fault kind)) = kind ≡ grammar.TooLong
 
 -- what follows a token that was found, or else what comes in its place
 abbrev pub when : {X : Type 0} → Option (List Token) → (List Token → Option X) → Option X → Option X

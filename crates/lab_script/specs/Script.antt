@@ -1,5 +1,5 @@
--- Which text spells which script, and where a text has its first fault.
-use Rattle.std.specs.Prelude.{◌≡◌, ℕ, ◌+◌, ◌-◌, ◌≤◌, ◌⊎◌, Bool, true, false, not, ◌&&◌, ◌||◌, ◌==◌, nat_le, if◌then◌else◌, List, [], ◌∷◌, ◌++◌, length, take, drop, map, Option, Some, None}
+-- Which text spells which script, and which one spells a statement.
+use Rattle.std.specs.Prelude.{◌≡◌, ℕ, ◌+◌, ◌-◌, ◌≤◌, Bool, true, false, not, ◌&&◌, ◌||◌, ◌==◌, nat_le, if◌then◌else◌, List, [], ◌∷◌, ◌++◌, length, drop, map, Option, Some, None}
 use Rattle.std.specs.Char.{to_ascii_lowercase, is_ascii_alphanumeric}
 use Rattle.std.specs.List.{list_all}
 use Rattle.std.specs.Str.Lines.{lines}
@@ -98,16 +98,6 @@ LinesSpell number before (line ∷ ls) after = (mid : Option Script) × LineSpel
 -- the text spells the script
 abbrev pub Spells : List ℕ → Script → Type 0
 Spells text script = LinesSpell 1 None (lines text) (Some script)
-
--- none of the first n lines is faulty
-abbrev pub IsFaultless : List (List ℕ) → ℕ → Type 0
-IsFaultless ls n = (script : Option Script) × LinesSpell 1 None (take n ls) script
-
--- the first faulty line has this number; where no line is faulty and there is no setup, that is one more than the number of lines
-abbrev pub IsFirstFault : List ℕ → ℕ → Type 0
-IsFirstFault text n =
-    ((before : ℕ) × (n ≡ before + 1) × (n ≤ length (lines text)) × IsFaultless (lines text) before × (IsFaultless (lines text) n → ⊥))
-    ⊎ (LinesSpell 1 None (lines text) None × (n ≡ length (lines text) + 1))
 
 -- the text spells the statement: all of it is code
 pub record SpellsStatement (text : List ℕ) (s : Statement) : Type 0 where

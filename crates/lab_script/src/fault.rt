@@ -105,6 +105,3 @@ pub fn print_script_fault(alloc: Global, fault: &ScriptFault) -> Result<Vec<u8>,
     }
     Ok(text)
 }
-
-#[cfg(test)]
-mod tests;

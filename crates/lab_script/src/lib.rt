@@ -26,7 +26,7 @@ mod token;
 mod transcript;
 
 pub use fault::{ScriptFault, ScriptFaultKind, print_script_fault};
-pub use laws::statement_is_read_from_its_text;
+pub use laws::{first_bytes_tell_a_script, statement_is_read_from_its_text};
 pub use parse::parse_script;
 pub use print::{PrintFault, check_statement, print_script, print_statement, put_printable};
 pub use script::{Line, Lines, Script};

@@ -83,6 +83,3 @@ pub fn session_of(remark: &[u8]) -> Option<Session>
         }
     }
 }
-
-#[cfg(test)]
-mod tests;

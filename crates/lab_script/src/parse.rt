@@ -142,6 +142,3 @@ fn add_commands(
     script.add(session, number, commands)?;
     Ok(())
 }
-
-#[cfg(test)]
-mod tests;

@@ -69,6 +69,3 @@ fn ends_in_predicate(tokens: &[Token]) -> bool {
         .take_while(|token| **token != Token::Semicolon)
         .any(|token| *token == Token::Word(Word::Where))
 }
-
-#[cfg(test)]
-mod tests;

@@ -130,6 +130,3 @@ fn check_command(command: &Command) -> Result<(), PrintFault>
         Command::Run(statement) => check_statement(statement),
     }
 }
-
-#[cfg(test)]
-mod tests;

@@ -163,6 +163,3 @@ fn run_body(
     put_end(told, commits)?;
     Ok(commits)
 }
-
-#[cfg(test)]
-mod tests;

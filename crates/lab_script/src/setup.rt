@@ -109,6 +109,3 @@ pub fn read_setup(alloc: Global, tokens: &[Token]) -> Result<Table, Stop>
     let mut parser = Parser { rest: tokens };
     parser.setup(alloc)
 }
-
-#[cfg(test)]
-mod tests;

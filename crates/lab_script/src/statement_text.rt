@@ -57,6 +57,3 @@ fn statement_tokens(alloc: Global, text: &[u8]) -> Result<Vec<Token>, NoMemory>
     }
     Ok(tokens)
 }
-
-#[cfg(test)]
-mod tests;

@@ -1,14 +1,14 @@
 //! Why a run isn't closed, and why a play has no recording.
 
-ghost use Rattle.std.specs.Prelude.{◌≡◌};
+ghost use Rattle.std.specs.Prelude.{◌≡◌, ◌≢◌};
 ghost use Rattle.lab_session.specs.Closing.{close_fault_of};
-ghost use Rattle.lab_session.specs.Play.{unclosed_fault, stopped_fault};
+ghost use Rattle.lab_session.specs.Play.{unclosed_fault, stopped_fault, refused_fault};
 
 use crate::bench::BenchFault;
 use lab_engine::RecordFault;
 use lab_history::Limit;
 use lab_table::Session;
-use std::alloc::AllocError;
+use std::alloc::{AllocError, AllocFailed};
 
 /// Why a run wasn't closed. Nothing has changed then.
 #[derive(Clone, Copy, Debug, PartialEq, Eq)]
@@ -63,6 +63,17 @@ impl From<AllocError> for PlayFault {
     }
 }
 
+impl<T: Drop> From<AllocFailed<T>> for PlayFault {
+    ghost use Rattle.std.specs.Prelude.{◌≡◌};
+    ghost use Rattle.lab_session.specs.declared.fault.PlayFault.TheVariants.{NoMemory};
+
+    ghost from_gives = { λ _ fault. fault ≡ NoMemory };
+
+    fn from(_: AllocFailed<T>) -> PlayFault {
+        PlayFault::NoMemory
+    }
+}
+
 /// Why a run isn't closed, where the log has no recording.
 pub(crate) fn unrecorded(fault: RecordFault) -> CloseFault
     ensures { result ≡ close_fault_of fault }
@@ -93,5 +104,17 @@ pub(crate) fn stopped(fault: BenchFault) -> PlayFault
     match fault {
         BenchFault::NoMemory => PlayFault::NoMemory,
         BenchFault::Full => PlayFault::Full,
+    }
+}
+
+/// Why a free play has no recording, where a call of a thread was refused.
+pub(crate) fn refused_play(fault: LabFault) -> PlayFault
+    requires { fault ≢ LabFault.NothingWaiting }
+    ensures { result ≡ refused_fault fault }
+{
+    match fault {
+        LabFault::NoMemory { .. } => PlayFault::NoMemory,
+        LabFault::Full { .. } => PlayFault::Full,
+        LabFault::NothingWaiting => unreachable!(),
     }
 }

@@ -4,10 +4,10 @@ use Rattle.lab_script.proofs.ReadStatements.{whole_takes, whole_again}
 use Rattle.lab_script.proofs.parser.read_statement.Goals as goal
 
 pub returns-in-Ok-clause-found : goal.returns-in-Ok-clause-found
-returns-in-Ok-clause-found c = whole_takes c.args.tokens.now _ c.in-Ok.ensures
+returns-in-Ok-clause-found c = whole_takes c.args.tokens.now _ c.in-Ok.ensures.gives
 
 pub returns-in-Ok-clause-only : goal.returns-in-Ok-clause-only
-returns-in-Ok-clause-only c = λ statement h. sym (whole_again h) ∙ c.in-Ok.ensures
+returns-in-Ok-clause-only c = λ statement h. sym (whole_again h) ∙ c.in-Ok.ensures.gives
 
 pub returns-in-Err-clause-only : goal.returns-in-Err-clause-only
-returns-in-Err-clause-only c = λ statement h. subst (Fails c.placed.result) (whole_again h) (c.placed.ensures.stops_statement _ c.in-Err.ensures)
+returns-in-Err-clause-only c = λ statement h. subst (Fails c.placed.result) (whole_again h) (c.placed.ensures.stops_statement _ c.in-Err.ensures.gives)

@@ -1,0 +1,106 @@
+-- Walks along edges: joined, cut, begun elsewhere, and counted by kind.
+use Rattle.std.proofs.Common.{◌≡◌, ℕ, ◌+◌, ◌≤◌, Bool, true, false, cond, List, [], ◌∷◌, ◌++◌, take, drop, refl, sym, ap, ◌∙◌, subst, arith}
+use Rattle.std.specs.Prelude.{⊤}
+use Rattle.std.proofs.lemmas.List.{append-nil, take-append-drop}
+use Rattle.std.proofs.lemmas.List.Recursion.{is_count_by}
+use Rattle.lab_history.specs.History.{History}
+use Rattle.lab_deps.specs.Edges.{IsEdge}
+use Rattle.lab_deps.specs.declared.edge.Edge.{Edge}
+use Rattle.lab_deps.specs.declared.edge.Kind.{Kind}
+use Rattle.lab_judge.specs.Phenomena.{IsWalk, IsClosedWalk, count_kind}
+
+-- how many edges have a kind that passes the test, by recursion
+abbrev pub times : (Kind → Bool) → List Edge → ℕ
+times test [] = 0
+times test (e ∷ es) = cond (test e.kind) (1 + times test es) (times test es)
+
+pub times_are : (test : Kind → Bool) (es : List Edge) → times test es ≡ count_kind test es
+times_are test es = is_count_by (times test) (λ e. test e.kind) refl (λ _ _. refl) es
+
+pub times_append : (test : Kind → Bool) (xs ys : List Edge) → times test (xs ++ ys) ≡ times test xs + times test ys
+times_append test [] ys = omega arith
+times_append test (e ∷ xs) ys =
+    elim (test e.kind) as (λ b. cond b (1 + times test (xs ++ ys)) (times test (xs ++ ys)) ≡ cond b (1 + times test xs) (times test xs) + times test ys) [
+      | true ↦ omega (arith, times_append test xs ys)
+      | false ↦ times_append test xs ys
+    ]
+
+times_turned : (test : Kind → Bool) (xs ys : List Edge) → times test (xs ++ ys) ≡ times test (ys ++ xs)
+times_turned test xs ys = omega (arith, times_append test xs ys, times_append test ys xs)
+
+-- every edge has an allowed kind
+abbrev pub Through : (Kind → Bool) → List Edge → Type 0
+Through allows [] = ⊤
+Through allows (e ∷ es) = (allows e.kind ≡ true) × Through allows es
+
+-- where no edge has a forbidden kind, every edge has an allowed one
+pub none_forbidden : (forbids allows : Kind → Bool) → ((k : Kind) → forbids k ≡ false → allows k ≡ true) → (es : List Edge) → times forbids es ≡ 0 → Through allows es
+none_forbidden forbids allows other [] none = tt
+none_forbidden forbids allows other (e ∷ es) none = at (none_forbidden forbids allows other es) (forbids e.kind) refl none
+  where
+    at : (times forbids es ≡ 0 → Through allows es) → (b : Bool) → forbids e.kind ≡ b → cond b (1 + times forbids es) (times forbids es) ≡ 0 → Through allows (e ∷ es)
+    at rest true is n = absurd (omega arith)
+    at rest false is n = (other e.kind is, rest n)
+
+-- and the other way round
+pub all_allowed : (forbids allows : Kind → Bool) → ((k : Kind) → allows k ≡ true → forbids k ≡ false) → (es : List Edge) → Through allows es → times forbids es ≡ 0
+all_allowed forbids allows other [] all = refl
+all_allowed forbids allows other (e ∷ es) all = ap (λ b. cond b (1 + times forbids es) (times forbids es)) (other e.kind all.0) ∙ all_allowed forbids allows other es all.1
+
+-- edges around one that passes the test
+pub record HasSuch (test : Kind → Bool) (es : List Edge) : Type 0 where
+  pub front : List Edge
+  pub edge : Edge
+  pub rest : List Edge
+  pub parts : es ≡ front ++ edge ∷ rest
+  pub passes : test edge.kind ≡ true
+
+pub such : (test : Kind → Bool) (es : List Edge) → 1 ≤ times test es → HasSuch test es
+such test [] some = absurd (omega arith)
+such test (e ∷ es) some = at (such test es) (test e.kind) refl some
+  where
+    at : (1 ≤ times test es → HasSuch test es) → (b : Bool) → test e.kind ≡ b → 1 ≤ cond b (1 + times test es) (times test es) → HasSuch test (e ∷ es)
+    at later true is s = record { front = []; edge = e; rest = es; parts = refl; passes = is }
+    at later false is s =
+        let more : HasSuch test es = later s in
+        record { front = e ∷ more.front; edge = more.edge; rest = more.rest; parts = ap (λ l. e ∷ l) more.parts; passes = more.passes }
+
+module _ (h : History) where
+  -- two walks, one behind the other, are a walk
+  pub joined : (a : ℕ) (xs : List Edge) (b : ℕ) (ys : List Edge) (c : ℕ) → IsWalk h a xs b → IsWalk h b ys c → IsWalk h a (xs ++ ys) c
+  joined a [] b ys c v w = subst (λ n. IsWalk h n ys c) (sym v) w
+  joined a (e ∷ xs) b ys c v w = (v.0, v.1, joined e.to xs b ys c v.2 w)
+
+  -- a walk is cut at one of its edges
+  pub cut : (a : ℕ) (xs : List Edge) (e : Edge) (ys : List Edge) (c : ℕ) → IsWalk h a (xs ++ e ∷ ys) c → IsWalk h a xs e.from × IsEdge h e × IsWalk h e.to ys c
+  cut a [] e ys c w = (sym w.1, w.0, w.2)
+  cut a (x ∷ xs) e ys c w =
+      let rest : IsWalk h x.to xs e.from × IsEdge h e × IsWalk h e.to ys c = cut x.to xs e ys c w.2 in
+      ((w.0, w.1, rest.0), rest.1, rest.2)
+
+  -- a closed walk goes from each of its edges back to where that begins
+  pub goes_back : (xs : List Edge) (e : Edge) (ys : List Edge) → IsClosedWalk h (xs ++ e ∷ ys) → IsEdge h e × IsWalk h e.to (ys ++ xs) e.from
+  goes_back [] e ys w = (w.0, subst (λ l. IsWalk h e.to l e.from) (sym (append-nil ys)) w.2)
+  goes_back (x ∷ xs) e ys w =
+      let parts : IsWalk h x.from (x ∷ xs) e.from × IsEdge h e × IsWalk h e.to ys x.from = cut x.from (x ∷ xs) e ys x.from w in
+      (parts.1, joined e.to ys x.from (x ∷ xs) e.from parts.2 parts.0)
+
+  -- an edge and a walk back are a closed walk
+  pub closed : (e : Edge) (back : List Edge) → IsEdge h e → IsWalk h e.to back e.from → IsClosedWalk h (e ∷ back)
+  closed e back edge w = (edge, refl, w)
+
+  -- a walk that is not empty and ends where it begins is closed
+  pub closed_there : (n : ℕ) (e : Edge) (es : List Edge) → IsWalk h n (e ∷ es) n → IsClosedWalk h (e ∷ es)
+  closed_there n e es w = subst (λ k. IsWalk h k (e ∷ es) k) (sym w.1) w
+
+  -- a closed walk may begin at any of its edges
+  turned : (xs ys : List Edge) → IsClosedWalk h (xs ++ ys) → IsClosedWalk h (ys ++ xs)
+  turned xs [] w = subst (IsClosedWalk h) (append-nil xs) w
+  turned xs (e ∷ ys) w = let back : IsEdge h e × IsWalk h e.to (ys ++ xs) e.from = goes_back xs e ys w in closed e (ys ++ xs) back.0 back.1
+
+  pub turned_at : (n : ℕ) (es : List Edge) → IsClosedWalk h es → IsClosedWalk h (drop n es ++ take n es)
+  turned_at n es w = turned (take n es) (drop n es) (subst (IsClosedWalk h) (sym (take-append-drop n es)) w)
+
+-- and has as many edges of each kind
+pub counts_at : (test : Kind → Bool) (n : ℕ) (es : List Edge) → count_kind test (drop n es ++ take n es) ≡ count_kind test es
+counts_at test n es = sym (times_are test (drop n es ++ take n es)) ∙ times_turned test (drop n es) (take n es) ∙ ap (times test) (take-append-drop n es) ∙ times_are test es

@@ -1,0 +1,90 @@
+-- Which closed walks are which phenomenon.
+use Rattle.std.proofs.Common.{◌≡◌, ℕ, ◌+◌, ◌≤◌, Bool, true, false, cond, List, [], ◌∷◌, refl, sym, ap, ◌∙◌, subst, arith}
+use Rattle.std.specs.Prelude.{Contains, ◌↔◌, not}
+use Rattle.std.specs.List.{All}
+use Rattle.std.proofs.lemmas.List.Elements.{All-weaker, All-contains_itself}
+use Rattle.lab_history.specs.History.{History}
+use Rattle.lab_history.specs.Version.{IsCommitted}
+use Rattle.lab_deps.specs.Edges.{IsEdge}
+use Rattle.lab_deps.specs.declared.edge.Edge.{Edge}
+use Rattle.lab_judge.specs.Allowed.{allows}
+use Rattle.lab_judge.specs.Graphs.{HasEnds, count_others}
+use Rattle.lab_judge.specs.Judgement.{FindsWalk}
+use Rattle.lab_judge.specs.Openings.{HasEdgesOf, IsClosedOf, IsOpenedWalk}
+use Rattle.lab_judge.specs.Phenomena.{count_kind, IsG0, IsG1c, IsGSingle, IsG2Item, IsG2}
+use Rattle.lab_judge.specs.Places.{is_anti}
+use Rattle.lab_judge.specs.Runs.{HoldsEachOnce}
+use Rattle.lab_judge.specs.declared.allowed.Allowed.{Allowed}
+use Rattle.lab_judge.specs.declared.allowed.Allowed.TheVariants as allowed
+use Rattle.lab_judge.specs.declared.findings.opening.Opening.TheVariants as opening
+use Rattle.lab_judge.specs.declared.report.Finding.{Finding}
+use Rattle.lab_judge.specs.declared.report.Finding.TheVariants.{Absent, Walk, At, NotJudged}
+use Rattle.lab_judge.proofs.ClosedWalks.{times, times_are}
+use Rattle.lab_judge.proofs.Numbers.{contains_it}
+use Rattle.lab_judge.proofs.OpenedWalks.{none_other}
+use Rattle.lab_judge.proofs.Orders.{committed_once}
+
+-- what is found of one kind of walk is found of another, where they are the same walks
+finds_same : (P Q : List Edge → Type 0) → ((es : List Edge) → P es → Q es) → ((es : List Edge) → Q es → P es) → (finding : Finding) → FindsWalk P finding → FindsWalk Q finding
+finds_same P Q there back Absent none = λ es q. none es (back es q)
+finds_same P Q there back (Walk walk) found = there walk found
+finds_same P Q there back (At n k row) found = found
+finds_same P Q there back NotJudged found = found
+
+-- what is twice denied
+twice : (b : Bool) → not (not b) ≡ b
+twice true = refl
+twice false = refl
+
+-- edges that aren't flow are anti-dependencies
+others_are_anti : (es : List Edge) → times (λ k. not (allows allowed.Flow k)) es ≡ times is_anti es
+others_are_anti [] = refl
+others_are_anti (e ∷ es) =
+    ap (λ b. cond b (1 + times (λ k. not (allows allowed.Flow k)) es) (times (λ k. not (allows allowed.Flow k)) es)) (twice (is_anti e.kind))
+    ∙ ap (λ n. cond (is_anti e.kind) (1 + n) n) (others_are_anti es)
+
+count_anti : (es : List Edge) → count_others allowed.Flow es ≡ count_kind is_anti es
+count_anti es = sym (times_are (λ k. not (allows allowed.Flow k)) es) ∙ others_are_anti es ∙ times_are is_anti es
+
+count_none : (es : List Edge) → count_others allowed.All es ≡ 0
+count_none es = sym (times_are (λ k. not (allows allowed.All k)) es) ∙ none_other es
+
+module _ (h : History) where
+  pub finds_g0 : (finding : Finding) → FindsWalk (IsClosedOf h allowed.Writes) finding → FindsWalk (IsG0 h) finding
+  finds_g0 = finds_same (IsClosedOf h allowed.Writes) (IsG0 h) (λ es w. w) (λ es w. w)
+
+  pub finds_g1c : (finding : Finding) → FindsWalk (IsClosedOf h allowed.Flow) finding → FindsWalk (IsG1c h) finding
+  finds_g1c = finds_same (IsClosedOf h allowed.Flow) (IsG1c h) (λ es w. (w.0, sym (count_anti es) ∙ w.1)) (λ es w. (w.0, count_anti es ∙ w.1))
+
+  pub finds_g_single : (finding : Finding) → FindsWalk (IsOpenedWalk h opening.Anti allowed.Flow) finding → FindsWalk (IsGSingle h) finding
+  finds_g_single =
+      finds_same (IsOpenedWalk h opening.Anti allowed.Flow) (IsGSingle h)
+      (λ es w. (w.0, one (count_kind is_anti es) w.1 (subst (λ n. n ≤ 1) (count_anti es) w.2)))
+      (λ es w. (w.0, subst (λ n. 1 ≤ n) (sym w.1) (at_least 1), subst (λ n. n ≤ 1) (sym (count_anti es ∙ w.1)) (at_least 1)))
+    where
+      at_least : (n : ℕ) → n ≤ n
+      at_least n = omega arith
+
+      one : (n : ℕ) → 1 ≤ n → n ≤ 1 → n ≡ 1
+      one n a b = omega arith
+
+  few : (es : List Edge) → count_others allowed.All es ≤ 1
+  few es = omega (arith, count_none es)
+
+  pub finds_g2_item : (finding : Finding) → FindsWalk (IsOpenedWalk h opening.ItemAnti allowed.All) finding → FindsWalk (IsG2Item h) finding
+  finds_g2_item = finds_same (IsOpenedWalk h opening.ItemAnti allowed.All) (IsG2Item h) (λ es w. (w.0, w.1)) (λ es w. (w.0, w.1, few es))
+
+  pub finds_g2 : (finding : Finding) → FindsWalk (IsOpenedWalk h opening.Anti allowed.All) finding → FindsWalk (IsG2 h) finding
+  finds_g2 = finds_same (IsOpenedWalk h opening.Anti allowed.All) (IsG2 h) (λ es w. (w.0, w.1)) (λ es w. (w.0, w.1, few es))
+
+  -- all edges of a history hold those of each kind
+  pub has_all : (es : List Edge) → ((e : Edge) → Contains es e ↔ IsEdge h e) → (a : Allowed) → HasEdgesOf h a es
+  has_all es exact a = record { edges = λ e. (exact e).0; all = λ e edge kind. (exact e).1 edge }
+
+  -- the ends of edges are committed transactions
+  pub ends_there : (nodes : List ℕ) → HoldsEachOnce h nodes → (es : List Edge) → ((e : Edge) → Contains es e → IsEdge h e) → All (HasEnds nodes) es
+  ends_there nodes once es real =
+      All-weaker (Contains es) (HasEnds nodes) (λ e there. (committed_there e.from (real e there).0, committed_there e.to (real e there).1)) es (All-contains_itself es)
+    where
+      committed_there : (n : ℕ) → IsCommitted h n → Contains nodes n
+      committed_there n c = contains_it nodes n (omega (arith, committed_once h nodes once n c))

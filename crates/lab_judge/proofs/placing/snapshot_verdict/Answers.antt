@@ -1,0 +1,62 @@
+use Rattle.std.proofs.Common.{◌≡◌, ◌∙◌, ◌<◌, ◌≤◌, ◌*◌, sym, ap, map, subst, length, arith}
+use Rattle.std.specs.List.{All, count_by}
+use Rattle.std.specs.Prelude.{◌==◌, ℕ, Contains, slice_index}
+use Rattle.lab_judge.specs.PlaceGraphs.{point_at, span_in}
+use Rattle.lab_judge.specs.Places.{IsCircle}
+use Rattle.lab_order.specs.Order.{IsOrdered, position}
+use Rattle.lab_judge.proofs.Lists.{times-count}
+use Rattle.lab_judge.proofs.NodeOrders.{within}
+use Rattle.lab_judge.proofs.NodePlaces.{once_in, no_more}
+use Rattle.lab_judge.proofs.PlaceNodes.{circle_is, circle_within}
+use Rattle.lab_judge.proofs.SerialVerdicts.{all_have_ends}
+use Rattle.lab_judge.proofs.SnapshotVerdicts.{rests, runs}
+use Rattle.lab_judge.proofs.placing.snapshot_verdict.Goals as goal
+
+pub place_graph-requires : goal.place_graph-requires
+place_graph-requires c = all_have_ends c.args._history.now c.args.nodes.now c.requires.nodes c.args.edges.now (λ e there. (c.requires.exact e).0 there)
+
+pub places_in-requires-clause-within : goal.places_in-requires-clause-within
+places_in-requires-clause-within c =
+    let ordered = subst (IsOrdered c.in_ok-graph.graph) c.in-Order.is c.in_ok-order.ensures.ordered in
+    subst (All (λ n. n < 2 * c.len.result)) (sym c.deref.ensures.value)
+    (subst (λ k. All (λ n. n < k) c.in-Order.order.items) (c.in_ok-graph.ensures.size ∙ ap (λ k. 2 * k) (sym c.len.ensures.count)) (within c.in_ok-graph.graph c.in-Order.order.items ordered.each_once))
+
+pub places_in-requires-clause-once : goal.places_in-requires-clause-once
+places_in-requires-clause-once c = λ node.
+    let ordered = subst (IsOrdered c.in_ok-graph.graph) c.in-Order.is c.in_ok-order.ensures.ordered in
+    subst (λ l. count_by (λ n. n == node) l ≤ 1) (sym c.deref.ensures.value) (subst (λ k. k ≤ 1) (times-count node c.in-Order.order.items) (once_in c.in_ok-graph.graph c.in-Order.order.items ordered.each_once node))
+
+pub places_in-requires-clause-few : goal.places_in-requires-clause-few
+places_in-requires-clause-few c =
+    let ordered = subst (IsOrdered c.in_ok-graph.graph) c.in-Order.is c.in_ok-order.ensures.ordered in
+    let most = no_more _ c.in-Order.order.items (within c.in_ok-graph.graph c.in-Order.order.items ordered.each_once) (once_in c.in_ok-graph.graph c.in-Order.order.items ordered.each_once) in
+    let size = ap length c.deref.ensures.value in
+    omega (arith, most, size, c.in_ok-graph.ensures.size, c.len.ensures.count, c.len.ensures.few)
+
+pub returns-in-Order-clause-verdict : goal.returns-in-Order-clause-verdict
+returns-in-Order-clause-verdict c =
+    let ordered = subst (IsOrdered c.in_ok-graph.graph) c.in-Order.is c.in_ok-order.ensures.ordered in
+    let are = subst (λ l. (node : ℕ) → Contains l node → slice_index c.in_ok-places-in-Order.places.items node ≡ position l node) c.deref.ensures.value c.in_ok-places-in-Order.ensures.places in
+    runs c.args._history.now c.args.nodes.now c.requires.nodes c.args.edges.now c.requires.exact c.in_ok-graph.graph c.in_ok-graph.ensures c.in-Order.order.items ordered c.in_ok-places-in-Order.places.items are c.requires.sound c.new.result
+    (c.new.ensures ∙ c.in_ok-spans-in-Order.ensures ∙ ap (λ l. map (span_in c.args.nodes.now l) c.args.nodes.now) c.deref-in-Order.ensures.value)
+
+pub returns-in-Order-clause-rests : goal.returns-in-Order-clause-rests
+returns-in-Order-clause-rests c =
+    let ordered = subst (IsOrdered c.in_ok-graph.graph) c.in-Order.is c.in_ok-order.ensures.ordered in
+    let are = subst (λ l. (node : ℕ) → Contains l node → slice_index c.in_ok-places-in-Order.places.items node ≡ position l node) c.deref.ensures.value c.in_ok-places-in-Order.ensures.places in
+    rests c.args._history.now c.args.nodes.now c.requires.nodes c.args.edges.now c.requires.exact c.in_ok-graph.graph c.in_ok-graph.ensures c.in-Order.order.items ordered c.in_ok-places-in-Order.places.items are c.requires.sound c.new.result
+    (c.new.ensures ∙ c.in_ok-spans-in-Order.ensures ∙ ap (λ l. map (span_in c.args.nodes.now l) c.args.nodes.now) c.deref-in-Order.ensures.value)
+
+pub points_of-requires : goal.points_of-requires
+points_of-requires c =
+    let circle = subst (IsOrdered c.in_ok-graph.graph) c.in-Circle.is c.in_ok-order.ensures.ordered in
+    subst (All (λ n. n < 2 * length c.args.nodes.now)) (sym c.deref-in-Circle.ensures.value)
+    (subst (λ k. All (λ n. n < k) c.in-Circle.circle.items) c.in_ok-graph.ensures.size (circle_within c.in_ok-graph.graph c.in_ok-order.ensures.graph c.in-Circle.circle.items circle))
+
+pub returns-clause-verdict : goal.returns-clause-verdict
+returns-clause-verdict c =
+    let circle = subst (IsOrdered c.in_ok-graph.graph) c.in-Circle.is c.in_ok-order.ensures.ordered in
+    let made = c.new-in-Circle.ensures ∙ c.in_ok-points-in-Circle.ensures ∙ ap (map (point_at c.args.nodes.now)) c.deref-in-Circle.ensures.value in (
+      c.requires.sound,
+      subst (IsCircle c.args._history.now) (sym made) (circle_is c.args._history.now c.args.nodes.now c.requires.nodes c.args.edges.now c.requires.exact c.in_ok-graph.graph c.in_ok-graph.ensures c.in-Circle.circle.items circle),
+    )

@@ -1,0 +1,36 @@
+use Rattle.std.proofs.Common.{◌∙◌, ◌<◌, sym, ap, map, slice_index, subst, length}
+use Rattle.std.specs.List.{All}
+use Rattle.lab_order.specs.Order.{IsOrdered}
+use Rattle.lab_judge.proofs.NodeOrders.{within}
+use Rattle.lab_judge.proofs.SerialVerdicts.{all_have_ends, rests, runs}
+use Rattle.lab_judge.proofs.serializing.serial_verdict.Goals as goal
+
+pub graph_of-requires : goal.graph_of-requires
+graph_of-requires c = all_have_ends c.args._history.now c.args.nodes.now c.requires.nodes c.args.edges.now (λ e there. (c.requires.exact e).0 there)
+
+pub numbers_of-requires : goal.numbers_of-requires
+numbers_of-requires c =
+    let ordered = subst (IsOrdered c.in_ok-graph.graph) c.in-Order.is c.in_ok-order.ensures.ordered in
+    subst (All (λ n. n < length c.args.nodes.now)) (sym c.deref.ensures.value)
+    (subst (λ k. All (λ n. n < k) c.in-Order.order.items) c.in_ok-graph.ensures.size (within c.in_ok-graph.graph c.in-Order.order.items ordered.each_once))
+
+pub returns-in-Order-clause-verdict : goal.returns-in-Order-clause-verdict
+returns-in-Order-clause-verdict c =
+    let ordered = subst (IsOrdered c.in_ok-graph.graph) c.in-Order.is c.in_ok-order.ensures.ordered in
+    runs c.args._history.now c.args.nodes.now c.requires.nodes c.args.edges.now c.requires.exact c.in_ok-graph.graph c.in_ok-graph.ensures c.in-Order.order.items ordered c.requires.sound c.new.result
+    (c.new.ensures ∙ c.in_ok-numbers-in-Order.ensures ∙ ap (map (slice_index c.args.nodes.now)) c.deref.ensures.value)
+
+pub returns-in-Order-clause-rests : goal.returns-in-Order-clause-rests
+returns-in-Order-clause-rests c =
+    let ordered = subst (IsOrdered c.in_ok-graph.graph) c.in-Order.is c.in_ok-order.ensures.ordered in
+    rests c.args._history.now c.args.nodes.now c.requires.nodes c.args.edges.now c.requires.exact c.in_ok-graph.graph c.in_ok-graph.ensures c.in-Order.order.items ordered c.requires.sound c.new.result
+    (c.new.ensures ∙ c.in_ok-numbers-in-Order.ensures ∙ ap (map (slice_index c.args.nodes.now)) c.deref.ensures.value)
+
+pub walk_round-requires-clause-ends : goal.walk_round-requires-clause-ends
+walk_round-requires-clause-ends c = all_have_ends c.args._history.now c.args.nodes.now c.requires.nodes c.args.edges.now (λ e there. (c.requires.exact e).0 there)
+
+pub walk_round-requires-clause-circle : goal.walk_round-requires-clause-circle
+walk_round-requires-clause-circle c = (c.in_ok-graph.graph, c.in_ok-graph.ensures, subst (IsOrdered c.in_ok-graph.graph) c.in-Circle.is c.in_ok-order.ensures.ordered)
+
+pub returns-clause-verdict : goal.returns-clause-verdict
+returns-clause-verdict c = (c.requires.sound, c.in_ok-walk-in-Circle.ensures.closed c.args._history.now (λ e there. (c.requires.exact e).0 there))

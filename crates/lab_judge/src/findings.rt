@@ -1,0 +1,115 @@
+//! Which phenomena a history has, and the level that it meets.
+
+ghost use Rattle.std.specs.Prelude.{◌↔◌, Contains, IfOk};
+ghost use Rattle.std.specs.List.{All};
+ghost use Rattle.lab_history.specs.History.{History as Recorded};
+ghost use Rattle.lab_deps.specs.Soundness.{IsSound};
+ghost use Rattle.lab_deps.specs.Edges.{IsEdge};
+ghost use Rattle.lab_deps.specs.EdgeOrder.{IsInOrder};
+ghost use Rattle.lab_deps.specs.Refusal.{IsAnswer};
+ghost use Rattle.lab_deps.specs.declared.edge.Edge.{Edge as Spelled};
+ghost use Rattle.lab_judge.specs.Graphs.{HasEnds};
+ghost use Rattle.lab_judge.specs.Runs.{HoldsEachOnce};
+ghost use Rattle.lab_judge.specs.Phenomena.{NoWalk, IsClosedWalk};
+ghost use Rattle.lab_judge.specs.Judgement.{JudgesAll, JudgesAtFault};
+
+mod closed;
+mod grade;
+mod opening;
+
+use crate::allowed::Allowed;
+use crate::graphs::graph_of;
+use crate::nodes::Nodes;
+use crate::report::{Finding, Grade};
+use closed::{find_circle, find_opened};
+use grade::grade_of;
+use lab_deps::{Edge, LocalFault};
+use lab_history::History;
+use lab_order::NoMemory;
+use opening::Opening;
+use std::alloc::{AllocError, Global};
+
+/// What is found of a history: its phenomena, in the order G0, G1a, G1b, G1c, G-single, G2-item, G2, and its level.
+#[derive(Drop)]
+pub(crate) struct Findings {
+    pub(crate) phenomena: [Finding; 7],
+    pub(crate) level: Grade,
+}
+
+/// What is found in a sound history whose dependencies lead nowhere back: no phenomenon.
+pub(crate) fn find_none(_history: &History) -> Findings
+    requires sound { IsSound _history.now }
+    requires forward { NoWalk (IsClosedWalk _history.now) }
+    ensures { JudgesAll _history.now result.phenomena result.level }
+{
+    Findings {
+        phenomena: [
+            Finding::Absent,
+            Finding::Absent,
+            Finding::Absent,
+            Finding::Absent,
+            Finding::Absent,
+            Finding::Absent,
+            Finding::Absent,
+        ],
+        level: Grade::Pl3,
+    }
+}
+
+/// What is found in a sound history with these committed transactions and these dependencies. NoMemory where a growth
+/// was refused.
+pub(crate) fn find_in_sound(
+    alloc: Global,
+    _history: &History,
+    nodes: &Nodes,
+    edges: &[Edge],
+) -> Result<Findings, NoMemory>
+    requires sound { IsSound _history.now }
+    requires nodes { HoldsEachOnce _history.now nodes.now }
+    requires edges { (e : Spelled) → Contains edges.now e ↔ IsEdge _history.now e }
+    requires order { IsInOrder edges.now }
+    ensures { IfOk result (λ found. JudgesAll _history.now found.phenomena found.level) }
+{
+    find_walks(alloc, nodes, edges)
+}
+
+/// What is found in any sound history that has these dependencies. NoMemory where a growth was refused.
+fn find_walks(alloc: Global, nodes: &Nodes, edges: &[Edge]) -> Result<Findings, NoMemory>
+    requires ends { All (HasEnds nodes.now) edges.now }
+    requires order { IsInOrder edges.now }
+    ensures { IfOk result (λ found. (h : Recorded) → IsSound h → ((e : Spelled) → Contains edges.now e ↔ IsEdge h e) → JudgesAll h found.phenomena found.level) }
+{
+    let writes = graph_of(alloc, nodes, edges, Allowed::Writes)?;
+    let flow = graph_of(alloc, nodes, edges, Allowed::Flow)?;
+    let all = graph_of(alloc, nodes, edges, Allowed::All)?;
+    let g0 = find_circle(alloc, nodes, edges, Allowed::Writes, &writes)?;
+    let g1c = find_circle(alloc, nodes, edges, Allowed::Flow, &flow)?;
+    let g_single = find_opened(alloc, nodes, edges, Allowed::Flow, &flow, Opening::Anti)?;
+    let g2_item = find_opened(alloc, nodes, edges, Allowed::All, &all, Opening::ItemAnti)?;
+    let g2 = find_opened(alloc, nodes, edges, Allowed::All, &all, Opening::Anti)?;
+    let level = grade_of(&g0, &g1c, &g2_item, &g2);
+    Ok(Findings {
+        phenomena: [
+            g0,
+            Finding::Absent,
+            Finding::Absent,
+            g1c,
+            g_single,
+            g2_item,
+            g2,
+        ],
+        level,
+    })
+}
+
+/// What is found in a history that isn't sound, where this fault was answered. NoMemory where a growth was refused.
+pub(crate) fn find_at_fault(
+    _alloc: Global,
+    history: &History,
+    fault: LocalFault,
+) -> Result<Findings, NoMemory>
+    requires { IsAnswer history.now fault }
+    ensures { IfOk result (λ found. JudgesAtFault history.now fault found.phenomena found.level) }
+{
+    Err(AllocError)
+}

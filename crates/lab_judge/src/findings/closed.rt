@@ -1,0 +1,146 @@
+//! Closed walks of dependencies.
+
+ghost use Rattle.std.specs.Prelude.{◌≡◌, ◌≤◌, ◌↔◌, Bool, Contains, IfOk, length, true};
+ghost use Rattle.std.specs.List.{All};
+ghost use Rattle.lab_history.specs.History.{History};
+ghost use Rattle.lab_deps.specs.Edges.{IsEdge};
+ghost use Rattle.lab_deps.specs.EdgeOrder.{IsInOrder};
+ghost use Rattle.lab_deps.specs.declared.edge.Edge.{Edge as Spelled};
+ghost use Rattle.lab_deps.specs.declared.edge.Kind.{Kind as Sort};
+ghost use Rattle.lab_judge.specs.Graphs.{HasEnds, IsGraphOf, count_others};
+ghost use Rattle.lab_judge.specs.Judgement.{FindsWalk};
+ghost use Rattle.lab_judge.specs.Openings.{opens, HasEdgesOf, IsClosedOf, IsOpenedWalk, LeadsBack};
+ghost use Rattle.lab_judge.specs.Phenomena.{IsWalk, IsClosedWalk, count_kind};
+ghost use Rattle.lab_judge.specs.declared.findings.opening.Opening.{Opening as Opens};
+
+use crate::allowed::Allowed;
+use crate::findings::opening::{Opening, first_opening};
+use crate::nodes::Nodes;
+use crate::report::Finding;
+use crate::serial::Walk;
+use crate::walks::{walk_along, walk_round};
+use lab_deps::Edge;
+use lab_order::{Graph, NoMemory, Ordered, order, path};
+use std::alloc::Global;
+
+/// The closed walk of dependencies of allowed kinds, round the circle of their graph. NoMemory where a growth was
+/// refused.
+pub(crate) fn find_circle(
+    alloc: Global,
+    nodes: &Nodes,
+    edges: &[Edge],
+    allowed: Allowed,
+    graph: &Graph,
+) -> Result<Finding, NoMemory>
+    requires ends { All (HasEnds nodes.now) edges.now }
+    requires order { IsInOrder edges.now }
+    requires graph { IsGraphOf allowed nodes.now edges.now graph.now }
+    ensures { IfOk result (λ finding. (h : History) → HasEdgesOf h allowed edges.now → FindsWalk (IsClosedOf h allowed) finding) }
+{
+    match order(alloc, graph)? {
+        Ordered::Order(_) => Ok(Finding::Absent),
+        Ordered::Circle(circle) => {
+            let walk = walk_round(alloc, nodes, edges, allowed, circle)?;
+            Ok(Finding::Walk(walk))
+        }
+    }
+}
+
+/// The closed walk of the first dependency of an opening kind from which a path of allowed kinds leads back, and of that
+/// path. It begins with the least transaction. NoMemory where a growth was refused.
+pub(crate) fn find_opened(
+    alloc: Global,
+    nodes: &Nodes,
+    edges: &[Edge],
+    allowed: Allowed,
+    graph: &Graph,
+    opening: Opening,
+) -> Result<Finding, NoMemory>
+    requires ends { All (HasEnds nodes.now) edges.now }
+    requires order { IsInOrder edges.now }
+    requires graph { IsGraphOf allowed nodes.now edges.now graph.now }
+    ensures { IfOk result (λ finding. (h : History) → ((e : Spelled) → Contains edges.now e ↔ IsEdge h e) → FindsWalk (IsOpenedWalk h opening allowed) finding) }
+{
+    match first_opening(alloc, graph, nodes, edges, opening)? {
+        None => Ok(Finding::Absent),
+        Some(edge) => {
+            let walk = closed_by(alloc, nodes, edges, allowed, graph, &edge)?;
+            Ok(Finding::Walk(Walk::new(walk)))
+        }
+    }
+}
+
+/// The closed walk of an edge and of the least of the shortest paths that lead back from it. NoMemory where a growth was
+/// refused.
+fn closed_by(
+    alloc: Global,
+    nodes: &Nodes,
+    edges: &[Edge],
+    allowed: Allowed,
+    graph: &Graph,
+    edge: &Edge,
+) -> Result<Vec<Edge>, NoMemory>
+    requires ends { All (HasEnds nodes.now) edges.now }
+    requires order { IsInOrder edges.now }
+    requires graph { IsGraphOf allowed nodes.now edges.now graph.now }
+    requires edge { Contains edges.now edge.now }
+    requires back { LeadsBack graph.now nodes.now edge.now }
+    ensures closed { IfOk result (λ walk. (h : History) → ((e : Spelled) → Contains edges.now e → IsEdge h e) → IsClosedWalk h walk.items) }
+    ensures opened { IfOk result (λ walk. (opening : Opens) → opens opening edge.now.kind ≡ true → 1 ≤ count_kind (opens opening) walk.items) }
+    ensures allowed { IfOk result (λ walk. count_others allowed walk.items ≤ 1) }
+{
+    let mut walk = way_back(alloc, nodes, edges, allowed, graph, edge)?;
+    walk.insert(0, *edge)?;
+    Ok(with_least_first(walk))
+}
+
+/// The least of the shortest paths from where an edge ends to where it begins, with the least edges between neighbours.
+/// NoMemory where a growth was refused.
+fn way_back(
+    alloc: Global,
+    nodes: &Nodes,
+    edges: &[Edge],
+    allowed: Allowed,
+    graph: &Graph,
+    edge: &Edge,
+) -> Result<Vec<Edge>, NoMemory>
+    requires ends { All (HasEnds nodes.now) edges.now }
+    requires order { IsInOrder edges.now }
+    requires graph { IsGraphOf allowed nodes.now edges.now graph.now }
+    requires edge { HasEnds nodes.now edge.now }
+    requires back { LeadsBack graph.now nodes.now edge.now }
+    ensures walk { IfOk result (λ walk. (h : History) → ((e : Spelled) → Contains edges.now e → IsEdge h e) → IsWalk h edge.now.to walk.items edge.now.from) }
+    ensures allowed { IfOk result (λ walk. count_others allowed walk.items ≡ 0) }
+{
+    let Some(nodes_back) = path(alloc, graph, nodes.place(edge.to), nodes.place(edge.from))? else {
+        unreachable!()
+    };
+    match nodes_back.split_first() {
+        None => unreachable!(),
+        Some((first, way)) => walk_along(alloc, nodes, edges, allowed, *first, way),
+    }
+}
+
+/// The same closed walk, beginning with its least transaction.
+fn with_least_first(walk: Vec<Edge>) -> Vec<Edge>
+    ensures closed { (h : History) → IsClosedWalk h walk.items → IsClosedWalk h result.items }
+    ensures kinds { (test : Sort → Bool) → count_kind test result.items ≡ count_kind test walk.items }
+{
+    let mut walk = walk;
+    let least = place_of_least(&walk);
+    walk.rotate_left(least);
+    walk
+}
+
+/// The place of the first of these edges that begins with the least transaction.
+fn place_of_least(walk: &[Edge]) -> usize
+    ensures { result ≤ length walk.now }
+{
+    let mut least = 0;
+    for place in 1..walk.len() {
+        if walk[place].from < walk[least].from {
+            least = place;
+        }
+    }
+    least
+}

@@ -1,0 +1,109 @@
+//! Whether a sound history is a snapshot run.
+
+ghost use Rattle.std.specs.Prelude.{◌≡◌, ◌↔◌, ◌<◌, ◌≤◌, ◌*◌, ◌^◌, ◌==◌, ℕ, length, map, slice_index, Contains, IfOk};
+ghost use Rattle.std.specs.List.{All, count_by};
+ghost use Rattle.lab_order.specs.Order as node_order;
+ghost use Rattle.lab_deps.specs.Edges.{IsEdge};
+ghost use Rattle.lab_deps.specs.EdgeOrder.{IsInOrder};
+ghost use Rattle.lab_deps.specs.Soundness.{IsSound};
+ghost use Rattle.lab_deps.specs.declared.edge.Edge.{Edge as Spelled};
+ghost use Rattle.lab_judge.specs.Runs.{HoldsEachOnce, spans_of};
+ghost use Rattle.lab_judge.specs.Judgement.{IsSnapshotVerdict, RestsOnPlaces};
+ghost use Rattle.lab_judge.specs.PlaceGraphs.{point_at, span_in};
+
+use crate::nodes::Nodes;
+use crate::place_graph::place_graph;
+use crate::places::{Circle, Places, Point, Spans};
+use lab_deps::Edge;
+use lab_history::History;
+use lab_order::{NoMemory, Ordered, order};
+use lab_table::TxnNo;
+use std::alloc::Global;
+
+/// The snapshot verdict on a sound history with these committed transactions and these dependencies: places of their
+/// starts and commits along which every arrow points forward, by rising number, or a circle of arrows. NoMemory where a
+/// growth was refused.
+pub(crate) fn snapshot_verdict(
+    alloc: Global,
+    _history: &History,
+    nodes: &Nodes,
+    edges: &[Edge],
+) -> Result<Places, NoMemory>
+    requires sound { IsSound _history.now }
+    requires nodes { HoldsEachOnce _history.now nodes.now }
+    requires exact { (e : Spelled) → Contains edges.now e ↔ IsEdge _history.now e }
+    ensures verdict { IfOk result (IsSnapshotVerdict _history.now) }
+    ensures rests { IfOk result (RestsOnPlaces _history.now) }
+{
+    let graph = place_graph(alloc, nodes, edges)?;
+    match order(alloc, &graph)? {
+        Ordered::Order(order) => {
+            let places = places_in(alloc, 2 * nodes.len(), &order)?;
+            let spans = spans_in(alloc, nodes, &places)?;
+            Ok(Places::Yes(Spans::new(spans)))
+        }
+        Ordered::Circle(circle) => {
+            let points = points_of(alloc, nodes, &circle)?;
+            Ok(Places::NoCycle(Circle::new(points)))
+        }
+    }
+}
+
+/// The place of each node in this order of the nodes below a number, counted from 0. NoMemory where a growth was
+/// refused.
+fn places_in(alloc: Global, count: u32, order: &[u32]) -> Result<Vec<u32>, NoMemory>
+    requires within { All (λ node. node < count) order.now }
+    requires once { (node : ℕ) → count_by (λ n. n == node) order.now ≤ 1 }
+    requires few { length order.now < 2 ^ 32 }
+    ensures count { IfOk result (λ places. length places.items ≡ count) }
+    ensures places { IfOk result (λ places. (node : ℕ) → Contains order.now node → slice_index places.items node ≡ node_order.position order.now node) }
+{
+    let mut places = vec![in alloc; 0; count as usize]?;
+    for (place, node) in order.iter().enumerate() {
+        places[*node as usize] = place as u32;
+    }
+    Ok(places)
+}
+
+/// The transactions by rising number, with the places that their starts and commits have. NoMemory where a growth was
+/// refused.
+fn spans_in(
+    alloc: Global,
+    nodes: &Nodes,
+    places: &[u32],
+) -> Result<Vec<(TxnNo, u32, u32)>, NoMemory>
+    requires { length places.now ≡ 2 * length nodes.now }
+    ensures { IfOk result (λ spans. spans_of spans.items ≡ map (span_in nodes.now places.now) nodes.now) }
+{
+    let mut spans = Vec::with_capacity(alloc, nodes.len() as usize)?;
+    for place in 0..nodes.len() {
+        let start = 2 * place as usize;
+        spans.push((nodes.number(place), places[start], places[start + 1]))?;
+    }
+    Ok(spans)
+}
+
+/// The starts and commits at these nodes, in the same order. NoMemory where a growth was refused.
+fn points_of(alloc: Global, nodes: &Nodes, circle: &[u32]) -> Result<Vec<Point>, NoMemory>
+    requires { All (λ node. node < 2 * length nodes.now) circle.now }
+    ensures { IfOk result (λ points. points.items ≡ map (point_at nodes.now) circle.now) }
+{
+    let mut points = Vec::with_capacity(alloc, circle.len())?;
+    for node in circle {
+        points.push(point_of(nodes, *node))?;
+    }
+    Ok(points)
+}
+
+/// The start or the commit at a node.
+fn point_of(nodes: &Nodes, node: u32) -> Point
+    requires { node < 2 * length nodes.now }
+    ensures { result ≡ point_at nodes.now node }
+{
+    let number = nodes.number(node / 2);
+    if node % 2 == 0 {
+        Point::Start(number)
+    } else {
+        Point::Commit(number)
+    }
+}

@@ -1,0 +1,61 @@
+//! Whether a sound history is serializable.
+
+ghost use Rattle.std.specs.Prelude.{◌≡◌, ◌↔◌, ◌<◌, length, map, slice_index, Contains, IfOk};
+ghost use Rattle.std.specs.List.{All};
+ghost use Rattle.lab_deps.specs.Edges.{IsEdge};
+ghost use Rattle.lab_deps.specs.EdgeOrder.{IsInOrder};
+ghost use Rattle.lab_deps.specs.Soundness.{IsSound};
+ghost use Rattle.lab_deps.specs.declared.edge.Edge.{Edge as Spelled};
+ghost use Rattle.lab_judge.specs.Runs.{HoldsEachOnce};
+ghost use Rattle.lab_judge.specs.Judgement.{IsSerialVerdict, RestsOnOrder};
+
+use crate::allowed::Allowed;
+use crate::graphs::graph_of;
+use crate::nodes::Nodes;
+use crate::serial::{Order, Serial};
+use crate::walks::walk_round;
+use lab_deps::Edge;
+use lab_history::History;
+use lab_order::{NoMemory, Ordered, order};
+use lab_table::TxnNo;
+use std::alloc::Global;
+
+/// The serial verdict on a sound history with these committed transactions and these dependencies: an order of the
+/// transactions along which every dependency points forward, or a closed walk. NoMemory where a growth was refused.
+pub(crate) fn serial_verdict(
+    alloc: Global,
+    _history: &History,
+    nodes: &Nodes,
+    edges: &[Edge],
+) -> Result<Serial, NoMemory>
+    requires sound { IsSound _history.now }
+    requires nodes { HoldsEachOnce _history.now nodes.now }
+    requires exact { (e : Spelled) → Contains edges.now e ↔ IsEdge _history.now e }
+    requires order { IsInOrder edges.now }
+    ensures verdict { IfOk result (IsSerialVerdict _history.now) }
+    ensures rests { IfOk result (RestsOnOrder _history.now) }
+{
+    let graph = graph_of(alloc, nodes, edges, Allowed::All)?;
+    match order(alloc, &graph)? {
+        Ordered::Order(order) => {
+            let numbers = numbers_of(alloc, nodes, &order)?;
+            Ok(Serial::Yes(Order::new(numbers)))
+        }
+        Ordered::Circle(circle) => {
+            let walk = walk_round(alloc, nodes, edges, Allowed::All, circle)?;
+            Ok(Serial::NoCycle(walk))
+        }
+    }
+}
+
+/// The transactions of these nodes, in the same order. NoMemory where a growth was refused.
+fn numbers_of(alloc: Global, nodes: &Nodes, order: &[u32]) -> Result<Vec<TxnNo>, NoMemory>
+    requires { All (λ node. node < length nodes.now) order.now }
+    ensures { IfOk result (λ numbers. numbers.items ≡ map (λ node. slice_index nodes.now node) order.now) }
+{
+    let mut numbers = Vec::with_capacity(alloc, order.len())?;
+    for node in order {
+        numbers.push(nodes.number(*node))?;
+    }
+    Ok(numbers)
+}

@@ -1,0 +1,278 @@
+-- What stands behind the first 8,388,609 bytes of a text doesn't matter to what it spells: a script has at most 2,000 lines,
+-- each of at most 4,000 bytes and what ends it.
+use Rattle.std.proofs.Common.{◌≡◌, ℕ, zero, suc, ◌+◌, ◌-◌, ◌*◌, ◌<◌, ◌≤◌, ◌==◌, min, Bool, true, false, cond, List, [], ◌∷◌, ◌++◌, length, take, drop, get_or, Option, Some, None, refl, sym, ap, subst, ◌∙◌, inl, inr, ⊎_elim, arith, length-append, append_assoc}
+use Rattle.std.specs.Prelude.{slice_get}
+use Rattle.std.specs.Str.Lines.{lines, lines_of_parts, strip_carriage_return}
+use Rattle.std.proofs.lemmas.Bool.{cases_lt, false≢true}
+use Rattle.std.proofs.lemmas.List.{append-nil, take_all, take_at, take-append-le, take-append-drop, length-take, length-drop, get_or_append_left}
+use Rattle.std.proofs.lemmas.Option.{slice_get_within}
+use Rattle.std.proofs.Math.Dec.{eqb-suc-zero}
+use Rattle.std.proofs.Math.Seq.{get_or-append_seam}
+use Rattle.lab_script.specs.declared.fault.ScriptFault.{ScriptFault}
+use Rattle.lab_script.specs.declared.fault.ScriptFault.TheVariants as fault
+use Rattle.lab_script.specs.declared.fault.ScriptFaultKind.{ScriptFaultKind}
+use Rattle.lab_script.specs.declared.script.Script.{Script}
+use Rattle.lab_script.specs.Script.{LinesSpell, Spells}
+use Rattle.lab_script.specs.Fault as wrong
+use Rattle.lab_script.specs.Fault.{IsWrong, IsFaultyLine, IsFaultOf}
+use Rattle.lab_script.proofs.FirstFault.{seam}
+use Rattle.lab_script.proofs.ScriptLines.{fit_of, lines_front}
+use Rattle.lab_script.proofs.TextLines.{IsWhole, IsCut, cut, parts_step}
+
+-- the most bytes that lines come from: each may have lost a carriage return and its newline
+abbrev weight : List (List ℕ) → ℕ
+weight [] = 0
+weight (line ∷ ls) = length line + 2 + weight ls
+
+-- a line is at most one byte shorter than what stands before its newline
+stripped : (l : List ℕ) → length l ≤ length (strip_carriage_return l) + 1
+stripped l =
+    elim (get_or l (length l - 1) 0 == 13) as (λ (v : Bool). length l ≤ length (cond v (take (length l - 1) l) l) + 1) [
+      | true ↦ let len : length (take (length l - 1) l) ≡ min (length l - 1) (length l) = length-take (length l - 1) l in omega arith
+      | false ↦ omega arith
+    ]
+
+-- the lines that newlines end, and what stands behind the last newline
+record IsCutUp (text : List ℕ) : Type 0 where
+  ended : List (List ℕ)
+  tail : List ℕ
+  whole : IsWhole tail
+  lines_are : (more : List ℕ) → lines (text ++ more) ≡ ended ++ lines (tail ++ more)
+  sized : length text ≤ weight ended + length tail
+
+-- one more line
+cut_more : (text : List ℕ) (two : IsCut text) → IsCutUp two.rest → IsCutUp text
+cut_more text two up =
+    let size : length text ≡ length two.front + length (10 ∷ two.rest) = ap length two.whole ∙ length-append two.front (10 ∷ two.rest) in
+    let short = stripped two.front in
+    let rest : length two.rest ≤ weight up.ended + length up.tail = up.sized in
+    record {
+      ended = strip_carriage_return two.front ∷ up.ended;
+      tail = up.tail;
+      whole = up.whole;
+      lines_are = λ more. ap (λ (bytes : List ℕ). lines (bytes ++ more)) two.whole ∙ ap lines (append_assoc two.front (10 ∷ two.rest) more)
+          ∙ ap lines_of_parts (two.parts (two.rest ++ more)) ∙ parts_step two.front (two.rest ++ more)
+          ∙ ap (λ (ls : List (List ℕ)). strip_carriage_return two.front ∷ ls) (up.lines_are more);
+      sized = omega arith;
+    }
+
+cut_within : (fuel : ℕ) (text : List ℕ) → length text ≤ fuel → IsCutUp text
+cut_within zero text within = elim (cut text) [
+  | inl whole ↦ record { ended = []; tail = text; whole = whole; lines_are = λ more. refl; sized = omega arith }
+  | inr two ↦ let size : length text ≡ length two.front + length (10 ∷ two.rest) = ap length two.whole ∙ length-append two.front (10 ∷ two.rest) in absurd (omega arith)
+]
+cut_within (suc fuel) text within = elim (cut text) [
+  | inl whole ↦ record { ended = []; tail = text; whole = whole; lines_are = λ more. refl; sized = omega arith }
+  | inr two ↦ let size : length text ≡ length two.front + length (10 ∷ two.rest) = ap length two.whole ∙ length-append two.front (10 ∷ two.rest) in cut_more text two (cut_within fuel two.rest (omega arith))
+]
+
+cut_up : (text : List ℕ) → IsCutUp text
+cut_up text = cut_within (length text) text (omega arith)
+
+-- bytes without a newline are one line, unless there are none
+alone : (tail : List ℕ) → IsWhole tail → 0 < length tail → lines tail ≡ tail ∷ []
+alone [] whole some = absurd (omega arith)
+alone (b ∷ bytes) whole some = ap lines_of_parts whole.part ∙ ap (λ (v : Bool). cond v [] ((b ∷ bytes) ∷ [])) (eqb-suc-zero (length bytes))
+
+-- the first newline behind bytes that have none
+newline_behind : (tail more : List ℕ) → IsWhole tail → (two : IsCut (tail ++ more)) → length tail ≤ length two.front
+newline_behind tail more whole two =
+    ⊎_elim
+    (λ (short : length two.front < length tail).
+    let n = length two.front in
+    let there : get_or tail n 0 ≡ 10 =
+    sym (get_or_append_left tail more 0 n short) ∙ ap (λ (bytes : List ℕ). get_or bytes n 0) two.whole ∙ get_or-append_seam two.front 10 two.rest 0 in
+    absurd (false≢true (sym (whole.free n) ∙ ap (λ (b : ℕ). b == 10) there)))
+    (λ (long : length tail ≤ length two.front). long)
+    (cases_lt (length two.front) (length tail))
+
+-- the line that bytes without a newline begin, where others follow
+record IsFirst (tail more : List ℕ) : Type 0 where
+  line : List ℕ
+  others : List (List ℕ)
+  is : lines (tail ++ more) ≡ line ∷ others
+  size : length tail ≤ length line + 1
+
+first_of : (tail more : List ℕ) → IsWhole tail → 0 < length more → IsFirst tail more
+first_of tail more whole some =
+    let len : length (tail ++ more) ≡ length tail + length more = length-append tail more in
+    elim (cut (tail ++ more)) [
+      | inl one ↦ record { line = tail ++ more; others = []; is = alone (tail ++ more) one (omega arith); size = omega arith }
+      | inr two ↦
+          let behind = newline_behind tail more whole two in
+          let short = stripped two.front in
+          record {
+            line = strip_carriage_return two.front;
+            others = lines two.rest;
+            is = ap lines two.whole ∙ ap lines_of_parts (two.parts two.rest) ∙ parts_step two.front two.rest;
+            size = omega arith;
+          }
+    ]
+
+-- lines that spell something are few and short
+few_short : (number : ℕ) (before after : Option Script) (ls : List (List ℕ)) → LinesSpell number before ls after → number ≤ 2001 → (number + length ls ≤ 2001) × (weight ls ≤ 4002 * length ls)
+few_short number before after [] spells le = (omega arith, omega arith)
+few_short number before after (line ∷ ls) spells le =
+    let fit = fit_of spells.1 in
+    let rest = few_short (number + 1) spells.0 after ls spells.2 (omega (arith, fit.lines)) in
+    (omega (arith, rest.0), omega (arith, rest.1, fit.bytes))
+
+light : (ls : List (List ℕ)) (after : Option Script) → LinesSpell 1 None ls after → weight ls ≤ 8004000
+light ls after spells = let small = few_short 1 None after ls spells (omega arith) in omega (arith, small.0, small.1)
+
+module _ {text : List ℕ} (up : IsCutUp text) where
+  lines_here : lines text ≡ up.ended ++ lines up.tail
+  lines_here = ap lines (sym (append-nil text)) ∙ up.lines_are [] ∙ ap (λ (bytes : List ℕ). up.ended ++ lines bytes) (append-nil up.tail)
+
+  -- a text whose lines spell something is short
+  spelled_size : (after : Option Script) → LinesSpell 1 None (lines text) after → length text ≤ 8008000
+  spelled_size after spells =
+      let parts = lines_front 1 None up.ended (lines up.tail) after (subst (λ (ls : List (List ℕ)). LinesSpell 1 None ls after) lines_here spells) in
+      let small = light up.ended parts.0 parts.1 in
+      let size : length text ≤ weight up.ended + length up.tail = up.sized in
+      ⊎_elim
+      (λ (some : 0 < length up.tail).
+      let last = subst (λ (ls : List (List ℕ)). LinesSpell (1 + length up.ended) parts.0 ls after) (alone up.tail up.whole some) parts.2 in
+      let fit = fit_of last.1 in
+      omega (arith, fit.bytes))
+      (λ (none : length up.tail ≤ 0). omega arith)
+      (cases_lt 0 (length up.tail))
+
+-- an element of the front of a list
+got : {A : Type 0} (xs ys zs : List A) (i : ℕ) → i < length xs → slice_get (xs ++ ys) i ≡ slice_get (xs ++ zs) i
+got [] ys zs i lt = absurd (omega arith)
+got (x ∷ xs) ys zs zero lt = refl
+got (x ∷ xs) ys zs (suc i) lt = got xs ys zs i (omega arith)
+
+-- what is wrong with a line that is too long is wrong with another
+over_too : {number : ℕ} {line : List ℕ} {before : Option Script} {kind : ScriptFaultKind} (other : List ℕ) → IsWrong number line before kind → 4000 < length line → 4000 < length other → IsWrong number other before kind
+over_too other (wrong.over is) long also = wrong.over (inr also)
+over_too other (wrong.not_ascii few short isnt) long also = absurd (omega arith)
+over_too other (wrong.of_tokens kept says) long also = let short = kept.0.bytes in absurd (omega arith)
+
+-- text that is longer than a script is, and more behind it
+module _ (text more : List ℕ) (up : IsCutUp text) (long : 8388608 < length text) (some : 0 < length more) where
+  lines_there : lines (text ++ more) ≡ up.ended ++ lines (up.tail ++ more)
+  lines_there = up.lines_are more
+
+  same_front : (i : ℕ) → i ≤ length up.ended → take i (lines text) ≡ take i (lines (text ++ more))
+  same_front i le =
+      ap (take i) (lines_here up) ∙ take-append-le i up.ended (lines up.tail) le ∙ sym (take-append-le i up.ended (lines (up.tail ++ more)) le) ∙ sym (ap (take i) lines_there)
+
+  same_line : (i : ℕ) → i < length up.ended → slice_get (lines text) i ≡ slice_get (lines (text ++ more)) i
+  same_line i lt =
+      ap (λ (ls : List (List ℕ)). slice_get ls i) (lines_here up) ∙ got up.ended (lines up.tail) (lines (up.tail ++ more)) i lt ∙ sym (ap (λ (ls : List (List ℕ)). slice_get ls i) lines_there)
+
+  same_spelled : (i : ℕ) (script : Option Script) → i ≤ length up.ended → LinesSpell 1 None (take i (lines text)) script → LinesSpell 1 None (take i (lines (text ++ more))) script
+  same_spelled i script le spells = subst (λ (ls : List (List ℕ)). LinesSpell 1 None ls script) (same_front i le) spells
+
+  -- a fault in a line that ends in the text
+  early : (number : ℕ) (kind : ScriptFaultKind) → number ≤ length up.ended → IsFaultyLine text number kind → IsFaultOf (text ++ more) (fault.At number kind)
+  early number kind le line =
+      let counted : number ≡ line.index + 1 = line.counted in
+      inl (record {
+        index = line.index;
+        counted = counted;
+        line = line.line;
+        stands = sym (same_line line.index (omega arith)) ∙ line.stands;
+        before = line.before;
+        spelled = same_spelled line.index line.before (omega arith) line.spelled;
+        faulty = line.faulty;
+        says = line.says;
+      })
+
+  -- a fault in the line that the text's end cuts, which is too long
+  module _ (number : ℕ) (kind : ScriptFaultKind) (last : length up.ended < number) (within : number ≤ length (lines text)) (line : IsFaultyLine text number kind) where
+    first : IsFirst up.tail more
+    first = first_of up.tail more up.whole some
+
+    has_tail : 0 < length up.tail
+    has_tail = ⊎_elim (λ (is : 0 < length up.tail). is) (λ (none : length up.tail ≤ 0). absurd (without up.tail up.whole none refl)) (cases_lt 0 (length up.tail))
+      where
+        without : (tail : List ℕ) → IsWhole tail → length tail ≤ 0 → tail ≡ up.tail → ⊥
+        without [] whole none is =
+            let here : lines text ≡ up.ended = lines_here up ∙ ap (λ (bytes : List ℕ). up.ended ++ lines bytes) (sym is) ∙ append-nil up.ended in
+            let size : length (lines text) ≡ length up.ended = ap length here in
+            omega arith
+        without (b ∷ bytes) whole none is = omega arith
+
+    here : lines text ≡ up.ended ++ up.tail ∷ []
+    here = lines_here up ∙ ap (λ (ls : List (List ℕ)). up.ended ++ ls) (alone up.tail up.whole has_tail)
+
+    there : lines (text ++ more) ≡ up.ended ++ first.line ∷ first.others
+    there = lines_there ∙ ap (λ (ls : List (List ℕ)). up.ended ++ ls) first.is
+
+    at_end : line.index ≡ length up.ended
+    at_end =
+        let size : length (lines text) ≡ length up.ended + length (up.tail ∷ []) = ap length here ∙ length-append up.ended (up.tail ∷ []) in
+        let counted : number ≡ line.index + 1 = line.counted in
+        omega arith
+
+    before_it : LinesSpell 1 None up.ended line.before
+    before_it =
+        subst (λ (ls : List (List ℕ)). LinesSpell 1 None ls line.before) (ap (take line.index) (lines_here up) ∙ take_at up.ended (lines up.tail) line.index (sym at_end)) line.spelled
+
+    wide : 4001 < length up.tail
+    wide = let small = light up.ended line.before before_it in let size : length text ≤ weight up.ended + length up.tail = up.sized in omega arith
+
+    is_tail : line.line ≡ up.tail
+    is_tail =
+        let stands : slice_get (up.ended ++ up.tail ∷ []) line.index ≡ Some line.line = sym (ap (λ (ls : List (List ℕ)). slice_get ls line.index) here) ∙ line.stands in
+        let seen : slice_get (up.ended ++ up.tail ∷ []) line.index ≡ Some up.tail = ap (slice_get (up.ended ++ up.tail ∷ [])) at_end ∙ seam up.ended up.tail [] in
+        cc
+
+    wide_here : 4000 < length line.line
+    wide_here = let same : length line.line ≡ length up.tail = ap length is_tail in let more_than = wide in omega arith
+
+    wide_there : 4000 < length first.line
+    wide_there = let size : length up.tail ≤ length first.line + 1 = first.size in let more_than = wide in omega arith
+
+    late : IsFaultOf (text ++ more) (fault.At number kind)
+    late =
+        let place = at_end in
+        inl (record {
+          index = line.index;
+          counted = line.counted;
+          line = first.line;
+          stands = ap (slice_get (lines (text ++ more))) at_end ∙ ap (λ (ls : List (List ℕ)). slice_get ls (length up.ended)) there ∙ seam up.ended first.line first.others;
+          before = line.before;
+          spelled = same_spelled line.index line.before (omega arith) line.spelled;
+          faulty = λ after spells. let fit = fit_of spells in let short : length first.line ≤ 4000 = fit.bytes in let over = wide_there in omega arith;
+          says = over_too first.line line.says wide_here wide_there;
+        })
+
+  too_long : (after : Option Script) → LinesSpell 1 None (lines text) after → ⊥
+  too_long after spells = let size = spelled_size up after spells in omega arith
+
+  fault_stays : (f : ScriptFault) → IsFaultOf text f → IsFaultOf (text ++ more) f
+  fault_stays fault.NoMemory is = tt
+  fault_stays (fault.At number kind) (inl line) =
+      let inside : line.index < length (lines text) = slice_get_within (lines text) line.index line.line line.stands in
+      let counted : number ≡ line.index + 1 = line.counted in
+      ⊎_elim
+      (λ (last : length up.ended < number). late number kind last (omega arith) line)
+      (λ (le : number ≤ length up.ended). early number kind le line)
+      (cases_lt (length up.ended) number)
+  fault_stays (fault.At number kind) (inr without) = absurd (too_long None without.spelled)
+
+-- a text that spells a script is short
+pub script_short : (text : List ℕ) (s : Script) → Spells text s → length text ≤ 8008000
+script_short text s spells = spelled_size (cut_up text) (Some s) spells
+
+-- the first bytes of a text, where they are more than a script has, spell a script only where they are all of it
+pub first_spell : (text : List ℕ) (n : ℕ) (s : Script) → 8388608 < n → Spells (take n text) s → Spells text s
+first_spell text n s many spells =
+    let short = script_short (take n text) s spells in
+    let size : length (take n text) ≡ min n (length text) = length-take n text in
+    subst (λ (bytes : List ℕ). Spells bytes s) (take_all n text (omega arith)) spells
+
+-- and their fault is the text's
+pub first_fault : (text : List ℕ) (n : ℕ) (f : ScriptFault) → 8388608 < n → IsFaultOf (take n text) f → IsFaultOf text f
+first_fault text n f many is =
+    ⊎_elim
+    (λ (longer : n < length text).
+    let front : length (take n text) ≡ min n (length text) = length-take n text in
+    let back : length (drop n text) ≡ length text - n = length-drop n text in
+    subst (λ (bytes : List ℕ). IsFaultOf bytes f) (take-append-drop n text) (fault_stays (take n text) (drop n text) (cut_up (take n text)) (omega arith) (omega arith) f is))
+    (λ (all : length text ≤ n). subst (λ (bytes : List ℕ). IsFaultOf bytes f) (take_all n text all) is)
+    (cases_lt n (length text))

@@ -1,0 +1,8 @@
+use Rattle.std.proofs.Common.{◌≡◌, take}
+use Rattle.std.specs.Prelude.{None}
+use Rattle.std.specs.List.{All}
+use Rattle.lab_session.proofs.free.first_fault.Given as goal
+
+-- none so far
+abbrev pub invariant-loop-one : goal.invariant-loop-one
+invariant-loop-one l = All (λ e. e.fault ≡ None) (take l.one-index l.ended)

@@ -1,0 +1,67 @@
+-- What the threads of a free play hand on.
+use Rattle.std.specs.Prelude.{◌≡◌, ◌≢◌, ℕ, ◌≤◌, List, [], ◌∷◌, ◌++◌, Option, Some, None, map}
+use Rattle.std.specs.List.{All}
+use Rattle.lab_table.specs.declared.statement.Command.{Command}
+use Rattle.lab_engine.specs.declared.event.LogEvent.{LogEvent}
+use Rattle.lab_engine.specs.Log.{past_of}
+use Rattle.lab_engine.specs.Journal.{Kept}
+use Rattle.lab_engine.specs.Recording.{Line}
+use Rattle.lab_engine.specs.OverLimit.{BreaksLimit}
+use Rattle.lab_session.specs.declared.seat.Call.{Call}
+use Rattle.lab_session.specs.declared.fault.LabFault.{LabFault}
+use Rattle.lab_session.specs.declared.fault.LabFault.TheVariants.{NothingWaiting}
+use Rattle.lab_session.specs.Seats.{Seated}
+use Rattle.lab_session.specs.Bench.{IsSoundRun}
+use Rattle.lab_session.specs.declared.fault.PlayFault.{PlayFault}
+use Rattle.lab_session.specs.declared.fault.PlayFault.TheVariants.{NoMemory, OverLimit, Close, NoThread, Full}
+use Rattle.lab_session.specs.Play.{AreCommandsOf, IsPlayed}
+
+-- the commands of a seat's calls, in order
+abbrev pub commands_in : List Call → List Command
+commands_in calls = map (λ call. call.command) calls
+
+-- a seat's calls are the commands of its session's lines, then at most one abort
+abbrev pub IsPlayedSeat : List Line → Seated → Type 0
+IsPlayedSeat lines seat = AreCommandsOf seat.session lines (commands_in seat.calls)
+
+-- a seat's list has one more command
+pub record HasOneMore (old new : Seated) (command : Command) : Type 0 where
+  pub session : new.session ≡ old.session
+  pub commands : commands_in new.calls ≡ commands_in old.calls ++ command ∷ []
+
+-- a seat that has given nothing
+abbrev pub IsUnused : Seated → Type 0
+IsUnused seat = seat.calls ≡ []
+
+-- a fault that a thread may give back: it submits before it resumes
+abbrev pub IsRefusal : Option LabFault → Type 0
+IsRefusal fault = fault ≢ Some NothingWaiting
+
+-- a thread's seat has all that its session gives, where nothing was refused
+pub record IsEnded (lines : List Line) (seat : Seated) (fault : Option LabFault) : Type 0 where
+  pub played : fault ≡ None → IsPlayedSeat lines seat
+  pub refusal : IsRefusal fault
+
+-- each seat has all that its session gives
+abbrev pub AllPlayed : List Line → List Seated → Type 0
+AllPlayed lines seats = All (IsPlayedSeat lines) seats
+
+-- the calls of each session from 1 to 9 are the commands of its lines, then at most one abort
+abbrev pub AllSessionsPlayed : List Line → List LogEvent → Type 0
+AllSessionsPlayed lines log = (session : ℕ) → 1 ≤ session → session ≤ 9 → IsPlayed session lines log
+
+-- why the threads of a play stop: memory was wanting, a thread wasn't given, or the log was full
+abbrev pub IsStop : PlayFault → Type 0
+IsStop NoMemory = Unit {0}
+IsStop (OverLimit which) = ⊥
+IsStop (Close fault) = ⊥
+IsStop NoThread = Unit {0}
+IsStop Full = Unit {0}
+
+-- why a free play has no recording: the legal log of such a play breaks a limit; what a lock holds and which threads were given no definition says
+abbrev pub IsFreeFault : List Line → PlayFault → Type 0
+IsFreeFault lines NoMemory = Unit {0}
+IsFreeFault lines (OverLimit which) = (run : Kept) × IsSoundRun run × AllSessionsPlayed lines run.log × BreaksLimit run.setup (past_of run.log) which
+IsFreeFault lines (Close fault) = Unit {0}
+IsFreeFault lines NoThread = Unit {0}
+IsFreeFault lines Full = Unit {0}

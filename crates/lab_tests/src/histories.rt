@@ -1,0 +1,190 @@
+//! Histories of parts, and what a history answers.
+
+use crate::refusal::{refuse, was_refused};
+use lab_history::{
+    FileFault, History, Installed, Installers, Limit, ListPlace, Op, Ops, Outcome, Parts, Path,
+    Rows, State, Txn, Txns, VersionName, View, Writes, read_history,
+};
+use lab_table::{RowId, Statement, Table, TxnNo, Value};
+use std::alloc::Global;
+use std::test::Fail;
+
+fn row(number: u32) -> Result<RowId, Fail> {
+    Ok(RowId::new(number).ok_or("a row")?)
+}
+
+fn txn_no(number: u32) -> Result<TxnNo, Fail> {
+    Ok(TxnNo::new(number).ok_or("a transaction")?)
+}
+
+/// A transaction with one select, which saw row 1 as this operation of transaction 1 left it, or as it was initially.
+fn txn(alloc: Global, number: u32, op: Option<u32>) -> Result<Txn, Fail> {
+    let version = match op {
+        None => VersionName::Initial,
+        Some(op) => VersionName::Of {
+            txn: txn_no(1)?,
+            op,
+        },
+    };
+    let Ok(view) = View::from_entries(vec![in alloc; (row(1)?, version)]?) else {
+        return Err(Fail::from("a view"));
+    };
+    let op = Op {
+        statement: Statement::Select { pred: None },
+        view,
+        rows: Rows::new(Vec::new(alloc)),
+        writes: Writes::new(Vec::new(alloc)),
+    };
+    Ok(Txn {
+        no: txn_no(number)?,
+        outcome: Outcome::Committed,
+        ops: Ops::new(vec![in alloc; op]?),
+    })
+}
+
+/// Rows 1 to a number; transactions 1 to a number and one more, which see this operation; and so many installers of
+/// row 1.
+#[derive(Clone, Copy, Debug)]
+struct Shape {
+    rows: u32,
+    txns: u32,
+    last: u32,
+    op: Option<u32>,
+    installers: usize,
+}
+
+fn parts(alloc: Global, shape: Shape) -> Result<Parts, Fail> {
+    let value = Value::new(0).ok_or("a value")?;
+    let mut initial = Table::new(alloc);
+    for number in 1..=shape.rows {
+        initial.add(alloc, row(number)?, value)?;
+    }
+    let mut txns = Vec::new(alloc);
+    for number in 1..=shape.txns {
+        txns.push(txn(alloc, number, shape.op)?)?;
+    }
+    txns.push(txn(alloc, shape.last, shape.op)?)?;
+    let installers = Installers::new(vec![in alloc; txn_no(1)?; shape.installers]?);
+    let Ok(installed) = Installed::from_entries(vec![in alloc; (row(1)?, installers)]?) else {
+        return Err(Fail::from("installers"));
+    };
+    Ok(Parts {
+        initial,
+        txns: Txns::new(txns),
+        installed,
+        end_table: Table::new(alloc),
+    })
+}
+
+const USUAL: Shape = Shape {
+    rows: 2,
+    txns: 1,
+    last: 2,
+    op: Some(1),
+    installers: 1,
+};
+
+fn wrong(place: ListPlace) -> Option<FileFault> {
+    let path = Path::Member(place, 0);
+    Some(FileFault::WrongFormat { path })
+}
+
+fn over(which: Limit) -> Option<FileFault> {
+    Some(FileFault::OverLimit { which })
+}
+
+#[test]
+fn parts_that_are_no_history(rt: HostRuntime) -> Result<(), Fail> {
+    let repeated = FileFault::RepeatedTxn { no: txn_no(1)? };
+    let view = wrong(ListPlace::View { txn: 0, op: 0 });
+    for (rows, txns, last, op, installers, expected) in [
+        (1_000, 999, 1_000, Some(1), 1, None),
+        (1_001, 1, 2, Some(1), 1, over(Limit::Ids)),
+        (2, 1_000, 1, Some(1), 1, over(Limit::Transactions)),
+        (2, 3, 1, Some(1), 1, Some(repeated)),
+        (2, 1, 2, None, 1, view),
+        (2, 1, 2, Some(0), 1, view),
+        (2, 1, 2, Some(10_000), 1, None),
+        (2, 1, 2, Some(10_001), 1, view),
+        (2, 1, 2, Some(1), 0, wrong(ListPlace::Installed)),
+    ] {
+        let shape = Shape {
+            rows,
+            txns,
+            last,
+            op,
+            installers,
+        };
+        let parts = parts(rt.alloc(), shape)?;
+        let fault = match &History::from_parts(rt.alloc(), parts) {
+            Ok(_) => None,
+            Err(refused) => Some(refused.1),
+        };
+        assert_eq!(rt; fault, expected, "{shape:?}");
+    }
+    Ok(())
+}
+
+#[test]
+fn parts_that_are_refused_memory_come_back(rt: HostRuntime) -> Result<(), Fail> {
+    for growth in 1..1_000u16 {
+        let parts = parts(rt.alloc(), USUAL)?;
+        refuse(rt.alloc(), growth);
+        let made = History::from_parts(rt.alloc(), parts);
+        let refused = was_refused(rt.alloc());
+        match &made {
+            Ok(history) => assert_eq!(rt; history.txns().as_slice().len(), 2usize),
+            Err((parts, fault)) => {
+                assert!(rt; refused, "at growth {growth}");
+                assert_eq!(rt; *fault, FileFault::NoMemory);
+                assert_eq!(rt; parts.initial.rows().len(), 2usize);
+                assert_eq!(rt; parts.txns.as_slice().len(), 2usize);
+                assert_eq!(rt; parts.installed.entries().len(), 1usize);
+            }
+        }
+        if !refused {
+            return Ok(());
+        }
+    }
+    Err(Fail::from("no end of growths"))
+}
+
+/// Row 3 is inserted and changed by transaction 1, and removed by transaction 2.
+const SHORT_LIFE: &[u8] =
+    br#"{"end":[[1,10]],"format":"hermitage-history","initial":[[1,10]],"installed":[[3,[1,2]]],"transactions":[{"no":1,"ops":[{"rows":[],"statement":"insert into test (id, value) values (3, 30)","view":[],"writes":[[3,30]]},{"rows":[[3,30]],"statement":"update test set value = 31 where id = 3","view":[[3,1,1]],"writes":[[3,31]]}],"outcome":"committed"},{"no":2,"ops":[{"rows":[[3,31]],"statement":"delete from test where id = 3","view":[[3,1,2]],"writes":[[3,null]]}],"outcome":"committed"}],"version":1}"#;
+
+#[test]
+fn versions_and_their_installers(rt: HostRuntime) -> Result<(), Fail> {
+    let history = read_history(rt.alloc(), SHORT_LIFE)
+        .ok()
+        .ok_or("a history")?;
+    let present = |number: i64| Value::new(number).map(State::Present);
+    for (no, op, state) in [
+        (1, 1, present(30)),
+        (1, 2, present(31)),
+        (2, 1, Some(State::Absent)),
+        (2, 2, None),
+        (3, 1, None),
+    ] {
+        let txn = txn_no(no)?;
+        let found = history.version_state(row(3)?, VersionName::Of { txn, op });
+        assert_eq!(rt; found, state, "{no} {op}");
+    }
+    for (id, state) in [(1, present(10)), (3, Some(State::Absent))] {
+        let found = history.version_state(row(id)?, VersionName::Initial);
+        assert_eq!(rt; found, state, "{id}");
+    }
+    for (no, last, place) in [
+        (1, Some(2), Some(1)),
+        (2, Some(1), Some(2)),
+        (3, None, None),
+    ] {
+        assert_eq!(rt; history.last_write(txn_no(no)?, row(3)?), last, "{no}");
+        assert_eq!(rt;
+            history.installer_place(row(3)?, txn_no(no)?),
+            place,
+            "{no}"
+        );
+    }
+    Ok(())
+}
