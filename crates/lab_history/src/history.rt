@@ -72,9 +72,10 @@ impl History {
         &self.parts.initial
     }
 
-    /// The transactions, in the order of the file.
+    /// The transactions, in the order of the file. No two have one number, and there are no more operations than the limit.
     pub fn txns(&self) -> &Txns
-        ensures { result.now ≡ self.now.txns }
+        ensures value { result.now ≡ self.now.txns }
+        ensures keeps { Keeps self.now }
     {
         &self.parts.txns
     }

@@ -2,16 +2,19 @@
 use Rattle.std.proofs.Common.{◌≡◌, ℕ, ◌+◌, ◌≤◌, Bool, true, false, cond, List, [], ◌∷◌, refl, sym, ap, ◌∙◌, subst, arith}
 use Rattle.std.specs.Prelude.{Contains, ◌↔◌, not}
 use Rattle.std.specs.List.{All}
+use Rattle.std.proofs.lemmas.Bool.{false≢true}
 use Rattle.std.proofs.lemmas.List.Elements.{All-weaker, All-contains_itself}
 use Rattle.lab_history.specs.History.{History}
 use Rattle.lab_history.specs.Version.{IsCommitted}
 use Rattle.lab_deps.specs.Edges.{IsEdge}
 use Rattle.lab_deps.specs.declared.edge.Edge.{Edge}
+use Rattle.lab_deps.specs.declared.edge.Kind.{Kind}
+use Rattle.lab_deps.specs.declared.edge.Kind.TheVariants.{Write, ItemRead, PredicateRead, ItemAnti, PredicateAnti}
 use Rattle.lab_judge.specs.Allowed.{allows}
 use Rattle.lab_judge.specs.Graphs.{HasEnds, count_others}
 use Rattle.lab_judge.specs.Judgement.{FindsWalk}
 use Rattle.lab_judge.specs.Openings.{HasEdgesOf, IsClosedOf, IsOpenedWalk}
-use Rattle.lab_judge.specs.Phenomena.{count_kind, IsG0, IsG1c, IsGSingle, IsG2Item, IsG2}
+use Rattle.lab_judge.specs.Phenomena.{is_write, count_kind, IsG0, IsG1c, IsGSingle, IsG2Item, IsG2}
 use Rattle.lab_judge.specs.Places.{is_anti}
 use Rattle.lab_judge.specs.Runs.{HoldsEachOnce}
 use Rattle.lab_judge.specs.declared.allowed.Allowed.{Allowed}
@@ -49,6 +52,14 @@ count_anti es = sym (times_are (λ k. not (allows allowed.Flow k)) es) ∙ other
 count_none : (es : List Edge) → count_others allowed.All es ≡ 0
 count_none es = sym (times_are (λ k. not (allows allowed.All k)) es) ∙ none_other es
 
+-- a write after a write is of that kind
+only_write : (k : Kind) → is_write k ≡ true → k ≡ Write
+only_write Write is = refl
+only_write ItemRead is = absurd (false≢true is)
+only_write PredicateRead is = absurd (false≢true is)
+only_write ItemAnti is = absurd (false≢true is)
+only_write PredicateAnti is = absurd (false≢true is)
+
 module _ (h : History) where
   pub finds_g0 : (finding : Finding) → FindsWalk (IsClosedOf h allowed.Writes) finding → FindsWalk (IsG0 h) finding
   finds_g0 = finds_same (IsClosedOf h allowed.Writes) (IsG0 h) (λ es w. w) (λ es w. w)
@@ -80,6 +91,10 @@ module _ (h : History) where
   -- all edges of a history hold those of each kind
   pub has_all : (es : List Edge) → ((e : Edge) → Contains es e ↔ IsEdge h e) → (a : Allowed) → HasEdgesOf h a es
   has_all es exact a = record { edges = λ e. (exact e).0; all = λ e edge kind. (exact e).1 edge }
+
+  -- the write-dependencies of a history hold those of that kind
+  pub has_writes : (es : List Edge) → ((e : Edge) → Contains es e ↔ (IsEdge h e × (e.kind ≡ Write))) → HasEdgesOf h allowed.Writes es
+  has_writes es exact = record { edges = λ e there. ((exact e).0 there).0; all = λ e edge kind. (exact e).1 (edge, only_write e.kind kind) }
 
   -- the ends of edges are committed transactions
   pub ends_there : (nodes : List ℕ) → HoldsEachOnce h nodes → (es : List Edge) → ((e : Edge) → Contains es e → IsEdge h e) → All (HasEnds nodes) es

@@ -3,31 +3,35 @@
 ghost use Rattle.std.specs.Prelude.{◌↔◌, Contains, IfOk};
 ghost use Rattle.std.specs.List.{All};
 ghost use Rattle.lab_history.specs.History.{History as Recorded};
-ghost use Rattle.lab_deps.specs.Soundness.{IsSound};
+ghost use Rattle.lab_deps.specs.Soundness.{Stands, IsSound};
 ghost use Rattle.lab_deps.specs.Edges.{IsEdge};
 ghost use Rattle.lab_deps.specs.EdgeOrder.{IsInOrder};
 ghost use Rattle.lab_deps.specs.Refusal.{IsAnswer};
 ghost use Rattle.lab_deps.specs.declared.edge.Edge.{Edge as Spelled};
+ghost use Rattle.lab_deps.specs.declared.fault.LocalFault.TheVariants as fault;
+ghost use Rattle.lab_table.specs.Row.{Row};
 ghost use Rattle.lab_judge.specs.Graphs.{HasEnds};
 ghost use Rattle.lab_judge.specs.Runs.{HoldsEachOnce};
-ghost use Rattle.lab_judge.specs.Phenomena.{NoWalk, IsClosedWalk};
-ghost use Rattle.lab_judge.specs.Judgement.{JudgesAll, JudgesAtFault};
+ghost use Rattle.lab_judge.specs.Phenomena.{NoWalk, IsClosedWalk, IsG0, MeetsPl2};
+ghost use Rattle.lab_judge.specs.Judgement.{FindsWalk, JudgesAll, JudgesReads, JudgesNothing, JudgesAtFault};
 
 mod closed;
 mod grade;
 mod opening;
+mod reads;
 
 use crate::allowed::Allowed;
 use crate::graphs::graph_of;
 use crate::nodes::Nodes;
 use crate::report::{Finding, Grade};
 use closed::{find_circle, find_opened};
-use grade::grade_of;
-use lab_deps::{Edge, LocalFault};
+use grade::{grade_of, low_grade_of};
+use lab_deps::{Edge, LocalFault, write_edges};
 use lab_history::History;
 use lab_order::NoMemory;
 use opening::Opening;
-use std::alloc::{AllocError, Global};
+use reads::{find_aborted_read, find_intermediate_read};
+use std::alloc::Global;
 
 /// What is found of a history: its phenomena, in the order G0, G1a, G1b, G1c, G-single, G2-item, G2, and its level.
 #[derive(Drop)]
@@ -103,13 +107,79 @@ fn find_walks(alloc: Global, nodes: &Nodes, edges: &[Edge]) -> Result<Findings, 
 }
 
 /// What is found in a history that isn't sound, where this fault was answered. NoMemory where a growth was refused.
+///
+/// Where it is a read of what was never committed, no fault of another kind stands: G0, G1a and G1b are judged.
 pub(crate) fn find_at_fault(
-    _alloc: Global,
+    alloc: Global,
     history: &History,
     fault: LocalFault,
 ) -> Result<Findings, NoMemory>
     requires { IsAnswer history.now fault }
     ensures { IfOk result (λ found. JudgesAtFault history.now fault found.phenomena found.level) }
 {
-    Err(AllocError)
+    match fault {
+        LocalFault::AbortedRead { .. } => find_at_read(alloc, history),
+        LocalFault::IntermediateRead { .. } => find_at_read(alloc, history),
+        LocalFault::Dangling { .. } => Ok(find_nothing()),
+        LocalFault::OwnWriteMissed { .. } => Ok(find_nothing()),
+        LocalFault::LaterThanOwn { .. } => Ok(find_nothing()),
+        LocalFault::RowsDiffer { .. } => Ok(find_nothing()),
+        LocalFault::WritesDiffer { .. } => Ok(find_nothing()),
+        LocalFault::InstallOrder { .. } => Ok(find_nothing()),
+        LocalFault::EndDiffers { .. } => Ok(find_nothing()),
+    }
+}
+
+/// What is found in a history whose rows are installed by their committed writers and in which somebody reads what was
+/// never committed. NoMemory where a growth was refused.
+fn find_at_read(alloc: Global, history: &History) -> Result<Findings, NoMemory>
+    requires installed { (row : Row) → ¬ Stands history.now (fault.InstallOrder row) }
+    requires read { ¬ (MeetsPl2 history.now) }
+    ensures { IfOk result (λ found. JudgesReads history.now found.phenomena found.level) }
+{
+    let g0 = find_listed_circle(alloc, history)?;
+    let g1a = find_aborted_read(alloc, history)?;
+    let g1b = find_intermediate_read(alloc, history)?;
+    let level = low_grade_of(&g0);
+    Ok(Findings {
+        phenomena: [
+            g0,
+            g1a,
+            g1b,
+            Finding::NotJudged,
+            Finding::NotJudged,
+            Finding::NotJudged,
+            Finding::NotJudged,
+        ],
+        level,
+    })
+}
+
+/// The closed walk of write-dependencies, by the rows' lists of installers alone. NoMemory where a growth was refused.
+fn find_listed_circle(alloc: Global, history: &History) -> Result<Finding, NoMemory>
+    requires { (row : Row) → ¬ Stands history.now (fault.InstallOrder row) }
+    ensures { IfOk result (FindsWalk (IsG0 history.now)) }
+{
+    let nodes = Nodes::of(alloc, history)?;
+    let edges = write_edges(alloc, history)?;
+    let writes = graph_of(alloc, &nodes, &edges, Allowed::Writes)?;
+    find_circle(alloc, &nodes, &edges, Allowed::Writes, &writes)
+}
+
+/// What is found where nothing is judged.
+fn find_nothing() -> Findings
+    ensures { JudgesNothing result.phenomena result.level }
+{
+    Findings {
+        phenomena: [
+            Finding::NotJudged,
+            Finding::NotJudged,
+            Finding::NotJudged,
+            Finding::NotJudged,
+            Finding::NotJudged,
+            Finding::NotJudged,
+            Finding::NotJudged,
+        ],
+        level: Grade::Unsound,
+    }
 }

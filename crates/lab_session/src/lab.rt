@@ -17,7 +17,7 @@ use std::alloc::Global;
 use std::marker::Model;
 use std::sync::{Condvar, Mutex, MutexGuard, Wait};
 
-/// A bench under a lock, and how many sessions it has seats for. Contracts see that number, from 1 to 9.
+/// A bench under a lock, and how many sessions it has seats for. Contracts see that number, at most 9.
 #[derive(Drop)]
 pub struct Lab<E: Engine> {
     bench: Mutex<Bench<E>>,

@@ -1,0 +1,65 @@
+-- The edges between neighbours in the rows' lists are the write-dependencies.
+use Rattle.std.proofs.Common.{◌≡◌, ◌≢◌, ℕ, suc, Bool, true, false, cond, List, [], refl, sym, ap, subst, arith}
+use Rattle.std.specs.Prelude.{Contains, unwrap_or}
+use Rattle.std.specs.List.{flat_map}
+use Rattle.std.specs.FinMap as map
+use Rattle.std.proofs.lemmas.Bool.{and_parts}
+use Rattle.lab_table.specs.Row.{Row}
+use Rattle.lab_history.specs.History.{History}
+use Rattle.lab_history.specs.Version.{IsCommitted, outcome_of, writes_row, installers}
+use Rattle.lab_deps.specs.Collected.{neighbours_at}
+use Rattle.lab_deps.specs.Edges.{InstallsAt, Depends, IsEdge}
+use Rattle.lab_deps.specs.Soundness.{Stands, has_committed, is_writer}
+use Rattle.lab_deps.specs.declared.edge.Edge.{Edge}
+use Rattle.lab_deps.specs.declared.edge.Kind.TheVariants.{Write}
+use Rattle.lab_deps.specs.declared.fault.LocalFault.TheVariants.{InstallOrder}
+use Rattle.lab_deps.proofs.Found.{committed}
+use Rattle.lab_deps.proofs.Installers.{entry_found, found_entry, installed_entry}
+use Rattle.lab_deps.proofs.Membership.{from_each, of_each}
+use Rattle.lab_deps.proofs.Neighbours.{IsNeighbour, neighbours_are, are_neighbours}
+use Rattle.lab_deps.proofs.Places.{times_count, at_times}
+
+-- how often a number stands in a list that it stands in once or never
+abbrev one_if : Bool → ℕ
+one_if b = cond b 1 0
+
+module _ (h : History) (installed : (row : Row) → Stands h (InstallOrder row) → ⊥) where
+  -- each installer has committed
+  installer_committed : (row : Row) (p n : ℕ) → InstallsAt h row p n → IsCommitted h n
+  installer_committed row p n at =
+      elim (is_writer h row n) as (λ b. is_writer h row n ≡ b → IsCommitted h n) [
+        | true ↦ λ writer. committed (outcome_of h n) (and_parts (has_committed (outcome_of h n)) (writes_row h n row) writer).0
+        | false ↦ λ other.
+            let once : cond (is_writer h row n) 1 0 ≡ 0 = ap one_if other in
+            absurd (installed row (n, λ is. omega (arith, at_times (installers h row) p n at, times_count n (installers h row), is, once)))
+      ] refl
+
+  -- an edge between neighbours is a write-dependency
+  neighbour_is_edge : (row : Row) (e : Edge) → IsNeighbour row (installers h row) e → IsEdge h e × (e.kind ≡ Write)
+  neighbour_is_edge row e r =
+      subst (λ k. IsEdge h k × (k.kind ≡ Write)) r.is (
+        (
+          installer_committed row r.place r.from r.from_is,
+          installer_committed row (suc r.place) r.to r.to_is,
+          subst (λ (k : Edge). k.from ≢ k.to) (sym r.is) r.differ,
+          (r.place, r.from_is, r.to_is),
+        ),
+        refl,
+      )
+
+  -- the list of an entry is that of its row
+  named : (e : Row × List ℕ) → Contains (map.entries h.installed) e → e.1 ≡ installers h e.0
+  named e there = ap (λ o. unwrap_or o []) (sym (entry_found h.installed e there))
+
+  pub are_writes : (e : Edge) → Contains (flat_map neighbours_at (map.entries h.installed)) e → IsEdge h e × (e.kind ≡ Write)
+  are_writes e found =
+      let of_row = from_each neighbours_at (map.entries h.installed) e found in
+      neighbour_is_edge of_row.source.0 e (neighbours_are of_row.source.0 (installers h of_row.source.0) e (subst (λ ns. Contains (neighbours_at (of_row.source.0, ns)) e) (named of_row.source of_row.is_source) of_row.is_made))
+
+  pub writes_are : (e : Edge) → IsEdge h e × (e.kind ≡ Write) → Contains (flat_map neighbours_at (map.entries h.installed)) e
+  writes_are e ((a, b, differ, depends), is_write) = written (subst (λ k. Depends h k e.row e.from e.to) is_write depends)
+    where
+      written : Depends h Write e.row e.from e.to → Contains (flat_map neighbours_at (map.entries h.installed)) e
+      written (p, from, to) =
+          of_each neighbours_at (map.entries h.installed) (e.row, installers h e.row) e (found_entry h.installed e.row (installers h e.row) (installed_entry h e.row p e.from from))
+          (subst (λ k. Contains (neighbours_at (e.row, installers h e.row)) (record { from = e.from; to = e.to; kind = k; row = e.row })) (sym is_write) (are_neighbours e.row (installers h e.row) p e.from e.to from to differ))

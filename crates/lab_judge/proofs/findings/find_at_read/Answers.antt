@@ -1,0 +1,5 @@
+use Rattle.std.proofs.Common.{refl}
+use Rattle.lab_judge.proofs.findings.find_at_read.Goals as goal
+
+pub returns : goal.returns
+returns c = (c.in_ok-g0.ensures, c.in_ok-g1a.ensures, c.in_ok-g1b.ensures, refl, refl, refl, refl, c.low_grade_of-level.ensures c.args.history.now c.requires.read c.in_ok-g0.ensures)

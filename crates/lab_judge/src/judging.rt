@@ -1,0 +1,135 @@
+//! The judgement of a history.
+
+ghost use Rattle.std.specs.Prelude.{◌≡◌, ◌≢◌, ◌⊎◌, ◌↔◌, ◌≤◌, ◌<◌, length, Contains, Ok, Err, Some, IfOk, IfErr, MatchResult, IsUtf8};
+ghost use Rattle.serde_json.specs.Data.{Data};
+ghost use Rattle.serde_json.specs.Read.{read as read_text};
+ghost use Rattle.lab_history.specs.FaultOf.{IsTrueFault};
+ghost use Rattle.lab_history.specs.Format.{history_in};
+ghost use Rattle.lab_history.specs.declared.fault.Limit.TheVariants.{Bytes};
+ghost use Rattle.lab_deps.specs.Edges.{IsEdge};
+ghost use Rattle.lab_deps.specs.EdgeOrder.{IsInOrder};
+ghost use Rattle.lab_deps.specs.Refusal.{IsAnswer};
+ghost use Rattle.lab_deps.specs.Soundness.{IsSound};
+ghost use Rattle.lab_deps.specs.declared.edge.Edge.{Edge as Spelled};
+ghost use Rattle.lab_judge.specs.Runs.{HoldsEachOnce};
+ghost use Rattle.lab_judge.specs.Judgement.{IsExactJudgement, IsSerialVerdict, IsSnapshotVerdict, SameFault, Judges, JudgesAll, RestsOnOrder};
+ghost use Rattle.lab_judge.specs.FileJudgement.{IsFileJudgement};
+
+use crate::findings::{Findings, find_at_fault, find_in_sound, find_none};
+use crate::nodes::Nodes;
+use crate::places::Places;
+use crate::placing::snapshot_verdict;
+use crate::report::Report;
+use crate::serial::Serial;
+use crate::serializing::serial_verdict;
+use lab_deps::{Edge, LocalFault, Sound, Unsound, check_local, edges};
+use lab_engine::Recording;
+use lab_history::{FileFault, History, read_history};
+use lab_order::NoMemory;
+use std::alloc::{AllocError, Global};
+
+/// Judges a history: whether it is serializable, whether it is a snapshot run, which phenomena it has, and which level
+/// it meets.
+///
+/// A serial yes carries an order in which the committed transactions, run whole one after another, list, write and leave
+/// what is recorded. A snapshot yes carries places of starts and commits at which each of them sees the committed state
+/// of its start and its own writes, and overlapping ones write different rows. A no carries a fault of the history, or,
+/// where it is sound, dependencies or arrows that lead back to where they begin. NoMemory where a growth was refused.
+pub fn judge(alloc: Global, history: &History) -> Result<Report, NoMemory>
+    ensures exact { IfOk result (IsExactJudgement history.now) }
+    ensures serial { IfOk result (λ report. IsSerialVerdict history.now report.serial) }
+    ensures snapshot { IfOk result (λ report. IsSnapshotVerdict history.now report.snapshot) }
+    ensures fault { IfOk result (λ report. SameFault report.serial report.snapshot) }
+    ensures found { IfOk result (λ report. Judges history.now report.serial report.phenomena report.level) }
+{
+    match check_local(alloc, history) {
+        Ok(sound) => judge_sound(alloc, history, &sound),
+        Err(Unsound::NoMemory) => Err(AllocError),
+        Err(Unsound::Fault(fault)) => judge_unsound(alloc, history, &fault),
+    }
+}
+
+/// Judges the history of a file's bytes; refused as [`read_history`] refuses it.
+pub fn judge_bytes(alloc: Global, bytes: &[u8]) -> Result<Report, FileFault>
+    ensures judged { IfOk result (IsFileJudgement bytes.now) }
+    ensures short { IfOk result (λ report. length bytes.now ≤ 8388608) }
+    ensures only { (d : Data) → length bytes.now ≤ 8388608 → IsUtf8 bytes.now → read_text bytes.now ≡ Some d
+        → IfErr result (λ fault. (fault ≡ FileFault.NoMemory) ⊎ (history_in d ≡ Err fault)) }
+    ensures bytes { 8388608 < length bytes.now → result ≡ Err (FileFault.OverLimit Bytes) }
+    ensures not_json { result ≡ Err FileFault.NotJson → (d : Data) → IsUtf8 bytes.now → read_text bytes.now ≢ Some d }
+    ensures true_fault { (d : Data) → length bytes.now ≤ 8388608 → IsUtf8 bytes.now → read_text bytes.now ≡ Some d → IfErr result (λ fault. (fault ≡ FileFault.NoMemory) ⊎ IsTrueFault d fault) }
+    ensures no_text { length bytes.now ≤ 8388608 → ((d : Data) → IsUtf8 bytes.now → read_text bytes.now ≢ Some d)
+        → IfErr result (λ fault. (fault ≡ FileFault.NoMemory) ⊎ (fault ≡ FileFault.NotJson)) }
+{
+    let history = read_history(alloc, bytes)?;
+    match judge(alloc, &history) {
+        Ok(report) => Ok(report),
+        Err(_) => Err(FileFault::NoMemory),
+    }
+}
+
+/// Judges the history of a recording. NoMemory where a growth was refused.
+pub fn judge_recording(alloc: Global, recording: &Recording) -> Result<Report, NoMemory>
+    ensures exact { IfOk result (IsExactJudgement recording.now.history) }
+    ensures serial { IfOk result (λ report. IsSerialVerdict recording.now.history report.serial) }
+    ensures snapshot { IfOk result (λ report. IsSnapshotVerdict recording.now.history report.snapshot) }
+    ensures found { IfOk result (λ report. Judges recording.now.history report.serial report.phenomena report.level) }
+{
+    judge(alloc, recording.history())
+}
+
+/// The judgement of a sound history. NoMemory where a growth was refused.
+fn judge_sound(alloc: Global, history: &History, sound: &Sound) -> Result<Report, NoMemory>
+    requires { IsSound history.now }
+    ensures { IfOk result (IsExactJudgement history.now) }
+{
+    let nodes = Nodes::of(alloc, history)?;
+    let edges = edges(alloc, history, sound)?;
+    let serial = serial_verdict(alloc, history, &nodes, &edges)?;
+    let snapshot = snapshot_verdict(alloc, history, &nodes, &edges)?;
+    let found = find_beside(alloc, history, &nodes, &edges, &serial)?;
+    Ok(Report {
+        serial,
+        snapshot,
+        phenomena: found.phenomena,
+        level: found.level,
+    })
+}
+
+/// What is found in a sound history with this serial verdict: nothing where it is a yes. NoMemory where a growth was
+/// refused.
+fn find_beside(
+    alloc: Global,
+    history: &History,
+    nodes: &Nodes,
+    edges: &[Edge],
+    serial: &Serial,
+) -> Result<Findings, NoMemory>
+    requires sound { IsSound history.now }
+    requires nodes { HoldsEachOnce history.now nodes.now }
+    requires edges { (e : Spelled) → Contains edges.now e ↔ IsEdge history.now e }
+    requires order { IsInOrder edges.now }
+    requires rests { RestsOnOrder history.now serial.now }
+    ensures { IfOk result (λ found. JudgesAll history.now found.phenomena found.level) }
+{
+    match serial {
+        Serial::Yes(_) => Ok(find_none(history)),
+        _ => find_in_sound(alloc, history, nodes, edges),
+    }
+}
+
+/// The judgement of a history that isn't sound, where this fault was answered. NoMemory where a growth was refused.
+fn judge_unsound(alloc: Global, history: &History, fault: &LocalFault) -> Result<Report, NoMemory>
+    requires { IsAnswer history.now fault.now }
+    ensures { IfOk result (IsExactJudgement history.now) }
+{
+    let found = find_at_fault(alloc, history, *fault)?;
+    let serial = Serial::NoFault(*fault);
+    let snapshot = Places::NoFault(*fault);
+    Ok(Report {
+        serial,
+        snapshot,
+        phenomena: found.phenomena,
+        level: found.level,
+    })
+}
