@@ -3,6 +3,11 @@ use Rattle.std.proofs.Common.{◌≡◌, ◌≢◌, ◌⊎◌, inl, inr, ℕ, �
 use Rattle.std.proofs.lemmas.List.{length-take}
 use Rattle.std.proofs.lemmas.Bool.{cases_lt, false≢true}
 use Rattle.std.proofs.lemmas.Option.{none-some}
+use Rattle.std.proofs.lemmas.Result.{IfErr-at_err}
+use Rattle.std.specs.Prelude.{IfOk, IfErr}
+use Rattle.lab_judge.specs.declared.report.Report.{Report}
+use Rattle.lab_judge.specs.FileJudgement.{IsFileJudgement}
+use Rattle.lab_judge.specs.Judgement.{IsExactJudgement}
 use Rattle.std.proofs.lemmas.Str.{is_utf8-from_IsUtf8, IsUtf8-from_is_utf8}
 use Rattle.std.specs.Prelude.{min}
 use Rattle.std.specs.Str.{IsUtf8, is_utf8}
@@ -14,6 +19,8 @@ use Rattle.lab_history.specs.FileRead.{IsTextOf, IsNoText}
 use Rattle.lab_history.specs.declared.fault.FileFault.{FileFault}
 use Rattle.lab_history.specs.declared.fault.FileFault.TheVariants.{NoMemory, NotJson, OverLimit}
 use Rattle.lab_history.specs.declared.fault.Limit.TheVariants.{Bytes}
+use Rattle.lab_commands.specs.declared.ending.Ending.{Ending}
+use Rattle.lab_commands.specs.Judging.{IsJudgeAnswer}
 use Rattle.lab_commands.specs.Input.{read_of, most_bytes}
 use Rattle.lab_commands.specs.HistoryFile.{most_file_bytes, HoldsHistory, IsFormatFault, no_text, no_history, IsFileFault, too_long, of_format}
 
@@ -38,6 +45,13 @@ pub faults_whole : (input : List ℕ) (fault : FileFault) → IsFileFault (read_
 faults_whole input fault (too_long many is) = too_long (read_more input many) is
 faults_whole input fault (of_format few is) =
     of_format (rw (read_whole input few) at few) (rw (read_whole input few) at is)
+
+-- what is to be said of what is read is to be said of the whole input
+pub answers_whole : (input text : List ℕ) (ending : Ending) → IsJudgeAnswer (read_of input) text ending → IsJudgeAnswer input text ending
+answers_whole input text ending (inl j) =
+    inl (record { history = j.history; held = holds_whole input j.history j.held; report = j.report; judgement = j.judgement; told = j.told; done = j.done })
+answers_whole input text ending (inr r) =
+    inr (record { fault = r.fault; faulty = faults_whole input r.fault r.faulty; told = r.told; refused = r.refused })
 
 module _ (bytes : List ℕ) (fault : FileFault) (told : fault ≢ NoMemory) where
   not_for_memory : {X : Type 0} → (fault ≡ NoMemory) ⊎ X → X
@@ -66,3 +80,18 @@ module _ (bytes : List ℕ) (fault : FileFault) (told : fault ≢ NoMemory) wher
     | inl many ↦ too_long many (long many)
     | inr few ↦ of_format few (of_text (is_utf8 bytes) refl (read bytes) refl (λ tree. only tree few) (none few))
   ]
+
+-- the fault that reading a file is refused with is its first
+pub first_fault : {X : Type 0} (result : Result X FileFault) (bytes : List ℕ) → (most_file_bytes < length bytes → result ≡ Err (OverLimit Bytes))
+    → ((tree : Data) → length bytes ≤ most_file_bytes → IsUtf8 bytes → read bytes ≡ Some tree → IfErr result (λ fault. (fault ≡ NoMemory) ⊎ (history_in tree ≡ Err fault)))
+    → (length bytes ≤ most_file_bytes → ((tree : Data) → IsUtf8 bytes → read bytes ≢ Some tree) → IfErr result (λ fault. (fault ≡ NoMemory) ⊎ (fault ≡ NotJson)))
+    → IfErr result (λ fault. fault ≢ NoMemory → IsFileFault bytes fault)
+first_fault (Ok x) bytes long only none = tt
+first_fault (Err f) bytes long only none = λ told. is_first bytes f told (λ many. IfErr-at_err (λ g. f ≡ g) (long many) refl) only none
+
+-- a judgement of a file is one of the history that it holds
+pub held_report : (result : Result Report FileFault) (bytes : List ℕ) → IfOk result (IsFileJudgement bytes) → IfOk result (λ report. length bytes ≤ most_file_bytes)
+    → IfOk result (λ report. (history : History) × HoldsHistory bytes history × IsExactJudgement history report)
+held_report (Err f) bytes judged short = tt
+held_report (Ok report) bytes (tree, history, text, held, exact) short =
+    (history, record { short = short; tree = tree; spelled = text; held = held }, exact)

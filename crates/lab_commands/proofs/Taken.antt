@@ -3,7 +3,7 @@ use Rattle.std.proofs.Common.{◌≡◌, ◌⊎◌, inl, inr, ℕ, ◌≤◌, Li
 use Rattle.std.proofs.lemmas.List.{take_at}
 use Rattle.std.specs.Io.KnownBytes.{Consumes, Keeps, IsAtEnd}
 use Rattle.std.proofs.KnownBytes.{Consumes-nil, Consumes-trans, Consumes-kept}
-use Rattle.lab_commands.specs.Input.{Takes}
+use Rattle.lab_commands.specs.Input.{Takes, read_of}
 
 module _ (a b : Option (List ℕ)) where
   -- what is kept gives nothing
@@ -44,3 +44,9 @@ module _ (most : ℕ) where
       → IsAtEnd b ⊎ (length bytes ≡ most) → IfSome a (λ input. bytes ≡ take most input)
   read_whole a b bytes few took (inl end) = rw took.grown (taken_at_end a b took.part (rw took.grown at few) took.taken end)
   read_whole a b bytes few took (inr full) = rw took.grown (taken_at_limit a b took.part (rw took.grown at full) took.taken)
+
+-- what is said of an input, where a text was written of what was read of it
+pub said_of_input : (remaining : Option (List ℕ)) (bytes text : List ℕ) (Puts : List ℕ → Type 0) (Says : List ℕ → List ℕ → Type 0) → IfSome remaining (λ input. bytes ≡ read_of input)
+    → Puts text → ((input : List ℕ) → bytes ≡ read_of input → Says input text) → IfSome remaining (λ input. (said : List ℕ) × Puts said × Says input said)
+said_of_input None bytes text Puts Says is puts says = tt
+said_of_input (Some input) bytes text Puts Says is puts says = (text, puts, says input is)

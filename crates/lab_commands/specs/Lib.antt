@@ -2,3 +2,5 @@ pub mod Input
 pub mod Status
 pub mod Serial
 pub mod HistoryFile
+pub mod Judging
+pub mod Playing

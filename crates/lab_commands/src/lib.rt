@@ -6,8 +6,15 @@
 
 mod ending;
 mod input;
+mod judging;
 mod output;
+mod playing;
+mod playing_free;
+mod telling;
 mod transcribing;
 
 pub use ending::{Ending, RunFault, status};
+pub use judging::judge;
+pub use playing::run;
+pub use playing_free::run_free;
 pub use transcribing::serial;

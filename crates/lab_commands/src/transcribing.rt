@@ -4,14 +4,14 @@ ghost use Rattle.std.specs.Prelude.{◌≡◌, ◌⊎◌, List, ℕ, IfOk, IfErr
 ghost use Rattle.std.specs.Io.KnownBytes.{Appends, Keeps};
 ghost use Rattle.lab_script.specs.Limits.{ScriptPrints};
 ghost use Rattle.lab_script.specs.Transcript.{transcript};
-ghost use Rattle.lab_commands.specs.Input.{read_of};
 ghost use Rattle.lab_commands.specs.Serial.{IsSerialAnswer};
 
 use crate::ending::{Ending, RunFault};
 use crate::input::read_input;
 use crate::output::{Answer, write_text};
 use lab_script::{
-    PrintFault, Script, ScriptFault, parse_script, print_script_fault, print_transcript, run_serial,
+    PrintFault, Script, ScriptFault, first_bytes_tell_a_script, parse_script, print_script_fault,
+    print_transcript, run_serial,
 };
 use lab_table::NoMemory;
 use std::alloc::{AllocError, Global};
@@ -58,9 +58,10 @@ pub fn serial<R: Read, W: Write>(
     writer: &mut W,
 ) -> Result<Ending, RunFault>
     ensures written { IfOk result (λ ending. IfSome (R.remaining reader.old) (λ input.
-        (text : List ℕ) × Appends (W.contents writer.old) (W.contents writer.new) text × IsSerialAnswer (read_of input) text ending)) }
+        (text : List ℕ) × Appends (W.contents writer.old) (W.contents writer.new) text × IsSerialAnswer input text ending)) }
     ensures silent { IfErr result (λ fault. (fault ≡ RunFault.Unwritten) ⊎ Keeps (W.contents writer.old) (W.contents writer.new)) }
 {
+    first_bytes_tell_a_script();
     let input = read_input(alloc, reader)?;
     let answer = answer(alloc, input.as_slice())?;
     write_text(writer, answer.text.as_slice())?;
