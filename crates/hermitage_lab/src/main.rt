@@ -1,14 +1,6 @@
 //! `hermitage_lab`: scripts of transactions in, and proved answers out.
 #![tactic(auto)]
 
-mod ending;
-mod input;
-mod output;
-#[cfg(test)]
-mod replay;
-mod serial;
-#[cfg(test)]
-mod tests;
 mod words;
 
 ghost use Rattle.std.specs.Prelude.{◌≡◌, ◌≢◌};
@@ -16,7 +8,7 @@ ghost use Rattle.clap.specs.Values.{kind_of};
 ghost use Rattle.clap.specs.declared.error.kind.ErrorKind.TheVariants.{DisplayHelp, DisplayVersion, OutOfMemory};
 
 use clap::ArgMatches;
-use ending::{RunFault, status};
+use lab_commands::{RunFault, serial, status};
 use std::io::ErrorKind;
 use std::process::ExitCode;
 
@@ -62,11 +54,7 @@ fn explain(rt: &HostRuntime, error: &clap::Error) -> u8
 /// Runs a subcommand on the program's own streams, and answers the exit status.
 fn run(rt: &HostRuntime, matches: &ArgMatches<'_>) -> u8 {
     match matches.subcommand() {
-        Some(("serial", _)) => status(serial::serial(
-            rt.alloc(),
-            &mut rt.stdin(),
-            &mut rt.stdout(),
-        )),
+        Some(("serial", _)) => status(serial(rt.alloc(), &mut rt.stdin(), &mut rt.stdout())),
         _ => WORDS_REFUSED,
     }
 }

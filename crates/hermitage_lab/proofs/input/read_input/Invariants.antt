@@ -1,7 +1,0 @@
-use Rattle.std.proofs.Common.{[], ◌<◌, length}
-use Rattle.hermitage_lab.specs.Input.{Takes, most_bytes}
-use Rattle.hermitage_lab.proofs.input.read_input.Given as goal
-
-abbrev pub invariant-loop : goal.invariant-loop
-invariant-loop g l =
-    (length l.bytes.items < most_bytes) × Takes (g.R.Read.remaining l.fn.reader) (g.R.Read.remaining l.reader) [] l.bytes.items

@@ -1,0 +1,14 @@
+//! Tests of the subcommands' functions: what no contract says, and what the program itself can't show.
+//!
+//! For each subcommand a table of inputs and outputs; and streams that give little at a time, are interrupted, fail or
+//! never end, and memory that is refused.
+#![tactic(auto)]
+
+#[cfg(test)]
+mod case;
+#[cfg(test)]
+mod failing;
+#[cfg(test)]
+mod serial;
+#[cfg(test)]
+mod streams;

@@ -1,0 +1,97 @@
+//! Readers and writers that give or take little at a time, are interrupted, fail, or never end.
+
+use std::alloc::Global;
+use std::io::{Error, ErrorKind, Read, Result as IoResult, Write};
+
+/// A reader of some bytes: so many at a call, after some calls that are interrupted; one call fails.
+#[derive(Drop)]
+pub struct Source<'a> {
+    rest: &'a [u8],
+    step: usize,
+    interrupted: u32,
+    fails_at: u32,
+    pub calls: u32,
+}
+
+impl<'a> Source<'a> {
+    pub fn new(rest: &'a [u8], step: usize, interrupted: u32, fails_at: u32) -> Source<'a> {
+        Source {
+            rest,
+            step,
+            interrupted,
+            fails_at,
+            calls: 0,
+        }
+    }
+}
+
+impl<'a> Read for Source<'a> {
+    fn read(&mut self, buf: &mut [u8]) -> IoResult<usize> {
+        self.calls = self.calls.saturating_add(1);
+        if self.calls <= self.interrupted {
+            return Err(Error::from(ErrorKind::Interrupted));
+        }
+        if self.calls == self.fails_at {
+            return Err(Error::from(ErrorKind::Other));
+        }
+        let count = self.step.min(self.rest.len()).min(buf.len());
+        let (front, rest) = self.rest.split_at(count);
+        buf[..count].copy_from_slice(front);
+        self.rest = rest;
+        Ok(count)
+    }
+}
+
+/// A reader that never ends.
+#[derive(Drop)]
+pub struct Endless {
+    pub byte: u8,
+}
+
+impl Read for Endless {
+    fn read(&mut self, buf: &mut [u8]) -> IoResult<usize> {
+        buf.fill(self.byte);
+        Ok(buf.len())
+    }
+}
+
+/// A writer that takes so many bytes at a call; one call fails, where a flush is a call too.
+#[derive(Drop)]
+pub struct Sink {
+    pub text: Vec<u8>,
+    step: usize,
+    fails_at: u32,
+    pub calls: u32,
+}
+
+impl Sink {
+    pub fn new(alloc: Global, step: usize, fails_at: u32) -> Sink {
+        Sink {
+            text: Vec::new(alloc),
+            step,
+            fails_at,
+            calls: 0,
+        }
+    }
+
+    fn call(&mut self) -> IoResult<()> {
+        self.calls = self.calls.saturating_add(1);
+        if self.calls == self.fails_at {
+            return Err(Error::from(ErrorKind::Other));
+        }
+        Ok(())
+    }
+}
+
+impl Write for Sink {
+    fn write(&mut self, buf: &[u8]) -> IoResult<usize> {
+        self.call()?;
+        let count = self.step.min(buf.len());
+        self.text.extend_from_slice(&buf[..count])?;
+        Ok(count)
+    }
+
+    fn flush(&mut self) -> IoResult<()> {
+        self.call()
+    }
+}

@@ -1,0 +1,97 @@
+-- What a refusal of a history file says of its bytes, and of the whole input that they are the front of.
+use Rattle.std.proofs.Common.{◌≡◌, ◌≢◌, ◌⊎◌, inl, inr, ℕ, ◌≤◌, ◌<◌, List, length, take, Option, Some, None, Result, Ok, Err, refl, Bool, true, false, sym, ◌∙◌, ap, take_all, arith}
+use Rattle.std.proofs.lemmas.List.{length-take}
+use Rattle.std.proofs.lemmas.Bool.{cases_lt, false≢true}
+use Rattle.std.proofs.lemmas.Option.{none-some}
+use Rattle.std.proofs.lemmas.Result.{IfErr-at_err}
+use Rattle.std.specs.Prelude.{IfOk, IfErr}
+use Rattle.lab_judge.specs.declared.report.Report.{Report}
+use Rattle.lab_judge.specs.FileJudgement.{IsFileJudgement}
+use Rattle.lab_judge.specs.Judgement.{IsExactJudgement}
+use Rattle.std.proofs.lemmas.Str.{is_utf8-from_IsUtf8, IsUtf8-from_is_utf8}
+use Rattle.std.specs.Prelude.{min}
+use Rattle.std.specs.Str.{IsUtf8, is_utf8}
+use Rattle.serde_json.specs.Data.{Data}
+use Rattle.serde_json.specs.Read.{read}
+use Rattle.lab_history.specs.History.{History}
+use Rattle.lab_history.specs.Format.{history_in}
+use Rattle.lab_history.specs.FileRead.{IsTextOf, IsNoText}
+use Rattle.lab_history.specs.declared.fault.FileFault.{FileFault}
+use Rattle.lab_history.specs.declared.fault.FileFault.TheVariants.{NoMemory, NotJson, OverLimit}
+use Rattle.lab_history.specs.declared.fault.Limit.TheVariants.{Bytes}
+use Rattle.lab_commands.specs.declared.ending.Ending.{Ending}
+use Rattle.lab_commands.specs.Judging.{IsJudgeAnswer}
+use Rattle.lab_commands.specs.Input.{read_of, most_bytes}
+use Rattle.lab_commands.specs.HistoryFile.{most_file_bytes, HoldsHistory, IsFormatFault, no_text, no_history, IsFileFault, too_long, of_format}
+
+-- an input of which no more is read than a file may have is read whole
+read_whole : (input : List ℕ) → length (read_of input) ≤ most_file_bytes → read_of input ≡ input
+read_whole input few =
+    let cut : length (read_of input) ≡ min most_bytes (length input) = length-take most_bytes input in
+    take_all most_bytes input (omega arith)
+
+-- an input of which more is read has more
+read_more : (input : List ℕ) → most_file_bytes < length (read_of input) → most_file_bytes < length input
+read_more input many =
+    let cut : length (read_of input) ≡ min most_bytes (length input) = length-take most_bytes input in
+    omega arith
+
+-- the history that what is read holds is the one of the whole input
+pub holds_whole : (input : List ℕ) (h : History) → HoldsHistory (read_of input) h → HoldsHistory input h
+holds_whole input h held = rw (read_whole input held.short) at held
+
+-- the fault of what is read is the one of the whole input
+pub faults_whole : (input : List ℕ) (fault : FileFault) → IsFileFault (read_of input) fault → IsFileFault input fault
+faults_whole input fault (too_long many is) = too_long (read_more input many) is
+faults_whole input fault (of_format few is) =
+    of_format (rw (read_whole input few) at few) (rw (read_whole input few) at is)
+
+-- what is to be said of what is read is to be said of the whole input
+pub answers_whole : (input text : List ℕ) (ending : Ending) → IsJudgeAnswer (read_of input) text ending → IsJudgeAnswer input text ending
+answers_whole input text ending (inl j) =
+    inl (record { history = j.history; held = holds_whole input j.history j.held; report = j.report; judgement = j.judgement; told = j.told; done = j.done })
+answers_whole input text ending (inr r) =
+    inr (record { fault = r.fault; faulty = faults_whole input r.fault r.faulty; told = r.told; refused = r.refused })
+
+module _ (bytes : List ℕ) (fault : FileFault) (told : fault ≢ NoMemory) where
+  not_for_memory : {X : Type 0} → (fault ≡ NoMemory) ⊎ X → X
+  not_for_memory (inl is) = absurd (told is)
+  not_for_memory (inr x) = x
+
+  -- bytes that a reader of values refuses, by whether they are the text of one
+  of_text : (utf8 : Bool) → is_utf8 bytes ≡ utf8 → (found : Option Data) → read bytes ≡ found
+      → ((tree : Data) → IsUtf8 bytes → read bytes ≡ Some tree → (fault ≡ NoMemory) ⊎ (history_in tree ≡ Err fault))
+      → (((tree : Data) → IsUtf8 bytes → read bytes ≢ Some tree) → (fault ≡ NoMemory) ⊎ (fault ≡ NotJson))
+      → IsFormatFault bytes fault
+  of_text false not_utf8 found is only none =
+      let never : IsUtf8 bytes → ⊥ = λ u. false≢true (sym not_utf8 ∙ is_utf8-from_IsUtf8 bytes u) in
+      no_text (λ u. absurd (never u)) (not_for_memory (none (λ tree u r. never u)))
+  of_text true utf8 None is only none = no_text (λ u. is) (not_for_memory (none (λ tree u r. none-some tree (sym is ∙ r))))
+  of_text true utf8 (Some tree) is only none =
+      let u : IsUtf8 bytes = IsUtf8-from_is_utf8 bytes utf8 in
+      no_history tree (u, is) (not_for_memory (only tree u is))
+
+  -- what the refusals of reading a file say is that the fault is its first
+  pub is_first : (most_file_bytes < length bytes → fault ≡ OverLimit Bytes)
+      → ((tree : Data) → length bytes ≤ most_file_bytes → IsUtf8 bytes → read bytes ≡ Some tree → (fault ≡ NoMemory) ⊎ (history_in tree ≡ Err fault))
+      → (length bytes ≤ most_file_bytes → ((tree : Data) → IsUtf8 bytes → read bytes ≢ Some tree) → (fault ≡ NoMemory) ⊎ (fault ≡ NotJson))
+      → IsFileFault bytes fault
+  is_first long only none = elim (cases_lt most_file_bytes (length bytes)) [
+    | inl many ↦ too_long many (long many)
+    | inr few ↦ of_format few (of_text (is_utf8 bytes) refl (read bytes) refl (λ tree. only tree few) (none few))
+  ]
+
+-- the fault that reading a file is refused with is its first
+pub first_fault : {X : Type 0} (result : Result X FileFault) (bytes : List ℕ) → (most_file_bytes < length bytes → result ≡ Err (OverLimit Bytes))
+    → ((tree : Data) → length bytes ≤ most_file_bytes → IsUtf8 bytes → read bytes ≡ Some tree → IfErr result (λ fault. (fault ≡ NoMemory) ⊎ (history_in tree ≡ Err fault)))
+    → (length bytes ≤ most_file_bytes → ((tree : Data) → IsUtf8 bytes → read bytes ≢ Some tree) → IfErr result (λ fault. (fault ≡ NoMemory) ⊎ (fault ≡ NotJson)))
+    → IfErr result (λ fault. fault ≢ NoMemory → IsFileFault bytes fault)
+first_fault (Ok x) bytes long only none = tt
+first_fault (Err f) bytes long only none = λ told. is_first bytes f told (λ many. IfErr-at_err (λ g. f ≡ g) (long many) refl) only none
+
+-- a judgement of a file is one of the history that it holds
+pub held_report : (result : Result Report FileFault) (bytes : List ℕ) → IfOk result (IsFileJudgement bytes) → IfOk result (λ report. length bytes ≤ most_file_bytes)
+    → IfOk result (λ report. (history : History) × HoldsHistory bytes history × IsExactJudgement history report)
+held_report (Err f) bytes judged short = tt
+held_report (Ok report) bytes (tree, history, text, held, exact) short =
+    (history, record { short = short; tree = tree; spelled = text; held = held }, exact)

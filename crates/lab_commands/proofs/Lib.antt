@@ -1,0 +1,5 @@
+mod FileFaults
+mod PlaysPrint
+mod Refusals
+mod Taken
+mod WholeScripts

@@ -1,0 +1,6 @@
+pub mod Input
+pub mod Status
+pub mod Serial
+pub mod HistoryFile
+pub mod Judging
+pub mod Playing

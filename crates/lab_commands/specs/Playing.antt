@@ -1,0 +1,94 @@
+-- What `run` says of an input.
+use Rattle.std.specs.Prelude.{◌≡◌, ◌≢◌, ℕ, ◌<◌, ◌⊎◌, List, ◌++◌, length, Bool, true, false}
+use Rattle.serde_json.specs.Written.{compact_text}
+use Rattle.lab_script.specs.declared.script.Script.{Script}
+use Rattle.lab_script.specs.Printed.{newline}
+use Rattle.lab_script.specs.Script.{Spells}
+use Rattle.lab_history.specs.History.{History}
+use Rattle.lab_history.specs.Tree.{tree_of}
+use Rattle.lab_history.specs.declared.fault.FileFault.TheVariants.{OverLimit}
+use Rattle.lab_history.specs.declared.fault.Limit.TheVariants.{Bytes}
+use Rattle.lab_engine.specs.Log.{past_of}
+use Rattle.lab_engine.specs.Recording.{IsRecording}
+use Rattle.lab_engine.specs.RecordedLog.{RecordedLog, IsSoundRecord}
+use Rattle.lab_engine.specs.declared.event.Level.{Level}
+use Rattle.lab_session.specs.Play.{given_lines, IsLegalPlay, IsScriptedFault}
+use Rattle.lab_session.specs.Free.{AllSessionsPlayed}
+use Rattle.lab_session.specs.LogText.{log_text}
+use Rattle.lab_session.specs.PlayFaultText.{play_fault_text}
+use Rattle.lab_session.specs.declared.fault.PlayFault.{PlayFault}
+use Rattle.lab_session.specs.declared.fault.PlayFault.TheVariants.{NoMemory}
+use Rattle.lab_judge.specs.Judgement.{IsExactJudgement}
+use Rattle.lab_judge.specs.ReportText.{report_text}
+use Rattle.lab_judge.specs.FileFaultText.{file_fault_text}
+use Rattle.lab_judge.specs.declared.report.Report.{Report}
+use Rattle.lab_commands.specs.declared.ending.Ending.{Ending}
+use Rattle.lab_commands.specs.declared.ending.Ending.TheVariants.{Done, Refused}
+use Rattle.lab_commands.specs.HistoryFile.{most_file_bytes}
+use Rattle.lab_commands.specs.Serial.{IsRefused}
+
+-- a recording of a script that is played by one thread, at a level: its log is legal and follows the script to its end
+pub record IsScriptedPlay (level : Level) (script : Script) (recording : RecordedLog) : Type 0 where
+  pub at_level : recording.level ≡ level
+  pub on_setup : recording.setup ≡ script.setup
+  pub play : IsLegalPlay level script.setup (given_lines script.lines) recording.log
+  pub history : IsRecording script.setup (past_of recording.log) recording.history
+
+-- why such a play has no recording
+abbrev pub IsScriptedRefusal : Level → Script → PlayFault → Type 0
+IsScriptedRefusal level script fault = IsScriptedFault level script.setup (given_lines script.lines) fault
+
+-- a recording of a script that is played by one thread for each session: a legal log in which each session's calls are
+-- its commands of the script in order, and then at most one abort
+pub record IsFreePlay (script : Script) (recording : RecordedLog) : Type 0 where
+  pub sound : IsSoundRecord recording
+  pub played : AllSessionsPlayed (given_lines script.lines) recording.log
+
+-- nothing is said of why such a play was refused
+abbrev pub IsAnyRefusal : Script → PlayFault → Type 0
+IsAnyRefusal script fault = Unit {0}
+
+-- the text of a history's file
+abbrev pub file_text : History → List ℕ
+file_text history = compact_text (tree_of history)
+
+-- the text is the log, and the report of a judgement of what it recorded
+pub record TellsLog (recording : RecordedLog) (text : List ℕ) (ending : Ending) : Type 0 where
+  pub report : Report
+  pub judgement : IsExactJudgement recording.history report
+  pub told : text ≡ log_text recording.log ++ report_text report
+  pub done : ending ≡ Done
+
+-- the text is the file of what was recorded and a newline, or the line that says that the file would be too long
+pub data TellsHistory (recording : RecordedLog) (text : List ℕ) (ending : Ending) : Type 0 where
+  written : text ≡ file_text recording.history ++ newline → ending ≡ Done → TellsHistory recording text ending
+  too_long : most_file_bytes < length (file_text recording.history) → text ≡ file_fault_text (OverLimit Bytes) → ending ≡ Refused → TellsHistory recording text ending
+
+-- what is told of a recording: its history where that is asked for, else its log
+abbrev pub Tells : Bool → RecordedLog → List ℕ → Ending → Type 0
+Tells false recording text ending = TellsLog recording text ending
+Tells true recording text ending = TellsHistory recording text ending
+
+-- What is said of a script whose plays give such recordings, or are refused for such a fault.
+module _ (Plays : Script → RecordedLog → Type 0) (Refuses : Script → PlayFault → Type 0) where
+  -- the input spells a script, and the text tells of a recording of it
+  pub record IsPlayed (history : Bool) (input text : List ℕ) (ending : Ending) : Type 0 where
+    pub script : Script
+    pub spelled : Spells input script
+    pub recording : RecordedLog
+    pub played : Plays script recording
+    pub tells : Tells history recording text ending
+
+  -- the input spells a script whose play was refused, and the text is the line of its fault
+  pub record IsUnplayed (input text : List ℕ) (ending : Ending) : Type 0 where
+    pub script : Script
+    pub spelled : Spells input script
+    pub fault : PlayFault
+    pub told_why : fault ≢ NoMemory
+    pub faulty : Refuses script fault
+    pub told : text ≡ play_fault_text fault
+    pub refused : ending ≡ Refused
+
+  -- the text is what is to be said of the input, and the ending is the one due
+  abbrev pub IsRunAnswer : Bool → List ℕ → List ℕ → Ending → Type 0
+  IsRunAnswer history input text ending = IsPlayed history input text ending ⊎ (IsRefused input text ending ⊎ IsUnplayed input text ending)

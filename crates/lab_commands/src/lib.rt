@@ -1,0 +1,20 @@
+//! The subcommands of the program, each over a reader and a writer.
+//!
+//! Each function reads its whole input before its first write, writes one text whole, and answers how the run ended: an
+//! [`Ending`] where the text was written, a [`RunFault`] where it wasn't. [`status`] is the exit status of either.
+#![tactic(auto)]
+
+mod ending;
+mod input;
+mod judging;
+mod output;
+mod playing;
+mod playing_free;
+mod telling;
+mod transcribing;
+
+pub use ending::{Ending, RunFault, status};
+pub use judging::judge;
+pub use playing::run;
+pub use playing_free::run_free;
+pub use transcribing::serial;

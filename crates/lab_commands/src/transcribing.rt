@@ -1,0 +1,69 @@
+//! The subcommand `serial`: a script's transactions, run one after another.
+
+ghost use Rattle.std.specs.Prelude.{◌≡◌, ◌⊎◌, List, ℕ, IfOk, IfErr, IfSome};
+ghost use Rattle.std.specs.Io.KnownBytes.{Appends, Keeps};
+ghost use Rattle.lab_script.specs.Limits.{ScriptPrints};
+ghost use Rattle.lab_script.specs.Transcript.{transcript};
+ghost use Rattle.lab_commands.specs.Serial.{IsSerialAnswer};
+
+use crate::ending::{Ending, RunFault};
+use crate::input::read_input;
+use crate::output::{Answer, write_text};
+use lab_script::{
+    PrintFault, Script, ScriptFault, first_bytes_tell_a_script, parse_script, print_script_fault,
+    print_transcript, run_serial,
+};
+use lab_table::NoMemory;
+use std::alloc::{AllocError, Global};
+use std::io::{Read, Write};
+
+/// The transcript of a script that prints.
+fn transcript_of(alloc: Global, script: &Script) -> Result<Vec<u8>, NoMemory>
+    requires { ScriptPrints script.now }
+    ensures { IfOk result (λ text. text.items ≡ transcript script.now) }
+{
+    let told = run_serial(alloc, script)?;
+    match print_transcript(alloc, &told) {
+        Ok(text) => Ok(text),
+        Err(PrintFault::NoMemory) => Err(AllocError),
+        Err(PrintFault::TooDeep | PrintFault::TooLong) => unreachable!(),
+    }
+}
+
+/// What there is to say of an input: its transcript, or the line of its first fault.
+fn answer(alloc: Global, input: &[u8]) -> Result<Answer, NoMemory>
+    ensures { IfOk result (λ answer. IsSerialAnswer input.now answer.text.items answer.ending) }
+{
+    match parse_script(alloc, input) {
+        Ok(script) => Ok(Answer {
+            text: transcript_of(alloc, &script)?,
+            ending: Ending::Done,
+        }),
+        Err(ScriptFault::NoMemory) => Err(AllocError),
+        Err(fault) => Ok(Answer {
+            text: print_script_fault(alloc, &fault)?,
+            ending: Ending::Refused,
+        }),
+    }
+}
+
+/// Reads a script, and writes what it does where its transactions run one after another, each whole, in the
+/// order of their begins; or the line of the first fault where the input is no script.
+///
+/// The input is read before the first write. `Unread` where it can't be read, `NoMemory` where a growth was
+/// refused, and then nothing is written; `Unwritten` where a write fails.
+pub fn serial<R: Read, W: Write>(
+    alloc: Global,
+    reader: &mut R,
+    writer: &mut W,
+) -> Result<Ending, RunFault>
+    ensures written { IfOk result (λ ending. IfSome (R.remaining reader.old) (λ input.
+        (text : List ℕ) × Appends (W.contents writer.old) (W.contents writer.new) text × IsSerialAnswer input text ending)) }
+    ensures silent { IfErr result (λ fault. (fault ≡ RunFault.Unwritten) ⊎ Keeps (W.contents writer.old) (W.contents writer.new)) }
+{
+    first_bytes_tell_a_script();
+    let input = read_input(alloc, reader)?;
+    let answer = answer(alloc, input.as_slice())?;
+    write_text(writer, answer.text.as_slice())?;
+    Ok(answer.ending)
+}
