@@ -3,3 +3,4 @@ mod PlaysPrint
 mod Refusals
 mod Taken
 mod WholeScripts
+mod ScriptsPrint

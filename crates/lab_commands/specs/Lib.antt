@@ -4,3 +4,5 @@ pub mod Serial
 pub mod HistoryFile
 pub mod Judging
 pub mod Playing
+pub mod Tabulating
+pub mod Batching

@@ -4,17 +4,23 @@
 //! [`Ending`] where the text was written, a [`RunFault`] where it wasn't. [`status`] is the exit status of either.
 #![tactic(auto)]
 
+mod batching;
 mod ending;
 mod input;
 mod judging;
+mod listing;
 mod output;
 mod playing;
 mod playing_free;
+mod tabulating;
 mod telling;
 mod transcribing;
 
+pub use batching::batch;
 pub use ending::{Ending, RunFault, status};
 pub use judging::judge;
+pub use listing::case;
 pub use playing::run;
 pub use playing_free::run_free;
+pub use tabulating::matrix;
 pub use transcribing::serial;

@@ -1,0 +1,102 @@
+//! The subcommand `batch`: the reports of many files.
+
+ghost use Rattle.std.specs.Prelude.{◌≡◌, ◌⊎◌, ◌++◌, IfOk, IfErr, OnOk};
+ghost use Rattle.std.specs.Io.KnownBytes.{Keeps};
+ghost use Rattle.lab_commands.specs.Batching.{part_text, part_status};
+
+use crate::ending::{Ending, RunFault, status};
+use crate::input::read_input;
+use crate::output::write_text;
+use lab_history::FileFault;
+use lab_judge::{Report, judge_all, print_file_fault, print_report};
+use lab_table::NoMemory;
+use std::alloc::{AllocError, Global};
+use std::io::{ErrorKind, Write};
+use std::rt::Files;
+use std::thread::Threads;
+
+/// The bytes of a file, up to 8,388,609 of them; None where it can't be opened or read.
+fn read_file<T: Files>(rt: &T, alloc: Global, name: &str) -> Result<Option<Vec<u8>>, NoMemory> {
+    match std::fs::open(rt, name) {
+        Ok(mut file) => match read_input(alloc, &mut file) {
+            Ok(bytes) => Ok(Some(bytes)),
+            Err(RunFault::NoMemory) => Err(AllocError),
+            Err(_) => Ok(None),
+        },
+        Err(error) if error.kind() == ErrorKind::OutOfMemory => Err(AllocError),
+        Err(_) => Ok(None),
+    }
+}
+
+/// Files' bytes, and which of them were read; one that wasn't has none.
+#[derive(Drop)]
+struct Inputs {
+    files: Vec<Vec<u8>>,
+    are_read: Vec<bool>,
+}
+
+fn read_files<T: Files>(rt: &T, alloc: Global, names: &[&str]) -> Result<Inputs, NoMemory> {
+    let mut files = Vec::with_capacity(alloc, names.len())?;
+    let mut are_read = Vec::with_capacity(alloc, names.len())?;
+    for name in names {
+        let file = read_file(rt, alloc, name)?;
+        are_read.push(file.is_some())?;
+        files.push(file.unwrap_or(Vec::new(alloc)))?;
+    }
+    Ok(Inputs { files, are_read })
+}
+
+/// What there is to say of one file, behind a line with its name; answers the exit status that it calls for.
+fn put_part(
+    alloc: Global,
+    out: &mut Vec<u8>,
+    name: &str,
+    is_read: bool,
+    answer: &Result<Report, FileFault>,
+) -> Result<u8, NoMemory>
+    ensures text { OnOk result (out.new.items ≡ out.old.items ++ part_text name.now is_read answer.now) }
+    ensures status { IfOk result (λ status. status ≡ part_status is_read answer.now) }
+{
+    out.extend_from_slice(b"== ")?;
+    out.extend_from_slice(name.as_bytes())?;
+    out.push(b'\n')?;
+    if !is_read {
+        out.extend_from_slice(b"file: unreadable\n")?;
+        return Ok(status(Err(RunFault::Unread)));
+    }
+    match answer {
+        Ok(report) => {
+            out.extend_from_slice(&print_report(alloc, report)?)?;
+            Ok(status(Ok(Ending::Done)))
+        }
+        Err(fault) => {
+            out.extend_from_slice(&print_file_fault(alloc, fault)?)?;
+            Ok(status(Ok(Ending::Refused)))
+        }
+    }
+}
+
+/// Reads each of these files, judges them by as many threads as there are processors, and then writes for each, in
+/// their order, a line `== NAME` and the report of a judgement of its history, the line of its fault, or
+/// `file: unreadable` where it can't be opened or read. Answers the greatest exit status met.
+///
+/// All files are read and judged before the first write. `NoMemory` where a growth was refused, and then nothing is
+/// written; `Unwritten` where a write fails.
+pub fn batch<T: Files + Threads + Sync, W: Write>(
+    rt: &T,
+    alloc: Global,
+    names: &[&str],
+    writer: &mut W,
+) -> Result<u8, RunFault>
+    ensures silent { IfErr result (λ fault. (fault ≡ RunFault.Unwritten) ⊎ Keeps (W.contents writer.old) (W.contents writer.new)) }
+{
+    let inputs = read_files(rt, alloc, names)?;
+    let answers = judge_all(rt, alloc, &inputs.files)?;
+    let mut text = Vec::new(alloc);
+    let mut greatest = 0u8;
+    for ((name, is_read), answer) in names.iter().zip(inputs.are_read.iter()).zip(answers.iter()) {
+        greatest = greatest.max(put_part(alloc, &mut text, name, *is_read, answer)?);
+    }
+    write_text(writer, &text)?;
+    Ok(greatest)
+}
