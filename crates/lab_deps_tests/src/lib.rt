@@ -7,4 +7,6 @@ mod alike;
 #[cfg(test)]
 mod chain;
 #[cfg(test)]
+mod made;
+#[cfg(test)]
 mod pairs;
