@@ -8,9 +8,13 @@ ghost use Rattle.clap.specs.Values.{kind_of};
 ghost use Rattle.clap.specs.declared.error.kind.ErrorKind.TheVariants.{DisplayHelp, DisplayVersion, OutOfMemory};
 
 use clap::ArgMatches;
-use lab_commands::{RunFault, serial, status};
-use std::io::ErrorKind;
+use lab_commands::{RunFault, judge, run, run_free, serial, status};
+use lab_engine::Level;
+use std::alloc::Global;
+use std::io::{ErrorKind, Read, Write};
 use std::process::ExitCode;
+use std::sync::Wait;
+use std::thread::Threads;
 
 /// The exit status of a refused command line.
 const WORDS_REFUSED: u8 = 5;
@@ -51,10 +55,44 @@ fn explain(rt: &HostRuntime, error: &clap::Error) -> u8
     }
 }
 
-/// Runs a subcommand on the program's own streams, and answers the exit status.
-fn run(rt: &HostRuntime, matches: &ArgMatches<'_>) -> u8 {
+/// The level of the engine of this name; the words have no other.
+fn level_of(engine: &str) -> Level {
+    match engine {
+        "locking" => Level::Locking,
+        "committed" => Level::Committed,
+        _ => Level::Snapshot,
+    }
+}
+
+/// Runs `run`, and answers the exit status.
+fn run_play<T: Threads + Wait + Sync, R: Read, W: Write>(
+    rt: &T,
+    alloc: Global,
+    reader: &mut R,
+    writer: &mut W,
+    matches: &ArgMatches<'_>,
+) -> u8 {
+    let level = level_of(matches.get_str("engine").unwrap_or("snapshot"));
+    let history = matches.get_flag("history");
+    status(if matches.get_flag("free") {
+        run_free(rt, alloc, reader, writer, level, history)
+    } else {
+        run(alloc, reader, writer, level, history)
+    })
+}
+
+/// Runs a subcommand, and answers the exit status.
+fn run_words<T: Threads + Wait + Sync, R: Read, W: Write>(
+    rt: &T,
+    alloc: Global,
+    reader: &mut R,
+    writer: &mut W,
+    matches: &ArgMatches<'_>,
+) -> u8 {
     match matches.subcommand() {
-        Some(("serial", _)) => status(serial(rt.alloc(), &mut rt.stdin(), &mut rt.stdout())),
+        Some(("serial", _)) => status(serial(alloc, reader, writer)),
+        Some(("run", more)) => run_play(rt, alloc, reader, writer, more),
+        Some(("judge", _)) => status(judge(alloc, reader, writer)),
         _ => WORDS_REFUSED,
     }
 }
@@ -68,7 +106,7 @@ fn main(rt: HostRuntime) -> ExitCode {
         return ExitCode::from(status(Err(RunFault::NoMemory)));
     };
     let ended = match command.try_get_matches_from(given.as_slice()) {
-        Ok(matches) => run(&rt, &matches),
+        Ok(matches) => run_words(&rt, rt.alloc(), &mut rt.stdin(), &mut rt.stdout(), &matches),
         Err(error) => explain(&rt, &error),
     };
     ExitCode::from(ended)

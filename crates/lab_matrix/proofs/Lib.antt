@@ -1,1 +1,4 @@
 mod Setups
+mod CasesPrint
+mod CasePlays
+mod Padding

@@ -1,7 +1,10 @@
 //! The names of the cases.
 
 ghost use Rattle.std.specs.Prelude.{◌≡◌, IfOk};
+ghost use Rattle.lab_script.specs.Limits.{ScriptPrints};
 ghost use Rattle.lab_matrix.specs.Listings.{case_script};
+ghost use Rattle.lab_matrix.specs.MatrixText.{case_name};
+ghost use Rattle.lab_matrix.specs.declared.name.CaseName.{CaseName as Spelled};
 
 use crate::cases;
 use lab_script::Script;
@@ -34,6 +37,26 @@ pub enum CaseName {
     G2,
 }
 
+impl CaseName {
+    /// The name as it is printed and given: `G0`, `G1a`, `G1b`, `G1c`, `OTV`, `PMP`, `P4`, `G-single`, `G2-item`, `G2`.
+    pub fn name(self) -> &'static str
+        ensures { result.now ≡ case_name self }
+    {
+        match self {
+            CaseName::G0 => "G0",
+            CaseName::G1a => "G1a",
+            CaseName::G1b => "G1b",
+            CaseName::G1c => "G1c",
+            CaseName::Otv => "OTV",
+            CaseName::Pmp => "PMP",
+            CaseName::P4 => "P4",
+            CaseName::GSingle => "G-single",
+            CaseName::G2Item => "G2-item",
+            CaseName::G2 => "G2",
+        }
+    }
+}
+
 /// The script of a case: a listing of commands, one on each text line from line 2 on, over the table (1, 10), (2, 20).
 /// NoMemory where a growth was refused.
 pub fn case(alloc: Global, name: CaseName) -> Result<Script, NoMemory>
@@ -52,3 +75,8 @@ pub fn case(alloc: Global, name: CaseName) -> Result<Script, NoMemory>
         CaseName::G2 => cases::g2(alloc),
     }
 }
+
+/// The script of each case prints within the limits of a text.
+pub fn cases_print()
+    ensures { (case : Spelled) → ScriptPrints (case_script case) }
+{}

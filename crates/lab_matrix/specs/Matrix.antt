@@ -1,0 +1,62 @@
+-- What stands in the matrix: for each case and each level the judgement of a recording.
+use Rattle.std.specs.Prelude.{◌≡◌}
+use Rattle.lab_engine.specs.declared.event.Level.{Level}
+use Rattle.lab_engine.specs.declared.event.Level.TheVariants as level
+use Rattle.lab_engine.specs.RecordedLog.{RecordedLog}
+use Rattle.lab_engine.specs.Log.{past_of}
+use Rattle.lab_engine.specs.Recording.{IsRecording}
+use Rattle.lab_session.specs.Play.{given_lines, IsLegalPlay, IsScriptedFault}
+use Rattle.lab_judge.specs.Judgement.{IsExactJudgement}
+use Rattle.lab_judge.specs.declared.report.Report.{Report}
+use Rattle.lab_matrix.specs.Listings.{usual_setup, listing}
+use Rattle.lab_matrix.specs.declared.name.CaseName.{CaseName}
+use Rattle.lab_matrix.specs.declared.name.CaseName.TheVariants as name
+use Rattle.lab_matrix.specs.declared.cells.Row.{Row}
+use Rattle.lab_matrix.specs.declared.cells.Matrix.{Matrix}
+use Rattle.lab_matrix.specs.declared.filling.MatrixFault.{MatrixFault}
+use Rattle.lab_matrix.specs.declared.filling.MatrixFault.TheVariants.{NoMemory, Play}
+
+-- the report is the judgement of a recording at the level, with the setup of the cases, whose log is legal and follows the case's script to its end
+pub record IsCell (case : CaseName) (level : Level) (report : Report) : Type 0 where
+  pub recording : RecordedLog
+  pub level_is : recording.level ≡ level
+  pub setup_is : recording.setup ≡ usual_setup
+  pub play : IsLegalPlay level usual_setup (given_lines (listing case)) recording.log
+  pub history : IsRecording usual_setup (past_of recording.log) recording.history
+  pub judged : IsExactJudgement recording.history report
+
+-- the report of a row at a level
+abbrev pub report_at : Row → Level → Report
+report_at row level.Locking = row.locking
+report_at row level.Committed = row.committed
+report_at row level.Snapshot = row.snapshot
+
+-- the row of a case
+abbrev pub row_of : Matrix → CaseName → Row
+row_of matrix name.G0 = matrix.g0
+row_of matrix name.G1a = matrix.g1a
+row_of matrix name.G1b = matrix.g1b
+row_of matrix name.G1c = matrix.g1c
+row_of matrix name.Otv = matrix.otv
+row_of matrix name.Pmp = matrix.pmp
+row_of matrix name.P4 = matrix.p4
+row_of matrix name.GSingle = matrix.g_single
+row_of matrix name.G2Item = matrix.g2_item
+row_of matrix name.G2 = matrix.g2
+
+-- the report of a case at a level
+abbrev pub cell_of : Matrix → CaseName → Level → Report
+cell_of matrix case level = report_at (row_of matrix case) level
+
+-- each report of a row is the judgement of its case
+abbrev pub IsRow : CaseName → Row → Type 0
+IsRow case row = (level : Level) → IsCell case level (report_at row level)
+
+-- each cell is
+abbrev pub AreCells : Matrix → Type 0
+AreCells matrix = (case : CaseName) (level : Level) → IsCell case level (cell_of matrix case level)
+
+-- a refusal is true: the play of that case at that level has no recording
+abbrev pub IsMatrixFault : MatrixFault → Type 0
+IsMatrixFault NoMemory = Unit {0}
+IsMatrixFault (Play case level fault) = IsScriptedFault level usual_setup (given_lines (listing case)) fault
