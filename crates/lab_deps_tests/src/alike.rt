@@ -1,0 +1,106 @@
+//! Histories that are written out, with their edges.
+
+use crate::pairs::edges_by_pairs;
+use lab_deps::{Edge, Kind, Unsound, check_local, edges};
+use lab_history::{History, read_history};
+use std::alloc::Global;
+use std::test::Fail;
+
+/// What both bodies answer.
+#[derive(Drop)]
+pub struct Both {
+    pub walked: Vec<Edge>,
+    pub paired: Vec<Edge>,
+}
+
+/// The edges of a history by the walk, or why it isn't sound.
+fn walked(alloc: Global, history: &History) -> Result<Vec<Edge>, Unsound> {
+    match check_local(alloc, history) {
+        Ok(sound) => match edges(alloc, history, &sound) {
+            Ok(edges) => Ok(edges),
+            Err(_) => Err(Unsound::NoMemory),
+        },
+        Err(Unsound::NoMemory) => Err(Unsound::NoMemory),
+        Err(Unsound::Fault(fault)) => Err(Unsound::Fault(fault)),
+    }
+}
+
+/// The edges of a sound history of this text, by both bodies.
+pub fn edges_by_both(alloc: Global, text: &[u8]) -> Result<Both, Fail> {
+    let Ok(history) = read_history(alloc, text) else {
+        return Err(Fail::from("a history"));
+    };
+    let paired = edges_by_pairs(alloc, &history)?;
+    match walked(alloc, &history) {
+        Ok(walked) => Ok(Both { walked, paired }),
+        Err(_) => Err(Fail::from("a sound history")),
+    }
+}
+
+/// Two transactions write the same two rows, each first where the other is second.
+const TWO_ORDERS: &str =
+    r#"{"version":1,"format":"hermitage-history","initial":[[1,10],[2,20]],"transactions":[{"no":1,"outcome":"committed","ops":[{"statement":"update test set value = 11 where id = 1","view":[],"rows":[[1,10]],"writes":[[1,11]]},{"statement":"update test set value = 21 where id = 2","view":[[1,1,1]],"rows":[[2,20]],"writes":[[2,21]]}]},{"no":2,"outcome":"committed","ops":[{"statement":"update test set value = 12 where id = 1","view":[],"rows":[[1,10]],"writes":[[1,12]]},{"statement":"update test set value = 22 where id = 2","view":[[1,2,1]],"rows":[[2,20]],"writes":[[2,22]]}]}],"installed":[[1,[1,2]],[2,[2,1]]],"end":[[1,12],[2,21]]}"#;
+
+/// A transaction sees row 1 before, and row 2 after, what two others did.
+const BEFORE_AND_AFTER: &str =
+    r#"{"version":1,"format":"hermitage-history","initial":[[1,10],[2,20]],"transactions":[{"no":1,"outcome":"committed","ops":[{"statement":"select * from test where id = 1","view":[],"rows":[[1,10]],"writes":[]},{"statement":"select * from test where id = 2","view":[[2,3,2]],"rows":[[2,21]],"writes":[]}]},{"no":2,"outcome":"committed","ops":[{"statement":"update test set value = 11 where id = 1","view":[],"rows":[[1,10]],"writes":[[1,11]]}]},{"no":3,"outcome":"committed","ops":[{"statement":"update test set value = 10 where id = 1","view":[[1,2,1]],"rows":[[1,11]],"writes":[[1,10]]},{"statement":"update test set value = 21 where id = 2","view":[[1,3,1]],"rows":[[2,20]],"writes":[[2,21]]}]}],"installed":[[1,[2,3]],[2,[3]]],"end":[[1,10],[2,21]]}"#;
+
+/// A row is inserted, deleted and inserted again.
+const REBORN: &str =
+    r#"{"version":1,"format":"hermitage-history","initial":[[1,10],[2,20]],"transactions":[{"no":1,"outcome":"committed","ops":[{"statement":"insert into test (id, value) values (3, 30)","view":[],"rows":[],"writes":[[3,30]]}]},{"no":2,"outcome":"committed","ops":[{"statement":"delete from test where id = 3","view":[[3,1,1]],"rows":[[3,30]],"writes":[[3,null]]}]},{"no":3,"outcome":"committed","ops":[{"statement":"insert into test (id, value) values (3, 33)","view":[[3,2,1]],"rows":[],"writes":[[3,33]]}]}],"installed":[[3,[1,2,3]]],"end":[[1,10],[2,20],[3,33]]}"#;
+
+/// The numbers of an edge's transactions and its row, and its kind.
+fn spelled(edge: Edge) -> (u32, u32, Kind, u32) {
+    (
+        edge.from.number(),
+        edge.to.number(),
+        edge.kind,
+        edge.row.number(),
+    )
+}
+
+#[test]
+fn histories_with_their_edges(rt: HostRuntime) -> Result<(), Fail> {
+    for (text, expected) in [
+        (
+            TWO_ORDERS,
+            &[
+                (1, 2, Kind::Write, 1),
+                (1, 2, Kind::ItemAnti, 2),
+                (2, 1, Kind::Write, 2),
+                (2, 1, Kind::ItemAnti, 1),
+            ][..],
+        ),
+        (
+            BEFORE_AND_AFTER,
+            &[
+                (1, 2, Kind::ItemAnti, 1),
+                (2, 3, Kind::Write, 1),
+                (2, 3, Kind::ItemRead, 1),
+                (3, 1, Kind::ItemRead, 2),
+            ][..],
+        ),
+        (
+            REBORN,
+            &[
+                (1, 2, Kind::Write, 3),
+                (1, 2, Kind::ItemRead, 3),
+                (1, 2, Kind::PredicateRead, 3),
+                (1, 2, Kind::PredicateAnti, 3),
+                (1, 3, Kind::PredicateRead, 3),
+                (1, 3, Kind::PredicateAnti, 3),
+                (2, 3, Kind::Write, 3),
+                (2, 3, Kind::PredicateRead, 3),
+                (2, 3, Kind::PredicateAnti, 3),
+            ][..],
+        ),
+    ] {
+        let found = edges_by_both(rt.alloc(), text.as_bytes())?;
+        assert_eq!(rt; found.walked.len(), expected.len(), "{text}");
+        for (edge, due) in found.walked.iter().zip(expected) {
+            assert_eq!(rt; spelled(*edge), *due, "{text}");
+        }
+        assert_eq!(rt; found.paired.as_slice(), found.walked.as_slice(), "{text}");
+    }
+    Ok(())
+}

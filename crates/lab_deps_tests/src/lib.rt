@@ -1,0 +1,12 @@
+//! Tests of the dependencies between transactions: the walk along the versions of each row, beside a body that compares
+//! each operation with each installer.
+#![tactic(auto)]
+
+#[cfg(test)]
+mod alike;
+#[cfg(test)]
+mod chain;
+#[cfg(test)]
+mod made;
+#[cfg(test)]
+mod pairs;
