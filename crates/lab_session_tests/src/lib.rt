@@ -4,6 +4,8 @@
 #[cfg(test)]
 mod again;
 #[cfg(test)]
+mod goes_on;
+#[cfg(test)]
 mod meeting;
 #[cfg(test)]
 mod seats;
