@@ -1,13 +1,19 @@
 //! A subcommand with its input, and what is due.
 
-use lab_commands::{Ending, RunFault, serial};
+use crate::streams::{Sink, Source};
+use lab_commands::{Ending, RunFault, judge, run, serial, status};
+use lab_engine::Level;
 use std::alloc::Global;
 use std::io::{Read, Write};
+use std::process::Abort;
+use std::test::Fail;
 
 /// A subcommand and its options.
 #[derive(Clone, Copy, Debug)]
 pub enum Subcommand {
     Serial,
+    Run { level: Level, history: bool },
+    Judge,
 }
 
 /// A subcommand, its input, what it writes, and the exit status.
@@ -27,5 +33,21 @@ pub fn given<R: Read, W: Write>(
 ) -> Result<Ending, RunFault> {
     match subcommand {
         Subcommand::Serial => serial(alloc, reader, writer),
+        Subcommand::Run { level, history } => run(alloc, reader, writer, level, history),
+        Subcommand::Judge => judge(alloc, reader, writer),
     }
+}
+
+/// Compares what is written of each input, and the exit status: at once, byte by byte, and after interrupted reads.
+pub fn check(rt: &impl Abort, alloc: Global, cases: &[Case]) -> Result<(), Fail> {
+    for case in cases {
+        for (step, interrupted, most) in [(9_000, 0, 9_000), (1, 0, 1), (5, 3, 2)] {
+            let mut reader = Source::new(case.input, step, interrupted, 0);
+            let mut writer = Sink::new(alloc, most, 0);
+            let run = given(alloc, case.subcommand, &mut reader, &mut writer);
+            assert_eq!(rt; writer.text.as_slice(), case.text, "of {:?}", case.input);
+            assert_eq!(rt; status(run), case.status, "of {:?}", case.input);
+        }
+    }
+    Ok(())
 }

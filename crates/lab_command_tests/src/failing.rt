@@ -1,13 +1,22 @@
 //! Streams that fail or never end, and memory that is refused, for one case of each way that a subcommand ends.
 
 use crate::case::{Case, Subcommand, given};
+use crate::judge::{ABORTED_READ, CUT_FILE};
+use crate::run::{HISTORY, LEFT_OPEN};
 use crate::serial::{NO_SESSION, TWO_SESSIONS};
 use crate::streams::{Endless, Sink, Source};
 use lab_commands::{RunFault, status};
 use std::alloc::{AllocError, Global};
 use std::test::Fail;
 
-const CASES: [Case; 2] = [TWO_SESSIONS, NO_SESSION];
+const CASES: [Case; 6] = [
+    TWO_SESSIONS,
+    NO_SESSION,
+    LEFT_OPEN,
+    HISTORY,
+    ABORTED_READ,
+    CUT_FILE,
+];
 
 #[test]
 fn writes_nothing_after_a_failed_read(rt: HostRuntime) -> Result<(), Fail> {
@@ -52,7 +61,10 @@ fn tells_a_failed_write(rt: HostRuntime) -> Result<(), Fail> {
 }
 
 /// What is written of an input that never ends.
-const ENDLESS: [(Subcommand, &'static [u8]); 1] = [(Subcommand::Serial, b"line 1: TooLong\n")];
+const ENDLESS: [(Subcommand, &'static [u8]); 2] = [
+    (Subcommand::Serial, b"line 1: TooLong\n"),
+    (Subcommand::Judge, b"file: OverLimit bytes\n"),
+];
 
 #[test]
 fn reads_within_its_bounds(rt: HostRuntime) -> Result<(), Fail> {

@@ -9,6 +9,10 @@ mod case;
 #[cfg(test)]
 mod failing;
 #[cfg(test)]
+mod judge;
+#[cfg(test)]
+mod run;
+#[cfg(test)]
 mod serial;
 #[cfg(test)]
 mod streams;

@@ -1,8 +1,6 @@
 //! What `serial` writes.
 
-use crate::case::{Case, Subcommand, given};
-use crate::streams::{Sink, Source};
-use lab_commands::status;
+use crate::case::{Case, Subcommand, check};
 use std::test::Fail;
 
 pub const TWO_SESSIONS: Case = Case {
@@ -68,7 +66,7 @@ const PRINTED: Case = Case {
     status: 0,
 };
 
-pub const CASES: [Case; 9] = [
+const CASES: [Case; 9] = [
     NO_ROWS,
     TWO_SESSIONS,
     LARGE_NUMBER,
@@ -82,14 +80,5 @@ pub const CASES: [Case; 9] = [
 
 #[test]
 fn serial_writes_what_is_due(rt: HostRuntime) -> Result<(), Fail> {
-    for case in &CASES {
-        for (step, interrupted, most) in [(9_000, 0, 9_000), (1, 0, 1), (5, 3, 2)] {
-            let mut reader = Source::new(case.input, step, interrupted, 0);
-            let mut writer = Sink::new(rt.alloc(), most, 0);
-            let run = given(rt.alloc(), case.subcommand, &mut reader, &mut writer);
-            assert_eq!(rt; writer.text.as_slice(), case.text, "of {:?}", case.input);
-            assert_eq!(rt; status(run), case.status, "of {:?}", case.input);
-        }
-    }
-    Ok(())
+    check(&rt, rt.alloc(), &CASES)
 }

@@ -1,5 +1,5 @@
 -- What a refusal of a history file says of its bytes, and of the whole input that they are the front of.
-use Rattle.std.proofs.Common.{◌≡◌, ◌≢◌, ◌⊎◌, inl, inr, ℕ, ◌≤◌, ◌<◌, List, length, take, Option, Some, None, Result, Ok, Err, refl, Bool, true, false, sym, ◌∙◌, ap, take_all, arith}
+use Rattle.std.proofs.Common.{◌≡◌, ◌≢◌, ◌⊎◌, inl, inr, ℕ, ◌≤◌, ◌<◌, List, length, Option, Some, None, Result, Ok, Err, refl, Bool, true, false, sym, ◌∙◌, take_all, arith}
 use Rattle.std.proofs.lemmas.List.{length-take}
 use Rattle.std.proofs.lemmas.Bool.{cases_lt, false≢true}
 use Rattle.std.proofs.lemmas.Option.{none-some}
@@ -15,7 +15,6 @@ use Rattle.serde_json.specs.Data.{Data}
 use Rattle.serde_json.specs.Read.{read}
 use Rattle.lab_history.specs.History.{History}
 use Rattle.lab_history.specs.Format.{history_in}
-use Rattle.lab_history.specs.FileRead.{IsTextOf, IsNoText}
 use Rattle.lab_history.specs.declared.fault.FileFault.{FileFault}
 use Rattle.lab_history.specs.declared.fault.FileFault.TheVariants.{NoMemory, NotJson, OverLimit}
 use Rattle.lab_history.specs.declared.fault.Limit.TheVariants.{Bytes}

@@ -1,5 +1,5 @@
 -- Which bytes are a file of which history, and which fault they have.
-use Rattle.std.specs.Prelude.{◌≡◌, ◌⊎◌, ℕ, ◌≤◌, ◌<◌, List, length, Ok, Err}
+use Rattle.std.specs.Prelude.{◌≡◌, ℕ, ◌≤◌, ◌<◌, List, length, Ok, Err}
 use Rattle.serde_json.specs.Data.{Data}
 use Rattle.lab_history.specs.History.{History}
 use Rattle.lab_history.specs.Format.{history_in}
