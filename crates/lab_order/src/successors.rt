@@ -1,12 +1,12 @@
 //! The nodes behind each node, and how many are before it.
 
-ghost use Rattle.std.specs.Prelude.{◌≡◌, ◌==◌, ◌<◌, ◌+◌, ◌-◌, ◌&&◌, ◌^◌, ℕ, [], nat_lt, cond, length, IfOk};
+ghost use Rattle.std.specs.Prelude.{◌≡◌, ◌==◌, ◌<◌, ◌+◌, ◌-◌, ◌&&◌, ◌^◌, ℕ, nat_lt, cond, length, IfOk};
 ghost use Rattle.std.specs.List.{All};
 ghost use Rattle.lab_order.specs.Arrows.{nodes_of, before, IsGraph};
 ghost use Rattle.lab_order.specs.Counts.{how_often, after, waits_of, IsTransposed};
 
 use crate::free_nodes::FreeNodes;
-use crate::graph::{Graph, Row};
+use crate::graph::{Graph, Row, bare_rows};
 use crate::memory::NoMemory;
 use std::alloc::Global;
 
@@ -19,18 +19,6 @@ pub fn successors(alloc: Global, graph: &Graph) -> Result<Vec<Row>, NoMemory>
     let mut rows = bare_rows(alloc, graph.nodes())?;
     for node in 0..graph.nodes() {
         note_successor(&mut rows, graph.before(node), node)?;
-    }
-    Ok(rows)
-}
-
-/// So many rows without nodes. NoMemory where a growth was refused.
-fn bare_rows(alloc: Global, count: u32) -> Result<Vec<Row>, NoMemory>
-    ensures size { IfOk result (λ rows. length rows.items ≡ count) }
-    ensures bare { IfOk result (λ rows. (node : ℕ) → after rows.items node ≡ []) }
-{
-    let mut rows = Vec::with_capacity(alloc, count as usize)?;
-    for _ in 0..count {
-        rows.push(Row::new(alloc))?;
     }
     Ok(rows)
 }
