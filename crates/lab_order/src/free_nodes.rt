@@ -1,0 +1,53 @@
+//! The nodes that may be placed next.
+
+ghost use Rattle.std.specs.Prelude.{◌≡◌, ◌+◌, [], ℕ, Bool, cond, None, IfOk, IfSome};
+ghost use Rattle.std.specs.List.{count_by};
+
+use crate::memory::NoMemory;
+use std::alloc::Global;
+use std::cmp::Reverse;
+use std::collections::BinaryHeap;
+use std::marker::Model;
+
+/// Nodes of which the least comes first.
+#[derive(Debug, Drop)]
+pub struct FreeNodes {
+    heap: BinaryHeap<Reverse<u32>>,
+}
+
+impl Model for FreeNodes {
+    ghost use Rattle.std.specs.Prelude.{List, ℕ, map};
+    ghost use Rattle.std.specs.BinaryHeap.{heap_items};
+
+    ghost Value = { List ℕ };
+
+    ghost view = { λ f. map (λ n. n.0) (heap_items f.heap) };
+}
+
+impl FreeNodes {
+    /// No nodes; it takes no memory.
+    pub fn new(alloc: Global) -> FreeNodes
+        ensures { result ≡ [] }
+    {
+        FreeNodes {
+            heap: BinaryHeap::new(alloc),
+        }
+    }
+
+    /// Puts a node in. NoMemory where a growth was refused.
+    pub fn push(&mut self, node: u32) -> Result<(), NoMemory>
+        ensures { IfOk result (λ _. (test : ℕ → Bool) → count_by test self.new ≡ cond (test node) 1 0 + count_by test self.old) }
+    {
+        self.heap.push(Reverse(node))?;
+        Ok(())
+    }
+
+    /// Takes the least out, or answers None where there is none.
+    pub fn pop(&mut self) -> Option<u32>
+        ensures some { IfSome result (λ node. (test : ℕ → Bool) → count_by test self.old ≡ cond (test node) 1 0 + count_by test self.new) }
+        ensures none { result ≡ None → self.old ≡ [] }
+    {
+        let Reverse(node) = self.heap.pop()?;
+        Some(node)
+    }
+}
