@@ -8,11 +8,13 @@ ghost use Rattle.clap.specs.Values.{kind_of};
 ghost use Rattle.clap.specs.declared.error.kind.ErrorKind.TheVariants.{DisplayHelp, DisplayVersion, OutOfMemory};
 
 use clap::ArgMatches;
-use lab_commands::{RunFault, judge, run, run_free, serial, status};
+use lab_commands::{RunFault, batch, case, judge, matrix, run, run_free, serial, status};
 use lab_engine::Level;
-use std::alloc::Global;
+use lab_matrix::CaseName;
+use std::alloc::{AllocError, Global};
 use std::io::{ErrorKind, Read, Write};
 use std::process::ExitCode;
+use std::rt::Files;
 use std::sync::Wait;
 use std::thread::Threads;
 
@@ -64,6 +66,49 @@ fn level_of(engine: &str) -> Level {
     }
 }
 
+/// The case of this name; the words have no other.
+fn case_of(name: &str) -> CaseName {
+    match name {
+        "G0" => CaseName::G0,
+        "G1a" => CaseName::G1a,
+        "G1b" => CaseName::G1b,
+        "G1c" => CaseName::G1c,
+        "OTV" => CaseName::Otv,
+        "PMP" => CaseName::Pmp,
+        "P4" => CaseName::P4,
+        "G-single" => CaseName::GSingle,
+        "G2-item" => CaseName::G2Item,
+        _ => CaseName::G2,
+    }
+}
+
+/// The names of a batch's files. NoMemory where a growth was refused.
+fn file_names<'a>(alloc: Global, matches: &'a ArgMatches<'_>) -> Result<Vec<&'a str>, AllocError> {
+    let mut names = Vec::new(alloc);
+    if let Some(given) = matches.get_strs("FILE") {
+        for name in given {
+            names.push(*name)?;
+        }
+    }
+    Ok(names)
+}
+
+/// Runs `batch`, and answers the exit status.
+fn run_batch<T: Files + Threads + Sync, W: Write>(
+    rt: &T,
+    alloc: Global,
+    writer: &mut W,
+    matches: &ArgMatches<'_>,
+) -> u8 {
+    let Ok(names) = file_names(alloc, matches) else {
+        return status(Err(RunFault::NoMemory));
+    };
+    match batch(rt, alloc, &names, writer) {
+        Ok(greatest) => greatest,
+        Err(fault) => status(Err(fault)),
+    }
+}
+
 /// Runs `run`, and answers the exit status.
 fn run_play<T: Threads + Wait + Sync, R: Read, W: Write>(
     rt: &T,
@@ -82,7 +127,7 @@ fn run_play<T: Threads + Wait + Sync, R: Read, W: Write>(
 }
 
 /// Runs a subcommand, and answers the exit status.
-fn run_words<T: Threads + Wait + Sync, R: Read, W: Write>(
+fn run_words<T: Files + Threads + Wait + Sync, R: Read, W: Write>(
     rt: &T,
     alloc: Global,
     reader: &mut R,
@@ -93,6 +138,12 @@ fn run_words<T: Threads + Wait + Sync, R: Read, W: Write>(
         Some(("serial", _)) => status(serial(alloc, reader, writer)),
         Some(("run", more)) => run_play(rt, alloc, reader, writer, more),
         Some(("judge", _)) => status(judge(alloc, reader, writer)),
+        Some(("batch", more)) => run_batch(rt, alloc, writer, more),
+        Some(("case", more)) => {
+            let name = case_of(more.get_str("NAME").unwrap_or("G2"));
+            status(case(alloc, name, writer))
+        }
+        Some(("matrix", _)) => status(matrix(alloc, writer)),
         _ => WORDS_REFUSED,
     }
 }

@@ -67,6 +67,40 @@ file, writes one line that names its first fault, as `file: NotJson`.
     hermitage_lab run --engine committed --history < examples/write_skew.txt > history.json
     hermitage_lab judge < history.json";
 
+const BATCH: &str = "Judges many history files";
+
+const BATCH_WHOLE: &str = "\
+Judges the histories of files, as many at once as there are processors.
+
+Writes for each file, in the order given, a line `== FILE` and then what `judge` writes of it, or
+`file: unreadable` where it can't be opened or read. All files are read and judged before the first line
+is written. The exit status is the greatest that a file calls for.
+
+    hermitage_lab batch examples/g1a_aborted_read.json examples/serializable.json";
+
+const FILE: &str = "A history file";
+
+const CASE: &str = "Writes the script of a case";
+
+const CASE_WHOLE: &str = "\
+Writes the script of one of the ten cases, written after those of Martin Kleppmann's Hermitage: each is
+an interleaving that shows one anomaly, where an engine lets it happen.
+
+    hermitage_lab case G-single | hermitage_lab run --engine committed";
+
+const NAME: &str = "The name of the case";
+
+const MATRIX: &str = "Plays and judges each case on each engine";
+
+const MATRIX_WHOLE: &str = "\
+Plays each of the ten cases on each engine, judges the recordings, and writes a line for each case: the
+level that its history meets on the engine, and `SI` where it is a snapshot run.";
+
+/// The cases that the program has, as words.
+pub static CASES: [&str; 10] = [
+    "G0", "G1a", "G1b", "G1c", "OTV", "PMP", "P4", "G-single", "G2-item", "G2",
+];
+
 /// The engines that the program has, as words.
 pub static ENGINES: [&str; 3] = ["locking", "committed", "snapshot"];
 
@@ -95,6 +129,34 @@ fn run_words<'a>(alloc: Global) -> Result<Command<'a>, AllocError> {
         .arg(history)
 }
 
+/// The words of `batch`.
+fn batch_words<'a>(alloc: Global) -> Result<Command<'a>, AllocError> {
+    let files = Arg::new(alloc, "FILE")
+        .help(FILE)
+        .required(true)
+        .num_args(1..)
+        .action(ArgAction::Append);
+    Command::new(alloc, "batch")
+        .about(BATCH)
+        .long_about(BATCH_WHOLE)
+        .after_help(STATUSES)
+        .arg(files)
+}
+
+/// The words of `case`.
+fn case_words<'a>(alloc: Global) -> Result<Command<'a>, AllocError> {
+    let name = Arg::new(alloc, "NAME")
+        .help(NAME)
+        .required(true)
+        .action(ArgAction::Set)
+        .value_parser(CASES.as_slice());
+    Command::new(alloc, "case")
+        .about(CASE)
+        .long_about(CASE_WHOLE)
+        .after_help(STATUSES)
+        .arg(name)
+}
+
 /// The command line: a subcommand, and its own words. NoMemory where a growth was refused.
 pub fn words<'a>(alloc: Global) -> Result<Command<'a>, AllocError> {
     let serial = Command::new(alloc, "serial")
@@ -105,11 +167,18 @@ pub fn words<'a>(alloc: Global) -> Result<Command<'a>, AllocError> {
         .about(JUDGE)
         .long_about(JUDGE_WHOLE)
         .after_help(STATUSES);
+    let matrix = Command::new(alloc, "matrix")
+        .about(MATRIX)
+        .long_about(MATRIX_WHOLE)
+        .after_help(STATUSES);
     Command::new(alloc, "hermitage_lab")
         .about(ABOUT)
         .after_help(STATUSES)
         .subcommand_required(true)
         .subcommand(serial)?
         .subcommand(run_words(alloc)?)?
-        .subcommand(judge)
+        .subcommand(judge)?
+        .subcommand(batch_words(alloc)?)?
+        .subcommand(case_words(alloc)?)?
+        .subcommand(matrix)
 }
