@@ -35,6 +35,8 @@ pub fn judge_all<R: Threads + Sync>(
 {
     let all = files
         .par_iter()
+        // A file is work enough for a thread; by itself rayon would give a thread a thousand of them.
+        .with_min_len(1)
         .map(
             |file: &Vec<u8>| -> Result<Result<Report, FileFault>, NoMemory>
                 ensures { IfOk result (IsFileAnswer file.entry.now.items) }

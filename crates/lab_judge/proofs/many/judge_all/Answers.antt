@@ -6,7 +6,7 @@ use Rattle.lab_judge.proofs.many.judge_all.Goals as goal
 
 pub returns-in-Ok-Ok : goal.returns-in-Ok-Ok
 returns-in-Ok-Ok g c =
-    let slice = ap (λ it. it.slice.now) c.map.ensures.base ∙ c.par_iter.ensures in
+    let slice = ap (λ it. it.base.slice.now) c.map.ensures.base ∙ ap (λ it. it.slice.now) c.with_min_len.ensures.base ∙ c.par_iter.ensures in
     let h = c.in-Ok-Ok.ensures in
     let chain = h.1 in
     let given = rw c.in-Ok-Ok.field-0-is at h.2 in
