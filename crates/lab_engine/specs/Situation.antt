@@ -13,7 +13,7 @@ use Rattle.lab_engine.specs.Log.{Past, past_of, Txn, active, waiting, commits, b
 
 -- the statements that a running transaction has run, in order
 abbrev pub statements_of : RunningTxn → List Statement
-statements_of running = list.map (λ s. s.now) running.statements.items
+statements_of running = running.statements.items
 
 -- what is kept of an active transaction agrees with it
 pub record IsRunning (txn : Txn) (running : RunningTxn) : Type 0 where
@@ -43,9 +43,14 @@ abbrev pub running_of : List SessionState → ℕ → Option RunningTxn
 running_of [] session = None
 running_of (state ∷ states) session = cond (state.session == session) state.running (running_of states session)
 
+-- the statement that is kept of a session as the one that it waits with, if any
+abbrev pub waiting_of : List SessionState → ℕ → Option Statement
+waiting_of [] session = None
+waiting_of (state ∷ states) session = cond (state.session == session) state.waits (waiting_of states session)
+
 -- what is kept of a session agrees with the log
 pub record DescribesSession (past : Past) (state : SessionState) : Type 0 where
-  pub waits : option_map (λ s. s.now) state.waits ≡ waiting past state.session
+  pub waits : state.waits ≡ waiting past state.session
   pub running : Agree (active past state.session) state.running
 
 -- so is it for each of some sessions

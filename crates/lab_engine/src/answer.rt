@@ -31,7 +31,7 @@ pub fn answer_to<R: Rules>(
     rules: &R,
     setup: &Table,
     log: &[LogEvent],
-    situation: &Situation<'_>,
+    situation: &Situation,
     session: Session,
     command: &Command,
 ) -> Result<Outcome, NoMemory>
@@ -62,7 +62,7 @@ pub fn answer_to<R: Rules>(
 /// What the rules answer to a command of a session that has no active transaction.
 fn without_transaction(
     log: &[LogEvent],
-    situation: &Situation<'_>,
+    situation: &Situation,
     session: Session,
     command: &Command,
 ) -> Outcome
@@ -89,9 +89,9 @@ pub fn run_statement<R: Rules>(
     rules: &R,
     setup: &Table,
     log: &[LogEvent],
-    situation: &Situation<'_>,
+    situation: &Situation,
     session: Session,
-    running: &RunningTxn<'_>,
+    running: &RunningTxn,
     statement: &Statement,
 ) -> Result<Outcome, NoMemory>
     requires room { length log.now < 100000 }

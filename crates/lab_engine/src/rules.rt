@@ -36,10 +36,10 @@ pub trait Rules {
     fn blocks(
         &self,
         setup: &Table,
-        situation: &Situation<'_>,
+        situation: &Situation,
         seen: &Versions,
         statement: &Statement,
-        holder: &RunningTxn<'_>,
+        holder: &RunningTxn,
     ) -> bool
         ensures yes { (past : Past) (asker txn : Txn) → Describes past situation.now → IsSight (kind self.now) setup.now past asker seen.now
             → IsRunning txn holder.now → result ≡ true → Blocks (kind self.now) setup.now past asker statement.now txn }

@@ -35,8 +35,8 @@ fn committed_seen(
     level: Level,
     setup: &Table,
     log: &[LogEvent],
-    situation: &Situation<'_>,
-    running: &RunningTxn<'_>,
+    situation: &Situation,
+    running: &RunningTxn,
 ) -> Result<Versions, NoMemory>
     requires { length log.now < 100000 }
     ensures { (past : Past) (session : ℕ) (txn : Txn) → Describes past situation.now → HasBegins past log.now
@@ -59,8 +59,8 @@ pub fn seen_by(
     level: Level,
     setup: &Table,
     log: &[LogEvent],
-    situation: &Situation<'_>,
-    running: &RunningTxn<'_>,
+    situation: &Situation,
+    running: &RunningTxn,
 ) -> Result<Versions, NoMemory>
     requires { length log.now < 100000 }
     ensures { (past : Past) (session : ℕ) (txn : Txn) → Describes past situation.now → HasBegins past log.now

@@ -31,11 +31,11 @@ pub struct Wait {
 fn is_blocked_by<R: Rules>(
     rules: &R,
     setup: &Table,
-    situation: &Situation<'_>,
+    situation: &Situation,
     session: Session,
     seen: &Versions,
     statement: &Statement,
-    state: &SessionState<'_>,
+    state: &SessionState,
 ) -> bool
     ensures yes { (past : Past) (txn : Txn) → Describes past situation.now → DescribesSession past state.now → active past session ≡ Some txn
         → IsSight (R.kind rules.now) setup.now past txn seen.now → result ≡ true → BlockedBy (R.kind rules.now) setup.now past session statement.now state.now.session }
@@ -57,7 +57,7 @@ pub fn blockers<R: Rules>(
     alloc: Global,
     rules: &R,
     setup: &Table,
-    situation: &Situation<'_>,
+    situation: &Situation,
     session: Session,
     seen: &Versions,
     statement: &Statement,
@@ -82,14 +82,14 @@ fn waits_on<R: Rules>(
     rules: &R,
     setup: &Table,
     log: &[LogEvent],
-    situation: &Situation<'_>,
-    state: &SessionState<'_>,
+    situation: &Situation,
+    state: &SessionState,
 ) -> Result<Sessions, NoMemory>
     requires { length log.now < 100000 }
     ensures { (past : Past) → Describes past situation.now → HasBegins past log.now → DescribesSession past state.now
         → IfOk result (λ on. (other : ℕ) → Contains on other ↔ WaitsOn (R.kind rules.now) setup.now past state.now.session other) }
 {
-    let Some(statement) = state.waits else {
+    let Some(statement) = &state.waits else {
         return Ok(Sessions::new(Vec::new(alloc)));
     };
     let Some(running) = &state.running else {
@@ -114,7 +114,7 @@ pub fn all_waits<R: Rules>(
     rules: &R,
     setup: &Table,
     log: &[LogEvent],
-    situation: &Situation<'_>,
+    situation: &Situation,
 ) -> Result<Vec<Wait>, NoMemory>
     requires { length log.now < 100000 }
     ensures { (past : Past) → Describes past situation.now → HasBegins past log.now
@@ -140,7 +140,7 @@ pub fn deadlock<R: Rules>(
     rules: &R,
     setup: &Table,
     log: &[LogEvent],
-    situation: &Situation<'_>,
+    situation: &Situation,
     session: Session,
     on: &Sessions,
 ) -> Result<Option<Sessions>, NoMemory>
@@ -167,7 +167,7 @@ fn is_held(waits: &[Wait], session: Session) -> bool
 
 /// Whether a session's statement waits and may go on: it waits for nobody, or stands on a circle.
 /// NoMemory where a growth was refused.
-fn is_released(alloc: Global, waits: &[Wait], state: &SessionState<'_>) -> Result<bool, NoMemory>
+fn is_released(alloc: Global, waits: &[Wait], state: &SessionState) -> Result<bool, NoMemory>
     ensures { IfOk result (λ released. IsTrue released ↔ (IsSome state.now.waits × IsReleased waits.now state.now.session)) }
 {
     if state.waits.is_none() {
@@ -187,7 +187,7 @@ pub fn retryable<R: Rules>(
     rules: &R,
     setup: &Table,
     log: &[LogEvent],
-    situation: &Situation<'_>,
+    situation: &Situation,
 ) -> Result<Option<Session>, NoMemory>
     requires { length log.now < 100000 }
     ensures { (past : Past) → Describes past situation.now → HasBegins past log.now

@@ -25,10 +25,10 @@ impl Rules for LockRules {
     fn blocks(
         &self,
         setup: &Table,
-        situation: &Situation<'_>,
+        situation: &Situation,
         seen: &Versions,
         statement: &Statement,
-        holder: &RunningTxn<'_>,
+        holder: &RunningTxn,
     ) -> bool {
         holds_match(setup, &situation.committed, statement, holder)
             || holds_write(seen, statement, holder)

@@ -24,7 +24,7 @@ fn common_row(own: &Versions, others: &Versions) -> Option<RowId>
 }
 
 /// The conflict of a transaction that wrote these rows, after another one's commit.
-fn after_commit(found: Option<Conflict>, own: &Versions, other: &RunningTxn<'_>) -> Option<Conflict>
+fn after_commit(found: Option<Conflict>, own: &Versions, other: &RunningTxn) -> Option<Conflict>
     ensures { (txn by : Txn) (done : List Txn) → IsLastOf txn own.now → IsRunning by other.now → IsFound txn done found → IsFound txn (by ∷ done) result }
 {
     let Some(row) = common_row(own, &other.last) else {
@@ -41,10 +41,7 @@ fn after_commit(found: Option<Conflict>, own: &Versions, other: &RunningTxn<'_>)
 }
 
 /// The transaction that an event commits, if it commits one.
-fn committed_by<'s, 'a>(
-    situation: &'s Situation<'a>,
-    event: &LogEvent,
-) -> Option<&'s RunningTxn<'a>>
+fn committed_by<'s>(situation: &'s Situation, event: &LogEvent) -> Option<&'s RunningTxn>
     ensures { option_map (λ r. r.now) result ≡ committing event.now.outcome (running_of situation.now.sessions.items event.now.session) }
 {
     match event.outcome {
@@ -61,7 +58,7 @@ fn committed_by<'s, 'a>(
 fn after_event(
     found: Option<Conflict>,
     own: &Versions,
-    situation: &Situation<'_>,
+    situation: &Situation,
     event: &LogEvent,
 ) -> Option<Conflict>
     ensures { (txn : Txn) (past : Past) → IsLastOf txn own.now → Describes past situation.now → IsFound txn (commits past) found → IsFound txn (commits (event.now ∷ past)) result }

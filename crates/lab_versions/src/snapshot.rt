@@ -24,10 +24,10 @@ impl Rules for SnapshotRules {
     fn blocks(
         &self,
         setup: &Table,
-        situation: &Situation<'_>,
+        situation: &Situation,
         seen: &Versions,
         statement: &Statement,
-        holder: &RunningTxn<'_>,
+        holder: &RunningTxn,
     ) -> bool {
         false
     }
