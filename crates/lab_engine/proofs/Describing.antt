@@ -20,6 +20,7 @@ use Rattle.lab_engine.specs.declared.situation.SessionState.{SessionState}
 use Rattle.lab_engine.specs.declared.situation.Situation.{Situation}
 use Rattle.lab_engine.specs.Log.{Past, Txn, active, active_after, ops_after, is_fatal, asked, waiting, waiting_after, begun, begun_after, commits, last_installed}
 use Rattle.lab_engine.proofs.Locks.{some_same}
+use Rattle.lab_engine.specs.Chains.{chain_in, chain_after}
 use Rattle.lab_engine.specs.Situation.{Describes, DescribesSession, DescribesAll, Agree, IsRunning, HasRoom, all_sessions, running_of, waiting_of, grown}
 
 -- an active transaction, if any, has run at most so many operations
@@ -215,26 +216,29 @@ waiting_in past event own before session some = elim (eqb_tells event.session se
 -- a situation goes on by an event where its parts do
 pub goes_on : (past : Past) (event : LogEvent) (old new : Situation) → Describes past old → Contains all_sessions event.session → map (λ state. state.session) new.sessions.items ≡ all_sessions
     → DescribesAll (event ∷ past) new.sessions.items → ((row : Row) → map.get new.committed row ≡ last_installed (commits (event ∷ past)) row)
+    → ((row : Row) → chain_in new.chains row ≡ chain_after event.outcome (active past event.session) (length past) row (chain_in old.chains row))
     → new.begun ≡ begun_after event.outcome old.begun → new.events ≡ old.events + 1 → Describes (event ∷ past) new
-goes_on past event old new is own sessions states committed begins counted = record {
+goes_on past event old new is own sessions states committed chains begins counted = record {
   sessions = sessions;
   states = states;
   active_is = active_in past event own is.active_is;
   waiting_is = waiting_in past event own is.waiting_is;
   committed = committed;
+  chains = λ row. chains row ∙ ap (chain_after event.outcome (active past event.session) (length past) row) (is.chains row);
   begun = begins ∙ ap (begun_after event.outcome) is.begun;
   events = let before = is.events in omega (arith, counted, before);
 }
 
 -- the situation before any event
-pub starts : (situation : Situation) → map (λ state. state.session) situation.sessions.items ≡ all_sessions → DescribesAll [] situation.sessions.items → situation.committed ≡ empty → situation.begun ≡ 0 → situation.events ≡ 0
+pub starts : (situation : Situation) → map (λ state. state.session) situation.sessions.items ≡ all_sessions → DescribesAll [] situation.sessions.items → situation.committed ≡ empty → ((row : Row) → chain_in situation.chains row ≡ []) → situation.begun ≡ 0 → situation.events ≡ 0
     → Describes [] situation
-starts situation sessions states none begins counted = record {
+starts situation sessions states none chains begins counted = record {
   sessions = sessions;
   states = states;
   active_is = λ session some. absurd (subst T (sym some) tt);
   waiting_is = λ session some. absurd (subst T (sym some) tt);
   committed = λ row. ap (λ m. map.get m row) none ∙ get-empty row_cmp row;
+  chains = chains;
   begun = begins;
   events = counted;
 }

@@ -1,6 +1,6 @@
 -- Which waiting sessions are retryable.
 use Rattle.std.proofs.Common.{◌≡◌, ℕ, ◌+◌, ◌≤◌, ◌<◌, refl, sym, ap, subst, ◌∙◌, ◌||◌, List, inl, inr, length, take, get_or}
-use Rattle.std.specs.Prelude.{◌==◌, IsTrue, IsSome, Option, Some, None, option_map, is_some}
+use Rattle.std.specs.Prelude.{◌==◌, IsTrue, IsSome, Option, Some, None, is_some}
 use Rattle.std.proofs.lemmas.Bool.{eqb-true, both_ways, or_cases}
 use Rattle.std.proofs.lemmas.List.{take_all}
 use Rattle.std.proofs.lemmas.List.Folds.{list_any_more}

@@ -109,7 +109,7 @@ fn next_event<R: Rules>(
     let outcome = event.outcome.copy(alloc)?;
     let mut situation = situation;
     situation.take_in(alloc, &event)?;
-    let retryable = retryable(alloc, rules, setup, log, &situation)?;
+    let retryable = retryable(alloc, rules, setup, &situation)?;
     Ok(Next {
         event,
         outcome,

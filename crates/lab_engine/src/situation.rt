@@ -8,8 +8,10 @@ ghost use Rattle.lab_table.specs.Table.{Rows};
 ghost use Rattle.lab_history.specs.VersionName.{View};
 ghost use Rattle.lab_history.specs.declared.operation.Op.{Op};
 ghost use Rattle.lab_engine.specs.Log.{Past, past_of, Txn, active, active_after, waiting, waiting_after, ops_after, commits_after, begun_after, last_installed};
+ghost use Rattle.lab_engine.specs.Chains.{chain_in, chain_after};
 ghost use Rattle.lab_engine.specs.Situation.{Describes, DescribesSession, DescribesAll, Agree, IsRunning, HasRoom, all_sessions, running_of, waiting_of, grown};
 
+use crate::chain::Chains;
 use crate::event::{LogEvent, Outcome};
 use crate::look::{asked_statement, is_busy, is_fatal_fault, waits_after};
 use crate::version::Versions;
@@ -47,6 +49,8 @@ pub struct Situation {
     pub sessions: Vec<SessionState>,
     /// The last installed version of each row that was ever installed.
     pub committed: Versions,
+    /// All installed versions of each row, with the places of their commits.
+    pub chains: Chains,
     /// How many transactions have begun.
     pub begun: u32,
     /// How many events there were.
@@ -62,6 +66,7 @@ impl Situation {
         let mut situation = Situation {
             sessions: idle_sessions(alloc)?,
             committed: Versions::new(alloc),
+            chains: Chains::new(alloc),
             begun: 0,
             events: 0,
         };
@@ -105,6 +110,7 @@ impl Situation {
         ensures { (past : Past) → Describes past self.old → IfOk result (λ _. Describes (event.now ∷ past) self.new) }
     {
         install(alloc, &mut self.committed, &self.sessions, event)?;
+        lengthen(alloc, &mut self.chains, &self.sessions, event, self.events)?;
         go_on(alloc, &mut self.sessions, event, self.events)?;
         self.begun = begun_next(&event.outcome, self.begun);
         self.events += 1;
@@ -295,6 +301,28 @@ fn install(
         Outcome::Committed => {
             if let Some(running) = running_in(states, event.session) {
                 committed.cover(alloc, &running.last)?;
+            }
+            Ok(())
+        }
+        _ => Ok(()),
+    }
+}
+
+/// Puts the versions that a commit installs, with so many events before it, at the ends of their rows' chains.
+fn lengthen(
+    alloc: Global,
+    chains: &mut Chains,
+    states: &[SessionState],
+    event: &LogEvent,
+    before: usize,
+) -> Result<(), NoMemory>
+    ensures { (txn : Option Txn) → Agree txn (running_of states.now event.now.session)
+        → IfOk result (λ _. (row : Row) → chain_in chains.new row ≡ chain_after event.now.outcome txn before row (chain_in chains.old row)) }
+{
+    match &event.outcome {
+        Outcome::Committed => {
+            if let Some(running) = running_in(states, event.session) {
+                chains.install(alloc, &running.last, running.number, before)?;
             }
             Ok(())
         }

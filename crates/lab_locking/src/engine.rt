@@ -35,17 +35,12 @@ impl Rules for LockRules {
             || has_read(seen, statement, holder)
     }
 
-    fn conflict(
-        &self,
-        alloc: Global,
-        log: &[LogEvent],
-        session: Session,
-    ) -> Result<Option<Conflict>, NoMemory> {
-        Ok(None)
+    fn conflict(&self, situation: &Situation, session: Session) -> Option<Conflict> {
+        None
     }
 }
 
-/// The serializable engine: it keeps its setup and its log, and looks through them.
+/// The serializable engine: it keeps its setup, its log, and where that leaves sessions and rows.
 #[derive(Drop)]
 pub struct LockEngine {
     journal: Journal<LockRules>,

@@ -1,12 +1,11 @@
 use Rattle.std.proofs.Common.{◌∷◌}
 use Rattle.lab_engine.specs.Log.{past_of}
-use Rattle.lab_engine.proofs.Fronts.{has_begins_after}
 use Rattle.lab_engine.proofs.journal.next_event.Goals as goal
 
 pub returns-clause-keeps : goal.returns-clause-keeps
 returns-clause-keeps g c =
     let after = c.in_ok-take_in.ensures (past_of c.args.log.now) c.requires.situation in
     record {
-      retryable = c.in_ok-retryable.ensures (c.args.event ∷ past_of c.args.log.now) after (has_begins_after c.args.log.now c.args.event);
+      retryable = c.in_ok-retryable.ensures (c.args.event ∷ past_of c.args.log.now) after;
       situation = after;
     }

@@ -1,4 +1,4 @@
-use Rattle.std.proofs.Common.{sym, ◌∙◌, inl}
+use Rattle.std.proofs.Common.{sym, ◌∙◌}
 use Rattle.lab_engine.specs.Log.{past_of}
 use Rattle.lab_engine.proofs.journal.step_outcome.Goals as goal
 
