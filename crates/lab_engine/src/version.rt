@@ -1,15 +1,18 @@
 //! The versions of rows.
 
-ghost use Rattle.std.specs.Prelude.{◌≡◌, T, ◌≤◌, length, IfOk, OnErr};
+ghost use Rattle.std.specs.Prelude.{◌≡◌, T, ◌≤◌, length, option_and_then, IfOk, OnErr};
 ghost use Rattle.std.specs.Prelude as list;
 ghost use Rattle.std.specs.List.{prefix_len};
 ghost use Rattle.std.specs.FinMap as map;
 ghost use Rattle.std.specs.Option.{option_or};
 ghost use Rattle.lab_table.specs.Row.{Row, row_cmp};
+ghost use Rattle.lab_engine.specs.Chains.{version_before, chain_in};
+ghost use Rattle.lab_engine.specs.EachRow.{with_row, each_row};
 ghost use Rattle.lab_engine.specs.Sight.{listed_version, comes_after};
 ghost use Rattle.lab_history.specs.VersionName.{state_value};
 ghost use Rattle.lab_engine.specs.Merging.{initial_entry, written_entry, written_version, insert_each, is_row_at, merged, without_row};
 
+use crate::chain::Chains;
 use lab_history::{State, VersionName, Writes};
 use lab_table::{NoMemory, RowId, Table, Value};
 use std::alloc::Global;
@@ -87,6 +90,16 @@ impl Versions {
         ensures { result.now ≡ map.entries self.now }
     {
         &self.entries
+    }
+
+    /// Of these rows the versions that were the last to be installed by commits with fewer events before them than these.
+    /// NoMemory where a growth was refused.
+    pub fn before(&self, alloc: Global, chains: &Chains, place: usize) -> Result<Versions, NoMemory>
+        ensures { IfOk result (λ made. (row : Row) → map.get made row ≡ option_and_then (λ _. version_before place (chain_in chains.now row)) (map.get self.now row)) }
+    {
+        Ok(Versions {
+            entries: entries_before(alloc, &self.entries, chains, place)?,
+        })
     }
 
     /// Gives a row this version, in the place of the one that it has, if any.
@@ -178,6 +191,27 @@ fn written_entries(
                 },
             )
         })
+        .collect(alloc)
+}
+
+fn entry_before(chains: &Chains, place: usize, entry: &(RowId, Version)) -> Option<(RowId, Version)>
+    ensures { result ≡ with_row entry.now.0 (version_before place (chain_in chains.now entry.now.0)) }
+{
+    let version = chains.version_before(entry.0, place)?;
+    Some((entry.0, version))
+}
+
+fn entries_before(
+    alloc: Global,
+    entries: &[(RowId, Version)],
+    chains: &Chains,
+    place: usize,
+) -> Result<Vec<(RowId, Version)>, NoMemory>
+    ensures { IfOk result (λ v. v.items ≡ each_row (λ row version. version_before place (chain_in chains.now row)) entries.now) }
+{
+    entries
+        .iter()
+        .filter_map(|entry| entry_before(chains, place, entry))
         .collect(alloc)
 }
 
