@@ -34,3 +34,18 @@ next_members old found next rest all has so_far e = (λ h. (so_far e).0 (there h
             | inr later ↦ Contains-append_right (old ++ found) rest e later
           ]
         ]
+
+-- what stands before the same has the same members with it
+pub joined_members : (es fs rest : List Edge) → HasMembersOf es fs → HasMembersOf (es ++ rest) (fs ++ rest)
+joined_members es fs rest has e = (joined es fs (has e).0, joined fs es (has e).1)
+  where
+    joined : (es fs : List Edge) → (Contains es e → Contains fs e) → Contains (es ++ rest) e → Contains (fs ++ rest) e
+    joined es fs has h =
+        elim (Contains-append_cases es rest e h) [
+          | inl front ↦ Contains-append_left fs rest e (has front)
+          | inr later ↦ Contains-append_right fs rest e later
+        ]
+
+-- and members of members
+pub members_through : (es fs gs : List Edge) → HasMembersOf es fs → HasMembersOf fs gs → HasMembersOf es gs
+members_through es fs gs a b e = (λ h. (b e).0 ((a e).0 h), λ h. (a e).1 ((b e).1 h))

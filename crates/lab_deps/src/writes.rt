@@ -30,7 +30,7 @@ pub fn write_edges(alloc: Global, history: &History) -> Result<Vec<Edge>, NoMemo
 }
 
 /// The edges between neighbours in the lists of all rows. NoMemory where a growth was refused.
-fn neighbours_of_rows(alloc: Global, history: &History) -> Result<Vec<Edge>, NoMemory>
+pub fn neighbours_of_rows(alloc: Global, history: &History) -> Result<Vec<Edge>, NoMemory>
     ensures { IfOk result (λ edges. edges.items ≡ flat_map neighbours_at (map.entries history.now.installed)) }
 {
     let mut edges = Vec::new(alloc);

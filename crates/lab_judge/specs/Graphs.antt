@@ -1,5 +1,5 @@
 -- Dependencies as the arrows of a graph, whose nodes are the places of transactions in a list.
-use Rattle.std.specs.Prelude.{◌≡◌, ℕ, ◌==◌, ◌&&◌, ◌||◌, nat_lt, Bool, not, List, [], ◌∷◌, length, Contains, IsTrue, ⊤}
+use Rattle.std.specs.Prelude.{◌≡◌, ℕ, ◌==◌, ◌&&◌, ◌||◌, nat_lt, Bool, false, not, Option, None, Some, List, [], ◌∷◌, length, Contains, IsTrue, ⊤}
 use Rattle.std.specs.List.{list_any, count_by}
 use Rattle.lab_order.specs.Arrows.{Arrows, nodes_of, has_arrow}
 use Rattle.lab_deps.specs.declared.edge.Edge.{Edge}
@@ -37,3 +37,8 @@ count_others allowed es = count_by (λ e. not (allows allowed e.kind)) es
 -- whether a dependency stands before those of the second transaction on the first
 abbrev pub stands_before : ℕ → ℕ → Edge → Bool
 stands_before from to e = nat_lt e.from from || (e.from == from && nat_lt e.to to)
+
+-- whether the dependency before one is between the same transactions, and is allowed
+abbrev pub repeats : Allowed → Option Edge → Edge → Bool
+repeats allowed None e = false
+repeats allowed (Some other) e = allows allowed other.kind && (other.from == e.from) && (other.to == e.to)

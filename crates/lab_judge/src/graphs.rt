@@ -3,7 +3,7 @@
 ghost use Rattle.std.specs.Prelude.{◌≡◌, Contains, IfOk};
 ghost use Rattle.std.specs.List.{All};
 ghost use Rattle.lab_judge.specs.Places.{position};
-ghost use Rattle.lab_judge.specs.Graphs.{HasEnds, IsGraphOf};
+ghost use Rattle.lab_judge.specs.Graphs.{HasEnds, IsGraphOf, repeats};
 
 use crate::allowed::Allowed;
 use crate::nodes::Nodes;
@@ -23,10 +23,24 @@ pub(crate) fn graph_of(
     ensures { IfOk result (IsGraphOf allowed nodes.now edges.now) }
 {
     let mut graph = Graph::new(alloc, nodes.len())?;
+    let mut before = None;
     for edge in edges {
-        if allowed.allows(edge.kind) {
+        if allowed.allows(edge.kind) && !repeats(allowed, before, edge) {
             graph.add(alloc, nodes.place(edge.from), nodes.place(edge.to))?;
         }
+        before = Some(*edge);
     }
     Ok(graph)
+}
+
+/// Whether the dependency before this one is between the same transactions, and is allowed.
+fn repeats(allowed: Allowed, before: Option<Edge>, edge: &Edge) -> bool
+    ensures { result ≡ repeats allowed before edge.now }
+{
+    match before {
+        None => false,
+        Some(other) => {
+            allowed.allows(other.kind) && other.from == edge.from && other.to == edge.to
+        }
+    }
 }

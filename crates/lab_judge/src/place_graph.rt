@@ -7,9 +7,10 @@
 ghost use Rattle.std.specs.Prelude.{◌≡◌, ◌*◌, ◌||◌, ℕ, length, IfOk, OnOk};
 ghost use Rattle.std.specs.List.{All, list_any};
 ghost use Rattle.lab_order.specs.Arrows.{nodes_of, has_arrow};
+ghost use Rattle.lab_deps.specs.Edges.{differ};
 ghost use Rattle.lab_judge.specs.Graphs.{HasEnds};
 ghost use Rattle.lab_judge.specs.Places.{is_anti};
-ghost use Rattle.lab_judge.specs.PlaceGraphs.{spans, leads, IsPlaceGraph};
+ghost use Rattle.lab_judge.specs.PlaceGraphs.{spans, leads, leads_alike, IsPlaceGraph};
 
 use crate::nodes::Nodes;
 use lab_deps::{Edge, Kind};
@@ -22,16 +23,51 @@ pub(crate) fn place_graph(alloc: Global, nodes: &Nodes, edges: &[Edge]) -> Resul
     ensures { IfOk result (IsPlaceGraph nodes.now edges.now) }
 {
     let mut graph = spans_graph(alloc, nodes)?;
+    let mut before = None;
     for edge in edges {
-        let from = nodes.place(edge.from);
-        let to = nodes.place(edge.to);
-        if is_anti(edge.kind) {
-            graph.add(alloc, 2 * from, 2 * to + 1)?;
-        } else {
-            graph.add(alloc, 2 * from + 1, 2 * to)?;
+        if !leads_alike(before, edge) {
+            add_lead(alloc, &mut graph, nodes, edge)?;
         }
+        before = Some(*edge);
     }
     Ok(graph)
+}
+
+/// Adds the arrow of a dependency. NoMemory where a growth was refused.
+fn add_lead(alloc: Global, graph: &mut Graph, nodes: &Nodes, edge: &Edge) -> Result<(), NoMemory>
+    requires size { nodes_of graph.old ≡ 2 * length nodes.now }
+    requires ends { HasEnds nodes.now edge.now }
+    ensures nodes { nodes_of graph.new ≡ nodes_of graph.old }
+    ensures arrows { IfOk result (λ _. (a b : ℕ) → has_arrow graph.new a b ≡ (leads nodes.now a b edge.now || has_arrow graph.old a b)) }
+{
+    let from = nodes.place(edge.from);
+    let to = nodes.place(edge.to);
+    if is_anti(edge.kind) {
+        graph.add(alloc, 2 * from, 2 * to + 1)
+    } else {
+        graph.add(alloc, 2 * from + 1, 2 * to)
+    }
+}
+
+/// Whether the dependency before this one has the same arrow.
+fn leads_alike(before: Option<Edge>, edge: &Edge) -> bool
+    ensures { result ≡ leads_alike before edge.now }
+{
+    match before {
+        None => false,
+        Some(other) => {
+            other.from == edge.from
+                && other.to == edge.to
+                && !differ(is_anti(other.kind), is_anti(edge.kind))
+        }
+    }
+}
+
+/// Whether exactly one of two tests is true.
+fn differ(a: bool, b: bool) -> bool
+    ensures { result ≡ differ a b }
+{
+    if a { !b } else { b }
 }
 
 /// The graph with an arrow from the start to the commit of each transaction, and no other. NoMemory where a growth was

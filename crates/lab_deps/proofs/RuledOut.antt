@@ -1,0 +1,76 @@
+-- Rows that a statement rules out by their own numbers.
+use Rattle.std.proofs.Common.{◌≡◌, ℤ, Bool, true, false, cond, T, Option, Some, None, List, [], ◌∷◌, refl, sym, ap, ◌∙◌}
+use Rattle.std.specs.Prelude.{is_some, option_and_then}
+use Rattle.std.specs.FinMap.{find, get, entries, entries_sorted, is_sorted, get-entries}
+use Rattle.std.specs.FinMap.Entries.{below_all}
+use Rattle.std.specs.Ordering.{is_eq}
+use Rattle.std.proofs.lemmas.Bool.{false≢true, and_parts}
+use Rattle.lab_table.specs.Row.{Row, row_cmp, row_eq}
+use Rattle.lab_table.specs.Table.{State}
+use Rattle.lab_table.specs.Predicate.{Predicate}
+use Rattle.lab_table.specs.Statement.{where_holds, matches, listed}
+use Rattle.lab_table.proofs.Maps.{both, find_below, same_row, row_eq_self}
+use Rattle.lab_table.proofs.MayHold.{ruled_out}
+use Rattle.lab_table.specs.declared.statement.Statement.{Statement}
+use Rattle.lab_table.specs.declared.statement.Statement.TheVariants.{Select, Update, Insert, Delete}
+use Rattle.lab_history.specs.History.{History}
+use Rattle.lab_history.specs.declared.operation.Op.{Op}
+use Rattle.lab_deps.specs.Broken.{is_unlisted}
+use Rattle.lab_deps.specs.Passes.{first_value}
+use Rattle.lab_deps.specs.Walked.{where_may_hold, may_match}
+
+-- what can't be true of a row isn't
+no_where : (pred : Option Predicate) (row : Row) → where_may_hold pred row ≡ false → (value : ℤ) → where_holds pred row value ≡ false
+no_where None row off value = absurd (false≢true (sym off))
+no_where (Some p) row off value = ruled_out p row value off
+
+-- a row that can't match doesn't
+pub no_match : (s : Statement) (row : Row) → may_match s row ≡ false → (state : State) → matches s row state ≡ false
+no_match s row off None = refl
+no_match (Select pred) row off (Some value) = no_where pred row off value
+no_match (Update expr pred) row off (Some value) = no_where pred row off value
+no_match (Insert id new) row off (Some value) = off
+no_match (Delete pred) row off (Some value) = no_where pred row off value
+
+-- nor is it listed
+not_listed : (s : Statement) (row : Row) (value : ℤ) → may_match s row ≡ false → listed s row (Some value) ≡ None
+not_listed (Select pred) row value off = ap (λ b. cond b (Some value) None) (no_where pred row off value)
+not_listed (Update expr pred) row value off = ap (λ b. cond b (Some value) None) (no_where pred row off value)
+not_listed (Insert id new) row value off = refl
+not_listed (Delete pred) row value off = ap (λ b. cond b (Some value) None) (no_where pred row off value)
+
+-- so a row that isn't listed though it matches isn't ruled out
+may_be_unlisted : (op : Op) (row : Row) (value : ℤ) → is_unlisted op row value ≡ true → may_match op.statement row ≡ true
+may_be_unlisted op row value unlisted =
+    elim (may_match op.statement row) as (λ b. may_match op.statement row ≡ b → b ≡ true) [
+      | true ↦ λ _. refl
+      | false ↦ λ off. absurd (false≢true (ap is_some (sym (not_listed op.statement row value off)) ∙ (and_parts _ _ unlisted).0))
+    ] refl
+
+module _ {A : Type 0} (test : Row → A → Bool) (row : Row) (only : (other : Row) (x : A) → test other x ≡ true → other ≡ row) where
+  -- the row, where its value passes the test
+  abbrev chosen : Option A → Option Row
+  chosen o = option_and_then (λ x. cond (test row x) (Some row) None) o
+
+  first_is : (es : List (Row × A)) → T (is_sorted row_cmp es) → first_value test es ≡ chosen (find row_cmp row es)
+  first_is [] sorted = refl
+  first_is (e ∷ es) sorted =
+      let parts = both (below_all row_cmp e.0 es) (is_sorted row_cmp es) sorted in
+      elim (is_eq (row_cmp row e.0)) as (λ b. is_eq (row_cmp row e.0) ≡ b → cond (test e.0 e.1) (Some e.0) (first_value test es) ≡ chosen (cond b (Some e.1) (find row_cmp row es))) [
+        | true ↦ λ same.
+            let is : row ≡ e.0 = same_row row e.0 same in
+            let none : find row_cmp row es ≡ None = ap (λ r. find row_cmp r es) is ∙ find_below e.0 es parts.0 in
+            ap (λ o. cond (test e.0 e.1) (Some e.0) o) (first_is es parts.1 ∙ ap chosen none) ∙ ap (λ r. cond (test r e.1) (Some r) None) (sym is)
+        | false ↦ λ other. passed (test e.0 e.1) e other refl ∙ first_is es parts.1
+      ] refl
+    where
+      passed : (b : Bool) (e : Row × A) → is_eq (row_cmp row e.0) ≡ false → test e.0 e.1 ≡ b → cond b (Some e.0) (first_value test es) ≡ first_value test es
+      passed true e other tested = absurd (false≢true (sym other ∙ (ap (λ r. row_eq row r) (only e.0 e.1 tested) ∙ row_eq_self row)))
+      passed false e other tested = refl
+
+-- the first row that a statement matches without listing it, where it may match no other row than one
+pub unlisted_at_row : (h : History) (op : Op) (row : Row) → ((other : Row) → may_match op.statement other ≡ true → other ≡ row)
+    → first_value (is_unlisted op) (entries h.initial) ≡ option_and_then (λ value. cond (is_unlisted op row value) (Some row) None) (get h.initial row)
+unlisted_at_row h op row only =
+    first_is (is_unlisted op) row (λ other value unlisted. only other (may_be_unlisted op other value unlisted)) (entries h.initial) (entries_sorted h.initial)
+    ∙ ap (λ o. option_and_then (λ value. cond (is_unlisted op row value) (Some row) None) o) (sym (get-entries h.initial row))
