@@ -22,6 +22,9 @@ pub mod Waiting
 pub mod Circles
 pub mod Retrying
 pub mod LogsTold
+mod Tellings
+mod Installing
+mod Grouping
 pub mod ToldMaps
 pub mod Recordings
 pub mod ListedVersions

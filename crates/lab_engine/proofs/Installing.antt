@@ -1,0 +1,61 @@
+-- What a transaction installs.
+use Rattle.std.proofs.Common.{◌≡◌, ℕ, ◌+◌, ◌<◌, ◌++◌, reverse, arith, refl, sym, ap, subst, ◌∙◌, Bool, true, false, cond, T, List, [], ◌∷◌, map, length, take, get_or}
+use Rattle.std.specs.Prelude.{Option, Some, None, is_some, filter}
+use Rattle.std.specs.Option.{option_or}
+use Rattle.std.proofs.lemmas.List.{map-append, take_more, length-reverse, length-take-le, reverse-append}
+use Rattle.std.specs.FinMap.{get, find, is_sorted, entries, entries_sorted, get-entries}
+use Rattle.std.specs.FinMap.Entries.{below_all}
+use Rattle.lab_table.specs.Row.{Row, row_cmp, row_eq}
+use Rattle.lab_table.specs.Table.{State}
+use Rattle.lab_table.proofs.Maps.{both, find_below, same_row}
+use Rattle.lab_history.specs.declared.operation.Op.{Op}
+use Rattle.lab_history.specs.declared.operation.VersionName.TheVariants.{Of}
+use Rattle.lab_engine.specs.Log.{Version, version_or, last_version}
+use Rattle.lab_engine.specs.Sight.{Listed}
+use Rattle.lab_engine.specs.Merging.{written_version}
+use Rattle.lab_engine.specs.Told.{numbers_of}
+
+-- the last versions with those of one more operation
+pub written_next : (number i : ℕ) (ops : List Op) (op : Op) (old written new : Listed) → i < length ops → op ≡ get_or ops i op
+    → ((row : Row) → get old row ≡ last_version number (reverse (take i ops)) row) → ((row : Row) → get written row ≡ written_version (Of number (i + 1)) (get op.writes row))
+    → ((row : Row) → get new row ≡ option_or (get written row) (get old row)) → (row : Row) → get new row ≡ last_version number (reverse (take (i + 1) ops)) row
+written_next number i ops op old written new few is so_far wrote over row =
+    over row ∙ ap (λ v. option_or v (get old row)) (wrote row) ∙ ap (option_or (written_version (Of number (i + 1)) (get op.writes row))) (so_far row)
+    ∙ named (get op.writes row)
+    ∙ sym (ap (λ l. last_version number l row) (ap reverse (take_more ops i op few ∙ ap (λ e. take i ops ++ e ∷ []) (sym is)) ∙ reverse-append (take i ops) (op ∷ [])))
+  where
+    counted : length (reverse (take i ops)) ≡ i
+    counted = length-reverse (take i ops) ∙ length-take-le i ops (omega (arith, few))
+
+    named : (w : Option State) → option_or (written_version (Of number (i + 1)) w) (last_version number (reverse (take i ops)) row)
+        ≡ version_or number (length (reverse (take i ops)) + 1) w (last_version number (reverse (take i ops)) row)
+    named None = refl
+    named (Some state) = ap (λ k. Some (record { name = Of number k; state = state })) (ap (λ k. k + 1) (sym counted))
+
+filter-append : {A : Type 0} (p : A → Bool) (xs ys : List A) → filter p (xs ++ ys) ≡ filter p xs ++ filter p ys
+filter-append p [] ys = refl
+filter-append {A} p (x ∷ xs) ys = elim (p x) as (λ b. cond b (x ∷ filter p (xs ++ ys)) (filter p (xs ++ ys)) ≡ cond b (x ∷ filter p xs) (filter p xs) ++ filter p ys) [
+  | true ↦ ap (λ l. x ∷ l) (filter-append p xs ys)
+  | false ↦ filter-append p xs ys
+]
+
+-- of rows that rise each is noted at most once
+noted_each : (row : Row) (n : ℕ) (es : List (Row × Version)) → T (is_sorted row_cmp es) → numbers_of row (map (λ (e : Row × Version). (e.0, n)) es) ≡ cond (is_some (find row_cmp row es)) (n ∷ []) []
+noted_each row n [] h = refl
+noted_each row n (e ∷ es) h =
+    let parts = both (below_all row_cmp e.0 es) (is_sorted row_cmp es) h in
+    let rest : List (Row × ℕ) = filter (λ (i : Row × ℕ). row_eq row i.0) (map (λ (e : Row × Version). (e.0, n)) es) in
+    elim (row_eq row e.0) as (λ b. row_eq row e.0 ≡ b → map (λ (i : Row × ℕ). i.1) (cond b ((e.0, n) ∷ rest) rest) ≡ cond (is_some (cond b (Some e.1) (find row_cmp row es))) (n ∷ []) []) [
+      | true ↦ λ t. ap (λ l. n ∷ l)
+          (noted_each row n es parts.1 ∙ ap (λ (o : Option Version). cond (is_some o) (n ∷ []) []) (find_below row es (subst (λ x. T (below_all row_cmp x es)) (sym (same_row row e.0 t)) parts.0)))
+      | false ↦ λ t. noted_each row n es parts.1
+    ] refl
+
+-- the installers of a row, with those who install it now
+pub noted : (row : Row) (n : ℕ) (last : Listed) (es : List (Row × Version)) (old new : List (Row × ℕ)) → es ≡ entries last → new ≡ old ++ map (λ (e : Row × Version). (e.0, n)) es
+    → numbers_of row new ≡ numbers_of row old ++ cond (is_some (get last row)) (n ∷ []) []
+noted row n last es old new are is =
+    ap (numbers_of row) (is ∙ ap (λ (l : List (Row × Version)). old ++ map (λ (e : Row × Version). (e.0, n)) l) are)
+    ∙ ap (map (λ (i : Row × ℕ). i.1)) (filter-append (λ (i : Row × ℕ). row_eq row i.0) old (map (λ (e : Row × Version). (e.0, n)) (entries last)))
+    ∙ map-append (λ (i : Row × ℕ). i.1) (filter (λ (i : Row × ℕ). row_eq row i.0) old) (filter (λ (i : Row × ℕ). row_eq row i.0) (map (λ (e : Row × Version). (e.0, n)) (entries last)))
+    ∙ ap (λ l. numbers_of row old ++ l) (noted_each row n (entries last) (entries_sorted last) ∙ ap (λ (o : Option Version). cond (is_some o) (n ∷ []) []) (sym (get-entries last row)))
