@@ -10,7 +10,7 @@ pub mod Views
 pub mod Searching
 pub mod Describing
 pub mod Holding
-pub mod Installing
+pub mod InstalledChains
 pub mod Answering
 pub mod Merging
 pub mod States
@@ -22,6 +22,9 @@ pub mod Waiting
 pub mod Circles
 pub mod Retrying
 pub mod LogsTold
+mod Tellings
+mod Installing
+mod Grouping
 pub mod ToldMaps
 pub mod Recordings
 pub mod ListedVersions

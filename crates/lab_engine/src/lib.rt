@@ -18,6 +18,7 @@ mod circle;
 mod effect;
 mod engine;
 mod event;
+mod installs;
 mod journal;
 mod laws;
 mod look;

@@ -2,7 +2,7 @@ use Rattle.std.proofs.Common.{[], ◌∷◌, ◌++◌, sym, ap, refl, ◌∙◌,
 use Rattle.std.specs.Prelude.{option_map, unwrap_or}
 use Rattle.std.specs.BTreeMap.{get}
 use Rattle.lab_table.specs.Row.{row_cmp}
-use Rattle.lab_engine.proofs.Installing.{put_chain}
+use Rattle.lab_engine.proofs.InstalledChains.{put_chain}
 use Rattle.lab_engine.proofs.chain.Chains.add.Goals as goal
 
 pub returns-in-Some : goal.returns-in-Some

@@ -1,7 +1,7 @@
 use Rattle.std.proofs.Common.{sym, ap, ◌∙◌}
 use Rattle.std.proofs.lemmas.List.{drop_all}
 use Rattle.lab_engine.specs.Chains.{chain_in, added}
-use Rattle.lab_engine.proofs.Installing.{added_map}
+use Rattle.lab_engine.proofs.InstalledChains.{added_map}
 use Rattle.lab_engine.proofs.chain.Chains.install.Goals as goal
 
 pub returns : goal.returns

@@ -1,0 +1,150 @@
+//! Who installed which rows, and the table that they leave.
+
+ghost use Rattle.std.specs.Prelude.{◌≡◌, ◌≤◌, ◌++◌, ◌∷◌, [], length, IfOk, OnOk, cond, is_some, unwrap_or, List, ℕ};
+ghost use Rattle.std.specs.Prelude as list;
+ghost use Rattle.std.specs.FinMap as map;
+ghost use Rattle.lab_table.specs.Row.{Row};
+ghost use Rattle.lab_engine.specs.EachRow.{with_row, each_row};
+ghost use Rattle.lab_engine.specs.Log.{initial_version};
+ghost use Rattle.lab_engine.specs.Recording.{if_any};
+ghost use Rattle.lab_engine.specs.Told as plain;
+ghost use Rattle.lab_engine.specs.Told.{version_told, numbers_of, groups_from};
+
+use crate::event::Outcome;
+use crate::telling::{ToldTxn, place_of};
+use crate::version::{Version, Versions};
+use lab_history::{Installed, Installers, VersionName};
+use lab_table::{NoMemory, RowId, Table, TxnNo, Value};
+use std::alloc::Global;
+
+/// The last version of each row that a transaction wrote.
+fn last_versions(alloc: Global, txn: &ToldTxn) -> Result<Versions, NoMemory>
+    requires { length txn.now.ops.items ≤ 100000 }
+    ensures { IfOk result (λ last. (row : Row) → map.get last row ≡ version_told txn.now row) }
+{
+    let mut last = Versions::new(alloc);
+    for (index, op) in txn.ops.iter().enumerate() {
+        let name = VersionName::Of {
+            txn: txn.number,
+            op: index as u32 + 1,
+        };
+        let written = Versions::written(alloc, &op.writes, name)?;
+        last.cover(alloc, &written)?;
+    }
+    Ok(last)
+}
+
+/// Notes of each of these rows that a transaction installed it.
+fn note_rows(
+    installs: &mut Vec<(RowId, TxnNo)>,
+    rows: &[(RowId, Version)],
+    number: TxnNo,
+) -> Result<(), NoMemory>
+    ensures { OnOk result (installs.new.items ≡ installs.old.items ++ list.map (λ entry. (entry.0, number)) rows.now) }
+{
+    for entry in rows {
+        installs.push((entry.0, number))?;
+    }
+    Ok(())
+}
+
+/// Puts the versions that a transaction, if any, installs over those installed before, and notes that it did.
+pub fn install(
+    alloc: Global,
+    committed: &mut Versions,
+    installs: &mut Vec<(RowId, TxnNo)>,
+    txn: Option<&ToldTxn>,
+) -> Result<(), NoMemory>
+    requires { plain.IsShort (list.option_map (λ t. t.now) txn) }
+    ensures committed { OnOk result ((row : Row) → map.get committed.new row ≡ plain.installed_over (list.option_map (λ t. t.now) txn.entry) row (map.get committed.old row)) }
+    ensures installs { OnOk result ((row : Row) → numbers_of row installs.new.items ≡ numbers_of row installs.old.items ++ plain.installs_by (list.option_map (λ t. t.now) txn.entry) row) }
+{
+    let Some(txn) = txn else {
+        return Ok(());
+    };
+    let last = last_versions(alloc, txn)?;
+    committed.cover(alloc, &last)?;
+    note_rows(installs, last.entries(), txn.number)?;
+    Ok(())
+}
+
+/// The transaction that commits by an outcome of its session, of those numbered from 1.
+pub fn installing<'t>(
+    txns: &'t [ToldTxn],
+    outcome: &Outcome,
+    by: Option<TxnNo>,
+) -> Option<&'t ToldTxn>
+    ensures { list.option_map (λ (txn : _). txn.now) result ≡ plain.installing outcome.now (plain.told_by txns.now by) }
+{
+    match outcome {
+        Outcome::Committed => told_by(txns, by),
+        _ => None,
+    }
+}
+
+/// The transaction with this number, of those numbered from 1.
+fn told_by(txns: &[ToldTxn], by: Option<TxnNo>) -> Option<&ToldTxn>
+    ensures { list.option_map (λ (txn : _). txn.now) result ≡ plain.told_by txns.now by }
+{
+    txns.get(place_of(by?))
+}
+
+fn is_row_next(installs: &[(RowId, TxnNo)], row: RowId) -> bool
+    ensures { result ≡ plain.is_row_next row installs.now }
+{
+    match installs.first() {
+        Some(install) => row == install.0,
+        None => false,
+    }
+}
+
+/// Those who installed each row, of installs that are sorted by row.
+fn grouped(alloc: Global, installs: &[(RowId, TxnNo)]) -> Result<Vec<(RowId, Installers)>, NoMemory>
+    ensures { IfOk result (λ v. v.items ≡ groups_from [] installs.now) }
+{
+    let mut entries = Vec::new(alloc);
+    let mut numbers = Vec::new(alloc);
+    for (index, install) in installs.iter().enumerate() {
+        numbers.push(install.1)?;
+        if !is_row_next(&installs[index + 1..], install.0) {
+            entries.push((install.0, Installers::new(numbers)))?;
+            numbers = Vec::new(alloc);
+        }
+    }
+    Ok(entries)
+}
+
+/// Those who installed each row, in order of commits. NoMemory where a growth was refused.
+pub fn installed_of(alloc: Global, installs: Vec<(RowId, TxnNo)>) -> Result<Installed, NoMemory>
+    ensures { IfOk result (λ installed. (row : Row) → map.get installed row ≡ if_any (numbers_of row installs.items)) }
+{
+    let mut installs = installs;
+    installs.sort_by_key(|install| install.0)?;
+    let entries = grouped(alloc, &installs)?;
+    Ok(Installed::new(entries))
+}
+
+fn present(entry: &(RowId, Version)) -> Option<(RowId, Value)>
+    ensures { result ≡ with_row entry.now.0 entry.now.1.state }
+{
+    let value = entry.1.state?;
+    Some((entry.0, value))
+}
+
+fn all_present(alloc: Global, entries: &[(RowId, Version)]) -> Result<Vec<(RowId, Value)>, NoMemory>
+    ensures { IfOk result (λ v. v.items ≡ each_row (λ row version. version.state) entries.now) }
+{
+    entries
+        .iter()
+        .filter_map(|entry| present(entry))
+        .collect(alloc)
+}
+
+/// The setup with the committed versions over it. NoMemory where a growth was refused.
+pub fn end_table(alloc: Global, setup: &Table, committed: &Versions) -> Result<Table, NoMemory>
+    ensures { IfOk result (λ table. (row : Row) → map.get table row ≡ (unwrap_or (map.get committed.now row) (initial_version setup.now row)).state) }
+{
+    let initial = Versions::of_table(alloc, setup)?;
+    let versions = initial.under(alloc, committed)?;
+    Ok(Table::from_rising(all_present(alloc, versions.entries())?))
+}
