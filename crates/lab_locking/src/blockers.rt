@@ -85,7 +85,7 @@ pub fn has_read(seen: &Versions, statement: &Statement, holder: &RunningTxn) -> 
     ensures { result ≡ spec.was_read (statements_of holder.now) statement.now seen.now }
 {
     match statement {
-        Statement::Select { .. } => listed_was_read(&holder.statements, statement, seen),
+        Statement::Select { .. } => false,
         Statement::Update { .. } => listed_was_read(&holder.statements, statement, seen),
         Statement::Insert { id, .. } => {
             let version = version_seen(seen, *id);
