@@ -10,3 +10,5 @@ mod chain;
 mod made;
 #[cfg(test)]
 mod pairs;
+#[cfg(test)]
+mod plays;

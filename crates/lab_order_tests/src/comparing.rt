@@ -73,7 +73,7 @@ const CASES: [Case; 9] = [
     // an insert, a delete of the row and an insert again
     Case {
         nodes: 3,
-        arrows: &[(0, 1), (1, 2)],
+        arrows: &[(0, 1), (0, 2), (1, 2)],
         has_order: true,
         answer: &[0, 1, 2],
     },
