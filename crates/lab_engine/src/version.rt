@@ -264,7 +264,7 @@ fn merged_entries(
     let mut entries = Vec::new(alloc);
     let mut left = under;
     for entry in over {
-        let (before, rest) = left.split_at(place_of(left, entry.0));
+        let (before, rest) = left.split_at(place_near(left, entry.0));
         entries.extend_from_slice(before)?;
         entries.push(*entry)?;
         left = behind(rest, entry.0);
@@ -287,4 +287,22 @@ fn place_of(entries: &[(RowId, Version)], row: RowId) -> usize
     ensures bound { result ≤ length entries.now }
 {
     entries.partition_point(|entry| row > entry.0)
+}
+
+/// The same place, for a row that mostly stands at the front.
+fn place_near(entries: &[(RowId, Version)], row: RowId) -> usize
+    requires { T (map.is_sorted row_cmp entries.now) }
+    ensures value { result ≡ prefix_len (comes_after row) entries.now }
+    ensures bound { result ≤ length entries.now }
+{
+    match entries.split_first() {
+        Some((first, _)) => {
+            if row > first.0 {
+                place_of(entries, row)
+            } else {
+                0
+            }
+        }
+        None => 0,
+    }
 }
