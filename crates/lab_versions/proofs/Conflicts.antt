@@ -21,7 +21,7 @@ use Rattle.lab_engine.specs.Sight.{Listed as Versions, IsFirstConflict}
 use Rattle.lab_engine.specs.Situation.{Describes, IsRunning, running_of}
 use Rattle.lab_engine.proofs.Locks.{none_some, some_same}
 use Rattle.lab_engine.proofs.Describing.{running_txn}
-use Rattle.lab_engine.proofs.Installing.{SinceThen, since_begin, last_no}
+use Rattle.lab_engine.proofs.InstalledChains.{SinceThen, since_begin, last_no}
 use Rattle.lab_versions.specs.Conflict.{first_taken}
 
 -- a row stands in a list of versions
