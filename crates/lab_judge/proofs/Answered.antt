@@ -1,5 +1,5 @@
 -- What holds of each answer, where there is one.
-use Rattle.std.proofs.Common.{◌≡◌, List, [], ◌∷◌, map, Ok, Err, Result, IfOk, subst}
+use Rattle.std.proofs.Common.{◌≡◌, List, [], ◌∷◌, map, Ok, Result, IfOk, subst}
 use Rattle.std.specs.List.{AllZip}
 
 -- the same of results that are all answers

@@ -1,4 +1,4 @@
-use Rattle.std.proofs.Common.{◌≡◌, ap, ◌∙◌, IfOk}
+use Rattle.std.proofs.Common.{ap, ◌∙◌, IfOk}
 use Rattle.rayon.proofs.ToStd.{slice-AllZip}
 use Rattle.lab_judge.specs.FileAnswer.{IsFileAnswer}
 use Rattle.lab_judge.proofs.Answered.{all_answers}
