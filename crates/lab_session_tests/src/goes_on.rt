@@ -136,11 +136,14 @@ fn second<R: Wait>(
 }
 
 /// Whether an answer lists this row with this value alone.
-fn lists(reply: Option<&Outcome>, row: (RowId, Value)) -> bool {
+fn lists(reply: Option<&Outcome>, row: RowId, value: Value) -> bool {
     let Some(Outcome::Rows { rows, .. }) = reply else {
         return false;
     };
-    rows.entries() == [row].as_slice()
+    match rows.entries().first() {
+        Some(entry) => rows.entries().len() == 1 && entry.0 == row && entry.1 == value,
+        None => false,
+    }
 }
 
 #[test]
@@ -171,6 +174,6 @@ fn a_command_whose_retry_had_no_memory_goes_on(rt: HostRuntime) -> Result<(), Fa
         return Err(Fail::from("a seat"));
     };
     let eleven = Value::new(11).ok_or("a value")?;
-    assert!(rt; lists(seat.reply(), (row, eleven)));
+    assert!(rt; lists(seat.reply(), row, eleven));
     Ok(())
 }

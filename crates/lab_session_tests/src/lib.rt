@@ -8,4 +8,8 @@ mod goes_on;
 #[cfg(test)]
 mod meeting;
 #[cfg(test)]
+mod plain_recording;
+#[cfg(test)]
+mod recordings;
+#[cfg(test)]
 mod seats;
