@@ -1,11 +1,10 @@
 -- Which rows of a transaction others have installed since its begin.
-use Rattle.std.proofs.Common.{◌≡◌, ℕ, refl, sym, ap, subst, ◌∙◌, Bool, true, false, cond, ◌&&◌, T, true≢false, List, [], ◌∷◌, ◌++◌, Option, Some, None, is_some, IsSome, ◌+◌, length, length-append, arith, MatchOption, option_map}
+use Rattle.std.proofs.Common.{◌≡◌, ℕ, refl, sym, ap, subst, ◌∙◌, Bool, true, false, cond, ◌&&◌, T, true≢false, List, [], ◌∷◌, ◌++◌, Option, Some, None, is_some, IsSome, length, length-append, arith, MatchOption, option_map}
 use Rattle.std.specs.Prelude.{unwrap_or}
 use Rattle.std.specs.Option.{option_or}
 use Rattle.std.specs.Ordering.{is_lt}
 use Rattle.std.specs.declared.cmp.Ordering.{Ordering}
 use Rattle.std.specs.declared.cmp.Ordering.TheVariants.{Less, Equal, Greater}
-use Rattle.std.specs.FinMap as map
 use Rattle.std.specs.FinMap.{find, is_sorted, entries, entries_sorted, get-entries}
 use Rattle.std.specs.FinMap.Entries.{below_all}
 use Rattle.lab_table.specs.Row.{Row, row_cmp, row_eq, rows_total}
@@ -17,7 +16,7 @@ use Rattle.lab_engine.specs.declared.event.Level.TheVariants.{Snapshot}
 use Rattle.lab_engine.specs.Log.{Past, Version, Txn, active, version_by, writers, commits}
 use Rattle.lab_engine.specs.Rules.{IsBelow, MayCommit, Conflicts}
 use Rattle.lab_engine.specs.Chains.{chain, chain_in, first_since}
-use Rattle.lab_engine.specs.Sight.{Listed as Versions, IsFirstConflict}
+use Rattle.lab_engine.specs.Sight.{IsFirstConflict}
 use Rattle.lab_engine.specs.Situation.{Describes, IsRunning, running_of}
 use Rattle.lab_engine.proofs.Locks.{none_some, some_same}
 use Rattle.lab_engine.proofs.Describing.{running_txn}

@@ -1,5 +1,5 @@
 -- Rows that a transaction wrote and that others have installed since its begin.
-use Rattle.std.specs.Prelude.{ℕ, Option, Some, None, option_map, List, [], ◌∷◌}
+use Rattle.std.specs.Prelude.{ℕ, Option, None, option_map, List, [], ◌∷◌}
 use Rattle.std.specs.Option.{option_or}
 use Rattle.lab_table.specs.Row.{Row}
 use Rattle.lab_engine.specs.declared.rules.Conflict.{Conflict}
