@@ -31,7 +31,7 @@ fn made_script(alloc: Global, seed: u32) -> Result<Vec<u8>, NoMemory> {
     let mut text = Vec::new(alloc);
     text.extend_from_slice(b"setup (1, 10), (2, 20);\n")?;
     let mut state = seed;
-    for _ in 0..30 {
+    for _ in 0..120 {
         state = state.wrapping_mul(1_664_525).wrapping_add(1_013_904_223);
         text.extend_from_slice(command((state >> 16) % 9))?;
         let session: &[u8] = match (state >> 24) % 3 {
