@@ -1,12 +1,8 @@
 //! What each engine keeps, and the calls that all engines share.
 
-ghost use Rattle.std.specs.Prelude.{◌≡◌, ◌<◌, ◌∷◌, ◌++◌, [], Some, length, is_some, IsSome, IfSome, IfOk};
-ghost use Rattle.lab_engine.specs.declared.event.EngineFault.TheVariants.{Busy};
-ghost use Rattle.lab_engine.specs.declared.event.Outcome.TheVariants.{Refused};
-ghost use Rattle.lab_engine.specs.Log.{past_of, active, waiting};
-ghost use Rattle.lab_engine.specs.Rules.{Permitted};
-ghost use Rattle.lab_engine.specs.Situation.{Describes};
-ghost use Rattle.lab_engine.specs.Answer.{Keeps};
+ghost use Rattle.std.specs.Prelude.{◌≡◌, ◌<◌, ◌∷◌, ◌++◌, [], length, IsSome, IfOk};
+ghost use Rattle.lab_engine.specs.Log.{past_of, waiting};
+ghost use Rattle.lab_engine.specs.Answer.{MayGive, Answers, IsRetryChoice};
 ghost use Rattle.lab_engine.specs.Engine.{IsStep, IsRetry};
 
 use crate::answer::answer_to;
@@ -20,22 +16,20 @@ use lab_table::{Command, NoMemory, Session, Table};
 use std::alloc::Global;
 use std::marker::Model;
 
-/// An engine of some rules. Beside its setup and its log it keeps where the log leaves sessions and rows, so no call
-/// looks through the log; but a call that is refused memory while it changes that drops it, and the next step finds it
-/// anew. Which session is retryable is found once after each event, before that event is appended.
+/// An engine of some rules: it keeps its setup and its log, and answers each question by looking through them.
+/// Which session is retryable is found once after each event, before that event is appended.
 #[derive(Drop)]
 pub struct Journal<R: Rules> {
     rules: R,
     setup: Table,
     log: Vec<LogEvent>,
     retryable: Option<Session>,
-    situation: Option<Situation>,
 }
 
 impl<R: Rules> Model for Journal<R> {
     ghost use Rattle.lab_engine.specs.Journal.{Kept, coded_kept};
     ghost use Rattle.lab_engine.specs.Log.{past_of};
-    ghost use Rattle.lab_engine.specs.Answer.{Keeps};
+    ghost use Rattle.lab_engine.specs.Answer.{IsRetryChoice};
     ghost use Rattle.lab_engine.specs.contracts.event.Level as level;
     ghost use Rattle.lab_engine.specs.contracts.event.LogEvent as event;
 
@@ -45,16 +39,15 @@ impl<R: Rules> Model for Journal<R> {
 
     ghost view = { λ j. record { level = R.kind j.rules; setup = j.setup; log = j.log.items } };
 
-    ghost invariant = { λ j. Keeps (R.kind j.rules) j.setup (past_of j.log.items) j.retryable j.situation };
+    ghost invariant = { λ j. IsRetryChoice (R.kind j.rules) j.setup (past_of j.log.items) j.retryable };
 }
 
-/// An event that the rules permit next, its outcome once more, and what is kept of the log after it.
+/// An event that the rules permit next, its outcome once more, and which session is retryable after it.
 #[derive(Drop)]
 struct Next {
     event: LogEvent,
     outcome: Outcome,
     retryable: Option<Session>,
-    situation: Situation,
 }
 
 impl<R: Rules> Journal<R> {
@@ -69,26 +62,23 @@ impl<R: Rules> Journal<R> {
             setup,
             log: Vec::new(alloc),
             retryable: None,
-            situation: None,
         }
     }
 }
 
-/// Where a log leaves its sessions and rows: what is known of that, or else what a pass over the log finds.
-/// NoMemory where a growth was refused.
-fn known_or_found(
+/// The session that is retryable after one event more. NoMemory where a growth was refused.
+fn retryable_after<R: Rules>(
     alloc: Global,
-    known: Option<Situation>,
+    rules: &R,
+    setup: &Table,
     log: &[LogEvent],
-) -> Result<Situation, NoMemory>
-    requires room { length log.now < 100000 }
-    requires known { IfSome known (Describes (past_of log.now)) }
-    ensures { IfOk result (Describes (past_of log.now)) }
+    event: &LogEvent,
+) -> Result<Option<Session>, NoMemory>
+    requires { length log.now < 100000 }
+    ensures { IfOk result (IsRetryChoice (R.kind rules.now) setup.now (event.now ∷ past_of log.now)) }
 {
-    match known {
-        Some(situation) => Ok(situation),
-        None => Situation::of(alloc, log),
-    }
+    let situation = Situation::after(alloc, log, event)?;
+    retryable(alloc, rules, setup, log, &situation)
 }
 
 /// An event with what goes with it. NoMemory where a growth was refused.
@@ -97,46 +87,37 @@ fn next_event<R: Rules>(
     rules: &R,
     setup: &Table,
     log: &[LogEvent],
-    situation: Situation,
     event: LogEvent,
 ) -> Result<Next, NoMemory>
-    requires room { length log.now < 100000 }
-    requires situation { Describes (past_of log.now) situation }
+    requires { length log.now < 100000 }
     ensures event { IfOk result (λ n. n.event ≡ event) }
     ensures copy { IfOk result (λ n. n.outcome ≡ event.outcome) }
-    ensures keeps { IfOk result (λ n. Keeps (R.kind rules.now) setup.now (n.event ∷ past_of log.now) n.retryable (Some n.situation)) }
+    ensures retryable { IfOk result (λ n. IsRetryChoice (R.kind rules.now) setup.now (n.event ∷ past_of log.now) n.retryable) }
 {
     let outcome = event.outcome.copy(alloc)?;
-    let mut situation = situation;
-    situation.take_in(alloc, &event)?;
-    let retryable = retryable(alloc, rules, setup, &situation)?;
+    let retryable = retryable_after(alloc, rules, setup, log, &event)?;
     Ok(Next {
         event,
         outcome,
         retryable,
-        situation,
     })
 }
 
-/// What the rules answer to a command, or Busy where the session waits. NoMemory where a growth was refused.
-fn step_outcome<R: Rules>(
+/// What the rules answer to a command that a session may give. NoMemory where a growth was refused.
+fn decided<R: Rules>(
     alloc: Global,
     rules: &R,
     setup: &Table,
     log: &[LogEvent],
-    situation: &Situation,
     session: Session,
     command: &Command,
 ) -> Result<Outcome, NoMemory>
     requires room { length log.now < 100000 }
-    requires situation { Describes (past_of log.now) situation.now }
-    ensures permitted { IfOk result (Permitted (R.kind rules.now) setup.now (past_of log.now) session command.now) }
-    ensures busy { IfOk result (λ outcome. IsSome (waiting (past_of log.now) session) → outcome ≡ Refused Busy) }
+    requires may { MayGive (past_of log.now) session command.now }
+    ensures { IfOk result (Answers (R.kind rules.now) setup.now (past_of log.now) session command.now) }
 {
-    if situation.is_waiting(session) {
-        return Ok(Outcome::Refused(EngineFault::Busy));
-    }
-    answer_to(alloc, rules, setup, log, situation, session, command)
+    let situation = Situation::of(alloc, log)?;
+    answer_to(alloc, rules, setup, log, &situation, session, command)
 }
 
 /// The event of a step: what the rules answer to a command, or Busy where the session waits.
@@ -146,23 +127,25 @@ fn step_event<R: Rules>(
     rules: &R,
     setup: &Table,
     log: &[LogEvent],
-    situation: Situation,
     session: Session,
     command: &Command,
 ) -> Result<Next, NoMemory>
-    requires room { length log.now < 100000 }
-    requires situation { Describes (past_of log.now) situation }
+    requires { length log.now < 100000 }
     ensures step { IfOk result (λ n. IsStep (R.kind rules.now) setup.now log.now (log.now ++ n.event ∷ []) session command.now n.outcome) }
-    ensures keeps { IfOk result (λ n. Keeps (R.kind rules.now) setup.now (n.event ∷ past_of log.now) n.retryable (Some n.situation)) }
+    ensures retryable { IfOk result (λ n. IsRetryChoice (R.kind rules.now) setup.now (n.event ∷ past_of log.now) n.retryable) }
 {
-    let outcome = step_outcome(alloc, rules, setup, log, &situation, session, command)?;
+    let outcome = if waiting_statement(log, session).is_some() {
+        Outcome::Refused(EngineFault::Busy)
+    } else {
+        decided(alloc, rules, setup, log, session, command)?
+    };
     let command = command.copy(alloc)?;
     let event = LogEvent {
         session,
         command,
         outcome,
     };
-    next_event(alloc, rules, setup, log, situation, event)
+    next_event(alloc, rules, setup, log, event)
 }
 
 /// The event of a retry: what the rules answer to the statement that the session waits with.
@@ -172,48 +155,24 @@ fn retry_event<R: Rules>(
     rules: &R,
     setup: &Table,
     log: &[LogEvent],
-    situation: Situation,
     session: Session,
 ) -> Result<Next, NoMemory>
     requires room { length log.now < 100000 }
-    requires situation { Describes (past_of log.now) situation }
     requires waits { IsSome (waiting (past_of log.now) session) }
     ensures retry { IfOk result (λ n. IsRetry (R.kind rules.now) setup.now log.now (log.now ++ n.event ∷ []) session n.outcome) }
-    ensures keeps { IfOk result (λ n. Keeps (R.kind rules.now) setup.now (n.event ∷ past_of log.now) n.retryable (Some n.situation)) }
+    ensures retryable { IfOk result (λ n. IsRetryChoice (R.kind rules.now) setup.now (n.event ∷ past_of log.now) n.retryable) }
 {
-    let Some(statement) = situation.waiting(session) else {
+    let Some(statement) = waiting_statement(log, session) else {
         unreachable!();
     };
     let command = Command::Run(statement.copy(alloc)?);
-    let outcome = answer_to(alloc, rules, setup, log, &situation, session, &command)?;
+    let outcome = decided(alloc, rules, setup, log, session, &command)?;
     let event = LogEvent {
         session,
         command,
         outcome,
     };
-    next_event(alloc, rules, setup, log, situation, event)
-}
-
-/// Whether a session has an active transaction, as is known, or else as the log says.
-fn has_active(known: &Option<Situation>, log: &[LogEvent], session: Session) -> bool
-    requires { IfSome known.now (Describes (past_of log.now)) }
-    ensures { result ≡ is_some (active (past_of log.now) session) }
-{
-    match known {
-        Some(situation) => situation.is_active(session),
-        None => is_active(log, session),
-    }
-}
-
-/// Whether a command of a session waits, as is known, or else as the log says.
-fn has_waiting(known: &Option<Situation>, log: &[LogEvent], session: Session) -> bool
-    requires { IfSome known.now (Describes (past_of log.now)) }
-    ensures { result ≡ is_some (waiting (past_of log.now) session) }
-{
-    match known {
-        Some(situation) => situation.is_waiting(session),
-        None => waiting_statement(log, session).is_some(),
-    }
+    next_event(alloc, rules, setup, log, event)
 }
 
 impl<R: Rules> Engine for Journal<R> {
@@ -236,11 +195,11 @@ impl<R: Rules> Engine for Journal<R> {
     }
 
     fn is_active(&self, session: Session) -> bool {
-        has_active(&self.situation, &self.log, session)
+        is_active(&self.log, session)
     }
 
     fn is_waiting(&self, session: Session) -> bool {
-        has_waiting(&self.situation, &self.log, session)
+        waiting_statement(&self.log, session).is_some()
     }
 
     fn step(
@@ -249,36 +208,17 @@ impl<R: Rules> Engine for Journal<R> {
         session: Session,
         command: &Command,
     ) -> Result<Outcome, NoMemory> {
-        let situation = known_or_found(alloc, self.situation.take(), &self.log)?;
-        let next = step_event(
-            alloc,
-            &self.rules,
-            &self.setup,
-            &self.log,
-            situation,
-            session,
-            command,
-        )?;
+        let next = step_event(alloc, &self.rules, &self.setup, &self.log, session, command)?;
         self.log.push(next.event)?;
         self.retryable = next.retryable;
-        self.situation = Some(next.situation);
         Ok(next.outcome)
     }
 
     fn retry(&mut self, alloc: Global, session: Session) -> Result<Outcome, NoMemory> {
-        let situation = known_or_found(alloc, self.situation.take(), &self.log)?;
-        let again = retry_event(
-            alloc,
-            &self.rules,
-            &self.setup,
-            &self.log,
-            situation,
-            session,
-        )?;
-        self.log.push(again.event)?;
-        self.retryable = again.retryable;
-        self.situation = Some(again.situation);
-        Ok(again.outcome)
+        let next = retry_event(alloc, &self.rules, &self.setup, &self.log, session)?;
+        self.log.push(next.event)?;
+        self.retryable = next.retryable;
+        Ok(next.outcome)
     }
 
     fn retryable(&self) -> Option<Session> {

@@ -25,22 +25,27 @@ impl Rules for LockRules {
     fn blocks(
         &self,
         setup: &Table,
-        situation: &Situation,
+        situation: &Situation<'_>,
         seen: &Versions,
         statement: &Statement,
-        holder: &RunningTxn,
+        holder: &RunningTxn<'_>,
     ) -> bool {
         holds_match(setup, &situation.committed, statement, holder)
             || holds_write(seen, statement, holder)
             || has_read(seen, statement, holder)
     }
 
-    fn conflict(&self, situation: &Situation, session: Session) -> Option<Conflict> {
-        None
+    fn conflict(
+        &self,
+        alloc: Global,
+        log: &[LogEvent],
+        session: Session,
+    ) -> Result<Option<Conflict>, NoMemory> {
+        Ok(None)
     }
 }
 
-/// The serializable engine: it keeps its setup, its log, and where that leaves sessions and rows.
+/// The serializable engine: it keeps its setup and its log, and looks through them.
 #[derive(Drop)]
 pub struct LockEngine {
     journal: Journal<LockRules>,

@@ -24,20 +24,25 @@ impl Rules for CommittedRules {
     fn blocks(
         &self,
         setup: &Table,
-        situation: &Situation,
+        situation: &Situation<'_>,
         seen: &Versions,
         statement: &Statement,
-        holder: &RunningTxn,
+        holder: &RunningTxn<'_>,
     ) -> bool {
         holds_write(seen, statement, holder)
     }
 
-    fn conflict(&self, situation: &Situation, session: Session) -> Option<Conflict> {
-        None
+    fn conflict(
+        &self,
+        alloc: Global,
+        log: &[LogEvent],
+        session: Session,
+    ) -> Result<Option<Conflict>, NoMemory> {
+        Ok(None)
     }
 }
 
-/// The engine at read committed: it keeps its setup, its log, and where that leaves sessions and rows.
+/// The engine at read committed: it keeps its setup and its log, and looks through them.
 #[derive(Drop)]
 pub struct CommittedEngine {
     journal: Journal<CommittedRules>,
