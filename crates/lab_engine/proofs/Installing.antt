@@ -1,36 +1,14 @@
 -- What a transaction installs.
-use Rattle.std.proofs.Common.{◌≡◌, ℕ, ◌+◌, ◌<◌, ◌++◌, reverse, arith, refl, sym, ap, subst, ◌∙◌, Bool, true, false, cond, T, List, [], ◌∷◌, map, length, take, get_or}
-use Rattle.std.specs.Prelude.{Option, Some, None, is_some, filter}
-use Rattle.std.specs.Option.{option_or}
-use Rattle.std.proofs.lemmas.List.{map-append, take_more, length-reverse, length-take-le, reverse-append}
+use Rattle.std.proofs.Common.{◌≡◌, ℕ, ◌+◌, ◌++◌, refl, sym, ap, subst, ◌∙◌, Bool, true, false, cond, T, List, [], ◌∷◌, map}
+use Rattle.std.specs.Prelude.{Option, Some, is_some, filter}
+use Rattle.std.proofs.lemmas.List.{map-append}
 use Rattle.std.specs.FinMap.{get, find, is_sorted, entries, entries_sorted, get-entries}
 use Rattle.std.specs.FinMap.Entries.{below_all}
 use Rattle.lab_table.specs.Row.{Row, row_cmp, row_eq}
-use Rattle.lab_table.specs.Table.{State}
 use Rattle.lab_table.proofs.Maps.{both, find_below, same_row}
-use Rattle.lab_history.specs.declared.operation.Op.{Op}
-use Rattle.lab_history.specs.declared.operation.VersionName.TheVariants.{Of}
-use Rattle.lab_engine.specs.Log.{Version, version_or, last_version}
+use Rattle.lab_engine.specs.Log.{Version}
 use Rattle.lab_engine.specs.Sight.{Listed}
-use Rattle.lab_engine.specs.Merging.{written_version}
 use Rattle.lab_engine.specs.Told.{numbers_of}
-
--- the last versions with those of one more operation
-pub written_next : (number i : ℕ) (ops : List Op) (op : Op) (old written new : Listed) → i < length ops → op ≡ get_or ops i op
-    → ((row : Row) → get old row ≡ last_version number (reverse (take i ops)) row) → ((row : Row) → get written row ≡ written_version (Of number (i + 1)) (get op.writes row))
-    → ((row : Row) → get new row ≡ option_or (get written row) (get old row)) → (row : Row) → get new row ≡ last_version number (reverse (take (i + 1) ops)) row
-written_next number i ops op old written new few is so_far wrote over row =
-    over row ∙ ap (λ v. option_or v (get old row)) (wrote row) ∙ ap (option_or (written_version (Of number (i + 1)) (get op.writes row))) (so_far row)
-    ∙ named (get op.writes row)
-    ∙ sym (ap (λ l. last_version number l row) (ap reverse (take_more ops i op few ∙ ap (λ e. take i ops ++ e ∷ []) (sym is)) ∙ reverse-append (take i ops) (op ∷ [])))
-  where
-    counted : length (reverse (take i ops)) ≡ i
-    counted = length-reverse (take i ops) ∙ length-take-le i ops (omega (arith, few))
-
-    named : (w : Option State) → option_or (written_version (Of number (i + 1)) w) (last_version number (reverse (take i ops)) row)
-        ≡ version_or number (length (reverse (take i ops)) + 1) w (last_version number (reverse (take i ops)) row)
-    named None = refl
-    named (Some state) = ap (λ k. Some (record { name = Of number k; state = state })) (ap (λ k. k + 1) (sym counted))
 
 filter-append : {A : Type 0} (p : A → Bool) (xs ys : List A) → filter p (xs ++ ys) ≡ filter p xs ++ filter p ys
 filter-append p [] ys = refl
