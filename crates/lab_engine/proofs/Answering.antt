@@ -137,15 +137,11 @@ some_empty shown xs same is none = let len : length shown ≡ length {A = ℕ} [
 abbrev Looked : Level → Past → Txn → Option Conflict → Type 0
 Looked level past txn found = MatchOption found (MayCommit level past txn) (IsFirstConflict level past txn)
 
-pub conflict_none : (level : Level) (past : Past) (txn : Txn) (r : Result (Option Conflict) AllocError) (found : Option Conflict) → r ≡ Ok found → found ≡ None
-    → IfOk r (Looked level past txn) → MayCommit level past txn
-conflict_none level past txn r found ok none looked =
-    subst (Looked level past txn) none (subst (λ (x : Result (Option Conflict) AllocError). IfOk x (Looked level past txn)) ok looked)
+pub conflict_none : (level : Level) (past : Past) (txn : Txn) (found : Option Conflict) → found ≡ None → Looked level past txn found → MayCommit level past txn
+conflict_none level past txn found none looked = subst (Looked level past txn) none looked
 
-pub conflict_some : (level : Level) (past : Past) (txn : Txn) (r : Result (Option Conflict) AllocError) (found : Option Conflict) (conflict : Conflict) → r ≡ Ok found → found ≡ Some conflict
-    → IfOk r (Looked level past txn) → IsFirstConflict level past txn conflict
-conflict_some level past txn r found conflict ok some looked =
-    subst (Looked level past txn) some (subst (λ (x : Result (Option Conflict) AllocError). IfOk x (Looked level past txn)) ok looked)
+pub conflict_some : (level : Level) (past : Past) (txn : Txn) (found : Option Conflict) (conflict : Conflict) → found ≡ Some conflict → Looked level past txn found → IsFirstConflict level past txn conflict
+conflict_some level past txn found conflict some looked = subst (Looked level past txn) some looked
 
 -- what is answered to a statement is answered to the command that runs it
 pub ran : (level : Level) (setup : Table) (past : Past) (session : ℕ) (r : Result Outcome AllocError) (command given : Command) → command ≡ given

@@ -1,6 +1,6 @@
 -- What a situation says of sessions, rows and numbers.
 use Rattle.std.proofs.Common.{◌≡◌, ◌≢◌, ℕ, zero, suc, ◌+◌, ◌≤◌, ◌<◌, true, false, cond, List, [], ◌∷◌, map, length, Option, Some, None, refl, sym, ap, subst, ◌∙◌, arith, inl, inr, Contains, IsSome, option_map, ◌==◌, T}
-use Rattle.std.specs.Prelude.{⊤}
+use Rattle.std.specs.Prelude.{⊤, is_some}
 use Rattle.std.proofs.lemmas.Bool.Decides.{eqb_tells}
 use Rattle.std.proofs.lemmas.List.{length-map, length-reverse}
 use Rattle.std.specs.FinMap as map
@@ -20,7 +20,8 @@ use Rattle.lab_engine.specs.declared.situation.SessionState.{SessionState}
 use Rattle.lab_engine.specs.declared.situation.Situation.{Situation}
 use Rattle.lab_engine.specs.Log.{Past, Txn, active, active_after, ops_after, is_fatal, asked, waiting, waiting_after, begun, begun_after, commits, last_installed}
 use Rattle.lab_engine.proofs.Locks.{some_same}
-use Rattle.lab_engine.specs.Situation.{Describes, DescribesSession, DescribesAll, Agree, IsRunning, HasRoom, all_sessions, running_of, grown}
+use Rattle.lab_engine.specs.Chains.{chain_in, chain_after}
+use Rattle.lab_engine.specs.Situation.{Describes, DescribesSession, DescribesAll, Agree, IsRunning, HasRoom, all_sessions, running_of, waiting_of, grown}
 
 -- an active transaction, if any, has run at most so many operations
 abbrev AtMost : ℕ → Option Txn → Type 0
@@ -75,7 +76,7 @@ begun_at_most (event ∷ past) = begun_more event.outcome (begun past) (length p
 -- as many statements are kept of a transaction as it ran operations
 pub statements_length : (txn : Txn) (running : RunningTxn) → IsRunning txn running → length running.statements.items ≡ length txn.ops
 statements_length txn running is =
-    sym (length-map running.statements.items (λ s. s.now)) ∙ ap length is.statements ∙ length-reverse (map (λ op. op.statement) txn.ops) ∙ length-map txn.ops (λ op. op.statement)
+    ap length is.statements ∙ length-reverse (map (λ op. op.statement) txn.ops) ∙ length-map txn.ops (λ op. op.statement)
 
 room : (n : ℕ) (txn : Option Txn) (running : Option RunningTxn) → Agree txn running → AtMost n txn → n < 100000 → HasRoom running
 room n txn None agree most few = tt
@@ -92,7 +93,7 @@ pub begins_running : (past : Past) (number before : ℕ) (running : RunningTxn) 
 begins_running past number before running is_number is_before none last_is = record {
   number = is_number;
   before = is_before;
-  statements = ap (map (λ s. s.now)) none;
+  statements = none;
   last = λ row. ap (λ m. map.get m row) last_is ∙ get-empty row_cmp row;
 }
 
@@ -163,6 +164,39 @@ pub txn_running : (past : Past) (situation : Situation) → Describes past situa
 txn_running past situation is session txn act =
     kept_some txn (running_of situation.sessions.items session) (subst (λ t. Agree t (running_of situation.sessions.items session)) act (running_agrees past situation is session))
 
+no_wait : (held : Option Statement) → ¬ IsSome held → held ≡ None
+no_wait None h = refl
+no_wait (Some s) h = absurd (h refl)
+
+waits_in : (past : Past) (states : List SessionState) (session : ℕ) → DescribesAll past states → (IsSome (waiting past session) → Contains (map (λ state. state.session) states) session)
+    → waiting_of states session ≡ waiting past session
+waits_in past [] session all there = sym (no_wait (waiting past session) (λ some. absurd (omega (arith, (there some).1))))
+waits_in past (state ∷ states) session all there = elim (eqb_tells state.session session) [
+  | inl p ↦ ap (λ b. cond b state.waits (waiting_of states session)) p.0 ∙ all.0.waits ∙ ap (waiting past) p.1
+  | inr p ↦ ap (λ b. cond b state.waits (waiting_of states session)) p.0
+      ∙ waits_in past states session all.1 (λ some. not_first state.session session (map (λ state. state.session) states) p.1 (there some))
+]
+
+-- what a situation keeps of a session that waits agrees with the log
+pub waits_agree : (past : Past) (situation : Situation) → Describes past situation → (session : ℕ) → waiting_of situation.sessions.items session ≡ waiting past session
+waits_agree past situation is session =
+    waits_in past situation.sessions.items session is.states (λ some. subst (λ l. Contains l session) (sym is.sessions) (is.waiting_is session some))
+
+some_agree : (txn : Option Txn) (running : Option RunningTxn) → Agree txn running → is_some running ≡ is_some txn
+some_agree None None agree = refl
+some_agree None (Some running) agree = absurd agree
+some_agree (Some txn) None agree = absurd agree
+some_agree (Some txn) (Some running) agree = refl
+
+-- a situation keeps an active transaction of a session that has one
+pub active_agrees : (past : Past) (situation : Situation) → Describes past situation → (session : ℕ) → is_some (running_of situation.sessions.items session) ≡ is_some (active past session)
+active_agrees past situation is session = some_agree (active past session) (running_of situation.sessions.items session) (running_agrees past situation is session)
+
+-- what is made of something is something
+pub some_made : {A B : Type 0} (f : A → B) (o : Option A) → is_some (option_map f o) ≡ is_some o
+some_made f None = refl
+some_made f (Some x) = refl
+
 -- nobody else becomes active by an event
 active_in : (past : Past) (event : LogEvent) → Contains all_sessions event.session → ((session : ℕ) → IsSome (active past session) → Contains all_sessions session)
     → (session : ℕ) → IsSome (active (event ∷ past) session) → Contains all_sessions session
@@ -182,26 +216,29 @@ waiting_in past event own before session some = elim (eqb_tells event.session se
 -- a situation goes on by an event where its parts do
 pub goes_on : (past : Past) (event : LogEvent) (old new : Situation) → Describes past old → Contains all_sessions event.session → map (λ state. state.session) new.sessions.items ≡ all_sessions
     → DescribesAll (event ∷ past) new.sessions.items → ((row : Row) → map.get new.committed row ≡ last_installed (commits (event ∷ past)) row)
+    → ((row : Row) → chain_in new.chains row ≡ chain_after event.outcome (active past event.session) (length past) row (chain_in old.chains row))
     → new.begun ≡ begun_after event.outcome old.begun → new.events ≡ old.events + 1 → Describes (event ∷ past) new
-goes_on past event old new is own sessions states committed begins counted = record {
+goes_on past event old new is own sessions states committed chains begins counted = record {
   sessions = sessions;
   states = states;
   active_is = active_in past event own is.active_is;
   waiting_is = waiting_in past event own is.waiting_is;
   committed = committed;
+  chains = λ row. chains row ∙ ap (chain_after event.outcome (active past event.session) (length past) row) (is.chains row);
   begun = begins ∙ ap (begun_after event.outcome) is.begun;
   events = let before = is.events in omega (arith, counted, before);
 }
 
 -- the situation before any event
-pub starts : (situation : Situation) → map (λ state. state.session) situation.sessions.items ≡ all_sessions → DescribesAll [] situation.sessions.items → situation.committed ≡ empty → situation.begun ≡ 0 → situation.events ≡ 0
+pub starts : (situation : Situation) → map (λ state. state.session) situation.sessions.items ≡ all_sessions → DescribesAll [] situation.sessions.items → situation.committed ≡ empty → ((row : Row) → chain_in situation.chains row ≡ []) → situation.begun ≡ 0 → situation.events ≡ 0
     → Describes [] situation
-starts situation sessions states none begins counted = record {
+starts situation sessions states none chains begins counted = record {
   sessions = sessions;
   states = states;
   active_is = λ session some. absurd (subst T (sym some) tt);
   waiting_is = λ session some. absurd (subst T (sym some) tt);
   committed = λ row. ap (λ m. map.get m row) none ∙ get-empty row_cmp row;
+  chains = chains;
   begun = begins;
   events = counted;
 }

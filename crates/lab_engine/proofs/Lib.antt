@@ -10,7 +10,7 @@ pub mod Views
 pub mod Searching
 pub mod Describing
 pub mod Holding
-pub mod Fronts
+pub mod InstalledChains
 pub mod Answering
 pub mod Merging
 pub mod States

@@ -1,6 +1,6 @@
 -- Which waiting sessions are retryable.
 use Rattle.std.proofs.Common.{◌≡◌, ℕ, ◌+◌, ◌≤◌, ◌<◌, refl, sym, ap, subst, ◌∙◌, ◌||◌, List, inl, inr, length, take, get_or}
-use Rattle.std.specs.Prelude.{◌==◌, IsTrue, IsSome, Option, Some, None, option_map, is_some}
+use Rattle.std.specs.Prelude.{◌==◌, IsTrue, IsSome, Option, Some, None, is_some}
 use Rattle.std.proofs.lemmas.Bool.{eqb-true, both_ways, or_cases}
 use Rattle.std.proofs.lemmas.List.{take_all}
 use Rattle.std.proofs.lemmas.List.Folds.{list_any_more}
@@ -23,14 +23,9 @@ some_of : {A : Type 0} (o : Option A) → IsSome o → (x : A) × (o ≡ Some x)
 some_of None h = absurd (both_ways _ refl h)
 some_of (Some x) h = (x, refl)
 
--- a change of a value keeps that there is one
-is_some_map : {A B : Type 0} (f : A → B) (o : Option A) → is_some (option_map f o) ≡ is_some o
-is_some_map f None = refl
-is_some_map f (Some x) = refl
-
 -- a state waits where its session does
 state_waits : (past : Past) (state : SessionState) → DescribesSession past state → is_some state.waits ≡ is_some (waiting past state.session)
-state_waits past state d = sym (is_some_map (λ s. s.now) state.waits) ∙ ap is_some d.waits
+state_waits past state d = ap is_some d.waits
 
 -- a state that waits and is released is that of a retryable session
 pub state_retryable : (level : Level) (setup : Table) (past : Past) (waits : List Wait) (state : SessionState) → DescribesSession past state → AreWaits level setup past waits

@@ -5,6 +5,7 @@ pub mod Recording
 pub mod Engine
 pub mod Situation
 pub mod Sight
+pub mod Chains
 pub mod Effect
 pub mod Pending
 pub mod WaitsFor

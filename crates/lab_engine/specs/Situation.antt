@@ -8,12 +8,12 @@ use Rattle.lab_history.specs.declared.operation.Op.{Op}
 use Rattle.lab_engine.specs.declared.situation.RunningTxn.{RunningTxn}
 use Rattle.lab_engine.specs.declared.situation.SessionState.{SessionState}
 use Rattle.lab_engine.specs.declared.situation.Situation.{Situation}
-use Rattle.lab_engine.specs.declared.event.LogEvent.{LogEvent}
-use Rattle.lab_engine.specs.Log.{Past, past_of, Txn, active, waiting, commits, begun, version_by, last_installed}
+use Rattle.lab_engine.specs.Chains.{chain_in, chain}
+use Rattle.lab_engine.specs.Log.{Past, Txn, active, waiting, commits, begun, version_by, last_installed}
 
 -- the statements that a running transaction has run, in order
 abbrev pub statements_of : RunningTxn → List Statement
-statements_of running = list.map (λ s. s.now) running.statements.items
+statements_of running = running.statements.items
 
 -- what is kept of an active transaction agrees with it
 pub record IsRunning (txn : Txn) (running : RunningTxn) : Type 0 where
@@ -43,9 +43,14 @@ abbrev pub running_of : List SessionState → ℕ → Option RunningTxn
 running_of [] session = None
 running_of (state ∷ states) session = cond (state.session == session) state.running (running_of states session)
 
+-- the statement that is kept of a session as the one that it waits with, if any
+abbrev pub waiting_of : List SessionState → ℕ → Option Statement
+waiting_of [] session = None
+waiting_of (state ∷ states) session = cond (state.session == session) state.waits (waiting_of states session)
+
 -- what is kept of a session agrees with the log
 pub record DescribesSession (past : Past) (state : SessionState) : Type 0 where
-  pub waits : option_map (λ s. s.now) state.waits ≡ waiting past state.session
+  pub waits : state.waits ≡ waiting past state.session
   pub running : Agree (active past state.session) state.running
 
 -- so is it for each of some sessions
@@ -64,9 +69,6 @@ pub record Describes (past : Past) (situation : Situation) : Type 0 where
   pub active_is : (session : ℕ) → IsSome (active past session) → Contains all_sessions session
   pub waiting_is : (session : ℕ) → IsSome (waiting past session) → Contains all_sessions session
   pub committed : (row : Row) → map.get situation.committed row ≡ last_installed (commits past) row
+  pub chains : (row : Row) → chain_in situation.chains row ≡ chain past row
   pub begun : situation.begun ≡ begun past
   pub events : situation.events ≡ length past
-
--- a log has the events before each active transaction's begin, though it may lack newer ones
-abbrev pub HasBegins : Past → List LogEvent → Type 0
-HasBegins past log = (session : ℕ) (txn : Txn) → active past session ≡ Some txn → txn.before ≡ past_of (take (length txn.before) log)

@@ -31,7 +31,7 @@ pub fn answer_to<R: Rules>(
     rules: &R,
     setup: &Table,
     log: &[LogEvent],
-    situation: &Situation<'_>,
+    situation: &Situation,
     session: Session,
     command: &Command,
 ) -> Result<Outcome, NoMemory>
@@ -45,7 +45,7 @@ pub fn answer_to<R: Rules>(
     };
     match command {
         Command::Begin => Ok(Outcome::Refused(EngineFault::AlreadyBegun)),
-        Command::Commit => match rules.conflict(alloc, log, session)? {
+        Command::Commit => match rules.conflict(situation, session) {
             None => Ok(Outcome::Committed),
             Some(conflict) => Ok(Outcome::Refused(EngineFault::WriteConflict {
                 row: conflict.row,
@@ -62,7 +62,7 @@ pub fn answer_to<R: Rules>(
 /// What the rules answer to a command of a session that has no active transaction.
 fn without_transaction(
     log: &[LogEvent],
-    situation: &Situation<'_>,
+    situation: &Situation,
     session: Session,
     command: &Command,
 ) -> Outcome
@@ -89,9 +89,9 @@ pub fn run_statement<R: Rules>(
     rules: &R,
     setup: &Table,
     log: &[LogEvent],
-    situation: &Situation<'_>,
+    situation: &Situation,
     session: Session,
-    running: &RunningTxn<'_>,
+    running: &RunningTxn,
     statement: &Statement,
 ) -> Result<Outcome, NoMemory>
     requires room { length log.now < 100000 }
@@ -100,12 +100,12 @@ pub fn run_statement<R: Rules>(
     requires running { (txn : Txn) × (active (past_of log.now) session ≡ Some txn) × IsRunning txn running.now }
     ensures { IfOk result (Answers (R.kind rules.now) setup.now (past_of log.now) session (Run statement.now)) }
 {
-    let seen = seen_by(alloc, rules.level(), setup, log, situation, running)?;
+    let seen = seen_by(alloc, rules.level(), setup, situation, running)?;
     let on = blockers(alloc, rules, setup, situation, session, &seen, statement)?;
     if on.as_slice().is_empty() {
         return unblocked(alloc, statement, &seen);
     }
-    match deadlock(alloc, rules, setup, log, situation, session, &on)? {
+    match deadlock(alloc, rules, setup, situation, session, &on)? {
         Some(circle) => Ok(Outcome::Refused(EngineFault::Deadlock { circle })),
         None => Ok(Outcome::Waits { on }),
     }

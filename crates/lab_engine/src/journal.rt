@@ -1,8 +1,12 @@
 //! What each engine keeps, and the calls that all engines share.
 
-ghost use Rattle.std.specs.Prelude.{◌≡◌, ◌<◌, ◌∷◌, ◌++◌, [], length, IsSome, IfOk};
-ghost use Rattle.lab_engine.specs.Log.{past_of, waiting};
-ghost use Rattle.lab_engine.specs.Answer.{MayGive, Answers, IsRetryChoice};
+ghost use Rattle.std.specs.Prelude.{◌≡◌, ◌<◌, ◌∷◌, ◌++◌, [], Some, length, is_some, IsSome, IfSome, IfOk};
+ghost use Rattle.lab_engine.specs.declared.event.EngineFault.TheVariants.{Busy};
+ghost use Rattle.lab_engine.specs.declared.event.Outcome.TheVariants.{Refused};
+ghost use Rattle.lab_engine.specs.Log.{past_of, active, waiting};
+ghost use Rattle.lab_engine.specs.Rules.{Permitted};
+ghost use Rattle.lab_engine.specs.Situation.{Describes};
+ghost use Rattle.lab_engine.specs.Answer.{Keeps};
 ghost use Rattle.lab_engine.specs.Engine.{IsStep, IsRetry};
 
 use crate::answer::answer_to;
@@ -16,20 +20,22 @@ use lab_table::{Command, NoMemory, Session, Table};
 use std::alloc::Global;
 use std::marker::Model;
 
-/// An engine of some rules: it keeps its setup and its log, and answers each question by looking through them.
-/// Which session is retryable is found once after each event, before that event is appended.
+/// An engine of some rules. Beside its setup and its log it keeps where the log leaves sessions and rows, so no call
+/// looks through the log; but a call that is refused memory while it changes that drops it, and the next step finds it
+/// anew. Which session is retryable is found once after each event, before that event is appended.
 #[derive(Drop)]
 pub struct Journal<R: Rules> {
     rules: R,
     setup: Table,
     log: Vec<LogEvent>,
     retryable: Option<Session>,
+    situation: Option<Situation>,
 }
 
 impl<R: Rules> Model for Journal<R> {
     ghost use Rattle.lab_engine.specs.Journal.{Kept, coded_kept};
     ghost use Rattle.lab_engine.specs.Log.{past_of};
-    ghost use Rattle.lab_engine.specs.Answer.{IsRetryChoice};
+    ghost use Rattle.lab_engine.specs.Answer.{Keeps};
     ghost use Rattle.lab_engine.specs.contracts.event.Level as level;
     ghost use Rattle.lab_engine.specs.contracts.event.LogEvent as event;
 
@@ -39,15 +45,16 @@ impl<R: Rules> Model for Journal<R> {
 
     ghost view = { λ j. record { level = R.kind j.rules; setup = j.setup; log = j.log.items } };
 
-    ghost invariant = { λ j. IsRetryChoice (R.kind j.rules) j.setup (past_of j.log.items) j.retryable };
+    ghost invariant = { λ j. Keeps (R.kind j.rules) j.setup (past_of j.log.items) j.retryable j.situation };
 }
 
-/// An event that the rules permit next, its outcome once more, and which session is retryable after it.
+/// An event that the rules permit next, its outcome once more, and what is kept of the log after it.
 #[derive(Drop)]
 struct Next {
     event: LogEvent,
     outcome: Outcome,
     retryable: Option<Session>,
+    situation: Situation,
 }
 
 impl<R: Rules> Journal<R> {
@@ -62,23 +69,26 @@ impl<R: Rules> Journal<R> {
             setup,
             log: Vec::new(alloc),
             retryable: None,
+            situation: None,
         }
     }
 }
 
-/// The session that is retryable after one event more. NoMemory where a growth was refused.
-fn retryable_after<R: Rules>(
+/// Where a log leaves its sessions and rows: what is known of that, or else what a pass over the log finds.
+/// NoMemory where a growth was refused.
+fn known_or_found(
     alloc: Global,
-    rules: &R,
-    setup: &Table,
+    known: Option<Situation>,
     log: &[LogEvent],
-    event: &LogEvent,
-) -> Result<Option<Session>, NoMemory>
-    requires { length log.now < 100000 }
-    ensures { IfOk result (IsRetryChoice (R.kind rules.now) setup.now (event.now ∷ past_of log.now)) }
+) -> Result<Situation, NoMemory>
+    requires room { length log.now < 100000 }
+    requires known { IfSome known (Describes (past_of log.now)) }
+    ensures { IfOk result (Describes (past_of log.now)) }
 {
-    let situation = Situation::after(alloc, log, event)?;
-    retryable(alloc, rules, setup, log, &situation)
+    match known {
+        Some(situation) => Ok(situation),
+        None => Situation::of(alloc, log),
+    }
 }
 
 /// An event with what goes with it. NoMemory where a growth was refused.
@@ -87,37 +97,46 @@ fn next_event<R: Rules>(
     rules: &R,
     setup: &Table,
     log: &[LogEvent],
+    situation: Situation,
     event: LogEvent,
 ) -> Result<Next, NoMemory>
-    requires { length log.now < 100000 }
+    requires room { length log.now < 100000 }
+    requires situation { Describes (past_of log.now) situation }
     ensures event { IfOk result (λ n. n.event ≡ event) }
     ensures copy { IfOk result (λ n. n.outcome ≡ event.outcome) }
-    ensures retryable { IfOk result (λ n. IsRetryChoice (R.kind rules.now) setup.now (n.event ∷ past_of log.now) n.retryable) }
+    ensures keeps { IfOk result (λ n. Keeps (R.kind rules.now) setup.now (n.event ∷ past_of log.now) n.retryable (Some n.situation)) }
 {
     let outcome = event.outcome.copy(alloc)?;
-    let retryable = retryable_after(alloc, rules, setup, log, &event)?;
+    let mut situation = situation;
+    situation.take_in(alloc, &event)?;
+    let retryable = retryable(alloc, rules, setup, &situation)?;
     Ok(Next {
         event,
         outcome,
         retryable,
+        situation,
     })
 }
 
-/// What the rules answer to a command that a session may give. NoMemory where a growth was refused.
-fn decided<R: Rules>(
+/// What the rules answer to a command, or Busy where the session waits. NoMemory where a growth was refused.
+fn step_outcome<R: Rules>(
     alloc: Global,
     rules: &R,
     setup: &Table,
     log: &[LogEvent],
+    situation: &Situation,
     session: Session,
     command: &Command,
 ) -> Result<Outcome, NoMemory>
     requires room { length log.now < 100000 }
-    requires may { MayGive (past_of log.now) session command.now }
-    ensures { IfOk result (Answers (R.kind rules.now) setup.now (past_of log.now) session command.now) }
+    requires situation { Describes (past_of log.now) situation.now }
+    ensures permitted { IfOk result (Permitted (R.kind rules.now) setup.now (past_of log.now) session command.now) }
+    ensures busy { IfOk result (λ outcome. IsSome (waiting (past_of log.now) session) → outcome ≡ Refused Busy) }
 {
-    let situation = Situation::of(alloc, log)?;
-    answer_to(alloc, rules, setup, log, &situation, session, command)
+    if situation.is_waiting(session) {
+        return Ok(Outcome::Refused(EngineFault::Busy));
+    }
+    answer_to(alloc, rules, setup, log, situation, session, command)
 }
 
 /// The event of a step: what the rules answer to a command, or Busy where the session waits.
@@ -127,25 +146,23 @@ fn step_event<R: Rules>(
     rules: &R,
     setup: &Table,
     log: &[LogEvent],
+    situation: Situation,
     session: Session,
     command: &Command,
 ) -> Result<Next, NoMemory>
-    requires { length log.now < 100000 }
+    requires room { length log.now < 100000 }
+    requires situation { Describes (past_of log.now) situation }
     ensures step { IfOk result (λ n. IsStep (R.kind rules.now) setup.now log.now (log.now ++ n.event ∷ []) session command.now n.outcome) }
-    ensures retryable { IfOk result (λ n. IsRetryChoice (R.kind rules.now) setup.now (n.event ∷ past_of log.now) n.retryable) }
+    ensures keeps { IfOk result (λ n. Keeps (R.kind rules.now) setup.now (n.event ∷ past_of log.now) n.retryable (Some n.situation)) }
 {
-    let outcome = if waiting_statement(log, session).is_some() {
-        Outcome::Refused(EngineFault::Busy)
-    } else {
-        decided(alloc, rules, setup, log, session, command)?
-    };
+    let outcome = step_outcome(alloc, rules, setup, log, &situation, session, command)?;
     let command = command.copy(alloc)?;
     let event = LogEvent {
         session,
         command,
         outcome,
     };
-    next_event(alloc, rules, setup, log, event)
+    next_event(alloc, rules, setup, log, situation, event)
 }
 
 /// The event of a retry: what the rules answer to the statement that the session waits with.
@@ -155,24 +172,48 @@ fn retry_event<R: Rules>(
     rules: &R,
     setup: &Table,
     log: &[LogEvent],
+    situation: Situation,
     session: Session,
 ) -> Result<Next, NoMemory>
     requires room { length log.now < 100000 }
+    requires situation { Describes (past_of log.now) situation }
     requires waits { IsSome (waiting (past_of log.now) session) }
     ensures retry { IfOk result (λ n. IsRetry (R.kind rules.now) setup.now log.now (log.now ++ n.event ∷ []) session n.outcome) }
-    ensures retryable { IfOk result (λ n. IsRetryChoice (R.kind rules.now) setup.now (n.event ∷ past_of log.now) n.retryable) }
+    ensures keeps { IfOk result (λ n. Keeps (R.kind rules.now) setup.now (n.event ∷ past_of log.now) n.retryable (Some n.situation)) }
 {
-    let Some(statement) = waiting_statement(log, session) else {
+    let Some(statement) = situation.waiting(session) else {
         unreachable!();
     };
     let command = Command::Run(statement.copy(alloc)?);
-    let outcome = decided(alloc, rules, setup, log, session, &command)?;
+    let outcome = answer_to(alloc, rules, setup, log, &situation, session, &command)?;
     let event = LogEvent {
         session,
         command,
         outcome,
     };
-    next_event(alloc, rules, setup, log, event)
+    next_event(alloc, rules, setup, log, situation, event)
+}
+
+/// Whether a session has an active transaction, as is known, or else as the log says.
+fn has_active(known: &Option<Situation>, log: &[LogEvent], session: Session) -> bool
+    requires { IfSome known.now (Describes (past_of log.now)) }
+    ensures { result ≡ is_some (active (past_of log.now) session) }
+{
+    match known {
+        Some(situation) => situation.is_active(session),
+        None => is_active(log, session),
+    }
+}
+
+/// Whether a command of a session waits, as is known, or else as the log says.
+fn has_waiting(known: &Option<Situation>, log: &[LogEvent], session: Session) -> bool
+    requires { IfSome known.now (Describes (past_of log.now)) }
+    ensures { result ≡ is_some (waiting (past_of log.now) session) }
+{
+    match known {
+        Some(situation) => situation.is_waiting(session),
+        None => waiting_statement(log, session).is_some(),
+    }
 }
 
 impl<R: Rules> Engine for Journal<R> {
@@ -195,11 +236,11 @@ impl<R: Rules> Engine for Journal<R> {
     }
 
     fn is_active(&self, session: Session) -> bool {
-        is_active(&self.log, session)
+        has_active(&self.situation, &self.log, session)
     }
 
     fn is_waiting(&self, session: Session) -> bool {
-        waiting_statement(&self.log, session).is_some()
+        has_waiting(&self.situation, &self.log, session)
     }
 
     fn step(
@@ -208,17 +249,36 @@ impl<R: Rules> Engine for Journal<R> {
         session: Session,
         command: &Command,
     ) -> Result<Outcome, NoMemory> {
-        let next = step_event(alloc, &self.rules, &self.setup, &self.log, session, command)?;
+        let situation = known_or_found(alloc, self.situation.take(), &self.log)?;
+        let next = step_event(
+            alloc,
+            &self.rules,
+            &self.setup,
+            &self.log,
+            situation,
+            session,
+            command,
+        )?;
         self.log.push(next.event)?;
         self.retryable = next.retryable;
+        self.situation = Some(next.situation);
         Ok(next.outcome)
     }
 
     fn retry(&mut self, alloc: Global, session: Session) -> Result<Outcome, NoMemory> {
-        let next = retry_event(alloc, &self.rules, &self.setup, &self.log, session)?;
-        self.log.push(next.event)?;
-        self.retryable = next.retryable;
-        Ok(next.outcome)
+        let situation = known_or_found(alloc, self.situation.take(), &self.log)?;
+        let again = retry_event(
+            alloc,
+            &self.rules,
+            &self.setup,
+            &self.log,
+            situation,
+            session,
+        )?;
+        self.log.push(again.event)?;
+        self.retryable = again.retryable;
+        self.situation = Some(again.situation);
+        Ok(again.outcome)
     }
 
     fn retryable(&self) -> Option<Session> {

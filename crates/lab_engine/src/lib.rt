@@ -7,12 +7,13 @@
 //! Each command goes to `step`. A statement that others are in the way of answers `Waits`, and its session is answered
 //! Busy until `retry` has run the statement anew. `retryable` names a session for which that is of use.
 //!
-//! A [`Journal`] is an engine of any [`Rules`], which say who blocks a statement and which commits conflict: it keeps
-//! its setup and its log, and answers each question by passes over the log, of which each finds a [`Situation`]. The
-//! engines themselves are in `lab_locking` and `lab_versions`.
+//! A [`Journal`] is an engine of any [`Rules`], which say who blocks a statement and which commits conflict. Beside its
+//! setup and its log it keeps the [`Situation`] in which the log leaves sessions and rows, so no call looks through the
+//! log. The engines themselves are in `lab_locking` and `lab_versions`.
 #![tactic(auto)]
 
 mod answer;
+mod chain;
 mod circle;
 mod effect;
 mod engine;
@@ -31,6 +32,7 @@ mod telling;
 mod version;
 mod waits;
 
+pub use chain::{Chains, Installed};
 pub use engine::Engine;
 pub use event::{EngineFault, Level, LogEvent, Outcome, Sessions};
 pub use journal::Journal;

@@ -24,7 +24,7 @@ pub fn version_seen(seen: &Versions, row: RowId) -> Version
 }
 
 /// Whether a transaction has a pending write of a row that the statement would write as these versions are seen.
-pub fn holds_write(seen: &Versions, statement: &Statement, holder: &RunningTxn<'_>) -> bool
+pub fn holds_write(seen: &Versions, statement: &Statement, holder: &RunningTxn) -> bool
     ensures { result ≡ writes_over seen.now statement.now holder.now.last }
 {
     holder.last.entries().iter().any(|entry| would_write(

@@ -1,17 +1,16 @@
 //! What the rules of a level are asked for.
 
-ghost use Rattle.std.specs.Prelude.{◌≡◌, ◌<◌, Some, None, true, false, length, IfOk, MatchOption};
+ghost use Rattle.std.specs.Prelude.{◌≡◌, Some, None, true, false, MatchOption};
 ghost use Rattle.lab_engine.specs.declared.event.Level.{Level as Kind};
-ghost use Rattle.lab_engine.specs.Log.{Past, Txn, past_of, active};
+ghost use Rattle.lab_engine.specs.Log.{Past, Txn, active};
 ghost use Rattle.lab_engine.specs.Rules.{Blocks, MayCommit};
 ghost use Rattle.lab_engine.specs.Situation.{Describes, IsRunning};
 ghost use Rattle.lab_engine.specs.Sight.{IsSight, IsFirstConflict};
 
-use crate::event::{Level, LogEvent};
+use crate::event::Level;
 use crate::situation::{RunningTxn, Situation};
 use crate::version::Versions;
-use lab_table::{NoMemory, RowId, Session, Statement, Table, TxnNo};
-use std::alloc::Global;
+use lab_table::{RowId, Session, Statement, Table, TxnNo};
 
 /// A row that another transaction has installed since the begin of one that wrote it, and the first such transaction.
 #[derive(Clone, Copy, Debug, PartialEq, Eq)]
@@ -36,25 +35,19 @@ pub trait Rules {
     fn blocks(
         &self,
         setup: &Table,
-        situation: &Situation<'_>,
+        situation: &Situation,
         seen: &Versions,
         statement: &Statement,
-        holder: &RunningTxn<'_>,
+        holder: &RunningTxn,
     ) -> bool
         ensures yes { (past : Past) (asker txn : Txn) → Describes past situation.now → IsSight (kind self.now) setup.now past asker seen.now
             → IsRunning txn holder.now → result ≡ true → Blocks (kind self.now) setup.now past asker statement.now txn }
         ensures never { (past : Past) (asker txn : Txn) → Describes past situation.now → IsSight (kind self.now) setup.now past asker seen.now
             → IsRunning txn holder.now → result ≡ false → ¬ Blocks (kind self.now) setup.now past asker statement.now txn };
 
-    /// Why a session's active transaction may not commit after these events, if it may not; None where it may.
-    /// NoMemory where a growth was refused.
-    fn conflict(
-        &self,
-        alloc: Global,
-        log: &[LogEvent],
-        session: Session,
-    ) -> Result<Option<Conflict>, NoMemory>
-        requires room { length log.now < 100000 }
-        ensures { (txn : Txn) → active (past_of log.now) session ≡ Some txn
-            → IfOk result (λ found. MatchOption found (MayCommit (kind self.now) (past_of log.now) txn) (IsFirstConflict (kind self.now) (past_of log.now) txn)) };
+    /// Why a session's active transaction may not commit after the events of this situation, if it may not; None where
+    /// it may.
+    fn conflict(&self, situation: &Situation, session: Session) -> Option<Conflict>
+        ensures { (past : Past) (txn : Txn) → Describes past situation.now → active past session ≡ Some txn
+            → MatchOption result (MayCommit (kind self.now) past txn) (IsFirstConflict (kind self.now) past txn) };
 }

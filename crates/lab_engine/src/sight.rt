@@ -1,32 +1,33 @@
 //! What a transaction sees.
 
-ghost use Rattle.std.specs.Prelude.{◌≡◌, ◌<◌, ℕ, Some, length, take, IfOk};
+ghost use Rattle.std.specs.Prelude.{◌≡◌, ℕ, Some, length, IfOk};
 ghost use Rattle.std.specs.FinMap as map;
 ghost use Rattle.std.specs.Option.{option_or};
 ghost use Rattle.lab_table.specs.Row.{Row};
-ghost use Rattle.lab_engine.specs.Log.{Past, Txn, past_of, active, commits, last_installed, sight};
-ghost use Rattle.lab_engine.specs.Situation.{Describes, IsRunning, HasBegins};
+ghost use Rattle.lab_engine.specs.Log.{Past, Txn, active, commits, last_installed, sight};
+ghost use Rattle.lab_engine.specs.Situation.{Describes, IsRunning};
 ghost use Rattle.lab_engine.specs.Sight.{IsSight, listed_version};
 
-use crate::event::{Level, LogEvent};
+use crate::event::Level;
 use crate::situation::{RunningTxn, Situation};
 use crate::version::Versions;
 use lab_table::{NoMemory, Table};
 use std::alloc::Global;
 
-/// These versions with those over them that the first events of a log installed.
-fn under_commits(
+/// These versions with those over them that had been installed at a begin with so many events before it.
+fn under_chains(
     alloc: Global,
     initial: &Versions,
-    log: &[LogEvent],
-    events: usize,
+    situation: &Situation,
+    before: usize,
 ) -> Result<Versions, NoMemory>
-    requires { length log.now < 100000 }
-    ensures { IfOk result (λ made. (row : Row) → map.get made row
-        ≡ option_or (last_installed (commits (past_of (take events log.now))) row) (map.get initial.now row)) }
+    ensures { (past : Past) (session : ℕ) (txn : Txn) → Describes past situation.now → active past session ≡ Some txn → before ≡ length txn.before
+        → IfOk result (λ made. (row : Row) → map.get made row ≡ option_or (last_installed (commits txn.before) row) (map.get initial.now row)) }
 {
-    let front = Situation::of(alloc, &log[..events.min(log.len())])?;
-    initial.under(alloc, &front.committed)
+    let installed = situation
+        .committed
+        .before(alloc, &situation.chains, before)?;
+    initial.under(alloc, &installed)
 }
 
 /// The committed versions that an active transaction of this level sees, over the setup's.
@@ -34,38 +35,31 @@ fn committed_seen(
     alloc: Global,
     level: Level,
     setup: &Table,
-    log: &[LogEvent],
-    situation: &Situation<'_>,
-    running: &RunningTxn<'_>,
+    situation: &Situation,
+    running: &RunningTxn,
 ) -> Result<Versions, NoMemory>
-    requires { length log.now < 100000 }
-    ensures { (past : Past) (session : ℕ) (txn : Txn) → Describes past situation.now → HasBegins past log.now
-        → active past session ≡ Some txn → IsRunning txn running.now
+    ensures { (past : Past) (session : ℕ) (txn : Txn) → Describes past situation.now → active past session ≡ Some txn → IsRunning txn running.now
         → IfOk result (λ made. (row : Row) → map.get made row ≡ option_or (last_installed (commits (sight level past txn)) row) (listed_version (map.get setup.now row))) }
 {
     let initial = Versions::of_table(alloc, setup)?;
     match level {
         Level::Locking => initial.under(alloc, &situation.committed),
         Level::Committed => initial.under(alloc, &situation.committed),
-        Level::Snapshot => under_commits(alloc, &initial, log, running.before),
+        Level::Snapshot => under_chains(alloc, &initial, situation, running.before),
     }
 }
 
 /// The versions that an active transaction sees: its own last ones over those committed now,
-/// or at snapshot over those committed at its begin, over the setup's. Of the log only the events before its begin are
-/// looked at. NoMemory where a growth was refused.
+/// or at snapshot over those committed at its begin, over the setup's. NoMemory where a growth was refused.
 pub fn seen_by(
     alloc: Global,
     level: Level,
     setup: &Table,
-    log: &[LogEvent],
-    situation: &Situation<'_>,
-    running: &RunningTxn<'_>,
+    situation: &Situation,
+    running: &RunningTxn,
 ) -> Result<Versions, NoMemory>
-    requires { length log.now < 100000 }
-    ensures { (past : Past) (session : ℕ) (txn : Txn) → Describes past situation.now → HasBegins past log.now
-        → active past session ≡ Some txn → IsRunning txn running.now → IfOk result (IsSight level setup.now past txn) }
+    ensures { (past : Past) (session : ℕ) (txn : Txn) → Describes past situation.now → active past session ≡ Some txn → IsRunning txn running.now → IfOk result (IsSight level setup.now past txn) }
 {
-    let committed = committed_seen(alloc, level, setup, log, situation, running)?;
+    let committed = committed_seen(alloc, level, setup, situation, running)?;
     committed.under(alloc, &running.last)
 }

@@ -1,15 +1,17 @@
-//! What one pass over a log finds.
+//! What is kept of a log: where it leaves its sessions and rows.
 
-ghost use Rattle.std.specs.Prelude.{◌≡◌, ◌<◌, [], ◌∷◌, length, option_map, Option, List, Contains, IfOk};
+ghost use Rattle.std.specs.Prelude.{◌≡◌, ◌<◌, [], ◌∷◌, None, length, option_map, is_some, Option, List, Contains, IfOk};
 ghost use Rattle.std.specs.Prelude as list;
 ghost use Rattle.std.specs.FinMap as map;
 ghost use Rattle.lab_table.specs.Row.{Row};
 ghost use Rattle.lab_table.specs.Table.{Rows};
 ghost use Rattle.lab_history.specs.VersionName.{View};
 ghost use Rattle.lab_history.specs.declared.operation.Op.{Op};
-ghost use Rattle.lab_engine.specs.Log.{Past, past_of, Txn, active_after, ops_after, commits_after, begun_after, last_installed};
-ghost use Rattle.lab_engine.specs.Situation.{Describes, DescribesSession, DescribesAll, Agree, IsRunning, HasRoom, all_sessions, running_of, grown};
+ghost use Rattle.lab_engine.specs.Log.{Past, past_of, Txn, active, active_after, waiting, waiting_after, ops_after, commits_after, begun_after, last_installed};
+ghost use Rattle.lab_engine.specs.Chains.{chain_in, chain_after};
+ghost use Rattle.lab_engine.specs.Situation.{Describes, DescribesSession, DescribesAll, Agree, IsRunning, HasRoom, all_sessions, running_of, waiting_of, grown};
 
+use crate::chain::Chains;
 use crate::event::{LogEvent, Outcome};
 use crate::look::{asked_statement, is_busy, is_fatal_fault, waits_after};
 use crate::version::Versions;
@@ -19,49 +21,52 @@ use std::alloc::Global;
 
 /// An active transaction.
 #[derive(Drop)]
-pub struct RunningTxn<'a> {
+pub struct RunningTxn {
     /// Its number.
     pub number: TxnNo,
     /// How many events stand before its begin.
     pub before: usize,
     /// The statements that it ran, in order.
-    pub statements: Vec<&'a Statement>,
+    pub statements: Vec<Statement>,
     /// The last version of each row that it wrote.
     pub last: Versions,
 }
 
 /// What a session is doing.
 #[derive(Drop)]
-pub struct SessionState<'a> {
+pub struct SessionState {
     pub session: Session,
     /// The statement that it waits with, if it waits.
-    pub waits: Option<&'a Statement>,
+    pub waits: Option<Statement>,
     /// Its active transaction, if it has one.
-    pub running: Option<RunningTxn<'a>>,
+    pub running: Option<RunningTxn>,
 }
 
 /// Where a log leaves its sessions and rows.
 #[derive(Drop)]
-pub struct Situation<'a> {
+pub struct Situation {
     /// Each of the sessions 1 to 9, by rising number.
-    pub sessions: Vec<SessionState<'a>>,
+    pub sessions: Vec<SessionState>,
     /// The last installed version of each row that was ever installed.
     pub committed: Versions,
+    /// All installed versions of each row, with the places of their commits.
+    pub chains: Chains,
     /// How many transactions have begun.
     pub begun: u32,
     /// How many events there were.
     pub events: usize,
 }
 
-impl<'a> Situation<'a> {
+impl Situation {
     /// The situation after these events, the oldest first. NoMemory where a growth was refused.
-    pub fn of(alloc: Global, log: &'a [LogEvent]) -> Result<Situation<'a>, NoMemory>
+    pub fn of(alloc: Global, log: &[LogEvent]) -> Result<Situation, NoMemory>
         requires { length log.now < 100000 }
         ensures { IfOk result (Describes (past_of log.now)) }
     {
         let mut situation = Situation {
             sessions: idle_sessions(alloc)?,
             committed: Versions::new(alloc),
+            chains: Chains::new(alloc),
             begun: 0,
             events: 0,
         };
@@ -71,33 +76,41 @@ impl<'a> Situation<'a> {
         Ok(situation)
     }
 
-    /// The situation after these events, the oldest first, and one more. NoMemory where a growth was refused.
-    pub fn after(
-        alloc: Global,
-        log: &'a [LogEvent],
-        event: &'a LogEvent,
-    ) -> Result<Situation<'a>, NoMemory>
-        requires { length log.now < 100000 }
-        ensures { IfOk result (Describes (event.now ∷ past_of log.now)) }
-    {
-        let mut situation = Situation::of(alloc, log)?;
-        situation.take_in(alloc, event)?;
-        Ok(situation)
-    }
-
     /// The active transaction of a session, or None where it has none.
-    pub fn running(&self, session: Session) -> Option<&RunningTxn<'a>>
+    pub fn running(&self, session: Session) -> Option<&RunningTxn>
         ensures { option_map (λ r. r.now) result ≡ running_of self.now.sessions.items session }
     {
         running_in(&self.sessions, session)
     }
 
+    /// The statement that a session waits with, or None where it doesn't wait.
+    pub fn waiting(&self, session: Session) -> Option<&Statement>
+        ensures { (past : Past) → Describes past self.now → option_map (λ s. s.now) result ≡ waiting past session }
+    {
+        waiting_in(&self.sessions, session)
+    }
+
+    /// Whether a session has an active transaction.
+    pub fn is_active(&self, session: Session) -> bool
+        ensures { (past : Past) → Describes past self.now → result ≡ is_some (active past session) }
+    {
+        self.running(session).is_some()
+    }
+
+    /// Whether a statement of a session waits.
+    pub fn is_waiting(&self, session: Session) -> bool
+        ensures { (past : Past) → Describes past self.now → result ≡ is_some (waiting past session) }
+    {
+        self.waiting(session).is_some()
+    }
+
     /// Goes on by one event. After NoMemory the situation is of no use.
-    pub fn take_in(&mut self, alloc: Global, event: &'a LogEvent) -> Result<(), NoMemory>
+    pub fn take_in(&mut self, alloc: Global, event: &LogEvent) -> Result<(), NoMemory>
         requires room { (past : Past) × Describes past self.old × (length past < 100000) }
         ensures { (past : Past) → Describes past self.old → IfOk result (λ _. Describes (event.now ∷ past) self.new) }
     {
         install(alloc, &mut self.committed, &self.sessions, event)?;
+        lengthen(alloc, &mut self.chains, &self.sessions, event, self.events)?;
         go_on(alloc, &mut self.sessions, event, self.events)?;
         self.begun = begun_next(&event.outcome, self.begun);
         self.events += 1;
@@ -105,25 +118,23 @@ impl<'a> Situation<'a> {
     }
 }
 
-impl<'a> SessionState<'a> {
+impl SessionState {
     /// Goes on by one event of the session, with so many events before it.
-    fn take_in(&mut self, alloc: Global, event: &'a LogEvent, before: usize) -> Result<(), NoMemory>
+    fn take_in(&mut self, alloc: Global, event: &LogEvent, before: usize) -> Result<(), NoMemory>
         requires { HasRoom self.old.running }
         ensures session { self.new.session ≡ self.old.session }
         ensures state { (past : Past) → DescribesSession past self.old → event.now.session ≡ self.old.session → before ≡ length past
             → IfOk result (λ _. DescribesSession (event.now ∷ past) self.new) }
     {
-        if !is_busy(&event.outcome) {
-            self.waits = waits_after(event);
-        }
+        self.waits = waits_next(alloc, self.waits.take(), event)?;
         self.running = running_next(alloc, self.running.take(), event, before)?;
         Ok(())
     }
 }
 
-impl<'a> RunningTxn<'a> {
+impl RunningTxn {
     /// A transaction that begins, with so many events before.
-    fn begin(alloc: Global, number: TxnNo, before: usize) -> RunningTxn<'a>
+    fn begin(alloc: Global, number: TxnNo, before: usize) -> RunningTxn
         ensures { (past : Past) → before ≡ length past → IsRunning (record { no = number; ops = []; before = past }) result }
     {
         RunningTxn {
@@ -135,12 +146,7 @@ impl<'a> RunningTxn<'a> {
     }
 
     /// Goes on by an operation.
-    fn run(
-        &mut self,
-        alloc: Global,
-        statement: &'a Statement,
-        writes: &Writes,
-    ) -> Result<(), NoMemory>
+    fn run(&mut self, alloc: Global, statement: &Statement, writes: &Writes) -> Result<(), NoMemory>
         requires { length self.old.statements.items < 100000 }
         ensures { (txn : Txn) (op : Op) → IsRunning txn self.old → op.statement ≡ statement.now → op.writes ≡ writes.now
             → IfOk result (λ _. IsRunning (grown txn op) self.new) }
@@ -151,13 +157,13 @@ impl<'a> RunningTxn<'a> {
         };
         let written = Versions::written(alloc, writes, name)?;
         self.last.cover(alloc, &written)?;
-        self.statements.push(statement)?;
+        self.statements.push(statement.copy(alloc)?)?;
         Ok(())
     }
 }
 
 /// Every session, with no transaction.
-fn idle_sessions<'a>(alloc: Global) -> Result<Vec<SessionState<'a>>, NoMemory>
+fn idle_sessions(alloc: Global) -> Result<Vec<SessionState>, NoMemory>
     ensures sessions { IfOk result (λ v. list.map (λ state. state.session) v.items ≡ all_sessions) }
     ensures idle { IfOk result (λ v. DescribesAll [] v.items) }
 {
@@ -175,10 +181,7 @@ fn idle_sessions<'a>(alloc: Global) -> Result<Vec<SessionState<'a>>, NoMemory>
     Ok(states)
 }
 
-fn running_in<'a, 's>(
-    states: &'s [SessionState<'a>],
-    session: Session,
-) -> Option<&'s RunningTxn<'a>>
+fn running_in(states: &[SessionState], session: Session) -> Option<&RunningTxn>
     ensures { option_map (λ r. r.now) result ≡ running_of states.now session }
 {
     for state in states {
@@ -189,15 +192,44 @@ fn running_in<'a, 's>(
     None
 }
 
-/// The active transaction of an event's session after it.
-fn running_next<'a>(
+fn waiting_in(states: &[SessionState], session: Session) -> Option<&Statement>
+    ensures { option_map (λ s. s.now) result ≡ waiting_of states.now session }
+{
+    for state in states {
+        if state.session == session {
+            return state.waits.as_ref();
+        }
+    }
+    None
+}
+
+/// The statement that an event's session waits with after it.
+fn waits_next(
     alloc: Global,
-    running: Option<RunningTxn<'a>>,
-    event: &'a LogEvent,
+    held: Option<Statement>,
+    event: &LogEvent,
+) -> Result<Option<Statement>, NoMemory>
+    ensures { IfOk result (λ next. next ≡ waiting_after event.now.command event.now.outcome held) }
+{
+    if is_busy(&event.outcome) {
+        return Ok(held);
+    }
+    drop(held);
+    match waits_after(event) {
+        Some(statement) => Ok(Some(statement.copy(alloc)?)),
+        None => Ok(None),
+    }
+}
+
+/// The active transaction of an event's session after it.
+fn running_next(
+    alloc: Global,
+    running: Option<RunningTxn>,
+    event: &LogEvent,
     before: usize,
-) -> Result<Option<RunningTxn<'a>>, NoMemory>
+) -> Result<Option<RunningTxn>, NoMemory>
     requires { HasRoom running }
-    ensures { (past : Past) (txn : Option Txn) → Agree txn running.entry → before ≡ length past
+    ensures { (past : Past) (txn : Option Txn) → Agree txn running → before ≡ length past
         → IfOk result (Agree (active_after event.now.command event.now.outcome past txn)) }
 {
     match &event.outcome {
@@ -217,14 +249,14 @@ fn running_next<'a>(
 }
 
 /// The active transaction, if any, after an operation.
-fn run_in<'a>(
+fn run_in(
     alloc: Global,
-    running: Option<RunningTxn<'a>>,
-    command: &'a Command,
+    running: Option<RunningTxn>,
+    command: &Command,
     writes: &Writes,
-) -> Result<Option<RunningTxn<'a>>, NoMemory>
+) -> Result<Option<RunningTxn>, NoMemory>
     requires { HasRoom running }
-    ensures { (txn : Option Txn) (view : View) (rows : Rows) → Agree txn running.entry
+    ensures { (txn : Option Txn) (view : View) (rows : Rows) → Agree txn running
         → IfOk result (Agree (option_map (λ t. record { no = t.no; ops = ops_after command.now view rows writes.now t.ops; before = t.before }) txn)) }
 {
     let Some(mut active) = running else {
@@ -238,10 +270,10 @@ fn run_in<'a>(
 }
 
 /// Goes on by one event in its session, with so many events before it.
-fn go_on<'a>(
+fn go_on(
     alloc: Global,
-    states: &mut Vec<SessionState<'a>>,
-    event: &'a LogEvent,
+    states: &mut Vec<SessionState>,
+    event: &LogEvent,
     before: usize,
 ) -> Result<(), NoMemory>
     requires sessions { list.map (λ state. state.session) states.old.items ≡ all_sessions }
@@ -258,7 +290,7 @@ fn go_on<'a>(
 fn install(
     alloc: Global,
     committed: &mut Versions,
-    states: &[SessionState<'_>],
+    states: &[SessionState],
     event: &LogEvent,
 ) -> Result<(), NoMemory>
     ensures { (txn : Option Txn) (txns : List Txn) → Agree txn (running_of states.now event.now.session)
@@ -269,6 +301,28 @@ fn install(
         Outcome::Committed => {
             if let Some(running) = running_in(states, event.session) {
                 committed.cover(alloc, &running.last)?;
+            }
+            Ok(())
+        }
+        _ => Ok(()),
+    }
+}
+
+/// Puts the versions that a commit installs, with so many events before it, at the ends of their rows' chains.
+fn lengthen(
+    alloc: Global,
+    chains: &mut Chains,
+    states: &[SessionState],
+    event: &LogEvent,
+    before: usize,
+) -> Result<(), NoMemory>
+    ensures { (txn : Option Txn) → Agree txn (running_of states.now event.now.session)
+        → IfOk result (λ _. (row : Row) → chain_in chains.new row ≡ chain_after event.now.outcome txn before row (chain_in chains.old row)) }
+{
+    match &event.outcome {
+        Outcome::Committed => {
+            if let Some(running) = running_in(states, event.session) {
+                chains.install(alloc, &running.last, running.number, before)?;
             }
             Ok(())
         }

@@ -1,15 +1,18 @@
 //! The versions of rows.
 
-ghost use Rattle.std.specs.Prelude.{◌≡◌, T, ◌≤◌, length, IfOk, OnErr};
+ghost use Rattle.std.specs.Prelude.{◌≡◌, T, ◌≤◌, length, option_and_then, IfOk, OnErr};
 ghost use Rattle.std.specs.Prelude as list;
 ghost use Rattle.std.specs.List.{prefix_len};
 ghost use Rattle.std.specs.FinMap as map;
 ghost use Rattle.std.specs.Option.{option_or};
 ghost use Rattle.lab_table.specs.Row.{Row, row_cmp};
+ghost use Rattle.lab_engine.specs.Chains.{version_before, chain_in};
+ghost use Rattle.lab_engine.specs.EachRow.{with_row, each_row};
 ghost use Rattle.lab_engine.specs.Sight.{listed_version, comes_after};
 ghost use Rattle.lab_history.specs.VersionName.{state_value};
 ghost use Rattle.lab_engine.specs.Merging.{initial_entry, written_entry, written_version, insert_each, is_row_at, merged, without_row};
 
+use crate::chain::Chains;
 use lab_history::{State, VersionName, Writes};
 use lab_table::{NoMemory, RowId, Table, Value};
 use std::alloc::Global;
@@ -87,6 +90,16 @@ impl Versions {
         ensures { result.now ≡ map.entries self.now }
     {
         &self.entries
+    }
+
+    /// Of these rows the versions that were the last to be installed by commits with fewer events before them than these.
+    /// NoMemory where a growth was refused.
+    pub fn before(&self, alloc: Global, chains: &Chains, place: usize) -> Result<Versions, NoMemory>
+        ensures { IfOk result (λ made. (row : Row) → map.get made row ≡ option_and_then (λ _. version_before place (chain_in chains.now row)) (map.get self.now row)) }
+    {
+        Ok(Versions {
+            entries: entries_before(alloc, &self.entries, chains, place)?,
+        })
     }
 
     /// Gives a row this version, in the place of the one that it has, if any.
@@ -181,6 +194,27 @@ fn written_entries(
         .collect(alloc)
 }
 
+fn entry_before(chains: &Chains, place: usize, entry: &(RowId, Version)) -> Option<(RowId, Version)>
+    ensures { result ≡ with_row entry.now.0 (version_before place (chain_in chains.now entry.now.0)) }
+{
+    let version = chains.version_before(entry.0, place)?;
+    Some((entry.0, version))
+}
+
+fn entries_before(
+    alloc: Global,
+    entries: &[(RowId, Version)],
+    chains: &Chains,
+    place: usize,
+) -> Result<Vec<(RowId, Version)>, NoMemory>
+    ensures { IfOk result (λ v. v.items ≡ each_row (λ row version. version_before place (chain_in chains.now row)) entries.now) }
+{
+    entries
+        .iter()
+        .filter_map(|entry| entry_before(chains, place, entry))
+        .collect(alloc)
+}
+
 fn stands_at(entries: &[(RowId, Version)], place: usize, row: RowId) -> bool
     ensures { result ≡ is_row_at entries.now place row }
 {
@@ -230,7 +264,7 @@ fn merged_entries(
     let mut entries = Vec::new(alloc);
     let mut left = under;
     for entry in over {
-        let (before, rest) = left.split_at(place_of(left, entry.0));
+        let (before, rest) = left.split_at(place_near(left, entry.0));
         entries.extend_from_slice(before)?;
         entries.push(*entry)?;
         left = behind(rest, entry.0);
@@ -253,4 +287,22 @@ fn place_of(entries: &[(RowId, Version)], row: RowId) -> usize
     ensures bound { result ≤ length entries.now }
 {
     entries.partition_point(|entry| row > entry.0)
+}
+
+/// The same place, for a row that mostly stands at the front.
+fn place_near(entries: &[(RowId, Version)], row: RowId) -> usize
+    requires { T (map.is_sorted row_cmp entries.now) }
+    ensures value { result ≡ prefix_len (comes_after row) entries.now }
+    ensures bound { result ≤ length entries.now }
+{
+    match entries.split_first() {
+        Some((first, _)) => {
+            if row > first.0 {
+                place_of(entries, row)
+            } else {
+                0
+            }
+        }
+        None => 0,
+    }
 }

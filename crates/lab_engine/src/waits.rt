@@ -1,18 +1,18 @@
 //! Who waits for whom.
 
-ghost use Rattle.std.specs.Prelude.{◌≡◌, ◌==◌, ◌&&◌, not, ◌<◌, ◌↔◌, Some, true, false, List, ℕ, length, IfOk, IsSome, IsTrue, MatchOption};
+ghost use Rattle.std.specs.Prelude.{◌≡◌, ◌==◌, ◌&&◌, not, ◌↔◌, Some, true, false, List, ℕ, length, IfOk, IsSome, IsTrue, MatchOption};
 ghost use Rattle.std.specs.List.{Contains, list_any};
 ghost use Rattle.lab_table.specs.declared.statement.Statement.{Statement as Asked};
 ghost use Rattle.lab_engine.specs.Log.{Past, Txn, active};
 ghost use Rattle.lab_engine.specs.Rules.{BlockedBy, IsCircle, MayAsk};
 ghost use Rattle.lab_engine.specs.Recording.{NoneRetryable, IsLeastRetryable};
-ghost use Rattle.lab_engine.specs.Situation.{Describes, DescribesSession, HasBegins};
+ghost use Rattle.lab_engine.specs.Situation.{Describes, DescribesSession};
 ghost use Rattle.lab_engine.specs.Sight.{IsSight};
 ghost use Rattle.lab_engine.specs.WaitsFor.{AreBlockers, AreWaits, WaitsOn};
 ghost use Rattle.lab_engine.specs.Released.{IsReleased};
 
 use crate::circle::shortest_circle;
-use crate::event::{LogEvent, Sessions};
+use crate::event::Sessions;
 use crate::rules::Rules;
 use crate::sight::seen_by;
 use crate::situation::{SessionState, Situation};
@@ -31,11 +31,11 @@ pub struct Wait {
 fn is_blocked_by<R: Rules>(
     rules: &R,
     setup: &Table,
-    situation: &Situation<'_>,
+    situation: &Situation,
     session: Session,
     seen: &Versions,
     statement: &Statement,
-    state: &SessionState<'_>,
+    state: &SessionState,
 ) -> bool
     ensures yes { (past : Past) (txn : Txn) → Describes past situation.now → DescribesSession past state.now → active past session ≡ Some txn
         → IsSight (R.kind rules.now) setup.now past txn seen.now → result ≡ true → BlockedBy (R.kind rules.now) setup.now past session statement.now state.now.session }
@@ -57,7 +57,7 @@ pub fn blockers<R: Rules>(
     alloc: Global,
     rules: &R,
     setup: &Table,
-    situation: &Situation<'_>,
+    situation: &Situation,
     session: Session,
     seen: &Versions,
     statement: &Statement,
@@ -81,21 +81,19 @@ fn waits_on<R: Rules>(
     alloc: Global,
     rules: &R,
     setup: &Table,
-    log: &[LogEvent],
-    situation: &Situation<'_>,
-    state: &SessionState<'_>,
+    situation: &Situation,
+    state: &SessionState,
 ) -> Result<Sessions, NoMemory>
-    requires { length log.now < 100000 }
-    ensures { (past : Past) → Describes past situation.now → HasBegins past log.now → DescribesSession past state.now
+    ensures { (past : Past) → Describes past situation.now → DescribesSession past state.now
         → IfOk result (λ on. (other : ℕ) → Contains on other ↔ WaitsOn (R.kind rules.now) setup.now past state.now.session other) }
 {
-    let Some(statement) = state.waits else {
+    let Some(statement) = &state.waits else {
         return Ok(Sessions::new(Vec::new(alloc)));
     };
     let Some(running) = &state.running else {
         return Ok(Sessions::new(Vec::new(alloc)));
     };
-    let seen = seen_by(alloc, rules.level(), setup, log, situation, running)?;
+    let seen = seen_by(alloc, rules.level(), setup, situation, running)?;
     blockers(
         alloc,
         rules,
@@ -113,16 +111,14 @@ pub fn all_waits<R: Rules>(
     alloc: Global,
     rules: &R,
     setup: &Table,
-    log: &[LogEvent],
-    situation: &Situation<'_>,
+    situation: &Situation,
 ) -> Result<Vec<Wait>, NoMemory>
-    requires { length log.now < 100000 }
-    ensures { (past : Past) → Describes past situation.now → HasBegins past log.now
+    ensures { (past : Past) → Describes past situation.now
         → IfOk result (λ waits. AreWaits (R.kind rules.now) setup.now past waits.items) }
 {
     let mut waits = Vec::new(alloc);
     for state in &situation.sessions {
-        let on = waits_on(alloc, rules, setup, log, situation, state)?;
+        let on = waits_on(alloc, rules, setup, situation, state)?;
         if !on.as_slice().is_empty() {
             waits.push(Wait {
                 session: state.session,
@@ -139,18 +135,16 @@ pub fn deadlock<R: Rules>(
     alloc: Global,
     rules: &R,
     setup: &Table,
-    log: &[LogEvent],
-    situation: &Situation<'_>,
+    situation: &Situation,
     session: Session,
     on: &Sessions,
 ) -> Result<Option<Sessions>, NoMemory>
-    requires { length log.now < 100000 }
-    ensures { (past : Past) (s : Asked) → Describes past situation.now → HasBegins past log.now → MayAsk past session s
+    ensures { (past : Past) (s : Asked) → Describes past situation.now → MayAsk past session s
         → AreBlockers (R.kind rules.now) setup.now past session s on.now
         → IfOk result (λ found. MatchOption found ((circle : List ℕ) → ¬ IsCircle (R.kind rules.now) setup.now past session s circle)
         (IsCircle (R.kind rules.now) setup.now past session s)) }
 {
-    let mut waits = all_waits(alloc, rules, setup, log, situation)?;
+    let mut waits = all_waits(alloc, rules, setup, situation)?;
     waits.push(Wait {
         session,
         on: on.copy(alloc)?,
@@ -167,7 +161,7 @@ fn is_held(waits: &[Wait], session: Session) -> bool
 
 /// Whether a session's statement waits and may go on: it waits for nobody, or stands on a circle.
 /// NoMemory where a growth was refused.
-fn is_released(alloc: Global, waits: &[Wait], state: &SessionState<'_>) -> Result<bool, NoMemory>
+fn is_released(alloc: Global, waits: &[Wait], state: &SessionState) -> Result<bool, NoMemory>
     ensures { IfOk result (λ released. IsTrue released ↔ (IsSome state.now.waits × IsReleased waits.now state.now.session)) }
 {
     if state.waits.is_none() {
@@ -186,14 +180,12 @@ pub fn retryable<R: Rules>(
     alloc: Global,
     rules: &R,
     setup: &Table,
-    log: &[LogEvent],
-    situation: &Situation<'_>,
+    situation: &Situation,
 ) -> Result<Option<Session>, NoMemory>
-    requires { length log.now < 100000 }
-    ensures { (past : Past) → Describes past situation.now → HasBegins past log.now
+    ensures { (past : Past) → Describes past situation.now
         → IfOk result (λ found. MatchOption found (NoneRetryable (R.kind rules.now) setup.now past) (IsLeastRetryable (R.kind rules.now) setup.now past)) }
 {
-    let waits = all_waits(alloc, rules, setup, log, situation)?;
+    let waits = all_waits(alloc, rules, setup, situation)?;
     for state in &situation.sessions {
         if is_released(alloc, &waits, state)? {
             return Ok(Some(state.session));

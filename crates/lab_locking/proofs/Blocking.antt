@@ -73,7 +73,7 @@ module _ (level : Level) (setup : Table) (past : Past) (asker : Txn) (sees : Lis
 
   -- the transaction has run a statement that matches what the asker's would write
   pub has_been_read : (s : Statement) → was_read ran s sees ≡ true → HasRead level setup past asker s holder
-  has_been_read (Select pred) any = listed_read (Select pred) any
+  has_been_read (Select pred) any = absurd (true≢false (sym any))
   has_been_read (Update expr pred) any = listed_read (Update expr pred) any
   has_been_read (Insert id new) any = at_row (Insert id new) id any
   has_been_read (Delete pred) any = listed_read (Delete pred) any
@@ -85,7 +85,7 @@ module _ (level : Level) (setup : Table) (past : Past) (asker : Txn) (sees : Lis
 
   -- the transaction has run none
   pub has_not_been_read : (s : Statement) → was_read ran s sees ≡ false → ¬ HasRead level setup past asker s holder
-  has_not_been_read (Select pred) any = listed_unread (Select pred) (λ row. refl) any
+  has_not_been_read (Select pred) any = λ (row, writes, read). true≢false (sym writes)
   has_not_been_read (Update expr pred) any = listed_unread (Update expr pred) (λ row. refl) any
   has_not_been_read (Insert id new) any = λ (row, writes, read).
       true≢false (sym (read_row (Insert id new) row writes read)

@@ -1,5 +1,5 @@
 -- When a transaction's writes and reads stand in a statement's way.
-use Rattle.std.specs.Prelude.{Bool, ◌||◌, ◌&&◌, Option, Some, None, List}
+use Rattle.std.specs.Prelude.{Bool, false, ◌||◌, ◌&&◌, Option, Some, None, List}
 use Rattle.std.specs.List.{list_any}
 use Rattle.std.specs.FinMap as map
 use Rattle.lab_table.specs.Row.{Row}
@@ -32,9 +32,9 @@ row_was_read ran s row state = would_write s row state && (any_matches ran row s
 abbrev pub listed_was_read : List Statement → Statement → Listed → Bool
 listed_was_read ran s seen = list_any (λ entry. row_was_read ran s entry.0 entry.1.state) (map.entries seen)
 
--- whether it holds of some row; an insert may write a row that has no version
+-- whether it holds of some row; a select writes none, and an insert may write a row that has no version
 abbrev pub was_read : List Statement → Statement → Listed → Bool
-was_read ran (Select pred) seen = listed_was_read ran (Select pred) seen
+was_read ran (Select pred) seen = false
 was_read ran (Update expr pred) seen = listed_was_read ran (Update expr pred) seen
 was_read ran (Insert id new) seen = row_was_read ran (Insert id new) id (version_in seen id).state
 was_read ran (Delete pred) seen = listed_was_read ran (Delete pred) seen

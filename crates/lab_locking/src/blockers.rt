@@ -1,7 +1,6 @@
 //! Whose writes and reads stand in a statement's way.
 
 ghost use Rattle.std.specs.Prelude.{◌≡◌};
-ghost use Rattle.std.specs.Prelude as list;
 ghost use Rattle.std.specs.FinMap as map;
 ghost use Rattle.lab_engine.specs.Rules as rules;
 ghost use Rattle.lab_engine.specs.Situation.{statements_of};
@@ -24,7 +23,7 @@ pub fn holds_match(
     setup: &Table,
     committed: &Versions,
     statement: &Statement,
-    holder: &RunningTxn<'_>,
+    holder: &RunningTxn,
 ) -> bool
     ensures { result ≡ spec.matches_pending setup.now committed.now statement.now holder.now.last }
 {
@@ -58,27 +57,23 @@ fn state_left(statement: &Statement, row: RowId, state: Option<Value>) -> Option
     }
 }
 
-fn any_matches(ran: &[&Statement], row: RowId, state: &Option<Value>) -> bool
-    ensures { result ≡ spec.any_matches (list.map (λ s. s.now) ran.now) row state.now }
+fn any_matches(ran: &[Statement], row: RowId, state: &Option<Value>) -> bool
+    ensures { result ≡ spec.any_matches ran.now row state.now }
 {
-    for statement in ran {
-        if matches_row(statement, row, *state) {
-            return true;
-        }
-    }
-    false
+    ran.iter()
+        .any(|statement| matches_row(statement, row, *state))
 }
 
-fn row_was_read(ran: &[&Statement], statement: &Statement, row: RowId, version: &Version) -> bool
-    ensures { result ≡ spec.row_was_read (list.map (λ s. s.now) ran.now) statement.now row version.now.state }
+fn row_was_read(ran: &[Statement], statement: &Statement, row: RowId, version: &Version) -> bool
+    ensures { result ≡ spec.row_was_read ran.now statement.now row version.now.state }
 {
     would_write(statement, row, version.state)
         && (any_matches(ran, row, &version.state)
             || any_matches(ran, row, &state_left(statement, row, version.state)))
 }
 
-fn listed_was_read(ran: &[&Statement], statement: &Statement, seen: &Versions) -> bool
-    ensures { result ≡ spec.listed_was_read (list.map (λ s. s.now) ran.now) statement.now seen.now }
+fn listed_was_read(ran: &[Statement], statement: &Statement, seen: &Versions) -> bool
+    ensures { result ≡ spec.listed_was_read ran.now statement.now seen.now }
 {
     seen.entries()
         .iter()
@@ -86,11 +81,11 @@ fn listed_was_read(ran: &[&Statement], statement: &Statement, seen: &Versions) -
 }
 
 /// Whether a transaction has run a statement that matches a row before or after the statement would write it.
-pub fn has_read(seen: &Versions, statement: &Statement, holder: &RunningTxn<'_>) -> bool
+pub fn has_read(seen: &Versions, statement: &Statement, holder: &RunningTxn) -> bool
     ensures { result ≡ spec.was_read (statements_of holder.now) statement.now seen.now }
 {
     match statement {
-        Statement::Select { .. } => listed_was_read(&holder.statements, statement, seen),
+        Statement::Select { .. } => false,
         Statement::Update { .. } => listed_was_read(&holder.statements, statement, seen),
         Statement::Insert { id, .. } => {
             let version = version_seen(seen, *id);

@@ -25,27 +25,22 @@ impl Rules for LockRules {
     fn blocks(
         &self,
         setup: &Table,
-        situation: &Situation<'_>,
+        situation: &Situation,
         seen: &Versions,
         statement: &Statement,
-        holder: &RunningTxn<'_>,
+        holder: &RunningTxn,
     ) -> bool {
         holds_match(setup, &situation.committed, statement, holder)
             || holds_write(seen, statement, holder)
             || has_read(seen, statement, holder)
     }
 
-    fn conflict(
-        &self,
-        alloc: Global,
-        log: &[LogEvent],
-        session: Session,
-    ) -> Result<Option<Conflict>, NoMemory> {
-        Ok(None)
+    fn conflict(&self, situation: &Situation, session: Session) -> Option<Conflict> {
+        None
     }
 }
 
-/// The serializable engine: it keeps its setup and its log, and looks through them.
+/// The serializable engine: it keeps its setup, its log, and where that leaves sessions and rows.
 #[derive(Drop)]
 pub struct LockEngine {
     journal: Journal<LockRules>,

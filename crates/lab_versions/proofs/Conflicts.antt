@@ -1,40 +1,31 @@
--- Which rows of a transaction others have installed since its begin, from commit to commit.
-use Rattle.std.proofs.Common.{◌≡◌, ℕ, refl, sym, ap, subst, ◌∙◌, Bool, true, false, cond, ◌&&◌, T, true≢false, List, [], ◌∷◌, ◌++◌, Option, Some, None, is_some, IsSome, ◌+◌, ◌<◌, length, take, get_or, length-append, append_assoc, take-append-drop, arith, MatchOption, ◌≤◌, drop, Result, Ok, Err, IfOk}
-use Rattle.std.proofs.lemmas.List.{take_more, length-reverse}
-use Rattle.std.specs.Ordering.{is_lt, ordering_reverse}
-use Rattle.std.specs.declared.alloc.AllocError.{AllocError}
+-- Which rows of a transaction others have installed since its begin.
+use Rattle.std.proofs.Common.{◌≡◌, ℕ, refl, sym, ap, subst, ◌∙◌, Bool, true, false, cond, ◌&&◌, T, true≢false, List, [], ◌∷◌, ◌++◌, Option, Some, None, is_some, IsSome, length, length-append, arith, MatchOption, option_map}
+use Rattle.std.specs.Prelude.{unwrap_or}
+use Rattle.std.specs.Option.{option_or}
+use Rattle.std.specs.Ordering.{is_lt}
 use Rattle.std.specs.declared.cmp.Ordering.{Ordering}
 use Rattle.std.specs.declared.cmp.Ordering.TheVariants.{Less, Equal, Greater}
-use Rattle.std.specs.FinMap as map
 use Rattle.std.specs.FinMap.{find, is_sorted, entries, entries_sorted, get-entries}
 use Rattle.std.specs.FinMap.Entries.{below_all}
-use Rattle.lab_table.specs.Row.{Row, row_cmp, row_eq, rows_total, rows_apart}
+use Rattle.lab_table.specs.Row.{Row, row_cmp, row_eq, rows_total}
 use Rattle.lab_table.proofs.Maps.{same_row, row_eq_self, both, find_below}
-use Rattle.lab_engine.specs.declared.event.Outcome.{Outcome}
-use Rattle.lab_engine.specs.declared.event.Outcome.TheVariants.{Begun, Rows as Listed, Committed, Aborted, Waits, Refused}
 use Rattle.lab_engine.specs.declared.situation.RunningTxn.{RunningTxn}
 use Rattle.lab_engine.specs.declared.situation.Situation.{Situation}
 use Rattle.lab_engine.specs.declared.rules.Conflict.{Conflict}
-use Rattle.lab_engine.specs.declared.event.LogEvent.{LogEvent}
 use Rattle.lab_engine.specs.declared.event.Level.TheVariants.{Snapshot}
-use Rattle.lab_engine.specs.Log.{Past, Version, Txn, past_of, active, version_by, writers, commits, commits_after}
+use Rattle.lab_engine.specs.Log.{Past, Version, Txn, active, version_by, writers, commits}
 use Rattle.lab_engine.specs.Rules.{IsBelow, MayCommit, Conflicts}
-use Rattle.lab_engine.specs.Sight.{Listed as Versions, IsFirstConflict}
+use Rattle.lab_engine.specs.Chains.{chain, chain_in, first_since}
+use Rattle.lab_engine.specs.Sight.{IsFirstConflict}
 use Rattle.lab_engine.specs.Situation.{Describes, IsRunning, running_of}
 use Rattle.lab_engine.proofs.Locks.{none_some, some_same}
-use Rattle.lab_engine.proofs.Fronts.{has_begins}
 use Rattle.lab_engine.proofs.Describing.{running_txn}
-use Rattle.lab_engine.proofs.Runs.{past_of-push}
-use Rattle.lab_versions.specs.Conflict.{first_common, committing, IsLastOf, IsUntaken, IsTaken, IsFound}
+use Rattle.lab_engine.proofs.InstalledChains.{SinceThen, since_begin, last_no}
+use Rattle.lab_versions.specs.Conflict.{first_taken}
 
 -- a row stands in a list of versions
 abbrev Has : Row → List (Row × Version) → Type 0
 Has row es = IsSome (find row_cmp row es)
-
--- the least row of a list that others have too, or None where they have none of them
-abbrev IsLeast : Versions → List (Row × Version) → Option Row → Type 0
-IsLeast others es None = (row : Row) → Has row es → map.get others row ≡ None
-IsLeast others es (Some least) = Has least es × IsSome (map.get others least) × ((row : Row) → IsBelow row least → Has row es → map.get others row ≡ None)
 
 -- nothing isn't something
 not_some : {A : Type 0} (P : Type 0) (o : Option A) → o ≡ None → IsSome o → P
@@ -66,155 +57,101 @@ first_there e es = ap (λ b. is_some (cond b (Some e.1) (find row_cmp e.0 es))) 
 more_there : (row : Row) (e : Row × Version) (es : List (Row × Version)) → Has row es → Has row (e ∷ es)
 more_there row e es has = elim (row_eq row e.0) as (λ b. IsSome (cond b (Some e.1) (find row_cmp row es))) [ true ↦ refl | false ↦ has ]
 
--- where others don't have the first entry's row, they have none of which that holds behind it
-or_behind : (others : Versions) (row : Row) (e : Row × Version) (es : List (Row × Version)) → map.get others e.0 ≡ None → (Has row es → map.get others row ≡ None)
-    → Has row (e ∷ es) → map.get others row ≡ None
-or_behind others row e es none behind has = by (row_eq row e.0) refl has where
-  by : (b : Bool) → row_eq row e.0 ≡ b → IsSome (cond b (Some e.1) (find row_cmp row es)) → map.get others row ≡ None
-  by true same some = ap (map.get others) (same_row row e.0 same) ∙ none
-  by false same some = behind some
+module _ (taken : Row → Option ℕ) where
+  -- what is found among some rows is the least of them that is taken, with who took it
+  abbrev IsLeast : List (Row × Version) → Option Conflict → Type 0
+  IsLeast es None = (row : Row) → Has row es → taken row ≡ None
+  IsLeast es (Some conflict) = Has conflict.row es × (taken conflict.row ≡ Some conflict.by) × ((row : Row) → IsBelow row conflict.row → Has row es → taken row ≡ None)
 
--- in a sorted list the first common row is the least
-least : (others : Versions) (es : List (Row × Version)) → T (is_sorted row_cmp es) → IsLeast others es (first_common others es)
-least others [] h = λ row has. absurd (true≢false (sym has))
-least others (e ∷ es) h = at (map.get others e.0) refl (first_common others es) (least others es parts.1) where
-  parts : T (below_all row_cmp e.0 es) × T (is_sorted row_cmp es)
-  parts = both (below_all row_cmp e.0 es) (is_sorted row_cmp es) h
+  -- where nobody has taken the first entry's row, nobody has taken one of which that holds behind it
+  or_behind : (row : Row) (e : Row × Version) (es : List (Row × Version)) → taken e.0 ≡ None → (Has row es → taken row ≡ None) → Has row (e ∷ es) → taken row ≡ None
+  or_behind row e es none behind has = by (row_eq row e.0) refl has where
+    by : (b : Bool) → row_eq row e.0 ≡ b → IsSome (cond b (Some e.1) (find row_cmp row es)) → taken row ≡ None
+    by true same some = ap taken (same_row row e.0 same) ∙ none
+    by false same some = behind some
 
-  at : (w : Option Version) → map.get others e.0 ≡ w → (rest : Option Row) → IsLeast others es rest → IsLeast others (e ∷ es) (cond (is_some w) (Some e.0) rest)
-  at (Some v) is rest l = (first_there e es, ap is_some is, λ row below has. not_some _ _ (not_there row e es parts.0 below) has)
-  at None is None l = λ row has. or_behind others row e es is (l row) has
-  at None is (Some found) l = (more_there found e es l.0, l.1, λ row below has. or_behind others row e es is (l.2 row below) has)
+  -- in a sorted list the first that is taken is the least
+  least : (es : List (Row × Version)) → T (is_sorted row_cmp es) → IsLeast es (first_taken taken es)
+  least [] h = λ row has. absurd (true≢false (sym has))
+  least (e ∷ es) h = at (taken e.0) refl (first_taken taken es) (least es parts.1) where
+    parts : T (below_all row_cmp e.0 es) × T (is_sorted row_cmp es)
+    parts = both (below_all row_cmp e.0 es) (is_sorted row_cmp es) h
 
--- ---- one commit more
+    at : (w : Option ℕ) → taken e.0 ≡ w → (rest : Option Conflict) → IsLeast es rest → IsLeast (e ∷ es) (option_or (option_map (λ by. record { row = e.0; by = by }) w) rest)
+    at (Some by) is rest l = (first_there e es, is, λ row below has. not_some _ _ (not_there row e es parts.0 below) has)
+    at None is None l = λ row has. or_behind row e es is (l row) has
+    at None is (Some found) l = (more_there found.row e es l.0, l.1, λ row below has. or_behind row e es is (l.2 row below) has)
 
-module _ (txn by : Txn) (done : List Txn) where
-  -- a row that it didn't write has the writers that it had
-  kept : (row : Row) → version_by by row ≡ None → writers row (by ∷ done) ≡ writers row done
-  kept row none = ap (λ (v : Option Version). cond (is_some v) (by ∷ writers row done) (writers row done)) none
+-- ---- who has installed a row since a begin
 
-  -- a row that it wrote has it as its newest writer
-  added : (row : Row) → IsSome (version_by by row) → writers row (by ∷ done) ≡ by ∷ writers row done
-  added row some = ap (λ (b : Bool). cond b (by ∷ writers row done) (writers row done)) some
+none_newer : (newer : List Txn) → last_no newer ≡ None → newer ≡ []
+none_newer [] h = refl
+none_newer (t ∷ ts) h = none_some _ (sym h)
 
-  untaken : (row : Row) → version_by by row ≡ None → IsUntaken txn done row → IsUntaken txn (by ∷ done) row
-  untaken row none is wrote = kept row none ∙ is wrote
+-- the last of a list, which has this number, and those before it
+last_of : (newer : List Txn) (by : ℕ) → last_no newer ≡ Some by → (first : Txn) × (more : List Txn) × (first.no ≡ by) × (newer ≡ more ++ first ∷ [])
+last_of [] by h = none_some _ h
+last_of (t ∷ ts) by h = at (last_no ts) refl (λ n is. last_of ts n is) (some_same (unwrap_or (last_no ts) t.no) by h) where
+  at : (o : Option ℕ) → last_no ts ≡ o → ((n : ℕ) → last_no ts ≡ Some n → (first : Txn) × (more : List Txn) × (first.no ≡ n) × (ts ≡ more ++ first ∷ [])) → unwrap_or (last_no ts) t.no ≡ by
+      → (first : Txn) × (more : List Txn) × (first.no ≡ by) × (t ∷ ts ≡ more ++ first ∷ [])
+  at None is behind same = (t, [], sym (ap (λ o. unwrap_or o t.no) is) ∙ same, ap (λ (l : List Txn). t ∷ l) (none_newer ts is))
+  at (Some n) is behind same =
+      let b = behind n is in
+      (b.0, t ∷ b.1, b.2 ∙ sym (ap (λ o. unwrap_or o t.no) is) ∙ same, ap (λ (l : List Txn). t ∷ l) b.3)
 
-  -- a row that was taken stays so
-  still : (row : Row) (number : ℕ) → IsTaken txn done row number → IsTaken txn (by ∷ done) row number
-  still row number (wrote, first, newer, number_is, is) = at (version_by by row) refl where
-    at : (w : Option Version) → version_by by row ≡ w → IsTaken txn (by ∷ done) row number
-    at None none = (wrote, first, newer, number_is, kept row none ∙ is)
-    at (Some v) some = (wrote, first, by ∷ newer, number_is, added row (ap is_some some) ∙ ap (λ (l : List Txn). by ∷ l) is)
+join_last : (more : List Txn) (first : Txn) (rest : List Txn) → (more ++ first ∷ []) ++ rest ≡ more ++ first ∷ rest
+join_last [] first rest = refl
+join_last (x ∷ more) first rest = ap (λ (l : List Txn). x ∷ l) (join_last more first rest)
 
-  -- a row that wasn't is taken by it
-  newly : (row : Row) (number : ℕ) → by.no ≡ number → IsSome (version_by txn row) → IsSome (version_by by row) → IsUntaken txn done row → IsTaken txn (by ∷ done) row number
-  newly row number number_is wrote some is = (wrote, by, [], number_is, added row some ∙ ap (λ (l : List Txn). by ∷ l) (is wrote))
+module _ (past : Past) (txn : Txn) (row : Row) (s : SinceThen row past txn.before) where
+  -- nobody has
+  untaken : first_since (length txn.before) (chain past row) ≡ None → writers row (commits past) ≡ writers row (commits txn.before)
+  untaken none = s.writers_are ∙ ap (λ (l : List Txn). l ++ writers row (commits txn.before)) (none_newer s.newer (sym s.first_is ∙ none))
 
-  module _ (own others : Versions) (own_is : IsLastOf txn own) (others_are : IsLastOf by others) where
-    -- what is common to the versions, of the transactions
-    common : (found : Option Row) → first_common others (entries own) ≡ found → IsLeast others (entries own) found
-    common found is = subst (λ (o : Option Row). IsLeast others (entries own) o) is (least others (entries own) (entries_sorted own))
+  -- this one was the first
+  conflicts : (by : ℕ) → IsSome (version_by txn row) → first_since (length txn.before) (chain past row) ≡ Some by → Conflicts past txn row by
+  conflicts by wrote some =
+      let l = last_of s.newer by (sym s.first_is ∙ some) in
+      (wrote, l.0, l.1, l.2, s.writers_are ∙ ap (λ (k : List Txn). k ++ writers row (commits txn.before)) l.3 ∙ join_last l.1 l.0 (writers row (commits txn.before)))
 
-    listed : (row : Row) → IsSome (version_by txn row) → Has row (entries own)
-    listed row wrote = ap is_some (sym (get-entries own row) ∙ own_is row) ∙ wrote
-
-    written : (row : Row) → Has row (entries own) → IsSome (version_by txn row)
-    written row has = ap is_some (sym (own_is row) ∙ get-entries own row) ∙ has
-
-    pub none_common : (found : Option Conflict) → first_common others (entries own) ≡ None → IsFound txn done found → IsFound txn (by ∷ done) found
-    none_common found none = at found where
-      apart : (row : Row) → IsSome (version_by txn row) → version_by by row ≡ None
-      apart row wrote = sym (others_are row) ∙ common None none row (listed row wrote)
-
-      at : (found : Option Conflict) → IsFound txn done found → IsFound txn (by ∷ done) found
-      at None is = λ row wrote. untaken row (apart row wrote) (is row) wrote
-      at (Some conflict) is = (still conflict.row conflict.by is.0, λ row below wrote. untaken row (apart row wrote) (is.1 row below) wrote)
-
-    module _ (row : Row) (found : first_common others (entries own) ≡ Some row) where
-      -- the other one has written no lesser row of the transaction
-      below_apart : (r : Row) → IsBelow r row → IsSome (version_by txn r) → version_by by r ≡ None
-      below_apart r below wrote = sym (others_are r) ∙ (common (Some row) found).2 r below (listed r wrote)
-
-      -- it takes the least common row, where none of the lesser was taken before
-      takes : (number : ℕ) → by.no ≡ number → IsUntaken txn done row → ((r : Row) → IsBelow r row → IsUntaken txn done r) → IsFound txn (by ∷ done) (Some (record { row = row; by = number }))
-      takes number number_is is lesser = (
-        newly row number number_is (written row (common (Some row) found).0) (ap is_some (sym (others_are row)) ∙ (common (Some row) found).1) is,
-        λ r below wrote. untaken r (below_apart r below wrote) (lesser r below) wrote,
-      )
-
-      pub first_taken : (number : ℕ) → by.no ≡ number → IsFound txn done None → IsFound txn (by ∷ done) (Some (record { row = row; by = number }))
-      first_taken number number_is is = takes number number_is (is row) (λ r below. is r)
-
-      pub lesser_taken : (number : ℕ) (conflict : Conflict) → by.no ≡ number → is_lt (row_cmp row conflict.row) ≡ true → IsFound txn done (Some conflict) → IsFound txn (by ∷ done) (Some (record { row = row; by = number }))
-      lesser_taken number conflict number_is test is =
-          let below : IsBelow row conflict.row = less (row_cmp row conflict.row) (subst T (sym test) tt) in
-          takes number number_is (is.1 row below) (λ r lower. is.1 r (rows_total.trans r row conflict.row lower below))
-
-      -- what is below a row that isn't above another is below that
-      below_both : (r x : Row) → is_lt (row_cmp row x) ≡ false → IsBelow r x → IsBelow r row
-      below_both r x above below = at (row_cmp x row) refl where
-        at : (o : Ordering) → row_cmp x row ≡ o → IsBelow r row
-        at Less is = rows_total.trans r x row below is
-        at Equal is = subst (λ (k : Row). IsBelow r k) (rows_apart x row is) below
-        at Greater is = absurd (true≢false (ap is_lt (sym (rows_total.antisymm row x ∙ ap ordering_reverse is)) ∙ above))
-
-      pub still_taken : (conflict : Conflict) → is_lt (row_cmp row conflict.row) ≡ false → IsFound txn done (Some conflict) → IsFound txn (by ∷ done) (Some conflict)
-      still_taken conflict above is = (
-        still conflict.row conflict.by is.0,
-        λ r below wrote. untaken r (below_apart r (below_both r conflict.row above below) wrote) (is.1 r below) wrote,
-      )
-
--- ---- one event more
-
--- an event that commits nothing leaves what has committed
-pub commits_nothing : (outcome : Outcome) (running : Option RunningTxn) (act : Option Txn) (done : List Txn) → committing outcome running ≡ None
-    → (running ≡ None → act ≡ None) → commits_after outcome act done ≡ done
-commits_nothing (Begun n) running act done is none = refl
-commits_nothing (Listed view rows writes) running act done is none = refl
-commits_nothing Committed running act done is none = ap (λ (a : Option Txn). commits_after Committed a done) (none is)
-commits_nothing Aborted running act done is none = refl
-commits_nothing (Waits on) running act done is none = refl
-commits_nothing (Refused fault) running act done is none = refl
-
--- one that commits adds the transaction that was active
-pub commits_one : (outcome : Outcome) (running : Option RunningTxn) (r : RunningTxn) (act : Option Txn) (done : List Txn) → committing outcome running ≡ Some r
-    → (running ≡ Some r → (t : Txn) × (act ≡ Some t) × IsRunning t r) → (t : Txn) × IsRunning t r × (commits_after outcome act done ≡ t ∷ done)
-commits_one (Begun n) running r act done is some = none_some _ is
-commits_one (Listed view rows writes) running r act done is some = none_some _ is
-commits_one Committed running r act done is some =
-    let t = some is in
-    (t.0, t.2, ap (λ (a : Option Txn). commits_after Committed a done) t.1)
-commits_one Aborted running r act done is some = none_some _ is
-commits_one (Waits on) running r act done is some = none_some _ is
-commits_one (Refused fault) running r act done is some = none_some _ is
-
--- the past after one more event of those since the begin
-pub next_past : (before since : List LogEvent) (i : ℕ) (event : LogEvent) → i < length since → event ≡ get_or since i event
-    → past_of (before ++ take (i + 1) since) ≡ event ∷ past_of (before ++ take i since)
-next_past before since i event more is =
-    ap past_of (ap (λ (l : List LogEvent). before ++ l) (take_more since i event more ∙ ap (λ (e : LogEvent). take i since ++ e ∷ []) (sym is)) ∙ sym (append_assoc before (take i since) (event ∷ [])))
-    ∙ past_of-push (before ++ take i since) event
+  no_conflict : (number : ℕ) → first_since (length txn.before) (chain past row) ≡ None → ¬ Conflicts past txn row number
+  no_conflict number none (wrote, first, newer, number_is, is) =
+      let longer : length (writers row (commits txn.before)) ≡ length (newer ++ first ∷ writers row (commits txn.before)) = ap length (sym (untaken none) ∙ is) in
+      absurd (omega (arith, longer, length-append newer (first ∷ writers row (commits txn.before))))
 
 -- ---- what the rules ask
 
--- a row that nobody has installed since the begin is no conflict
-no_conflict : (past : Past) (txn : Txn) (row : Row) (number : ℕ) → IsUntaken txn (commits past) row → ¬ Conflicts past txn row number
-no_conflict past txn row number is (wrote, first, newer, number_is, taken) =
-    let longer : length (writers row (commits txn.before)) ≡ length (newer ++ first ∷ writers row (commits txn.before)) = ap length (sym (is wrote) ∙ taken) in
-    absurd (omega (arith, longer, length-append newer (first ∷ writers row (commits txn.before))))
+-- who was the first to install a row since a begin, by what a situation keeps
+abbrev taken_in : Situation → RunningTxn → Row → Option ℕ
+taken_in situation running row = first_since running.before (chain_in situation.chains row)
 
 -- what is found answers whether the transaction may commit
-pub found_answers : (past : Past) (txn : Txn) (found : Option Conflict) → IsFound txn (commits past) found
-    → MatchOption found (MayCommit Snapshot past txn) (IsFirstConflict Snapshot past txn)
-found_answers past txn None is = is
-found_answers past txn (Some conflict) is = (refl, is.0, λ other number below. no_conflict past txn other number (is.1 other below))
+pub found_answers : (past : Past) (session : ℕ) (txn : Txn) (situation : Situation) (running : RunningTxn) (found : Option Conflict) → Describes past situation → active past session ≡ Some txn → IsRunning txn running
+    → found ≡ first_taken (λ row. first_since running.before (chain_in situation.chains row)) (entries running.last) → MatchOption found (MayCommit Snapshot past txn) (IsFirstConflict Snapshot past txn)
+found_answers past session txn situation running found d is running_is found_is =
+    at found (subst (λ (o : Option Conflict). IsLeast (taken_in situation running) (entries running.last) o) (sym found_is) (least (taken_in situation running) (entries running.last) (entries_sorted running.last))) where
+      taken_is : (row : Row) → taken_in situation running row ≡ first_since (length txn.before) (chain past row)
+      taken_is row = ap (λ n. first_since n (chain_in situation.chains row)) running_is.before ∙ ap (first_since (length txn.before)) (d.chains row)
 
--- so does each answer for which memory sufficed
-pub answers : (past : Past) (txn : Txn) (r : Result (Option Conflict) AllocError) → IfOk r (IsFound txn (commits past))
-    → IfOk r (λ found. MatchOption found (MayCommit Snapshot past txn) (IsFirstConflict Snapshot past txn))
-answers past txn (Ok found) is = found_answers past txn found is
-answers past txn (Err fault) is = tt
+      since : (row : Row) → SinceThen row past txn.before
+      since row = since_begin past session txn row is
+
+      listed : (row : Row) → IsSome (version_by txn row) → Has row (entries running.last)
+      listed row wrote = ap is_some (sym (get-entries running.last row) ∙ running_is.last row) ∙ wrote
+
+      written : (row : Row) → Has row (entries running.last) → IsSome (version_by txn row)
+      written row has = ap is_some (sym (running_is.last row) ∙ get-entries running.last row) ∙ has
+
+      by_row : (row : Row) (number : ℕ) → (Has row (entries running.last) → taken_in situation running row ≡ None) → ¬ Conflicts past txn row number
+      by_row row number none c = no_conflict past txn row (since row) number (sym (taken_is row) ∙ none (listed row c.0)) c
+
+      at : (found : Option Conflict) → IsLeast (taken_in situation running) (entries running.last) found → MatchOption found (MayCommit Snapshot past txn) (IsFirstConflict Snapshot past txn)
+      at None l = λ row wrote. untaken past txn row (since row) (sym (taken_is row) ∙ l row (listed row wrote))
+      at (Some conflict) l = (
+        refl,
+        conflicts past txn conflict.row (since conflict.row) conflict.by (written conflict.row l.0) (sym (taken_is conflict.row) ∙ l.1),
+        λ other number below. by_row other number (l.2 other below),
+      )
 
 -- a transaction that a situation keeps as active is the one that is
 pub the_running : (past : Past) (situation : Situation) (session : ℕ) (running : RunningTxn) (txn : Txn) → Describes past situation
@@ -222,17 +159,3 @@ pub the_running : (past : Past) (situation : Situation) (session : ℕ) (running
 the_running past situation session running txn describes kept is =
     let t = running_txn _ _ describes session running kept in
     subst (λ (k : Txn). IsRunning k running) (some_same t.0 txn (sym t.1 ∙ is)) t.2
-
--- a transaction that is active began after no more events than there are
-pub begin_within : (log : List LogEvent) (session : ℕ) (txn : Txn) → active (past_of log) session ≡ Some txn → length txn.before ≤ length log
-begin_within log session txn is =
-    let n : ℕ = length txn.before in
-    let same : n ≡ length (take n log) = ap length (has_begins log session txn is) ∙ length-reverse (take n log) in
-    let whole : length (take n log ++ drop n log) ≡ length log = ap length (take-append-drop n log) in
-    omega (arith, same, whole, length-append (take n log) (drop n log))
-
--- the events before its begin are those that the front of the log has
-pub begin_is : (log before : List LogEvent) (session : ℕ) (running : RunningTxn) (txn : Txn) → active (past_of log) session ≡ Some txn → IsRunning txn running
-    → before ≡ take running.before log → txn.before ≡ past_of before
-begin_is log before session running txn is agrees front =
-    has_begins log session txn is ∙ ap past_of (ap (λ (n : ℕ). take n log) (sym agrees.before) ∙ sym front)

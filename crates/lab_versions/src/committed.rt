@@ -24,25 +24,20 @@ impl Rules for CommittedRules {
     fn blocks(
         &self,
         setup: &Table,
-        situation: &Situation<'_>,
+        situation: &Situation,
         seen: &Versions,
         statement: &Statement,
-        holder: &RunningTxn<'_>,
+        holder: &RunningTxn,
     ) -> bool {
         holds_write(seen, statement, holder)
     }
 
-    fn conflict(
-        &self,
-        alloc: Global,
-        log: &[LogEvent],
-        session: Session,
-    ) -> Result<Option<Conflict>, NoMemory> {
-        Ok(None)
+    fn conflict(&self, situation: &Situation, session: Session) -> Option<Conflict> {
+        None
     }
 }
 
-/// The engine at read committed: it keeps its setup and its log, and looks through them.
+/// The engine at read committed: it keeps its setup, its log, and where that leaves sessions and rows.
 #[derive(Drop)]
 pub struct CommittedEngine {
     journal: Journal<CommittedRules>,

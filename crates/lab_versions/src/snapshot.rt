@@ -24,30 +24,21 @@ impl Rules for SnapshotRules {
     fn blocks(
         &self,
         setup: &Table,
-        situation: &Situation<'_>,
+        situation: &Situation,
         seen: &Versions,
         statement: &Statement,
-        holder: &RunningTxn<'_>,
+        holder: &RunningTxn,
     ) -> bool {
         false
     }
 
-    fn conflict(
-        &self,
-        alloc: Global,
-        log: &[LogEvent],
-        session: Session,
-    ) -> Result<Option<Conflict>, NoMemory> {
-        let situation = Situation::of(alloc, log)?;
-        let Some(running) = situation.running(session) else {
-            return Ok(None);
-        };
-        let (before, since) = log.split_at(running.before);
-        first_conflict(alloc, &running.last, before, since)
+    fn conflict(&self, situation: &Situation, session: Session) -> Option<Conflict> {
+        let running = situation.running(session)?;
+        first_conflict(&running.last, &situation.chains, running.before)
     }
 }
 
-/// The engine at snapshot isolation: it keeps its setup and its log, and looks through them.
+/// The engine at snapshot isolation: it keeps its setup, its log, and where that leaves sessions and rows.
 #[derive(Drop)]
 pub struct SnapshotEngine {
     journal: Journal<SnapshotRules>,

@@ -26,14 +26,14 @@ returns-in-None g c = let t = running_txn (past_of c.args.log.now) c.args.situat
   (
     t.0,
     gives _ _ _ _ t.0 c.in-Commit.is refl c.requires.may t.1,
-    conflict_none _ _ t.0 _ _ c.in_ok-conflict-in-Commit.was c.in-None.is (c.conflict.ensures t.0 t.1),
+    conflict_none _ _ t.0 _ c.in-None.is (c.conflict.ensures (past_of c.args.log.now) t.0 c.requires.situation t.1),
   ),
   λ eq. cc,
 )
 
-pub returns-in-Some-2 : goal.returns-in-Some-2
-returns-in-Some-2 g c = let t = running_txn (past_of c.args.log.now) c.args.situation.now c.requires.situation c.args.session c.in-Some.running.now (sym c.in-Some.ensures) in
-    let p = conflict_some _ _ t.0 _ _ c.in-Some-2.conflict c.in_ok-conflict-in-Commit.was c.in-Some-2.is (c.conflict.ensures t.0 t.1) in
+pub returns-in-Some-conflict : goal.returns-in-Some-conflict
+returns-in-Some-conflict g c = let t = running_txn (past_of c.args.log.now) c.args.situation.now c.requires.situation c.args.session c.in-Some.running.now (sym c.in-Some.ensures) in
+    let p = conflict_some _ _ t.0 _ c.in-Some-conflict.conflict c.in-Some-conflict.is (c.conflict.ensures (past_of c.args.log.now) t.0 c.requires.situation t.1) in
     ((t.0, gives _ _ _ _ t.0 c.in-Commit.is refl c.requires.may t.1, p.0, p.1, p.2), λ eq. cc)
 
 pub returns-in-Run : goal.returns-in-Run

@@ -10,7 +10,7 @@ use Rattle.lab_engine.proofs.waits.all_waits.Goals as goal
 use Rattle.lab_engine.proofs.waits.all_waits.Goals.{then-not-is_empty+in_ok-push, else-not-is_empty}
 
 pub loop-state-preserved : goal.loop-state-preserved
-loop-state-preserved g c = λ past d begins.
+loop-state-preserved g c = λ past d.
     let at : StandsAt c.args.situation.now.sessions.items c.loop-state.state-index c.state-item.result =
     stands_at c.args.situation.now.sessions.items c.deref-state-items.result.now c.loop-state.state-index c.state-item.result c.deref-state-items.ensures.value c.loop-state-test.true c.state-item.is in
     let described : DescribesSession past c.state-item.result = described_at past c.args.situation.now c.loop-state.state-index c.state-item.result d at in
@@ -25,9 +25,9 @@ loop-state-preserved g c = λ past d begins.
           (sym (ap length c.as_slice.ensures) ∙ eqb-true (length c.as_slice.result.now) 0 (sym c.is_empty.ensures ∙ w.if-not-is_empty.false)) session other
     ] in
     waits_step (g.R.Rules.kind c.args.rules.now) c.args.setup.now past c.args.situation.now.sessions.items c.loop-state.state-index c.state-item.result c.loop-state.waits.items c.if-not-is_empty.waits.items c.in_ok-on.on
-    at.lt at.is (c.loop-state.invariant past d begins) (c.in_ok-on.ensures past d begins described) step
+    at.lt at.is (c.loop-state.invariant past d) (c.in_ok-on.ensures past d described) step
 
 pub returns : goal.returns
-returns g c = λ past d begins.
+returns g c = λ past d.
     waits_all (g.R.Rules.kind c.args.rules.now) c.args.setup.now past c.args.situation.now c.loop-state.state-index c.loop-state.waits.items d
-    (subst (λ xs. length xs ≤ c.loop-state.state-index) c.deref-state-items.ensures.value c.loop-state-test.false) (c.loop-state.invariant past d begins)
+    (subst (λ xs. length xs ≤ c.loop-state.state-index) c.deref-state-items.ensures.value c.loop-state-test.false) (c.loop-state.invariant past d)

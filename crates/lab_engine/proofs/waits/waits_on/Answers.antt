@@ -1,5 +1,5 @@
-use Rattle.std.proofs.Common.{◌≡◌, ℕ, sym, ap, subst, ◌∙◌}
-use Rattle.std.specs.Prelude.{◌↔◌, Some, option_map, Contains}
+use Rattle.std.proofs.Common.{◌≡◌, ℕ, sym, subst, ◌∙◌}
+use Rattle.std.specs.Prelude.{◌↔◌, Some, Contains}
 use Rattle.lab_engine.specs.Log.{Txn, active, waiting}
 use Rattle.lab_engine.specs.Situation.{Agree, IsRunning}
 use Rattle.lab_engine.specs.Sight.{IsSight}
@@ -8,14 +8,14 @@ use Rattle.lab_engine.proofs.Waiting.{running_txn, if_ok, waits_on_blockers}
 use Rattle.lab_engine.proofs.waits.waits_on.Goals as goal
 
 pub returns : goal.returns
-returns g c = λ past d begins described.
+returns g c = λ past d described.
     let txn : (t : Txn) × (active past c.args.state.now.session ≡ Some t) × IsRunning t c.in-Some-running.running =
     running_txn past c.args.state.now.session c.in-Some-running.running (subst (Agree (active past c.args.state.now.session)) c.in-Some-running.is described.running) in
-    let waits : waiting past c.args.state.now.session ≡ Some c.in-Some.statement.now =
-    sym described.waits ∙ ap (option_map (λ s. s.now)) c.in-Some.is in
+    let waits : waiting past c.args.state.now.session ≡ Some c.in-Some.statement =
+    sym described.waits ∙ c.in-Some.is in
     let sight : IsSight (g.R.Rules.kind c.args.rules.now) c.args.setup.now past txn.0 c.in_ok-seen.seen =
-    subst (λ level. IsSight level c.args.setup.now past txn.0 c.in_ok-seen.seen) c.level.ensures (c.in_ok-seen.ensures past c.args.state.now.session txn.0 d begins txn.1 txn.2) in
-    if_ok (AreBlockers (g.R.Rules.kind c.args.rules.now) c.args.setup.now past c.args.state.now.session c.in-Some.statement.now)
+    subst (λ level. IsSight level c.args.setup.now past txn.0 c.in_ok-seen.seen) c.level.ensures (c.in_ok-seen.ensures past c.args.state.now.session txn.0 d txn.1 txn.2) in
+    if_ok (AreBlockers (g.R.Rules.kind c.args.rules.now) c.args.setup.now past c.args.state.now.session c.in-Some.statement)
     (λ on. (other : ℕ) → Contains on other ↔ WaitsOn (g.R.Rules.kind c.args.rules.now) c.args.setup.now past c.args.state.now.session other)
-    c.blockers.result (λ on. waits_on_blockers (g.R.Rules.kind c.args.rules.now) c.args.setup.now past c.args.state.now.session c.in-Some.statement.now on waits)
+    c.blockers.result (λ on. waits_on_blockers (g.R.Rules.kind c.args.rules.now) c.args.setup.now past c.args.state.now.session c.in-Some.statement on waits)
     (c.blockers.ensures past txn.0 d txn.1 sight)

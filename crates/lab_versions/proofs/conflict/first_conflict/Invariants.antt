@@ -1,11 +1,11 @@
-use Rattle.std.proofs.Common.{◌≡◌, ◌++◌, take}
-use Rattle.lab_engine.specs.Log.{Txn, past_of, commits}
-use Rattle.lab_engine.specs.Situation.{Describes}
-use Rattle.lab_versions.specs.Conflict.{IsLastOf, IsFound}
+use Rattle.std.proofs.Common.{◌≡◌, drop}
+use Rattle.std.specs.FinMap as map
+use Rattle.lab_engine.specs.Chains.{chain_in, first_since}
+use Rattle.lab_versions.specs.Conflict.{first_taken}
 use Rattle.lab_versions.proofs.conflict.first_conflict.Given as goal
 
--- the situation and the conflict are those after the events so far
-abbrev pub invariant-loop-event : goal.invariant-loop-event
-invariant-loop-event l =
-    Describes (past_of (l.before ++ take l.event-index l.since)) l.situation
-    × ((txn : Txn) → IsLastOf txn l.own → txn.before ≡ past_of l.before → IsFound txn (commits (past_of (l.before ++ take l.event-index l.since))) l.found)
+-- the conflict is found among the entries that are left as among all
+abbrev pub invariant-loop-entry : goal.invariant-loop-entry
+invariant-loop-entry l =
+    first_taken (λ row. first_since l.fn.before (chain_in l.chains row)) (drop l.entry-index l.entries)
+    ≡ first_taken (λ row. first_since l.fn.before (chain_in l.chains row)) (map.entries l.own)

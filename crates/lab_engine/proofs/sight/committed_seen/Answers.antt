@@ -1,0 +1,16 @@
+use Rattle.std.specs.Option.{option_or}
+use Rattle.std.proofs.Common.{◌∙◌, sym, ap}
+use Rattle.std.proofs.lemmas.Result.{IfOk-weaker}
+use Rattle.std.specs.FinMap.{get}
+use Rattle.lab_engine.specs.declared.event.Level.{Level}
+use Rattle.lab_engine.specs.Log.{commits, last_installed, sight}
+use Rattle.lab_engine.specs.Sight.{listed_version}
+use Rattle.lab_engine.proofs.sight.committed_seen.Goals as goal
+
+pub returns : goal.returns
+returns c = λ past session txn d is_active running.
+    IfOk-weaker c.under_chains.result _ _
+    (λ made is row.
+    is row ∙ ap (option_or (last_installed (commits txn.before) row)) (c.in_ok-initial.ensures row)
+    ∙ ap (λ (level : Level). option_or (last_installed (commits (sight level past txn)) row) (listed_version (get c.args.setup.now row))) (sym c.in-Snapshot.is))
+    (c.under_chains.ensures past session txn d is_active running.before)

@@ -1,0 +1,48 @@
+-- The versions of a row that commits installed, the newest first.
+use Rattle.std.specs.Prelude.{ℕ, nat_lt, cond, Option, Some, None, option_map, unwrap_or, List, [], ◌∷◌, length, reverse}
+use Rattle.std.specs.BTreeMap.{get}
+use Rattle.lab_table.specs.Row.{Row, row_cmp, row_eq}
+use Rattle.lab_engine.specs.declared.chain.Installed.{Installed}
+use Rattle.lab_engine.specs.declared.chain.Chains.{Chains}
+use Rattle.lab_engine.specs.declared.event.Outcome.{Outcome}
+use Rattle.lab_engine.specs.declared.event.Outcome.TheVariants.{Begun, Rows as Listed, Committed, Aborted, Waits, Refused}
+use Rattle.lab_engine.specs.Log.{Past, Version, Txn, active, version_by}
+
+-- a chain with one version more, if there is one, of this transaction and with so many events before its commit
+abbrev pub longer : ℕ → ℕ → Option Version → List Installed → List Installed
+longer by place None chain = chain
+longer by place (Some v) chain = record { version = v; by = by; place = place } ∷ chain
+
+-- a row's chain after an outcome with so many events before it, where the session had this transaction active
+abbrev pub chain_after : Outcome → Option Txn → ℕ → Row → List Installed → List Installed
+chain_after (Begun n) txn place row chain = chain
+chain_after (Listed view rows writes) txn place row chain = chain
+chain_after Committed None place row chain = chain
+chain_after Committed (Some t) place row chain = longer t.no place (version_by t row) chain
+chain_after Aborted txn place row chain = chain
+chain_after (Waits on) txn place row chain = chain
+chain_after (Refused fault) txn place row chain = chain
+
+-- the installed versions of a row
+abbrev pub chain : Past → Row → List Installed
+chain [] row = []
+chain (event ∷ past) row = chain_after event.outcome (active past event.session) (length past) row (chain past row)
+
+-- the chain that is kept of a row
+abbrev pub chain_in : Chains → Row → List Installed
+chain_in chains row = reverse (unwrap_or (option_map (λ kept. kept.items) (get row_cmp chains.rows row)) [])
+
+-- a row's chain with each of its entries in a list put onto it
+abbrev pub added : ℕ → ℕ → List (Row × Version) → Row → List Installed → List Installed
+added by place [] row chain = chain
+added by place (e ∷ es) row chain = added by place es row (cond (row_eq row e.0) (record { version = e.1; by = by; place = place } ∷ chain) chain)
+
+-- the newest version that was installed before a place
+abbrev pub version_before : ℕ → List Installed → Option Version
+version_before place [] = None
+version_before place (i ∷ older) = cond (nat_lt i.place place) (Some i.version) (version_before place older)
+
+-- who was the first to install a version from a place on
+abbrev pub first_since : ℕ → List Installed → Option ℕ
+first_since place [] = None
+first_since place (i ∷ older) = cond (nat_lt i.place place) None (Some (unwrap_or (first_since place older) i.by))
