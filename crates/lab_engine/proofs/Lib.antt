@@ -21,6 +21,7 @@ pub mod Rising
 pub mod Waiting
 pub mod Circles
 pub mod Retrying
+pub mod Crosses
 pub mod LogsTold
 mod Tellings
 mod Installing

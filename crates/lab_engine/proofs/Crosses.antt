@@ -1,0 +1,57 @@
+-- What an engine keeps may be handed to another thread.
+use denote.RattleType.{RattleType}
+use denote.Param.Send.{IsSend, sendable}
+use denote.Param.SendFields.{declared_send}
+use Rattle.std.proofs.Crossing.{crosses}
+use Rattle.lab_table.proofs.number.TxnNo.TheSendSync as number
+use Rattle.lab_table.proofs.number.Session.TheSendSync as session
+use Rattle.lab_table.proofs.table.Table.TheSendSync as table
+use Rattle.lab_table.proofs.predicate.Pred.TheLaws.TheKnot as predicate
+use Rattle.lab_table.specs.contracts.statement.Statement as Statement
+use Rattle.lab_engine.proofs.version.Versions.TheSendSync as versions
+use Rattle.lab_engine.proofs.chain.Chains.TheSendSync as chains
+use Rattle.lab_engine.specs.declared.rules.Rules.{Ghosts}
+use Rattle.lab_engine.specs.contracts.journal.Journal as Journal
+use Rattle.lab_engine.specs.contracts.journal.Journal.TheInside as Inside
+use Rattle.lab_engine.specs.contracts.event.LogEvent as LogEvent
+use Rattle.lab_engine.specs.contracts.situation.RunningTxn as RunningTxn
+use Rattle.lab_engine.specs.contracts.situation.SessionState as SessionState
+use Rattle.lab_engine.specs.contracts.situation.Situation as Situation
+
+pub statement : IsSend Statement.the_row
+statement = search (sendable, crosses, predicate.crosses) depth 40 fits 20000
+
+pub event : IsSend LogEvent.the_row
+event = search (sendable, crosses, predicate.crosses) depth 40 fits 20000
+
+running : IsSend RunningTxn.the_row
+running = search (sendable, crosses, number.the_send, statement, versions.the_send) depth 40 fits 20000
+
+state : IsSend SessionState.the_row
+state = search (sendable, crosses, session.the_send, statement, running) depth 40 fits 20000
+
+pub situation : IsSend Situation.the_row
+situation = declared_send Situation.the_type (
+  search (sendable, crosses, state) depth 40,
+  (search (sendable, versions.the_send), (search (sendable, chains.the_send), (search sendable, (search sendable, tt)))),
+)
+
+module _ (R : RattleType) (rules : Ghosts R.Denot) where
+  kept : IsSend R → IsSend (Inside.the_row R rules)
+  kept r = declared_send (Inside.the_type R rules) (
+    search (sendable, r),
+    (
+      search (sendable, table.the_send),
+      (
+        search (sendable, crosses, event) depth 40,
+        (
+          search (sendable, crosses, session.the_send) depth 40,
+          (search (sendable, crosses, situation) depth 40, tt),
+        ),
+      ),
+    ),
+  )
+
+  -- an engine may, where its rules may
+  pub journal : IsSend R → IsSend (Journal.the_row R rules)
+  journal r = let inside = kept r in search (sendable, inside)
