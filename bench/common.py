@@ -1,0 +1,59 @@
+"""What the scripts here share: numbers that look random, and building programs.
+
+Programs of the bench are NAME.rattle here. They are no crates of crates.txt, so each is proved and built in a folder of
+its own, over the libraries of the product; those without rt's stamp of an earlier build, as the gate leaves them, are
+proved again first."""
+import os
+import shutil
+import subprocess
+import sys
+
+TOP = os.path.dirname(os.path.dirname(os.path.realpath(__file__)))
+PROGRAM = f"{TOP}/crates/hermitage_lab/out/hermitage_lab"
+
+
+def numbers(seed=1):
+    """Numbers that look random and are the same at each run."""
+    while True:
+        seed = (seed * 1_103_515_245 + 12_345) % 2**31
+        yield seed >> 8
+
+
+def build_product():
+    """Builds the program itself, where it is missing or older than its sources."""
+    subprocess.run([f"{TOP}/hermitage_lab", "--help"], stdin=subprocess.DEVNULL, stdout=subprocess.DEVNULL, check=True)
+
+
+def below(names, over):
+    """These crates and all that are below them."""
+    found = set(names)
+    for name in names:
+        found |= below([it for it in over[name].split() if it in over], over)
+    return found
+
+
+def build(name, crates, kit=""):
+    """Proves and builds a program over hard links of these libraries of the product, and these of the kit. Answers its
+    path."""
+    with open(f"{TOP}/crates.txt", encoding="ascii") as it:
+        over = dict(line.strip().split(":", 1) for line in it if ":" in line)
+    room = f"{TOP}/crates/hermitage_lab/out/bench/{name}"
+    own, used = f"{room}/crates/{name}", below(crates, over)
+    os.makedirs(f"{own}/src", exist_ok=True)
+    with open(f"{room}/crates.txt", "w", encoding="ascii") as it:
+        for crate in sorted(used):
+            it.write(f"{crate}:{over[crate]}\n")
+        it.write(f"{name}: {' '.join(crates)} {kit}\n")
+    for crate in used:
+        folder = f"{room}/crates/{crate}"
+        shutil.rmtree(folder, ignore_errors=True)
+        for part in ("src", "specs", "proofs"):
+            if os.path.isdir(f"{TOP}/crates/{crate}/{part}"):
+                shutil.copytree(f"{TOP}/crates/{crate}/{part}", f"{folder}/{part}")
+        if os.path.isdir(f"{TOP}/crates/{crate}/out/rlib"):
+            shutil.copytree(f"{TOP}/crates/{crate}/out/rlib", f"{folder}/out/rlib", copy_function=os.link)
+    shutil.copyfile(f"{TOP}/bench/{name}.rattle", f"{own}/src/main.rt")
+    built = subprocess.run(["rt", "run"], cwd=own, stdin=subprocess.DEVNULL, capture_output=True, text=True)
+    if not os.path.exists(f"{own}/out/{name}"):
+        sys.exit(f"bench: {name} was not built: {built.stderr[-2000:]}")
+    return f"{own}/out/{name}"
