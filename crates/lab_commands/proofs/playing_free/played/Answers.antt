@@ -8,9 +8,9 @@ pub play_free-requires-send-E : goal.play_free-requires-send-E
 play_free-requires-send-E c κs = search (sendable, locking)
 
 -- src/playing_free.rt:47:29
-pub play_free-in-Committed-requires-send-E : goal.play_free-in-Committed-requires-send-E
-play_free-in-Committed-requires-send-E c κs = search (sendable, committed)
+pub play_free-requires-in-Committed-send-E : goal.play_free-requires-in-Committed-send-E
+play_free-requires-in-Committed-send-E c κs = search (sendable, committed)
 
 -- src/playing_free.rt:54:28
-pub play_free-in-Snapshot-requires-send-E : goal.play_free-in-Snapshot-requires-send-E
-play_free-in-Snapshot-requires-send-E c κs = search (sendable, snapshot)
+pub play_free-requires-in-Snapshot-send-E : goal.play_free-requires-in-Snapshot-send-E
+play_free-requires-in-Snapshot-send-E c κs = search (sendable, snapshot)
