@@ -1,12 +1,15 @@
 -- What a play by one thread knows after each event.
-use Rattle.std.specs.Prelude.{◌≡◌, ℕ, ◌≤◌, ◌<◌, Bool, List, [], ◌∷◌, ◌++◌, false, slice_index_or, ⊤}
+use Rattle.std.specs.Prelude.{◌≡◌, ℕ, ◌≤◌, ◌<◌, Bool, List, [], ◌∷◌, ◌++◌, false, length, drop, slice_index_or, ⊤}
 use Rattle.lab_table.specs.declared.statement.Command.{Command}
 use Rattle.lab_engine.specs.declared.event.Outcome.{Outcome}
 use Rattle.lab_engine.specs.declared.event.LogEvent.{LogEvent}
 use Rattle.lab_engine.specs.Log.{Past, past_of}
-use Rattle.lab_engine.specs.Recording.{Line, given, AllFollowScript}
+use Rattle.lab_engine.specs.Recording.{Line, given, lines_by, next_line, AllFollowScript}
 use Rattle.lab_engine.specs.Journal.{Kept}
+use Rattle.lab_script.specs.declared.script.Line.{Line as ScriptLine}
 use Rattle.lab_session.specs.Bench.{IsSoundRun}
+use Rattle.lab_session.specs.Play.{given_lines}
+use Rattle.lab_session.specs.declared.scripted.Front.{Front}
 
 -- the numbers kept of the sessions, each at its session's number
 abbrev pub AreCounts : (ℕ → ℕ) → List ℕ → Type 0
@@ -35,3 +38,17 @@ pub record IsUnderWay (run : Kept) (lines : List Line) (counts : List ℕ) : Typ
   pub follows : AllFollowScript run.level run.setup lines (past_of run.log)
   pub of_sessions : AllOfSessions (past_of run.log)
   pub counted : AreCounts (given (past_of run.log)) counts
+
+-- lines at the front of a script: where their sessions have given as many, the next line is looked for behind them
+pub record IsBehind (lines : List ScriptLine) (front : Front) : Type 0 where
+  pub passed : List Line
+  pub counted : AreCounts (λ session. lines_by session passed) front.of_sessions
+  pub few : (session : ℕ) → session < 10 → slice_index_or front.of_sessions session 0 ≤ front.lines
+  pub long : length front.of_sessions ≡ 10
+  pub within : front.lines ≤ length lines
+  pub skips : (past : Past) → ((session : ℕ) → session < 10 → lines_by session passed ≤ given past session)
+      → next_line past [] (given_lines lines) ≡ next_line past passed (given_lines (drop front.lines lines))
+
+-- each session has given as many lines as it has at the front
+abbrev pub IsCovered : Past → Front → Type 0
+IsCovered past front = (session : ℕ) → session < 10 → slice_index_or front.of_sessions session 0 ≤ given past session

@@ -1,0 +1,109 @@
+-- Lines at the front of a script that have been given.
+use Rattle.std.proofs.Common.{◌≡◌, ℕ, suc, ◌+◌, ◌≤◌, ◌<◌, refl, sym, ap, subst, ◌∙◌, arith, Bool, true, false, cond, ◌||◌, List, [], ◌∷◌, ◌++◌, inl, inr, length, drop, get_or}
+use Rattle.std.specs.Prelude.{◌==◌, Some, is_some, is_none, ◌&&◌, slice_index_or, slice_set}
+use Rattle.std.proofs.lemmas.Bool.{lt-ltb}
+use Rattle.std.proofs.lemmas.Bool.Decides.{eqb_tells}
+use Rattle.std.proofs.lemmas.List.{get_or-set_same, get_or-set_other}
+use Rattle.std.proofs.Math.ListN.{length-set}
+use Rattle.lab_script.specs.declared.script.Line.{Line as ScriptLine}
+use Rattle.lab_engine.specs.declared.event.LogEvent.{LogEvent}
+use Rattle.lab_engine.specs.Log.{Past, past_of, waiting}
+use Rattle.lab_engine.specs.Recording.{Line, given, lines_by, next_line}
+use Rattle.lab_engine.proofs.Runs.{past_of-push}
+use Rattle.lab_session.specs.Play.{given_lines}
+use Rattle.lab_session.specs.UnderWay.{AreCounts, IsSession, IsBehind, IsCovered}
+use Rattle.lab_session.specs.declared.scripted.Front.{Front}
+use Rattle.lab_session.proofs.Playing.{no_counts, drop_at, counts_more, counts_few, counts_same, lines_more}
+
+-- none at first
+pub front_starts : (lines : List ScriptLine) → IsBehind lines (record { lines = 0; of_sessions = 0 ∷ 0 ∷ 0 ∷ 0 ∷ 0 ∷ 0 ∷ 0 ∷ 0 ∷ 0 ∷ 0 ∷ [] })
+front_starts lines = record {
+  passed = [];
+  counted = λ session few. no_counts session;
+  few = λ session few. omega (arith, no_counts session);
+  long = refl;
+  within = omega arith;
+  skips = λ past covered. refl;
+}
+
+pub nothing_covered : (past : Past) → IsCovered past (record { lines = 0; of_sessions = 0 ∷ 0 ∷ 0 ∷ 0 ∷ 0 ∷ 0 ∷ 0 ∷ 0 ∷ 0 ∷ 0 ∷ [] })
+nothing_covered past session few = omega (arith, no_counts session)
+
+-- one line more, which is its session's
+module _ (lines : List ScriptLine) (front : Front) (line : ScriptLine) (behind : IsBehind lines front) (lt : front.lines < length lines) (is : line ≡ get_or lines front.lines line) (own : IsSession line.session) where
+  abbrev more : List Line
+  more = (line.session, line.command) ∷ behind.passed
+
+  no_fewer : (session : ℕ) → lines_by session behind.passed ≤ lines_by session more
+  no_fewer session = at (line.session == session) (lines_more session (line.session, line.command) behind.passed)
+    where
+      at : (b : Bool) → cond b 1 0 + lines_by session behind.passed ≡ lines_by session more → lines_by session behind.passed ≤ lines_by session more
+      at true h = omega (arith, h)
+      at false h = omega (arith, h)
+
+  own_more : suc (lines_by line.session behind.passed) ≡ lines_by line.session more
+  own_more = elim (eqb_tells line.session line.session) [
+    | inl p ↦ omega (arith, subst (λ (b : Bool). cond b 1 0 + lines_by line.session behind.passed ≡ lines_by line.session more) p.0 (lines_more line.session (line.session, line.command) behind.passed))
+    | inr p ↦ absurd (p.1 refl)
+  ]
+
+  or_true : (b : Bool) → (b || true) ≡ true
+  or_true true = refl
+  or_true false = refl
+
+  step : (past : Past) → lines_by line.session more ≤ given past line.session
+      → next_line past behind.passed (given_lines (drop front.lines lines)) ≡ next_line past more (given_lines (drop (front.lines + 1) lines))
+  step past covered =
+      ap (λ l. next_line past behind.passed (given_lines l)) (drop_at lines front.lines line lt is)
+      ∙ ap (λ b. cond b (next_line past more (given_lines (drop (front.lines + 1) lines))) (Some (line.session, line.command)))
+      (ap (λ b. is_some (waiting past line.session) || b) (lt-ltb (lines_by line.session behind.passed) (given past line.session) (omega (arith, own_more, covered))) ∙ or_true (is_some (waiting past line.session)))
+
+  small : line.session < 10
+  small = omega (arith, own)
+
+  one_more : IsBehind lines (record { lines = front.lines + 1; of_sessions = slice_set front.of_sessions line.session (suc (slice_index_or front.of_sessions line.session 0)) })
+  one_more =
+      let there : line.session < length front.of_sessions = omega (arith, own, behind.long) in
+      record {
+        passed = more;
+        counted = counts_same _ _ _ (counts_more (λ session. lines_by session behind.passed) front.of_sessions line.session there small behind.counted)
+            (λ session. sym (lines_more session (line.session, line.command) behind.passed));
+        few = counts_few front.of_sessions line.session front.lines there small behind.few;
+        long = length-set front.of_sessions line.session (suc (slice_index_or front.of_sessions line.session 0)) ∙ behind.long;
+        within = omega (arith, lt);
+        skips = λ past covered. behind.skips past (λ session few. omega (arith, no_fewer session, covered session few)) ∙ step past (covered line.session small);
+      }
+
+  pub front_more : (place number : ℕ) → front.lines ≡ place → number ≡ line.session
+      → IsBehind lines (record { lines = place + 1; of_sessions = slice_set front.of_sessions number (slice_index_or front.of_sessions number 0 + 1) })
+  front_more place number p q =
+      let one : suc (slice_index_or front.of_sessions line.session 0) ≡ slice_index_or front.of_sessions line.session 0 + 1 = omega arith in
+      subst (λ (k : ℕ). IsBehind lines (record { lines = k + 1; of_sessions = slice_set front.of_sessions number (slice_index_or front.of_sessions number 0 + 1) })) p
+      (subst (λ (k : ℕ). IsBehind lines (record { lines = front.lines + 1; of_sessions = slice_set front.of_sessions k (slice_index_or front.of_sessions k 0 + 1) })) (sym q)
+      (subst (λ (k : ℕ). IsBehind lines (record { lines = front.lines + 1; of_sessions = slice_set front.of_sessions line.session k })) one one_more))
+
+-- it is covered, where its session had given more than there were before it
+pub covered_more : (past : Past) (front : Front) (counts : List ℕ) (session lines : ℕ) → AreCounts (given past) counts → IsCovered past front → session < 10 → length front.of_sessions ≡ 10
+    → slice_index_or front.of_sessions session 0 < slice_index_or counts session 0
+    → IsCovered past (record { lines = lines; of_sessions = slice_set front.of_sessions session (slice_index_or front.of_sessions session 0 + 1) })
+covered_more past front counts session lines counted covered small long less s few = elim (eqb_tells session s) [
+  | inl p ↦ omega (
+    arith,
+    less,
+    counted session small,
+    ap (given past) p.1,
+    ap (λ k. slice_index_or (slice_set front.of_sessions session (slice_index_or front.of_sessions session 0 + 1)) k 0) (sym p.1)
+        ∙ get_or-set_same front.of_sessions session (slice_index_or front.of_sessions session 0 + 1) 0 (omega (arith, small, long)),
+  )
+  | inr p ↦ omega (arith, covered s few, get_or-set_other front.of_sessions session s (slice_index_or front.of_sessions session 0 + 1) 0 (λ same. p.1 (sym same)))
+]
+
+-- what is covered stays so
+pub covered_later : (old new : List LogEvent) (event : LogEvent) (front : Front) → new ≡ old ++ event ∷ [] → IsCovered (past_of old) front → IsCovered (past_of new) front
+covered_later old new event front log covered session few =
+    subst (λ past. slice_index_or front.of_sessions session 0 ≤ given past session) (sym (ap past_of log ∙ past_of-push old event))
+    (at (event.session == session && is_none (waiting (past_of old) session)))
+  where
+    at : (b : Bool) → slice_index_or front.of_sessions session 0 ≤ cond b 1 0 + given (past_of old) session
+    at true = omega (arith, covered session few)
+    at false = omega (arith, covered session few)
