@@ -11,10 +11,11 @@ use Rattle.std.proofs.lemmas.Bool.{false≢true, and_parts, eqb-true, eq-eqb}
 use Rattle.std.proofs.lemmas.List.{append-nil}
 use Rattle.std.proofs.lemmas.Option.{none-some, same_Some}
 use Rattle.lab_table.specs.Row.{Row, row_cmp}
+use Rattle.lab_table.specs.Statement.{may_match}
 use Rattle.lab_table.proofs.Maps.{both, same_row}
 use Rattle.lab_history.specs.History.{History}
 use Rattle.lab_history.specs.declared.operation.Op.{Op}
-use Rattle.lab_deps.specs.Walked.{may_match, looks_at, walked_in, found_at_row, found_by, rows_of}
+use Rattle.lab_deps.specs.Walked.{looks_at, walked_in, found_at_row, found_by, rows_of}
 use Rattle.lab_deps.specs.Collected.{reading_of}
 use Rattle.lab_deps.specs.declared.versions.Version.{Version}
 use Rattle.lab_deps.proofs.NumberedRows.{other_row, rows_sorted}

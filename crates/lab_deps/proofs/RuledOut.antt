@@ -8,7 +8,7 @@ use Rattle.std.proofs.lemmas.Bool.{false≢true, and_parts}
 use Rattle.lab_table.specs.Row.{Row, row_cmp, row_eq}
 use Rattle.lab_table.specs.Table.{State}
 use Rattle.lab_table.specs.Predicate.{Predicate}
-use Rattle.lab_table.specs.Statement.{where_holds, matches, listed}
+use Rattle.lab_table.specs.Statement.{where_holds, where_may_hold, matches, may_match, listed}
 use Rattle.lab_table.proofs.Maps.{both, find_below, same_row, row_eq_self}
 use Rattle.lab_table.proofs.MayHold.{ruled_out}
 use Rattle.lab_table.specs.declared.statement.Statement.{Statement}
@@ -17,7 +17,6 @@ use Rattle.lab_history.specs.History.{History}
 use Rattle.lab_history.specs.declared.operation.Op.{Op}
 use Rattle.lab_deps.specs.Broken.{is_unlisted}
 use Rattle.lab_deps.specs.Passes.{first_value}
-use Rattle.lab_deps.specs.Walked.{where_may_hold, may_match}
 
 -- what can't be true of a row isn't
 no_where : (pred : Option Predicate) (row : Row) → where_may_hold pred row ≡ false → (value : ℤ) → where_holds pred row value ≡ false

@@ -10,7 +10,7 @@ use Rattle.std.specs.FinMap.{FinMap, find, is_sorted, get, entries, entries_sort
 use Rattle.std.specs.FinMap.Entries.{below_all}
 use Rattle.lab_table.specs.Row.{Row, row_cmp, row_eq, rows_total}
 use Rattle.lab_table.specs.Table.{State, Rows}
-use Rattle.lab_table.specs.Statement.{where_holds, listed, written, fails, overflows, applied, in_range, apply}
+use Rattle.lab_table.specs.Statement.{where_holds, listed, written, fails, overflows, applied, in_range}
 use Rattle.lab_table.specs.Predicate.{Predicate}
 use Rattle.lab_table.specs.declared.statement.Expr.{Expr}
 use Rattle.lab_table.specs.declared.statement.Statement.{Statement}
@@ -19,7 +19,7 @@ use Rattle.lab_table.proofs.Maps.{both, same_row, row_eq_self, find_below}
 use Rattle.lab_history.specs.VersionName.{View, state_value, new_states}
 use Rattle.lab_history.specs.declared.operation.VersionName.{VersionName}
 use Rattle.lab_history.specs.declared.operation.State.{State as Left}
-use Rattle.lab_history.specs.declared.operation.State.TheVariants.{Absent, Present}
+use Rattle.lab_history.specs.declared.operation.State.TheVariants.{Present}
 use Rattle.lab_engine.specs.Log.{Version}
 use Rattle.lab_engine.specs.Rules.{in_view, IsBelow, IsUpdate}
 use Rattle.lab_engine.specs.Sight.{Listed, version_in}
@@ -136,38 +136,43 @@ fits_alike : (new : ℤ) (fits : Bool) → not fits ≡ false → option_map sta
 fits_alike new true h = refl
 fits_alike new false h = absurd (true≢false h)
 
-updated_alike : (expr : Expr) (old : ℤ) (selected : Bool) → overflows expr (cond selected (Some old) None) ≡ false
-    → option_map state_value (cond selected (option_map (λ value. Present value) (apply expr old)) None) ≡ option_map (λ old. Some (applied expr old)) (cond selected (Some old) None)
-updated_alike expr old true h = fits_alike (applied expr old) (in_range (applied expr old)) h
-updated_alike expr old false h = refl
+updated_alike : (expr : Expr) (pred : Option Predicate) (old : ℤ) (selected : Bool) → overflows expr (cond selected (Some old) None) ≡ false
+    → option_map state_value (option_and_then (value_rewritten (Update expr pred)) (cond selected (Some old) None)) ≡ option_map (λ old. Some (applied expr old)) (cond selected (Some old) None)
+updated_alike expr pred old true h = fits_alike (applied expr old) (in_range (applied expr old)) h
+updated_alike expr pred old false h = refl
 
 -- the state of a row that was deleted
 abbrev gone : State
 gone = None
 
-deleted_alike : (old : ℤ) (selected : Bool) → option_map state_value (cond selected (Some Absent) None) ≡ option_map (λ (old : ℤ). gone) (cond selected (Some old) None)
-deleted_alike old true = refl
-deleted_alike old false = refl
+deleted_alike : (pred : Option Predicate) (old : ℤ) (selected : Bool)
+    → option_map state_value (option_and_then (value_rewritten (Delete pred)) (cond selected (Some old) None)) ≡ option_map (λ (old : ℤ). gone) (cond selected (Some old) None)
+deleted_alike pred old true = refl
+deleted_alike pred old false = refl
 
 -- a statement rewrites a row as it writes it, and doesn't write an absent one
 record Rewrites (s : Statement) : Type 0 where
-  present : (q : Row) (old : ℤ) → fails s q (Some old) ≡ false → option_map state_value (value_rewritten s q old) ≡ written s q (Some old)
+  as_written : (q : Row) (state : State) → fails s q state ≡ false → option_map state_value (rewritten s q state) ≡ written s q state
   absent_one : (q : Row) → written s q None ≡ None
 
 update_rewrites : (expr : Expr) (pred : Option Predicate) → Rewrites (Update expr pred)
-update_rewrites expr pred = record { present = λ q old h. updated_alike expr old (where_holds pred q old) h; absent_one = λ q. refl }
+update_rewrites expr pred = record { as_written = alike; absent_one = λ q. refl }
+  where
+    alike : (q : Row) (state : State) → fails (Update expr pred) q state ≡ false → option_map state_value (rewritten (Update expr pred) q state) ≡ written (Update expr pred) q state
+    alike q None h = refl
+    alike q (Some old) h = updated_alike expr pred old (where_holds pred q old) h
 
 delete_rewrites : (pred : Option Predicate) → Rewrites (Delete pred)
-delete_rewrites pred = record { present = λ q old h. deleted_alike old (where_holds pred q old); absent_one = λ q. refl }
-
-rewrites_state : (s : Statement) → Rewrites s → (q : Row) (state : State) → fails s q state ≡ false → option_map state_value (rewritten s q state) ≡ written s q state
-rewrites_state s all q None h = sym (all.absent_one q)
-rewrites_state s all q (Some old) h = all.present q old h
+delete_rewrites pred = record { as_written = alike; absent_one = λ q. refl }
+  where
+    alike : (q : Row) (state : State) → fails (Delete pred) q state ≡ false → option_map state_value (rewritten (Delete pred) q state) ≡ written (Delete pred) q state
+    alike q None h = refl
+    alike q (Some old) h = deleted_alike pred old (where_holds pred q old)
 
 rewrites_seen : (s : Statement) → Rewrites s → (q : Row) (o : Option Version) → fails s q (unwrap_or o absent).state ≡ false
     → option_and_then (λ (v : Version). option_map state_value (rewritten s q v.state)) o ≡ written s q (unwrap_or o absent).state
 rewrites_seen s all q None h = sym (all.absent_one q)
-rewrites_seen s all q (Some v) h = rewrites_state s all q v.state h
+rewrites_seen s all q (Some v) h = all.as_written q v.state h
 
 -- new states as the code has them: sorted, and those that a statement writes of the rows seen, if none of these keeps it from running
 pub record AreWritten (s : Statement) (m : Listed) (items : List (Row × Left)) : Type 0 where

@@ -8,14 +8,14 @@ use Rattle.std.specs.FinMap.{FinMap, find, is_sorted, get, entries, entries_sort
 use Rattle.std.specs.FinMap.Entries.{below_all}
 use Rattle.lab_table.specs.Row.{Row, row_cmp, row_eq}
 use Rattle.lab_table.specs.Table.{Table, State}
-use Rattle.lab_table.specs.Statement.{matches}
+use Rattle.lab_table.specs.Statement.{matches, would_write}
 use Rattle.lab_table.specs.declared.statement.Statement.{Statement}
 use Rattle.lab_table.proofs.Maps.{both, same_row, row_eq_self, find_below}
 use Rattle.lab_history.specs.declared.operation.Op.{Op}
 use Rattle.lab_history.specs.declared.operation.VersionName.TheVariants.{Initial}
 use Rattle.lab_engine.specs.declared.event.Level.{Level}
 use Rattle.lab_engine.specs.Log.{Past, Version, Txn, version_by, has_read}
-use Rattle.lab_engine.specs.Rules.{would_write, HoldsWrite}
+use Rattle.lab_engine.specs.Rules.{HoldsWrite}
 use Rattle.lab_engine.specs.Sight.{Listed, version_in, IsSight}
 use Rattle.lab_engine.specs.Pending.{writes_over}
 use Rattle.lab_engine.proofs.Locks.{none_some, some_same}

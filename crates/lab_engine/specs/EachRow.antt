@@ -1,11 +1,9 @@
 -- What is made of each row that is seen.
-use Rattle.std.specs.Prelude.{ℤ, cond, Option, Some, None, option_map, List, [], ◌∷◌}
+use Rattle.std.specs.Prelude.{ℤ, cond, Option, Some, None, option_map, option_and_then, List, [], ◌∷◌}
 use Rattle.std.specs.List.{filter_map}
 use Rattle.lab_table.specs.Row.{Row}
 use Rattle.lab_table.specs.Table.{State}
-use Rattle.lab_table.specs.Statement.{where_holds, apply, fails}
-use Rattle.lab_table.specs.Predicate.{Predicate}
-use Rattle.lab_table.specs.declared.statement.Expr.{Expr}
+use Rattle.lab_table.specs.Statement.{apply, listed, fails}
 use Rattle.lab_table.specs.declared.statement.Statement.{Statement}
 use Rattle.lab_table.specs.declared.statement.Statement.TheVariants.{Select, Update, Insert, Delete}
 use Rattle.lab_history.specs.declared.operation.State.{State as Left}
@@ -20,25 +18,16 @@ with_row row made = option_map (λ b. (row, b)) made
 abbrev pub each_row : {A B : Type 0} → (Row → A → Option B) → List (Row × A) → List (Row × B)
 each_row f entries = filter_map (λ entry. with_row entry.0 (f entry.0 entry.1)) entries
 
--- the state that an update gives a row that has this value, if it writes it; nothing where the result is out of range
-abbrev pub value_updated : Expr → Option Predicate → Row → ℤ → Option Left
-value_updated expr pred row old = cond (where_holds pred row old) (option_map (λ value. Present value) (apply expr old)) None
+-- the state that a statement gives a row that it lists with this value; nothing where the result is out of range
+abbrev pub value_rewritten : Statement → ℤ → Option Left
+value_rewritten (Select pred) old = None
+value_rewritten (Update expr pred) old = option_map (λ value. Present value) (apply expr old)
+value_rewritten (Insert id new) old = None
+value_rewritten (Delete pred) old = Some Absent
 
--- the state that a delete gives it, if it writes it
-abbrev pub value_deleted : Option Predicate → Row → ℤ → Option Left
-value_deleted pred row old = cond (where_holds pred row old) (Some Absent) None
-
--- the state that a statement gives it; what an insert writes isn't made of a row that is seen
-abbrev pub value_rewritten : Statement → Row → ℤ → Option Left
-value_rewritten (Select pred) row old = None
-value_rewritten (Update expr pred) row old = value_updated expr pred row old
-value_rewritten (Insert id new) row old = None
-value_rewritten (Delete pred) row old = value_deleted pred row old
-
--- the same of a row in this state; an absent one isn't written
+-- the state that it gives a row that it sees in this state; what an insert writes isn't made of a row that is seen
 abbrev pub rewritten : Statement → Row → State → Option Left
-rewritten s row None = None
-rewritten s row (Some old) = value_rewritten s row old
+rewritten s row state = option_and_then (value_rewritten s) (listed s row state)
 
 -- the first row that keeps a statement from running
 abbrev pub first_failing : Statement → List (Row × Version) → Option Row

@@ -2,9 +2,9 @@
 use Rattle.std.specs.Prelude.{Bool}
 use Rattle.std.specs.List.{list_any}
 use Rattle.std.specs.FinMap as map
+use Rattle.lab_table.specs.Statement.{would_write}
 use Rattle.lab_table.specs.declared.statement.Statement.{Statement}
 use Rattle.lab_engine.specs.Sight.{Listed, version_in}
-use Rattle.lab_engine.specs.Rules.{would_write}
 
 -- whether a statement that sees these versions would write a row of which there is a pending version
 abbrev pub writes_over : Listed → Statement → Listed → Bool

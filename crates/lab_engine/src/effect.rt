@@ -13,7 +13,6 @@ ghost use Rattle.lab_engine.specs.EachRow as made;
 ghost use Rattle.lab_engine.specs.Effect.{IsEffectOn, IsEffectFault};
 ghost use Rattle.lab_engine.specs.declared.effect.EffectFault.TheVariants.{NoMemory};
 
-use crate::on_row::{fails_at, listed_value, rewritten_state};
 use crate::pending::version_seen;
 use crate::version::{Version, Versions};
 use lab_history::{Rows, State, VersionName, View, Writes};
@@ -81,7 +80,7 @@ fn view_of(alloc: Global, seen: &Versions) -> Result<View, NoMemory>
 fn value_at(statement: &Statement, entry: &(RowId, Version)) -> Option<(RowId, Value)>
     ensures { result ≡ with_row entry.now.0 (listed statement.now entry.now.0 entry.now.1.state) }
 {
-    let value = listed_value(statement, entry.0, entry.1.state)?;
+    let value = statement.listed(entry.0, entry.1.state)?;
     Some((entry.0, value))
 }
 
@@ -105,10 +104,27 @@ fn rows_of(alloc: Global, statement: &Statement, seen: &Versions) -> Result<Rows
     Ok(Rows::new(values(alloc, statement, seen.entries())?))
 }
 
+/// The new state of a row that a statement lists with this value, if it writes what it lists.
+/// Nothing where the result is out of range.
+fn rewritten_value(statement: &Statement, value: Value) -> Option<State>
+    ensures { result ≡ made.value_rewritten statement.now value }
+{
+    match statement {
+        Statement::Select { .. } => None,
+        Statement::Update { expr, .. } => {
+            let value = expr.apply(value)?;
+            Some(State::Present(value))
+        }
+        Statement::Insert { .. } => None,
+        Statement::Delete { .. } => Some(State::Absent),
+    }
+}
+
 fn state_at(statement: &Statement, entry: &(RowId, Version)) -> Option<(RowId, State)>
     ensures { result ≡ with_row entry.now.0 (rewritten statement.now entry.now.0 entry.now.1.state) }
 {
-    let state = rewritten_state(statement, entry.0, entry.1.state)?;
+    let value = statement.listed(entry.0, entry.1.state)?;
+    let state = rewritten_value(statement, value)?;
     Some((entry.0, state))
 }
 
@@ -163,7 +179,7 @@ fn first_failing(statement: &Statement, entries: &[(RowId, Version)]) -> Option<
     ensures { result ≡ made.first_failing statement.now entries.now }
 {
     for entry in entries {
-        if fails_at(statement, entry.0, entry.1.state) {
+        if statement.fails_at(entry.0, entry.1.state) {
             return Some(entry.0);
         }
     }

@@ -4,7 +4,6 @@ ghost use Rattle.std.specs.Prelude.{◌≡◌};
 ghost use Rattle.lab_engine.specs.Sight.{version_in};
 ghost use Rattle.lab_engine.specs.Pending.{writes_over};
 
-use crate::on_row::would_write;
 use crate::situation::RunningTxn;
 use crate::version::{Version, Versions};
 use lab_history::VersionName;
@@ -27,8 +26,7 @@ pub fn version_seen(seen: &Versions, row: RowId) -> Version
 pub fn holds_write(seen: &Versions, statement: &Statement, holder: &RunningTxn) -> bool
     ensures { result ≡ writes_over seen.now statement.now holder.now.last }
 {
-    holder.last.entries().iter().any(|entry| would_write(
-        statement,
+    holder.last.entries().iter().any(|entry| statement.would_write(
         entry.0,
         version_seen(seen, entry.0).state,
     ))

@@ -5,13 +5,13 @@ use Rattle.std.proofs.lemmas.Bool.{and_parts, and_from, true≢false}
 use Rattle.std.specs.FinMap.{get}
 use Rattle.lab_table.specs.Row.{Row, row_eq}
 use Rattle.lab_table.specs.Table.{Table, State}
-use Rattle.lab_table.specs.Statement.{matches}
+use Rattle.lab_table.specs.Statement.{matches, would_write, new_state}
 use Rattle.lab_table.specs.declared.statement.Statement.{Statement}
 use Rattle.lab_table.specs.declared.statement.Statement.TheVariants.{Select, Update, Insert, Delete}
 use Rattle.lab_table.proofs.Maps.{same_row}
 use Rattle.lab_engine.specs.declared.event.Level.{Level}
 use Rattle.lab_engine.specs.Log.{Past, Version, Txn, commits, version_by, last_installed, initial_version, committed_version, seen, has_read}
-use Rattle.lab_engine.specs.Rules.{would_write, new_state, HoldsMatch, HasRead}
+use Rattle.lab_engine.specs.Rules.{HoldsMatch, HasRead}
 use Rattle.lab_engine.specs.Sight.{Listed, version_in, IsSight}
 use Rattle.lab_engine.proofs.Holding.{absent, found_of_any, none_of_any, any_read}
 use Rattle.lab_locking.specs.Blockers.{committed_state, matches_pending, row_was_read, listed_was_read, was_read}

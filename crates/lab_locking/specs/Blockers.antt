@@ -4,11 +4,10 @@ use Rattle.std.specs.List.{list_any}
 use Rattle.std.specs.FinMap as map
 use Rattle.lab_table.specs.Row.{Row}
 use Rattle.lab_table.specs.Table.{Table, State}
-use Rattle.lab_table.specs.Statement.{matches}
+use Rattle.lab_table.specs.Statement.{matches, would_write, new_state}
 use Rattle.lab_table.specs.declared.statement.Statement.{Statement}
 use Rattle.lab_table.specs.declared.statement.Statement.TheVariants.{Select, Update, Insert, Delete}
 use Rattle.lab_engine.specs.Log.{Version}
-use Rattle.lab_engine.specs.Rules.{would_write, new_state}
 use Rattle.lab_engine.specs.Sight.{Listed, version_in}
 
 -- the committed state of a row: as last installed, else as the setup has it

@@ -2,11 +2,10 @@
 
 ghost use Rattle.std.specs.Prelude.{◌≡◌};
 ghost use Rattle.std.specs.FinMap as map;
-ghost use Rattle.lab_engine.specs.Rules as rules;
 ghost use Rattle.lab_engine.specs.Situation.{statements_of};
 ghost use Rattle.lab_locking.specs.Blockers as spec;
 
-use lab_engine::{RunningTxn, Version, Versions, matches_row, version_seen, would_write};
+use lab_engine::{RunningTxn, Version, Versions, version_seen};
 use lab_table::{RowId, Statement, Table, Value};
 
 fn committed_state(setup: &Table, committed: &Versions, row: RowId) -> Option<Value>
@@ -28,48 +27,23 @@ pub fn holds_match(
     ensures { result ≡ spec.matches_pending setup.now committed.now statement.now holder.now.last }
 {
     holder.last.entries().iter().any(|entry| {
-        matches_row(
-            statement,
-            entry.0,
-            committed_state(setup, committed, entry.0),
-        ) || matches_row(statement, entry.0, entry.1.state)
+        statement.matches(entry.0, committed_state(setup, committed, entry.0))
+            || statement.matches(entry.0, entry.1.state)
     })
-}
-
-/// The state that a statement would leave of a row that it sees in this state; a result out of range is none.
-fn state_left(statement: &Statement, row: RowId, state: Option<Value>) -> Option<Value>
-    ensures { result ≡ rules.new_state statement.now row state }
-{
-    match statement {
-        Statement::Select { .. } => None,
-        Statement::Update { expr, .. } => {
-            let Some(value) = state else {
-                return None;
-            };
-            if matches_row(statement, row, Some(value)) {
-                expr.apply(value)
-            } else {
-                None
-            }
-        }
-        Statement::Insert { id, value } => { if row == *id { Some(*value) } else { None } }
-        Statement::Delete { .. } => None,
-    }
 }
 
 fn any_matches(ran: &[Statement], row: RowId, state: &Option<Value>) -> bool
     ensures { result ≡ spec.any_matches ran.now row state.now }
 {
-    ran.iter()
-        .any(|statement| matches_row(statement, row, *state))
+    ran.iter().any(|statement| statement.matches(row, *state))
 }
 
 fn row_was_read(ran: &[Statement], statement: &Statement, row: RowId, version: &Version) -> bool
     ensures { result ≡ spec.row_was_read ran.now statement.now row version.now.state }
 {
-    would_write(statement, row, version.state)
+    statement.would_write(row, version.state)
         && (any_matches(ran, row, &version.state)
-            || any_matches(ran, row, &state_left(statement, row, version.state)))
+            || any_matches(ran, row, &statement.new_state(row, version.state)))
 }
 
 fn listed_was_read(ran: &[Statement], statement: &Statement, seen: &Versions) -> bool

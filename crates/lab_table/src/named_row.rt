@@ -1,0 +1,79 @@
+//! The one row that a statement may match, where it names it by its number.
+
+ghost use Rattle.std.specs.Prelude.{◌≡◌, pos, true, IfSome};
+ghost use Rattle.lab_table.specs.Row.{Row};
+ghost use Rattle.lab_table.specs.Predicate.{Compare, may_hold};
+ghost use Rattle.lab_table.specs.Statement.{where_may_hold};
+
+use crate::number::{RowId, Value};
+use crate::predicate::{Cmp, Col, Pred, PredKind};
+use crate::statement::Statement;
+
+impl Statement {
+    ghost use Rattle.std.specs.Prelude.{◌≡◌, true, IfSome};
+    ghost use Rattle.lab_table.specs.Row.{Row};
+    ghost use Rattle.lab_table.specs.Statement.{may_match};
+
+    /// A row such that no other may match the statement, where the statement names one: the row of an insert, or that
+    /// of `id = 3`, also as a part of an `and`.
+    pub fn named_row(&self) -> Option<RowId>
+        ensures { IfSome result (λ row. (other : Row) → may_match self.now other ≡ true → other ≡ row) }
+    {
+        match self {
+            Statement::Select { pred } => where_row(pred),
+            Statement::Update { pred, .. } => where_row(pred),
+            Statement::Insert { id, .. } => Some(*id),
+            Statement::Delete { pred } => where_row(pred),
+        }
+    }
+}
+
+/// A row such that what stands behind `where` may be true of no other.
+fn where_row(pred: &Option<Pred>) -> Option<RowId>
+    ensures { IfSome result (λ row. (other : Row) → where_may_hold pred.now other ≡ true → other ≡ row) }
+{
+    match pred {
+        None => None,
+        Some(pred) => pred_row(pred),
+    }
+}
+
+/// A row such that a condition may be true of no other, where the condition or a part of an `and` is `id = n`.
+fn pred_row(pred: &Pred) -> Option<RowId>
+    ensures { IfSome result (λ row. (other : Row) → may_hold pred.now other ≡ true → other ≡ row) }
+{
+    match &pred.kind {
+        PredKind::Compare { col, cmp, number } => compared_row(*col, *cmp, *number),
+        PredKind::Remainder { .. } => None,
+        PredKind::OneOf { .. } => None,
+        PredKind::Not(_) => None,
+        PredKind::And(p, q) => match pred_row(p) {
+            Some(row) => Some(row),
+            None => pred_row(q),
+        },
+        PredKind::Or(_, _) => None,
+    }
+}
+
+/// The row of this number, where the comparison is with the row's own number.
+fn compared_row(col: Col, cmp: Cmp, number: Value) -> Option<RowId>
+    ensures { IfSome result (λ row. (other : Row) → may_hold (Compare col cmp number) other ≡ true → other ≡ row) }
+{
+    match col {
+        Col::Value => None,
+        Col::Id => match cmp {
+            Cmp::Eq => numbered_row(number),
+            _ => None,
+        },
+    }
+}
+
+/// The row of this number, if there can be one.
+fn numbered_row(number: Value) -> Option<RowId>
+    ensures { IfSome result (λ row. pos row ≡ number) }
+{
+    match u32::try_from(number.number()) {
+        Ok(id) => RowId::new(id),
+        Err(_) => None,
+    }
+}
