@@ -4,9 +4,13 @@
 #[cfg(test)]
 mod again;
 #[cfg(test)]
+mod closes;
+#[cfg(test)]
 mod goes_on;
 #[cfg(test)]
 mod meeting;
+#[cfg(test)]
+mod plain_close;
 #[cfg(test)]
 mod plain_recording;
 #[cfg(test)]
