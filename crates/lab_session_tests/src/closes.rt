@@ -246,6 +246,14 @@ fn end_by_both<R: Wait, E: Engine + Drop>(
     })
 }
 
+/// The table that a lab begins with.
+fn start(alloc: Global, script: &Script, other: &Script, spoil: Spoil) -> Option<Table> {
+    match spoil {
+        Spoil::OtherValue => other.setup.copy(alloc).ok(),
+        _ => script.setup.copy(alloc).ok(),
+    }
+}
+
 /// The same on the engine that a number names.
 fn both_on<R: Wait>(
     rt: &R,
@@ -258,12 +266,8 @@ fn both_on<R: Wait>(
     let script = parse_script(alloc, text).ok()?;
     let other = parse_script(alloc, OTHER).ok()?;
     let of_bench = script.setup.copy(alloc).ok()?;
-    let start = match spoil {
-        Spoil::OtherValue => &other.setup,
-        _ => &script.setup,
-    };
-    let of_lab = start.copy(alloc).ok()?;
-    let of_shadow = start.copy(alloc).ok()?;
+    let of_lab = start(alloc, &script, &other, spoil)?;
+    let of_shadow = start(alloc, &script, &other, spoil)?;
     match number {
         0 => {
             let bench = benched(alloc, LockEngine::new(alloc, of_bench), &script)?;
