@@ -8,12 +8,9 @@ ghost use Rattle.lab_session.specs.Closing.{seats_of, AgreeOf, DifferAt};
 ghost use Rattle.lab_session.specs.Compared.{Fits, Says};
 
 use crate::same::{same_commands, same_outcomes};
-use crate::seat::{Call, Seat, is_answered};
+use crate::seat::{Call, SESSIONS, Seat, is_answered};
 use lab_engine::LogEvent;
 use lab_table::Session;
-
-/// One more than the greatest number of a session.
-const SESSIONS: usize = 10;
 
 /// How far the list of a session's seat is its session's calls in the events of a log that were walked.
 #[derive(Clone, Copy)]
