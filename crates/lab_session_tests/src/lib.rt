@@ -4,9 +4,17 @@
 #[cfg(test)]
 mod again;
 #[cfg(test)]
+mod alike;
+#[cfg(test)]
+mod engines;
+#[cfg(test)]
+mod full;
+#[cfg(test)]
 mod goes_on;
 #[cfg(test)]
 mod meeting;
+#[cfg(test)]
+mod plain;
 #[cfg(test)]
 mod plain_recording;
 #[cfg(test)]
