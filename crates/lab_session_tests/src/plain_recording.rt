@@ -23,7 +23,7 @@ fn active(past: &[LogEvent], session: Session) -> Option<TxnNo> {
     number
 }
 
-fn ends(fault: &EngineFault) -> bool {
+pub fn ends(fault: &EngineFault) -> bool {
     !matches!(
         fault,
         EngineFault::NoTransaction | EngineFault::AlreadyBegun | EngineFault::Busy

@@ -45,7 +45,7 @@ fn made_script(alloc: Global, seed: u32) -> Result<Vec<u8>, NoMemory> {
 }
 
 /// Whether two histories have one text.
-fn same_text(alloc: Global, a: &History, b: &History) -> Option<bool> {
+pub fn same_text(alloc: Global, a: &History, b: &History) -> Option<bool> {
     let one = write_history(alloc, a).ok()?;
     let other = write_history(alloc, b).ok()?;
     Some(one.as_slice() == other.as_slice())

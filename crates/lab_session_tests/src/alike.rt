@@ -1,0 +1,82 @@
+//! Whether two engines answered the same.
+
+use lab_engine::{EngineFault, LogEvent, Outcome};
+use lab_script::print_statement;
+use lab_table::{Command, Statement};
+use std::alloc::Global;
+
+fn alike_faults(a: &EngineFault, b: &EngineFault) -> bool {
+    match (a, b) {
+        (EngineFault::DuplicateKey { id }, EngineFault::DuplicateKey { id: other }) => id == other,
+        (EngineFault::OutOfRange { id }, EngineFault::OutOfRange { id: other }) => id == other,
+        (EngineFault::Deadlock { circle }, EngineFault::Deadlock { circle: other }) => {
+            circle.as_slice() == other.as_slice()
+        }
+        (
+            EngineFault::WriteConflict { row, by },
+            EngineFault::WriteConflict {
+                row: other,
+                by: other_by,
+            },
+        ) => row == other && by == other_by,
+        (EngineFault::NoTransaction, EngineFault::NoTransaction) => true,
+        (EngineFault::AlreadyBegun, EngineFault::AlreadyBegun) => true,
+        (EngineFault::Busy, EngineFault::Busy) => true,
+        _ => false,
+    }
+}
+
+pub fn alike_outcomes(a: &Outcome, b: &Outcome) -> bool {
+    match (a, b) {
+        (Outcome::Begun(number), Outcome::Begun(other)) => number == other,
+        (
+            Outcome::Rows { view, rows, writes },
+            Outcome::Rows {
+                view: other_view,
+                rows: other_rows,
+                writes: other_writes,
+            },
+        ) => {
+            view.entries() == other_view.entries()
+                && rows.entries() == other_rows.entries()
+                && writes.entries() == other_writes.entries()
+        }
+        (Outcome::Committed, Outcome::Committed) => true,
+        (Outcome::Aborted, Outcome::Aborted) => true,
+        (Outcome::Waits { on }, Outcome::Waits { on: other }) => on.as_slice() == other.as_slice(),
+        (Outcome::Refused(fault), Outcome::Refused(other)) => alike_faults(fault, other),
+        _ => false,
+    }
+}
+
+/// Whether two statements have one text. None where memory is refused.
+fn alike_statements(alloc: Global, a: &Statement, b: &Statement) -> Option<bool> {
+    let text = print_statement(alloc, a).ok()?;
+    Some(text == print_statement(alloc, b).ok()?)
+}
+
+fn alike_commands(alloc: Global, a: &Command, b: &Command) -> Option<bool> {
+    match (a, b) {
+        (Command::Run(statement), Command::Run(other)) => alike_statements(alloc, statement, other),
+        (Command::Begin, Command::Begin) => Some(true),
+        (Command::Commit, Command::Commit) => Some(true),
+        (Command::Abort, Command::Abort) => Some(true),
+        _ => Some(false),
+    }
+}
+
+/// Whether two logs have the same events. None where memory is refused.
+pub fn alike_logs(alloc: Global, a: &[LogEvent], b: &[LogEvent]) -> Option<bool> {
+    if a.len() != b.len() {
+        return Some(false);
+    }
+    for (event, other) in a.iter().zip(b) {
+        if event.session != other.session
+            || !alike_commands(alloc, &event.command, &other.command)?
+            || !alike_outcomes(&event.outcome, &other.outcome)
+        {
+            return Some(false);
+        }
+    }
+    Some(true)
+}

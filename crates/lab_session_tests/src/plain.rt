@@ -1,0 +1,102 @@
+//! A plain engine: what the rules of a level answer, from the setup and the log alone. It keeps nothing else, and looks
+//! through the log anew at each question. Its calls answer None where memory is refused.
+
+mod circles;
+mod running;
+mod statements;
+mod transactions;
+mod versions;
+mod waits;
+
+use lab_engine::{EngineFault, Level, LogEvent, Outcome};
+use lab_table::{Command, RowId, Session, Statement, Table, TxnNo};
+use std::alloc::Global;
+use transactions::{Txn, active, next_number, waiting};
+
+/// An engine at a level. The rows are all that a statement names or finds, and rise.
+#[derive(Drop)]
+pub struct PlainEngine {
+    pub level: Level,
+    pub setup: Table,
+    pub rows: Vec<RowId>,
+    pub log: Vec<LogEvent>,
+}
+
+impl PlainEngine {
+    /// An engine that has done nothing yet, on this table. Each row has a number below this one.
+    pub fn new(alloc: Global, level: Level, setup: Table, below: u32) -> Option<PlainEngine> {
+        let mut rows = Vec::new(alloc);
+        for id in 1..below {
+            rows.push(RowId::new(id)?).ok()?;
+        }
+        Some(PlainEngine {
+            level,
+            setup,
+            rows,
+            log: Vec::new(alloc),
+        })
+    }
+
+    /// Runs a command of a session, and logs the answer.
+    pub fn step(&mut self, alloc: Global, session: Session, command: &Command) -> Option<Outcome> {
+        let outcome = if waiting(&self.log, session).is_some() {
+            Outcome::Refused(EngineFault::Busy)
+        } else {
+            self.answer(alloc, session, command)?
+        };
+        self.note(alloc, session, command.copy(alloc).ok()?, outcome)
+    }
+
+    /// Runs the waiting statement of a session anew, and logs the answer.
+    pub fn retry(&mut self, alloc: Global, session: Session) -> Option<Outcome> {
+        let command = Command::Run(waiting(&self.log, session)?.copy(alloc).ok()?);
+        let outcome = self.answer(alloc, session, &command)?;
+        self.note(alloc, session, command, outcome)
+    }
+
+    fn note(
+        &mut self,
+        alloc: Global,
+        session: Session,
+        command: Command,
+        outcome: Outcome,
+    ) -> Option<Outcome> {
+        let answer = outcome.copy(alloc).ok()?;
+        self.log
+            .push(LogEvent {
+                session,
+                command,
+                outcome,
+            })
+            .ok()?;
+        Some(answer)
+    }
+
+    /// What the rules answer to a command of a session that doesn't wait, or waits with this command.
+    fn answer(&self, alloc: Global, session: Session, command: &Command) -> Option<Outcome> {
+        let Some(txn) = active(&self.log, session) else {
+            return match command {
+                Command::Begin => Some(Outcome::Begun(TxnNo::new(next_number(&self.log))?)),
+                _ => Some(Outcome::Refused(EngineFault::NoTransaction)),
+            };
+        };
+        match command {
+            Command::Begin => Some(Outcome::Refused(EngineFault::AlreadyBegun)),
+            Command::Commit => Some(self.commit(&txn)),
+            Command::Abort => Some(Outcome::Aborted),
+            Command::Run(statement) => self.run(alloc, &txn, statement),
+        }
+    }
+
+    /// At snapshot a commit is refused at the least row that another transaction installed since the begin.
+    fn commit(&self, txn: &Txn<'_>) -> Outcome {
+        if self.level == Level::Snapshot {
+            for row in &self.rows {
+                if let Some(by) = self.overtaken_by(txn, *row) {
+                    return Outcome::Refused(EngineFault::WriteConflict { row: *row, by });
+                }
+            }
+        }
+        Outcome::Committed
+    }
+}

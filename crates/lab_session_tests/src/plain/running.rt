@@ -1,0 +1,76 @@
+//! What a statement answers that nobody blocks: the table that its transaction sees runs it.
+
+use crate::plain::PlainEngine;
+use crate::plain::statements::would_write;
+use crate::plain::transactions::Txn;
+use crate::plain::versions::state_of;
+use lab_engine::{EngineFault, Outcome};
+use lab_history::{Rows, State, VersionName, View, Writes};
+use lab_table::{Statement, Table, TableFault};
+use std::alloc::Global;
+
+impl PlainEngine {
+    /// The table that a transaction sees.
+    fn table_seen(&self, alloc: Global, txn: &Txn<'_>) -> Option<Table> {
+        let mut table = Table::new(alloc);
+        for row in &self.rows {
+            if let State::Present(value) = self.seen(txn, *row).state {
+                table.add(alloc, *row, value).ok()?;
+            }
+        }
+        Some(table)
+    }
+
+    /// The versions that a transaction sees, but for the initial ones.
+    fn view(&self, alloc: Global, txn: &Txn<'_>) -> Option<View> {
+        let mut entries = Vec::new(alloc);
+        for row in &self.rows {
+            let name = self.seen(txn, *row).name;
+            if name != VersionName::Initial {
+                entries.push((*row, name)).ok()?;
+            }
+        }
+        View::from_entries(entries).ok()
+    }
+
+    /// What a statement leaves of each row that it writes, of a table that has run it.
+    fn writes(
+        &self,
+        alloc: Global,
+        txn: &Txn<'_>,
+        statement: &Statement,
+        after: &Table,
+    ) -> Option<Writes> {
+        let mut entries = Vec::new(alloc);
+        for row in &self.rows {
+            if would_write(statement, *row, self.seen(txn, *row).state) {
+                entries.push((*row, state_of(after.get(*row)))).ok()?;
+            }
+        }
+        Writes::from_entries(entries).ok()
+    }
+
+    /// The answer to a statement that nobody blocks.
+    pub fn unblocked(
+        &self,
+        alloc: Global,
+        txn: &Txn<'_>,
+        statement: &Statement,
+    ) -> Option<Outcome> {
+        let mut table = self.table_seen(alloc, txn)?;
+        match table.run(alloc, statement) {
+            Ok(rows) => Some(Outcome::Rows {
+                view: self.view(alloc, txn)?,
+                rows: Rows::from_entries(rows).ok()?,
+                writes: self.writes(alloc, txn, statement, &table)?,
+            }),
+            Err(TableFault::NoMemory) => None,
+            Err(TableFault::DuplicateKey { id }) => {
+                Some(Outcome::Refused(EngineFault::DuplicateKey { id }))
+            }
+            Err(TableFault::OutOfRange { id }) => {
+                Some(Outcome::Refused(EngineFault::OutOfRange { id }))
+            }
+        }
+    }
+}

@@ -1,0 +1,87 @@
+//! Which version of a row a transaction sees.
+
+use crate::plain::PlainEngine;
+use crate::plain::transactions::{Txn, committed_by};
+use lab_engine::{Level, LogEvent, Outcome};
+use lab_history::{State, VersionName};
+use lab_table::{RowId, Table, TxnNo, Value};
+
+/// A version of a row: its name, and what the row is in it.
+#[derive(Clone, Copy)]
+pub struct Version {
+    pub name: VersionName,
+    pub state: State,
+}
+
+pub fn state_of(value: Option<Value>) -> State {
+    match value {
+        Some(value) => State::Present(value),
+        None => State::Absent,
+    }
+}
+
+/// The version of a row that a transaction wrote last, if it wrote the row. Its operations are counted from 1.
+pub fn last_written(txn: &Txn<'_>, row: RowId) -> Option<Version> {
+    let mut last = None;
+    let mut op = 0u32;
+    for event in txn.since {
+        if event.session == txn.session {
+            if let Outcome::Rows { writes, .. } = &event.outcome {
+                op = op.wrapping_add(1);
+                if let Some(state) = writes.get(row) {
+                    let name = VersionName::Of {
+                        txn: txn.number,
+                        op,
+                    };
+                    last = Some(Version { name, state });
+                }
+            }
+        }
+    }
+    last
+}
+
+/// The committed version of a row after these events: what the last commit of a transaction that wrote the row installed,
+/// else as the setup has the row.
+pub fn committed(setup: &Table, log: &[LogEvent], row: RowId) -> Version {
+    for (place, event) in log.iter().enumerate().rev() {
+        if let Some(txn) = committed_by(&log[..place], event) {
+            if let Some(version) = last_written(&txn, row) {
+                return version;
+            }
+        }
+    }
+    Version {
+        name: VersionName::Initial,
+        state: state_of(setup.get(row)),
+    }
+}
+
+impl PlainEngine {
+    /// The version of a row that a transaction sees: its own last one, else the one committed by now, or at snapshot at
+    /// its begin.
+    pub fn seen(&self, txn: &Txn<'_>, row: RowId) -> Version {
+        if let Some(own) = last_written(txn, row) {
+            return own;
+        }
+        match self.level {
+            Level::Locking | Level::Committed => committed(&self.setup, &self.log, row),
+            Level::Snapshot => committed(&self.setup, txn.before, row),
+        }
+    }
+
+    /// The first transaction to install a row since the begin of one that wrote it.
+    pub fn overtaken_by(&self, txn: &Txn<'_>, row: RowId) -> Option<TxnNo> {
+        last_written(txn, row)?;
+        for (place, event) in self.log.iter().enumerate() {
+            if place >= txn.before.len() {
+                if let Some(other) = committed_by(&self.log[..place], event) {
+                    if last_written(&other, row).is_some() {
+                        return Some(other.number);
+                    }
+                }
+            }
+        }
+        None
+    }
+}
