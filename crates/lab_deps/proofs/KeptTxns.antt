@@ -2,21 +2,20 @@
 use Rattle.std.proofs.Common.{◌≡◌, ℕ, zero, suc, ◌<◌, ◌≤◌, ◌==◌, true, false, cond, Some, List, [], ◌∷◌, length, length-append, get_or, refl, sym, ap, ◌∙◌, map, arith}
 use Rattle.std.specs.Prelude.{slice_get}
 use Rattle.std.specs.List.{list_any}
-use Rattle.std.proofs.lemmas.Bool.{false≢true, eqb-true, eq-eqb}
+use Rattle.std.proofs.lemmas.Bool.{false≢true, eqb-true, eq-eqb, or_parts}
 use Rattle.std.proofs.lemmas.Option.{none-some, same_Some}
 use Rattle.lab_history.specs.History.{History}
 use Rattle.lab_history.specs.Kept.{AllDistinct, Keeps, operations}
 use Rattle.lab_history.specs.Version.{find_txn}
 use Rattle.lab_history.specs.declared.transaction.Txn.{Txn}
 use Rattle.lab_deps.specs.Passes.{IsTxnOf}
-use Rattle.lab_deps.proofs.Writers.{both_false}
 
 -- a number that none of some transactions has isn't that of one of them
 other_number : (n : ℕ) (ts : List Txn) (i : ℕ) (t : Txn) → list_any (λ m. m == n) (map (λ t. t.no) ts) ≡ false → slice_get ts i ≡ Some t → (t.no ≡ n) → ⊥
 other_number n [] i t none g e = none-some t g
 other_number n (u ∷ ts) zero t none g e =
-    false≢true (sym (both_false (u.no == n) (list_any (λ m. m == n) (map (λ t. t.no) ts)) none).0 ∙ eq-eqb u.no n (ap (λ x. x.no) (same_Some u t g) ∙ e))
-other_number n (u ∷ ts) (suc i) t none g e = other_number n ts i t (both_false (u.no == n) (list_any (λ m. m == n) (map (λ t. t.no) ts)) none).1 g e
+    false≢true (sym (or_parts (u.no == n) (list_any (λ m. m == n) (map (λ t. t.no) ts)) none).0 ∙ eq-eqb u.no n (ap (λ x. x.no) (same_Some u t g) ∙ e))
+other_number n (u ∷ ts) (suc i) t none g e = other_number n ts i t (or_parts (u.no == n) (list_any (λ m. m == n) (map (λ t. t.no) ts)) none).1 g e
 
 found_at : (ts : List Txn) (i : ℕ) (t : Txn) → AllDistinct (map (λ t. t.no) ts) → slice_get ts i ≡ Some t → find_txn ts t.no ≡ Some t
 found_at [] i t distinct g = absurd (none-some t g)

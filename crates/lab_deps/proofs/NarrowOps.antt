@@ -12,7 +12,8 @@ use Rattle.std.proofs.lemmas.List.{append-nil}
 use Rattle.std.proofs.lemmas.Option.{none-some, same_Some}
 use Rattle.lab_table.specs.Row.{Row, row_cmp}
 use Rattle.lab_table.specs.Statement.{may_match}
-use Rattle.lab_table.proofs.Maps.{both, same_row}
+use Rattle.lab_table.proofs.Maps.{same_row}
+use Rattle.lab_table.proofs.Tests.{both}
 use Rattle.lab_history.specs.History.{History}
 use Rattle.lab_history.specs.declared.operation.Op.{Op}
 use Rattle.lab_deps.specs.Walked.{looks_at, walked_in, found_at_row, found_by, rows_of}

@@ -9,10 +9,11 @@ use Rattle.lab_table.specs.Row.{Row, row_cmp, row_eq}
 use Rattle.lab_table.specs.Table.{State}
 use Rattle.lab_table.specs.Predicate.{Predicate}
 use Rattle.lab_table.specs.Statement.{where_holds, where_may_hold, matches, may_match, listed}
-use Rattle.lab_table.proofs.Maps.{both, find_below, same_row, row_eq_self}
+use Rattle.lab_table.proofs.Maps.{find_below, same_row, row_eq_self}
 use Rattle.lab_table.proofs.MayHold.{ruled_out}
 use Rattle.lab_table.specs.declared.statement.Statement.{Statement}
 use Rattle.lab_table.specs.declared.statement.Statement.TheVariants.{Select, Update, Insert, Delete}
+use Rattle.lab_table.proofs.Tests.{both}
 use Rattle.lab_history.specs.History.{History}
 use Rattle.lab_history.specs.declared.operation.Op.{Op}
 use Rattle.lab_deps.specs.Broken.{is_unlisted}

@@ -1,12 +1,9 @@
 -- Lists that have the same members.
-use Rattle.std.proofs.Common.{◌≡◌, List, ◌++◌, inl, inr, sym, subst}
+use Rattle.std.proofs.Common.{◌≡◌, List, ◌++◌, inl, inr, subst}
 use Rattle.std.specs.Prelude.{Contains}
 use Rattle.std.proofs.lemmas.List.Elements.{Contains-append_left, Contains-append_right, Contains-append_cases}
 use Rattle.lab_deps.specs.declared.edge.Edge.{Edge}
 use Rattle.lab_deps.specs.Walked.{HasMembersOf}
-
-pub equal_members : (es fs : List Edge) → es ≡ fs → HasMembersOf es fs
-equal_members es fs same e = (λ h. subst (λ xs. Contains xs e) same h, λ h. subst (λ xs. Contains xs e) (sym same) h)
 
 pub members_of : (es fs gs : List Edge) → HasMembersOf es fs → fs ≡ gs → HasMembersOf es gs
 members_of es fs gs has same = subst (HasMembersOf es) same has

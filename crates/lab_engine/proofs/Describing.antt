@@ -158,12 +158,6 @@ running_txn past situation is session running kept = kept_txn (active past sessi
 pub running_none : (past : Past) (situation : Situation) → Describes past situation → (session : ℕ) → running_of situation.sessions.items session ≡ None → active past session ≡ None
 running_none past situation is session kept = kept_none (active past session) (subst (λ r. Agree (active past session) r) kept (running_agrees past situation is session))
 
--- an active transaction is kept
-pub txn_running : (past : Past) (situation : Situation) → Describes past situation → (session : ℕ) (txn : Txn) → active past session ≡ Some txn
-    → (running : RunningTxn) × (running_of situation.sessions.items session ≡ Some running) × IsRunning txn running
-txn_running past situation is session txn act =
-    kept_some txn (running_of situation.sessions.items session) (subst (λ t. Agree t (running_of situation.sessions.items session)) act (running_agrees past situation is session))
-
 no_wait : (held : Option Statement) → ¬ IsSome held → held ≡ None
 no_wait None h = refl
 no_wait (Some s) h = absurd (h refl)

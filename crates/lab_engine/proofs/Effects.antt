@@ -1,10 +1,9 @@
 -- What is made of each row that is seen, row by row, and which row keeps a statement from running.
-use Rattle.std.proofs.Common.{◌≡◌, ◌∙◌, refl, sym, ap, subst, ℤ, Bool, true, false, cond, not, ◌&&◌, ◌||◌, T, List, [], ◌∷◌, ◌⊎◌, inl, inr}
+use Rattle.std.proofs.Common.{◌≡◌, ◌∙◌, refl, sym, ap, subst, ℤ, Bool, true, false, cond, not, ◌||◌, T, List, [], ◌∷◌, ◌⊎◌, inl, inr}
 use Rattle.std.specs.Prelude.{Option, Some, None, option_map, option_and_then, unwrap_or}
 use Rattle.std.specs.List.{cons_option, list_any}
 use Rattle.std.specs.Ordering.{is_lt, ordering_reverse}
-use Rattle.std.specs.declared.cmp.Ordering.{Ordering}
-use Rattle.std.specs.declared.cmp.Ordering.TheVariants.{Less, Equal, Greater}
+use Rattle.std.specs.declared.cmp.Ordering.TheVariants.{Less}
 use Rattle.std.proofs.lemmas.Bool.{true≢false}
 use Rattle.std.specs.FinMap.{FinMap, find, is_sorted, get, entries, entries_sorted, get-entries, from_sorted, get-from_sorted}
 use Rattle.std.specs.FinMap.Entries.{below_all}
@@ -15,7 +14,9 @@ use Rattle.lab_table.specs.Predicate.{Predicate}
 use Rattle.lab_table.specs.declared.statement.Expr.{Expr}
 use Rattle.lab_table.specs.declared.statement.Statement.{Statement}
 use Rattle.lab_table.specs.declared.statement.Statement.TheVariants.{Select, Update, Insert, Delete}
-use Rattle.lab_table.proofs.Maps.{both, same_row, row_eq_self, find_below}
+use Rattle.lab_table.proofs.Maps.{same_row, row_eq_self, find_below}
+use Rattle.lab_table.proofs.Tests.{both, joined}
+use Rattle.lab_table.proofs.Orderings.{is_less}
 use Rattle.lab_history.specs.VersionName.{View, state_value, new_states}
 use Rattle.lab_history.specs.declared.operation.VersionName.{VersionName}
 use Rattle.lab_history.specs.declared.operation.State.{State as Left}
@@ -28,11 +29,6 @@ use Rattle.lab_engine.specs.Effect.{IsEffectFault}
 use Rattle.lab_engine.specs.declared.effect.EffectFault.TheVariants.{OutOfRange}
 use Rattle.lab_engine.proofs.Locks.{none_some, some_same}
 use Rattle.lab_engine.proofs.Holding.{absent, none_of_any, behind}
-
--- two tests that hold
-joined : (a b : Bool) → T a → T b → T (a && b)
-joined true b p q = q
-joined false b p q = p
 
 module _ {A B : Type 0} (f : Row → A → Option B) where
   below_each : (x : Row) (es : List (Row × A)) → T (below_all row_cmp x es) → T (below_all row_cmp x (each_row f es))
@@ -210,12 +206,6 @@ none_failing s (e ∷ es) h =
       | true ↦ λ is. none_some _ (sym is)
       | false ↦ λ is. none_failing s es is
     ] h
-
--- a test for less
-is_less : (r : Ordering) → T (is_lt r) → r ≡ Less
-is_less Less h = refl
-is_less Equal h = absurd h
-is_less Greater h = absurd h
 
 -- a row that is found behind a row that is below all comes after that
 after_found : (x : Row) (es : List (Row × Version)) (q : Row) (v : Version) → T (below_all row_cmp x es) → find row_cmp q es ≡ Some v → row_cmp x q ≡ Less

@@ -11,9 +11,10 @@ use Rattle.std.specs.FinMap.{get, find, is_sorted, from_sorted, get-from_sorted}
 use Rattle.std.specs.FinMap.Entries.{below_all}
 use Rattle.lab_table.specs.Row.{Row, row_cmp, row_eq, rows_total, rows_apart, rows_tested}
 use Rattle.lab_table.proofs.Maps.{same_row}
+use Rattle.lab_table.proofs.Orderings.{turned}
+use Rattle.lab_table.proofs.Tests.{joined}
 use Rattle.lab_engine.specs.Recording.{if_any}
 use Rattle.lab_engine.specs.Told.{numbers_of, groups_from}
-use Rattle.lab_engine.proofs.Searching.{turned}
 
 -- rows each with who installed it
 abbrev Installs : Type 0
@@ -84,9 +85,9 @@ group_found row before x (y ∷ ys) up = split (group_found row (before ++ x.1 �
     whole : Bool → Option (List ℕ)
     whole b = cond b (Some (before ++ map (λ (k : Row × ℕ). k.1) (cond b (x ∷ own) own))) (if_any (map (λ (k : Row × ℕ). k.1) (cond b (x ∷ own) own)))
 
-    joined : (b : Bool) → cond b (Some ((before ++ x.1 ∷ []) ++ map (λ (k : Row × ℕ). k.1) own)) (if_any (map (λ (k : Row × ℕ). k.1) own)) ≡ whole b
-    joined true = ap Some (append_assoc before (x.1 ∷ []) (map (λ (k : Row × ℕ). k.1) own))
-    joined false = refl
+    put_together : (b : Bool) → cond b (Some ((before ++ x.1 ∷ []) ++ map (λ (k : Row × ℕ). k.1) own)) (if_any (map (λ (k : Row × ℕ). k.1) own)) ≡ whole b
+    put_together true = ap Some (append_assoc before (x.1 ∷ []) (map (λ (k : Row × ℕ). k.1) own))
+    put_together false = refl
 
     first : (b : Bool) (rest : Installs) → cond b (Some ([] ++ map (λ (k : Row × ℕ). k.1) (cond b (y ∷ rest) rest))) (if_any (map (λ (k : Row × ℕ). k.1) (cond b (y ∷ rest) rest))) ≡ if_any (map (λ (k : Row × ℕ). k.1) (cond b (y ∷ rest) rest))
     first true rest = refl
@@ -103,16 +104,12 @@ group_found row before x (y ∷ ys) up = split (group_found row (before ++ x.1 �
         let same : x.0 ≡ y.0 = same_row x.0 y.0 (sym (rows_tested x.0 y.0) ∙ t) in
         again
         ∙ ap (λ k. cond (row_eq row k) (Some ((before ++ x.1 ∷ []) ++ numbers_of row (y ∷ ys))) (if_any (numbers_of row (y ∷ ys)))) (sym same)
-        ∙ joined (row_eq row x.0)
+        ∙ put_together (row_eq row x.0)
     split again next false f = ends next f (row_eq row x.0) refl
-
-and : (a b : Bool) → T a → T b → T (a && b)
-and true b p q = q
-and false b p q = p
 
 -- what is below the first row is below that of each group
 group_above : (r : Row) (before : List ℕ) (x : Row × ℕ) (xs : Installs) → Rising (x ∷ xs) → row_cmp r x.0 ≡ Less → T (below_all row_cmp r (groups_from before (x ∷ xs)))
-group_above r before x [] up less = and (is_lt (row_cmp r x.0)) true (subst (λ o. T (is_lt o)) (sym less) tt) tt
+group_above r before x [] up less = joined (is_lt (row_cmp r x.0)) true (subst (λ o. T (is_lt o)) (sym less) tt) tt
 group_above r before x (y ∷ ys) up less = split (group_above r (before ++ x.1 ∷ []) y ys up.1) (group_above r [] y ys up.1) (x.0 == y.0) refl
   where
     split : (row_cmp r y.0 ≡ Less → T (below_all row_cmp r (groups_from (before ++ x.1 ∷ []) (y ∷ ys)))) → (row_cmp r y.0 ≡ Less → T (below_all row_cmp r (groups_from [] (y ∷ ys)))) → (b : Bool) → (x.0 == y.0) ≡ b → T (below_all row_cmp r (cond b (groups_from (before ++ x.1 ∷ []) (y ∷ ys)) ((x.0, before ++ x.1 ∷ []) ∷ groups_from [] (y ∷ ys))))
@@ -120,7 +117,7 @@ group_above r before x (y ∷ ys) up less = split (group_above r (before ++ x.1 
         let same : x.0 ≡ y.0 = same_row x.0 y.0 (sym (rows_tested x.0 y.0) ∙ t) in
         again (ap (row_cmp r) (sym same) ∙ less)
     split again next false f =
-        and (is_lt (row_cmp r x.0)) (below_all row_cmp r (groups_from [] (y ∷ ys))) (subst (λ o. T (is_lt o)) (sym less) tt)
+        joined (is_lt (row_cmp r x.0)) (below_all row_cmp r (groups_from [] (y ∷ ys))) (subst (λ o. T (is_lt o)) (sym less) tt)
         (next (rows_total.trans r x.0 y.0 less (above x.0 y.0 up.0.0 f)))
 
 group_sorted : (before : List ℕ) (x : Row × ℕ) (xs : Installs) → Rising (x ∷ xs) → T (is_sorted row_cmp (groups_from before (x ∷ xs)))
@@ -130,7 +127,7 @@ group_sorted before x (y ∷ ys) up = split (group_sorted (before ++ x.1 ∷ [])
     split : T (is_sorted row_cmp (groups_from (before ++ x.1 ∷ []) (y ∷ ys))) → T (is_sorted row_cmp (groups_from [] (y ∷ ys))) → (b : Bool) → (x.0 == y.0) ≡ b → T (is_sorted row_cmp (cond b (groups_from (before ++ x.1 ∷ []) (y ∷ ys)) ((x.0, before ++ x.1 ∷ []) ∷ groups_from [] (y ∷ ys))))
     split again next true t = again
     split again next false f =
-        and (below_all row_cmp x.0 (groups_from [] (y ∷ ys))) (is_sorted row_cmp (groups_from [] (y ∷ ys)))
+        joined (below_all row_cmp x.0 (groups_from [] (y ∷ ys))) (is_sorted row_cmp (groups_from [] (y ∷ ys)))
         (group_above x.0 [] y ys up.1 (above x.0 y.0 up.0.0 f)) next
 
 -- the rows of the groups rise

@@ -10,7 +10,8 @@ use Rattle.lab_table.specs.Row.{Row, row_cmp, row_eq}
 use Rattle.lab_table.specs.Table.{Table, State}
 use Rattle.lab_table.specs.Statement.{matches, would_write}
 use Rattle.lab_table.specs.declared.statement.Statement.{Statement}
-use Rattle.lab_table.proofs.Maps.{both, same_row, row_eq_self, find_below}
+use Rattle.lab_table.proofs.Maps.{same_row, row_eq_self, find_below}
+use Rattle.lab_table.proofs.Tests.{both}
 use Rattle.lab_history.specs.declared.operation.Op.{Op}
 use Rattle.lab_history.specs.declared.operation.VersionName.TheVariants.{Initial}
 use Rattle.lab_engine.specs.declared.event.Level.{Level}

@@ -1,16 +1,16 @@
 -- Chains of installed versions: what a commit puts onto them, and what they say of the versions at a begin.
 use Rattle.std.proofs.Common.{◌≡◌, ℕ, ◌≤◌, ◌<◌, refl, sym, ap, subst, ◌∙◌, arith, Bool, true, false, cond, T, List, [], ◌∷◌, ◌++◌, length, length-append, reverse, append_assoc}
 use Rattle.std.specs.Prelude.{Option, Some, None, is_some, option_map, option_and_then, unwrap_or}
-use Rattle.std.specs.Ordering.{is_eq, ordering_reverse}
-use Rattle.std.specs.declared.cmp.Ordering.{Ordering}
-use Rattle.std.specs.declared.cmp.Ordering.TheVariants.{Less, Equal, Greater}
+use Rattle.std.specs.Ordering.{is_eq}
 use Rattle.std.specs.Option.{option_or}
 use Rattle.std.proofs.lemmas.Bool.{lt-ltb, le-ltb}
 use Rattle.std.proofs.lemmas.List.{reverse-append}
 use Rattle.std.specs.FinMap.{find, is_sorted, get, entries, entries_sorted, get-entries}
 use Rattle.std.specs.FinMap.Entries.{below_all}
 use Rattle.lab_table.specs.Row.{Row, row_cmp, row_eq, rows_total}
-use Rattle.lab_table.proofs.Maps.{both, find_below, same_row}
+use Rattle.lab_table.proofs.Maps.{find_below, same_row}
+use Rattle.lab_table.proofs.Tests.{both}
+use Rattle.lab_table.proofs.Orderings.{eq_reversed}
 use Rattle.lab_engine.specs.declared.chain.Installed.{Installed}
 use Rattle.lab_engine.specs.declared.event.Outcome.{Outcome}
 use Rattle.lab_engine.specs.declared.event.Outcome.TheVariants.{Begun, Rows as Listed, Committed, Aborted, Waits, Refused}
@@ -23,14 +23,9 @@ use Rattle.lab_engine.proofs.Begins.{begins_hold}
 
 -- ---- a commit's versions
 
-reversed_eq : (o : Ordering) → is_eq (ordering_reverse o) ≡ is_eq o
-reversed_eq Less = refl
-reversed_eq Equal = refl
-reversed_eq Greater = refl
-
 -- two rows are one whichever is compared to the other
 either_way : (a b : Row) → is_eq (row_cmp a b) ≡ row_eq b a
-either_way a b = ap is_eq (rows_total.antisymm a b) ∙ reversed_eq (row_cmp b a)
+either_way a b = ap is_eq (rows_total.antisymm a b) ∙ eq_reversed (row_cmp b a)
 
 -- a chain that is put in the place of the row's own, and has one version more
 pub put_chain : {A : Type 0} (items : A → List Installed) (row : Row) (x : Installed) (old new : Row → Option A) (v : A) (before : List Installed) → unwrap_or (option_map items (old row)) [] ≡ before → items v ≡ before ++ x ∷ []
@@ -83,10 +78,6 @@ added_map by place row last es c is =
     ∙ ap (λ o. longer by place o c) (sym (get-entries last row))
 
 -- ---- what a chain says
-
--- the last one of a chain that is read from its end
-pub newest_first : (xs rest : List Installed) (x : Installed) → xs ≡ rest ++ x ∷ [] → reverse xs ≡ x ∷ reverse rest
-newest_first xs rest x is = ap reverse is ∙ reverse-append rest (x ∷ [])
 
 module _ (row : Row) where
   -- a chain is passed at a place behind all of its own

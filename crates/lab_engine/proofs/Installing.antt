@@ -1,21 +1,16 @@
 -- What a transaction installs.
-use Rattle.std.proofs.Common.{◌≡◌, ℕ, ◌++◌, refl, sym, ap, subst, ◌∙◌, Bool, true, false, cond, T, List, [], ◌∷◌, map}
+use Rattle.std.proofs.Common.{◌≡◌, ℕ, ◌++◌, refl, sym, ap, subst, ◌∙◌, true, false, cond, T, List, [], ◌∷◌, map}
 use Rattle.std.specs.Prelude.{Option, Some, is_some, filter}
 use Rattle.std.proofs.lemmas.List.{map-append}
 use Rattle.std.specs.FinMap.{get, find, is_sorted, entries, entries_sorted, get-entries}
 use Rattle.std.specs.FinMap.Entries.{below_all}
+use Rattle.std.proofs.lemmas.List.Elements.{filter-append}
 use Rattle.lab_table.specs.Row.{Row, row_cmp, row_eq}
-use Rattle.lab_table.proofs.Maps.{both, find_below, same_row}
+use Rattle.lab_table.proofs.Maps.{find_below, same_row}
+use Rattle.lab_table.proofs.Tests.{both}
 use Rattle.lab_engine.specs.Log.{Version}
 use Rattle.lab_engine.specs.Sight.{Listed}
 use Rattle.lab_engine.specs.Told.{numbers_of}
-
-filter-append : {A : Type 0} (p : A → Bool) (xs ys : List A) → filter p (xs ++ ys) ≡ filter p xs ++ filter p ys
-filter-append p [] ys = refl
-filter-append {A} p (x ∷ xs) ys = elim (p x) as (λ b. cond b (x ∷ filter p (xs ++ ys)) (filter p (xs ++ ys)) ≡ cond b (x ∷ filter p xs) (filter p xs) ++ filter p ys) [
-  | true ↦ ap (λ l. x ∷ l) (filter-append p xs ys)
-  | false ↦ filter-append p xs ys
-]
 
 -- of rows that rise each is noted at most once
 noted_each : (row : Row) (n : ℕ) (es : List (Row × Version)) → T (is_sorted row_cmp es) → numbers_of row (map (λ (e : Row × Version). (e.0, n)) es) ≡ cond (is_some (find row_cmp row es)) (n ∷ []) []

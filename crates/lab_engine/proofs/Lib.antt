@@ -7,7 +7,6 @@ pub mod Order
 pub mod Begins
 pub mod Recorded
 pub mod Views
-pub mod Searching
 pub mod Describing
 pub mod Holding
 pub mod InstalledChains

@@ -1,5 +1,5 @@
 -- Sorted lists of rows with their versions: one entry put into them, and two of them merged.
-use Rattle.std.proofs.Common.{◌≡◌, ℕ, zero, suc, ◌+◌, ℤ, Bool, true, false, cond, ◌&&◌, T, List, [], ◌∷◌, ◌++◌, map, take, drop, Option, Some, None, refl, sym, ap, ◌∙◌, subst, slice_get, slice_set, ◌==◌, option_map, append_assoc}
+use Rattle.std.proofs.Common.{◌≡◌, ℕ, zero, suc, ◌+◌, ℤ, true, false, cond, T, List, [], ◌∷◌, ◌++◌, map, take, drop, Option, Some, None, refl, sym, ap, ◌∙◌, subst, slice_get, slice_set, ◌==◌, option_map, append_assoc, one-add}
 use Rattle.std.specs.Bool.{⊤}
 use Rattle.std.specs.Option.{option_or}
 use Rattle.std.specs.List.{prefix_len, insert as insert_at}
@@ -14,20 +14,17 @@ use Rattle.lab_history.specs.VersionName.{new_states}
 use Rattle.lab_history.specs.declared.operation.State.{State as Written}
 use Rattle.lab_history.specs.declared.operation.VersionName.{VersionName}
 use Rattle.lab_history.specs.declared.operation.VersionName.TheVariants.{Initial}
-use Rattle.lab_table.proofs.Maps.{both, find_below, find-map, same_row}
+use Rattle.lab_table.proofs.Maps.{find_below, find-map, same_row}
+use Rattle.lab_table.proofs.Tests.{both}
+use Rattle.lab_table.proofs.Orderings.{is_less, turned, turned_back}
+use Rattle.lab_table.proofs.SortedRows.{lower, sorted-map}
 use Rattle.lab_engine.specs.Log.{Version}
 use Rattle.lab_engine.specs.Sight.{Listed, comes_after, listed_version}
 use Rattle.lab_engine.specs.Merging.{initial_entry, written_entry, written_version, is_row, is_row_at, merged, without_row, insert_each}
-use Rattle.lab_engine.proofs.Searching.{next, less, turned, turned_back, lower}
 
 -- rows with their versions
 abbrev pub Entries : Type 0
 Entries = List (Row × Version)
-
--- both of two tests
-and : (a b : Bool) → T a → T b → T (a && b)
-and true b p q = q
-and false b p q = p
 
 -- nothing is both true and not
 never : (P : Type 0) → false ≡ true → P
@@ -36,16 +33,6 @@ never P h = absurd (subst T (sym h) tt)
 -- a row tests as the one that it is
 is_own : (a b : Row) (r : Ordering) → row_cmp a b ≡ r → (a == b) ≡ is_eq r
 is_own a b r q = rows_tested a b ∙ ap is_eq q
-
--- what is below all is so whatever is made of the values
-below-map : {A B : Type 0} (f : A → B) (x : Row) (es : List (Row × A)) → T (below_all row_cmp x es) → T (below_all row_cmp x (map (λ (e : Row × A). (e.0, f e.1)) es))
-below-map f x [] h = tt
-below-map f x (e ∷ es) h = let parts = both (is_lt (row_cmp x e.0)) (below_all row_cmp x es) h in and _ _ parts.0 (below-map f x es parts.1)
-
--- a sorted list stays sorted whatever is made of the values
-sorted-map : {A B : Type 0} (f : A → B) (es : List (Row × A)) → T (is_sorted row_cmp es) → T (is_sorted row_cmp (map (λ (e : Row × A). (e.0, f e.1)) es))
-sorted-map f [] h = tt
-sorted-map f (e ∷ es) h = let parts = both (below_all row_cmp e.0 es) (is_sorted row_cmp es) h in and _ _ (below-map f e.0 es parts.0) (sorted-map f es parts.1)
 
 -- the initial version of a row's value
 initial : ℤ → Version
@@ -59,7 +46,7 @@ listed_as (Some value) = refl
 -- the initial versions of a table's rows are in order
 pub initial_sorted : (es : List (Row × ℤ)) (made : Entries) → T (is_sorted row_cmp es) → made ≡ map initial_entry es → T (is_sorted row_cmp made)
 unfolding initial
-initial_sorted es made h is = subst (λ l. T (is_sorted row_cmp l)) (sym is) (sorted-map initial es h)
+initial_sorted es made h is = subst (λ l. T (is_sorted row_cmp l)) (sym is) (sorted-map (λ (e : Row × ℤ). initial e.1) es h)
 
 -- they are what the table lists
 pub initial_found : (table : Table) (made : Entries) (row : Row) → T (is_sorted row_cmp made) → made ≡ map initial_entry (entries table) → get (from_sorted {R = row_cmp} made) row ≡ listed_version (get table row)
@@ -85,7 +72,7 @@ written_states name (e ∷ es) = ap (λ l. written_entry name e ∷ l) (written_
 
 -- written rows with their versions are in order
 pub written_sorted : (name : VersionName) (writes : List (Row × Written)) (made : Entries) → T (is_sorted row_cmp (new_states writes)) → made ≡ map (written_entry name) writes → T (is_sorted row_cmp made)
-written_sorted name writes made h is = subst (λ l. T (is_sorted row_cmp l)) (sym (is ∙ written_states name writes)) (sorted-map (named name) (new_states writes) h)
+written_sorted name writes made h is = subst (λ l. T (is_sorted row_cmp l)) (sym (is ∙ written_states name writes)) (sorted-map (λ (e : Row × State). named name e.1) (new_states writes) h)
 
 -- they are what was written
 pub written_found : (name : VersionName) (all : Writes) (writes : List (Row × Written)) (made : Entries) (row : Row) → new_states writes ≡ entries all → T (is_sorted row_cmp made)
@@ -105,7 +92,7 @@ replaced row v (e ∷ es) h = at (λ own. replaced row v es own) (row_cmp row e.
     at rest Less q own = never _ (sym (is_own row e.0 Less q) ∙ own)
     at rest Equal q own = ap (λ k. (k, v) ∷ es) (rows_apart row e.0 q)
     at rest Greater q own =
-        let step = next (prefix_len (comes_after row) es) in
+        let step = one-add (prefix_len (comes_after row) es) in
         ap (λ n. slice_set (e ∷ es) n (row, v)) step ∙ ap (λ l. e ∷ l) (rest (sym (ap (λ n. is_row row (slice_get (e ∷ es) n)) step) ∙ own))
 
 -- a version before those that come after the row, none of which is its own
@@ -121,7 +108,7 @@ inserted row v (e ∷ es) h = at (λ own. inserted row v es own) (row_cmp row e.
     at rest Less q own = refl
     at rest Equal q own = never _ (sym own ∙ is_own row e.0 Equal q)
     at rest Greater q own =
-        let step = next (prefix_len (comes_after row) es) in
+        let step = one-add (prefix_len (comes_after row) es) in
         ap (λ n. take n (e ∷ es) ++ (row, v) ∷ drop n (e ∷ es)) step
         ∙ ap (λ l. e ∷ l) (rest (sym (ap (λ n. is_row row (slice_get (e ∷ es) n)) step) ∙ own))
 
@@ -150,7 +137,7 @@ split row v (e ∷ es) = at (split row v es) (row_cmp row e.0) refl
     at rest Less q = ap (λ b. (row, v) ∷ cond b es (e ∷ es)) (is_own row e.0 Less q)
     at rest Equal q = ap (λ b. (row, v) ∷ cond b es (e ∷ es)) (is_own row e.0 Equal q) ∙ ap (λ k. (k, v) ∷ es) (rows_apart row e.0 q)
     at rest Greater q =
-        ap (λ n. take n (e ∷ es) ++ (row, v) ∷ without_row row (drop n (e ∷ es))) (next (prefix_len (comes_after row) es)) ∙ ap (λ l. e ∷ l) rest
+        ap (λ n. take n (e ∷ es) ++ (row, v) ∷ without_row row (drop n (e ∷ es))) (one-add (prefix_len (comes_after row) es)) ∙ ap (λ l. e ∷ l) rest
 
 -- each entry of a list put into another
 put_each : Entries → Entries → Entries
@@ -169,7 +156,7 @@ past_one x es [] h = refl
 past_one x es (e ∷ over) h =
     let parts = both (is_lt (row_cmp x.0 e.0)) (below_all row_cmp x.0 over) h in
     past_one x (put row_cmp e.0 e.1 es) over parts.1
-    ∙ ap (λ r. put_each (by_order r ((e.0, e.1) ∷ x ∷ es) ((x.0, e.1) ∷ es) (x ∷ put row_cmp e.0 e.1 es)) over) (sym (turned_back x.0 e.0 (less _ parts.0)))
+    ∙ ap (λ r. put_each (by_order r ((e.0, e.1) ∷ x ∷ es) ((x.0, e.1) ∷ es) (x ∷ put row_cmp e.0 e.1 es)) over) (sym (turned_back x.0 e.0 (is_less _ parts.0)))
 
 -- so do all that stand before
 past : (xs es over : Entries) → AllBelow xs over → xs ++ put_each es over ≡ put_each (xs ++ es) over
@@ -186,7 +173,7 @@ front_below row (e ∷ es) over h = at (front_below row es over h) (row_cmp row 
     at : AllBelow (take (prefix_len (comes_after row) es) es) over → (r : Ordering) → row_cmp row e.0 ≡ r → AllBelow (take (cond (is_gt r) (1 + prefix_len (comes_after row) es) 0) (e ∷ es)) over
     at rest Less q = tt
     at rest Equal q = tt
-    at rest Greater q = subst (λ n. AllBelow (take n (e ∷ es)) over) (sym (next (prefix_len (comes_after row) es))) (lower e.0 row over (turned row e.0 q) h, rest)
+    at rest Greater q = subst (λ n. AllBelow (take n (e ∷ es)) over) (sym (one-add (prefix_len (comes_after row) es))) (lower e.0 row over (turned row e.0 q) h, rest)
 
 -- to merge is to put each entry
 merged_put : (under over : Entries) → T (is_sorted row_cmp over) → merged under over ≡ put_each under over

@@ -1,10 +1,11 @@
 -- Which waiting sessions are retryable.
-use Rattle.std.proofs.Common.{◌≡◌, ℕ, ◌+◌, ◌≤◌, ◌<◌, refl, sym, ap, subst, ◌∙◌, ◌||◌, List, inl, inr, length, take, get_or}
-use Rattle.std.specs.Prelude.{◌==◌, IsTrue, IsSome, Option, Some, None, is_some}
-use Rattle.std.proofs.lemmas.Bool.{eqb-true, both_ways, or_cases}
+use Rattle.std.proofs.Common.{◌≡◌, ℕ, ◌+◌, ◌≤◌, ◌<◌, sym, ap, subst, ◌∙◌, ◌||◌, List, inl, inr, length, take, get_or}
+use Rattle.std.specs.Prelude.{◌==◌, IsTrue, IsSome, is_some}
+use Rattle.std.proofs.lemmas.Bool.{eqb-true, or_cases}
 use Rattle.std.proofs.lemmas.List.{take_all}
 use Rattle.std.proofs.lemmas.List.Folds.{list_any_more}
 use Rattle.lab_table.specs.Table.{Table}
+use Rattle.lab_table.proofs.Tests.{some_of, some_is}
 use Rattle.lab_engine.specs.declared.event.Level.{Level}
 use Rattle.lab_engine.specs.declared.situation.SessionState.{SessionState}
 use Rattle.lab_engine.specs.declared.situation.Situation.{Situation}
@@ -16,12 +17,7 @@ use Rattle.lab_engine.specs.WaitsFor.{AreWaits}
 use Rattle.lab_engine.specs.Released.{IsReleased}
 use Rattle.lab_engine.proofs.Circles.{released_retryable, retryable_released}
 use Rattle.lab_engine.proofs.Rising.{RiseFrom, sessions_rise, is_among, among, earlier}
-use Rattle.lab_engine.proofs.Waiting.{some_is, waiter_there}
-
--- what there is
-some_of : {A : Type 0} (o : Option A) → IsSome o → (x : A) × (o ≡ Some x)
-some_of None h = absurd (both_ways _ refl h)
-some_of (Some x) h = (x, refl)
+use Rattle.lab_engine.proofs.Waiting.{waiter_there}
 
 -- a state waits where its session does
 state_waits : (past : Past) (state : SessionState) → DescribesSession past state → is_some state.waits ≡ is_some (waiting past state.session)

@@ -1,10 +1,10 @@
 -- Some of the sessions, by rising number.
-use Rattle.std.proofs.Common.{◌≡◌, ℕ, zero, suc, ◌+◌, ◌≤◌, ◌<◌, refl, sym, ap, subst, ◌∙◌, arith, Bool, true, false, ◌||◌, List, [], ◌∷◌, ◌++◌, ◌⊎◌, inl, inr, length, take, get_or}
+use Rattle.std.proofs.Common.{◌≡◌, ℕ, zero, suc, ◌+◌, ◌≤◌, ◌<◌, refl, sym, ap, subst, ◌∙◌, arith, Bool, true, ◌||◌, List, [], ◌∷◌, ◌++◌, ◌⊎◌, inl, inr, length, take, get_or}
 use Rattle.std.specs.Prelude.{◌==◌, ⊤, IsTrue, Contains, slice_index}
 use Rattle.std.specs.Prelude as list
 use Rattle.std.specs.List.{list_any}
 use Rattle.std.specs.List.Sorted.{IsStrictlyIncreasing}
-use Rattle.std.proofs.lemmas.Bool.{eq-eqb}
+use Rattle.std.proofs.lemmas.Bool.{eq-eqb, or_right}
 use Rattle.std.proofs.lemmas.List.{map_more}
 use Rattle.lab_engine.specs.declared.situation.SessionState.{SessionState}
 use Rattle.lab_engine.specs.Situation.{all_sessions}
@@ -99,16 +99,11 @@ pub sessions_more : (states : List SessionState) (i : ℕ) (state : SessionState
     → sessions_of (take (i + 1) states) ≡ sessions_of (take i states) ++ state.session ∷ []
 sessions_more states i state lt is = map_more (λ s. s.session) states i state lt ∙ ap (λ (s : SessionState). sessions_of (take i states) ++ s.session ∷ []) (sym is)
 
--- a right part that is true
-pub right_true : (a b : Bool) → b ≡ true → (a || b) ≡ true
-right_true true b h = refl
-right_true false b h = h
-
 -- a session has a state
 pub among : (states : List SessionState) (session : ℕ) → Contains (sessions_of states) session → is_among session states ≡ true
 among [] session c = absurd (empty_lacks session c)
 among (state ∷ states) session (zero, lt, is) = ap (λ b. b || is_among session states) (eq-eqb state.session session is)
-among (state ∷ states) session (suc k, lt, is) = right_true _ _ (among states session (k, omega arith, is))
+among (state ∷ states) session (suc k, lt, is) = or_right _ _ (among states session (k, omega arith, is))
 
 -- a session below that of a state has an earlier state
 pub earlier : (low : ℕ) (states : List SessionState) (i : ℕ) (state : SessionState) (other : ℕ) → RiseFrom low (sessions_of states) → i < length states → state ≡ get_or states i state
@@ -118,7 +113,7 @@ earlier low (s ∷ states) zero state other rise lt is (zero, _, same) less = ab
 earlier low (s ∷ states) zero state other rise lt is (suc k, within, same) less =
     absurd (omega (arith, above s.session (sessions_of states) other rise.1 (k, omega arith, same), ap (λ (x : SessionState). x.session) is))
 earlier low (s ∷ states) (suc i) state other rise lt is (zero, _, same) less = ap (λ b. b || is_among other (take i states)) (eq-eqb s.session other same)
-earlier low (s ∷ states) (suc i) state other rise lt is (suc k, within, same) less = right_true _ _ (earlier s.session states i state other rise.1 (omega arith) is (k, omega arith, same) less)
+earlier low (s ∷ states) (suc i) state other rise lt is (suc k, within, same) less = or_right _ _ (earlier s.session states i state other rise.1 (omega arith) is (k, omega arith, same) less)
 
 -- what one more state makes of them
 pub those_step : (P : ℕ → Type 0) (states : List SessionState) (i : ℕ) (state : SessionState) (old new : List ℕ) → i < length states → state ≡ get_or states i state

@@ -9,15 +9,6 @@ use Rattle.lab_engine.specs.WaitsFor.{waits_for, IsWalk}
 use Rattle.lab_engine.specs.Hops.{is_reached, trail, IsNewHop, IsSearched}
 use Rattle.lab_engine.proofs.Walks.{goal_reached, more_hops}
 
--- before the first turn
-pub search_begins : (waits : List Wait) (goal : ℕ) → IsSearched waits goal [] 0
-search_begins waits goal = record {
-  lead = tt;
-  short = λ session. omega arith;
-  all = λ session rest walk lt. absurd (omega arith);
-  none = λ rest walk. omega arith;
-}
-
 -- new hops aren't on the trail of one that was reached before
 trail_skips : (waits : List Wait) (goal : ℕ) (hops new : List Hop) → All (IsNewHop waits hops goal) new → (session : ℕ) → IsTrue (is_reached hops goal session)
     → trail (new ++ hops) session ≡ trail hops session

@@ -1,13 +1,12 @@
 -- What is kept of the sessions, as a list.
-use Rattle.std.proofs.Common.{◌≡◌, ◌≢◌, ℕ, zero, suc, ◌+◌, ◌-◌, ◌≤◌, ◌<◌, false, cond, List, [], ◌∷◌, ◌++◌, map, length, drop, set, get_or, None, refl, sym, ap, subst, ◌∙◌, arith, Contains, append_assoc, ◌==◌}
+use Rattle.std.proofs.Common.{◌≡◌, ◌≢◌, ℕ, zero, suc, ◌+◌, ◌-◌, ◌≤◌, ◌<◌, false, cond, List, [], ◌∷◌, ◌++◌, map, length, drop, set, get_or, None, refl, sym, ap, subst, ◌∙◌, arith, append_assoc, ◌==◌}
 use Rattle.std.specs.Prelude.{⊤}
 use Rattle.std.proofs.lemmas.Bool.{ne_eqb}
 use Rattle.std.proofs.lemmas.List.{length-map}
 use Rattle.lab_engine.specs.declared.event.LogEvent.{LogEvent}
 use Rattle.lab_engine.specs.declared.situation.SessionState.{SessionState}
-use Rattle.lab_engine.specs.declared.situation.Situation.{Situation}
 use Rattle.lab_engine.specs.Log.{Past, active, active_after, waiting, waiting_after}
-use Rattle.lab_engine.specs.Situation.{Describes, DescribesSession, DescribesAll, Agree, HasRoom, all_sessions}
+use Rattle.lab_engine.specs.Situation.{DescribesSession, DescribesAll, Agree, HasRoom, all_sessions}
 use Rattle.lab_engine.proofs.Describing.{has_room}
 
 -- after an event of another session what is kept of a session still agrees
@@ -107,20 +106,6 @@ session_next (suc (suc (suc (suc (suc (suc (suc (suc zero)))))))) low high = ref
 session_next (suc (suc (suc (suc (suc (suc (suc (suc (suc zero))))))))) low high = refl
 session_next (suc (suc (suc (suc (suc (suc (suc (suc (suc (suc n)))))))))) low high = absurd (omega arith)
 
--- a number from 1 to 9 is a session's
-pub is_session : (n : ℕ) → 1 ≤ n → n ≤ 9 → Contains all_sessions n
-is_session zero low high = absurd (omega arith)
-is_session (suc zero) low high = (0, omega arith, refl)
-is_session (suc (suc zero)) low high = (1, omega arith, refl)
-is_session (suc (suc (suc zero))) low high = (2, omega arith, refl)
-is_session (suc (suc (suc (suc zero)))) low high = (3, omega arith, refl)
-is_session (suc (suc (suc (suc (suc zero))))) low high = (4, omega arith, refl)
-is_session (suc (suc (suc (suc (suc (suc zero)))))) low high = (5, omega arith, refl)
-is_session (suc (suc (suc (suc (suc (suc (suc zero))))))) low high = (6, omega arith, refl)
-is_session (suc (suc (suc (suc (suc (suc (suc (suc zero)))))))) low high = (7, omega arith, refl)
-is_session (suc (suc (suc (suc (suc (suc (suc (suc (suc zero))))))))) low high = (8, omega arith, refl)
-is_session (suc (suc (suc (suc (suc (suc (suc (suc (suc (suc n)))))))))) low high = absurd (omega arith)
-
 all_more : (past : Past) (states : List SessionState) (state : SessionState) → DescribesAll past states → DescribesSession past state → DescribesAll past (states ++ state ∷ [])
 all_more past [] state all is = (is, tt)
 all_more past (first ∷ states) state all is = (all.0, all_more past states state all.1 is)
@@ -141,12 +126,3 @@ idle_one n session states news (sessions, all, low, high) below is new =
       omega arith,
       omega arith,
     )
-
--- each session has its state, at its number counted from 1
-pub state_at : (past : Past) (situation : Situation) → Describes past situation → (k : ℕ) (d : SessionState) → k < length situation.sessions.items
-    → ((get_or situation.sessions.items k d).session ≡ 1 + k) × DescribesSession past (get_or situation.sessions.items k d)
-state_at past situation is k d few = (session_one 1 k situation.sessions.items d (all_rise situation.sessions.items is.sessions) few, describes_one past k situation.sessions.items d few is.states)
-
--- there are nine
-pub nine_states : (past : Past) (situation : Situation) → Describes past situation → length situation.sessions.items ≡ 9
-nine_states past situation is = sym (length-map situation.sessions.items (λ state. state.session)) ∙ ap length is.sessions

@@ -1,12 +1,14 @@
 -- Which sessions wait for which after a log.
-use Rattle.std.proofs.Common.{◌≡◌, ◌≢◌, ℕ, zero, suc, ◌+◌, ◌≤◌, ◌<◌, refl, sym, ap, subst, ◌∙◌, arith, Bool, true, false, ◌||◌, ◌&&◌, List, [], ◌∷◌, ◌++◌, ◌⊎◌, inl, inr, length, take, get_or}
-use Rattle.std.specs.Prelude.{◌==◌, ◌↔◌, IsTrue, IsSome, Option, Some, None, Result, Ok, Err, IfOk, Contains}
+use Rattle.std.proofs.Common.{◌≡◌, ◌≢◌, ℕ, zero, suc, ◌+◌, ◌≤◌, ◌<◌, refl, sym, ap, subst, ◌∙◌, arith, false, ◌||◌, ◌&&◌, List, [], ◌∷◌, ◌++◌, ◌⊎◌, inl, inr, length, take, get_or}
+use Rattle.std.specs.Prelude.{◌==◌, ◌↔◌, IsTrue, Option, Some, None, Result, Ok, Err, IfOk, Contains}
 use Rattle.std.specs.List.{list_any}
-use Rattle.std.proofs.lemmas.Bool.{eq-eqb, eqb-true, both_ways, or_cases, and_parts, and_from, and_right}
+use Rattle.std.proofs.lemmas.Bool.{eq-eqb, eqb-true, both_ways, or_cases, and_parts, and_from, and_right, or_right, or_left}
 use Rattle.std.proofs.lemmas.List.{take_all}
 use Rattle.std.proofs.lemmas.List.Folds.{list_any-append, list_any_more}
+use Rattle.std.proofs.Math.Bool.{or-false}
 use Rattle.lab_table.specs.Table.{Table}
 use Rattle.lab_table.specs.declared.statement.Statement.{Statement}
+use Rattle.lab_table.proofs.Tests.{some_is}
 use Rattle.lab_engine.specs.declared.event.Level.{Level}
 use Rattle.lab_engine.specs.declared.situation.RunningTxn.{RunningTxn}
 use Rattle.lab_engine.specs.declared.situation.SessionState.{SessionState}
@@ -17,7 +19,7 @@ use Rattle.lab_engine.specs.Rules.{BlockedBy, MayAsk}
 use Rattle.lab_engine.specs.Situation.{all_sessions, Agree, IsRunning, Describes, DescribesSession, DescribesAll}
 use Rattle.lab_engine.specs.WaitsFor.{waits_for, AreBlockers, WaitsOn, AreWaits, AreWaitsWith}
 use Rattle.lab_engine.proofs.Locks.{none_some, some_same}
-use Rattle.lab_engine.proofs.Rising.{AreThose, those_hold, those_all, those_increase, sessions_of, is_among, among, right_true}
+use Rattle.lab_engine.proofs.Rising.{AreThose, those_hold, those_all, those_increase, sessions_of, is_among, among}
 
 -- each state of a situation is described
 described_each : (past : Past) (states : List SessionState) (i : ℕ) (state : SessionState) → DescribesAll past states → i < length states → state ≡ get_or states i state → DescribesSession past state
@@ -51,10 +53,6 @@ pub if_ok : {A E : Type 0} (P Q : A → Type 0) (r : Result A E) → ((x : A) �
 if_ok P Q (Ok x) f h = f x h
 if_ok P Q (Err e) f h = tt
 
--- what there is is some
-pub some_is : {A : Type 0} (o : Option A) (x : A) → o ≡ Some x → IsSome o
-some_is o x h = subst IsSome (sym h) refl
-
 -- once all are passed, those that block are the blockers
 pub blockers_all : (level : Level) (setup : Table) (past : Past) (situation : Situation) (session : ℕ) (s : Statement) (passed : ℕ) (on : List ℕ) → Describes past situation
     → length situation.sessions.items ≤ passed → AreThose (BlockedBy level setup past session s) (sessions_of (take passed situation.sessions.items)) on → AreBlockers level setup past session s on
@@ -87,23 +85,13 @@ any_contains (y ∷ xs) x h = at (any_contains xs x) (or_cases (y == x) (list_an
 contains_any : (xs : List ℕ) (x : ℕ) → Contains xs x → IsTrue (list_any (λ k. k == x) xs)
 contains_any [] x (k, lt, is) = absurd (omega arith)
 contains_any (y ∷ xs) x (zero, lt, is) = ap (λ b. b || list_any (λ k. k == x) xs) (eq-eqb y x is)
-contains_any (y ∷ xs) x (suc k, lt, is) = right_true _ _ (contains_any xs x (k, omega arith, is))
-
--- a right part that is false adds nothing
-or_none : (b : Bool) → (b || false) ≡ b
-or_none true = refl
-or_none false = refl
-
--- a left part that is true
-left_true : (a b : Bool) → a ≡ true → (a || b) ≡ true
-left_true true b h = refl
-left_true false b h = absurd (both_ways _ refl h)
+contains_any (y ∷ xs) x (suc k, lt, is) = or_right _ _ (contains_any xs x (k, omega arith, is))
 
 -- a graph with one more of who waits for whom
 pub waits_more : (waits : List Wait) (wait : Wait) (session other : ℕ) → waits_for (waits ++ wait ∷ []) session other ≡ (waits_for waits session other || (wait.session == session && list_any (λ o. o == other) wait.on))
 waits_more waits wait session other =
     list_any-append (λ (w : Wait). w.session == session && list_any (λ o. o == other) w.on) waits (wait ∷ [])
-    ∙ ap (λ b. waits_for waits session other || b) (or_none (wait.session == session && list_any (λ o. o == other) wait.on))
+    ∙ ap (λ b. waits_for waits session other || b) (or-false (wait.session == session && list_any (λ o. o == other) wait.on))
 
 -- so is a list that has one more
 pub waits_pushed : (waits new : List Wait) (wait : Wait) → new ≡ waits ++ wait ∷ [] → (session other : ℕ)
@@ -114,7 +102,7 @@ waits_pushed waits new wait e session other = ap (λ w. waits_for w session othe
 pub waits_kept : (waits new : List Wait) (waiter : ℕ) (on : List ℕ) → new ≡ waits → length on ≡ 0 → (session other : ℕ)
     → waits_for new session other ≡ (waits_for waits session other || (waiter == session && list_any (λ o. o == other) on))
 waits_kept waits new waiter [] e empty session other =
-    ap (λ w. waits_for w session other) e ∙ sym (ap (λ b. waits_for waits session other || b) (and_right (waiter == session) false refl) ∙ or_none (waits_for waits session other))
+    ap (λ w. waits_for w session other) e ∙ sym (ap (λ b. waits_for waits session other || b) (and_right (waiter == session) false refl) ∙ or-false (waits_for waits session other))
 waits_kept waits new waiter (x ∷ on) e empty session other = absurd (omega arith)
 
 -- a graph has what some sessions wait for
@@ -134,15 +122,15 @@ waits_step level setup past states i state waits new on lt is h own step session
 
     to : IsTrue (waits_for new session other) → IsTrue (is_among session (take (i + 1) states)) × WaitsOn level setup past session other
     to w = elim (or_cases _ _ (sym (step session other) ∙ w)) [
-      | inl p ↦ let old = (h session other).0 p in (there ∙ left_true _ _ old.0, old.1)
+      | inl p ↦ let old = (h session other).0 p in (there ∙ or_left _ _ old.0, old.1)
       | inr p ↦ let parts = and_parts _ _ p in
-          (there ∙ right_true _ _ parts.0, subst (λ k. WaitsOn level setup past k other) (eqb-true state.session session parts.0) ((own other).0 (any_contains on other parts.1)))
+          (there ∙ or_right _ _ parts.0, subst (λ k. WaitsOn level setup past k other) (eqb-true state.session session parts.0) ((own other).0 (any_contains on other parts.1)))
     ]
 
     from : IsTrue (is_among session (take (i + 1) states)) × WaitsOn level setup past session other → IsTrue (waits_for new session other)
     from w = step session other ∙ elim (or_cases _ _ (sym there ∙ w.0)) [
-      | inl p ↦ left_true _ _ ((h session other).1 (p, w.1))
-      | inr p ↦ right_true _ _ (and_from _ _ p (contains_any on other ((own other).1 (subst (λ k. WaitsOn level setup past k other) (sym (eqb-true state.session session p)) w.1))))
+      | inl p ↦ or_left _ _ ((h session other).1 (p, w.1))
+      | inr p ↦ or_right _ _ (and_from _ _ p (contains_any on other ((own other).1 (subst (λ k. WaitsOn level setup past k other) (sym (eqb-true state.session session p)) w.1))))
     ]
 
 -- a session that waits has a state
@@ -178,7 +166,7 @@ waits_with level setup past session s waits wait own h may are = ((λ other. (to
     ]
 
     from : (other : ℕ) → BlockedBy level setup past session s other → IsTrue (waits_for (waits ++ wait ∷ []) session other)
-    from other b = waits_more waits wait session other ∙ right_true _ _ (and_from _ _ (eq-eqb wait.session session own) (contains_any wait.on other ((are.are other).1 b)))
+    from other b = waits_more waits wait session other ∙ or_right _ _ (and_from _ _ (eq-eqb wait.session session own) (contains_any wait.on other ((are.are other).1 b)))
 
     others : (waiter other : ℕ) → waiter ≢ session → IsTrue (waits_for (waits ++ wait ∷ []) waiter other) → WaitsOn level setup past waiter other
     others waiter other apart w = elim (or_cases _ _ (sym (waits_more waits wait waiter other) ∙ w)) [
@@ -187,4 +175,4 @@ waits_with level setup past session s waits wait own h may are = ((λ other. (to
     ]
 
     back : (waiter other : ℕ) → WaitsOn level setup past waiter other → IsTrue (waits_for (waits ++ wait ∷ []) waiter other)
-    back waiter other w = waits_more waits wait waiter other ∙ left_true _ _ ((h waiter other).1 w)
+    back waiter other w = waits_more waits wait waiter other ∙ or_left _ _ ((h waiter other).1 w)

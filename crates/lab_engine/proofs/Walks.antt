@@ -2,7 +2,7 @@
 use Rattle.std.proofs.Common.{◌≡◌, ℕ, zero, suc, ◌≤◌, ◌<◌, refl, ap, subst, ◌∙◌, arith, Bool, true, false, cond, ◌||◌, ◌&&◌, List, [], ◌∷◌, ◌++◌, ◌⊎◌, inl, inr, length, take}
 use Rattle.std.specs.Prelude.{◌==◌, ◌↔◌, not, IsTrue, IfSome, Option, Some, None, is_some}
 use Rattle.std.specs.List.{All, Contains, list_any}
-use Rattle.std.proofs.lemmas.Bool.{eq-eqb, eqb-true, eqb-false, ne_eqb, both_ways, or_cases, and_parts, and_from}
+use Rattle.std.proofs.lemmas.Bool.{eq-eqb, eqb-true, eqb-false, ne_eqb, both_ways, or_cases, or_parts, or_right, and_parts, and_from}
 use Rattle.std.proofs.lemmas.List.Folds.{list_any-append}
 use Rattle.std.proofs.lemmas.List.{take_all}
 use Rattle.lab_engine.specs.declared.circle.Hop.{Hop}
@@ -20,11 +20,6 @@ waiter (wait ∷ waits) session other h = at (waiter waits session other) (wait.
         → (own && list_any (λ o. o == other) wait.on || waits_for waits session other) ≡ true → (own || list_any (λ w. w.session == session) waits) ≡ true
     at rest true h = refl
     at rest false h = rest h
-
--- a part that is false
-left_false : (a b : Bool) → (a || b) ≡ false → a ≡ false
-left_false true b h = h
-left_false false b h = refl
 
 -- the goal is reached
 pub goal_reached : (hops : List Hop) (goal : ℕ) → is_reached hops goal goal ≡ true
@@ -84,20 +79,16 @@ trail_round waits goal hops first h waits_on there = (refl, trail_walks waits go
 pub stays_reached : (new hops : List Hop) (goal session : ℕ) → IsTrue (is_reached hops goal session) → IsTrue (is_reached (new ++ hops) goal session)
 stays_reached new hops goal session there = at (session == goal) there
   where
-    found : (a b : Bool) → b ≡ true → (a || b) ≡ true
-    found true b h = refl
-    found false b h = h
-
     at : (own : Bool) → (own || list_any (λ hop. hop.session == session) hops) ≡ true → (own || list_any (λ hop. hop.session == session) (new ++ hops)) ≡ true
     at true h = refl
-    at false h = list_any-append (λ hop. hop.session == session) new hops ∙ found _ _ h
+    at false h = list_any-append (λ hop. hop.session == session) new hops ∙ or_right _ _ h
 
 -- more hops behind which these stand
 pub more_hops : (waits : List Wait) (goal : ℕ) (hops new : List Hop) → AreHops waits goal hops → All (IsNewHop waits hops goal) new → AreHops waits goal (new ++ hops)
 more_hops waits goal hops [] h all = h
 more_hops waits goal hops (hop ∷ new) h all =
     let first : IsNewHop waits hops goal hop = all 0 hop (omega arith) in (
-      record { apart = left_false _ _ first.new; waits = first.waits; reached = stays_reached new hops goal hop.next first.reached },
+      record { apart = (or_parts _ _ first.new).0; waits = first.waits; reached = stays_reached new hops goal hop.next first.reached },
       more_hops waits goal hops new h (λ k d lt. all (suc k) d (omega arith)),
     )
 
@@ -179,10 +170,6 @@ pub held : (waits : List Wait) (session : ℕ) → IsTrue (list_any (λ wait. wa
 held [] session h = absurd (both_ways _ refl h)
 held (wait ∷ waits) session h = at (held waits session) (or_cases _ _ h)
   where
-    right : (a b : Bool) → b ≡ true → (a || b) ≡ true
-    right true b h = refl
-    right false b h = h
-
     at : (IsTrue (list_any (λ w. w.session == session && not (length w.on == 0)) waits) → (other : ℕ) × IsTrue (waits_for waits session other))
         → (IsTrue (wait.session == session && not (length wait.on == 0)) ⊎ IsTrue (list_any (λ w. w.session == session && not (length w.on == 0)) waits))
         → (other : ℕ) × IsTrue (waits_for (wait ∷ waits) session other)
@@ -190,7 +177,7 @@ held (wait ∷ waits) session h = at (held waits session) (or_cases _ _ h)
         let parts = and_parts _ _ p in
         let first = first_of wait.on parts.1 in
         (first.0, ap (λ b. b || waits_for waits session first.0) (and_from _ _ parts.0 first.1))
-    at rest (inr p) = let other = rest p in (other.0, right _ _ other.1)
+    at rest (inr p) = let other = rest p in (other.0, or_right _ _ other.1)
 
 -- one who isn't waits for nobody
 pub not_held : (waits : List Wait) (session : ℕ) → list_any (λ wait. wait.session == session && not (length wait.on == 0)) waits ≡ false → (other : ℕ) → waits_for waits session other ≡ false

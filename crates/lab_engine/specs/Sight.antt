@@ -1,10 +1,10 @@
 -- What a transaction sees, as a map of versions has it.
-use Rattle.std.specs.Prelude.{◌≡◌, ℕ, Bool, Option, Some, None, unwrap_or}
-use Rattle.std.specs.Ordering.{is_gt}
+use Rattle.std.specs.Prelude.{◌≡◌, ℕ, Option, Some, None, unwrap_or}
 use Rattle.std.specs.FinMap as map
 use Rattle.std.specs.FinMap.{FinMap}
 use Rattle.lab_table.specs.Row.{Row, row_cmp}
 use Rattle.lab_table.specs.Table.{Table, State}
+pub use Rattle.lab_table.specs.Running.{comes_after}
 use Rattle.lab_history.specs.declared.operation.VersionName.TheVariants.{Initial}
 use Rattle.lab_engine.specs.declared.event.Level.{Level}
 use Rattle.lab_engine.specs.declared.event.Level.TheVariants.{Snapshot}
@@ -24,10 +24,6 @@ listed_version (Some value) = Some (record { name = Initial; state = Some value 
 -- the version of a row in a map of them; a row that isn't there is absent from the start
 abbrev pub version_in : Listed → Row → Version
 version_in versions row = unwrap_or (map.get versions row) (record { name = Initial; state = None })
-
--- whether a row comes after an entry
-abbrev pub comes_after : Row → Row × Version → Bool
-comes_after row entry = is_gt (row_cmp row entry.0)
 
 -- a map of versions is what a transaction sees
 abbrev pub IsSight : Level → Table → Past → Txn → Listed → Type 0

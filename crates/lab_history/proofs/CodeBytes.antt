@@ -3,16 +3,16 @@ use Rattle.std.proofs.Common.{◌≡◌, ℕ, zero, suc, ◌<◌, true, List, []
 use Rattle.std.specs.Prelude.{IsUtf8, IsAscii}
 use Rattle.std.specs.List.{list_all}
 use Rattle.std.proofs.lemmas.Str.{IsUtf8-from_ascii}
+use Rattle.std.proofs.lemmas.Bool.{and_parts}
 use Rattle.lab_script.specs.Script.{is_code_byte}
-use Rattle.lab_script.proofs.Same.{and_both}
 
 code_byte_below : (b : ℕ) → is_code_byte b ≡ true → b < 128
 code_byte_below b h = grind arith
 
 code_ascii : (text : List ℕ) → list_all is_code_byte text ≡ true → IsAscii text
 code_ascii [] h i = omega arith
-code_ascii (b ∷ text) h zero = code_byte_below b (and_both _ _ h).0
-code_ascii (b ∷ text) h (suc i) = code_ascii text (and_both _ _ h).1 i
+code_ascii (b ∷ text) h zero = code_byte_below b (and_parts _ _ h).0
+code_ascii (b ∷ text) h (suc i) = code_ascii text (and_parts _ _ h).1 i
 
 -- a text of code is UTF-8
 pub code_is_utf8 : (text : List ℕ) → list_all is_code_byte text ≡ true → IsUtf8 text

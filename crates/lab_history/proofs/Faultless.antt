@@ -1,5 +1,5 @@
 -- No fault is true of a file: each value of it fits at its place, and it keeps the limits.
-use Rattle.std.proofs.Common.{◌≡◌, ℕ, zero, suc, ◌+◌, ◌≤◌, ◌<◌, ◌==◌, Bool, true, false, List, [], ◌∷◌, map, length, Option, Some, None, is_some, option_and_then, option_map, slice_get, codes, refl, sym, ap, subst, ◌∙◌, arith, eq-eqb, length-append}
+use Rattle.std.proofs.Common.{◌≡◌, ℕ, zero, suc, ◌+◌, ◌≤◌, ◌<◌, ◌==◌, Bool, true, false, List, [], ◌∷◌, map, length, Option, Some, None, is_some, option_and_then, slice_get, codes, refl, sym, ap, subst, ◌∙◌, arith, eq-eqb, length-append}
 use Rattle.std.specs.Prelude.{sum, nat_lt, if◌then◌else◌}
 use Rattle.std.specs.List.{list_any}
 use Rattle.std.proofs.lemmas.Bool.{or_parts}
@@ -32,10 +32,7 @@ use Rattle.lab_history.proofs.Standing.{numbers}
 use Rattle.lab_history.proofs.FaultsOfTransactions.{read_number, read_count}
 use Rattle.lab_history.proofs.FileIsRead.{parts_of_file}
 use Rattle.lab_history.proofs.GoodLists.{each_at, IsGood, good_pairs, good_view, good_installed, installer_fits}
-
-mapped_some : {A B : Type 0} (f : A → B) (o : Option A) (y : B) → option_map f o ≡ Some y → (x : A) × (o ≡ Some x) × (f x ≡ y)
-mapped_some f None y e = absurd cc
-mapped_some f (Some x) y e = (x, refl, cc)
+use Rattle.lab_table.proofs.Tests.{mapped_some}
 
 outcome_fits : (outcome : Outcome) → is_some (outcome_named (outcome_text outcome)) ≡ true
 outcome_fits Committed = refl

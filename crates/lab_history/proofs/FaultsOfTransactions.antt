@@ -1,7 +1,7 @@
 -- The faults of transactions are true.
 use Rattle.std.proofs.Common.{◌≡◌, ℕ, ◌+◌, ◌≤◌, ◌<◌, ◌==◌, ◌⊎◌, inl, inr, ⊎_elim, Bool, true, false, ◌||◌, List, [], ◌∷◌, ◌++◌, length, Some, is_some, option_and_then, option_map, Err, codes, nat_lt, refl, sym, ap, subst, ◌∙◌, arith, ltb-true, eqb-true}
 use Rattle.std.specs.List.{list_any}
-use Rattle.std.proofs.lemmas.Bool.{or_cases}
+use Rattle.std.proofs.lemmas.Bool.{or_cases, or_right}
 use Rattle.serde_json.specs.Data.{Data, array, Items, no_items, item}
 use Rattle.serde_json.specs.Find.{as_array, as_str, at}
 use Rattle.lab_history.specs.Faults.{required, refused_if}
@@ -32,12 +32,8 @@ any_pushed : (test : Txn → Bool) (ts : List Txn) (t : Txn) → list_any test (
 any_pushed test [] t e = ⊎_elim (λ is. inr is) (λ none. absurd cc) (or_cases (test t) false e)
 any_pushed test (u ∷ ts) t e =
     ⊎_elim (λ is. inl (ap (λ b. b || list_any test ts) is))
-    (λ rest. ⊎_elim (λ found. inl (either (test u) _ found)) (λ is. inr is) (any_pushed test ts t rest))
+    (λ rest. ⊎_elim (λ found. inl (or_right (test u) _ found)) (λ is. inr is) (any_pushed test ts t rest))
     (or_cases (test u) _ e)
-  where
-    either : (a b : Bool) → b ≡ true → (a || b) ≡ true
-    either true b e = refl
-    either false b e = e
 
 known_pushed : (d : Data) (before : List Txn) (i : ℕ) (txn : Txn) → Known d before i → IsNumber d i txn.no → Known d (before ++ txn ∷ []) (i + 1)
 known_pushed d before i txn known here n e =

@@ -1,13 +1,14 @@
 -- Laws of the first value that a list gives a key.
-use Rattle.std.proofs.Common.{◌≡◌, ℕ, Bool, true, false, cond, ◌==◌, ◌||◌, T, subst, List, [], ◌∷◌, ◌++◌, Option, Some, None, refl, sym, ap, ◌∙◌}
+use Rattle.std.proofs.Common.{◌≡◌, ℕ, true, false, cond, ◌==◌, T, subst, List, [], ◌∷◌, ◌++◌, Option, Some, None, refl, sym, ap, ◌∙◌}
 use Rattle.std.proofs.lemmas.List.{reverse-append}
 use Rattle.std.specs.Prelude.{reverse}
 use Rattle.std.specs.Option.{option_or}
 use Rattle.std.specs.Cmp.{unsigned_ties, tied_itself, nat_cmp_total}
-use Rattle.std.specs.Ordering.{nat_cmp, is_eq, ordering_then, ordering_reverse}
+use Rattle.std.specs.Ordering.{nat_cmp, is_eq, ordering_then}
 use Rattle.std.specs.declared.cmp.Ordering.{Ordering}
 use Rattle.std.specs.declared.cmp.Ordering.TheVariants.{Less, Equal, Greater}
 use Rattle.lab_table.specs.Row.{Row, row_cmp, rows_total}
+use Rattle.lab_table.proofs.Orderings.{eq_reversed}
 use Rattle.lab_history.specs.Keyed.{value_at}
 
 -- numbers compare alike where they are equal
@@ -16,23 +17,13 @@ same_number m n = sym (unsigned_ties m n)
 
 -- rows that don't compare alike don't from the other side
 pub other_row : (a b : Row) → is_eq (row_cmp a b) ≡ is_eq (row_cmp b a)
-other_row a b = ap is_eq (rows_total.antisymm a b) ∙ turned (row_cmp b a)
-  where
-    turned : (r : Ordering) → is_eq (ordering_reverse r) ≡ is_eq r
-    turned Less = refl
-    turned Equal = refl
-    turned Greater = refl
+other_row a b = ap is_eq (rows_total.antisymm a b) ∙ eq_reversed (row_cmp b a)
 
 -- pairs with different first parts differ
 pub apart_first : (a b : Ordering) → is_eq a ≡ false → is_eq (ordering_then a b) ≡ false
 apart_first Less b h = refl
 apart_first Equal b h = absurd (subst T h tt)
 apart_first Greater b h = refl
-
--- where neither of two holds, each doesn't
-pub neither : (a b : Bool) → (a || b) ≡ false → (a ≡ false) × (b ≡ false)
-neither true b h = absurd (subst T h tt)
-neither false b h = (refl, h)
 
 -- pairs with one number first are told apart by their seconds
 pub same_first : (n : ℕ) (b : Ordering) → is_eq (ordering_then (nat_cmp n n) b) ≡ is_eq b

@@ -12,7 +12,7 @@ use Rattle.lab_history.specs.FileOf.{AreEach, IsMapOf, IsPair, IsVersion, IsInst
 use Rattle.lab_history.specs.declared.operation.VersionName.{VersionName}
 use Rattle.lab_history.specs.declared.path.ListPlace.{ListPlace}
 use Rattle.lab_history.specs.declared.path.ListPlace.TheVariants as list
-use Rattle.lab_history.proofs.Rises.{test_left, test_right}
+use Rattle.lab_table.proofs.Tests.{both}
 
 -- what an item at a place stands for
 pub each_at : {X : Type 0} (Is : Data → X → Type 0) (ds : Items) (xs : List X) → AreEach Is ds xs → (k : ℕ) (m : Data) → get_item k ds ≡ Some m
@@ -30,8 +30,8 @@ neighbours (u ∷ []) k x y rise e f = absurd cc
 neighbours (u ∷ v ∷ xs) zero x y rise e f =
     let first : u ≡ x = cc in
     let second : v ≡ y = cc in
-    subst (λ (z : Row × _). T (is_lt (row_cmp x.0 z.0))) second (subst (λ (z : Row × _). T (is_lt (row_cmp z.0 v.0))) first (test_left _ _ (test_left _ _ rise)))
-neighbours (u ∷ v ∷ xs) (suc k) x y rise e f = neighbours (v ∷ xs) k x y (test_right _ _ rise) e f
+    subst (λ (z : Row × _). T (is_lt (row_cmp x.0 z.0))) second (subst (λ (z : Row × _). T (is_lt (row_cmp z.0 v.0))) first (both _ _ (both _ _ rise).0).0)
+neighbours (u ∷ v ∷ xs) (suc k) x y rise e f = neighbours (v ∷ xs) k x y (both _ _ rise).1 e f
 
 -- a list in which nothing is wrong but perhaps within its parts
 pub record IsGood (place : ListPlace) (l : Data) : Type 0 where

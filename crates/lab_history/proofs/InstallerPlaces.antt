@@ -6,7 +6,8 @@ use Rattle.std.specs.FinMap.{find, is_sorted}
 use Rattle.std.specs.FinMap.Entries.{below_all}
 use Rattle.std.specs.Ordering.{nat_cmp, is_eq}
 use Rattle.lab_table.specs.Row.{Row, row_cmp}
-use Rattle.lab_table.proofs.Maps.{both, same_row, find_below}
+use Rattle.lab_table.proofs.Maps.{same_row, find_below}
+use Rattle.lab_table.proofs.Tests.{both}
 use Rattle.lab_history.specs.Index.{row_txn_cmp, placed_from, placed}
 use Rattle.lab_history.specs.Keyed.{value_at}
 use Rattle.lab_history.specs.Version.{place_in}

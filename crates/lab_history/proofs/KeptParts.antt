@@ -1,9 +1,9 @@
 -- Parts have no fault exactly where they keep what a history keeps.
-use Rattle.std.proofs.Common.{◌≡◌, ◌≤◌, ℕ, ◌+◌, ◌==◌, Bool, true, false, not, ◌&&◌, List, [], ◌∷◌, ◌++◌, length, map, sum, Result, Ok, Err, refl, sym, ap, ◌∙◌, arith}
+use Rattle.std.proofs.Common.{◌≡◌, ◌≤◌, ℕ, ◌+◌, ◌==◌, Bool, true, false, not, List, [], ◌∷◌, ◌++◌, length, map, sum, Result, Ok, Err, refl, sym, ap, ◌∙◌, arith}
 use Rattle.std.specs.Prelude.{⊤, nat_le, nat_lt}
 use Rattle.std.specs.List.{list_any, list_all}
 use Rattle.std.specs.FinMap as finite
-use Rattle.std.proofs.lemmas.Bool.{leb-true, le-leb, ltb-false, le-ltb, and_parts, or_parts, or_from, eqb-false, ne_eqb}
+use Rattle.std.proofs.lemmas.Bool.{leb-true, le-leb, ltb-false, le-ltb, and_parts, or_parts, or_from, eqb-false, ne_eqb, not-false, and_from}
 use Rattle.std.proofs.lemmas.List.{length-append}
 use Rattle.std.proofs.lemmas.List.Folds.{list_any-append}
 use Rattle.lab_table.specs.Row.{Row}
@@ -27,6 +27,7 @@ use Rattle.lab_history.specs.declared.path.Path.TheVariants as path
 use Rattle.lab_history.specs.declared.transaction.Txn.{Txn}
 use Rattle.lab_history.proofs.CheckedTxns.{operations_behind, operations_decide}
 use Rattle.lab_history.proofs.LimitsKept.{limits_kept}
+use Rattle.lab_history.proofs.KeptOperations.{ops_joined, ops_parted}
 
 -- ---- no fault in either of two
 
@@ -44,15 +45,8 @@ not_refused false e h = refl
 pub refused_not : (b : Bool) (e : FileFault) → b ≡ false → refused_if b e ≡ Ok tt
 refused_not b e h = ap (λ c. refused_if c e) h
 
-not_false : (b : Bool) → not b ≡ false → b ≡ true
-not_false true h = refl
-not_false false h = absurd cc
-
 not_true : (b : Bool) → b ≡ true → not b ≡ false
 not_true b h = ap not h
-
-both_true : (a b : Bool) → a ≡ true → b ≡ true → (a && b) ≡ true
-both_true a b h g = ap (λ x. x && b) h ∙ g
 
 -- ---- operations
 
@@ -62,14 +56,14 @@ prints_true s h =
     record { shallow = leb-true (statement_depth s) 16 parts.0; short = leb-true (length (printed_statement s)) 1000 parts.1 }
 
 pub true_prints : (s : Statement) → StatementPrints s → statement_prints s ≡ true
-true_prints s p = both_true (nat_le (statement_depth s) 16) (nat_le (length (printed_statement s)) 1000) (le-leb (statement_depth s) 16 p.shallow) (le-leb (length (printed_statement s)) 1000 p.short)
+true_prints s p = and_from (nat_le (statement_depth s) 16) (nat_le (length (printed_statement s)) 1000) (le-leb (statement_depth s) 16 p.shallow) (le-leb (length (printed_statement s)) 1000 p.short)
 
 listed_passes : (place : ListPlace) (index : ℕ) (es : List (Row × VersionName)) → listed_from place index es ≡ Ok tt → list_all is_listed (map (λ e. e.1) es) ≡ true
 listed_passes place index [] h = refl
 listed_passes place index (e ∷ es) h =
     let wrong : FileFault = fault.WrongFormat (path.Member place index) in
     let parts = both_pass (refused_if (not (is_listed e.1)) wrong) (λ _. listed_from place (index + 1) es) tt h in
-    both_true (is_listed e.1) (list_all is_listed (map (λ e. e.1) es)) (not_false (is_listed e.1) (not_refused (not (is_listed e.1)) wrong parts.0)) (listed_passes place (index + 1) es parts.1)
+    and_from (is_listed e.1) (list_all is_listed (map (λ e. e.1) es)) (not-false (is_listed e.1) (not_refused (not (is_listed e.1)) wrong parts.0)) (listed_passes place (index + 1) es parts.1)
 
 passes_listed : (place : ListPlace) (index : ℕ) (es : List (Row × VersionName)) → list_all is_listed (map (λ e. e.1) es) ≡ true → listed_from place index es ≡ Ok tt
 passes_listed place index [] h = refl
@@ -83,7 +77,7 @@ op_passes txn by index op h =
     let bad : FileFault = fault.BadStatement by (index + 1) in
     let parts = both_pass (refused_if (not (statement_prints op.statement)) bad) (λ _. listed_from (list.View txn index) 0 (finite.entries op.view)) tt h in
     record {
-      prints = prints_true op.statement (not_false (statement_prints op.statement) (not_refused (not (statement_prints op.statement)) bad parts.0));
+      prints = prints_true op.statement (not-false (statement_prints op.statement) (not_refused (not (statement_prints op.statement)) bad parts.0));
       listed = listed_passes (list.View txn index) 0 (finite.entries op.view) parts.1;
     }
 
@@ -103,14 +97,6 @@ ops_pass txn by index (op ∷ ops) h =
 pass_ops : (txn by index : ℕ) (ops : List Op) → OpsKeep ops → ops_checked txn by index ops ≡ Ok tt
 pass_ops txn by index [] k = refl
 pass_ops txn by index (op ∷ ops) k = passed_then (op_checked txn by index op) (λ _. ops_checked txn by (index + 1) ops) (passes_op txn by index op k.0) ∙ pass_ops txn by (index + 1) ops k.1
-
-ops_joined : (xs ys : List Op) → OpsKeep xs → OpsKeep ys → OpsKeep (xs ++ ys)
-ops_joined [] ys k m = m
-ops_joined (x ∷ xs) ys k m = (k.0, ops_joined xs ys k.1 m)
-
-ops_parted : (xs ys : List Op) → OpsKeep (xs ++ ys) → OpsKeep xs × OpsKeep ys
-ops_parted [] ys k = (tt, k)
-ops_parted (x ∷ xs) ys k = let rest : OpsKeep xs × OpsKeep ys = ops_parted xs ys k.1 in ((k.0, rest.0), rest.1)
 
 -- ---- numbers
 
@@ -195,7 +181,7 @@ installed_pass index [] h = refl
 installed_pass index (e ∷ es) h =
     let wrong : FileFault = fault.WrongFormat (path.Member list.Installed index) in
     let parts = both_pass (refused_if (not (has_installer e.1)) wrong) (λ _. installed_checked (index + 1) es) tt h in
-    both_true (has_installer e.1) (list_all has_installer (map (λ e. e.1) es)) (not_false (has_installer e.1) (not_refused (not (has_installer e.1)) wrong parts.0)) (installed_pass (index + 1) es parts.1)
+    and_from (has_installer e.1) (list_all has_installer (map (λ e. e.1) es)) (not-false (has_installer e.1) (not_refused (not (has_installer e.1)) wrong parts.0)) (installed_pass (index + 1) es parts.1)
 
 pass_installed : (index : ℕ) (es : List (Row × List ℕ)) → list_all has_installer (map (λ e. e.1) es) ≡ true → installed_checked index es ≡ Ok tt
 pass_installed index [] h = refl

@@ -1,6 +1,6 @@
 -- The last writes of transactions.
 use Rattle.std.proofs.Common.{◌≡◌, ℕ, suc, ◌+◌, Bool, true, false, cond, ◌==◌, List, [], ◌∷◌, map, Option, Some, None, refl, sym, ap, ◌∙◌, subst, arith}
-use Rattle.std.proofs.lemmas.Bool.{eqb-true}
+use Rattle.std.proofs.lemmas.Bool.{eqb-true, or_parts}
 use Rattle.std.specs.Prelude.{reverse, is_some, option_map}
 use Rattle.std.specs.List.{list_any}
 use Rattle.std.specs.Option.{option_or}
@@ -15,7 +15,7 @@ use Rattle.lab_history.specs.VersionName.{new_states}
 use Rattle.lab_history.specs.declared.operation.Op.{Op}
 use Rattle.lab_history.specs.declared.operation.State.{State}
 use Rattle.lab_history.specs.declared.transaction.Txn.{Txn}
-use Rattle.lab_history.proofs.FirstValues.{same_number, other_row, apart_first, same_first, neither, or_none, value_at-reverse}
+use Rattle.lab_history.proofs.FirstValues.{same_number, other_row, apart_first, same_first, or_none, value_at-reverse}
 
 -- the rows that are written don't depend on the states
 pub written_states : (txn op : ℕ) (es : List (Row × State)) → written_by txn op (new_states es) ≡ written_by txn op es
@@ -88,8 +88,8 @@ module _ (n : ℕ) (row : Row) where
   none_found [] h = refl
   none_found (t ∷ ts) h =
       value_at-reverse txn_row_cmp (n, row) (written_from t.no 0 t.ops) (written ts)
-      ∙ ap (λ o. option_or o (last_at (written_from t.no 0 t.ops))) (none_found ts (neither (t.no == n) (list_any (λ m. m == n) (map (λ t. t.no) ts)) h).1)
-      ∙ from_other t.no 0 (same_number t.no n ∙ (neither (t.no == n) (list_any (λ m. m == n) (map (λ t. t.no) ts)) h).0) t.ops
+      ∙ ap (λ o. option_or o (last_at (written_from t.no 0 t.ops))) (none_found ts (or_parts (t.no == n) (list_any (λ m. m == n) (map (λ t. t.no) ts)) h).1)
+      ∙ from_other t.no 0 (same_number t.no n ∙ (or_parts (t.no == n) (list_any (λ m. m == n) (map (λ t. t.no) ts)) h).0) t.ops
 
   -- a transaction's last write of a row is found
   pub last_found : (ts : List Txn) → AllDistinct (map (λ t. t.no) ts) → last_at (written ts) ≡ last_write (ops_in (find_txn ts n)) row

@@ -6,6 +6,7 @@ use Rattle.std.specs.FinMap.{FinMap}
 use Rattle.serde_json.specs.Data.{Data, Items, no_items, item}
 use Rattle.serde_json.specs.Find.{as_array}
 use Rattle.lab_table.specs.Row.{Row, row_cmp}
+use Rattle.lab_table.proofs.Tests.{both}
 use Rattle.lab_history.specs.Faults.{required}
 use Rattle.lab_history.specs.Entries.{follows, entries_from, entries_in}
 use Rattle.lab_history.specs.FileOf.{AreEach, IsMapOf}
@@ -14,7 +15,7 @@ use Rattle.lab_history.specs.declared.path.ListPlace.{ListPlace}
 use Rattle.lab_history.specs.declared.path.Path.TheVariants as path
 use Rattle.lab_history.proofs.Steps.{both_ok, step_on, required_ok, required_is}
 use Rattle.lab_history.proofs.Trees.{array_of}
-use Rattle.lab_history.proofs.Rises.{AllFollow, test_left, test_right, first_follows, entries_step, entries_some, entries_rise}
+use Rattle.lab_history.proofs.Rises.{AllFollow, first_follows, entries_step, entries_some, entries_rise}
 
 placed : {A : Type 0} (b : Bool) (r q : Result A FileFault) → T b → (if b then r else q) ≡ r
 placed true r q t = refl
@@ -48,7 +49,7 @@ module _ {X : Type 0} (read : ℕ → Data → Result (Row × X) FileFault) (pla
     each_is_read i before (item d ds) [] each rise follow = absurd each
     each_is_read i before (item d ds) (x ∷ xs) each rise follow =
         step_on _ (is_read i d x each.0) (placed (follows before x.0) _ _ (first_follows before x xs follow)
-        ∙ step_on _ (each_is_read (i + 1) (Some x.0) ds xs each.1 (test_right _ _ rise) (test_left _ _ rise)) refl)
+        ∙ step_on _ (each_is_read (i + 1) (Some x.0) ds xs each.1 (both _ _ rise).1 (both _ _ rise).0) refl)
 
     -- a map that a list stands for is read of it
     pub map_is_read : (d : Data) (m : FinMap row_cmp X) → IsMapOf Is d m → entries_in read place d ≡ Ok (finite.entries m)

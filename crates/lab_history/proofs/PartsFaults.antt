@@ -3,7 +3,7 @@ use Rattle.std.proofs.Common.{◌≡◌, ◌≤◌, ◌⊎◌, inl, inr, ℕ, ze
 use Rattle.std.specs.Prelude.{⊤, nat_lt, slice_get}
 use Rattle.std.specs.List.{list_any}
 use Rattle.std.specs.FinMap as finite
-use Rattle.std.proofs.lemmas.Bool.{ltb-true, eqb-true, or_cases}
+use Rattle.std.proofs.lemmas.Bool.{ltb-true, eqb-true, or_cases, not-true}
 use Rattle.std.proofs.lemmas.Grind.{flat_map-append}
 use Rattle.std.proofs.lemmas.List.{length-append}
 use Rattle.std.proofs.lemmas.Option.{slice_get_within}
@@ -27,11 +27,11 @@ use Rattle.lab_history.proofs.KeptParts.{true_prints}
 
 -- ---- the fault of two
 
-fault_in : {B : Type 0} → FileFault → Result B FileFault → FileFault
+pub fault_in : {B : Type 0} → FileFault → Result B FileFault → FileFault
 fault_in else_fault (Ok x) = else_fault
 fault_in else_fault (Err e) = e
 
-same_fault : {B : Type 0} (r : Result B FileFault) (e f : FileFault) → r ≡ Err e → r ≡ Err f → e ≡ f
+pub same_fault : {B : Type 0} (r : Result B FileFault) (e f : FileFault) → r ≡ Err e → r ≡ Err f → e ≡ f
 unfolding fault_in
 same_fault r e f h g = sym (ap (fault_in e) h) ∙ ap (fault_in e) g
 
@@ -42,10 +42,6 @@ first_or_second {B} (Err e) then f h = inl (ap (λ x. Err x) (same_fault {B = B}
 refused_for : (b : Bool) (e f : FileFault) → refused_if b e ≡ Err f → (b ≡ true) × (e ≡ f)
 refused_for true e f h = (refl, same_fault {B = ⊤} (Err e) e f refl h)
 refused_for false e f h = absurd cc
-
-not_so : (b : Bool) → not b ≡ true → b ≡ false
-not_so true h = absurd cc
-not_so false h = refl
 
 true_or_false : (b : Bool) → b ≡ true → b ≡ false → ⊥
 true_or_false true h g = absurd cc
@@ -68,7 +64,7 @@ listed_fault place index (e ∷ es) f h =
     elim (first_or_second (refused_if (not (is_listed e.1)) (wrong index)) (λ _. listed_from place (index + 1) es) f h) [
       | inl here ↦
           let refused : (not (is_listed e.1) ≡ true) × (wrong index ≡ f) = refused_for (not (is_listed e.1)) (wrong index) f here in
-          record { k = 0; entry = e; stands = refl; isnt = not_so (is_listed e.1) refused.0; is = ap wrong (omega arith) ∙ refused.1 }
+          record { k = 0; entry = e; stands = refl; isnt = not-true (is_listed e.1) refused.0; is = ap wrong (omega arith) ∙ refused.1 }
       | inr later ↦
           let rest : IsUnlisted place (index + 1) es f = listed_fault place (index + 1) es f later in
           record { k = suc rest.k; entry = rest.entry; stands = rest.stands; isnt = rest.isnt; is = ap wrong (omega arith) ∙ rest.is }
@@ -82,7 +78,7 @@ op_fault txn by index op f h =
     elim (first_or_second (refused_if (not (statement_prints op.statement)) bad) (λ _. listed_from place 0 es) f h) [
       | inl here ↦
           let refused : (not (statement_prints op.statement) ≡ true) × (bad ≡ f) = refused_for (not (statement_prints op.statement)) bad f here in
-          subst (IsOpFault txn by index op) refused.1 (unprintable (λ p. true_or_false (statement_prints op.statement) (true_prints op.statement p) (not_so (statement_prints op.statement) refused.0)))
+          subst (IsOpFault txn by index op) refused.1 (unprintable (λ p. true_or_false (statement_prints op.statement) (true_prints op.statement p) (not-true (statement_prints op.statement) refused.0)))
       | inr later ↦
           let rest : IsUnlisted place 0 es f = listed_fault place 0 es f later in
           subst (IsOpFault txn by index op) (ap (λ n. fault.WrongFormat (path.Member place n)) (omega arith) ∙ rest.is) (unlisted rest.k rest.entry rest.stands rest.isnt)
@@ -186,7 +182,7 @@ installed_fault index (e ∷ es) f h =
     elim (first_or_second (refused_if (not (has_installer e.1)) (wrong index)) (λ _. installed_checked (index + 1) es) f h) [
       | inl here ↦
           let refused : (not (has_installer e.1) ≡ true) × (wrong index ≡ f) = refused_for (not (has_installer e.1)) (wrong index) f here in
-          record { k = 0; row = e.0; stands = ap (λ ns. Some (e.0, ns)) (nobody e.1 (not_so (has_installer e.1) refused.0)); is = ap wrong (omega arith) ∙ refused.1 }
+          record { k = 0; row = e.0; stands = ap (λ ns. Some (e.0, ns)) (nobody e.1 (not-true (has_installer e.1) refused.0)); is = ap wrong (omega arith) ∙ refused.1 }
       | inr later ↦
           let rest : IsUninstalled (index + 1) es f = installed_fault (index + 1) es f later in
           record { k = suc rest.k; row = rest.row; stands = rest.stands; is = ap wrong (omega arith) ∙ rest.is }

@@ -1,5 +1,5 @@
 -- What is read of a history file keeps what every history keeps.
-use Rattle.std.proofs.Common.{◌≡◌, ◌≢◌, ℕ, true, List, [], ◌∷◌, ◌++◌, map, Some, Ok, option_and_then, nat_le, nat_lt, ◌&&◌, refl, ap, subst, ◌∙◌, arith}
+use Rattle.std.proofs.Common.{◌≡◌, ◌≢◌, ℕ, true, List, [], ◌∷◌, map, Some, Ok, option_and_then, nat_le, nat_lt, ◌&&◌, refl, ap, subst, ◌∙◌, arith}
 use Rattle.std.specs.List.{list_all}
 use Rattle.std.specs.FinMap as finite
 use Rattle.std.proofs.lemmas.Bool.{and_from}
@@ -23,6 +23,7 @@ use Rattle.lab_history.proofs.Steps.{both_ok, both_some, when_found, kept_limit}
 use Rattle.lab_history.proofs.Standing.{standing}
 use Rattle.lab_history.proofs.StatementsPrint.{spelled_prints}
 use Rattle.lab_history.proofs.PartsRead.{parts_read}
+use Rattle.lab_history.proofs.KeptOperations.{ops_joined}
 
 -- an operation's number is from 1 to 10,000
 op_number_listed : (d : Data) (txn op : ℕ) → op_in_number d ≡ Some op → is_listed (Of txn op) ≡ true
@@ -58,16 +59,12 @@ ops_keep no_items (op ∷ ops) each = absurd each
 ops_keep (item d ds) [] each = absurd each
 ops_keep (item d ds) (op ∷ ops) each = (op_keeps d op each.0, ops_keep ds ops each.1)
 
-both_keep : (xs ys : List Op) → OpsKeep xs → OpsKeep ys → OpsKeep (xs ++ ys)
-both_keep [] ys h i = i
-both_keep (x ∷ xs) ys h i = (h.0, both_keep xs ys h.1 i)
-
 -- and so do all operations of transactions
 pub operations_keep : (ds : Items) (txns : List Txn) → AreEach IsTransaction ds txns → OpsKeep (operations txns)
 operations_keep no_items [] each = tt
 operations_keep no_items (txn ∷ txns) each = absurd each
 operations_keep (item d ds) [] each = absurd each
-operations_keep (item d ds) (txn ∷ txns) each = let is = each.0.4 in both_keep txn.ops (operations txns) (ops_keep is.0 txn.ops is.2) (operations_keep ds txns each.1)
+operations_keep (item d ds) (txn ∷ txns) each = let is = each.0.4 in ops_joined txn.ops (operations txns) (ops_keep is.0 txn.ops is.2) (operations_keep ds txns each.1)
 
 -- what is read, within the limits, keeps what every history keeps
 pub read_keeps : (d : Data) (h : History) → parts_in d ≡ Ok h → within_limits h ≡ Ok tt → Keeps h

@@ -1,11 +1,14 @@
 -- A list that is read rises by its rows, strictly.
-use Rattle.std.proofs.Common.{◌≡◌, ℕ, ◌+◌, Bool, true, false, T, List, [], ◌∷◌, Option, Some, None, Result, Ok, Err, ◌&&◌, Less, Equal, Greater, Ordering, refl, sym, subst, is_lt}
+use Rattle.std.proofs.Common.{◌≡◌, ℕ, ◌+◌, Bool, true, false, T, List, [], ◌∷◌, Option, Some, None, Result, Ok, Err, refl, sym, subst}
 use Rattle.std.specs.Prelude.{if◌then◌else◌}
 use Rattle.std.specs.FinMap.Entries.{below_all}
 use Rattle.std.specs.FinMap as finite
 use Rattle.serde_json.specs.Data.{Data, Items, no_items, item}
 use Rattle.serde_json.specs.Find.{as_array}
-use Rattle.lab_table.specs.Row.{Row, row_cmp, rows_total}
+use Rattle.lab_table.specs.Row.{Row, row_cmp}
+use Rattle.lab_table.proofs.Orderings.{is_less}
+use Rattle.lab_table.proofs.Tests.{joined, both}
+use Rattle.lab_table.proofs.SortedRows.{lower}
 use Rattle.lab_history.specs.Faults.{required}
 use Rattle.lab_history.specs.Entries.{follows, entries_from, entries_in}
 use Rattle.lab_history.specs.declared.fault.FileFault.{FileFault}
@@ -18,39 +21,15 @@ abbrev pub AllFollow : {X : Type 0} → Option Row → List (Row × X) → Type 
 AllFollow None xs = Unit {0}
 AllFollow (Some row) xs = T (below_all row_cmp row xs)
 
-pub both_tests : (a b : Bool) → T a → T b → T (a && b)
-both_tests true b p q = q
-both_tests false b p q = p
-
-pub test_left : (a b : Bool) → T (a && b) → T a
-test_left true b p = tt
-test_left false b p = p
-
-pub test_right : (a b : Bool) → T (a && b) → T b
-test_right true b p = p
-test_right false b p = absurd p
-
-is_less : (o : Ordering) → T (is_lt o) → o ≡ Less
-is_less Less lt = refl
-is_less Equal lt = absurd lt
-is_less Greater lt = absurd lt
-
--- what comes behind a row comes behind those before it
-behind_both : {X : Type 0} (a b : Row) (xs : List (Row × X)) → T (is_lt (row_cmp a b)) → T (below_all row_cmp b xs) → T (below_all row_cmp a xs)
-behind_both a b [] lt all = tt
-behind_both a b (x ∷ xs) lt all =
-    let less = rows_total.trans a b x.0 (is_less _ lt) (is_less _ (test_left _ _ all)) in
-    both_tests _ _ (subst (λ o. T (is_lt o)) (sym less) tt) (behind_both a b xs lt (test_right _ _ all))
-
 -- a row that follows, and those behind it
 head_follows : {X : Type 0} (before : Option Row) (x : Row × X) (xs : List (Row × X)) → follows before x.0 ≡ true → T (below_all row_cmp x.0 xs) → AllFollow before (x ∷ xs)
 head_follows None x xs e all = tt
-head_follows (Some row) x xs e all = let lt = subst T (sym e) tt in both_tests _ _ lt (behind_both row x.0 xs lt all)
+head_follows (Some row) x xs e all = let lt = subst T (sym e) tt in joined _ _ lt (lower row x.0 xs (is_less _ lt) all)
 
 -- the first row of those that follow
 pub first_follows : {X : Type 0} (before : Option Row) (x : Row × X) (xs : List (Row × X)) → AllFollow before (x ∷ xs) → T (follows before x.0)
 first_follows None x xs all = tt
-first_follows (Some row) x xs all = test_left _ _ all
+first_follows (Some row) x xs all = (both _ _ all).0
 
 under : {A : Type 0} (b : Bool) (r : Result A FileFault) (g : FileFault) (y : A) → (if b then r else Err g) ≡ Ok y → (b ≡ true) × (r ≡ Ok y)
 under true r g y e = (refl, e)
@@ -86,7 +65,7 @@ module _ {X : Type 0} (read : ℕ → Data → Result (Row × X) FileFault) (pla
   rise_from i before (item d ds) (x ∷ xs) e =
       let step = entries_step i before d ds x xs e in
       let rest = rise_from (i + 1) (Some x.0) ds xs step.2 in
-      (both_tests _ _ rest.1 rest.0, head_follows before x xs step.1 rest.1)
+      (joined _ _ rest.1 rest.0, head_follows before x xs step.1 rest.1)
 
   -- a list that is read rises
   pub entries_rise : (d : Data) (xs : List (Row × X)) → entries_in read place d ≡ Ok xs → T (finite.is_sorted row_cmp xs)

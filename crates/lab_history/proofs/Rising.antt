@@ -1,12 +1,12 @@
 -- Lists whose rows rise strictly, looked at from the front.
-use Rattle.std.proofs.Common.{◌≡◌, Bool, true, false, ◌&&◌, T, List, [], ◌∷◌, Option, Some, None, refl, sym, ap, ◌∙◌, subst}
+use Rattle.std.proofs.Common.{◌≡◌, Bool, true, false, ◌&&◌, T, List, [], ◌∷◌, Option, Some, None, refl, ap, ◌∙◌}
 use Rattle.std.specs.Ordering.{is_lt}
 use Rattle.std.specs.FinMap.{is_sorted}
 use Rattle.std.specs.FinMap.Entries.{below_all}
 use Rattle.std.specs.declared.cmp.Ordering.{Ordering}
 use Rattle.std.specs.declared.cmp.Ordering.TheVariants.{Less, Equal, Greater}
-use Rattle.lab_table.specs.Row.{Row, row_cmp, rows_total}
-use Rattle.lab_table.proofs.Maps.{both}
+use Rattle.lab_table.specs.Row.{Row, row_cmp}
+use Rattle.lab_table.proofs.SortedRows.{lower}
 use Rattle.lab_history.specs.Entries.{follows}
 
 -- whether the rows rise strictly behind a row
@@ -21,28 +21,10 @@ absorbed true false c f = absurd (f tt)
 absorbed false true c f = refl
 absorbed false false c f = refl
 
--- what compares as less is Less
-less : (o : Ordering) → T (is_lt o) → o ≡ Less
-less Less h = refl
-less Equal h = absurd h
-less Greater h = absurd h
-
--- two tests that hold are one
-joined : (a b : Bool) → T a → T b → T (a && b)
-joined true b p q = q
-joined false b p q = p
-
--- what comes before a row comes before all that this one does
-below_more : {X : Type 0} (x y : Row) (es : List (Row × X)) → row_cmp x y ≡ Less → T (below_all row_cmp y es) → T (below_all row_cmp x es)
-below_more x y [] before h = tt
-below_more x y (e ∷ es) before h =
-    let parts = both (is_lt (row_cmp y e.0)) (below_all row_cmp y es) h in
-    joined _ _ (subst (λ o. T (is_lt o)) (sym (rows_total.trans x y e.0 before (less _ parts.0))) tt) (below_more x y es before parts.1)
-
 -- the order of neighbours is the order of all
 neighbours : {X : Type 0} (row : Row) (e : Row × X) (es : List (Row × X)) (o : Ordering) → row_cmp row e.0 ≡ o
     → (is_lt o && (below_all row_cmp e.0 es && is_sorted row_cmp es)) ≡ ((is_lt o && below_all row_cmp row es) && (below_all row_cmp e.0 es && is_sorted row_cmp es))
-neighbours row e es Less before = absorbed (below_all row_cmp e.0 es) (below_all row_cmp row es) (is_sorted row_cmp es) (below_more row e.0 es before)
+neighbours row e es Less before = absorbed (below_all row_cmp e.0 es) (below_all row_cmp row es) (is_sorted row_cmp es) (lower row e.0 es before)
 neighbours row e es Equal before = refl
 neighbours row e es Greater before = refl
 

@@ -8,7 +8,8 @@ use Rattle.std.specs.Ordering.{is_eq, is_lt, ordering_reverse}
 use Rattle.std.specs.declared.cmp.Ordering.{Ordering}
 use Rattle.std.specs.declared.cmp.Ordering.TheVariants.{Less, Equal, Greater}
 use Rattle.lab_table.specs.Row.{Row, row_cmp, rows_total}
-use Rattle.lab_table.proofs.Maps.{both}
+use Rattle.lab_table.proofs.Tests.{both}
+use Rattle.lab_table.proofs.Orderings.{eq_reversed}
 use Rattle.lab_history.specs.Keyed.{value_at}
 use Rattle.lab_history.specs.VersionName.{new_states, state_value}
 use Rattle.lab_history.specs.declared.operation.State.{State}
@@ -18,12 +19,6 @@ not_above : (r : Ordering) → T (is_lt r) → is_lt (ordering_reverse r) ≡ fa
 not_above Less h = refl
 not_above Equal h = absurd h
 not_above Greater h = absurd h
-
--- equality seen from the other side
-turned : (r : Ordering) → is_eq (ordering_reverse r) ≡ is_eq r
-turned Less = refl
-turned Equal = refl
-turned Greater = refl
 
 -- one more, by its two spellings
 next : (k : ℕ) → suc (k + 1) ≡ suc k + 1
@@ -45,18 +40,8 @@ module _ {A : Type 0} where
   pub find_is : (row : Row) (es : List (Row × A)) → value_at row_cmp es row ≡ find row_cmp row es
   find_is row [] = refl
   find_is row (e ∷ es) =
-      ap (λ b. cond b (Some e.1) (value_at row_cmp es row)) (ap is_eq (rows_total.antisymm e.0 row) ∙ turned (row_cmp row e.0))
+      ap (λ b. cond b (Some e.1) (value_at row_cmp es row)) (ap is_eq (rows_total.antisymm e.0 row) ∙ eq_reversed (row_cmp row e.0))
       ∙ ap (cond (is_eq (row_cmp row e.0)) (Some e.1)) (find_is row es)
-
--- new states stand below what the states stand below
-below_states : (row : Row) (es : List (Row × State)) → below_all row_cmp row (new_states es) ≡ below_all row_cmp row es
-below_states row [] = refl
-below_states row (e ∷ es) = ap (λ b. is_lt (row_cmp row e.0) && b) (below_states row es)
-
--- states are sorted as new states are
-pub sorted_states : (es : List (Row × State)) → is_sorted row_cmp (new_states es) ≡ is_sorted row_cmp es
-sorted_states [] = refl
-sorted_states (e ∷ es) = ap (λ b. b && is_sorted row_cmp (new_states es)) (below_states e.0 es) ∙ ap (λ b. below_all row_cmp e.0 es && b) (sorted_states es)
 
 -- a row's new state is its state
 pub find_states : (row : Row) (es : List (Row × State)) → option_map state_value (find row_cmp row es) ≡ find row_cmp row (new_states es)

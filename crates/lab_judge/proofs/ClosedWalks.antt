@@ -42,11 +42,6 @@ none_forbidden forbids allows other (e ∷ es) none = at (none_forbidden forbids
     at rest true is n = absurd (omega arith)
     at rest false is n = (other e.kind is, rest n)
 
--- and the other way round
-pub all_allowed : (forbids allows : Kind → Bool) → ((k : Kind) → allows k ≡ true → forbids k ≡ false) → (es : List Edge) → Through allows es → times forbids es ≡ 0
-all_allowed forbids allows other [] all = refl
-all_allowed forbids allows other (e ∷ es) all = ap (λ b. cond b (1 + times forbids es) (times forbids es)) (other e.kind all.0) ∙ all_allowed forbids allows other es all.1
-
 -- edges around one that passes the test
 pub record HasSuch (test : Kind → Bool) (es : List Edge) : Type 0 where
   pub front : List Edge
@@ -88,10 +83,6 @@ module _ (h : History) where
   -- an edge and a walk back are a closed walk
   pub closed : (e : Edge) (back : List Edge) → IsEdge h e → IsWalk h e.to back e.from → IsClosedWalk h (e ∷ back)
   closed e back edge w = (edge, refl, w)
-
-  -- a walk that is not empty and ends where it begins is closed
-  pub closed_there : (n : ℕ) (e : Edge) (es : List Edge) → IsWalk h n (e ∷ es) n → IsClosedWalk h (e ∷ es)
-  closed_there n e es w = subst (λ k. IsWalk h k (e ∷ es) k) (sym w.1) w
 
   -- a closed walk may begin at any of its edges
   turned : (xs ys : List Edge) → IsClosedWalk h (xs ++ ys) → IsClosedWalk h (ys ++ xs)

@@ -7,8 +7,8 @@ use Rattle.lab_history.specs.History.{History}
 use Rattle.lab_history.specs.Version.{outcome_of, find_txn}
 use Rattle.lab_history.specs.declared.transaction.Txn.{Txn}
 use Rattle.lab_deps.specs.Soundness.{has_committed}
+use Rattle.lab_deps.proofs.Places.{times, times_count, times_here}
 use Rattle.lab_judge.specs.Runs.{HoldsEachOnce}
-use Rattle.lab_judge.proofs.Lists.{times, times-count, times_here}
 use Rattle.lab_judge.proofs.Numbers.{contained, contains_it, at_most_once}
 
 -- the numbers of the transactions whose number passes a test
@@ -48,7 +48,7 @@ found test (t ∷ ts) n h passed = at (λ c. found test ts n c passed) (t.no == 
 -- rising numbers that are those of the committed transactions hold each once
 pub each_once : (h : History) (ns kept : List ℕ) → IsStrictlyIncreasing ns → kept ≡ numbers_that (λ n. has_committed (outcome_of h n)) h.txns
     → ((n : ℕ) → Contains ns n → Contains kept n) → ((n : ℕ) → Contains kept n → Contains ns n) → HoldsEachOnce h ns
-each_once h ns kept up is from into n = sym (times-count n ns) ∙ at (has_committed (outcome_of h n)) refl
+each_once h ns kept up is from into n = sym (times_count n ns) ∙ at (has_committed (outcome_of h n)) refl
   where
     at : (b : Bool) → has_committed (outcome_of h n) ≡ b → times n ns ≡ cond b 1 0
     at true c =

@@ -10,9 +10,10 @@ use Rattle.lab_order.specs.Order as order
 use Rattle.lab_history.specs.History.{History}
 use Rattle.lab_history.specs.Version.{outcome_of}
 use Rattle.lab_deps.specs.Soundness.{has_committed}
+use Rattle.lab_deps.proofs.Places.{times, times_count, at_times}
 use Rattle.lab_judge.specs.Runs.{HoldsEachOnce}
 use Rattle.lab_judge.specs.Places.{position}
-use Rattle.lab_judge.proofs.Lists.{times, times-count, at_times, one_place}
+use Rattle.lab_judge.proofs.Lists.{one_place}
 use Rattle.lab_judge.proofs.Orders.{at_position}
 use Rattle.lab_judge.proofs.Numbers.{contains_it, stands, position_within}
 
@@ -21,7 +22,7 @@ pub within : (graph : Arrows) (ns : List ℕ) → order.HoldsEachOnce graph ns �
 within graph ns once k d lt =
     let a : ℕ = get_or ns k d in
     let some : 1 ≤ times a ns = at_times ns k a (slice_get-get_or ns k d lt) in
-    let is : times a ns ≡ cond (nat_lt a (nodes_of graph)) 1 0 = times-count a ns ∙ once a in
+    let is : times a ns ≡ cond (nat_lt a (nodes_of graph)) 1 0 = times_count a ns ∙ once a in
     at a (nat_lt a (nodes_of graph)) refl (subst (λ n. 1 ≤ n) is some)
   where
     at : (a : ℕ) (b : Bool) → nat_lt a (nodes_of graph) ≡ b → 1 ≤ cond b 1 0 → a < nodes_of graph
@@ -30,7 +31,7 @@ within graph ns once k d lt =
 
 module _ (h : History) (nodes : List ℕ) (once : HoldsEachOnce h nodes) where
   times_is : (n : ℕ) → times n nodes ≡ cond (has_committed (outcome_of h n)) 1 0
-  times_is n = times-count n nodes ∙ once n
+  times_is n = times_count n nodes ∙ once n
 
   pub at_most : (n : ℕ) → times n nodes ≤ 1
   at_most n = elim (has_committed (outcome_of h n)) as (λ b. times n nodes ≡ cond b 1 0 → times n nodes ≤ 1) [ true ↦ λ e. omega (arith, e) | false ↦ λ e. omega (arith, e) ] (times_is n)
@@ -82,7 +83,7 @@ module _ (h : History) (nodes : List ℕ) (once : HoldsEachOnce h nodes) where
 
   -- an order that has each node once has each committed transaction once
   pub each_once : (graph : Arrows) (ns : List ℕ) → nodes_of graph ≡ length nodes → order.HoldsEachOnce graph ns → HoldsEachOnce h (map (slice_index nodes) ns)
-  each_once graph ns size each n = sym (times-count n (map (slice_index nodes) ns)) ∙ at (has_committed (outcome_of h n)) (times_is n)
+  each_once graph ns size each n = sym (times_count n (map (slice_index nodes) ns)) ∙ at (has_committed (outcome_of h n)) (times_is n)
     where
       all : All (λ a. a < length nodes) ns
       all = subst (λ k. All (λ a. a < k) ns) size (within graph ns each)
@@ -90,6 +91,6 @@ module _ (h : History) (nodes : List ℕ) (once : HoldsEachOnce h nodes) where
       at : (b : Bool) → times n nodes ≡ cond b 1 0 → times n (map (slice_index nodes) ns) ≡ cond b 1 0
       at true e =
           let there : Contains nodes n = contains_it nodes n (omega (arith, e)) in
-          same_times n there ns all ∙ times-count (position nodes n) ns ∙ each (position nodes n)
+          same_times n there ns all ∙ times_count (position nodes n) ns ∙ each (position nodes n)
           ∙ ap (λ b. cond b 1 0) (lt-ltb (position nodes n) (nodes_of graph) (subst (λ k. position nodes n < k) (sym size) (position_within nodes n there)))
       at false e = none_there n e ns all

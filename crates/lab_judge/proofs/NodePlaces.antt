@@ -9,8 +9,9 @@ use Rattle.lab_order.specs.Arrows.{Arrows, nodes_of}
 use Rattle.lab_order.specs.Order as order
 use Rattle.lab_order.proofs.Writes.{set_read}
 use Rattle.lab_judge.specs.Places.{position}
-use Rattle.lab_judge.proofs.Lists.{times, times-count, one_place}
+use Rattle.lab_judge.proofs.Lists.{one_place}
 use Rattle.lab_judge.proofs.Numbers.{contains_it, stands, position_within}
+use Rattle.lab_deps.proofs.Places.{times, times_count}
 
 -- the place of a node in an order, by its two spellings
 pub same_position : (ns : List ℕ) (n : ℕ) → order.position ns n ≡ position ns n
@@ -79,12 +80,12 @@ no_more n ns all once = let is = total-is n ns all in let most = total-most n ns
 
 -- each node comes once in an order
 pub once_in : (graph : Arrows) (ns : List ℕ) → order.HoldsEachOnce graph ns → (a : ℕ) → times a ns ≤ 1
-once_in graph ns each a = elim (nat_lt a (nodes_of graph)) as (λ b. times a ns ≡ cond b 1 0 → times a ns ≤ 1) [ true ↦ λ e. omega (arith, e) | false ↦ λ e. omega (arith, e) ] (times-count a ns ∙ each a)
+once_in graph ns each a = elim (nat_lt a (nodes_of graph)) as (λ b. times a ns ≡ cond b 1 0 → times a ns ≤ 1) [ true ↦ λ e. omega (arith, e) | false ↦ λ e. omega (arith, e) ] (times_count a ns ∙ each a)
 
 -- and is there
 pub in_order : (graph : Arrows) (ns : List ℕ) → order.HoldsEachOnce graph ns → (a : ℕ) → a < nodes_of graph → Contains ns a
 in_order graph ns each a lt =
-    let one : times a ns ≡ 1 = times-count a ns ∙ each a ∙ ap (λ b. cond b 1 0) (lt-ltb a (nodes_of graph) lt) in
+    let one : times a ns ≡ 1 = times_count a ns ∙ each a ∙ ap (λ b. cond b 1 0) (lt-ltb a (nodes_of graph) lt) in
     contains_it ns a (omega (arith, one))
 
 module _ (places ns : List ℕ) (count : ℕ) (size : length places ≡ count) (all : All (λ a. a < count) ns) (once : (node : ℕ) → count_by (λ n. n == node) ns ≤ 1) where
@@ -97,7 +98,7 @@ module _ (places ns : List ℕ) (count : ℕ) (size : length places ≡ count) (
 
       same : get_or ns i 0 ≡ get_or ns k 0 → i ≡ k
       same e =
-          let few : times (get_or ns k 0) ns ≤ 1 = subst (λ n. n ≤ 1) (sym (times-count (get_or ns k 0) ns)) (once (get_or ns k 0)) in
+          let few : times (get_or ns k 0) ns ≤ 1 = subst (λ n. n ≤ 1) (sym (times_count (get_or ns k 0) ns)) (once (get_or ns k 0)) in
           one_place ns i k (get_or ns k 0) few (slice_get-get_or ns i 0 lt ∙ ap Some e) (slice_get-get_or ns k 0 (omega arith))
 
       at : (b : Bool) → (get_or ns i 0 == get_or ns k 0) ≡ b → cond b i (slice_index places (get_or ns k 0)) ≡ k

@@ -1,10 +1,10 @@
 -- Edges that open a walk that leads back, and those that don't.
-use Rattle.std.proofs.Common.{◌≡◌, ℕ, suc, ◌+◌, ◌<◌, Bool, true, false, cond, List, [], ◌∷◌, take, drop, length, slice_index_or, ◌++◌, refl, sym, ap, ◌∙◌, subst, arith}
+use Rattle.std.proofs.Common.{◌≡◌, ℕ, ◌+◌, ◌<◌, Bool, true, false, cond, List, [], ◌∷◌, take, drop, length, slice_index_or, ◌++◌, refl, sym, ap, ◌∙◌, subst, one-add}
 use Rattle.std.specs.Prelude.{Contains, IsTrue, ◌↔◌, ◌==◌}
 use Rattle.std.specs.List.{All, prefix_len}
 use Rattle.std.proofs.lemmas.Bool.{false≢true, eqb-true}
 use Rattle.std.proofs.lemmas.List.{take-append-drop, get_or_read}
-use Rattle.std.proofs.lemmas.List.Elements.{All-nil, All-cons, All-append, All-same, Contains-append_right, Contains-append_left}
+use Rattle.std.proofs.lemmas.List.Elements.{All-nil, All-cons, All-append, All-same, Contains-append_right}
 use Rattle.lab_order.specs.Arrows.{Arrows}
 use Rattle.lab_order.specs.Path.{Reaches}
 use Rattle.lab_order.specs.Placing.{is_marked}
@@ -41,13 +41,6 @@ in_parts P n es front rest is_front is_rest a b =
 pub from_rest : (n : ℕ) (es rest : List Edge) (e : Edge) → rest ≡ drop n es → Contains rest e → Contains es e
 from_rest n es rest e is there = subst (λ l. Contains l e) (take-append-drop n es) (Contains-append_right (take n es) (drop n es) e (subst (λ l. Contains l e) is there))
 
-pub from_front : (n : ℕ) (es front : List Edge) (e : Edge) → front ≡ take n es → Contains front e → Contains es e
-from_front n es front e is there = subst (λ l. Contains l e) (take-append-drop n es) (Contains-append_left (take n es) (drop n es) e (subst (λ l. Contains l e) is there))
-
--- one more, by its two spellings
-next : (n : ℕ) → 1 + n ≡ suc n
-next n = omega arith
-
 -- the edges at the front that are from a transaction are from it
 from_it_all : (from : ℕ) (es : List Edge) → All (λ e. e.from ≡ from) (take (prefix_len (λ e. e.from == from) es) es)
 from_it_all from [] = All-nil (λ e. e.from ≡ from)
@@ -55,7 +48,7 @@ from_it_all from (e ∷ es) = at (from_it_all from es) (e.from == from) refl
   where
     at : All (λ e. e.from ≡ from) (take (prefix_len (λ e. e.from == from) es) es) → (b : Bool) → (e.from == from) ≡ b → All (λ e. e.from ≡ from) (take (cond b (1 + prefix_len (λ e. e.from == from) es) 0) (e ∷ es))
     at rest true same =
-        subst (λ n. All (λ e. e.from ≡ from) (take n (e ∷ es))) (sym (next (prefix_len (λ e. e.from == from) es)))
+        subst (λ n. All (λ e. e.from ≡ from) (take n (e ∷ es))) (sym (one-add (prefix_len (λ e. e.from == from) es)))
         (All-cons (λ e. e.from ≡ from) e (take (prefix_len (λ e. e.from == from) es) es) (eqb-true e.from from same) rest)
     at rest false same = All-nil (λ e. e.from ≡ from)
 

@@ -2,7 +2,7 @@
 use Rattle.std.proofs.Common.{◌≡◌, ◌⊎◌, ℕ, zero, suc, ◌+◌, ◌*◌, ◌/◌, ◌%◌, ◌<◌, ◌≤◌, ◌==◌, Bool, true, false, cond, ◌||◌, ◌&&◌, Some, List, [], ◌∷◌, length, map, slice_index, refl, sym, ap, ◌∙◌, subst, arith, inl, inr}
 use Rattle.std.specs.Prelude.{◌↔◌, slice_get, Contains, not, IsTrue}
 use Rattle.std.specs.List.{All, list_any}
-use Rattle.std.proofs.lemmas.Bool.{eqb-true, eq-eqb, both_ways, or_cases, or_left, or_right, and_parts, cases_lt}
+use Rattle.std.proofs.lemmas.Bool.{eqb-true, eq-eqb, both_ways, or_cases, or_left, or_right, and_parts, cases_lt, not-true}
 use Rattle.std.proofs.lemmas.List.Elements.{All-cons, All-nil}
 use Rattle.std.proofs.lemmas.Option.{slice_get-get_or}
 use Rattle.lab_order.specs.Arrows.{Arrows, nodes_of, has_arrow, IsGraph}
@@ -11,12 +11,12 @@ use Rattle.lab_history.specs.History.{History}
 use Rattle.lab_history.specs.Version.{IsCommitted}
 use Rattle.lab_deps.specs.Edges.{IsEdge}
 use Rattle.lab_deps.specs.declared.edge.Edge.{Edge}
+use Rattle.lab_deps.proofs.Places.{at_times}
 use Rattle.lab_judge.specs.Runs.{HoldsEachOnce}
 use Rattle.lab_judge.specs.Places.{position, is_anti, IsArrow, IsTrail, IsCircle}
 use Rattle.lab_judge.specs.PlaceGraphs.{start_node, commit_node, spans, leads, IsPlaceGraph, point_at}
 use Rattle.lab_judge.specs.declared.places.Point.{Point}
 use Rattle.lab_judge.specs.declared.places.Point.TheVariants.{Start, Commit}
-use Rattle.lab_judge.proofs.Lists.{at_times}
 use Rattle.lab_judge.proofs.Orders.{committed_in}
 use Rattle.lab_judge.proofs.Numbers.{stands, position_within}
 use Rattle.lab_judge.proofs.Joined.{some_passes, passes_some, read}
@@ -123,12 +123,8 @@ module _ (h : History) (ns : List ℕ) (once : HoldsEachOnce h ns) (es : List Ed
       ∙ both_hold (start_node (position ns e.from)) (start_node (position ns m)) (commit_node (position ns e.to)) (commit_node (position ns n)) (ap (λ k. start_node (position ns k)) from) (ap (λ k. commit_node (position ns k)) to))
   has_it (Commit m) (Start n) (e, edge, from, to, kind) =
       led e edge (commit_node (position ns m)) (start_node (position ns n))
-      (ap (λ b. cond b (start_node (position ns e.from) == commit_node (position ns m) && commit_node (position ns e.to) == start_node (position ns n)) (commit_node (position ns e.from) == commit_node (position ns m) && start_node (position ns e.to) == start_node (position ns n))) (no_anti (is_anti e.kind) kind)
+      (ap (λ b. cond b (start_node (position ns e.from) == commit_node (position ns m) && commit_node (position ns e.to) == start_node (position ns n)) (commit_node (position ns e.from) == commit_node (position ns m) && start_node (position ns e.to) == start_node (position ns n))) (not-true (is_anti e.kind) kind)
       ∙ both_hold (commit_node (position ns e.from)) (commit_node (position ns m)) (start_node (position ns e.to)) (start_node (position ns n)) (ap (λ k. commit_node (position ns k)) from) (ap (λ k. start_node (position ns k)) to))
-    where
-      no_anti : (b : Bool) → not b ≡ true → b ≡ false
-      no_anti true e = absurd (both_ways _ refl e)
-      no_anti false e = refl
   has_it (Start m) (Start n) arrow = absurd arrow
   has_it (Commit m) (Commit n) arrow = absurd arrow
 

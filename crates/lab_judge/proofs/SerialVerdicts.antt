@@ -11,13 +11,13 @@ use Rattle.lab_history.specs.Version.{IsCommitted}
 use Rattle.lab_deps.specs.Edges.{IsEdge}
 use Rattle.lab_deps.specs.Soundness.{IsSound, has_committed}
 use Rattle.lab_deps.specs.declared.edge.Edge.{Edge}
+use Rattle.lab_deps.proofs.Places.{times, times_count}
 use Rattle.lab_judge.specs.Runs.{HoldsEachOnce, IsSerialRun}
 use Rattle.lab_judge.specs.Places.{position, IsForwardOrder}
 use Rattle.lab_judge.specs.Graphs.{HasEnds, joins, IsGraphOf}
 use Rattle.lab_judge.specs.Allowed.{allows}
 use Rattle.lab_judge.specs.declared.allowed.Allowed.TheVariants as allowed
 use Rattle.lab_judge.specs.declared.allowed.Allowed.{Allowed}
-use Rattle.lab_judge.proofs.Lists.{times, times-count}
 use Rattle.lab_judge.proofs.Numbers.{contains_it}
 use Rattle.lab_judge.proofs.Orders.{is_serial}
 use Rattle.lab_judge.proofs.Joined.{passes_some}
@@ -26,7 +26,7 @@ use Rattle.lab_judge.proofs.NodeOrders as nodes
 -- a committed transaction is a node
 pub is_node : (h : History) (ns : List ℕ) → HoldsEachOnce h ns → (n : ℕ) → IsCommitted h n → Contains ns n
 is_node h ns once n c =
-    let one : times n ns ≡ 1 = times-count n ns ∙ once n ∙ ap (λ o. cond (has_committed o) 1 0) c in
+    let one : times n ns ≡ 1 = times_count n ns ∙ once n ∙ ap (λ o. cond (has_committed o) 1 0) c in
     contains_it ns n (omega (arith, one))
 
 -- so the ends of an edge are nodes

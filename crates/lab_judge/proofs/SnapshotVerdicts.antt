@@ -9,12 +9,12 @@ use Rattle.lab_history.specs.Version.{IsCommitted}
 use Rattle.lab_deps.specs.Edges.{IsEdge}
 use Rattle.lab_deps.specs.Soundness.{IsSound}
 use Rattle.lab_deps.specs.declared.edge.Edge.{Edge}
+use Rattle.lab_deps.proofs.Places.{times, times_count, times_here, times_more}
 use Rattle.lab_judge.specs.Runs.{HoldsEachOnce, Span, all_places, IsSnapshotRun}
 use Rattle.lab_judge.specs.Places.{position, IsArrow, start_of, commit_of, place_of_point, IsForwardPlacing}
 use Rattle.lab_judge.specs.PlaceGraphs.{start_node, commit_node, IsPlaceGraph, span_in}
 use Rattle.lab_judge.specs.declared.places.Point.{Point}
 use Rattle.lab_judge.specs.declared.places.Point.TheVariants.{Start, Commit}
-use Rattle.lab_judge.proofs.Lists.{times, times-count, times_here, times_more}
 use Rattle.lab_judge.proofs.Numbers.{contained, contains_it, stands, position_within}
 use Rattle.lab_judge.proofs.Joined.{read}
 use Rattle.lab_judge.proofs.NodeOrders as orders
@@ -180,7 +180,7 @@ module _ (h : History) (ns : List ℕ) (once : HoldsEachOnce h ns) (es : List Ed
       at rest false false es ec = rest
 
   pub apart : (x : ℕ) → count_by (λ p. p == x) (all_places (map (span_in ns places) ns)) ≤ 1
-  apart x = subst (λ k. k ≤ 1) (times-count x (all_places (map (span_in ns places) ns))) (distinct ns (orders.at_most h ns once) (contains_it ns) x)
+  apart x = subst (λ k. k ≤ 1) (times_count x (all_places (map (span_in ns places) ns))) (distinct ns (orders.at_most h ns once) (contains_it ns) x)
 
   -- the spans rest on their law
   pub rests : IsSound h → (made : List Span) → made ≡ map (span_in ns places) ns → IsSound h × HoldsEachOnce h (map (λ s. s.txn) made) × ((x : ℕ) → count_by (λ p. p == x) (all_places made) ≤ 1) × IsForwardPlacing h made

@@ -20,6 +20,7 @@ use Rattle.lab_script.specs.Fault.{SpellsNothing, LacksSession, SaysOfTokens, Is
 use Rattle.lab_script.proofs.ReadCommands.{no_setup}
 use Rattle.lab_script.proofs.ReadSetup.{setup_begins}
 use Rattle.lab_script.proofs.ScriptLines.{some_is, fit_of, lines_once, lines_join, lines_front, IsFew, line_few}
+use Rattle.lab_table.proofs.Tests.{slice_get-middle}
 
 -- the lines so far, of which there are so many, spell nothing yet or a script, and these are left
 pub record IsReadTo (text : List ℕ) (number : ℕ) (rest : List (List ℕ)) (script : Option Script) : Type 0 where
@@ -131,18 +132,13 @@ fault_spells_nothing text number kind s (inr without) spells =
     let none : ◌≡◌ {A = Option Script} None (Some s) = lines_once 1 None (lines text) without.spelled spells in
     absurd cc
 
--- where the front of a list ends, the next element stands
-pub seam : {A : Type 0} (xs : List A) (y : A) (ys : List A) → slice_get (xs ++ y ∷ ys) (length xs) ≡ Some y
-seam [] y ys = refl
-seam (x ∷ xs) y ys = seam xs y ys
-
 module _ {text : List ℕ} {number : ℕ} {line : List ℕ} {rest : List (List ℕ)} {before : Option Script} (read : IsReadTo text number (line ∷ rest) before) where
   -- the lines before this one, and the script that they spell
   before_it : LinesSpell 1 None (take number (lines text)) before
   before_it = subst (λ (ls : List (List ℕ)). LinesSpell 1 None ls before) (sym (ap (take number) read.whole ∙ take_at read.front (line ∷ rest) number read.counted)) read.spelled
 
   stands_there : slice_get (lines text) number ≡ Some line
-  stands_there = ap (λ (ls : List (List ℕ)). slice_get ls number) read.whole ∙ ap (slice_get (read.front ++ line ∷ rest)) (sym read.counted) ∙ seam read.front line rest
+  stands_there = ap (λ (ls : List (List ℕ)). slice_get ls number) read.whole ∙ ap (slice_get (read.front ++ line ∷ rest)) (sym read.counted) ∙ slice_get-middle read.front line rest
 
   -- the fault at the first line that is wrong is the text's
   pub line_fault : {kind : ScriptFaultKind} → IsWrong (number + 1) line before kind → IsFaultOf text (fault.At (number + 1) kind)

@@ -1,7 +1,7 @@
 -- What tokens as they are held spell is what the tokens spell: no number of the grammar is past 1,000,000,000.
 use Rattle.std.proofs.Common.{◌≡◌, ℕ, ◌≤◌, min, true, List, [], ◌∷◌, map, Option, Some, None, refl, sym, ap, subst, ◌∙◌, arith}
 use Rattle.std.specs.List.{list_all}
-use Rattle.std.proofs.lemmas.Bool.{leb-true}
+use Rattle.std.proofs.lemmas.Bool.{leb-true, and_parts}
 use Rattle.lab_table.specs.Table.{Table}
 use Rattle.lab_table.specs.declared.statement.Command.{Command}
 use Rattle.lab_table.specs.declared.statement.Statement.{Statement}
@@ -15,7 +15,6 @@ use Rattle.lab_script.specs.Grammar.{IsCommands, IsSetup, IsWholeStatement}
 use Rattle.lab_script.specs.HeldTokens.{held}
 use Rattle.lab_script.specs.Script.{BeginsSetup}
 use Rattle.lab_script.specs.Fault.{SpellsNothing, LacksSession, SaysOfTokens}
-use Rattle.lab_script.proofs.Same.{and_both}
 use Rattle.lab_script.proofs.KnownTokens.{is_known, AllKnown, commands_known, setup_known, whole_known}
 
 -- a token that is one of the grammar, or is held as one, is held as it is
@@ -31,13 +30,13 @@ held_kept t is = refl
 all_kept : (ts : List Token) → AllKnown ts → map held ts ≡ ts
 all_kept [] is = refl
 all_kept (t ∷ ts) is =
-    let both = and_both (is_known t) (list_all is_known ts) is in
+    let both = and_parts (is_known t) (list_all is_known ts) is in
     ap (λ (u : Token). u ∷ map held ts) (known_kept t both.0) ∙ ap (λ (us : List Token). t ∷ us) (all_kept ts both.1)
 
 all_held_kept : (ts : List Token) → AllKnown (map held ts) → map held ts ≡ ts
 all_held_kept [] is = refl
 all_held_kept (t ∷ ts) is =
-    let both = and_both (is_known (held t)) (list_all is_known (map held ts)) is in
+    let both = and_parts (is_known (held t)) (list_all is_known (map held ts)) is in
     ap (λ (u : Token). u ∷ map held ts) (held_kept t both.0) ∙ ap (λ (us : List Token). t ∷ us) (all_held_kept ts both.1)
 
 -- setups, commands and statements are the same

@@ -15,9 +15,9 @@ use Rattle.lab_script.specs.declared.script.Script.{Script}
 use Rattle.lab_script.specs.Script.{LinesSpell, Spells}
 use Rattle.lab_script.specs.Fault as wrong
 use Rattle.lab_script.specs.Fault.{IsWrong, IsFaultyLine, IsFaultOf}
-use Rattle.lab_script.proofs.FirstFault.{seam}
 use Rattle.lab_script.proofs.ScriptLines.{fit_of, lines_front}
 use Rattle.lab_script.proofs.TextLines.{IsWhole, IsCut, cut, parts_step}
+use Rattle.lab_table.proofs.Tests.{slice_get-middle}
 
 -- the most bytes that lines come from: each may have lost a carriage return and its newline
 abbrev weight : List (List ℕ) → ℕ
@@ -218,7 +218,7 @@ module _ (text more : List ℕ) (up : IsCutUp text) (long : 8388608 < length tex
     is_tail : line.line ≡ up.tail
     is_tail =
         let stands : slice_get (up.ended ++ up.tail ∷ []) line.index ≡ Some line.line = sym (ap (λ (ls : List (List ℕ)). slice_get ls line.index) here) ∙ line.stands in
-        let seen : slice_get (up.ended ++ up.tail ∷ []) line.index ≡ Some up.tail = ap (slice_get (up.ended ++ up.tail ∷ [])) at_end ∙ seam up.ended up.tail [] in
+        let seen : slice_get (up.ended ++ up.tail ∷ []) line.index ≡ Some up.tail = ap (slice_get (up.ended ++ up.tail ∷ [])) at_end ∙ slice_get-middle up.ended up.tail [] in
         cc
 
     wide_here : 4000 < length line.line
@@ -234,7 +234,7 @@ module _ (text more : List ℕ) (up : IsCutUp text) (long : 8388608 < length tex
           index = line.index;
           counted = line.counted;
           line = first.line;
-          stands = ap (slice_get (lines (text ++ more))) at_end ∙ ap (λ (ls : List (List ℕ)). slice_get ls (length up.ended)) there ∙ seam up.ended first.line first.others;
+          stands = ap (slice_get (lines (text ++ more))) at_end ∙ ap (λ (ls : List (List ℕ)). slice_get ls (length up.ended)) there ∙ slice_get-middle up.ended first.line first.others;
           before = line.before;
           spelled = same_spelled line.index line.before (omega arith) line.spelled;
           faulty = λ after spells. let fit = fit_of spells in let short : length first.line ≤ 4000 = fit.bytes in let over = wide_there in omega arith;

@@ -5,9 +5,9 @@ use Rattle.std.specs.List.{list_all, slice_split, onto_first}
 use Rattle.std.specs.Str.Lines.{lines, lines_of_parts, strip_carriage_return}
 use Rattle.std.proofs.lemmas.Bool.Decides.{nat_tests}
 use Rattle.std.proofs.lemmas.List.Splits.{slice_split-cons_yes, slice_split-cons_no, length-slice_split}
+use Rattle.std.proofs.lemmas.Bool.{and_parts}
 use Rattle.lab_script.specs.Printed.{newline}
 use Rattle.lab_script.specs.Script.{is_code_byte}
-use Rattle.lab_script.proofs.PrintedText.{both_true}
 
 -- a byte of code is no newline and no carriage return
 pub no_newline : (b : ℕ) → is_code_byte b ≡ true → (b == 10) ≡ false
@@ -20,14 +20,14 @@ no_return b h = grind (arith, nat_tests)
 split_line : (line rest : List ℕ) → list_all is_code_byte line ≡ true → slice_split (λ b. b == 10) (line ++ 10 ∷ rest) ≡ line ∷ slice_split (λ b. b == 10) rest
 split_line [] rest h = slice_split-cons_yes (λ b. b == 10) 10 rest refl
 split_line (b ∷ line) rest h =
-    let parts = both_true (is_code_byte b) (list_all is_code_byte line) h in
+    let parts = and_parts (is_code_byte b) (list_all is_code_byte line) h in
     slice_split-cons_no (λ b. b == 10) b (line ++ 10 ∷ rest) (no_newline b parts.0) ∙ ap (onto_first b) (split_line line rest parts.1)
 
 -- no byte of a line of code is a carriage return
 pub nowhere : (line : List ℕ) (k : ℕ) → list_all is_code_byte line ≡ true → (slice_index line k == 13) ≡ false
 nowhere [] k h = refl
-nowhere (b ∷ line) zero h = no_return b (both_true (is_code_byte b) (list_all is_code_byte line) h).0
-nowhere (b ∷ line) (suc k) h = nowhere line k (both_true (is_code_byte b) (list_all is_code_byte line) h).1
+nowhere (b ∷ line) zero h = no_return b (and_parts (is_code_byte b) (list_all is_code_byte line) h).0
+nowhere (b ∷ line) (suc k) h = nowhere line k (and_parts (is_code_byte b) (list_all is_code_byte line) h).1
 
 -- a line of code loses no carriage return
 kept_whole : (line : List ℕ) → list_all is_code_byte line ≡ true → strip_carriage_return line ≡ line

@@ -5,6 +5,7 @@ use Rattle.std.specs.List.{list_all}
 use Rattle.std.specs.Char.{to_ascii_lowercase, is_ascii_digit}
 use Rattle.std.proofs.lemmas.List.{append-nil}
 use Rattle.std.proofs.lemmas.List.Folds.{list_all-append}
+use Rattle.std.proofs.lemmas.Bool.{not-true, and_from, and_parts}
 use Rattle.lab_script.specs.declared.token.Token.{Token}
 use Rattle.lab_script.specs.declared.token.Token.TheVariants as token
 use Rattle.lab_script.specs.Token.{letters, whole, is_letter, word_named, tokens, tokens_from, longer_token}
@@ -104,26 +105,9 @@ pub record Plain (text : List ℕ) : Type 0 where
   pub code : (rest : List ℕ) → code_of (text ++ rest) ≡ text ++ code_of rest
   pub remark : (rest : List ℕ) → remark_of (text ++ rest) ≡ remark_of rest
 
--- both sides of an and are true
-pub both_true : (v w : Bool) → (v && w) ≡ true → (v ≡ true) × (w ≡ true)
-both_true true true h = (refl, refl)
-both_true true false h = absurd cc
-both_true false w h = absurd cc
-
--- an and of two that are true
-both_hold : (v w : Bool) → v ≡ true → w ≡ true → (v && w) ≡ true
-both_hold true true p q = refl
-both_hold true false p q = absurd cc
-both_hold false w p q = absurd cc
-
--- what a not says
-isnt : (v : Bool) → not v ≡ true → v ≡ false
-isnt false h = refl
-isnt true h = absurd cc
-
 -- a plain byte is no dash
 pub plain_no_dash : (b : ℕ) (more : Bool) → (is_plain b && more) ≡ true → (b == 45) ≡ false
-plain_no_dash b more h = isnt (b == 45) (both_true (is_code_byte b) (not (b == 45)) (both_true (is_plain b) more h).0).1
+plain_no_dash b more h = not-true (b == 45) (and_parts (is_code_byte b) (not (b == 45)) (and_parts (is_plain b) more h).0).1
 
 -- no remark begins at a byte that is no dash
 no_remark : (b : ℕ) (rest : List ℕ) → (b == 45) ≡ false → begins_remark (b ∷ rest) ≡ false
@@ -145,7 +129,7 @@ empty_plain = record { ascii = refl; code = λ rest. refl; remark = λ rest. ref
 -- one more byte in front, at which no remark begins
 front_plain : (b : ℕ) (text : List ℕ) → is_code_byte b ≡ true → ((rest : List ℕ) → begins_remark (b ∷ text ++ rest) ≡ false) → Plain text → Plain (b ∷ text)
 front_plain b text ascii none p = record {
-  ascii = both_hold (is_code_byte b) (list_all is_code_byte text) ascii p.ascii;
+  ascii = and_from (is_code_byte b) (list_all is_code_byte text) ascii p.ascii;
   code = λ rest. ap (λ (v : Bool). cond v [] (b ∷ code_of (text ++ rest))) (none rest) ∙ ap (λ (x : List ℕ). b ∷ x) (p.code rest);
   remark = λ rest. ap (λ (v : Bool). cond v (drop 1 (text ++ rest)) (remark_of (text ++ rest))) (none rest) ∙ p.remark rest;
 }
@@ -154,9 +138,9 @@ front_plain b text ascii none p = record {
 pub all_plain : (text : List ℕ) → list_all is_plain text ≡ true → Plain text
 all_plain [] h = empty_plain
 all_plain (b ∷ text) h =
-    let parts = both_true (is_plain b) (list_all is_plain text) h in
-    let byte = both_true (is_code_byte b) (not (b == 45)) parts.0 in
-    front_plain b text byte.0 (λ rest. no_remark b (text ++ rest) (isnt (b == 45) byte.1)) (all_plain text parts.1)
+    let parts = and_parts (is_plain b) (list_all is_plain text) h in
+    let byte = and_parts (is_code_byte b) (not (b == 45)) parts.0 in
+    front_plain b text byte.0 (λ rest. no_remark b (text ++ rest) (not-true (b == 45) byte.1)) (all_plain text parts.1)
 
 -- a dash before a byte that is none
 pub dash_plain : (b : ℕ) (text : List ℕ) → (b == 45) ≡ false → Plain (b ∷ text) → Plain (45 ∷ b ∷ text)
@@ -164,7 +148,7 @@ dash_plain b text h p = front_plain 45 (b ∷ text) refl (λ rest. no_remark_beh
 
 -- two texts of code bytes
 pub append_ascii : (a b : List ℕ) → list_all is_code_byte a ≡ true → list_all is_code_byte b ≡ true → list_all is_code_byte (a ++ b) ≡ true
-append_ascii a b p q = list_all-append is_code_byte a b ∙ both_hold (list_all is_code_byte a) (list_all is_code_byte b) p q
+append_ascii a b p q = list_all-append is_code_byte a b ∙ and_from (list_all is_code_byte a) (list_all is_code_byte b) p q
 
 -- two texts that are code
 pub append_plain : (a b : List ℕ) → Plain a → Plain b → Plain (a ++ b)

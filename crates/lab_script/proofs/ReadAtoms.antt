@@ -1,7 +1,8 @@
 -- Comparisons, remainders and lists that are read are those of the grammar, and the other way round.
 use Rattle.std.proofs.Common.{◌≡◌, ℕ, zero, suc, ◌+◌, ◌≤◌, List, [], ◌∷◌, ◌++◌, length, Option, Some, None, refl, sym, ap, subst, ◌∙◌, append_assoc, length-append, arith}
 use Rattle.std.specs.Prelude.{ℤ, pos, ◌&&◌, nat_le}
-use Rattle.std.proofs.lemmas.Bool.{le-leb, leb-true}
+use Rattle.std.proofs.lemmas.Bool.{le-leb, leb-true, and_parts}
+use Rattle.std.proofs.lemmas.Option.{cond_some}
 use Rattle.lab_table.specs.Predicate.{Predicate}
 use Rattle.lab_table.specs.Predicate as predicate
 use Rattle.lab_table.specs.declared.predicate.Col.{Col}
@@ -15,8 +16,8 @@ use Rattle.lab_script.specs.Grammar.{IsNumber, IsNumbers, IsNumberList, IsAtom, 
 use Rattle.lab_script.specs.Grammar as grammar
 use Rattle.lab_script.specs.Reading.{◌>>=◌, after, digits_at, number_at, more_of}
 use Rattle.lab_script.specs.ReadingPredicates.{cmp_of, col_at, cmp_at, modulus_at, one_more, numbers_at, number_list_at, compare_at, remainder_at, one_of_at, atom_at}
-use Rattle.lab_script.proofs.Same.{and_both, after_is, bind_some, some_is, when_takes}
-use Rattle.lab_script.proofs.ReadNumbers.{Taken, number_again, number_takes, digits_take, guard_some, under}
+use Rattle.lab_script.proofs.Same.{after_is, bind_some, some_is, when_takes}
+use Rattle.lab_script.proofs.ReadNumbers.{Taken, number_again, number_takes, digits_take, under}
 use Rattle.lab_script.proofs.ReadRows.{not_negative}
 use Rattle.lab_script.proofs.Loops.{ends}
 
@@ -80,8 +81,8 @@ modulus_takes ts x e = when_takes token.Minus ts _ _ x e
     (λ rest is h. absurd cc)
     (λ none h.
     let a = bind_some (digits_at ts) _ x h in
-    let g = guard_some (nat_le 1 a.0.0 && nat_le a.0.0 1000000) a.0 x a.2 in
-    let both = and_both (nat_le 1 a.0.0) (nat_le a.0.0 1000000) g.0 in
+    let g = cond_some (nat_le 1 a.0.0 && nat_le a.0.0 1000000) a.0 x a.2 in
+    let both = and_parts (nat_le 1 a.0.0) (nat_le a.0.0 1000000) g.0 in
     subst (λ (y : ℕ × List Token). (ts ≡ token.Digits y.0 ∷ y.1) × (1 ≤ y.0) × (y.0 ≤ 1000000)) g.1 (digits_take ts a.0 a.1, leb-true _ _ both.0, leb-true _ _ both.1))
 
 -- numbers

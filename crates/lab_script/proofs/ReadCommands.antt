@@ -3,6 +3,7 @@ use Rattle.std.proofs.Common.{◌≡◌, ℕ, zero, suc, ◌+◌, ◌≤◌, ◌
 use Rattle.std.specs.Prelude.{nat_lt, Result, Ok, Err, IfOk}
 use Rattle.std.specs.List.{prefix_len}
 use Rattle.std.proofs.lemmas.Bool.{le-leb, leb-true, lt-ltb, ltb-true}
+use Rattle.std.proofs.lemmas.Option.{cond_some}
 use Rattle.lab_table.specs.declared.statement.Statement.{Statement}
 use Rattle.lab_table.specs.declared.statement.Command.{Command}
 use Rattle.lab_table.specs.declared.statement.Command.TheVariants as command
@@ -18,7 +19,7 @@ use Rattle.lab_script.specs.Reading.{Fails, Gives, ◌>>=◌, after, after_all}
 use Rattle.lab_script.specs.ReadingStatements.{statement_at, ended_at}
 use Rattle.lab_script.specs.ReadingCommands.{is_word, words_at, level_at, command_at, is_short, closed_at, added, step_at, more_commands, commands_at}
 use Rattle.lab_script.proofs.Same.{bind_some, some_is, when_takes}
-use Rattle.lab_script.proofs.ReadNumbers.{Taken, guard_some, under}
+use Rattle.lab_script.proofs.ReadNumbers.{Taken, under}
 use Rattle.lab_script.proofs.ReadStatements.{after_all_is, statement_again, statement_takes, Closes, nothing, semicolon, unjoined, ended_is}
 use Rattle.lab_script.proofs.Loops.{fails_none}
 
@@ -142,7 +143,7 @@ unfolding closed_at
 closed_takes ts x e =
     let a = bind_some (command_at ts) _ x e in
     let b = bind_some (ended_at a.0.1) _ x a.2 in
-    let g = guard_some (is_short a.0.0) (a.0.0, b.0) x b.2 in
+    let g = cond_some (is_short a.0.0) (a.0.0, b.0) x b.2 in
     let p = command_takes ts a.0 a.1 g.0 in
     subst (ClosedTaken ts) g.1 (p.0, a.0.1, p.1, p.2, b.1)
 
@@ -168,7 +169,7 @@ added_is room before after None e le =
     let is : before ≡ after = some_is before after e in
     (append-nil before ∙ is, omega (arith, ap length is))
 added_is room before after (Some c) e le =
-    let g = guard_some (nat_lt (length before) room) (before ++ c ∷ []) after e in
+    let g = cond_some (nat_lt (length before) room) (before ++ c ∷ []) after e in
     let less : length before < room = ltb-true _ _ g.0 in
     (g.1, omega (arith, less, ap length g.1, length-append before (c ∷ [])))
 

@@ -1,7 +1,8 @@
 -- Numbers that are read are numbers of the grammar, and the other way round.
-use Rattle.std.proofs.Common.{◌≡◌, ℕ, ◌≤◌, Bool, true, false, cond, List, [], ◌∷◌, ◌++◌, Option, Some, None, refl, ap, subst, ◌∙◌}
+use Rattle.std.proofs.Common.{◌≡◌, ℕ, ◌≤◌, Bool, cond, List, [], ◌∷◌, ◌++◌, Option, Some, None, refl, ap, subst, ◌∙◌}
 use Rattle.std.specs.Prelude.{ℤ, pos, ◌-ℤ◌, nat_le}
 use Rattle.std.proofs.lemmas.Bool.{le-leb, leb-true}
+use Rattle.std.proofs.lemmas.Option.{cond_some}
 use Rattle.lab_script.specs.declared.token.Token.{Token}
 use Rattle.lab_script.specs.declared.token.Token.TheVariants as token
 use Rattle.lab_script.specs.Grammar.{IsNumber}
@@ -24,15 +25,11 @@ digits_take [] x e = absurd cc
 digits_take (token.Digits n ∷ ts) x e = let is : ◌≡◌ {A = ℕ × List Token} (n, ts) x = some_is _ _ e in ap (λ (y : ℕ × List Token). token.Digits y.0 ∷ y.1) is
 digits_take (t ∷ ts) x e = absurd cc
 
-pub guard_some : {A : Type 0} (b : Bool) (x y : A) → cond b (Some x) None ≡ Some y → (b ≡ true) × (x ≡ y)
-guard_some true x y e = (refl, some_is x y e)
-guard_some false x y e = absurd cc
-
 pub magnitude_takes : (ts : List Token) (x : ℕ × List Token) → magnitude_at ts ≡ Some x → (ts ≡ token.Digits x.0 ∷ x.1) × (x.0 ≤ 1000000000)
 unfolding magnitude_at
 magnitude_takes ts x e =
     let a = bind_some (digits_at ts) (λ n. cond (nat_le n.0 1000000000) (Some n) None) x e in
-    let g = guard_some (nat_le a.0.0 1000000000) a.0 x a.2 in
+    let g = cond_some (nat_le a.0.0 1000000000) a.0 x a.2 in
     let within : a.0.0 ≤ 1000000000 = leb-true _ _ g.0 in
     subst (λ (y : ℕ × List Token). (ts ≡ token.Digits y.0 ∷ y.1) × (y.0 ≤ 1000000000)) g.1 (digits_take ts a.0 a.1, within)
 

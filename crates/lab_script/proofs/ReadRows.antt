@@ -1,8 +1,9 @@
 -- Rows that are read are rows of the grammar, and the other way round.
 use Rattle.std.proofs.Common.{◌≡◌, ℕ, zero, suc, ◌≤◌, cond, List, [], ◌∷◌, ◌++◌, Option, Some, None, refl, sym, ap, subst, ◌∙◌, append_assoc, arith}
 use Rattle.std.specs.Prelude.{ℤ, pos, negsuc, ◌-ℤ◌, ◌&&◌, nat_le}
-use Rattle.std.proofs.lemmas.Bool.{le-leb, leb-true}
+use Rattle.std.proofs.lemmas.Bool.{le-leb, leb-true, and_parts}
 use Rattle.std.proofs.Math.IntN.{pos-ne-negsuc, +ℤ_idl}
+use Rattle.std.proofs.lemmas.Option.{cond_some}
 use Rattle.lab_table.specs.Row.{Row}
 use Rattle.lab_script.specs.declared.token.Token.{Token}
 use Rattle.lab_script.specs.declared.token.Token.TheVariants as token
@@ -10,8 +11,8 @@ use Rattle.lab_script.specs.Grammar.{IsNumber, IsId, IsRow}
 use Rattle.lab_script.specs.Grammar as grammar
 use Rattle.lab_script.specs.Reading.{◌>>=◌, after, digits_at, number_at}
 use Rattle.lab_script.specs.ReadingRows.{id_at, row_at}
-use Rattle.lab_script.proofs.Same.{and_both, bind_some, some_is}
-use Rattle.lab_script.proofs.ReadNumbers.{Taken, number_again, number_takes, digits_take, guard_some, after_then, under}
+use Rattle.lab_script.proofs.Same.{bind_some, some_is}
+use Rattle.lab_script.proofs.ReadNumbers.{Taken, number_again, number_takes, digits_take, after_then, under}
 
 -- what a minus stands before is no id
 pub not_negative : (n id : ℕ) → pos 0 -ℤ pos n ≡ pos id → 1 ≤ id → ⊥
@@ -41,8 +42,8 @@ id_takes ts x e = unsigned (after token.Minus ts) e
     unsigned (Some rest) h = absurd cc
     unsigned None h =
         let a = bind_some (digits_at ts) (λ n. cond (nat_le 1 n.0 && nat_le n.0 999999) (Some n) None) x h in
-        let g = guard_some (nat_le 1 a.0.0 && nat_le a.0.0 999999) a.0 x a.2 in
-        let both = and_both (nat_le 1 a.0.0) (nat_le a.0.0 999999) g.0 in
+        let g = cond_some (nat_le 1 a.0.0 && nat_le a.0.0 999999) a.0 x a.2 in
+        let both = and_parts (nat_le 1 a.0.0) (nat_le a.0.0 999999) g.0 in
         let low : 1 ≤ a.0.0 = leb-true 1 a.0.0 both.0 in
         let high : a.0.0 ≤ 999999 = leb-true a.0.0 999999 both.1 in
         subst (Taken IsId ts) g.1 (token.Digits a.0.0 ∷ [], digits_take ts a.0 a.1, grammar.named a.0.0 (grammar.positive a.0.0 (omega arith)) low high)

@@ -2,8 +2,9 @@
 use Rattle.std.proofs.Common.{◌≡◌, ℕ, zero, suc, ◌+◌, ◌≤◌, ◌<◌, ℤ, Bool, true, false, cond, List, [], ◌∷◌, ◌++◌, length, Option, Some, None, refl, sym, ap, subst, ◌∙◌, append_assoc, arith}
 use Rattle.std.specs.Prelude.{◌==◌, nat_le, Result, Ok, Err, IfOk}
 use Rattle.std.specs.FinMap.{find, insert, empty, contains_key, from_entries}
-use Rattle.std.proofs.lemmas.Bool.{eqb-true, le-leb, leb-true}
+use Rattle.std.proofs.lemmas.Bool.{eqb-true, le-leb, leb-true, and_parts}
 use Rattle.std.proofs.lemmas.List.{length-append, nil_from_length}
+use Rattle.std.proofs.lemmas.Option.{cond_some}
 use Rattle.lab_table.specs.Row.{Row, row_cmp}
 use Rattle.lab_table.specs.Table.{Table}
 use Rattle.lab_script.specs.declared.token.Word.TheVariants as word
@@ -16,8 +17,8 @@ use Rattle.lab_script.specs.Printed.{printed_setup}
 use Rattle.lab_script.specs.Reading.{Gives, ◌>>=◌, is_token, after, is_end}
 use Rattle.lab_script.specs.ReadingRows.{row_at}
 use Rattle.lab_script.specs.ReadingSetup.{row_onto, rows_onto, rows_at, no_rows_at, table_at, ends_setup, setup_at}
-use Rattle.lab_script.proofs.Same.{same_token, and_both, after_is, bind_some, some_is}
-use Rattle.lab_script.proofs.ReadNumbers.{after_then, guard_some, under}
+use Rattle.lab_script.proofs.Same.{same_token, after_is, bind_some, some_is}
+use Rattle.lab_script.proofs.ReadNumbers.{after_then, under}
 use Rattle.lab_script.proofs.ReadRows.{RowTaken, parts_of, row_again, row_takes}
 use Rattle.lab_script.proofs.SetupLoop.{behind_row}
 use Rattle.lab_script.proofs.DistinctRows.{none_distinct, not_before, absent_from, is_absent, pushed_table, pushed_distinct}
@@ -183,7 +184,7 @@ table_takes ts x e = chosen (no_rows_at ts) refl e
 end_takes : (ts : List Token) → is_end ts ≡ true → IsEnd ts
 end_takes [] e = grammar.open_end
 end_takes (t ∷ ts) e =
-    let both = and_both (is_token t token.Semicolon) (length ts == 0) e in
+    let both = and_parts (is_token t token.Semicolon) (length ts == 0) e in
     let head : t ≡ token.Semicolon = same_token t token.Semicolon both.0 in
     let tail : ts ≡ [] = nil_from_length ts (eqb-true (length ts) 0 both.1) in
     let whole : token.Semicolon ∷ [] ≡ t ∷ ts = cc in
@@ -192,8 +193,8 @@ end_takes (t ∷ ts) e =
 -- the setup of a table that is taken behind its word
 setup_made : (ts rest : List Token) (table : Table) (x : Table × List Token) → ts ≡ token.Word word.Setup ∷ rest → TableTaken rest x → cond (ends_setup x.0 x.1) (Some x.0) None ≡ Some table → IsSetup ts table
 setup_made ts rest table x begun t e =
-    let g = guard_some (ends_setup x.0 x.1) x.0 table e in
-    let both = and_both (is_end x.1) (nat_le (length (printed_setup x.0)) 4000) g.0 in
+    let g = cond_some (ends_setup x.0 x.1) x.0 table e in
+    let both = and_parts (is_end x.1) (nat_le (length (printed_setup x.0)) 4000) g.0 in
     let short : length (printed_setup x.0) ≤ 4000 = leb-true _ _ both.1 in
     let made : IsSetup (token.Word word.Setup ∷ t.front ++ x.1) (table_of t.rows) =
     grammar.setup t.spelled t.distinct (end_takes x.1 both.0) (subst (λ (u : Table). length (printed_setup u) ≤ 4000) t.table short) in

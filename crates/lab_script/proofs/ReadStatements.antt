@@ -1,8 +1,9 @@
 -- Statements that are read are those of the grammar, and the other way round.
 use Rattle.std.proofs.Common.{◌≡◌, ◌≤◌, List, [], ◌∷◌, ◌++◌, length, Option, Some, None, refl, sym, ap, subst, ◌∙◌, append_assoc, inl, inr}
 use Rattle.std.specs.Prelude.{ℤ, ◌&&◌, ◌==◌, ◌⊎◌, nat_le, Result, Ok, Err, IfOk}
-use Rattle.std.proofs.lemmas.Bool.{eqb-true, le-leb, leb-true}
+use Rattle.std.proofs.lemmas.Bool.{eqb-true, le-leb, leb-true, and_parts}
 use Rattle.std.proofs.lemmas.List.{nil_from_length}
+use Rattle.std.proofs.lemmas.Option.{cond_some}
 use Rattle.lab_table.specs.declared.statement.Statement.{Statement}
 use Rattle.lab_table.specs.declared.statement.Statement.TheVariants as statement
 use Rattle.lab_table.specs.declared.statement.Expr.{Expr}
@@ -19,8 +20,8 @@ use Rattle.lab_script.specs.ReadingRows.{row_at}
 use Rattle.lab_script.specs.ReadingPredicates.{where_at}
 use Rattle.lab_script.specs.ReadingStatements.{expr_at, select_at, update_at, insert_at, delete_at, statement_at, ended_at, whole_statement_at}
 use Rattle.lab_script.specs.Grammar.{IsWholeStatement}
-use Rattle.lab_script.proofs.Same.{and_both, same_token, after_is, bind_some, some_is, when_takes}
-use Rattle.lab_script.proofs.ReadNumbers.{Taken, number_again, number_then, guard_some, under}
+use Rattle.lab_script.proofs.Same.{same_token, after_is, bind_some, some_is, when_takes}
+use Rattle.lab_script.proofs.ReadNumbers.{Taken, number_again, number_then, under}
 use Rattle.lab_script.proofs.ReadRows.{row_again, row_takes}
 use Rattle.lab_script.proofs.ReadPredicates.{IsUnjoined, where_again, where_takes}
 
@@ -148,7 +149,7 @@ pub ended_is : (ts rest : List Token) → ended_at ts ≡ Some rest → ((ts ≡
 unfolding ended_at
 ended_is [] rest e = inl (refl, sym (some_is [] rest e))
 ended_is (t ∷ ts) rest e =
-    let g = guard_some (is_token token.Semicolon t) ts rest e in
+    let g = cond_some (is_token token.Semicolon t) ts rest e in
     let head : token.Semicolon ≡ t = same_token token.Semicolon t g.0 in
     inr (cc (head, g.1))
 
@@ -177,8 +178,8 @@ unfolding whole_statement_at
 whole_takes ts s e =
     let a = bind_some (statement_at ts) _ s e in
     let b = bind_some (ended_at a.0.1) _ s a.2 in
-    let g = guard_some (nat_le (length (printed_statement a.0.0)) 1000 && length b.0 == 0) a.0.0 s b.2 in
-    let both = and_both (nat_le (length (printed_statement a.0.0)) 1000) (length b.0 == 0) g.0 in
+    let g = cond_some (nat_le (length (printed_statement a.0.0)) 1000 && length b.0 == 0) a.0.0 s b.2 in
+    let both = and_parts (nat_le (length (printed_statement a.0.0)) 1000) (length b.0 == 0) g.0 in
     let none : b.0 ≡ [] = nil_from_length b.0 (eqb-true (length b.0) 0 both.1) in
     let end : IsEnd a.0.1 = end_is a.0.1 (b.1 ∙ ap (λ (r : List Token). some r) none) in
     let p = statement_takes ts a.0 a.1 in

@@ -3,12 +3,11 @@ use Rattle.std.proofs.Common.{◌≡◌, ℕ, ◌+◌, ◌<◌, ◌≤◌, Bool,
 use Rattle.std.specs.Prelude.{◌-◌, ◌==◌}
 use Rattle.std.specs.List.{prefix_len}
 use Rattle.std.specs.Char.{to_ascii_lowercase}
-use Rattle.std.proofs.lemmas.Bool.{cases_Bool, eqb-true, false≢true, false_from_ne_true}
+use Rattle.std.proofs.lemmas.Bool.{cases_Bool, eqb-true, false≢true, false_from_ne_true, and_parts}
 use Rattle.std.proofs.lemmas.List.{append-nil, drop_more, drop_all, take_more, take_all, take_rest, get_or-drop, nil_from_length}
 use Rattle.bstr.specs.Find.{OccursAt}
 use Rattle.lab_script.specs.Token.{is_blank}
 use Rattle.lab_script.specs.Script.{begins_remark, code_of, remark_of, session_digit, session_of}
-use Rattle.lab_script.proofs.Same.{and_both}
 use Rattle.lab_script.proofs.Tokens.{front_stops, one_more, no_more}
 
 -- two dashes
@@ -23,7 +22,7 @@ occurs line k begins = found (drop k line) refl begins
     found [] e is = absurd (false≢true is)
     found (x ∷ []) e is = absurd (false≢true is)
     found (x ∷ y ∷ rest) e is =
-        let both = and_both (x == 45) (y == 45) is in
+        let both = and_parts (x == 45) (y == 45) is in
         let len : length line - k ≡ length (x ∷ y ∷ rest) = sym (length-drop k line) ∙ ap length e in
         record { fits = omega arith; reads = read (eqb-true x 45 both.0) (eqb-true y 45 both.1) }
       where

@@ -1,7 +1,7 @@
 -- Tokens of one number are one.
 use Rattle.std.proofs.Common.{◌≡◌, ℕ, Bool, true, false, cond, List, [], ◌∷◌, Option, Some, None, refl, sym, ap, ◌∙◌, inl, inr}
-use Rattle.std.specs.Prelude.{◌==◌, ◌&&◌, ◌≤◌, nat_le}
-use Rattle.std.proofs.lemmas.Bool.{eqb-true, cases_Bool, le-leb, leb-true, false≢true}
+use Rattle.std.specs.Prelude.{◌==◌, ◌≤◌, nat_le}
+use Rattle.std.proofs.lemmas.Bool.{eqb-true, cases_Bool, le-leb, leb-true, false≢true, and_parts}
 use Rattle.std.proofs.Common.{zero, suc, arith}
 use Rattle.lab_script.specs.declared.token.Word.{Word}
 use Rattle.lab_script.specs.declared.token.Word.TheVariants as word
@@ -61,14 +61,9 @@ again token.Plus = refl
 again token.Minus = refl
 again token.Unknown = refl
 
-pub and_both : (a b : Bool) → (a && b) ≡ true → (a ≡ true) × (b ≡ true)
-and_both true true e = (refl, refl)
-and_both true false e = absurd cc
-and_both false b e = absurd cc
-
 pub same_token : (t u : Token) → is_token t u ≡ true → t ≡ u
 same_token t u e =
-    let both = and_both (token_number t == token_number u) (token_digits t == token_digits u) e in
+    let both = and_parts (token_number t == token_number u) (token_digits t == token_digits u) e in
     sym (again t) ∙ ap (λ (n : ℕ). numbered n (token_digits t)) (eqb-true (token_number t) (token_number u) both.0) ∙ ap (numbered (token_number u)) (eqb-true (token_digits t) (token_digits u) both.1) ∙ again u
 
 abbrev some : {A : Type 0} → A → Option A

@@ -4,6 +4,7 @@ use Rattle.std.specs.Prelude.{◌-◌, IfSome}
 use Rattle.std.specs.List.{list_all}
 use Rattle.std.specs.Char.{to_ascii_lowercase, is_ascii_digit}
 use Rattle.std.proofs.lemmas.List.{length-map}
+use Rattle.std.proofs.lemmas.Bool.{and_parts}
 use Rattle.lab_table.specs.declared.statement.Command.{Command}
 use Rattle.lab_script.specs.declared.script.Line.{Line}
 use Rattle.lab_script.specs.declared.script.Script.{Script}
@@ -14,7 +15,6 @@ use Rattle.lab_script.specs.Token.{gap, letters, whole, is_letter, is_blank, mar
 use Rattle.lab_script.specs.Grammar.{IsCommands}
 use Rattle.lab_script.specs.Script as script
 use Rattle.lab_script.specs.Script.{code_of, remark_of, session_of, is_passed, IsFit, BeginsSetup, extended, LineSpells, LinesSpell}
-use Rattle.lab_script.proofs.Same.{and_both}
 use Rattle.lab_script.proofs.ReadCommands.{commands_once, not_empty}
 use Rattle.lab_script.proofs.ReadSetup.{setup_once, setup_begins}
 
@@ -22,7 +22,7 @@ use Rattle.lab_script.proofs.ReadSetup.{setup_once, setup_begins}
 pub no_tokens : (code : List ℕ) → list_all is_blank code ≡ true → tokens code ≡ []
 no_tokens [] blank = refl
 no_tokens (b ∷ bytes) blank =
-    let both = and_both (is_blank b) (list_all is_blank bytes) blank in
+    let both = and_parts (is_blank b) (list_all is_blank bytes) blank in
     ap (λ (v : Bool). tokens_from (cond v gap (cond (is_letter b) (letters (to_ascii_lowercase b ∷ [])) (cond (is_ascii_digit b) (whole (token.Digits (b - 48))) (whole (mark b))))) bytes) both.0
     ∙ no_tokens bytes both.1
 

@@ -2,7 +2,7 @@
 use Rattle.std.proofs.Common.{◌≡◌, ℕ, Bool, true, false, cond, List, length, Option, Some, None, ◌≢◌, refl, sym, ap, ◌∙◌, arith}
 use Rattle.std.specs.Prelude.{◌&&◌, nat_le}
 use Rattle.std.specs.List.{list_all}
-use Rattle.std.proofs.lemmas.Bool.{eqb-true, eq-eqb, le-leb, leb-true}
+use Rattle.std.proofs.lemmas.Bool.{eqb-true, eq-eqb, le-leb, leb-true, and_parts}
 use Rattle.lab_table.specs.declared.statement.Statement.{Statement}
 use Rattle.lab_script.specs.declared.fault.ScriptFault.{ScriptFault}
 use Rattle.lab_script.specs.declared.fault.ScriptFault.TheVariants as fault
@@ -14,7 +14,7 @@ use Rattle.lab_script.specs.Ranges.{StatementInRange}
 use Rattle.lab_script.specs.ReadingStatements.{whole_statement_at}
 use Rattle.lab_script.specs.Script.{code_of, is_code_byte, SpellsStatement}
 use Rattle.lab_script.specs.StatementText.{is_code_alone, statement_in}
-use Rattle.lab_script.proofs.Same.{and_both, some_is}
+use Rattle.lab_script.proofs.Same.{some_is}
 use Rattle.lab_script.proofs.ReadStatements.{whole_again, whole_takes}
 use Rattle.lab_script.proofs.StatementText.{all_code}
 use Rattle.lab_script.proofs.PrintedStatements.{statement_spells}
@@ -50,8 +50,8 @@ pub in_spells : (text : List ℕ) (s : Statement) → statement_in text ≡ Some
 unfolding statement_in
 in_spells text s read =
     let found = found_under (is_code_alone text) (whole_statement_at (tokens text)) s read in
-    let short = and_both (nat_le (length text) 4000) _ found.0 in
-    let code = and_both (list_all is_code_byte text) _ short.1 in
+    let short = and_parts (nat_le (length text) 4000) _ found.0 in
+    let code = and_parts (list_all is_code_byte text) _ short.1 in
     let len : length (code_of text) ≡ length text = eqb-true _ _ code.1 in
     let whole = whole_takes (tokens text) s found.1 in
     record {

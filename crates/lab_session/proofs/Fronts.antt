@@ -5,6 +5,7 @@ use Rattle.std.proofs.lemmas.Bool.{lt-ltb}
 use Rattle.std.proofs.lemmas.Bool.Decides.{eqb_tells}
 use Rattle.std.proofs.lemmas.List.{get_or-set_same, get_or-set_other}
 use Rattle.std.proofs.Math.ListN.{length-set}
+use Rattle.std.proofs.Math.Bool.{or-true}
 use Rattle.lab_script.specs.declared.script.Line.{Line as ScriptLine}
 use Rattle.lab_engine.specs.declared.event.LogEvent.{LogEvent}
 use Rattle.lab_engine.specs.Log.{Past, past_of, waiting}
@@ -47,16 +48,12 @@ module _ (lines : List ScriptLine) (front : Front) (line : ScriptLine) (behind :
     | inr p ↦ absurd (p.1 refl)
   ]
 
-  or_true : (b : Bool) → (b || true) ≡ true
-  or_true true = refl
-  or_true false = refl
-
   step : (past : Past) → lines_by line.session more ≤ given past line.session
       → next_line past behind.passed (given_lines (drop front.lines lines)) ≡ next_line past more (given_lines (drop (front.lines + 1) lines))
   step past covered =
       ap (λ l. next_line past behind.passed (given_lines l)) (drop_at lines front.lines line lt is)
       ∙ ap (λ b. cond b (next_line past more (given_lines (drop (front.lines + 1) lines))) (Some (line.session, line.command)))
-      (ap (λ b. is_some (waiting past line.session) || b) (lt-ltb (lines_by line.session behind.passed) (given past line.session) (omega (arith, own_more, covered))) ∙ or_true (is_some (waiting past line.session)))
+      (ap (λ b. is_some (waiting past line.session) || b) (lt-ltb (lines_by line.session behind.passed) (given past line.session) (omega (arith, own_more, covered))) ∙ or-true (is_some (waiting past line.session)))
 
   small : line.session < 10
   small = omega (arith, own)

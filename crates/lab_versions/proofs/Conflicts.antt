@@ -3,12 +3,12 @@ use Rattle.std.proofs.Common.{◌≡◌, ℕ, refl, sym, ap, subst, ◌∙◌, B
 use Rattle.std.specs.Prelude.{unwrap_or}
 use Rattle.std.specs.Option.{option_or}
 use Rattle.std.specs.Ordering.{is_lt}
-use Rattle.std.specs.declared.cmp.Ordering.{Ordering}
-use Rattle.std.specs.declared.cmp.Ordering.TheVariants.{Less, Equal, Greater}
 use Rattle.std.specs.FinMap.{find, is_sorted, entries, entries_sorted, get-entries}
 use Rattle.std.specs.FinMap.Entries.{below_all}
-use Rattle.lab_table.specs.Row.{Row, row_cmp, row_eq, rows_total}
-use Rattle.lab_table.proofs.Maps.{same_row, row_eq_self, both, find_below}
+use Rattle.lab_table.specs.Row.{Row, row_cmp, row_eq}
+use Rattle.lab_table.proofs.Maps.{same_row, row_eq_self, find_below}
+use Rattle.lab_table.proofs.Tests.{both}
+use Rattle.lab_table.proofs.SortedRows.{lower}
 use Rattle.lab_engine.specs.declared.situation.RunningTxn.{RunningTxn}
 use Rattle.lab_engine.specs.declared.situation.Situation.{Situation}
 use Rattle.lab_engine.specs.declared.rules.Conflict.{Conflict}
@@ -30,19 +30,6 @@ Has row es = IsSome (find row_cmp row es)
 -- nothing isn't something
 not_some : {A : Type 0} (P : Type 0) (o : Option A) → o ≡ None → IsSome o → P
 not_some P o none some = absurd (true≢false (sym some ∙ ap is_some none))
-
--- a test for less
-less : (r : Ordering) → T (is_lt r) → r ≡ Less
-less Less h = refl
-less Equal h = absurd h
-less Greater h = absurd h
-
--- what is below one that is below all is below all
-lower : (row x : Row) (es : List (Row × Version)) → IsBelow row x → T (below_all row_cmp x es) → T (below_all row_cmp row es)
-lower row x [] l b = tt
-lower row x (e ∷ es) l b =
-    let bs = both (is_lt (row_cmp x e.0)) (below_all row_cmp x es) b in
-    subst (λ r. T (is_lt r && below_all row_cmp row es)) (sym (rows_total.trans row x e.0 l (less _ bs.0))) (lower row x es l bs.1)
 
 -- a row below the first entry of a sorted list doesn't stand in it
 not_there : (row : Row) (e : Row × Version) (es : List (Row × Version)) → T (below_all row_cmp e.0 es) → IsBelow row e.0 → find row_cmp row (e ∷ es) ≡ None

@@ -1,7 +1,7 @@
 use Rattle.std.proofs.Common.{rules}
 use Rattle.std.proofs.lemmas.List.Sorted.{IsPartitionPoint-from_clause}
-use Rattle.lab_engine.specs.Sight.{comes_after}
-use Rattle.lab_engine.proofs.Searching.{parted, point_is}
+use Rattle.lab_table.specs.Running.{comes_after}
+use Rattle.lab_table.proofs.Searching.{parted, point_is}
 use Rattle.lab_engine.proofs.version.place_of.Goals as goal
 
 pub returns-clause-value : goal.returns-clause-value

@@ -1,6 +1,6 @@
 use Rattle.std.proofs.Common.{◌∙◌, ap, sym, Some, None, cond}
 use Rattle.std.proofs.lemmas.Bool.{ltb-true, ltb-false}
-use Rattle.lab_engine.proofs.Searching.{found_nothing, found_entry}
+use Rattle.lab_table.proofs.Searching.{found_nothing, found_entry}
 use Rattle.lab_engine.proofs.version.version_at.Goals as goal
 
 pub returns-in_err-entry : goal.returns-in_err-entry

@@ -4,13 +4,13 @@ use Rattle.std.specs.Prelude.{◌==◌, ℕ, Contains, slice_index}
 use Rattle.lab_judge.specs.PlaceGraphs.{point_at, span_in}
 use Rattle.lab_judge.specs.Places.{IsCircle}
 use Rattle.lab_order.specs.Order.{IsOrdered, position}
-use Rattle.lab_judge.proofs.Lists.{times-count}
 use Rattle.lab_judge.proofs.NodeOrders.{within}
 use Rattle.lab_judge.proofs.NodePlaces.{once_in, no_more}
 use Rattle.lab_judge.proofs.PlaceNodes.{circle_is, circle_within}
 use Rattle.lab_judge.proofs.SerialVerdicts.{all_have_ends}
 use Rattle.lab_judge.proofs.SnapshotVerdicts.{rests, runs}
 use Rattle.lab_judge.proofs.placing.snapshot_verdict.Goals as goal
+use Rattle.lab_deps.proofs.Places.{times_count}
 
 pub place_graph-requires : goal.place_graph-requires
 place_graph-requires c = all_have_ends c.args._history.now c.args.nodes.now c.requires.nodes c.args.edges.now (λ e there. (c.requires.exact e).0 there)
@@ -24,7 +24,7 @@ places_in-requires-clause-within c =
 pub places_in-requires-clause-once : goal.places_in-requires-clause-once
 places_in-requires-clause-once c = λ node.
     let ordered = subst (IsOrdered c.in_ok-graph.graph) c.in-Order.is c.in_ok-order.ensures.ordered in
-    subst (λ l. count_by (λ n. n == node) l ≤ 1) (sym c.deref.ensures.value) (subst (λ k. k ≤ 1) (times-count node c.in-Order.order.items) (once_in c.in_ok-graph.graph c.in-Order.order.items ordered.each_once node))
+    subst (λ l. count_by (λ n. n == node) l ≤ 1) (sym c.deref.ensures.value) (subst (λ k. k ≤ 1) (times_count node c.in-Order.order.items) (once_in c.in_ok-graph.graph c.in-Order.order.items ordered.each_once node))
 
 pub places_in-requires-clause-few : goal.places_in-requires-clause-few
 places_in-requires-clause-few c =

@@ -3,11 +3,12 @@ use Rattle.std.specs.Prelude.{option_map}
 use Rattle.std.specs.FinMap.{get, find, is_sorted, get-from_sorted}
 use Rattle.lab_table.specs.Row.{row_cmp}
 use Rattle.lab_history.specs.VersionName.{new_states, state_value}
-use Rattle.lab_history.proofs.SortedRows.{sorted_states, find_states}
+use Rattle.lab_history.proofs.SortedRows.{find_states}
 use Rattle.lab_history.proofs.operation.Writes.get.Goals as goal
+use Rattle.lab_history.proofs.States.{new_states_sorted}
 
 pub value_of_row-requires : goal.value_of_row-requires
-value_of_row-requires c = subst T (sorted_states c.self.inside.entries.items ∙ ap (is_sorted row_cmp) (sym c.deref.ensures.value)) c.self.invariant
+value_of_row-requires c = subst T (new_states_sorted c.self.inside.entries.items ∙ ap (is_sorted row_cmp) (sym c.deref.ensures.value)) c.self.invariant
 
 pub returns : goal.returns
 returns c =
