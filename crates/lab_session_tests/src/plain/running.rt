@@ -6,7 +6,7 @@ use crate::plain::transactions::Txn;
 use crate::plain::versions::state_of;
 use lab_engine::{EngineFault, Outcome};
 use lab_history::{Rows, State, VersionName, View, Writes};
-use lab_table::{Statement, Table, TableFault};
+use lab_table::{Statement, Table, TableFault, Value};
 use std::alloc::Global;
 
 impl PlainEngine {
@@ -14,7 +14,8 @@ impl PlainEngine {
     fn table_seen(&self, alloc: Global, txn: &Txn<'_>) -> Option<Table> {
         let mut table = Table::new(alloc);
         for row in &self.rows {
-            if let State::Present(value) = self.seen(txn, *row).state {
+            let version = self.seen(txn, *row);
+            if let Some(value) = value_of(version.state) {
                 table.add(alloc, *row, value).ok()?;
             }
         }
@@ -58,19 +59,32 @@ impl PlainEngine {
         statement: &Statement,
     ) -> Option<Outcome> {
         let mut table = self.table_seen(alloc, txn)?;
-        match table.run(alloc, statement) {
-            Ok(rows) => Some(Outcome::Rows {
-                view: self.view(alloc, txn)?,
-                rows: Rows::from_entries(rows).ok()?,
-                writes: self.writes(alloc, txn, statement, &table)?,
-            }),
-            Err(TableFault::NoMemory) => None,
-            Err(TableFault::DuplicateKey { id }) => {
-                Some(Outcome::Refused(EngineFault::DuplicateKey { id }))
-            }
-            Err(TableFault::OutOfRange { id }) => {
-                Some(Outcome::Refused(EngineFault::OutOfRange { id }))
-            }
-        }
+        let rows = match table.run(alloc, statement) {
+            Ok(rows) => rows,
+            Err(fault) => return refused(fault),
+        };
+        Some(Outcome::Rows {
+            view: self.view(alloc, txn)?,
+            rows: Rows::from_entries(rows).ok()?,
+            writes: self.writes(alloc, txn, statement, &table)?,
+        })
+    }
+}
+
+/// What is answered where a table refuses a statement; nothing where memory was refused.
+fn refused(fault: TableFault) -> Option<Outcome> {
+    let fault = match fault {
+        TableFault::NoMemory => return None,
+        TableFault::DuplicateKey { id } => EngineFault::DuplicateKey { id },
+        TableFault::OutOfRange { id } => EngineFault::OutOfRange { id },
+    };
+    Some(Outcome::Refused(fault))
+}
+
+/// The value of a row in this state, if it is present.
+fn value_of(state: State) -> Option<Value> {
+    match state {
+        State::Absent => None,
+        State::Present(value) => Some(value),
     }
 }

@@ -44,8 +44,8 @@ pub fn last_written(txn: &Txn<'_>, row: RowId) -> Option<Version> {
 /// The committed version of a row after these events: what the last commit of a transaction that wrote the row installed,
 /// else as the setup has the row.
 pub fn committed(setup: &Table, log: &[LogEvent], row: RowId) -> Version {
-    for (place, event) in log.iter().enumerate().rev() {
-        if let Some(txn) = committed_by(&log[..place], event) {
+    for place in (0..log.len()).rev() {
+        if let Some(txn) = committed_by(&log[..place], &log[place]) {
             if let Some(version) = last_written(&txn, row) {
                 return version;
             }
