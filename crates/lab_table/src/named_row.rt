@@ -1,23 +1,26 @@
 //! The one row that a statement may match, where it names it by its number.
 
-ghost use Rattle.std.specs.Prelude.{◌≡◌, pos, true, IfSome};
+ghost use Rattle.std.specs.Prelude.{◌≡◌, ◌≢◌, pos, true, None, IfSome};
 ghost use Rattle.lab_table.specs.Row.{Row};
 ghost use Rattle.lab_table.specs.Predicate.{Compare, may_hold};
 ghost use Rattle.lab_table.specs.Statement.{where_may_hold};
+ghost use Rattle.lab_table.specs.NamedRow.{Names, WhereNames, IsNumbered};
 
 use crate::number::{RowId, Value};
 use crate::predicate::{Cmp, Col, Pred, PredKind};
 use crate::statement::Statement;
 
 impl Statement {
-    ghost use Rattle.std.specs.Prelude.{◌≡◌, true, IfSome};
+    ghost use Rattle.std.specs.Prelude.{◌≡◌, ◌≢◌, true, None, IfSome};
     ghost use Rattle.lab_table.specs.Row.{Row};
     ghost use Rattle.lab_table.specs.Statement.{may_match};
+    ghost use Rattle.lab_table.specs.NamedRow.{StatementNames};
 
     /// A row such that no other may match the statement, where the statement names one: the row of an insert, or that
     /// of `id = 3`, also as a part of an `and`.
     pub fn named_row(&self) -> Option<RowId>
-        ensures { IfSome result (λ row. (other : Row) → may_match self.now other ≡ true → other ≡ row) }
+        ensures named { (row : Row) → StatementNames self.now row → result ≢ None }
+        ensures only { IfSome result (λ row. (other : Row) → may_match self.now other ≡ true → other ≡ row) }
     {
         match self {
             Statement::Select { pred } => where_row(pred),
@@ -30,7 +33,8 @@ impl Statement {
 
 /// A row such that what stands behind `where` may be true of no other.
 fn where_row(pred: &Option<Pred>) -> Option<RowId>
-    ensures { IfSome result (λ row. (other : Row) → where_may_hold pred.now other ≡ true → other ≡ row) }
+    ensures named { (row : Row) → WhereNames pred.now row → result ≢ None }
+    ensures only { IfSome result (λ row. (other : Row) → where_may_hold pred.now other ≡ true → other ≡ row) }
 {
     match pred {
         None => None,
@@ -40,7 +44,8 @@ fn where_row(pred: &Option<Pred>) -> Option<RowId>
 
 /// A row such that a condition may be true of no other, where the condition or a part of an `and` is `id = n`.
 fn pred_row(pred: &Pred) -> Option<RowId>
-    ensures { IfSome result (λ row. (other : Row) → may_hold pred.now other ≡ true → other ≡ row) }
+    ensures named { (row : Row) → Names pred.now row → result ≢ None }
+    ensures only { IfSome result (λ row. (other : Row) → may_hold pred.now other ≡ true → other ≡ row) }
 {
     match &pred.kind {
         PredKind::Compare { col, cmp, number } => compared_row(*col, *cmp, *number),
@@ -57,7 +62,8 @@ fn pred_row(pred: &Pred) -> Option<RowId>
 
 /// The row of this number, where the comparison is with the row's own number.
 fn compared_row(col: Col, cmp: Cmp, number: Value) -> Option<RowId>
-    ensures { IfSome result (λ row. (other : Row) → may_hold (Compare col cmp number) other ≡ true → other ≡ row) }
+    ensures named { (row : Row) → Names (Compare col cmp number) row → result ≢ None }
+    ensures only { IfSome result (λ row. (other : Row) → may_hold (Compare col cmp number) other ≡ true → other ≡ row) }
 {
     match col {
         Col::Value => None,
@@ -70,7 +76,8 @@ fn compared_row(col: Col, cmp: Cmp, number: Value) -> Option<RowId>
 
 /// The row of this number, if there can be one.
 fn numbered_row(number: Value) -> Option<RowId>
-    ensures { IfSome result (λ row. pos row ≡ number) }
+    ensures named { (row : Row) → IsNumbered number row → result ≢ None }
+    ensures only { IfSome result (λ row. pos row ≡ number) }
 {
     match u32::try_from(number.number()) {
         Ok(id) => RowId::new(id),
