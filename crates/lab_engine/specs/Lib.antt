@@ -1,3 +1,4 @@
+pub mod Limits
 pub mod Log
 pub mod Rules
 pub mod Laws

@@ -9,6 +9,7 @@ use Rattle.lab_engine.specs.declared.situation.RunningTxn.{RunningTxn}
 use Rattle.lab_engine.specs.declared.situation.SessionState.{SessionState}
 use Rattle.lab_engine.specs.declared.situation.Situation.{Situation}
 use Rattle.lab_engine.specs.Chains.{chain_in, chain}
+use Rattle.lab_engine.specs.Limits.{max_events}
 use Rattle.lab_engine.specs.Log.{Past, Txn, active, waiting, commits, begun, version_by, last_installed}
 
 -- the statements that a running transaction has run, in order
@@ -29,7 +30,7 @@ grown txn op = record { no = txn.no; ops = op ∷ txn.ops; before = txn.before }
 -- an active transaction, if one is kept, has run few enough statements
 abbrev pub HasRoom : Option RunningTxn → Type 0
 HasRoom None = ⊤
-HasRoom (Some running) = length running.statements.items < 100000
+HasRoom (Some running) = length running.statements.items < max_events
 
 -- there is an active transaction where one is kept, and they agree
 abbrev pub Agree : Option Txn → Option RunningTxn → Type 0

@@ -5,6 +5,7 @@ ghost use Rattle.lab_table.specs.Table.{Table as Rows};
 ghost use Rattle.lab_engine.specs.declared.event.Level.{Level as Kind};
 ghost use Rattle.lab_engine.specs.Sight.{version_in};
 ghost use Rattle.lab_engine.specs.Effect.{IsResultOn, IsRefusalOn, IsEffectFault};
+ghost use Rattle.lab_engine.specs.Limits.{max_events};
 ghost use Rattle.lab_table.specs.Row.{Row};
 ghost use Rattle.lab_table.specs.declared.statement.Statement.{Statement as Asked};
 ghost use Rattle.lab_engine.specs.Log.{Version as Seen};
@@ -35,7 +36,7 @@ pub fn answer_to<R: Rules>(
     session: Session,
     command: &Command,
 ) -> Result<Outcome, NoMemory>
-    requires room { length log.now < 100000 }
+    requires room { length log.now < max_events }
     requires situation { Describes (past_of log.now) situation.now }
     requires may { MayGive (past_of log.now) session command.now }
     ensures { IfOk result (Answers (R.kind rules.now) setup.now (past_of log.now) session command.now) }
@@ -66,7 +67,7 @@ fn without_transaction(
     session: Session,
     command: &Command,
 ) -> Outcome
-    requires room { length log.now < 100000 }
+    requires room { length log.now < max_events }
     requires situation { Describes (past_of log.now) situation.now }
     requires none { active (past_of log.now) session ≡ None }
     ensures { (level : Kind) (setup : Rows) → Answers level setup (past_of log.now) session command.now result }
@@ -94,7 +95,7 @@ pub fn run_statement<R: Rules>(
     running: &RunningTxn,
     statement: &Statement,
 ) -> Result<Outcome, NoMemory>
-    requires room { length log.now < 100000 }
+    requires room { length log.now < max_events }
     requires situation { Describes (past_of log.now) situation.now }
     requires may { MayAsk (past_of log.now) session statement.now }
     requires running { (txn : Txn) × (active (past_of log.now) session ≡ Some txn) × IsRunning txn running.now }

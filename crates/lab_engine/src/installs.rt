@@ -5,6 +5,7 @@ ghost use Rattle.std.specs.Prelude as list;
 ghost use Rattle.std.specs.FinMap as map;
 ghost use Rattle.lab_table.specs.Row.{Row};
 ghost use Rattle.lab_engine.specs.EachRow.{with_row, each_row};
+ghost use Rattle.lab_engine.specs.Limits.{max_events};
 ghost use Rattle.lab_engine.specs.Log.{initial_version};
 ghost use Rattle.lab_engine.specs.Recording.{if_any};
 ghost use Rattle.lab_engine.specs.Told as plain;
@@ -19,7 +20,7 @@ use std::alloc::Global;
 
 /// The last version of each row that a transaction wrote.
 fn last_versions(alloc: Global, txn: &ToldTxn) -> Result<Versions, NoMemory>
-    requires { length txn.now.ops.items ≤ 100000 }
+    requires { length txn.now.ops.items ≤ max_events }
     ensures { IfOk result (λ last. (row : Row) → map.get last row ≡ version_told txn.now row) }
 {
     let mut last = Versions::new(alloc);

@@ -3,6 +3,7 @@
 ghost use Rattle.std.specs.Prelude.{◌≡◌, ◌<◌, ◌∷◌, ◌++◌, [], Some, length, is_some, IsSome, IfSome, IfOk};
 ghost use Rattle.lab_engine.specs.declared.event.EngineFault.TheVariants.{Busy};
 ghost use Rattle.lab_engine.specs.declared.event.Outcome.TheVariants.{Refused};
+ghost use Rattle.lab_engine.specs.Limits.{max_events};
 ghost use Rattle.lab_engine.specs.Log.{past_of, active, waiting};
 ghost use Rattle.lab_engine.specs.Rules.{Permitted};
 ghost use Rattle.lab_engine.specs.Situation.{Describes};
@@ -81,7 +82,7 @@ fn known_or_found(
     known: Option<Situation>,
     log: &[LogEvent],
 ) -> Result<Situation, NoMemory>
-    requires room { length log.now < 100000 }
+    requires room { length log.now < max_events }
     requires known { IfSome known (Describes (past_of log.now)) }
     ensures { IfOk result (Describes (past_of log.now)) }
 {
@@ -100,7 +101,7 @@ fn next_event<R: Rules>(
     situation: Situation,
     event: LogEvent,
 ) -> Result<Next, NoMemory>
-    requires room { length log.now < 100000 }
+    requires room { length log.now < max_events }
     requires situation { Describes (past_of log.now) situation }
     ensures event { IfOk result (λ n. n.event ≡ event) }
     ensures copy { IfOk result (λ n. n.outcome ≡ event.outcome) }
@@ -128,7 +129,7 @@ fn step_outcome<R: Rules>(
     session: Session,
     command: &Command,
 ) -> Result<Outcome, NoMemory>
-    requires room { length log.now < 100000 }
+    requires room { length log.now < max_events }
     requires situation { Describes (past_of log.now) situation.now }
     ensures permitted { IfOk result (Permitted (R.kind rules.now) setup.now (past_of log.now) session command.now) }
     ensures busy { IfOk result (λ outcome. IsSome (waiting (past_of log.now) session) → outcome ≡ Refused Busy) }
@@ -150,7 +151,7 @@ fn step_event<R: Rules>(
     session: Session,
     command: &Command,
 ) -> Result<Next, NoMemory>
-    requires room { length log.now < 100000 }
+    requires room { length log.now < max_events }
     requires situation { Describes (past_of log.now) situation }
     ensures step { IfOk result (λ n. IsStep (R.kind rules.now) setup.now log.now (log.now ++ n.event ∷ []) session command.now n.outcome) }
     ensures keeps { IfOk result (λ n. Keeps (R.kind rules.now) setup.now (n.event ∷ past_of log.now) n.retryable (Some n.situation)) }
@@ -175,7 +176,7 @@ fn retry_event<R: Rules>(
     situation: Situation,
     session: Session,
 ) -> Result<Next, NoMemory>
-    requires room { length log.now < 100000 }
+    requires room { length log.now < max_events }
     requires situation { Describes (past_of log.now) situation }
     requires waits { IsSome (waiting (past_of log.now) session) }
     ensures retry { IfOk result (λ n. IsRetry (R.kind rules.now) setup.now log.now (log.now ++ n.event ∷ []) session n.outcome) }

@@ -32,7 +32,7 @@ mod version;
 mod waits;
 
 pub use chain::{Chains, Installed};
-pub use engine::Engine;
+pub use engine::{Engine, MAX_EVENTS};
 pub use event::{EngineFault, Level, LogEvent, Outcome, Sessions};
 pub use journal::Journal;
 pub use laws::{law_of_begins, law_of_commits, law_of_locks, law_of_numbers, law_of_records};

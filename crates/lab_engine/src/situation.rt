@@ -7,6 +7,7 @@ ghost use Rattle.lab_table.specs.Row.{Row};
 ghost use Rattle.lab_table.specs.Table.{Rows};
 ghost use Rattle.lab_history.specs.VersionName.{View};
 ghost use Rattle.lab_history.specs.declared.operation.Op.{Op};
+ghost use Rattle.lab_engine.specs.Limits.{max_events};
 ghost use Rattle.lab_engine.specs.Log.{Past, past_of, Txn, active, active_after, waiting, waiting_after, ops_after, commits_after, begun_after, last_installed};
 ghost use Rattle.lab_engine.specs.Chains.{chain_in, chain_after};
 ghost use Rattle.lab_engine.specs.Situation.{Describes, DescribesSession, DescribesAll, Agree, IsRunning, HasRoom, all_sessions, running_of, waiting_of, grown};
@@ -60,7 +61,7 @@ pub struct Situation {
 impl Situation {
     /// The situation after these events, the oldest first. NoMemory where a growth was refused.
     pub fn of(alloc: Global, log: &[LogEvent]) -> Result<Situation, NoMemory>
-        requires { length log.now < 100000 }
+        requires { length log.now < max_events }
         ensures { IfOk result (Describes (past_of log.now)) }
     {
         let mut situation = Situation {
@@ -106,7 +107,7 @@ impl Situation {
 
     /// Goes on by one event. After NoMemory the situation is of no use.
     pub fn take_in(&mut self, alloc: Global, event: &LogEvent) -> Result<(), NoMemory>
-        requires room { (past : Past) × Describes past self.old × (length past < 100000) }
+        requires room { (past : Past) × Describes past self.old × (length past < max_events) }
         ensures { (past : Past) → Describes past self.old → IfOk result (λ _. Describes (event.now ∷ past) self.new) }
     {
         install(alloc, &mut self.committed, &self.sessions, event)?;
@@ -147,7 +148,7 @@ impl RunningTxn {
 
     /// Goes on by an operation.
     fn run(&mut self, alloc: Global, statement: &Statement, writes: &Writes) -> Result<(), NoMemory>
-        requires { length self.old.statements.items < 100000 }
+        requires { length self.old.statements.items < max_events }
         ensures { (txn : Txn) (op : Op) → IsRunning txn self.old → op.statement ≡ statement.now → op.writes ≡ writes.now
             → IfOk result (λ _. IsRunning (grown txn op) self.new) }
     {
@@ -277,7 +278,7 @@ fn go_on(
     before: usize,
 ) -> Result<(), NoMemory>
     requires sessions { list.map (λ state. state.session) states.old.items ≡ all_sessions }
-    requires room { (past : Past) × DescribesAll past states.old.items × (length past < 100000) }
+    requires room { (past : Past) × DescribesAll past states.old.items × (length past < max_events) }
     ensures session { Contains all_sessions event.now.session }
     ensures sessions { IfOk result (λ _. list.map (λ state. state.session) states.new.items ≡ all_sessions) }
     ensures states { (past : Past) → DescribesAll past states.old.items → before ≡ length past → IfOk result (λ _. DescribesAll (event.now ∷ past) states.new.items) }
@@ -331,7 +332,7 @@ fn lengthen(
 }
 
 fn begun_next(outcome: &Outcome, begun: u32) -> u32
-    requires { begun < 100000 }
+    requires { begun < max_events }
     ensures { result ≡ begun_after outcome.now begun }
 {
     match outcome {

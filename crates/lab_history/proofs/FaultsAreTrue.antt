@@ -10,7 +10,7 @@ use Rattle.lab_history.specs.Fitting.{is_format}
 use Rattle.lab_history.specs.Format.{at_key, has_keys, root_keys, keyed, format_in, version_in, txns_in, parts_in, history_in}
 use Rattle.lab_history.specs.History.{History}
 use Rattle.lab_history.specs.Kept.{named_rows, distinct_rows}
-use Rattle.lab_history.specs.Limits.{within_limits}
+use Rattle.lab_history.specs.WithinLimits.{within_limits}
 use Rattle.lab_history.specs.declared.fault.FileFault.{FileFault}
 use Rattle.lab_history.specs.declared.fault.FileFault.TheVariants as fault
 use Rattle.lab_history.specs.declared.fault.Limit.TheVariants as limit

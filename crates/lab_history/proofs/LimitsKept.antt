@@ -5,7 +5,7 @@ use Rattle.std.proofs.lemmas.Bool.{lt-ltb, le-ltb}
 use Rattle.lab_history.specs.Faults.{◌>>=◌, refused_if}
 use Rattle.lab_history.specs.History.{History}
 use Rattle.lab_history.specs.Kept.{operations, named_rows, distinct_rows, op_entries}
-use Rattle.lab_history.specs.Limits.{within_limits}
+use Rattle.lab_history.specs.WithinLimits.{within_limits}
 use Rattle.lab_history.specs.Walked.{txns_counted}
 use Rattle.lab_history.specs.declared.fault.FileFault.TheVariants as fault
 use Rattle.lab_history.specs.declared.fault.Limit.TheVariants as limit

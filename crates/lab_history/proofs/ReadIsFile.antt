@@ -4,7 +4,7 @@ use Rattle.serde_json.specs.Data.{Data}
 use Rattle.lab_history.specs.FileOf.{IsFileOf}
 use Rattle.lab_history.specs.Format.{parts_in, history_in}
 use Rattle.lab_history.specs.History.{History}
-use Rattle.lab_history.specs.Limits.{within_limits}
+use Rattle.lab_history.specs.WithinLimits.{within_limits}
 use Rattle.lab_history.proofs.Steps.{both_ok}
 use Rattle.lab_history.proofs.PartsRead.{parts_read}
 use Rattle.lab_history.proofs.ReadKeeps.{read_keeps}

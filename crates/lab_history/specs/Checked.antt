@@ -5,11 +5,13 @@ use Rattle.std.specs.FinMap as finite
 use Rattle.lab_table.specs.Row.{Row}
 use Rattle.lab_table.specs.declared.statement.Statement.{Statement}
 use Rattle.lab_script.specs.Depth.{statement_depth}
+use Rattle.lab_script.specs.Limits.{max_depth, max_statement_bytes}
 use Rattle.lab_script.specs.Printed.{printed_statement}
 use Rattle.lab_history.specs.Faults.{◌>>=◌, refused_if}
 use Rattle.lab_history.specs.History.{History}
 use Rattle.lab_history.specs.Kept.{operations, is_listed, has_installer}
-use Rattle.lab_history.specs.Limits.{within_limits}
+use Rattle.lab_history.specs.Limits.{max_transactions, max_operations}
+use Rattle.lab_history.specs.WithinLimits.{within_limits}
 use Rattle.lab_history.specs.declared.fault.FileFault.{FileFault}
 use Rattle.lab_history.specs.declared.fault.FileFault.TheVariants as fault
 use Rattle.lab_history.specs.declared.fault.Limit.TheVariants as limit
@@ -22,7 +24,7 @@ use Rattle.lab_history.specs.declared.transaction.Txn.{Txn}
 
 -- whether a statement prints
 abbrev pub statement_prints : Statement → Bool
-statement_prints s = nat_le (statement_depth s) 16 && nat_le (length (printed_statement s)) 1000
+statement_prints s = nat_le (statement_depth s) max_depth && nat_le (length (printed_statement s)) max_statement_bytes
 
 -- the members of a view, the first of which has this place, name versions that a file can list
 abbrev pub listed_from : ListPlace → ℕ → List (Row × VersionName) → Result ⊤ FileFault
@@ -41,7 +43,7 @@ ops_checked txn by index (op ∷ ops) = op_checked txn by index op >>= λ _. ops
 abbrev pub txn_checked : List Txn → ℕ → Txn → Result ⊤ FileFault
 txn_checked before index t =
     refused_if (list_any (λ m. m.no == t.no) before) (fault.RepeatedTxn t.no) >>= λ _.
-    refused_if (nat_lt 10000 (length (operations before) + length t.ops)) (fault.OverLimit limit.Operations) >>= λ _.
+    refused_if (nat_lt max_operations (length (operations before) + length t.ops)) (fault.OverLimit limit.Operations) >>= λ _.
     ops_checked index t.no 0 t.ops
 
 abbrev pub txns_checked : List Txn → ℕ → List Txn → Result ⊤ FileFault
@@ -56,7 +58,7 @@ installed_checked index (e ∷ es) = refused_if (not (has_installer e.1)) (fault
 -- the whole: its transactions, its installed rows, and then the limits on ids and entries
 abbrev pub checked : History → Result ⊤ FileFault
 checked h =
-    refused_if (nat_lt 1000 (length h.txns)) (fault.OverLimit limit.Transactions) >>= λ _.
+    refused_if (nat_lt max_transactions (length h.txns)) (fault.OverLimit limit.Transactions) >>= λ _.
     txns_checked [] 0 h.txns >>= λ _.
     installed_checked 0 (finite.entries h.installed) >>= λ _.
     within_limits h

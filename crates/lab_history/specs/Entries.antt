@@ -5,6 +5,7 @@ use Rattle.serde_json.specs.Data.{Data, null, boolean, number, string, array, ob
 use Rattle.serde_json.specs.Find.{as_number, as_u64, as_i64, as_array}
 use Rattle.lab_table.specs.Row.{Row, row_cmp}
 use Rattle.lab_history.specs.Faults.{◌>>=◌, required}
+use Rattle.lab_history.specs.Limits.{max_operations}
 use Rattle.lab_history.specs.declared.fault.FileFault.{FileFault}
 use Rattle.lab_history.specs.declared.fault.FileFault.TheVariants as fault
 use Rattle.lab_history.specs.declared.path.Path.TheVariants as path
@@ -27,7 +28,7 @@ abbrev pub txn_in_number : Data → Option ℕ
 txn_in_number d = whole_in 1 1000000 d
 
 abbrev pub op_in_number : Data → Option ℕ
-op_in_number d = whole_in 1 10000 d
+op_in_number d = whole_in 1 max_operations d
 
 -- a value
 abbrev pub value_in : Data → Option ℤ

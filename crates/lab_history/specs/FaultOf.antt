@@ -11,6 +11,7 @@ use Rattle.lab_history.specs.Fitting.{fits}
 use Rattle.lab_history.specs.Format.{at_key, count, parts_in}
 use Rattle.lab_history.specs.History.{History}
 use Rattle.lab_history.specs.Kept.{operations, named_rows, distinct_rows, op_entries}
+use Rattle.lab_history.specs.Limits.{max_transactions, max_operations, max_ids, max_entries}
 use Rattle.lab_history.specs.ValueAt.{txn_at, operation_at, list_at, value_at}
 use Rattle.lab_history.specs.declared.fault.FileFault.{FileFault}
 use Rattle.lab_history.specs.declared.fault.FileFault.TheVariants as fault
@@ -62,10 +63,10 @@ all_ops (item t ts) = listed_ops (as_array (at_key (codes "ops") t)) + all_ops t
 -- there is more of something than a file may have
 abbrev pub IsOverLimit : Data → Limit → Type 0
 IsOverLimit d limit.Bytes = ⊥
-IsOverLimit d limit.Transactions = (ts : Items) × (at_key (codes "transactions") d ≡ array ts) × (1000 < count ts)
-IsOverLimit d limit.Operations = (ts : Items) × (at_key (codes "transactions") d ≡ array ts) × (10000 < all_ops ts)
-IsOverLimit d limit.Ids = (h : History) × (parts_in d ≡ Ok h) × (1000 < distinct_rows (named_rows h))
-IsOverLimit d limit.Entries = (h : History) × (parts_in d ≡ Ok h) × (200000 < sum (map op_entries (operations h.txns)))
+IsOverLimit d limit.Transactions = (ts : Items) × (at_key (codes "transactions") d ≡ array ts) × (max_transactions < count ts)
+IsOverLimit d limit.Operations = (ts : Items) × (at_key (codes "transactions") d ≡ array ts) × (max_operations < all_ops ts)
+IsOverLimit d limit.Ids = (h : History) × (parts_in d ≡ Ok h) × (max_ids < distinct_rows (named_rows h))
+IsOverLimit d limit.Entries = (h : History) × (parts_in d ≡ Ok h) × (max_entries < sum (map op_entries (operations h.txns)))
 IsOverLimit d limit.Statement = ⊥
 
 -- the fault is true of the value; none that comes from memory, from bytes or from a recording is

@@ -11,7 +11,8 @@ use Rattle.lab_history.specs.Faults.{◌>>=◌, required, refused_if}
 use Rattle.lab_history.specs.Entries.{txn_in_number, values_in, writes_in, view_in, installed_in}
 use Rattle.lab_history.specs.History.{History}
 use Rattle.lab_history.specs.Kept.{operations}
-use Rattle.lab_history.specs.Limits.{within_limits}
+use Rattle.lab_history.specs.Limits.{max_transactions, max_operations}
+use Rattle.lab_history.specs.WithinLimits.{within_limits}
 use Rattle.lab_history.specs.declared.fault.FileFault.{FileFault}
 use Rattle.lab_history.specs.declared.fault.FileFault.TheVariants as fault
 use Rattle.lab_history.specs.declared.fault.Limit.TheVariants as limit
@@ -90,7 +91,7 @@ txn_in before index d =
     refused_if (list_any (λ t. t.no == number) before) (fault.RepeatedTxn number) >>= λ _.
     required (path.Outcome index) (option_and_then outcome_named (as_str (at_key (codes "outcome") d))) >>= λ outcome.
     required (path.Operations index) (as_array (at_key (codes "ops") d)) >>= λ items.
-    refused_if (nat_lt 10000 (length (operations before) + count items)) (fault.OverLimit limit.Operations) >>= λ _.
+    refused_if (nat_lt max_operations (length (operations before) + count items)) (fault.OverLimit limit.Operations) >>= λ _.
     ops_from index number 0 items >>= λ ops.
     Ok (record { no = number; outcome = outcome; ops = ops })
 
@@ -101,7 +102,7 @@ txns_from before index (item d ds) = txn_in before index d >>= λ txn. txns_from
 abbrev pub txns_in : Data → Result (List Txn) FileFault
 txns_in d =
     required path.Transactions (as_array d) >>= λ items.
-    refused_if (nat_lt 1000 (count items)) (fault.OverLimit limit.Transactions) >>= λ _.
+    refused_if (nat_lt max_transactions (count items)) (fault.OverLimit limit.Transactions) >>= λ _.
     txns_from [] 0 items
 
 -- ---- the whole

@@ -5,6 +5,7 @@ use Rattle.std.specs.FinMap as finite
 use Rattle.lab_table.specs.Row.{Row, row_eq}
 use Rattle.lab_script.specs.Limits.{StatementPrints}
 use Rattle.lab_history.specs.History.{History}
+use Rattle.lab_history.specs.Limits.{max_transactions, max_operations, max_ids, max_entries}
 use Rattle.lab_history.specs.declared.transaction.Txn.{Txn}
 use Rattle.lab_history.specs.declared.operation.Op.{Op}
 use Rattle.lab_history.specs.declared.operation.VersionName.{VersionName}
@@ -36,10 +37,10 @@ distinct_rows (row ∷ rows) = cond (list_any (row_eq row) rows) 0 1 + distinct_
 abbrev pub op_entries : Op → ℕ
 op_entries op = length (finite.entries op.view) + length (finite.entries op.rows) + length (finite.entries op.writes)
 
--- a version that a view may list: not the initial one, and of an operation from 1 to 10,000
+-- a version that a view may list: not the initial one, and of an operation with a number from 1 on that a history may have
 abbrev pub is_listed : VersionName → Bool
 is_listed Initial = false
-is_listed (Of txn op) = nat_le 1 op && nat_le op 10000
+is_listed (Of txn op) = nat_le 1 op && nat_le op max_operations
 
 -- an operation whose statement prints and whose view lists such versions
 pub record OpKeeps (op : Op) : Type 0 where
@@ -58,10 +59,10 @@ has_installer (n ∷ ns) = true
 
 -- what a history keeps: its limits, distinct numbers, and operations and installers that a file can hold
 pub record Keeps (h : History) : Type 0 where
-  pub transactions : length h.txns ≤ 1000
+  pub transactions : length h.txns ≤ max_transactions
   pub distinct : AllDistinct (map (λ t. t.no) h.txns)
-  pub few_operations : length (operations h.txns) ≤ 10000
+  pub few_operations : length (operations h.txns) ≤ max_operations
   pub operations_keep : OpsKeep (operations h.txns)
   pub installers : list_all has_installer (finite.values h.installed) ≡ true
-  pub ids : distinct_rows (named_rows h) ≤ 1000
-  pub entries : sum (map op_entries (operations h.txns)) ≤ 200000
+  pub ids : distinct_rows (named_rows h) ≤ max_ids
+  pub entries : sum (map op_entries (operations h.txns)) ≤ max_entries

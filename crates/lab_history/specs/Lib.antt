@@ -5,6 +5,7 @@ pub mod Kept
 pub mod Version
 pub mod Faults
 pub mod Limits
+pub mod WithinLimits
 pub mod Walked
 pub mod Checked
 pub mod PartsFault

@@ -1,14 +1,22 @@
--- The limits on whole histories.
-use Rattle.std.specs.Prelude.{⊤, nat_lt, map, sum, Result}
-use Rattle.lab_history.specs.Faults.{◌>>=◌, refused_if}
-use Rattle.lab_history.specs.History.{History}
-use Rattle.lab_history.specs.Kept.{operations, named_rows, distinct_rows, op_entries}
-use Rattle.lab_history.specs.declared.fault.FileFault.{FileFault}
-use Rattle.lab_history.specs.declared.fault.FileFault.TheVariants as fault
-use Rattle.lab_history.specs.declared.fault.Limit.TheVariants as limit
+-- The limits of a history.
+use Rattle.std.specs.Prelude.{ℕ}
 
--- too many ids, else too many entries
-abbrev pub within_limits : History → Result ⊤ FileFault
-within_limits h =
-    refused_if (nat_lt 1000 (distinct_rows (named_rows h))) (fault.OverLimit limit.Ids) >>= λ _.
-    refused_if (nat_lt 200000 (sum (map op_entries (operations h.txns)))) (fault.OverLimit limit.Entries)
+-- the most bytes of a file
+abbrev pub max_file_bytes : ℕ
+max_file_bytes = 8388608
+
+-- the most transactions
+abbrev pub max_transactions : ℕ
+max_transactions = 1000
+
+-- the most operations of all transactions together
+abbrev pub max_operations : ℕ
+max_operations = 10000
+
+-- the most different rows that its lists name
+abbrev pub max_ids : ℕ
+max_ids = 1000
+
+-- the most entries of views, rows and writes together
+abbrev pub max_entries : ℕ
+max_entries = 200000

@@ -4,6 +4,7 @@ use Rattle.std.specs.FinMap as finite
 use Rattle.lab_table.specs.Row.{Row}
 use Rattle.lab_script.specs.Limits.{StatementPrints}
 use Rattle.lab_history.specs.History.{History}
+use Rattle.lab_history.specs.Limits.{max_transactions, max_operations, max_ids, max_entries}
 use Rattle.lab_history.specs.Kept.{operations, named_rows, distinct_rows, op_entries, is_listed}
 use Rattle.lab_history.specs.declared.fault.FileFault.{FileFault}
 use Rattle.lab_history.specs.declared.fault.FileFault.TheVariants as fault
@@ -21,10 +22,10 @@ pub data IsOpFault (txn by index : ℕ) (op : Op) : FileFault → Type 0 where
 
 -- what a fault names is so; no other faults are any of parts
 pub data IsPartsFault (h : History) : FileFault → Type 0 where
-  many_transactions : 1000 < length h.txns → IsPartsFault h (fault.OverLimit limit.Transactions)
+  many_transactions : max_transactions < length h.txns → IsPartsFault h (fault.OverLimit limit.Transactions)
   repeated : (i j : ℕ) (t u : Txn) → i < j → slice_get h.txns i ≡ Some t → slice_get h.txns j ≡ Some u → t.no ≡ u.no → IsPartsFault h (fault.RepeatedTxn u.no)
-  many_operations : 10000 < length (operations h.txns) → IsPartsFault h (fault.OverLimit limit.Operations)
+  many_operations : max_operations < length (operations h.txns) → IsPartsFault h (fault.OverLimit limit.Operations)
   of_operation : (i j : ℕ) (t : Txn) (op : Op) (f : FileFault) → slice_get h.txns i ≡ Some t → slice_get t.ops j ≡ Some op → IsOpFault i t.no j op f → IsPartsFault h f
   no_installer : (k : ℕ) (row : Row) → slice_get (finite.entries h.installed) k ≡ Some (row, []) → IsPartsFault h (fault.WrongFormat (path.Member list.Installed k))
-  many_ids : 1000 < distinct_rows (named_rows h) → IsPartsFault h (fault.OverLimit limit.Ids)
-  many_entries : 200000 < sum (map op_entries (operations h.txns)) → IsPartsFault h (fault.OverLimit limit.Entries)
+  many_ids : max_ids < distinct_rows (named_rows h) → IsPartsFault h (fault.OverLimit limit.Ids)
+  many_entries : max_entries < sum (map op_entries (operations h.txns)) → IsPartsFault h (fault.OverLimit limit.Entries)

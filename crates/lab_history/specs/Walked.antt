@@ -4,6 +4,7 @@ use Rattle.std.specs.BTreeSet.{insert_key}
 use Rattle.std.specs.FinMap as finite
 use Rattle.lab_table.specs.Row.{Row, row_cmp}
 use Rattle.lab_history.specs.History.{History}
+use Rattle.lab_history.specs.Limits.{max_entries}
 use Rattle.lab_history.specs.declared.operation.Op.{Op}
 use Rattle.lab_history.specs.declared.transaction.Txn.{Txn}
 
@@ -34,7 +35,7 @@ rows_in h = with_rows (with_rows (with_txns (with_rows [] (finite.entries h.init
 
 -- with those of one list
 abbrev pub counted : ℕ → ℕ → Option ℕ
-counted total n = if nat_le (total + n) 200000 then Some (total + n) else None
+counted total n = if nat_le (total + n) max_entries then Some (total + n) else None
 
 abbrev pub op_counted : ℕ → Op → Option ℕ
 op_counted total op =

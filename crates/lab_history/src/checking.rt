@@ -2,6 +2,7 @@
 
 ghost use Rattle.std.specs.Prelude.{◌≡◌, ◌≢◌, ◌⊎◌, ◌<◌, ◌≤◌, [], length, Ok, Err, IfOk, IfErr};
 ghost use Rattle.lab_history.specs.Kept.{Keeps};
+ghost use Rattle.lab_history.specs.Limits.{max_operations};
 ghost use Rattle.lab_history.specs.Faults.{Gives};
 ghost use Rattle.lab_history.specs.PartsFault.{IsPartsFault};
 ghost use Rattle.lab_history.specs.Checked.{statement_prints, listed_from, op_checked, ops_checked, txns_checked, installed_checked, checked};
@@ -11,7 +12,7 @@ ghost use Rattle.lab_history.specs.declared.path.Path.TheVariants as path;
 
 use crate::fault::{FileFault, Limit};
 use crate::history::History;
-use crate::limits::check_limits;
+use crate::limits::{MAX_OPERATIONS, MAX_TRANSACTIONS, check_limits};
 use crate::operation::{Op, VersionName};
 use crate::parts::Parts;
 use crate::path::{ListPlace, Path};
@@ -21,12 +22,6 @@ use lab_script::check_statement;
 use lab_table::{RowId, Statement, TxnNo};
 use std::alloc::Global;
 use std::collections::BTreeSet;
-
-/// The most transactions of a history.
-const MOST_TXNS: usize = 1_000;
-
-/// The most operations of all its transactions together.
-const MOST_OPERATIONS: usize = 10_000;
 
 impl History {
     /// The history of these parts, or their first fault in the order of a file's walk, with the parts.
@@ -57,7 +52,7 @@ fn check_parts(alloc: Global, parts: &Parts) -> Result<(), Stop>
     ensures { Gives (λ _. tt) result (checked parts.now) }
 {
     let txns = parts.txns.as_slice();
-    if txns.len() > MOST_TXNS {
+    if txns.len() > MAX_TRANSACTIONS {
         return Err(Stop::Fault(FileFault::OverLimit {
             which: Limit::Transactions,
         }));
@@ -78,7 +73,7 @@ fn check_txns(alloc: Global, txns: &[Txn]) -> Result<(), Stop>
             return Err(Stop::Fault(FileFault::RepeatedTxn { no: txn.no }));
         }
         let ops = txn.ops.as_slice();
-        if ops.len() > MOST_OPERATIONS - operations {
+        if ops.len() > MAX_OPERATIONS - operations {
             return Err(Stop::Fault(FileFault::OverLimit {
                 which: Limit::Operations,
             }));
@@ -91,7 +86,7 @@ fn check_txns(alloc: Global, txns: &[Txn]) -> Result<(), Stop>
 
 /// The operations of the transaction at a place, which has this number.
 fn check_ops(txn: usize, by: TxnNo, ops: &[Op]) -> Result<(), FileFault>
-    requires { length ops.now ≤ 10000 }
+    requires { length ops.now ≤ max_operations }
     ensures { result ≡ ops_checked txn by 0 ops.now }
 {
     for (index, op) in ops.iter().enumerate() {
@@ -102,7 +97,7 @@ fn check_ops(txn: usize, by: TxnNo, ops: &[Op]) -> Result<(), FileFault>
 
 /// Its statement prints, and its view lists versions that a file can hold.
 fn check_op(txn: usize, by: TxnNo, index: usize, op: &Op) -> Result<(), FileFault>
-    requires { index < 10000 }
+    requires { index < max_operations }
     ensures { result ≡ op_checked txn by index op.now }
 {
     if !prints(&op.statement) {
@@ -137,7 +132,7 @@ fn is_listed(version: VersionName) -> bool
 {
     match version {
         VersionName::Initial => false,
-        VersionName::Of { op, .. } => 1 <= op && op <= 10_000,
+        VersionName::Of { op, .. } => 1 <= op && op as usize <= MAX_OPERATIONS,
     }
 }
 

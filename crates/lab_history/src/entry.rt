@@ -17,6 +17,7 @@ ghost use Rattle.lab_history.specs.declared.stop.Stop.TheVariants as stop;
 ghost use Rattle.lab_history.specs.declared.path.ListPlace.{ListPlace};
 
 use crate::fault::FileFault;
+use crate::limits::MAX_OPERATIONS;
 use crate::operation::{State, VersionName};
 use crate::order::follows;
 use crate::path::{ListPlace, Path};
@@ -55,7 +56,7 @@ fn op_of(json: &Json) -> Option<u32>
     ensures { result ≡ op_in_number (view json.now) }
 {
     let number = json.as_u64()?;
-    if 1 <= number && number <= 10_000 {
+    if 1 <= number && number <= MAX_OPERATIONS as u64 {
         Some(number as u32)
     } else {
         None

@@ -3,6 +3,7 @@
 ghost use Rattle.std.specs.Prelude.{◌≡◌, ◌≤◌, ◌++◌, length, reverse, IfOk, OnOk};
 ghost use Rattle.std.specs.FinMap as map;
 ghost use Rattle.lab_history.specs.Kept.{Keeps, operations};
+ghost use Rattle.lab_history.specs.Limits.{max_operations};
 ghost use Rattle.lab_history.specs.Index.{IsIndexOf, numbers_from, written_by, written_from, written, placed_from, placed};
 
 use crate::keyed::Keyed;
@@ -54,7 +55,7 @@ fn numbers_of(alloc: Global, txns: &[Txn]) -> Result<Vec<(TxnNo, usize)>, NoMemo
 
 /// The rows that the transactions write with the numbers of the operations, later ones first.
 fn last_writes_of(alloc: Global, txns: &[Txn]) -> Result<Vec<((TxnNo, RowId), u32)>, NoMemory>
-    requires { length (operations txns.now) ≤ 10000 }
+    requires { length (operations txns.now) ≤ max_operations }
     ensures { IfOk result (λ writes. writes.items ≡ reverse (written txns.now)) }
 {
     let mut writes = Vec::new(alloc);
@@ -67,7 +68,7 @@ fn last_writes_of(alloc: Global, txns: &[Txn]) -> Result<Vec<((TxnNo, RowId), u3
 
 /// Adds the rows that a transaction's operations write.
 fn add_ops(writes: &mut Vec<((TxnNo, RowId), u32)>, txn: TxnNo, ops: &[Op]) -> Result<(), NoMemory>
-    requires { length ops.now ≤ 10000 }
+    requires { length ops.now ≤ max_operations }
     ensures { OnOk result (writes.new.items ≡ writes.old.items ++ written_from txn 0 ops.now) }
 {
     for (index, op) in ops.iter().enumerate() {

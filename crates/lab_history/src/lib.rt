@@ -37,6 +37,7 @@ pub use history::History;
 pub use laws::{
     faults_are_true, history_is_read_from_its_file, last_write_is_the_greatest, place_is_the_first,
 };
+pub use limits::{MAX_ENTRIES, MAX_FILE_BYTES, MAX_IDS, MAX_OPERATIONS, MAX_TRANSACTIONS};
 pub use operation::{Op, Ops, Rows, State, VersionName, View, Writes};
 pub use parts::Parts;
 pub use path::{ListPlace, Path};

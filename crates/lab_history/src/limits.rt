@@ -1,9 +1,10 @@
-//! The limits on whole histories.
+//! The limits of a history.
 
 ghost use Rattle.std.specs.Prelude.{◌≡◌, ◌≤◌, IfOk, OnOk, IfSome};
 ghost use Rattle.lab_history.specs.Faults.{Gives};
 ghost use Rattle.lab_history.specs.Kept.{named_rows, distinct_rows};
-ghost use Rattle.lab_history.specs.Limits.{within_limits};
+ghost use Rattle.lab_history.specs.Limits.{max_entries};
+ghost use Rattle.lab_history.specs.WithinLimits.{within_limits};
 ghost use Rattle.lab_history.specs.declared.fault.FileFault.TheVariants as fault;
 ghost use Rattle.lab_history.specs.declared.stop.Stop.TheVariants as stop;
 ghost use Rattle.lab_history.specs.Walked.{with_rows, with_op, with_ops, with_txns, counted, op_counted, ops_counted, txns_counted};
@@ -18,17 +19,26 @@ use std::alloc::Global;
 use std::collections::BTreeSet;
 use std::marker::Model;
 
-/// The most different ids over all lists of a history.
-const MOST_IDS: usize = 1_000;
+/// The most bytes of a history file.
+pub const MAX_FILE_BYTES: usize = 8_388_608;
+
+/// The most transactions of a history.
+pub const MAX_TRANSACTIONS: usize = 1_000;
+
+/// The most operations of all its transactions together.
+pub const MAX_OPERATIONS: usize = 10_000;
+
+/// The most different ids in all its lists together.
+pub const MAX_IDS: usize = 1_000;
 
 /// The most entries of views, rows and writes together.
-const MOST_ENTRIES: usize = 200_000;
+pub const MAX_ENTRIES: usize = 200_000;
 
 /// Whether parts keep the limits on ids and entries.
 pub fn check_limits(alloc: Global, parts: &Parts) -> Result<(), Stop>
     ensures { Gives (λ _. tt) result (within_limits parts.now) }
 {
-    if count_ids(alloc, parts)? > MOST_IDS {
+    if count_ids(alloc, parts)? > MAX_IDS {
         return Err(over(Limit::Ids));
     }
     match count_txns(parts.txns.as_slice()) {
@@ -104,11 +114,11 @@ impl Ids {
 
 /// So many entries more, if that keeps the limit.
 fn count(total: usize, more: usize) -> Option<usize>
-    requires { total ≤ 200000 }
+    requires { total ≤ max_entries }
     ensures value { result ≡ counted total more }
-    ensures few { IfSome result (λ sum. sum ≤ 200000) }
+    ensures few { IfSome result (λ sum. sum ≤ max_entries) }
 {
-    if more <= MOST_ENTRIES - total {
+    if more <= MAX_ENTRIES - total {
         Some(total + more)
     } else {
         None
@@ -116,9 +126,9 @@ fn count(total: usize, more: usize) -> Option<usize>
 }
 
 fn count_op(total: usize, op: &Op) -> Option<usize>
-    requires { total ≤ 200000 }
+    requires { total ≤ max_entries }
     ensures value { result ≡ op_counted total op.now }
-    ensures few { IfSome result (λ sum. sum ≤ 200000) }
+    ensures few { IfSome result (λ sum. sum ≤ max_entries) }
 {
     let total = count(total, op.view.entries().len())?;
     let total = count(total, op.rows.entries().len())?;
@@ -126,9 +136,9 @@ fn count_op(total: usize, op: &Op) -> Option<usize>
 }
 
 fn count_ops(before: usize, ops: &[Op]) -> Option<usize>
-    requires { before ≤ 200000 }
+    requires { before ≤ max_entries }
     ensures value { result ≡ ops_counted before ops.now }
-    ensures few { IfSome result (λ sum. sum ≤ 200000) }
+    ensures few { IfSome result (λ sum. sum ≤ max_entries) }
 {
     let mut total = before;
     for op in ops {

@@ -9,7 +9,7 @@ use lab_table::NoMemory;
 use std::alloc::Global;
 
 /// More bytes than any place in a file within the limits takes.
-const MOST_BYTES: usize = 64;
+const MAX_BYTES: usize = 64;
 
 impl Path {
     /// The place as a JSON pointer, as `/transactions/0/ops/2/view/1`; the root is `/`.
@@ -17,7 +17,7 @@ impl Path {
     pub fn print(&self, alloc: Global) -> Result<Vec<u8>, NoMemory>
         ensures { IfOk result (λ text. text.items ≡ path_text self.now) }
     {
-        let mut text = Vec::with_capacity(alloc, MOST_BYTES)?;
+        let mut text = Vec::with_capacity(alloc, MAX_BYTES)?;
         put_path(&mut text, *self)?;
         Ok(text)
     }

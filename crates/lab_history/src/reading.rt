@@ -8,6 +8,7 @@ ghost use Rattle.serde_json.specs.Read.{read as read_text};
 ghost use Rattle.lab_history.specs.Faults.{Gives};
 ghost use Rattle.lab_history.specs.FaultOf.{IsTrueFault};
 ghost use Rattle.lab_history.specs.FileRead.{ReadsAs};
+ghost use Rattle.lab_history.specs.Limits.{max_file_bytes};
 ghost use Rattle.lab_history.specs.Format.{format_in, version_in, parts_in, history_in};
 
 mod earlier;
@@ -18,7 +19,7 @@ mod transaction;
 
 use crate::fault::{FileFault, Limit};
 use crate::history::History;
-use crate::limits::check_limits;
+use crate::limits::{MAX_FILE_BYTES, check_limits};
 use crate::parts::Parts;
 use crate::path::{ListPlace, Path};
 use crate::stop::{Stop, wrong};
@@ -29,9 +30,6 @@ use lists::{installed_at, values_at};
 use serde_json::Value as Json;
 use std::alloc::Global;
 use transaction::txns_of;
-
-/// The most bytes of a history file.
-pub const MAX_FILE_BYTES: usize = 8_388_608;
 
 /// Whether a value is an object that says it is a history file.
 fn check_format(json: &Json) -> Result<(), Stop>
@@ -123,13 +121,13 @@ fn history_in_file(alloc: Global, bytes: &[u8]) -> Result<History, Stop>
 #[tactic(auto, using(crate::proofs::TextFaults::no_text_fault, crate::proofs::FaultsAreTrue::fault_is_true))]
 pub fn read_history(alloc: Global, bytes: &[u8]) -> Result<History, FileFault>
     ensures found { IfOk result (λ history. (d : Data) × IsUtf8 bytes.now × (read_text bytes.now ≡ Some d) × (history_in d ≡ Ok history)) }
-    ensures short { IfOk result (λ history. length bytes.now ≤ 8388608) }
-    ensures only { (d : Data) → length bytes.now ≤ 8388608 → IsUtf8 bytes.now → read_text bytes.now ≡ Some d
+    ensures short { IfOk result (λ history. length bytes.now ≤ max_file_bytes) }
+    ensures only { (d : Data) → length bytes.now ≤ max_file_bytes → IsUtf8 bytes.now → read_text bytes.now ≡ Some d
         → MatchResult result (λ history. history_in d ≡ Ok history) (λ fault. (fault ≡ FileFault.NoMemory) ⊎ (history_in d ≡ Err fault)) }
-    ensures bytes { 8388608 < length bytes.now → result ≡ Err (FileFault.OverLimit Limit.Bytes) }
+    ensures bytes { max_file_bytes < length bytes.now → result ≡ Err (FileFault.OverLimit Limit.Bytes) }
     ensures not_json { result ≡ Err FileFault.NotJson → (d : Data) → IsUtf8 bytes.now → read_text bytes.now ≢ Some d }
-    ensures true_fault { (d : Data) → length bytes.now ≤ 8388608 → IsUtf8 bytes.now → read_text bytes.now ≡ Some d → IfErr result (λ fault. (fault ≡ FileFault.NoMemory) ⊎ IsTrueFault d fault) }
-    ensures no_text { length bytes.now ≤ 8388608 → ((d : Data) → IsUtf8 bytes.now → read_text bytes.now ≢ Some d)
+    ensures true_fault { (d : Data) → length bytes.now ≤ max_file_bytes → IsUtf8 bytes.now → read_text bytes.now ≡ Some d → IfErr result (λ fault. (fault ≡ FileFault.NoMemory) ⊎ IsTrueFault d fault) }
+    ensures no_text { length bytes.now ≤ max_file_bytes → ((d : Data) → IsUtf8 bytes.now → read_text bytes.now ≢ Some d)
         → IfErr result (λ fault. (fault ≡ FileFault.NoMemory) ⊎ (fault ≡ FileFault.NotJson)) }
 {
     if bytes.len() > MAX_FILE_BYTES {

@@ -10,12 +10,13 @@ ghost use Rattle.serde_json.specs.Written.{compact_text};
 ghost use Rattle.lab_history.specs.FileOf.{IsFileOf};
 ghost use Rattle.lab_history.specs.Format.{history_in};
 ghost use Rattle.lab_history.specs.Kept.{Keeps};
+ghost use Rattle.lab_history.specs.Limits.{max_file_bytes};
 ghost use Rattle.lab_history.specs.Tree.{tree_of};
 
 use crate::fault::WriteFault;
 use crate::history::History;
+use crate::limits::MAX_FILE_BYTES;
 use crate::parts::Parts;
-use crate::reading::MAX_FILE_BYTES;
 use crate::writing::operations::transactions_json;
 use crate::writing::values::{installed_json, table_json};
 use lab_table::NoMemory;
@@ -39,7 +40,7 @@ fn parts_json(alloc: Global, parts: &Parts) -> Result<Json, NoMemory>
 
 /// The file of a history: compact JSON with the keys of each object in the order of their bytes, without a newline.
 ///
-/// TooLong where the text would have more than 8,388,608 bytes; NoMemory where a growth was refused.
+/// TooLong where the text would have more than [`MAX_FILE_BYTES`]; NoMemory where a growth was refused.
 #[tactic(auto, using(crate::proofs::WrittenTrees::tree_whole, crate::proofs::WrittenTrees::tree_flat, crate::proofs::FileIsRead::file_is_read))]
 pub fn write_history(alloc: Global, history: &History) -> Result<Vec<u8>, WriteFault>
     ensures text { IfOk result (λ text. text.items ≡ compact_text (tree_of history.now)) }
@@ -50,8 +51,8 @@ pub fn write_history(alloc: Global, history: &History) -> Result<Vec<u8>, WriteF
     ensures file { OnOk result (IsFileOf (tree_of history.now) history.now) }
     // It is read as the same history again.
     ensures again { OnOk result (history_in (tree_of history.now) ≡ Ok history.now) }
-    ensures within { IfOk result (λ text. length text.items ≤ 8388608) }
-    ensures too_long { result ≡ Err WriteFault.TooLong → 8388608 < length (compact_text (tree_of history.now)) }
+    ensures within { IfOk result (λ text. length text.items ≤ max_file_bytes) }
+    ensures too_long { result ≡ Err WriteFault.TooLong → max_file_bytes < length (compact_text (tree_of history.now)) }
 {
     let text = parts_json(alloc, history.parts())?.to_vec(alloc)?;
     if text.len() > MAX_FILE_BYTES {

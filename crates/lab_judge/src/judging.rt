@@ -5,6 +5,7 @@ ghost use Rattle.serde_json.specs.Data.{Data};
 ghost use Rattle.serde_json.specs.Read.{read as read_text};
 ghost use Rattle.lab_history.specs.FaultOf.{IsTrueFault};
 ghost use Rattle.lab_history.specs.Format.{history_in};
+ghost use Rattle.lab_history.specs.Limits.{max_file_bytes};
 ghost use Rattle.lab_history.specs.declared.fault.Limit.TheVariants.{Bytes};
 ghost use Rattle.lab_deps.specs.Edges.{IsEdge};
 ghost use Rattle.lab_deps.specs.EdgeOrder.{IsInOrder};
@@ -52,13 +53,13 @@ pub fn judge(alloc: Global, history: &History) -> Result<Report, NoMemory>
 /// Judges the history of a file's bytes; refused as [`read_history`] refuses it.
 pub fn judge_bytes(alloc: Global, bytes: &[u8]) -> Result<Report, FileFault>
     ensures judged { IfOk result (IsFileJudgement bytes.now) }
-    ensures short { IfOk result (λ report. length bytes.now ≤ 8388608) }
-    ensures only { (d : Data) → length bytes.now ≤ 8388608 → IsUtf8 bytes.now → read_text bytes.now ≡ Some d
+    ensures short { IfOk result (λ report. length bytes.now ≤ max_file_bytes) }
+    ensures only { (d : Data) → length bytes.now ≤ max_file_bytes → IsUtf8 bytes.now → read_text bytes.now ≡ Some d
         → IfErr result (λ fault. (fault ≡ FileFault.NoMemory) ⊎ (history_in d ≡ Err fault)) }
-    ensures bytes { 8388608 < length bytes.now → result ≡ Err (FileFault.OverLimit Bytes) }
+    ensures bytes { max_file_bytes < length bytes.now → result ≡ Err (FileFault.OverLimit Bytes) }
     ensures not_json { result ≡ Err FileFault.NotJson → (d : Data) → IsUtf8 bytes.now → read_text bytes.now ≢ Some d }
-    ensures true_fault { (d : Data) → length bytes.now ≤ 8388608 → IsUtf8 bytes.now → read_text bytes.now ≡ Some d → IfErr result (λ fault. (fault ≡ FileFault.NoMemory) ⊎ IsTrueFault d fault) }
-    ensures no_text { length bytes.now ≤ 8388608 → ((d : Data) → IsUtf8 bytes.now → read_text bytes.now ≢ Some d)
+    ensures true_fault { (d : Data) → length bytes.now ≤ max_file_bytes → IsUtf8 bytes.now → read_text bytes.now ≡ Some d → IfErr result (λ fault. (fault ≡ FileFault.NoMemory) ⊎ IsTrueFault d fault) }
+    ensures no_text { length bytes.now ≤ max_file_bytes → ((d : Data) → IsUtf8 bytes.now → read_text bytes.now ≢ Some d)
         → IfErr result (λ fault. (fault ≡ FileFault.NoMemory) ⊎ (fault ≡ FileFault.NotJson)) }
 {
     let history = read_history(alloc, bytes)?;

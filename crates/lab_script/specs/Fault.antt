@@ -20,10 +20,11 @@ use Rattle.lab_script.specs.Token.{tokens}
 use Rattle.lab_script.specs.Grammar.{IsCommands, IsSetup}
 use Rattle.lab_script.specs.Script.{code_of, remark_of, session_of, is_code_byte, is_ascii_code, is_passed, IsFit, BeginsSetup, SpellsStatement, LineSpells, LinesSpell}
 use Rattle.lab_script.specs.Printed.{newline}
+use Rattle.lab_script.specs.Limits.{max_lines, max_line_bytes, max_commands}
 
 -- a line that is longer than a line may be, or comes after the last that a text may have
 abbrev pub IsOver : ℕ → List ℕ → Type 0
-IsOver number line = (2000 < number) ⊎ (4000 < length line)
+IsOver number line = (max_lines < number) ⊎ (max_line_bytes < length line)
 
 -- a line that may have this number and isn't passed over
 abbrev pub IsKept : ℕ → List ℕ → Type 0
@@ -32,12 +33,12 @@ IsKept number line = IsFit number line × (is_passed line ≡ false)
 -- tokens that spell nothing behind what the lines before spell: a setup that is none, or no commands for which there is room
 abbrev pub SpellsNothing : List Token → Option Script → Type 0
 SpellsNothing ts None = BeginsSetup ts × ((table : Table) → IsSetup ts table → ⊥)
-SpellsNothing ts (Some script) = (BeginsSetup ts → ⊥) × ((cs : List Command) → IsCommands ts cs → length script.lines + length cs ≤ 1999 → ⊥)
+SpellsNothing ts (Some script) = (BeginsSetup ts → ⊥) × ((cs : List Command) → IsCommands ts cs → length script.lines + length cs ≤ max_commands → ⊥)
 
 -- tokens that spell commands for which there is room, and a remark that names no session
 abbrev pub LacksSession : List Token → List ℕ → Option Script → Type 0
 LacksSession ts remark None = ⊥
-LacksSession ts remark (Some script) = ((cs : List Command) × IsCommands ts cs × (length script.lines + length cs ≤ 1999)) × (session_of remark ≡ None)
+LacksSession ts remark (Some script) = ((cs : List Command) × IsCommands ts cs × (length script.lines + length cs ≤ max_commands)) × (session_of remark ≡ None)
 
 -- what this kind of fault says of the tokens and the remark of a line that is kept, and of what the lines before it spell
 abbrev pub SaysOfTokens : ScriptFaultKind → List Token → List ℕ → Option Script → Type 0
@@ -56,7 +57,7 @@ SaysOfTokens kinds.DuplicateSetupRow ts remark before = SpellsNothing ts before
 -- or it isn't, and its code has another byte; or it is looked at by its tokens.
 pub data IsWrong (number : ℕ) (line : List ℕ) (before : Option Script) : ScriptFaultKind → Type 0 where
   over : IsOver number line → IsWrong number line before kinds.TooLong
-  not_ascii : number ≤ 2000 → length line ≤ 4000 → is_ascii_code line ≡ false → IsWrong number line before kinds.NotAscii
+  not_ascii : number ≤ max_lines → length line ≤ max_line_bytes → is_ascii_code line ≡ false → IsWrong number line before kinds.NotAscii
   of_tokens : {kind : ScriptFaultKind} → IsKept number line → SaysOfTokens kind (tokens (code_of line)) (remark_of line) before → IsWrong number line before kind
 
 -- the lines before this one spell something, and with it they spell nothing: it is the first faulty one, and what the kind says holds of it
@@ -94,16 +95,16 @@ IsTokensFault number ts remark before (fault.At n kind) = (n ≡ number) × Says
 -- What a kind of fault says of the text of one statement: it is too long, or it isn't and has a byte that is no code,
 -- or its tokens are wrong.
 abbrev pub SaysOfStatement : ScriptFaultKind → List ℕ → Type 0
-SaysOfStatement kinds.NotAscii text = (length text ≤ 4000) × (list_all is_code_byte text ≡ false)
-SaysOfStatement kinds.TooLong text = (4000 < length text) ⊎ (list_all is_code_byte text ≡ true)
+SaysOfStatement kinds.NotAscii text = (length text ≤ max_line_bytes) × (list_all is_code_byte text ≡ false)
+SaysOfStatement kinds.TooLong text = (max_line_bytes < length text) ⊎ (list_all is_code_byte text ≡ true)
 SaysOfStatement kinds.NoSetup text = ⊥
 SaysOfStatement kinds.SetupRepeated text = ⊥
 SaysOfStatement kinds.NoSession text = ⊥
-SaysOfStatement kinds.UnknownStatement text = (length text ≤ 4000) × (list_all is_code_byte text ≡ true)
-SaysOfStatement kinds.BadPredicate text = (length text ≤ 4000) × (list_all is_code_byte text ≡ true)
-SaysOfStatement kinds.NumberOutOfRange text = (length text ≤ 4000) × (list_all is_code_byte text ≡ true)
-SaysOfStatement kinds.TooDeep text = (length text ≤ 4000) × (list_all is_code_byte text ≡ true)
-SaysOfStatement kinds.DuplicateSetupRow text = (length text ≤ 4000) × (list_all is_code_byte text ≡ true)
+SaysOfStatement kinds.UnknownStatement text = (length text ≤ max_line_bytes) × (list_all is_code_byte text ≡ true)
+SaysOfStatement kinds.BadPredicate text = (length text ≤ max_line_bytes) × (list_all is_code_byte text ≡ true)
+SaysOfStatement kinds.NumberOutOfRange text = (length text ≤ max_line_bytes) × (list_all is_code_byte text ≡ true)
+SaysOfStatement kinds.TooDeep text = (length text ≤ max_line_bytes) × (list_all is_code_byte text ≡ true)
+SaysOfStatement kinds.DuplicateSetupRow text = (length text ≤ max_line_bytes) × (list_all is_code_byte text ≡ true)
 
 -- the fault is true of the text of one statement
 abbrev pub IsStatementFault : List ℕ → ScriptFault → Type 0

@@ -20,6 +20,7 @@ use Rattle.lab_script.specs.declared.token.Word.TheVariants as word
 use Rattle.lab_script.specs.declared.token.Token.{Token}
 use Rattle.lab_script.specs.declared.token.Token.TheVariants as token
 use Rattle.lab_script.specs.Printed.{printed_statement, printed_setup}
+use Rattle.lab_script.specs.Limits.{max_depth, max_line_bytes, max_statement_bytes}
 
 -- the tokens of words
 abbrev pub words : List Word → List Token
@@ -81,7 +82,7 @@ pub data IsPred : ℕ → Kind → List Token → Predicate → Type 0 where
 -- [ 'where' P ]
 pub data IsWhere : List Token → Option Predicate → Type 0 where
   without : IsWhere [] None
-  where_pred : {ts : List Token} {p : Predicate} → IsPred 16 P ts p → IsWhere (token.Word word.Where ∷ ts) (Some p)
+  where_pred : {ts : List Token} {p : Predicate} → IsPred max_depth P ts p → IsWhere (token.Word word.Where ∷ ts) (Some p)
 
 -- E := number | 'value' '+' number | 'value' '-' number
 pub data IsExpr : List Token → Expr → Type 0 where
@@ -116,7 +117,7 @@ pub data IsCommand : List Token → List Command → Type 0 where
   abort : IsCommand (words (word.Abort ∷ [])) (command.Abort ∷ [])
   rollback : IsCommand (words (word.Rollback ∷ [])) (command.Abort ∷ [])
   level : (w : Word) (ws : List Word) → IsCommand (words (word.Set ∷ word.Transaction ∷ word.Isolation ∷ word.Level ∷ w ∷ ws)) []
-  run : {ts : List Token} {s : Statement} → IsStatement ts s → length (printed_statement s) ≤ 1000 → IsCommand ts (command.Run s ∷ [])
+  run : {ts : List Token} {s : Statement} → IsStatement ts s → length (printed_statement s) ≤ max_statement_bytes → IsCommand ts (command.Run s ∷ [])
 
 -- line := stmt { ';' stmt } [ ';' ]
 pub data IsCommands : List Token → List Command → Type 0 where
@@ -146,9 +147,9 @@ pub data IsEnd : List Token → Type 0 where
 -- one statement [ ';' ] whose printed form keeps its limit
 pub record IsWholeStatement (ts : List Token) (s : Statement) : Type 0 where
   pub parts : (front end : List Token) × (ts ≡ front ++ end) × IsStatement front s × IsEnd end
-  pub printed : length (printed_statement s) ≤ 1000
+  pub printed : length (printed_statement s) ≤ max_statement_bytes
 
 -- setup := 'setup' ( '(' ')' | row { ',' row } ) [ ';' ]
 pub data IsSetup : List Token → Table → Type 0 where
-  setup : {ts end : List Token} {rows : List (Row × ℤ)} → IsRowList ts rows → AllDistinct rows → IsEnd end → length (printed_setup (finite.from_entries rows)) ≤ 4000
+  setup : {ts end : List Token} {rows : List (Row × ℤ)} → IsRowList ts rows → AllDistinct rows → IsEnd end → length (printed_setup (finite.from_entries rows)) ≤ max_line_bytes
       → IsSetup (token.Word word.Setup ∷ ts ++ end) (finite.from_entries rows)

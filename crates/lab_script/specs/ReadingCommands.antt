@@ -7,6 +7,7 @@ use Rattle.lab_script.specs.declared.token.Word.TheVariants as word
 use Rattle.lab_script.specs.declared.token.Token.{Token}
 use Rattle.lab_script.specs.declared.token.Token.TheVariants as token
 use Rattle.lab_script.specs.Printed.{printed_statement}
+use Rattle.lab_script.specs.Limits.{max_statement_bytes}
 use Rattle.lab_script.specs.Reading.{◌>>=◌, when, after, after_all}
 use Rattle.lab_script.specs.ReadingStatements.{statement_at, ended_at}
 
@@ -40,7 +41,7 @@ command_at ts = when (after (token.Word word.Begin) ts) (λ rest. Some (Some com
 
 -- whether the printed form of a command is as short as it must be
 abbrev pub is_short : Option Command → Bool
-is_short (Some (command.Run s)) = nat_le (length (printed_statement s)) 1000
+is_short (Some (command.Run s)) = nat_le (length (printed_statement s)) max_statement_bytes
 is_short c = true
 
 -- a statement of a line with its end

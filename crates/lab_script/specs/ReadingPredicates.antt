@@ -9,6 +9,7 @@ use Rattle.lab_table.specs.declared.predicate.Cmp.TheVariants as cmp
 use Rattle.lab_script.specs.declared.token.Word.TheVariants as word
 use Rattle.lab_script.specs.declared.token.Token.{Token}
 use Rattle.lab_script.specs.declared.token.Token.TheVariants as token
+use Rattle.lab_script.specs.Limits.{max_depth}
 use Rattle.lab_script.specs.Reading.{◌>>=◌, when, after, digits_at, number_at, more_of}
 
 -- a column
@@ -114,5 +115,5 @@ pred_at d ts = joined_of (conj_at d) (token.Word word.Or) predicate.Or ts
 -- nothing, or where and a predicate
 unfoldable pub where_at : List Token → Option (Option Predicate × List Token)
 where_at ts = when (after (token.Word word.Where) ts) (λ rest. do
-  p ← pred_at 16 rest
+  p ← pred_at max_depth rest
   Some (Some p.0, p.1)) (Some (None, ts))

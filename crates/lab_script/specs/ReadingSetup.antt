@@ -6,6 +6,7 @@ use Rattle.lab_script.specs.declared.token.Word.TheVariants as word
 use Rattle.lab_script.specs.declared.token.Token.{Token}
 use Rattle.lab_script.specs.declared.token.Token.TheVariants as token
 use Rattle.lab_script.specs.Printed.{printed_setup}
+use Rattle.lab_script.specs.Limits.{max_line_bytes}
 use Rattle.lab_script.specs.Reading.{◌>>=◌, after, is_end}
 use Rattle.lab_script.specs.ReadingRows.{row_at}
 
@@ -38,7 +39,7 @@ table_at ts = elim (no_rows_at ts) [ None ↦ rows_at ts | Some rest ↦ Some (m
 
 -- whether a setup of this table ends with these tokens
 abbrev pub ends_setup : Table → List Token → Bool
-ends_setup table ts = is_end ts && nat_le (length (printed_setup table)) 4000
+ends_setup table ts = is_end ts && nat_le (length (printed_setup table)) max_line_bytes
 
 -- a setup, all of the line
 unfoldable pub setup_at : List Token → Option Table

@@ -8,6 +8,7 @@ use Rattle.lab_script.specs.declared.token.Word.TheVariants as word
 use Rattle.lab_script.specs.declared.token.Token.{Token}
 use Rattle.lab_script.specs.declared.token.Token.TheVariants as token
 use Rattle.lab_script.specs.Printed.{printed_statement}
+use Rattle.lab_script.specs.Limits.{max_statement_bytes}
 use Rattle.lab_script.specs.Reading.{◌>>=◌, is_token, when, after, after_all, number_at}
 use Rattle.lab_script.specs.ReadingRows.{row_at}
 use Rattle.lab_script.specs.ReadingPredicates.{where_at}
@@ -70,4 +71,4 @@ unfoldable pub whole_statement_at : List Token → Option Statement
 whole_statement_at ts = do
   s ← statement_at ts
   rest ← ended_at s.1
-  if nat_le (length (printed_statement s.0)) 1000 && length rest == 0 then Some s.0 else None
+  if nat_le (length (printed_statement s.0)) max_statement_bytes && length rest == 0 then Some s.0 else None

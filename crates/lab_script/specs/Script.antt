@@ -13,6 +13,7 @@ use Rattle.lab_script.specs.declared.token.Token.TheVariants as token
 use Rattle.lab_script.specs.Token.{is_blank, tokens}
 use Rattle.lab_script.specs.Grammar.{IsCommands, IsSetup, IsStatement, IsEnd}
 use Rattle.lab_script.specs.Printed.{printed_statement}
+use Rattle.lab_script.specs.Limits.{max_lines, max_line_bytes, max_commands, max_statement_bytes}
 
 -- whether a remark begins here
 abbrev pub begins_remark : List ℕ → Bool
@@ -59,8 +60,8 @@ is_ascii_code line = list_all is_code_byte (code_of line)
 
 -- a line that may have this number
 pub record IsFit (number : ℕ) (line : List ℕ) : Type 0 where
-  pub lines : number ≤ 2000
-  pub bytes : length line ≤ 4000
+  pub lines : number ≤ max_lines
+  pub bytes : length line ≤ max_line_bytes
   pub ascii : is_ascii_code line ≡ true
 
 -- the script with these commands of a session at its end
@@ -77,7 +78,7 @@ pub data LineSpells (number : ℕ) (line : List ℕ) : Option Script → Option 
   setup : {table : Table} → IsFit number line → IsSetup (tokens (code_of line)) table
       → LineSpells number line None (Some (record { setup = table; lines = [] }))
   commands : {cs : List Command} {session : ℕ} (script : Script) → IsFit number line → IsCommands (tokens (code_of line)) cs
-      → session_of (remark_of line) ≡ Some session → length script.lines + length cs ≤ 1999
+      → session_of (remark_of line) ≡ Some session → length script.lines + length cs ≤ max_commands
       → LineSpells number line (Some script) (Some (extended script session number cs))
 
 -- whether the first token is setup
@@ -88,7 +89,7 @@ BeginsSetup ts = (rest : List Token) × (ts ≡ token.Word word.Setup ∷ rest)
 abbrev pub AddsCommands : ℕ → List Token → List ℕ → Script → Script → Type 0
 AddsCommands number ts remark before after =
     (cs : List Command) × (session : ℕ) × IsCommands ts cs × (session_of remark ≡ Some session)
-    × (length before.lines + length cs ≤ 1999) × (after ≡ extended before session number cs)
+    × (length before.lines + length cs ≤ max_commands) × (after ≡ extended before session number cs)
 
 -- what lines, of which the first has this number, make of what stands before them
 abbrev pub LinesSpell : ℕ → Option Script → List (List ℕ) → Option Script → Type 0
@@ -101,8 +102,8 @@ Spells text script = LinesSpell 1 None (lines text) (Some script)
 
 -- the text spells the statement: all of it is code
 pub record SpellsStatement (text : List ℕ) (s : Statement) : Type 0 where
-  pub bytes : length text ≤ 4000
+  pub bytes : length text ≤ max_line_bytes
   pub ascii : list_all is_code_byte text ≡ true
   pub no_remark : code_of text ≡ text
   pub parts : (ts end : _) × (tokens text ≡ ts ++ end) × IsStatement ts s × IsEnd end
-  pub printed : length (printed_statement s) ≤ 1000
+  pub printed : length (printed_statement s) ≤ max_statement_bytes

@@ -3,12 +3,13 @@ use Rattle.std.specs.Prelude.{ℕ, Bool, ◌&&◌, ◌==◌, nat_le, if◌then�
 use Rattle.std.specs.List.{list_all}
 use Rattle.lab_table.specs.declared.statement.Statement.{Statement}
 use Rattle.lab_script.specs.Token.{tokens}
+use Rattle.lab_script.specs.Limits.{max_line_bytes}
 use Rattle.lab_script.specs.Script.{code_of, is_code_byte}
 use Rattle.lab_script.specs.ReadingStatements.{whole_statement_at}
 
 -- whether a text is code without a remark, and no longer than a line may be
 abbrev pub is_code_alone : List ℕ → Bool
-is_code_alone text = nat_le (length text) 4000 && (list_all is_code_byte text && length (code_of text) == length text)
+is_code_alone text = nat_le (length text) max_line_bytes && (list_all is_code_byte text && length (code_of text) == length text)
 
 -- the statement that a text spells, if it spells one
 unfoldable pub statement_in : List ℕ → Option Statement

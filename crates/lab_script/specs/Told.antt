@@ -9,7 +9,7 @@ use Rattle.lab_script.specs.declared.script.Script.{Script}
 use Rattle.lab_script.specs.declared.print.PrintFault.{PrintFault}
 use Rattle.lab_script.specs.declared.print.PrintFault.TheVariants.{NoMemory, TooDeep, TooLong}
 use Rattle.lab_script.specs.Depth.{statement_depth}
-use Rattle.lab_script.specs.Limits.{IsDeep, IsLong}
+use Rattle.lab_script.specs.Limits.{max_depth, max_statement_bytes, IsDeep, IsLong}
 use Rattle.lab_script.specs.Printed.{printed_statement, printed_id}
 use Rattle.lab_script.specs.Transcript.{Whole, table_with, table_after, transactions, nobody}
 
@@ -36,7 +36,7 @@ shown table (whole ∷ wholes) = shown_of table whole.statements ++ shown (table
 
 -- the limit that a statement's printed form breaks, if it breaks one
 abbrev pub limit_broken : Statement → Option PrintFault
-limit_broken s = cond (nat_lt 16 (statement_depth s)) (Some TooDeep) (cond (nat_lt 1000 (length (printed_statement s))) (Some TooLong) None)
+limit_broken s = cond (nat_lt max_depth (statement_depth s)) (Some TooDeep) (cond (nat_lt max_statement_bytes (length (printed_statement s))) (Some TooLong) None)
 
 -- the limit that is broken first, where one was broken before or not
 abbrev pub broken_with : Option PrintFault → Statement → Option PrintFault

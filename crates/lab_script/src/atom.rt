@@ -4,7 +4,7 @@ ghost use Rattle.std.specs.Prelude.{◌≡◌, ◌≤◌, length};
 ghost use Rattle.lab_script.specs.Reading.{Gives};
 ghost use Rattle.lab_script.specs.ReadingPredicates.{cmp_of, col_at, cmp_at, modulus_at, numbers_at, number_list_at, compare_at, remainder_at, one_of_at, atom_at};
 
-use crate::cursor::Parser;
+use crate::parser::Parser;
 use crate::stop::{GrammarFault, Stop};
 use crate::token::{Token, Word};
 use lab_table::{Cmp, Col, Modulus, Numbers, Pred, PredKind, Value};

@@ -5,7 +5,7 @@ ghost use Rattle.std.specs.List.{prefix_len};
 ghost use Rattle.lab_script.specs.Reading.{Gives};
 ghost use Rattle.lab_script.specs.ReadingCommands.{is_word, words_at, level_at, command_at, is_short, closed_at, added, step_at, commands_at};
 
-use crate::cursor::Parser;
+use crate::parser::Parser;
 use crate::statement::check_length;
 use crate::stop::{GrammarFault, Stop};
 use crate::token::{Token, Word};

@@ -34,7 +34,7 @@ pub enum ScriptFaultKind {
 }
 
 /// Why a text is no script.
-#[derive(Debug, Drop, Error)]
+#[derive(Clone, Copy, Debug, PartialEq, Eq, Error)]
 pub enum ScriptFault {
     /// A growth was refused.
     #[error("no memory")]

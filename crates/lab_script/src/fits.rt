@@ -5,19 +5,21 @@ ghost use Rattle.std.specs.Fmt.{decimal, signed_decimal};
 ghost use Rattle.lab_script.specs.Length.{Leaves, parentheses_length, col_length, cmp_length, numbers_length, pred_length, where_length, expr_length, row_length, statement_length, more_rows_length, setup_length};
 ghost use Rattle.lab_script.specs.Printed.{printed_id, printed_statement, printed_setup};
 ghost use Rattle.lab_script.specs.Depth.{deeper, depth_of, where_depth, statement_depth};
+ghost use Rattle.lab_script.specs.Limits.{max_depth, max_line_bytes, max_statement_bytes};
 
+use crate::limits::{MAX_DEPTH, MAX_LINE_BYTES, MAX_STATEMENT_BYTES};
 use crate::spelling::{is_joined, is_or};
 use itoa::Buffer;
 use lab_table::{Cmp, Col, Expr, Pred, PredKind, RowId, Statement, Table, Value};
 
-/// Whether at most 16 parentheses and `not`s are open at one place of a statement's printed form.
+/// Whether at most [`MAX_DEPTH`] parentheses and `not`s are open at one place of a statement's printed form.
 pub fn depth_fits(statement: &Statement) -> bool
-    ensures { IsTrue result ↔ (statement_depth statement.now ≤ 16) }
+    ensures { IsTrue result ↔ (statement_depth statement.now ≤ max_depth) }
 {
     match statement {
         Statement::Select { pred: Some(p) }
         | Statement::Update { pred: Some(p), .. }
-        | Statement::Delete { pred: Some(p) } => nests_within(p, false, 16),
+        | Statement::Delete { pred: Some(p) } => nests_within(p, false, usize::from(MAX_DEPTH)),
         _ => true,
     }
 }
@@ -41,20 +43,20 @@ fn nests_within(pred: &Pred, enclosed: bool, depth: usize) -> bool
     }
 }
 
-/// Whether a statement's printed form has at most 1,000 bytes.
+/// Whether a statement's printed form has at most [`MAX_STATEMENT_BYTES`].
 #[tactic(auto, using(crate::proofs::Lengths::length_statement))]
 pub fn statement_fits(statement: &Statement) -> bool
-    ensures { IsTrue result ↔ (length (printed_statement statement.now) ≤ 1000) }
+    ensures { IsTrue result ↔ (length (printed_statement statement.now) ≤ max_statement_bytes) }
 {
-    room_after_statement(1000, statement).is_some()
+    room_after_statement(MAX_STATEMENT_BYTES, statement).is_some()
 }
 
-/// Whether the line of a setup has at most 4,000 bytes, without its newline.
+/// Whether the line of a setup has at most [`MAX_LINE_BYTES`], without its newline.
 #[tactic(auto, using(crate::proofs::Lengths::length_setup))]
 pub fn setup_fits(table: &Table) -> bool
-    ensures { IsTrue result ↔ (length (printed_setup table.now) ≤ 4000) }
+    ensures { IsTrue result ↔ (length (printed_setup table.now) ≤ max_line_bytes) }
 {
-    room_after_setup(4000, table.rows()).is_some()
+    room_after_setup(MAX_LINE_BYTES, table.rows()).is_some()
 }
 
 fn room_after_number(room: usize, n: i64) -> Option<usize>

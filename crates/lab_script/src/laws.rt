@@ -5,6 +5,7 @@ ghost use Rattle.lab_table.specs.declared.statement.Statement.{Statement};
 ghost use Rattle.lab_script.specs.declared.fault.ScriptFault.{ScriptFault};
 ghost use Rattle.lab_script.specs.declared.script.Script.{Script};
 ghost use Rattle.lab_script.specs.Fault.{IsFaultOf};
+ghost use Rattle.lab_script.specs.Limits.{max_script_bytes};
 ghost use Rattle.lab_script.specs.Script.{Spells, SpellsStatement};
 ghost use Rattle.lab_script.specs.StatementText.{statement_in};
 
@@ -17,7 +18,7 @@ pub fn statement_is_read_from_its_text()
 /// What a text spells, and its fault, is told by its first bytes, where these are more than 8,388,608: a script has at most
 /// 2,000 lines of at most 4,000 bytes, so a longer text has its first fault there.
 pub fn first_bytes_tell_a_script()
-    ensures short { (text : List ℕ) (script : Script) → Spells text script → length text ≤ 8388608 }
-    ensures spelled { (text : List ℕ) (n : ℕ) (script : Script) → 8388608 < n → Spells (take n text) script → Spells text script }
-    ensures fault { (text : List ℕ) (n : ℕ) (fault : ScriptFault) → 8388608 < n → IsFaultOf (take n text) fault → IsFaultOf text fault }
+    ensures short { (text : List ℕ) (script : Script) → Spells text script → length text ≤ max_script_bytes }
+    ensures spelled { (text : List ℕ) (n : ℕ) (script : Script) → max_script_bytes < n → Spells (take n text) script → Spells text script }
+    ensures fault { (text : List ℕ) (n : ℕ) (fault : ScriptFault) → max_script_bytes < n → IsFaultOf (take n text) fault → IsFaultOf text fault }
 {}

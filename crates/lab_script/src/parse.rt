@@ -6,9 +6,10 @@ ghost use Rattle.lab_script.specs.declared.script.Script.{Script as Whole};
 ghost use Rattle.lab_script.specs.Grammar.{IsSetup};
 ghost use Rattle.lab_script.specs.Script.{Spells, LineSpells, BeginsSetup, AddsCommands};
 ghost use Rattle.lab_script.specs.Fault.{IsFaultOf, IsLineFault, IsTokensFault};
-ghost use Rattle.lab_script.specs.Limits.{ScriptPrints};
+ghost use Rattle.lab_script.specs.Limits.{max_commands, ScriptPrints};
 
 use crate::fault::{ScriptFault, ScriptFaultKind};
+use crate::limits::{MAX_COMMANDS, MAX_LINE_BYTES, MAX_LINES};
 use crate::line::{code_and_remark, is_ascii_code, is_blank_code, session_of};
 use crate::parser::read_commands;
 use crate::script::{Lines, Script};
@@ -16,15 +17,6 @@ use crate::setup::read_setup;
 use crate::token::{Token, Word, tokens_into};
 use bstr::ByteSlice;
 use std::alloc::Global;
-
-/// The most lines of a text.
-const MAX_LINES: u32 = 2000;
-
-/// The most bytes of a line, without what ends it.
-pub const MAX_LINE_BYTES: usize = 4000;
-
-/// The most commands of a script.
-const MAX_COMMANDS: usize = 1999;
 
 /// The script that a text spells: the setup, then lines of statements with a session in their remarks.
 /// The first faulty line in the text and what is wrong with it, or NoMemory where a growth was refused.
@@ -58,7 +50,7 @@ fn read_line(
     line: &[u8],
     tokens: &mut Vec<Token>,
 ) -> Result<(), ScriptFault>
-    requires few { IfSome script.old (λ s. length s.lines ≤ 1999) }
+    requires few { IfSome script.old (λ s. length s.lines ≤ max_commands) }
     ensures found { OnOk result (LineSpells number line.now script.old script.new) }
     ensures fault { IfErr result (IsLineFault number line.now script.old) }
 {
@@ -124,7 +116,7 @@ fn add_commands(
     tokens: &[Token],
     remark: &[u8],
 ) -> Result<(), ScriptFault>
-    requires few { length script.old.lines ≤ 1999 }
+    requires few { length script.old.lines ≤ max_commands }
     ensures found { OnOk result (AddsCommands number tokens.now remark.now script.old script.new) }
     ensures fault { IfErr result (IsTokensFault number tokens.now remark.now (Some script.old)) }
 {

@@ -5,14 +5,12 @@ ghost use Rattle.lab_table.specs.Predicate as predicate;
 ghost use Rattle.lab_script.specs.Reading.{Gives};
 ghost use Rattle.lab_script.specs.ReadingPredicates.{term_at, conj_at, pred_at, where_at};
 
-use crate::cursor::Parser;
+use crate::limits::MAX_DEPTH;
+use crate::parser::Parser;
 use crate::stop::{GrammarFault, Stop};
 use crate::token::{Token, Word};
 use lab_table::{Pred, PredKind};
 use std::alloc::Global;
-
-/// How many parentheses and `not`s of a predicate may be open at one place.
-const MAX_DEPTH: u8 = 16;
 
 impl Parser<'_> {
     /// The predicate behind a `where`, if one stands here.

@@ -6,9 +6,10 @@ ghost use Rattle.lab_script.specs.Depth.{statement_depth};
 ghost use Rattle.lab_script.specs.Renumbered.{renumbered};
 ghost use Rattle.lab_script.specs.Script.{Spells, SpellsStatement};
 ghost use Rattle.lab_script.specs.StatementText.{statement_in};
-ghost use Rattle.lab_script.specs.Limits.{StatementPrints, CommandPrints, IsDeep, IsLong, ScriptPrints, BreaksDepth, BreaksLength};
+ghost use Rattle.lab_script.specs.Limits.{max_depth, max_statement_bytes, StatementPrints, CommandPrints, IsDeep, IsLong, ScriptPrints, BreaksDepth, BreaksLength};
 
 use crate::fits::{depth_fits, setup_fits, statement_fits};
+use crate::limits::MAX_COMMANDS;
 use crate::round_trip::{printed_script_spells, printed_statement_spells};
 use crate::script::Script;
 use crate::spelling::{put_command, put_line, put_setup, put_statement};
@@ -51,8 +52,8 @@ pub fn print_statement(alloc: Global, statement: &Statement) -> Result<Vec<u8>, 
     // The same as a function of the text.
     ensures read { IfOk result (λ text. statement_in text.items ≡ Some statement.now) }
     ensures prints { OnOk result (StatementPrints statement.now) }
-    ensures too_deep { result ≡ Err PrintFault.TooDeep → 16 < statement_depth statement.now }
-    ensures too_long { result ≡ Err PrintFault.TooLong → (statement_depth statement.now ≤ 16) × (1000 < length (printed_statement statement.now)) }
+    ensures too_deep { result ≡ Err PrintFault.TooDeep → max_depth < statement_depth statement.now }
+    ensures too_long { result ≡ Err PrintFault.TooLong → (statement_depth statement.now ≤ max_depth) × (max_statement_bytes < length (printed_statement statement.now)) }
 {
     check_statement(statement)?;
     let mut text = Vec::new(alloc);
@@ -72,7 +73,7 @@ pub fn print_script(alloc: Global, script: &Script) -> Result<Vec<u8>, PrintFaul
     ensures too_long { result ≡ Err PrintFault.TooLong → BreaksLength script.now }
 {
     let lines = script.lines.as_slice();
-    if lines.len() > 1999 || !setup_fits(&script.setup) {
+    if lines.len() > MAX_COMMANDS || !setup_fits(&script.setup) {
         return Err(PrintFault::TooLong);
     }
     let mut text = Vec::new(alloc);
@@ -93,8 +94,8 @@ pub fn print_script(alloc: Global, script: &Script) -> Result<Vec<u8>, PrintFaul
 /// By it a caller refuses a statement that can't be written down before running or keeping it.
 pub fn check_statement(statement: &Statement) -> Result<(), PrintFault>
     ensures prints { OnOk result (StatementPrints statement.now) }
-    ensures too_deep { result ≡ Err PrintFault.TooDeep → 16 < statement_depth statement.now }
-    ensures too_long { result ≡ Err PrintFault.TooLong → (statement_depth statement.now ≤ 16) × (1000 < length (printed_statement statement.now)) }
+    ensures too_deep { result ≡ Err PrintFault.TooDeep → max_depth < statement_depth statement.now }
+    ensures too_long { result ≡ Err PrintFault.TooLong → (statement_depth statement.now ≤ max_depth) × (max_statement_bytes < length (printed_statement statement.now)) }
     ensures memory { result ≢ Err PrintFault.NoMemory }
 {
     if !depth_fits(statement) {

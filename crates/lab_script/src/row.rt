@@ -4,7 +4,7 @@ ghost use Rattle.std.specs.Prelude.{◌≤◌, length};
 ghost use Rattle.lab_script.specs.Reading.{Gives};
 ghost use Rattle.lab_script.specs.ReadingRows.{id_at, row_at};
 
-use crate::cursor::Parser;
+use crate::parser::Parser;
 use crate::stop::{GrammarFault, Stop};
 use crate::token::Token;
 use lab_table::{RowId, Value};

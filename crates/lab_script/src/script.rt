@@ -4,7 +4,7 @@ use lab_table::{Command, NoMemory, Session, Table};
 use std::marker::Model;
 
 /// A command of a session, and the line of the text that it came from.
-#[derive(Drop)]
+#[derive(Debug, Drop)]
 pub struct Line {
     pub session: Session,
     pub command: Command,
@@ -12,7 +12,7 @@ pub struct Line {
 }
 
 /// The lines of a script, in order.
-#[derive(Drop)]
+#[derive(Debug, Drop)]
 pub struct Lines {
     items: Vec<Line>,
 }
@@ -47,6 +47,14 @@ impl Lines {
         &self.items
     }
 
+    /// Gives the lines back, in order; it takes no memory.
+    pub fn into_vec(self) -> Vec<Line>
+        ensures { result.items ≡ self }
+    {
+        let Lines { items } = self;
+        items
+    }
+
     /// Adds a line at the end; NoMemory where a growth was refused, and then the lines are unchanged.
     pub fn push(&mut self, line: Line) -> Result<(), NoMemory>
         ensures ok { OnOk result (self.new ≡ self.old ++ line ∷ []) }
@@ -58,7 +66,7 @@ impl Lines {
 }
 
 /// A table to begin with, and commands of sessions.
-#[derive(Drop)]
+#[derive(Debug, Drop)]
 pub struct Script {
     pub setup: Table,
     pub lines: Lines,

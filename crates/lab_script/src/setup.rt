@@ -6,8 +6,8 @@ ghost use Rattle.lab_script.specs.Grammar.{IsSetup};
 ghost use Rattle.lab_script.specs.Reading.{Gives};
 ghost use Rattle.lab_script.specs.ReadingSetup.{row_onto, rows_at, no_rows_at, table_at, ends_setup, setup_at};
 
-use crate::cursor::Parser;
 use crate::fits::setup_fits;
+use crate::parser::Parser;
 use crate::stop::{GrammarFault, Stop};
 use crate::token::{Token, Word};
 use lab_table::Table;

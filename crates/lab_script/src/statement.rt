@@ -3,12 +3,13 @@
 ghost use Rattle.std.specs.Prelude.{◌≡◌, ◌==◌, ◌<◌, nat_le, if◌then◌else◌, List, length, Some, None, OnErr};
 ghost use Rattle.lab_table.specs.declared.statement.Statement.{Statement as Spelled};
 ghost use Rattle.lab_script.specs.declared.token.Token.{Token as Shown};
+ghost use Rattle.lab_script.specs.Limits.{max_statement_bytes};
 ghost use Rattle.lab_script.specs.Printed.{printed_statement};
 ghost use Rattle.lab_script.specs.Reading.{Gives, StopsTooLong};
 ghost use Rattle.lab_script.specs.ReadingStatements.{expr_at, select_at, update_at, insert_at, delete_at, statement_at, ended_at, whole_statement_at};
 
-use crate::cursor::Parser;
 use crate::fits::statement_fits;
+use crate::parser::Parser;
 use crate::stop::{GrammarFault, Stop};
 use crate::token::{Token, Word};
 use lab_table::{Expr, Statement};
@@ -20,7 +21,7 @@ impl Parser<'_> {
     pub fn whole_statement(&mut self, alloc: Global) -> Result<Statement, Stop>
         ensures gives { Gives (λ x. x) result (whole_statement_at self.old) }
         // A statement that is over its limit at its end is told before what stands behind it.
-        ensures long { (s : Spelled) (end behind : List Shown) → (statement_at self.old ≡ Some (s, end)) → (ended_at end ≡ Some behind) → 1000 < length (printed_statement s) → StopsTooLong result }
+        ensures long { (s : Spelled) (end behind : List Shown) → (statement_at self.old ≡ Some (s, end)) → (ended_at end ≡ Some behind) → max_statement_bytes < length (printed_statement s) → StopsTooLong result }
     {
         let statement = self.statement(alloc)?;
         self.ended()?;
@@ -141,7 +142,7 @@ impl Parser<'_> {
 /// The printed form is as short as it must be.
 #[tactic(auto, using(crate::proofs::Same::same_test))]
 pub fn check_length(statement: &Statement) -> Result<(), Stop>
-    ensures gives { Gives (λ x. x) result (if nat_le (length (printed_statement statement.now)) 1000 then Some tt else None) }
+    ensures gives { Gives (λ x. x) result (if nat_le (length (printed_statement statement.now)) max_statement_bytes then Some tt else None) }
     ensures long { OnErr result (StopsTooLong result) }
 {
     if statement_fits(statement) {

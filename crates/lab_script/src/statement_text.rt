@@ -8,8 +8,8 @@ ghost use Rattle.lab_script.specs.Fault.{IsStatementFault};
 ghost use Rattle.lab_script.specs.StatementText.{statement_in};
 
 use crate::fault::{ScriptFault, ScriptFaultKind};
+use crate::limits::MAX_LINE_BYTES;
 use crate::line::{code_and_remark, is_ascii_code};
-use crate::parse::MAX_LINE_BYTES;
 use crate::parser::read_statement;
 use crate::token::{Token, tokens_of};
 use lab_table::{NoMemory, Statement};

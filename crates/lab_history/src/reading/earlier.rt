@@ -3,6 +3,7 @@
 ghost use Rattle.std.specs.Prelude.{◌≡◌, ◌≤◌, ◌+◌, ◌==◌, ◌++◌, ◌∷◌, [], length, IfOk};
 ghost use Rattle.std.specs.List.{list_any};
 ghost use Rattle.lab_history.specs.Kept.{operations};
+ghost use Rattle.lab_history.specs.Limits.{max_operations};
 
 use crate::transaction::{Txn, Txns};
 use lab_table::{NoMemory, TxnNo};
@@ -10,7 +11,7 @@ use std::alloc::Global;
 use std::collections::BTreeSet;
 use std::marker::Model;
 
-/// Transactions in the order of the file, with their numbers sorted and their operations counted: at most 10,000.
+/// Transactions in the order of the file, with their numbers sorted and their operations counted: at most [`MAX_OPERATIONS`](crate::limits::MAX_OPERATIONS).
 #[derive(Drop)]
 pub struct Earlier {
     txns: Vec<Txn>,
@@ -27,6 +28,7 @@ impl Model for Earlier {
     ghost use Rattle.lab_history.specs.declared.transaction.Txn.{Txn};
     ghost use Rattle.lab_history.specs.contracts.transaction.Txn as txn;
     ghost use Rattle.lab_history.specs.Kept.{operations};
+    ghost use Rattle.lab_history.specs.Limits.{max_operations};
 
     ghost Value = { List Txn };
 
@@ -35,7 +37,7 @@ impl Model for Earlier {
     ghost view = { λ e. e.txns.items };
 
     ghost invariant = { λ e. ((n : ℕ) → contains_by (nat_cmp n) e.numbers ≡ list_any (λ t. t.no == n) e.txns.items)
-        × (e.count ≡ length (operations e.txns.items)) × (e.count ≤ 10000) };
+        × (e.count ≡ length (operations e.txns.items)) × (e.count ≤ max_operations) };
 }
 
 impl Earlier {
@@ -60,14 +62,14 @@ impl Earlier {
     /// How many operations the transactions have together.
     pub fn operations(&self) -> usize
         ensures value { result ≡ length (operations self.now) }
-        ensures few { result ≤ 10000 }
+        ensures few { result ≤ max_operations }
     {
         self.count
     }
 
     /// Adds a transaction.
     pub fn push(&mut self, txn: Txn) -> Result<(), NoMemory>
-        requires { length (operations self.old) + length txn.ops ≤ 10000 }
+        requires { length (operations self.old) + length txn.ops ≤ max_operations }
         ensures { IfOk result (λ _. self.new ≡ self.old ++ txn ∷ []) }
     {
         self.txns.try_reserve(1)?;

@@ -5,6 +5,7 @@ ghost use Rattle.serde_json.specs.View.{view, items_view};
 ghost use Rattle.lab_script.specs.StatementText.{statement_in};
 ghost use Rattle.lab_history.specs.Faults.{Gives};
 ghost use Rattle.lab_history.specs.Format.{op_in, ops_from};
+ghost use Rattle.lab_history.specs.Limits.{max_operations};
 
 use super::keys::{has_keys, text_at};
 use super::lists::{values_at, view_at, writes_at};
@@ -30,7 +31,7 @@ fn statement_of(alloc: Global, text: &str) -> Result<Option<Statement>, NoMemory
 
 /// The operation at a place of the transaction with this place and this number.
 fn op_of(alloc: Global, txn: usize, number: TxnNo, op: usize, json: &Json) -> Result<Op, Stop>
-    requires { op < 10000 }
+    requires { op < max_operations }
     ensures { Gives (λ read. read) result (op_in txn number op (view json.now)) }
 {
     if !has_keys(json, &["rows", "statement", "view", "writes"]) {
@@ -59,7 +60,7 @@ fn op_of(alloc: Global, txn: usize, number: TxnNo, op: usize, json: &Json) -> Re
 /// The operations of the transaction with this place and this number.
 #[tactic(auto, using(crate::proofs::OpsRead::op_read, crate::proofs::OpsRead::op_fault, crate::proofs::OpsRead::ops_end))]
 pub fn ops_of(alloc: Global, txn: usize, number: TxnNo, items: &[Json]) -> Result<Ops, Stop>
-    requires { length items.now ≤ 10000 }
+    requires { length items.now ≤ max_operations }
     ensures read { Gives (λ ops. ops) result (ops_from txn number 0 (items_view items.now)) }
     ensures count { IfOk result (λ ops. length ops ≡ length items.now) }
 {

@@ -7,24 +7,20 @@ ghost use Rattle.lab_history.specs.Entries.{txn_in_number};
 ghost use Rattle.lab_history.specs.Faults.{Gives};
 ghost use Rattle.lab_history.specs.Format.{at_key, outcome_named, txn_in, txns_in};
 ghost use Rattle.lab_history.specs.Kept.{operations};
+ghost use Rattle.lab_history.specs.Limits.{max_operations};
 
 use super::earlier::Earlier;
 use super::keys::{has_keys, items_at, text_at};
 use super::operation::ops_of;
 use crate::entry::txn_of;
 use crate::fault::{FileFault, Limit};
+use crate::limits::{MAX_OPERATIONS, MAX_TRANSACTIONS};
 use crate::path::Path;
 use crate::stop::{Stop, over, wrong};
 use crate::transaction::{Outcome, Txn, Txns};
 use lab_table::TxnNo;
 use serde_json::Value as Json;
 use std::alloc::Global;
-
-/// The most transactions of a history.
-const MAX_TRANSACTIONS: usize = 1_000;
-
-/// The most operations of all transactions together.
-const MAX_OPERATIONS: usize = 10_000;
 
 /// The number of a transaction.
 fn number_of(json: &Json) -> Option<TxnNo>
@@ -51,7 +47,7 @@ fn outcome_of(json: &Json) -> Option<Outcome>
 #[tactic(auto, using(crate::proofs::Counts::too_many, crate::proofs::Counts::few_enough))]
 fn transaction_of(alloc: Global, earlier: &Earlier, index: usize, json: &Json) -> Result<Txn, Stop>
     ensures read { Gives (λ txn. txn) result (txn_in earlier.now index (view json.now)) }
-    ensures few { IfOk result (λ txn. length (operations earlier.now) + length txn.ops ≤ 10000) }
+    ensures few { IfOk result (λ txn. length (operations earlier.now) + length txn.ops ≤ max_operations) }
 {
     if !has_keys(json, &["no", "ops", "outcome"]) {
         return Err(wrong(Path::Transaction(index)));

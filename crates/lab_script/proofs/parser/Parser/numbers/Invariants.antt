@@ -2,7 +2,7 @@ use Rattle.std.proofs.Common.{◌≡◌, ℕ, ◌≤◌, length}
 use Rattle.lab_script.specs.declared.token.Token.TheVariants as token
 use Rattle.lab_script.specs.Reading.{number_at, more_of}
 use Rattle.lab_script.specs.ReadingPredicates.{one_more, numbers_at}
-use Rattle.lab_script.proofs.cursor.Parser.numbers.Given as goal
+use Rattle.lab_script.proofs.parser.Parser.numbers.Given as goal
 
 abbrev pub invariant-loop-self : goal.invariant-loop-self
 invariant-loop-self l = record {

@@ -2,7 +2,7 @@ use Rattle.std.proofs.Common.{length, suc, refl, arith}
 use Rattle.std.proofs.lemmas.Result.{err_from_is_err_and}
 use Rattle.lab_script.specs.ReadingSetup.{rows_at}
 use Rattle.lab_script.proofs.SetupLoop.{row_fails, row_ends, row_goes_on}
-use Rattle.lab_script.proofs.cursor.Parser.rows.Goals as goal
+use Rattle.lab_script.proofs.parser.Parser.rows.Goals as goal
 
 pub loop-table-init : goal.loop-table-init
 unfolding rows_at

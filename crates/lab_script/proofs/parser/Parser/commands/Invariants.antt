@@ -1,6 +1,6 @@
 use Rattle.std.proofs.Common.{◌≡◌, ℕ, ◌≤◌, length}
 use Rattle.lab_script.specs.ReadingCommands.{more_commands, commands_at}
-use Rattle.lab_script.proofs.cursor.Parser.commands.Given as goal
+use Rattle.lab_script.proofs.parser.Parser.commands.Given as goal
 
 abbrev pub invariant-loop-alloc : goal.invariant-loop-alloc
 invariant-loop-alloc l = record {

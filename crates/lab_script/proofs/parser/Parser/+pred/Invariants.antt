@@ -4,7 +4,7 @@ use Rattle.lab_script.specs.declared.token.Word.TheVariants as word
 use Rattle.lab_script.specs.declared.token.Token.TheVariants as token
 use Rattle.lab_script.specs.Reading.{more_of}
 use Rattle.lab_script.specs.ReadingPredicates.{term_at, conj_at, pred_at}
-use Rattle.lab_script.proofs.cursor.Parser.+pred.Given as goal
+use Rattle.lab_script.proofs.parser.Parser.+pred.Given as goal
 
 abbrev pub decreases-conj : goal.decreases-conj
 decreases-conj l = 3 * l.depth + 1

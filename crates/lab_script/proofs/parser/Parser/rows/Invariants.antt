@@ -1,6 +1,6 @@
 use Rattle.std.proofs.Common.{◌≡◌, ℕ, ◌<◌, length}
 use Rattle.lab_script.specs.ReadingSetup.{rows_onto, rows_at}
-use Rattle.lab_script.proofs.cursor.Parser.rows.Given as goal
+use Rattle.lab_script.proofs.parser.Parser.rows.Given as goal
 
 -- what is left, added to the table so far, gives the whole
 abbrev pub invariant-loop-table : goal.invariant-loop-table

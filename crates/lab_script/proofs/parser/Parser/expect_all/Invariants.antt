@@ -1,6 +1,6 @@
 use Rattle.std.proofs.Common.{◌≡◌, drop}
 use Rattle.lab_script.specs.Reading.{after_all}
-use Rattle.lab_script.proofs.cursor.Parser.expect_all.Given as goal
+use Rattle.lab_script.proofs.parser.Parser.expect_all.Given as goal
 
 abbrev pub invariant-loop-token : goal.invariant-loop-token
 invariant-loop-token l = after_all (drop l.token-index l.tokens) l.self ≡ after_all l.tokens l.fn.self

@@ -5,7 +5,7 @@ use Rattle.lab_script.specs.declared.token.Word.TheVariants as word
 use Rattle.lab_script.specs.declared.token.Token.TheVariants as token
 use Rattle.lab_script.specs.ReadingPredicates.{term_at, conj_at, pred_at}
 use Rattle.lab_script.proofs.Loops.{starts, first_fails, goes_on_to, next_fails, ends}
-use Rattle.lab_script.proofs.cursor.Parser.+pred.Goals as goal
+use Rattle.lab_script.proofs.parser.Parser.+pred.Goals as goal
 
 pub conj-returns-in_err-pred-clause-gives : goal.conj-returns-in_err-pred-clause-gives
 unfolding conj_at

@@ -5,7 +5,7 @@ use Rattle.lab_script.specs.declared.token.Token.TheVariants as token
 use Rattle.lab_script.specs.Reading.{number_at}
 use Rattle.lab_script.specs.ReadingPredicates.{one_more, numbers_at}
 use Rattle.lab_script.proofs.Loops.{goes_on_to, next_fails, ends}
-use Rattle.lab_script.proofs.cursor.Parser.numbers.Goals as goal
+use Rattle.lab_script.proofs.parser.Parser.numbers.Goals as goal
 
 abbrev some_list : List ℤ → Option (List ℤ)
 some_list zs = Some zs
