@@ -23,11 +23,6 @@ module _ (opening : Opening) (graph : Arrows) (nodes : List ℕ) where
   unmarked marks e from same exact none opened =
       false≢true (sym none ∙ (exact (position nodes e.to)).1 (subst (λ n. Reaches graph (position nodes e.to) (position nodes n)) same opened.1))
 
-  -- from the end of an edge that is marked a path leads back
-  pub marked : (marks : List Bool) (e : Edge) (from : ℕ) → e.from ≡ from → ((n : ℕ) → IsTrue (is_marked marks n) ↔ Reaches graph n (position nodes from)) → opens opening e.kind ≡ true → is_marked marks (position nodes e.to) ≡ true → IsOpening opening graph nodes e
-  marked marks e from same exact opened there =
-      (opened, subst (λ n. Reaches graph (position nodes e.to) (position nodes n)) (sym same) ((exact (position nodes e.to)).0 there))
-
 -- the mark of a node is what is read there
 pub mark_read : (marks : List Bool) (n p : ℕ) (b : Bool) → n ≡ p → n < length marks → b ≡ slice_index_or marks n b → is_marked marks p ≡ b
 mark_read marks n p b same lt is = ap (is_marked marks) (sym same) ∙ sym (get_or_read marks n b lt is false)

@@ -1,6 +1,6 @@
 -- The length of the printed form is the sum of its parts.
-use Rattle.std.proofs.Common.{◌≡◌, ℕ, ℤ, ◌+◌, ◌≤◌, Bool, true, false, List, [], ◌∷◌, ◌++◌, Option, Some, None, length, length-append, refl, ap, ◌∙◌, arith}
-use Rattle.std.specs.Prelude.{◌||◌, ◌↔◌, IsTrue, is_some, codes}
+use Rattle.std.proofs.Common.{◌≡◌, ℕ, ℤ, ◌+◌, Bool, true, false, List, [], ◌∷◌, ◌++◌, Option, Some, None, length, length-append, refl, ap, ◌∙◌, arith}
+use Rattle.std.specs.Prelude.{◌||◌, codes}
 use Rattle.std.specs.Fmt.{signed_decimal}
 use Rattle.lab_table.specs.Row.{Row}
 use Rattle.lab_table.specs.Predicate.{Predicate}
@@ -14,7 +14,7 @@ use Rattle.lab_table.specs.declared.statement.Expr.TheVariants as expr
 use Rattle.lab_table.specs.declared.statement.Statement.{Statement}
 use Rattle.lab_table.specs.declared.statement.Statement.TheVariants as statement
 use Rattle.lab_script.specs.Printed.{printed_col, printed_cmp, joined, printed_numbers, parenthesized, is_or, is_and, printed_pred, printed_where, printed_expr, printed_row, printed_rows, printed_statement, rows_or}
-use Rattle.lab_script.specs.Length.{parentheses_length, col_length, cmp_length, more_numbers_length, numbers_length, pred_length, where_length, expr_length, row_length, statement_length, more_rows_length, setup_length, Leaves}
+use Rattle.lab_script.specs.Length.{parentheses_length, col_length, cmp_length, more_numbers_length, numbers_length, pred_length, where_length, expr_length, row_length, statement_length, more_rows_length, setup_length}
 use Rattle.lab_script.proofs.Joined.{followed, joined_is}
 
 length_parenthesized : (b : Bool) (text : List ℕ) → length (parenthesized b text) ≡ parentheses_length b + length text
@@ -77,8 +77,3 @@ length_rows row rows = ap length (joined_is (printed_row row.0 row.1) (printed_r
 pub length_setup : (rows : List (Row × ℤ)) → length (codes "setup " ++ rows_or (codes "()") rows ++ codes ";") ≡ setup_length rows
 length_setup [] = refl
 length_setup (row ∷ rows) = omega (arith, length-append (rows_or (codes "()") (row ∷ rows)) (codes ";"), length_rows row rows)
-
--- something is left of a room exactly where the text fits in it
-pub fits_is : (limit bytes : ℕ) (text : List ℕ) (room : Option ℕ) (answer : Bool) → length text ≡ bytes → Leaves limit bytes room → answer ≡ is_some room → IsTrue answer ↔ (length text ≤ limit)
-fits_is limit bytes text None answer long h is = ((λ e. absurd cc), (λ le. absurd (omega arith)))
-fits_is limit bytes text (Some n) answer long h is = ((λ e. omega arith), (λ le. is))

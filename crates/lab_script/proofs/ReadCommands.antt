@@ -1,6 +1,6 @@
 -- The commands that are read of a line are those of the grammar, and the other way round.
 use Rattle.std.proofs.Common.{◌≡◌, ℕ, zero, suc, ◌+◌, ◌≤◌, ◌<◌, Bool, true, cond, List, [], ◌∷◌, ◌++◌, length, drop, Option, Some, None, refl, sym, ap, subst, ◌∙◌, append_assoc, append-nil, length-append, one-add, arith, inl, inr}
-use Rattle.std.specs.Prelude.{nat_lt, Result, Ok, Err, IfOk}
+use Rattle.std.specs.Prelude.{nat_lt}
 use Rattle.std.specs.List.{prefix_len}
 use Rattle.std.proofs.lemmas.Bool.{le-leb, leb-true, lt-ltb, ltb-true}
 use Rattle.std.proofs.lemmas.Option.{cond_some}
@@ -15,7 +15,7 @@ use Rattle.lab_script.specs.declared.stop.Stop.{Stop}
 use Rattle.lab_script.specs.Grammar.{words, IsStatement, IsCommand, IsCommands}
 use Rattle.lab_script.specs.Grammar as grammar
 use Rattle.lab_script.specs.Printed.{printed_statement}
-use Rattle.lab_script.specs.Reading.{Fails, Gives, ◌>>=◌, after, after_all}
+use Rattle.lab_script.specs.Reading.{Fails, ◌>>=◌, after, after_all}
 use Rattle.lab_script.specs.ReadingStatements.{statement_at, ended_at}
 use Rattle.lab_script.specs.ReadingCommands.{is_word, words_at, level_at, command_at, is_short, closed_at, added, step_at, more_commands, commands_at}
 use Rattle.lab_script.proofs.Same.{bind_some, some_is, when_takes}
@@ -295,11 +295,6 @@ not_empty h = let long : 1 ≤ 0 = commands_long h in omega (arith, long)
 pub no_setup : {ts : List Token} {cs : List Command} → IsCommands (token.Word word.Setup ∷ ts) cs → ⊥
 unfolding commands_at step_at closed_at command_at statement_at
 no_setup {ts} {cs} h = let read : commands_at (length cs) (token.Word word.Setup ∷ ts) ≡ Some cs = commands_again h (length cs) (omega arith) in absurd (cc read)
-
--- the commands that are found, and that there is room for them
-pub commands_found : (room : ℕ) (ts : List Token) (r : Result (List Command) Stop) → Gives (λ x. x) r (commands_at room ts) → IfOk r (λ cs. IsCommands ts cs × (length cs ≤ room))
-commands_found room ts (Ok cs) given = commands_take room ts cs given
-commands_found room ts (Err e) given = tt
 
 -- the loop over the statements of a line
 

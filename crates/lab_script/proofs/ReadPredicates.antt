@@ -1,5 +1,5 @@
 -- Predicates that are read are those of the grammar, and the other way round.
-use Rattle.std.proofs.Common.{◌≡◌, ℕ, zero, suc, ◌≤◌, ◌<◌, List, [], ◌∷◌, ◌++◌, length, Option, Some, None, refl, sym, ap, subst, ◌∙◌, append_assoc, length-append, arith}
+use Rattle.std.proofs.Common.{◌≡◌, ℕ, zero, suc, ◌≤◌, List, [], ◌∷◌, ◌++◌, length, Option, Some, None, refl, sym, ap, subst, ◌∙◌, append_assoc, length-append, arith}
 use Rattle.lab_table.specs.Predicate.{Predicate}
 use Rattle.lab_table.specs.Predicate as predicate
 use Rattle.lab_table.specs.declared.predicate.Col.TheVariants as col
@@ -37,9 +37,6 @@ atom_term (suc d) (grammar.one_of col.Id h) rest = atom_again (grammar.one_of co
 atom_term (suc d) (grammar.one_of col.Value h) rest = atom_again (grammar.one_of col.Value h) rest
 atom_term (suc d) (grammar.remainder col.Id h low high i) rest = atom_again (grammar.remainder col.Id h low high i) rest
 atom_term (suc d) (grammar.remainder col.Value h low high i) rest = atom_again (grammar.remainder col.Value h low high i) rest
-
-longer : (a b : List Token) (t : Token) → length b < length (t ∷ a ++ b)
-longer a b t = grind (arith, length-append)
 
 shorter : (a b : List Token) → length b ≤ length (a ++ b)
 shorter a b = grind (arith, length-append)

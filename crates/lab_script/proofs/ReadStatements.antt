@@ -1,6 +1,6 @@
 -- Statements that are read are those of the grammar, and the other way round.
 use Rattle.std.proofs.Common.{◌≡◌, ◌≤◌, List, [], ◌∷◌, ◌++◌, length, Option, Some, None, refl, sym, ap, subst, ◌∙◌, append_assoc, inl, inr}
-use Rattle.std.specs.Prelude.{ℤ, ◌&&◌, ◌==◌, ◌⊎◌, nat_le, Result, Ok, Err, IfOk}
+use Rattle.std.specs.Prelude.{ℤ, ◌&&◌, ◌==◌, ◌⊎◌, nat_le}
 use Rattle.std.proofs.lemmas.Bool.{eqb-true, le-leb, leb-true, and_parts}
 use Rattle.std.proofs.lemmas.List.{nil_from_length}
 use Rattle.std.proofs.lemmas.Option.{cond_some}
@@ -14,8 +14,7 @@ use Rattle.lab_script.specs.declared.token.Token.TheVariants as token
 use Rattle.lab_script.specs.Grammar.{IsNumber, IsExpr, IsStatement, IsEnd}
 use Rattle.lab_script.specs.Grammar as grammar
 use Rattle.lab_script.specs.Printed.{printed_statement}
-use Rattle.lab_script.specs.declared.stop.Stop.{Stop}
-use Rattle.lab_script.specs.Reading.{Gives, is_token, after, after_all}
+use Rattle.lab_script.specs.Reading.{is_token, after, after_all}
 use Rattle.lab_script.specs.ReadingRows.{row_at}
 use Rattle.lab_script.specs.ReadingPredicates.{where_at}
 use Rattle.lab_script.specs.ReadingStatements.{expr_at, select_at, update_at, insert_at, delete_at, statement_at, ended_at, whole_statement_at}
@@ -184,8 +183,3 @@ whole_takes ts s e =
     let end : IsEnd a.0.1 = end_is a.0.1 (b.1 ∙ ap (λ (r : List Token). some r) none) in
     let p = statement_takes ts a.0 a.1 in
     subst (IsWholeStatement ts) g.1 (record { parts = (p.0, a.0.1, p.1, p.2, end); printed = leb-true _ _ both.0 })
-
--- the statement that is found
-pub whole_found : (ts : List Token) (r : Result Statement Stop) → Gives (λ x. x) r (whole_statement_at ts) → IfOk r (IsWholeStatement ts)
-whole_found ts (Ok s) given = whole_takes ts s given
-whole_found ts (Err e) given = tt

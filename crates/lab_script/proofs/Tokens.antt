@@ -108,11 +108,6 @@ mark_begins b bs p q r =
 pub digits_on : (n i : ℕ) (bs : List ℕ) → i < length bs → is_ascii_digit (get_or bs i 0) ≡ true → tokens_from (whole (token.Digits n)) (drop i bs) ≡ tokens_from (whole (token.Digits (10 * n + (get_or bs i 0 - 48)))) (drop (i + 1) bs)
 digits_on n i bs lt q = ap (tokens_from (whole (token.Digits n))) (drop-cons bs i 0 lt ∙ ap (λ (k : ℕ). get_or bs i 0 ∷ drop k bs) (sym (add-one i))) ∙ digit_goes_on n (get_or bs i 0) (drop (i + 1) bs) q
 
-pub digits_end : (n i : ℕ) (bs : List ℕ) → i < length bs → is_ascii_digit (get_or bs i 0) ≡ false → tokens_from (whole (token.Digits n)) (drop i bs) ≡ token.Digits n ∷ tokens (drop i bs)
-digits_end n i bs lt q =
-    let split : drop i bs ≡ get_or bs i 0 ∷ drop (suc i) bs = drop-cons bs i 0 lt in
-    ap (tokens_from (whole (token.Digits n))) split ∙ digit_ends n (get_or bs i 0) (drop (suc i) bs) q ∙ ap (λ (x : List ℕ). token.Digits n ∷ tokens x) (sym split)
-
 -- a token that no byte makes longer is whole
 pub whole_run : (t : Token) (bs : List ℕ) → ((b : ℕ) → longer_token t b ≡ None) → tokens_from (whole t) bs ≡ t ∷ tokens bs
 whole_run t [] h = refl
