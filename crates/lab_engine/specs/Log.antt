@@ -1,6 +1,6 @@
 -- What a log says of its sessions and rows. A log is read backwards, from its newest event.
 use Rattle.std.specs.Option.{option_or}
-use Rattle.std.specs.Prelude.{◌≡◌, ℕ, ◌+◌, ◌==◌, Bool, true, false, ◌||◌, cond, Option, Some, None, option_map, is_some, unwrap_or, List, [], ◌∷◌, length, filter, reverse}
+use Rattle.std.specs.Prelude.{ℕ, ◌+◌, ◌==◌, Bool, true, false, ◌||◌, cond, Option, Some, None, option_map, is_some, unwrap_or, List, [], ◌∷◌, length, filter, reverse}
 use Rattle.std.specs.Prelude as list
 use Rattle.std.specs.FinMap as map
 use Rattle.lab_table.specs.Row.{Row}
@@ -106,10 +106,6 @@ writers row txns = filter (λ txn. is_some (version_by txn row)) txns
 -- the numbers of transactions of which the last to commit stands first, the first to commit first
 abbrev pub numbers : List Txn → List ℕ
 numbers txns = reverse (list.map (λ txn. txn.no) txns)
-
--- the numbers of the committed transactions, in order of their commits
-abbrev pub commit_order : Past → List ℕ
-commit_order past = numbers (commits past)
 
 -- a row's installed list: the numbers of the committed transactions that wrote it, in order of their commits
 abbrev pub installers : Past → Row → List ℕ

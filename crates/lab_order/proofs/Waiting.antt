@@ -6,9 +6,25 @@ use Rattle.std.proofs.lemmas.Bool.{eqb-true, eqb-false, eq-eqb, both_ways, cases
 use Rattle.std.proofs.lemmas.List.{get_or_past, get_or-replicate, length-replicate}
 use Rattle.std.proofs.lemmas.List.Sums.{sum_by-cons, sum_by-set}
 use Rattle.lab_order.specs.Arrows.{Arrows, nodes_of, before}
-use Rattle.lab_order.specs.Placing.{is_marked, IsFree, IsPlacing}
-use Rattle.lab_order.specs.Counts.{how_often, after, IsTransposed, waits_of, unplaced_before, is_due, IsCounted}
+use Rattle.lab_order.specs.Placing.{is_marked, IsFree}
+use Rattle.lab_order.specs.Counts.{how_often, after, IsTransposed, waits_of}
 use Rattle.lab_order.proofs.Writes.{set_read}
+use Rattle.lab_order.proofs.Positions.{IsPlacing}
+
+-- how many predecessors of a node aren't placed
+abbrev pub unplaced_before : Arrows → List Bool → ℕ → ℕ
+unplaced_before graph placed node = count_by (λ n. not (is_marked placed n)) (before graph node)
+
+-- a node that isn't placed and waits for none
+abbrev pub is_due : List Bool → List ℕ → ℕ → Bool
+is_due placed waits node = not (is_marked placed node) && (nat_lt node (length waits) && waits_of waits node == 0)
+
+-- each node waits for its unplaced predecessors, and the free nodes are exactly those that are due, each once
+pub record IsCounted (graph : Arrows) (placed : List Bool) (waits free : List ℕ) : Type 0 where
+  pub size : length waits ≡ nodes_of graph
+  pub counts : (node : ℕ) → waits_of waits node ≡ unplaced_before graph placed node
+  pub done : (node : ℕ) → is_marked placed node ≡ true → waits_of waits node ≡ 0
+  pub listed : (node : ℕ) → how_often free node ≡ cond (is_due placed waits node) 1 0
 
 -- 1 for what holds
 abbrev one_if : Bool → ℕ

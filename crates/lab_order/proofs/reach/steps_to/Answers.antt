@@ -3,8 +3,8 @@ use Rattle.std.specs.Prelude.{vec_len}
 use Rattle.std.specs.Vec.{with_items}
 use Rattle.std.proofs.lemmas.Bool.{eqb-true, eqb-false}
 use Rattle.std.proofs.lemmas.List.{nil_from_length, with_items_is}
-use Rattle.lab_order.specs.Steps.{unnoted, AreSteps, Grows, leads_into}
-use Rattle.lab_order.proofs.Layers.{noted_are_reaching, next_steps, layer_within}
+use Rattle.lab_order.specs.Steps.{unnoted, Grows, leads_into}
+use Rattle.lab_order.proofs.Layers.{noted_are_reaching, next_steps, layer_within, AreSteps}
 use Rattle.lab_order.proofs.reach.steps_to.Goals as goal
 use Rattle.lab_order.proofs.reach.steps_to.Goals.{After-drop-layer-in-layers}
 
