@@ -23,6 +23,7 @@ use Rattle.lab_engine.specs.Recording.{Line, given, lines_by, next_line, Follows
 use Rattle.lab_engine.proofs.Locks.{none_some, some_same}
 use Rattle.lab_session.specs.LogText.{AllPrint, SomeEvent}
 use Rattle.lab_session.specs.Play.{given_lines, IsLegalPlay}
+use Rattle.lab_commands.proofs.ScriptsPrint.{not_deep, not_long}
 
 -- ---- what waits
 
@@ -160,18 +161,6 @@ each_prints (x ∷ log) event all (suc k, few, is) = each_prints log event all.1
 pub play_prints : (level : Level) (script : Script) (log : List LogEvent) → ScriptPrints script → IsLegalPlay level script.setup (given_lines script.lines) log → AllPrint log
 play_prints level script log prints play =
     subst AllPrint (reverse-reverse log) (reverse_print (reverse log) (all_print level script.setup script.lines (reverse log) prints.lines play.legal play.scripted.follows))
-
-not_deep : (command : Command) → CommandPrints command → IsDeep command → ⊥
-not_deep Begin prints deep = deep
-not_deep Commit prints deep = deep
-not_deep Abort prints deep = deep
-not_deep (Run s) prints deep = omega (arith, prints.shallow, deep)
-
-not_long : (command : Command) → CommandPrints command → IsLong command → ⊥
-not_long Begin prints long = long
-not_long Commit prints long = long
-not_long Abort prints long = long
-not_long (Run s) prints long = omega (arith, prints.short, long)
 
 -- no event of a log that prints is too deep
 pub none_deep : (log : List LogEvent) → AllPrint log → SomeEvent IsDeep log → ⊥

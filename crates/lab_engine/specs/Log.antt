@@ -1,6 +1,6 @@
 -- What a log says of its sessions and rows. A log is read backwards, from its newest event.
 use Rattle.std.specs.Option.{option_or}
-use Rattle.std.specs.Prelude.{ℕ, ◌+◌, ◌==◌, Bool, true, false, ◌||◌, cond, Option, Some, None, option_map, is_some, unwrap_or, List, [], ◌∷◌, length, filter, reverse}
+use Rattle.std.specs.Prelude.{◌≡◌, ℕ, ◌+◌, ◌==◌, Bool, true, false, ◌||◌, cond, Option, Some, None, option_map, is_some, unwrap_or, List, [], ◌∷◌, length, filter, reverse}
 use Rattle.std.specs.Prelude as list
 use Rattle.std.specs.FinMap as map
 use Rattle.lab_table.specs.Row.{Row}

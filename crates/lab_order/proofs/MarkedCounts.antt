@@ -14,7 +14,7 @@ abbrev pub one_if : Bool → ℕ
 one_if b = cond b 1 0
 
 -- counting from the front
-counted : (test : ℕ → Bool) (x : ℕ) (xs : List ℕ) → count_by test (x ∷ xs) ≡ one_if (test x) + count_by test xs
+pub counted : (test : ℕ → Bool) (x : ℕ) (xs : List ℕ) → count_by test (x ∷ xs) ≡ one_if (test x) + count_by test xs
 counted test x xs = sum_by-cons (λ m. one_if (test m)) x xs
 
 -- where all of a list are marked, none is counted

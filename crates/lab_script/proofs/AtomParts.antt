@@ -1,5 +1,5 @@
 -- Columns, signs, moduli and lists of numbers that are read are those of the grammar, and the other way round.
-use Rattle.std.proofs.Common.{◌≡◌, ℕ, zero, suc, ◌+◌, ◌≤◌, List, [], ◌∷◌, ◌++◌, length, Option, Some, None, refl, sym, ap, subst, ◌∙◌, append_assoc, length-append, arith}
+use Rattle.std.proofs.Common.{◌≡◌, ℕ, zero, suc, ◌+◌, ◌≤◌, List, [], ◌∷◌, ◌++◌, length, Some, None, refl, sym, ap, subst, ◌∙◌, append_assoc, length-append, arith}
 use Rattle.std.specs.Prelude.{ℤ, pos, ◌&&◌, nat_le}
 use Rattle.std.proofs.lemmas.Bool.{le-leb, leb-true, and_parts}
 use Rattle.std.proofs.lemmas.Option.{cond_some}
@@ -14,7 +14,7 @@ use Rattle.lab_script.specs.Grammar.{IsNumber, IsNumbers, IsNumberList, col_toke
 use Rattle.lab_script.specs.Grammar as grammar
 use Rattle.lab_script.specs.Reading.{◌>>=◌, after, digits_at, number_at, more_of}
 use Rattle.lab_script.specs.ReadingPredicates.{cmp_of, col_at, cmp_at, modulus_at, one_more, numbers_at, number_list_at}
-use Rattle.lab_script.proofs.Same.{after_is, bind_some, some_is, when_takes}
+use Rattle.lab_script.proofs.Same.{after_is, bind_some, some_is, when_takes, some}
 use Rattle.lab_script.proofs.ReadNumbers.{Taken, number_again, number_takes, digits_take, under}
 use Rattle.lab_script.proofs.ReadRows.{not_negative}
 use Rattle.lab_script.proofs.Loops.{ends}
@@ -85,9 +85,6 @@ modulus_takes ts x e = when_takes token.Minus ts _ _ x e
 
 -- numbers
 
-abbrev some : {A : Type 0} → A → Option A
-some a = Some a
-
 -- what stands behind a front and one token more is shorter
 shorter_by : (ts us rest behind : List Token) (t : Token) (k : ℕ) → us ++ rest ≡ t ∷ behind → length ((ts ++ us) ++ rest) ≤ suc k → length behind ≤ k
 shorter_by ts us rest behind t k is le =
@@ -138,7 +135,8 @@ numbers_take ts x e =
 
 -- a list of numbers
 
-no_close : {ts : List Token} {z : ℤ} → IsNumber ts z → (rest : List Token) → after token.Close (ts ++ rest) ≡ None
+-- a number doesn't begin with a parenthesis
+pub no_close : {ts : List Token} {z : ℤ} → IsNumber ts z → (rest : List Token) → after token.Close (ts ++ rest) ≡ None
 no_close (grammar.positive n le) rest = refl
 no_close (grammar.negative n le) rest = refl
 

@@ -16,12 +16,9 @@ use Rattle.lab_script.specs.Printed.{printed_statement}
 use Rattle.lab_script.specs.Reading.{after_all}
 use Rattle.lab_script.specs.ReadingStatements.{statement_at, ended_at}
 use Rattle.lab_script.specs.ReadingCommands.{is_word, words_at, level_at, command_at, is_short, closed_at}
-use Rattle.lab_script.proofs.Same.{bind_some, some_is, when_takes}
+use Rattle.lab_script.proofs.Same.{bind_some, some_is, when_takes, some}
 use Rattle.lab_script.proofs.ReadNumbers.{Taken, under}
 use Rattle.lab_script.proofs.ReadStatements.{after_all_is, statement_again, statement_takes, Closes, nothing, semicolon, unjoined, ended_is}
-
-abbrev pub some : {A : Type 0} → A → Option A
-some a = Some a
 
 -- words
 

@@ -14,10 +14,10 @@ use Rattle.lab_script.specs.Grammar as grammar
 use Rattle.lab_script.specs.Reading.{Fails, ◌>>=◌, after}
 use Rattle.lab_script.specs.ReadingStatements.{statement_at, ended_at}
 use Rattle.lab_script.specs.ReadingCommands.{command_at, closed_at, added, step_at, more_commands, commands_at}
-use Rattle.lab_script.proofs.Same.{bind_some, some_is}
+use Rattle.lab_script.proofs.Same.{bind_some, some_is, some}
 use Rattle.lab_script.proofs.ReadStatements.{Closes, nothing, semicolon, ended_is}
 use Rattle.lab_script.proofs.Loops.{fails_none}
-use Rattle.lab_script.proofs.OneCommand.{some, listed, command_long, closed_again, closed_takes, closed_short}
+use Rattle.lab_script.proofs.OneCommand.{listed, command_long, closed_again, closed_takes, closed_short}
 
 -- one statement more
 

@@ -11,7 +11,7 @@ use Rattle.lab_script.specs.Token.{is_blank, tokens}
 use Rattle.lab_script.specs.HeldTokens.{held, held_tokens}
 use Rattle.lab_script.specs.Grammar.{IsCommands, IsSetup}
 use Rattle.lab_script.specs.Script as script
-use Rattle.lab_script.specs.Script.{code_of, remark_of, is_code_byte, session_of, IsFit, AddsCommands, LineSpells}
+use Rattle.lab_script.specs.Script.{code_of, remark_of, is_code_byte, session_of, extended, IsFit, AddsCommands, LineSpells}
 use Rattle.lab_script.specs.Fault as wrong
 use Rattle.lab_script.specs.Fault.{IsKept, SaysOfTokens, IsTokensFault, IsLineFault}
 use Rattle.lab_script.proofs.HeldTokens.{held_setup, held_commands, held_says}

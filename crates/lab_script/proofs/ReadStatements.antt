@@ -1,5 +1,5 @@
 -- Statements that are read are those of the grammar, and the other way round.
-use Rattle.std.proofs.Common.{◌≡◌, ◌≤◌, List, [], ◌∷◌, ◌++◌, length, Option, Some, None, refl, sym, ap, subst, ◌∙◌, append_assoc, inl, inr}
+use Rattle.std.proofs.Common.{◌≡◌, ◌≤◌, List, [], ◌∷◌, ◌++◌, length, Some, None, refl, sym, ap, subst, ◌∙◌, append_assoc, inl, inr}
 use Rattle.std.specs.Prelude.{ℤ, ◌&&◌, ◌==◌, ◌⊎◌, nat_le}
 use Rattle.std.proofs.lemmas.Bool.{eqb-true, le-leb, leb-true, and_parts}
 use Rattle.std.proofs.lemmas.List.{nil_from_length}
@@ -19,7 +19,7 @@ use Rattle.lab_script.specs.ReadingRows.{row_at}
 use Rattle.lab_script.specs.ReadingPredicates.{where_at}
 use Rattle.lab_script.specs.ReadingStatements.{expr_at, select_at, update_at, insert_at, delete_at, statement_at, ended_at, whole_statement_at}
 use Rattle.lab_script.specs.Grammar.{IsWholeStatement}
-use Rattle.lab_script.proofs.Same.{same_token, after_is, bind_some, some_is, when_takes}
+use Rattle.lab_script.proofs.Same.{same_token, after_is, bind_some, some_is, when_takes, some}
 use Rattle.lab_script.proofs.ReadNumbers.{Taken, number_again, number_then, under}
 use Rattle.lab_script.proofs.ReadRows.{row_again, row_takes}
 use Rattle.lab_script.proofs.ReadPredicates.{IsUnjoined, where_again, where_takes}
@@ -159,9 +159,6 @@ end_is ts e = elim (ended_is ts [] e) [
 ]
 
 -- one statement, and nothing else
-
-abbrev some : {A : Type 0} → A → Option A
-some a = Some a
 
 parts_again : (ts front end : List Token) (s : Statement) → ts ≡ front ++ end → IsStatement front s → IsEnd end → length (printed_statement s) ≤ 1000 → whole_statement_at ts ≡ Some s
 unfolding whole_statement_at

@@ -66,7 +66,8 @@ same_token t u e =
     let both = and_parts (token_number t == token_number u) (token_digits t == token_digits u) e in
     sym (again t) ∙ ap (λ (n : ℕ). numbered n (token_digits t)) (eqb-true (token_number t) (token_number u) both.0) ∙ ap (numbered (token_number u)) (eqb-true (token_digits t) (token_digits u) both.1) ∙ again u
 
-abbrev some : {A : Type 0} → A → Option A
+-- Some as a function
+abbrev pub some : {A : Type 0} → A → Option A
 some x = Some x
 
 pub some_is : {A : Type 0} (x y : A) → some x ≡ some y → x ≡ y

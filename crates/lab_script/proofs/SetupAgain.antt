@@ -7,7 +7,7 @@ use Rattle.lab_table.specs.Row.{Row, row_cmp}
 use Rattle.lab_table.specs.Table.{Table}
 use Rattle.lab_script.specs.declared.token.Token.{Token}
 use Rattle.lab_script.specs.declared.token.Token.TheVariants as token
-use Rattle.lab_script.specs.Grammar.{IsNumber, IsId, IsRow, IsRows, IsRowList, IsEnd, IsSetup, AllDistinct}
+use Rattle.lab_script.specs.Grammar.{IsId, IsRow, IsRows, IsRowList, IsEnd, IsSetup, AllDistinct}
 use Rattle.lab_script.specs.Grammar as grammar
 use Rattle.lab_script.specs.Printed.{printed_setup}
 use Rattle.lab_script.specs.Reading.{after, is_end}
@@ -15,6 +15,7 @@ use Rattle.lab_script.specs.ReadingSetup.{row_onto, rows_onto, rows_at, no_rows_
 use Rattle.lab_script.proofs.ReadRows.{parts_of, row_again}
 use Rattle.lab_script.proofs.SetupLoop.{behind_row}
 use Rattle.lab_script.proofs.DistinctRows.{not_before, is_absent, pushed_table}
+use Rattle.lab_script.proofs.AtomParts.{no_close}
 
 -- the table that rows make
 abbrev pub table_of : List (Row × ℤ) → Table
@@ -42,11 +43,6 @@ rows_again (grammar.more {ts} {rest} {id} {value} {rows} h hs) before all end no
     let long : length (ts ++ token.Comma ∷ rest ++ end) ≡ length ts + suc (length (rest ++ end)) = ap length text ∙ length-append ts (token.Comma ∷ (rest ++ end)) in
     let next = rows_again hs (before ++ (id, value) ∷ []) (subst AllDistinct listed all) end none k (omega (arith, lt, long)) in
     rw (text, rows_onto, row_onto_again h before (not_before before rows (id, value) all) (token.Comma ∷ (rest ++ end))) (next ∙ ap (λ (l : List (Row × ℤ)). Some (table_of l, end)) (sym listed))
-
--- a number doesn't begin with a parenthesis
-no_close : {ts : List Token} {z : ℤ} → IsNumber ts z → (rest : List Token) → after token.Close (ts ++ rest) ≡ None
-no_close (grammar.positive n le) rest = refl
-no_close (grammar.negative n le) rest = refl
 
 id_no_close : {ts : List Token} {id : Row} → IsId ts id → (rest : List Token) → after token.Close (ts ++ rest) ≡ None
 id_no_close (grammar.named id number low high) rest = no_close number rest

@@ -1,4 +1,4 @@
-use Rattle.std.proofs.Common.{◌≡◌, ◌∙◌, ◌+◌, ◌<◌, ℕ, [], ap, sym, subst, arith, length}
+use Rattle.std.proofs.Common.{◌≡◌, ◌∙◌, ◌+◌, ◌<◌, [], ap, sym, subst, arith, length}
 use Rattle.std.specs.Prelude.{vec_len}
 use Rattle.std.specs.Vec.{with_items}
 use Rattle.std.proofs.lemmas.Bool.{eqb-true, eqb-false}
@@ -7,6 +7,7 @@ use Rattle.lab_order.specs.Steps.{unnoted, Grows, leads_into}
 use Rattle.lab_order.proofs.Layers.{noted_are_reaching, next_steps, layer_within, AreSteps}
 use Rattle.lab_order.proofs.reach.steps_to.Goals as goal
 use Rattle.lab_order.proofs.reach.steps_to.Goals.{After-drop-layer-in-layers}
+use Rattle.lab_order.proofs.Members.{some_length}
 
 pub returns-clause-exact : goal.returns-clause-exact
 returns-clause-exact c =
@@ -26,10 +27,6 @@ grew : (c : After-drop-layer-in-layers) → Grows (c.layers.steps + 1) (leads_in
 grew c =
     subst (λ notes. Grows (c.layers.steps + 1) (leads_into c.args.graph.now c.layers.layer.items) notes c.next_layer.new.notes c.in_ok-layer-2.layer.items) c.deref_mut.ensures.value
     (subst (λ layer. Grows (c.layers.steps + 1) (leads_into c.args.graph.now layer) c.deref_mut.result.now c.next_layer.new.notes c.in_ok-layer-2.layer.items) c.deref.ensures.value c.in_ok-layer-2.ensures.grows)
-
--- what isn't 0 is more
-some_length : (n : ℕ) → (n ≡ 0 → ⊥) → 0 < n
-some_length n h = omega arith
 
 pub layers-preserved : goal.layers-preserved
 layers-preserved c = record {
