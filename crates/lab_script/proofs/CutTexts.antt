@@ -22,11 +22,11 @@ stripped l =
 
 -- the lines that newlines end, and what stands behind the last newline
 pub record IsCutUp (text : List ℕ) : Type 0 where
-  ended : List (List ℕ)
-  tail : List ℕ
-  whole : IsWhole tail
-  lines_are : (more : List ℕ) → lines (text ++ more) ≡ ended ++ lines (tail ++ more)
-  sized : length text ≤ weight ended + length tail
+  pub ended : List (List ℕ)
+  pub tail : List ℕ
+  pub whole : IsWhole tail
+  pub lines_are : (more : List ℕ) → lines (text ++ more) ≡ ended ++ lines (tail ++ more)
+  pub sized : length text ≤ weight ended + length tail
 
 -- one more line
 cut_more : (text : List ℕ) (two : IsCut text) → IsCutUp two.rest → IsCutUp text
@@ -76,10 +76,10 @@ newline_behind tail more whole two =
 
 -- the line that bytes without a newline begin, where others follow
 pub record IsFirst (tail more : List ℕ) : Type 0 where
-  line : List ℕ
-  others : List (List ℕ)
-  is : lines (tail ++ more) ≡ line ∷ others
-  size : length tail ≤ length line + 1
+  pub line : List ℕ
+  pub others : List (List ℕ)
+  pub is : lines (tail ++ more) ≡ line ∷ others
+  pub size : length tail ≤ length line + 1
 
 pub first_of : (tail more : List ℕ) → IsWhole tail → 0 < length more → IsFirst tail more
 first_of tail more whole some =

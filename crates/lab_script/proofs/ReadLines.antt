@@ -13,7 +13,7 @@ use Rattle.lab_script.specs.Grammar.{IsCommands, IsSetup}
 use Rattle.lab_script.specs.Script as script
 use Rattle.lab_script.specs.Script.{code_of, remark_of, is_code_byte, session_of, extended, IsFit, AddsCommands, LineSpells}
 use Rattle.lab_script.specs.Fault as wrong
-use Rattle.lab_script.specs.Fault.{IsKept, SaysOfTokens, IsTokensFault, IsLineFault}
+use Rattle.lab_script.specs.Fault.{IsOver, IsKept, SaysOfTokens, IsTokensFault, IsLineFault}
 use Rattle.lab_script.proofs.HeldTokens.{held_setup, held_commands, held_says}
 
 -- a line within its limits, with this code and remark
@@ -22,6 +22,9 @@ pub record IsSplit (number : ℕ) (line code remark : List ℕ) : Type 0 where
   pub short : length line ≤ 4000
   pub code_is : code ≡ code_of line
   pub remark_is : remark ≡ remark_of line
+
+pub over_fault : {number : ℕ} (line : List ℕ) (before : Option Script) {f : ScriptFault} → IsOver number line → f ≡ fault.At number kinds.TooLong → IsLineFault number line before f
+over_fault {number} line before is e = subst (IsLineFault number line before) (sym e) (refl, wrong.over is)
 
 module _ {number : ℕ} {line code remark : List ℕ} (split : IsSplit number line code remark) where
   pub ascii_fault : (before : Option Script) {f : ScriptFault} → list_all is_code_byte code ≡ false → f ≡ fault.At number kinds.NotAscii → IsLineFault number line before f

@@ -1,5 +1,5 @@
 -- The line of a statement, and the table that it leaves, from what running it answers.
-use Rattle.std.proofs.Common.{◌≡◌, ℕ, ℤ, ◌≢◌, List, [], ◌++◌, Option, Some, None, refl, sym, ap, ◌∙◌, append_assoc}
+use Rattle.std.proofs.Common.{◌≡◌, ℕ, ℤ, ◌≢◌, List, ◌++◌, Option, Some, None, refl, sym, ap, ◌∙◌, append_assoc}
 use Rattle.std.specs.Prelude.{option_map, codes}
 use Rattle.lab_table.specs.Row.{Row}
 use Rattle.lab_table.specs.Table.{Table}
