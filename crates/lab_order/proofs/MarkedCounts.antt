@@ -40,7 +40,8 @@ all_marked marks [] n none there = absurd (both_ways _ refl there)
 all_marked marks (x ∷ xs) n none there = at (λ rest. all_marked marks xs n rest) (x == n) refl there (is_marked marks x) refl (sym (counted (λ m. not (is_marked marks m)) x xs) ∙ none)
   where
     at : (count_by (λ m. not (is_marked marks m)) xs ≡ 0 → list_any (λ m. m == n) xs ≡ true → is_marked marks n ≡ true)
-        → (a : Bool) → (x == n) ≡ a → (a || list_any (λ m. m == n) xs) ≡ true → (b : Bool) → is_marked marks x ≡ b → one_if (not b) + count_by (λ m. not (is_marked marks m)) xs ≡ 0 → is_marked marks n ≡ true
+        → (a : Bool) → (x == n) ≡ a → (a || list_any (λ m. m == n) xs) ≡ true → (b : Bool) → is_marked marks x ≡ b
+        → one_if (not b) + count_by (λ m. not (is_marked marks m)) xs ≡ 0 → is_marked marks n ≡ true
     at more true q h true m z = ap (is_marked marks) (sym (eqb-true x n q)) ∙ m
     at more false q h true m z = more (omega arith) h
     at more a q h false m z = absurd (omega arith)
@@ -64,7 +65,8 @@ waits_less placed node [] lt unplaced = refl
 waits_less placed node (x ∷ xs) lt unplaced =
     let rest : count_by (λ n. not (is_marked placed n)) xs ≡ count_by (λ n. not (is_marked (set placed node true) n)) xs + how_often xs node = waits_less placed node xs lt unplaced in
     let a : count_by (λ n. not (is_marked placed n)) (x ∷ xs) ≡ one_if (not (is_marked placed x)) + count_by (λ n. not (is_marked placed n)) xs = counted (λ n. not (is_marked placed n)) x xs in
-    let b : count_by (λ n. not (is_marked (set placed node true) n)) (x ∷ xs) ≡ one_if (not (is_marked (set placed node true) x)) + count_by (λ n. not (is_marked (set placed node true) n)) xs = counted (λ n. not (is_marked (set placed node true) n)) x xs in
+    let b : count_by (λ n. not (is_marked (set placed node true) n)) (x ∷ xs)
+    ≡ one_if (not (is_marked (set placed node true) x)) + count_by (λ n. not (is_marked (set placed node true) n)) xs = counted (λ n. not (is_marked (set placed node true) n)) x xs in
     let c : how_often (x ∷ xs) node ≡ one_if (x == node) + how_often xs node = counted (λ n. n == node) x xs in
     let one : one_if (not (is_marked placed x)) ≡ one_if (not (is_marked (set placed node true) x)) + one_if (x == node) = at (x == node) refl in
     omega arith

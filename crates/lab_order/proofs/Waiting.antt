@@ -26,7 +26,8 @@ pub record IsCounted (graph : Arrows) (placed : List Bool) (waits free : List �
   pub listed : (node : ℕ) → how_often free node ≡ cond (is_due placed waits node) 1 0
 
 -- before the first node is placed
-pub counted_first : (graph : Arrows) (placed : List Bool) (waits free : List ℕ) → length waits ≡ nodes_of graph → ((n : ℕ) → is_marked placed n ≡ false) → ((n : ℕ) → waits_of waits n ≡ length (before graph n))
+pub counted_first : (graph : Arrows) (placed : List Bool) (waits free : List ℕ) → length waits ≡ nodes_of graph → ((n : ℕ) → is_marked placed n ≡ false)
+    → ((n : ℕ) → waits_of waits n ≡ length (before graph n))
     → ((n : ℕ) → how_often free n ≡ one_if (nat_lt n (length waits) && waits_of waits n == 0)) → IsCounted graph placed waits free
 counted_first graph placed waits free size bare counts frees = record {
   size = size;
@@ -153,7 +154,8 @@ module _ (graph : Arrows) (placed : List Bool) (waits free : List ℕ) (h : IsCo
                 let g : one_if (nat_lt 0 (waits_of waits n) && waits_of lower n == 0) ≡ 0 = not_again (waits_of waits n) (waits_of lower n) z in
                 let none : how_often free n ≡ 0 = h.listed n ∙ ap (λ b. one_if (not b && (nat_lt n (length waits) && waits_of waits n == 0))) p in
                 let o : how_often free n ≡ one_if (node == n) + how_often rest n = one_more n in
-                let r : one_if (not (is_marked placed n) && (nat_lt n (length lower) && waits_of lower n == 0)) ≡ 0 = ap (λ b. one_if (not b && (nat_lt n (length lower) && waits_of lower n == 0))) p in
+                let r : one_if (not (is_marked placed n) && (nat_lt n (length lower) && waits_of lower n == 0)) ≡ 0 =
+                ap (λ b. one_if (not b && (nat_lt n (length lower) && waits_of lower n == 0))) p in
                 omega arith
             at false q false p (inl lt) =
                 let f : how_often freed n ≡ how_often rest n + one_if (nat_lt 0 (waits_of waits n) && waits_of lower n == 0) = frees n in
