@@ -88,7 +88,8 @@ modulus_takes ts x e = when_takes token.Minus ts _ _ x e
 -- what stands behind a front and one token more is shorter
 shorter_by : (ts us rest behind : List Token) (t : Token) (k : ℕ) → us ++ rest ≡ t ∷ behind → length ((ts ++ us) ++ rest) ≤ suc k → length behind ≤ k
 shorter_by ts us rest behind t k is le =
-    let whole : length ((ts ++ us) ++ rest) ≡ length ts + suc (length behind) = ap length (append_assoc ts us rest) ∙ length-append ts (us ++ rest) ∙ ap (λ (r : List Token). length ts + length r) is in
+    let whole : length ((ts ++ us) ++ rest) ≡ length ts + suc (length behind) =
+    ap length (append_assoc ts us rest) ∙ length-append ts (us ++ rest) ∙ ap (λ (r : List Token). length ts + length r) is in
     omega arith
 
 -- the numbers that the loop adds to those before them
@@ -99,7 +100,8 @@ numbers_on (grammar.last {ts} {z} h) rest none k before le = rw (number_again h 
 numbers_on (grammar.more {ts} {rest = others} {z} {zs} h hs) rest none zero before le = absurd (grind (arith, length-append))
 numbers_on (grammar.more {ts} {rest = others} {z} {zs} h hs) rest none (suc k) before le =
     rw (append_assoc ts (token.Comma ∷ others) rest, number_again h (token.Comma ∷ others ++ rest))
-    (numbers_on hs rest none k (before ++ z ∷ []) (shorter_by ts (token.Comma ∷ others) rest (others ++ rest) token.Comma k refl le) ∙ ap (λ (all : List ℤ). some (all, rest)) (append_assoc before (z ∷ []) zs))
+    (numbers_on hs rest none k (before ++ z ∷ []) (shorter_by ts (token.Comma ∷ others) rest (others ++ rest) token.Comma k refl le)
+    ∙ ap (λ (all : List ℤ). some (all, rest)) (append_assoc before (z ∷ []) zs))
 
 -- numbers of the grammar are read
 pub numbers_again : {ts : List Token} {zs : List ℤ} → IsNumbers ts zs → (rest : List Token) → after token.Comma rest ≡ None → numbers_at (ts ++ rest) ≡ Some (zs, rest)
@@ -112,7 +114,8 @@ numbers_again (grammar.more {ts} {rest = others} {z} {zs} h hs) rest none =
 abbrev Numbered : List ℤ → List Token → List ℤ × List Token → Type 0
 Numbered before ts x = (front : List Token) × (zs : List ℤ) × (ts ≡ front ++ x.1) × IsNumbers front zs × (before ++ zs ≡ x.0)
 
-more_numbers_take : (k : ℕ) (before : List ℤ) (ns us : List Token) (z : ℤ) (x : List ℤ × List Token) → IsNumber ns z → more_of k number_at token.Comma one_more (one_more before z) us ≡ Some x → Numbered before (ns ++ us) x
+more_numbers_take : (k : ℕ) (before : List ℤ) (ns us : List Token) (z : ℤ) (x : List ℤ × List Token) → IsNumber ns z
+    → more_of k number_at token.Comma one_more (one_more before z) us ≡ Some x → Numbered before (ns ++ us) x
 unfolding more_of
 more_numbers_take zero before ns us z x h e = subst (Numbered before (ns ++ us)) (some_is (one_more before z, us) x e) (ns, z ∷ [], refl, grammar.last h, refl)
 more_numbers_take (suc k) before ns us z x h e = when_takes token.Comma us _ _ x e
@@ -155,7 +158,8 @@ number_list_takes ts x e =
     let a = bind_some (after token.Open ts) _ x e in
     let opened : ts ≡ token.Open ∷ a.0 = after_is token.Open ts a.0 a.1 in
     when_takes token.Close a.0 _ _ x a.2
-    (λ rest is h. subst (λ (y : List ℤ × List Token). (front : List Token) × (ts ≡ token.Open ∷ (front ++ token.Close ∷ y.1)) × IsNumberList front y.0) (some_is ([], rest) x h) ([], opened ∙ under _ _ _ is, grammar.none))
+    (λ rest is h. subst (λ (y : List ℤ × List Token). (front : List Token) × (ts ≡ token.Open ∷ (front ++ token.Close ∷ y.1)) × IsNumberList front y.0) (some_is ([], rest) x h)
+    ([], opened ∙ under _ _ _ is, grammar.none))
     (λ none h.
     let b = bind_some (numbers_at a.0) _ x h in
     let c = bind_some (after token.Close b.0.1) _ x b.2 in

@@ -51,7 +51,8 @@ cut_within zero text within = elim (cut text) [
 ]
 cut_within (suc fuel) text within = elim (cut text) [
   | inl whole ↦ record { ended = []; tail = text; whole = whole; lines_are = λ more. refl; sized = omega arith }
-  | inr two ↦ let size : length text ≡ length two.front + length (10 ∷ two.rest) = ap length two.whole ∙ length-append two.front (10 ∷ two.rest) in cut_more text two (cut_within fuel two.rest (omega arith))
+  | inr two ↦
+      let size : length text ≡ length two.front + length (10 ∷ two.rest) = ap length two.whole ∙ length-append two.front (10 ∷ two.rest) in cut_more text two (cut_within fuel two.rest (omega arith))
 ]
 
 pub cut_up : (text : List ℕ) → IsCutUp text

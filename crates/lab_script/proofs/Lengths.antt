@@ -46,7 +46,8 @@ length_pred (predicate.Compare c m n) = omega (arith, length-append {A = ℕ}, l
 length_pred (predicate.Remainder c m r) = omega (arith, length-append {A = ℕ}, length_col c)
 length_pred (predicate.OneOf c ns) = omega (arith, length-append {A = ℕ}, length_col c, length_numbers ns)
 length_pred (predicate.Not p) = omega (arith, length-append {A = ℕ}, length_parenthesized (is_and p || is_or p) (printed_pred p), length_pred p)
-length_pred (predicate.And p q) = omega (arith, length-append {A = ℕ}, length_parenthesized (is_or p) (printed_pred p), length_parenthesized (is_and q || is_or q) (printed_pred q), length_pred p, length_pred q)
+length_pred (predicate.And p q) =
+    omega (arith, length-append {A = ℕ}, length_parenthesized (is_or p) (printed_pred p), length_parenthesized (is_and q || is_or q) (printed_pred q), length_pred p, length_pred q)
 length_pred (predicate.Or p q) = omega (arith, length-append {A = ℕ}, length_parenthesized (is_or q) (printed_pred q), length_pred p, length_pred q)
 
 length_where : (p : Option Predicate) → length (printed_where p) ≡ where_length p
@@ -72,7 +73,8 @@ more_rows [] = refl
 more_rows (row ∷ rows) = omega (arith, length-append (printed_row row.0 row.1) (followed (printed_rows rows)), length_row row.0 row.1, more_rows rows)
 
 length_rows : (row : Row × ℤ) (rows : List (Row × ℤ)) → length (joined (printed_rows (row ∷ rows))) ≡ row_length row.0 row.1 + more_rows_length rows
-length_rows row rows = ap length (joined_is (printed_row row.0 row.1) (printed_rows rows)) ∙ omega (arith, length-append (printed_row row.0 row.1) (followed (printed_rows rows)), length_row row.0 row.1, more_rows rows)
+length_rows row rows =
+    ap length (joined_is (printed_row row.0 row.1) (printed_rows rows)) ∙ omega (arith, length-append (printed_row row.0 row.1) (followed (printed_rows rows)), length_row row.0 row.1, more_rows rows)
 
 pub length_setup : (rows : List (Row × ℤ)) → length (codes "setup " ++ rows_or (codes "()") rows ++ codes ";") ≡ setup_length rows
 length_setup [] = refl

@@ -54,7 +54,8 @@ got (x ∷ xs) ys zs zero lt = refl
 got (x ∷ xs) ys zs (suc i) lt = got xs ys zs i (omega arith)
 
 -- what is wrong with a line that is too long is wrong with another
-over_too : {number : ℕ} {line : List ℕ} {before : Option Script} {kind : ScriptFaultKind} (other : List ℕ) → IsWrong number line before kind → 4000 < length line → 4000 < length other → IsWrong number other before kind
+over_too : {number : ℕ} {line : List ℕ} {before : Option Script} {kind : ScriptFaultKind} (other : List ℕ) → IsWrong number line before kind → 4000 < length line
+    → 4000 < length other → IsWrong number other before kind
 over_too other (wrong.over is) long also = wrong.over (inr also)
 over_too other (wrong.not_ascii few short isnt) long also = absurd (omega arith)
 over_too other (wrong.of_tokens kept says) long also = let short = kept.0.bytes in absurd (omega arith)

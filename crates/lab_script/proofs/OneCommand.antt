@@ -78,7 +78,8 @@ command_again grammar.rollback rest closes = (Some command.Abort, refl, refl, re
 command_again (grammar.level w ws) rest closes = (None, rw (words_again w ws rest (wordless closes)) refl, refl, refl)
 command_again (grammar.run {s} h le) rest closes = (Some (command.Run s), run_again h rest closes, le-leb (length (printed_statement s)) 1000 le, refl)
 
-run_taken : (ts : List Token) (s : Statement × List Token) (x : Option Command × List Token) → Taken IsStatement ts s → Some (Some (command.Run s.0), s.1) ≡ Some x → is_short x.0 ≡ true → Taken (λ front c. IsCommand front (listed c)) ts x
+run_taken : (ts : List Token) (s : Statement × List Token) (x : Option Command × List Token) → Taken IsStatement ts s → Some (Some (command.Run s.0), s.1) ≡ Some x
+    → is_short x.0 ≡ true → Taken (λ front c. IsCommand front (listed c)) ts x
 run_taken ts s x h e short =
     let is : ◌≡◌ {A = Option Command × List Token} (Some (command.Run s.0), s.1) x = some_is _ _ e in
     let le : length (printed_statement s.0) ≤ 1000 = leb-true _ _ (ap (λ (y : Option Command × List Token). is_short y.0) is ∙ short) in
@@ -88,7 +89,8 @@ run_taken ts s x h e short =
 pub command_takes : (ts : List Token) (x : Option Command × List Token) → command_at ts ≡ Some x → is_short x.0 ≡ true → Taken (λ front c. IsCommand front (listed c)) ts x
 unfolding command_at level_at
 command_takes ts x e short =
-    let made = λ (c : Option Command) (front rest : List Token) (is : ts ≡ front ++ rest) (h : IsCommand front (listed c)) (g : some (c, rest) ≡ Some x). subst (Taken (λ us d. IsCommand us (listed d)) ts) (some_is (c, rest) x g) (front, is, h) in
+    let made = λ (c : Option Command) (front rest : List Token) (is : ts ≡ front ++ rest) (h : IsCommand front (listed c)) (g : some (c, rest) ≡ Some x). subst
+    (Taken (λ us d. IsCommand us (listed d)) ts) (some_is (c, rest) x g) (front, is, h) in
     when_takes (token.Word word.Begin) ts _ _ x e (λ rest is h. made (Some command.Begin) (words (word.Begin ∷ [])) rest is grammar.begin h)
     (λ n1 e1. when_takes (token.Word word.Commit) ts _ _ x e1 (λ rest is h. made (Some command.Commit) (words (word.Commit ∷ [])) rest is grammar.commit h)
     (λ n2 e2. when_takes (token.Word word.Abort) ts _ _ x e2 (λ rest is h. made (Some command.Abort) (words (word.Abort ∷ [])) rest is grammar.abort h)
@@ -99,7 +101,8 @@ command_takes ts x e short =
     let front = words (word.Transaction ∷ word.Isolation ∷ word.Level ∷ []) in
     let b = bind_some (after_all front rest) _ a.0 a.1 in
     let w = words_take b.0 a.0 b.2 in
-    made None (words (word.Set ∷ word.Transaction ∷ word.Isolation ∷ word.Level ∷ w.0 ∷ w.1)) a.0 (is ∙ under _ _ _ (after_all_is front rest b.0 b.1 ∙ ap (λ (r : List Token). front ++ r) w.2)) (grammar.level w.0 w.1) a.2)
+    made None (words (word.Set ∷ word.Transaction ∷ word.Isolation ∷ word.Level ∷ w.0 ∷ w.1)) a.0
+    (is ∙ under _ _ _ (after_all_is front rest b.0 b.1 ∙ ap (λ (r : List Token). front ++ r) w.2)) (grammar.level w.0 w.1) a.2)
     (λ n5 e5.
     let s = bind_some (statement_at ts) _ x e5 in
     run_taken ts s.0 x (statement_takes ts s.0 s.1) s.2 short)))))

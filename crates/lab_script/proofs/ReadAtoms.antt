@@ -61,8 +61,11 @@ remainder_takes c ts x e =
     let d = bind_some (number_at b.0) _ x b.2 in
     let m = modulus_takes ts a.0 a.1 in
     let n = number_takes b.0 d.0 d.1 in
-    subst (Taken IsAtom (col_token c ∷ token.Percent ∷ ts)) (some_is (predicate.Remainder c a.0.0 d.0.0, d.0.1) x d.2)
-    (col_token c ∷ token.Percent ∷ token.Digits a.0.0 ∷ token.Equal ∷ n.0, under _ _ _ (under _ _ _ (m.0 ∙ under _ _ _ (after_is token.Equal a.0.1 b.0 b.1 ∙ under _ _ _ n.1))), grammar.remainder c (grammar.positive a.0.0 (omega arith)) m.1 m.2 n.2)
+    subst (Taken IsAtom (col_token c ∷ token.Percent ∷ ts)) (some_is (predicate.Remainder c a.0.0 d.0.0, d.0.1) x d.2) (
+      col_token c ∷ token.Percent ∷ token.Digits a.0.0 ∷ token.Equal ∷ n.0,
+      under _ _ _ (under _ _ _ (m.0 ∙ under _ _ _ (after_is token.Equal a.0.1 b.0 b.1 ∙ under _ _ _ n.1))),
+      grammar.remainder c (grammar.positive a.0.0 (omega arith)) m.1 m.2 n.2,
+    )
 
 one_of_takes : (c : Col) (ts : List Token) (x : Predicate × List Token) → one_of_at c ts ≡ Some x → Taken IsAtom (col_token c ∷ token.Word word.In ∷ ts) x
 unfolding one_of_at

@@ -34,7 +34,8 @@ added_is room before after (Some c) e le =
     let less : length before < room = ltb-true _ _ g.0 in
     (g.1, omega (arith, less, ap length g.1, length-append before (c ∷ [])))
 
-step_again : {ts : List Token} {cs : List Command} → IsCommand ts cs → (end rest : List Token) → Closes end → ended_at end ≡ Some rest → (room : ℕ) (before : List Command) → length (before ++ cs) ≤ room → step_at room before (ts ++ end) ≡ Some (before ++ cs, rest)
+step_again : {ts : List Token} {cs : List Command} → IsCommand ts cs → (end rest : List Token) → Closes end → ended_at end ≡ Some rest → (room : ℕ) (before : List Command)
+    → length (before ++ cs) ≤ room → step_at room before (ts ++ end) ≡ Some (before ++ cs, rest)
 unfolding step_at
 step_again h end rest closes ended room before le =
     let c = closed_again h end rest closes ended in
@@ -76,7 +77,8 @@ on_again [] k room before total some le h = absurd (omega (arith, some))
 on_again (t ∷ ts) zero room before total some le h = absurd (omega (arith, le))
 on_again (t ∷ ts) (suc k) room before total some le h = h k (omega (arith, le))
 
-pub chained_again : {ts : List Token} {cs : List Command} → IsCommands ts cs → (k room : ℕ) (before : List Command) → length ts ≤ suc k → length (before ++ cs) ≤ room → chained k room before ts ≡ Some (before ++ cs)
+pub chained_again : {ts : List Token} {cs : List Command} → IsCommands ts cs → (k room : ℕ) (before : List Command) → length ts ≤ suc k → length (before ++ cs) ≤ room
+    → chained k room before ts ≡ Some (before ++ cs)
 unfolding more_commands ended_at
 chained_again (grammar.one {ts} {cs} h) k room before le fits =
     subst (λ (us : List Token). chained k room before us ≡ Some (before ++ cs)) (append-nil ts) (rw (step_again h [] [] nothing refl room before fits) refl)
@@ -109,7 +111,8 @@ step_last ts front end cs is h e = elim (ended_is end [] e) [
   | inr closed ↦ subst (λ (us : List Token). IsCommands us cs) (sym (is ∙ ap (λ (us : List Token). front ++ us) closed)) (grammar.closed h)
 ]
 
-step_more : (ts front end others : List Token) (t : Token) (cs ds : List Command) → ts ≡ front ++ end → IsCommand front cs → ended_at end ≡ Some (t ∷ others) → IsCommands (t ∷ others) ds → IsCommands ts (cs ++ ds)
+step_more : (ts front end others : List Token) (t : Token) (cs ds : List Command) → ts ≡ front ++ end → IsCommand front cs → ended_at end ≡ Some (t ∷ others)
+    → IsCommands (t ∷ others) ds → IsCommands ts (cs ++ ds)
 step_more ts front end others t cs ds is h e hs = elim (ended_is end (t ∷ others) e) [
   | inl both ↦ absurd (cc both.1)
   | inr closed ↦ subst (λ (us : List Token). IsCommands us (cs ++ ds)) (sym (is ∙ ap (λ (us : List Token). front ++ us) closed)) (grammar.more h hs)
@@ -121,7 +124,8 @@ joined_on earlier cs ds before all joined on = sym (append_assoc earlier cs ds) 
 
 -- the statements behind one that was taken
 on_takes : (k room : ℕ) (before : List Command) (rest : List Token) (all : List Command) → more_commands rest k room before ≡ Some all → length before ≤ room
-    → (ts front end : List Token) (earlier cs : List Command) → ts ≡ front ++ end → IsCommand front cs → ended_at end ≡ Some rest → earlier ++ cs ≡ before → Chained earlier ts all × (length all ≤ room)
+    → (ts front end : List Token) (earlier cs : List Command) → ts ≡ front ++ end → IsCommand front cs → ended_at end ≡ Some rest → earlier ++ cs ≡ before
+    → Chained earlier ts all × (length all ≤ room)
 unfolding more_commands
 on_takes k room before [] all e le ts front end earlier cs is h ended joined =
     let same : before ≡ all = some_is before all e in
@@ -159,7 +163,8 @@ no_setup {ts} {cs} h = let read : commands_at (length cs) (token.Word word.Setup
 
 -- the loop over the statements of a line
 
-pub steps_on : (k room : ℕ) (before after : List Command) (ts rest : List Token) (total : Option (List Command)) → 1 ≤ length ts → length ts ≤ k → length before ≤ room → more_commands ts k room before ≡ total
+pub steps_on : (k room : ℕ) (before after : List Command) (ts rest : List Token) (total : Option (List Command)) → 1 ≤ length ts → length ts ≤ k → length before ≤ room
+    → more_commands ts k room before ≡ total
     → step_at room before ts ≡ Some (after, rest) → (j : ℕ) × (length rest ≤ j) × (more_commands rest j room after ≡ total)
 unfolding more_commands
 steps_on k room before after [] rest total some le fits so_far read = absurd (omega (arith, some))
@@ -181,7 +186,8 @@ steps_end k room before [] total none so_far = sym so_far
 steps_end k room before (t ∷ ts) total none so_far = absurd (omega (arith, none))
 
 -- the first statement
-pub steps_start : (room : ℕ) (none after : List Command) (ts rest : List Token) → none ≡ [] → step_at room none ts ≡ Some (after, rest) → (length after ≤ room) × (more_commands rest (length rest) room after ≡ commands_at room ts)
+pub steps_start : (room : ℕ) (none after : List Command) (ts rest : List Token) → none ≡ [] → step_at room none ts ≡ Some (after, rest)
+    → (length after ≤ room) × (more_commands rest (length rest) room after ≡ commands_at room ts)
 unfolding commands_at
 steps_start room none after ts rest is read =
     let first : step_at room [] ts ≡ Some (after, rest) = subst (λ (cs : List Command). step_at room cs ts ≡ Some (after, rest)) is read in

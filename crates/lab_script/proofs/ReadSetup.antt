@@ -67,7 +67,8 @@ one_added : (before : List (Row × ℤ)) (ts : List Token) (x : Table × List To
 one_added before ts x all r = record { rows = r.row ∷ []; front = r.front; text = r.text; spelled = grammar.last r.spelled; distinct = pushed_distinct before r.row all r.absent; table = r.table }
 
 -- a row, a comma and the rows behind it
-more_added : (before : List (Row × ℤ)) (ts rest : List Token) (x y : Table × List Token) (r : RowAdded before ts y) → y.1 ≡ token.Comma ∷ rest → RowsAdded (before ++ r.row ∷ []) rest x → RowsAdded before ts x
+more_added : (before : List (Row × ℤ)) (ts rest : List Token) (x y : Table × List Token) (r : RowAdded before ts y) → y.1 ≡ token.Comma ∷ rest
+    → RowsAdded (before ++ r.row ∷ []) rest x → RowsAdded before ts x
 more_added before ts rest x y r comma s =
     let listed : before ++ r.row ∷ [] ++ s.rows ≡ before ++ r.row ∷ s.rows = append_assoc before (r.row ∷ []) s.rows in
     record {
@@ -129,7 +130,8 @@ end_takes (t ∷ ts) e =
     subst IsEnd whole grammar.semicolon
 
 -- the setup of a table that is taken behind its word
-setup_made : (ts rest : List Token) (table : Table) (x : Table × List Token) → ts ≡ token.Word word.Setup ∷ rest → TableTaken rest x → cond (ends_setup x.0 x.1) (Some x.0) None ≡ Some table → IsSetup ts table
+setup_made : (ts rest : List Token) (table : Table) (x : Table × List Token) → ts ≡ token.Word word.Setup ∷ rest → TableTaken rest x
+    → cond (ends_setup x.0 x.1) (Some x.0) None ≡ Some table → IsSetup ts table
 setup_made ts rest table x begun t e =
     let g = cond_some (ends_setup x.0 x.1) x.0 table e in
     let both = and_parts (is_end x.1) (nat_le (length (printed_setup x.0)) 4000) g.0 in

@@ -52,8 +52,12 @@ expr_takes ts x e = when_takes (token.Word word.Value) ts _ _ x e
     (token.Word word.Value ∷ token.Plus ∷ n.0, was ∙ under _ _ _ (is ∙ under _ _ _ n.2), subst (IsExpr (token.Word word.Value ∷ token.Plus ∷ n.0)) n.4 (grammar.plus n.3)))
     (λ none g.
     let b = bind_some (after token.Minus rest) _ x g in
-    let n = number_then (λ z. expr.Minus z) b.0 x b.2 in
-    (token.Word word.Value ∷ token.Minus ∷ n.0, was ∙ under _ _ _ (after_is token.Minus rest b.0 b.1 ∙ under _ _ _ n.2), subst (IsExpr (token.Word word.Value ∷ token.Minus ∷ n.0)) n.4 (grammar.minus n.3))))
+    let n = number_then (λ z. expr.Minus z) b.0 x b.2 in (
+      token.Word word.Value ∷ token.Minus ∷ n.0,
+      was ∙ under _ _ _ (after_is token.Minus rest b.0 b.1 ∙ under _ _ _ n.2),
+      subst
+          (IsExpr (token.Word word.Value ∷ token.Minus ∷ n.0)) n.4 (grammar.minus n.3),
+    )))
     (λ none h.
     let n = number_then (λ z. expr.Set z) ts x h in
     (n.0, n.2, subst (IsExpr n.0) n.4 (grammar.set n.3)))
@@ -88,8 +92,12 @@ update_takes ts x e =
     let h = expr_takes a.0 g.0 g.1 in
     let p = where_takes g.0.1 w.0 w.1 in
     let behind : a.0 ≡ (h.0 ++ p.0) ++ w.0.1 = h.1 ∙ ap (λ (r : List Token). h.0 ++ r) p.1 ∙ sym (append_assoc h.0 p.0 w.0.1) in
-    subst (Taken IsStatement (token.Word word.Update ∷ ts)) (some_is (statement.Update g.0.0 w.0.0, w.0.1) x w.2)
-    (token.Word word.Update ∷ token.Word word.Test ∷ token.Word word.Set ∷ token.Word word.Value ∷ token.Equal ∷ h.0 ++ p.0, under _ _ _ (after_all_is front ts a.0 a.1 ∙ ap (λ (r : List Token). front ++ r) behind), grammar.update h.2 p.2)
+    subst (Taken IsStatement (token.Word word.Update ∷ ts)) (some_is (statement.Update g.0.0 w.0.0, w.0.1) x w.2) (
+      token.Word word.Update ∷ token.Word word.Test ∷ token.Word word.Set ∷ token.Word word.Value ∷ token.Equal ∷ h.0 ++ p.0,
+      under _ _ _
+          (after_all_is front ts a.0 a.1 ∙ ap (λ (r : List Token). front ++ r) behind),
+      grammar.update h.2 p.2,
+    )
 
 insert_takes : (ts : List Token) (x : Statement × List Token) → insert_at ts ≡ Some x → Taken IsStatement (token.Word word.Insert ∷ ts) x
 unfolding insert_at

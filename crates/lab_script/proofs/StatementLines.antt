@@ -40,17 +40,20 @@ spread : (a p q r s : List ℕ) → (((a ++ p) ++ q) ++ r) ++ s ≡ a ++ (((p ++
 spread a p q r s = simp append_assoc
 
 -- a statement's line, put piece by piece
-line_of : (s : Statement) (t : Table) (a b c d e answer : List ℕ) → b ≡ a ++ printed_statement s → c ≡ b ++ codes " -> " → d ≡ c ++ answer → e ≡ d ++ newline → answer ≡ answer_text s t (run s t) → e ≡ a ++ statement_text s t
+line_of : (s : Statement) (t : Table) (a b c d e answer : List ℕ) → b ≡ a ++ printed_statement s → c ≡ b ++ codes " -> " → d ≡ c ++ answer → e ≡ d ++ newline
+    → answer ≡ answer_text s t (run s t) → e ≡ a ++ statement_text s t
 unfolding statement_text
 line_of s t a b c d e answer p q r l same =
     l ∙ ap (λ x. x ++ newline) (r ∙ ap (λ x. x ++ answer) (q ∙ ap (λ x. x ++ codes " -> ") p))
     ∙ spread a (printed_statement s) (codes " -> ") answer newline
     ∙ ap (λ x. a ++ (((printed_statement s ++ codes " -> ") ++ x) ++ newline)) same
 
-pub line_of_rows : (s : Statement) (t new : Table) (rows : List (Row × ℤ)) (a b c d e : List ℕ) → b ≡ a ++ printed_statement s → c ≡ b ++ codes " -> " → d ≡ c ++ rows_or (codes "none") rows → e ≡ d ++ newline → Gives (run s t) rows new → e ≡ a ++ statement_text s t
+pub line_of_rows : (s : Statement) (t new : Table) (rows : List (Row × ℤ)) (a b c d e : List ℕ) → b ≡ a ++ printed_statement s → c ≡ b ++ codes " -> "
+    → d ≡ c ++ rows_or (codes "none") rows → e ≡ d ++ newline → Gives (run s t) rows new → e ≡ a ++ statement_text s t
 line_of_rows s t new rows a b c d e p q r l h = line_of s t a b c d e (rows_or (codes "none") rows) p q r l (gives_text s t new (run s t) rows h)
 
-pub line_of_fault : (s : Statement) (t : Table) (fault : TableFault) (a b c d e : List ℕ) → b ≡ a ++ printed_statement s → c ≡ b ++ codes " -> " → d ≡ c ++ fault_text fault → e ≡ d ++ newline → IsFault s t fault → fault ≢ NoMemory → e ≡ a ++ statement_text s t
+pub line_of_fault : (s : Statement) (t : Table) (fault : TableFault) (a b c d e : List ℕ) → b ≡ a ++ printed_statement s → c ≡ b ++ codes " -> " → d ≡ c ++ fault_text fault
+    → e ≡ d ++ newline → IsFault s t fault → fault ≢ NoMemory → e ≡ a ++ statement_text s t
 line_of_fault s t fault a b c d e p q r l h n =
     let why = refused s t fault h n in
     line_of s t a b c d e (fault_text fault) p q r l (why.1 ∙ ap (answer_text s t) (sym why.0))
