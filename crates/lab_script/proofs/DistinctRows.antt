@@ -11,7 +11,7 @@ use Rattle.lab_script.specs.Grammar.{AllDistinct}
 use Rattle.lab_table.proofs.Adding.{not_some}
 
 -- the table that rows make
-abbrev table_of : List (Row × ℤ) → Table
+abbrev pub table_of : List (Row × ℤ) → Table
 table_of rows = from_entries rows
 
 -- a table has a row where the list has it

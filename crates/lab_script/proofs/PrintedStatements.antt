@@ -116,7 +116,8 @@ abbrev pub statement_tokens : Statement → List Token
 statement_tokens (statement.Select p) = token.Word word.Select ∷ token.Star ∷ token.Word word.From ∷ token.Word word.Test ∷ where_tokens p
 statement_tokens (statement.Update e p) = token.Word word.Update ∷ token.Word word.Test ∷ token.Word word.Set ∷ token.Word word.Value ∷ token.Equal ∷ expr_tokens e ++ where_tokens p
 statement_tokens (statement.Insert id z) =
-    token.Word word.Insert ∷ token.Word word.Into ∷ token.Word word.Test ∷ token.Open ∷ token.Word word.Id ∷ token.Comma ∷ token.Word word.Value ∷ token.Close ∷ token.Word word.Values ∷ row_tokens id z
+    token.Word word.Insert ∷ token.Word word.Into ∷ token.Word word.Test ∷ token.Open ∷ token.Word word.Id ∷ token.Comma ∷ token.Word word.Value ∷ token.Close
+    ∷ token.Word word.Values ∷ row_tokens id z
 statement_tokens (statement.Delete p) = token.Word word.Delete ∷ token.Word word.From ∷ token.Word word.Test ∷ where_tokens p
 
 -- the first words of each statement have their tokens
@@ -129,7 +130,8 @@ delete_reads = record { is = λ rest h. ap (λ (ts : List Token). token.Word wor
 update_leads : Leads (codes "update test set value = ") (token.Word word.Update ∷ token.Word word.Test ∷ token.Word word.Set ∷ token.Word word.Value ∷ token.Equal ∷ [])
 update_leads = record { is = λ rest. refl }
 
-insert_leads : Leads (codes "insert into test (id, value) values ") (token.Word word.Insert ∷ token.Word word.Into ∷ token.Word word.Test ∷ token.Open ∷ token.Word word.Id ∷ token.Comma ∷ token.Word word.Value ∷ token.Close ∷ token.Word word.Values ∷ [])
+insert_leads : Leads (codes "insert into test (id, value) values ")
+    (token.Word word.Insert ∷ token.Word word.Into ∷ token.Word word.Test ∷ token.Open ∷ token.Word word.Id ∷ token.Comma ∷ token.Word word.Value ∷ token.Close ∷ token.Word word.Values ∷ [])
 insert_leads = record { is = λ rest. refl }
 
 -- a printed statement has its tokens

@@ -21,8 +21,8 @@ use Rattle.lab_script.proofs.Same.{same_token, after_is, bind_some, some_is}
 use Rattle.lab_script.proofs.ReadNumbers.{after_then, under}
 use Rattle.lab_script.proofs.ReadRows.{RowTaken, row_takes}
 use Rattle.lab_script.proofs.SetupLoop.{behind_row}
-use Rattle.lab_script.proofs.DistinctRows.{none_distinct, absent_from, pushed_table, pushed_distinct}
-use Rattle.lab_script.proofs.SetupAgain.{table_of, setup_again}
+use Rattle.lab_script.proofs.DistinctRows.{none_distinct, absent_from, pushed_table, pushed_distinct, table_of}
+use Rattle.lab_script.proofs.SetupAgain.{setup_again}
 
 -- what is read is in the grammar
 

@@ -1,6 +1,6 @@
 -- Setups of the grammar are read as their table.
 use Rattle.std.proofs.Common.{◌≡◌, ℕ, zero, suc, ◌+◌, ◌<◌, ℤ, true, List, [], ◌∷◌, ◌++◌, length, Some, None, refl, sym, ap, subst, ◌∙◌, append_assoc, arith}
-use Rattle.std.specs.FinMap.{find, from_entries}
+use Rattle.std.specs.FinMap.{find}
 use Rattle.std.proofs.lemmas.Bool.{le-leb}
 use Rattle.std.proofs.lemmas.List.{length-append}
 use Rattle.lab_table.specs.Row.{Row, row_cmp}
@@ -14,12 +14,8 @@ use Rattle.lab_script.specs.Reading.{after, is_end}
 use Rattle.lab_script.specs.ReadingSetup.{row_onto, rows_onto, rows_at, no_rows_at, table_at, setup_at}
 use Rattle.lab_script.proofs.ReadRows.{parts_of, row_again}
 use Rattle.lab_script.proofs.SetupLoop.{behind_row}
-use Rattle.lab_script.proofs.DistinctRows.{not_before, is_absent, pushed_table}
+use Rattle.lab_script.proofs.DistinctRows.{not_before, is_absent, pushed_table, table_of}
 use Rattle.lab_script.proofs.AtomParts.{no_close}
-
--- the table that rows make
-abbrev pub table_of : List (Row × ℤ) → Table
-table_of rows = from_entries rows
 
 -- what is in the grammar is read
 

@@ -49,7 +49,8 @@ module _ (level : Level) (setup : Table) (past : Past) (session : ℕ) (command 
       by_may (inr same) = asks.command_is ∙ ap Run (some_same t s (sym same ∙ is))
 
   -- the command of a retry is the statement that waits
-  pub retried : (outcome : Outcome) (s : Statement) → waiting past session ≡ Some s → is_some (active past session) ≡ true → Permitted level setup past session command outcome → outcome ≢ Refused Busy → command ≡ Run s
+  pub retried : (outcome : Outcome) (s : Statement) → waiting past session ≡ Some s → is_some (active past session) ≡ true → Permitted level setup past session command outcome
+      → outcome ≢ Refused Busy → command ≡ Run s
   retried (Begun n) s is runs p apart = absurd (both_ways _ (ap is_some p.1) runs)
   retried (Listed view rows writes) s is runs p apart = asked_again s p.0 p.1 is p.2
   retried Committed s is runs p apart = none_some _ (sym p.1.at_rest ∙ is)

@@ -39,7 +39,8 @@ next_splits past passed [] line h few = none_some _ h
 next_splits past passed (first ∷ lines) line h few =
     at (λ k. next_splits past (first ∷ passed) lines line k) (is_some (waiting past first.0) || nat_lt (lines_by first.0 passed) (given past first.0)) refl h
   where
-    own : (lines_by line.0 (first ∷ passed) ≤ given past line.0 → NextOf past (first ∷ passed) lines line) → (first.0 == line.0) ≡ true → lines_by line.0 passed < given past line.0 → NextOf past passed (first ∷ lines) line
+    own : (lines_by line.0 (first ∷ passed) ≤ given past line.0 → NextOf past (first ∷ passed) lines line) → (first.0 == line.0) ≡ true
+        → lines_by line.0 passed < given past line.0 → NextOf past passed (first ∷ lines) line
     own rec same less =
         let count : lines_by line.0 (first ∷ passed) ≡ 1 + lines_by line.0 passed = counted_first line.0 first passed true same in
         let next : NextOf past (first ∷ passed) lines line = rec (omega (arith, count, less)) in
@@ -52,9 +53,12 @@ next_splits past passed (first ∷ lines) line h few =
         (next.0, next.1, other_first line.0 first lines apart ∙ next.2, omega (arith, count, next.3))
 
     at : (next_line past (first ∷ passed) lines ≡ Some line → lines_by line.0 (first ∷ passed) ≤ given past line.0 → NextOf past (first ∷ passed) lines line) → (b : Bool)
-        → (is_some (waiting past first.0) || nat_lt (lines_by first.0 passed) (given past first.0)) ≡ b → cond b (next_line past (first ∷ passed) lines) (Some first) ≡ Some line → NextOf past passed (first ∷ lines) line
+        → (is_some (waiting past first.0) || nat_lt (lines_by first.0 passed) (given past first.0)) ≡ b → cond b (next_line past (first ∷ passed) lines) (Some first) ≡ Some line
+        → NextOf past passed (first ∷ lines) line
     at rec true q h = elim (eqb_tells first.0 line.0) [
-      | inl p ↦ own (rec h) p.0 (passed_over past passed line.0 (next_rests past (first ∷ passed) lines line h) (subst (λ k. (is_some (waiting past k) || nat_lt (lines_by k passed) (given past k)) ≡ true) p.1 q))
+      | inl p ↦
+          own (rec h) p.0 (passed_over past passed line.0 (next_rests past (first ∷ passed) lines line h)
+          (subst (λ k. (is_some (waiting past k) || nat_lt (lines_by k passed) (given past k)) ≡ true) p.1 q))
       | inr p ↦ other (rec h) p.0
     ]
     at rec false q h =
@@ -72,7 +76,8 @@ next_splits past passed (first ∷ lines) line h few =
 pub next_none : (past : Past) (passed lines : List Line) (session : ℕ) → waiting past session ≡ None → next_line past passed lines ≡ None
     → (length (commands_of session lines) ≡ 0) ⊎ (lines_by session passed + length (commands_of session lines) ≤ given past session)
 next_none past passed [] session rest h = inl refl
-next_none past passed (first ∷ lines) session rest h = at (λ k. next_none past (first ∷ passed) lines session rest k) (is_some (waiting past first.0) || nat_lt (lines_by first.0 passed) (given past first.0)) refl h
+next_none past passed (first ∷ lines) session rest h =
+    at (λ k. next_none past (first ∷ passed) lines session rest k) (is_some (waiting past first.0) || nat_lt (lines_by first.0 passed) (given past first.0)) refl h
   where
     Given : List Line → List Line → Type 0
     Given before after = (length (commands_of session after) ≡ 0) ⊎ (lines_by session before + length (commands_of session after) ≤ given past session)

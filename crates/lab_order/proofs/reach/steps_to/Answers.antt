@@ -26,7 +26,8 @@ made c = with_items_is c.layers.notes c.next_layer.new.notes (c.in_ok-layer-2.en
 grew : (c : After-drop-layer-in-layers) → Grows (c.layers.steps + 1) (leads_into c.args.graph.now c.layers.layer.items) c.layers.notes.items c.next_layer.new.notes c.in_ok-layer-2.layer.items
 grew c =
     subst (λ notes. Grows (c.layers.steps + 1) (leads_into c.args.graph.now c.layers.layer.items) notes c.next_layer.new.notes c.in_ok-layer-2.layer.items) c.deref_mut.ensures.value
-    (subst (λ layer. Grows (c.layers.steps + 1) (leads_into c.args.graph.now layer) c.deref_mut.result.now c.next_layer.new.notes c.in_ok-layer-2.layer.items) c.deref.ensures.value c.in_ok-layer-2.ensures.grows)
+    (subst (λ layer. Grows (c.layers.steps + 1) (leads_into c.args.graph.now layer) c.deref_mut.result.now c.next_layer.new.notes c.in_ok-layer-2.layer.items)
+    c.deref.ensures.value c.in_ok-layer-2.ensures.grows)
 
 pub layers-preserved : goal.layers-preserved
 layers-preserved c = record {

@@ -23,7 +23,9 @@ loop-self-preserved c =
     record {
       shorter = omega (arith, c.loop-self-test.ensures.shorter, c.in_ok-number.ensures.shorter, c.loop-self.invariant.shorter);
       so_far =
-          goes_on_to number_at token.Comma one_more s.0 c.loop-self.numbers.items c.in_ok-number.number c.push-in-loop-self.new.self.items c.loop-self.self c.took.new.self c.number-in-loop-self.new.self (numbers_at c.args.self.now) s.1 s.2 c.loop-self-test.ensures.gives c.loop-self-test.ensures.shorter c.in_ok-number.ensures.gives c.in_ok-number.ensures.shorter (ap some_list (sym c.in_ok-push-2.ensures.items));
+          goes_on_to number_at token.Comma one_more s.0 c.loop-self.numbers.items c.in_ok-number.number c.push-in-loop-self.new.self.items c.loop-self.self c.took.new.self
+          c.number-in-loop-self.new.self (numbers_at c.args.self.now) s.1 s.2 c.loop-self-test.ensures.gives c.loop-self-test.ensures.shorter c.in_ok-number.ensures.gives
+          c.in_ok-number.ensures.shorter (ap some_list (sym c.in_ok-push-2.ensures.items));
     }
 
 pub returns-clause-gives : goal.returns-clause-gives
