@@ -23,6 +23,7 @@ use Rattle.lab_engine.specs.Recording.{Line, given, lines_by, next_line, Follows
 use Rattle.lab_engine.proofs.Locks.{none_some, some_same}
 use Rattle.lab_session.specs.LogText.{AllPrint, SomeEvent}
 use Rattle.lab_session.specs.Play.{given_lines, IsLegalPlay}
+use Rattle.lab_commands.proofs.ScriptsPrint.{not_deep, not_long}
 
 -- ---- what waits
 
@@ -53,7 +54,8 @@ waiting_prints : (past : Past) (session : ℕ) (s : Statement) → AllPrint past
 waiting_prints [] session s all is = none_some _ is
 waiting_prints (event ∷ past) session s all is = by (waiting_prints past session s all.1) (event.session == session) is
   where
-    by : (waiting past session ≡ Some s → StatementPrints s) → (b : Bool) → cond b (waiting_after event.command event.outcome (waiting past session)) (waiting past session) ≡ Some s → StatementPrints s
+    by : (waiting past session ≡ Some s → StatementPrints s) → (b : Bool)
+        → cond b (waiting_after event.command event.outcome (waiting past session)) (waiting past session) ≡ Some s → StatementPrints s
     by before true is = after_prints s (waiting past session) before event.command event.outcome all.0 is
     by before false is = before is
 
@@ -91,19 +93,22 @@ module _ (level : Level) (setup : Table) (past : Past) (session : ℕ) (s : Stat
 waits_active : (level : Level) (setup : Table) (past : Past) → IsLegal level setup past → (session : ℕ) (s : Statement) → waiting past session ≡ Some s → is_some (active past session) ≡ true
 waits_active level setup [] legal session s is = none_some _ is
 waits_active level setup (event ∷ past) legal session s is = elim (eqb_tells event.session session) [
-  | inl p ↦ by_own (waits_active level setup past legal.0 session s) p.1 (subst (λ b. cond b (waiting_after event.command event.outcome (waiting past session)) (waiting past session) ≡ Some s) p.0 is) p.0
+  | inl p ↦
+      by_own (waits_active level setup past legal.0 session s) p.1 (subst (λ b. cond b (waiting_after event.command event.outcome (waiting past session)) (waiting past session) ≡ Some s) p.0 is) p.0
   | inr p ↦ subst (λ b. is_some (cond b (active_after event.command event.outcome past (active past session)) (active past session)) ≡ true) (sym p.0)
       (waits_active level setup past legal.0 session s (subst (λ b. cond b (waiting_after event.command event.outcome (waiting past session)) (waiting past session) ≡ Some s) p.0 is))
 ]
   where
-    by_own : (waiting past session ≡ Some s → is_some (active past session) ≡ true) → event.session ≡ session → waiting_after event.command event.outcome (waiting past session) ≡ Some s → (event.session == session) ≡ true
+    by_own : (waiting past session ≡ Some s → is_some (active past session) ≡ true) → event.session ≡ session
+        → waiting_after event.command event.outcome (waiting past session) ≡ Some s → (event.session == session) ≡ true
         → is_some (cond (event.session == session) (active_after event.command event.outcome past (active past session)) (active past session)) ≡ true
     by_own before same held own = subst (λ b. is_some (cond b (active_after event.command event.outcome past (active past session)) (active past session)) ≡ true) (sym own)
         (after_waits level setup past session s event.command before event.outcome
         (subst (λ k. Permitted level setup past k event.command event.outcome) same legal.1) held)
 
 -- the command of a retry prints
-module _ (level : Level) (setup : Table) (past : Past) (session : ℕ) (command : Command) (all : AllPrint past) (s : Statement) (waits : waiting past session ≡ Some s) (runs : is_some (active past session) ≡ true) where
+module _ (level : Level) (setup : Table) (past : Past) (session : ℕ) (command : Command) (all : AllPrint past) (s : Statement) (waits : waiting past session ≡ Some s)
+    (runs : is_some (active past session) ≡ true) where
   retried_prints : (outcome : Outcome) → Permitted level setup past session command outcome → outcome ≢ Refused Busy → CommandPrints command
   retried_prints (Begun n) p apart = absurd (both_ways _ (ap is_some p.1) runs)
   retried_prints (Listed view rows writes) p apart = asks_prints past session command all s p.0 p.1 waits p.2
@@ -121,7 +126,8 @@ module _ (level : Level) (setup : Table) (past : Past) (session : ℕ) (command 
 -- the next line of a script prints
 line_prints : (past : Past) (passed : List Line) (lines : List ScriptLine) (line : Line) → LinesPrint lines → next_line past passed (given_lines lines) ≡ Some line → CommandPrints line.1
 line_prints past passed [] line all is = none_some _ is
-line_prints past passed (first ∷ lines) line all is = by (line_prints past ((first.session, first.command) ∷ passed) lines line all.1) (is_some (waiting past first.session) || nat_lt (lines_by first.session passed) (given past first.session)) is
+line_prints past passed (first ∷ lines) line all is =
+    by (line_prints past ((first.session, first.command) ∷ passed) lines line all.1) (is_some (waiting past first.session) || nat_lt (lines_by first.session passed) (given past first.session)) is
   where
     by : (next_line past ((first.session, first.command) ∷ passed) (given_lines lines) ≡ Some line → CommandPrints line.1) → (b : Bool)
         → cond b (next_line past ((first.session, first.command) ∷ passed) (given_lines lines)) (Some (first.session, first.command)) ≡ Some line → CommandPrints line.1
@@ -160,18 +166,6 @@ each_prints (x ∷ log) event all (suc k, few, is) = each_prints log event all.1
 pub play_prints : (level : Level) (script : Script) (log : List LogEvent) → ScriptPrints script → IsLegalPlay level script.setup (given_lines script.lines) log → AllPrint log
 play_prints level script log prints play =
     subst AllPrint (reverse-reverse log) (reverse_print (reverse log) (all_print level script.setup script.lines (reverse log) prints.lines play.legal play.scripted.follows))
-
-not_deep : (command : Command) → CommandPrints command → IsDeep command → ⊥
-not_deep Begin prints deep = deep
-not_deep Commit prints deep = deep
-not_deep Abort prints deep = deep
-not_deep (Run s) prints deep = omega (arith, prints.shallow, deep)
-
-not_long : (command : Command) → CommandPrints command → IsLong command → ⊥
-not_long Begin prints long = long
-not_long Commit prints long = long
-not_long Abort prints long = long
-not_long (Run s) prints long = omega (arith, prints.short, long)
 
 -- no event of a log that prints is too deep
 pub none_deep : (log : List LogEvent) → AllPrint log → SomeEvent IsDeep log → ⊥

@@ -1,5 +1,5 @@
 -- Why a play was refused, at the level and on the setup that its engine was made with.
-use Rattle.std.proofs.Common.{◌≡◌, subst, List, Result, Ok, Err, IfOk, IfErr}
+use Rattle.std.proofs.Common.{◌≡◌, subst, List, Result, IfErr}
 use Rattle.lab_table.specs.Table.{Table}
 use Rattle.lab_engine.specs.declared.event.Level.{Level}
 use Rattle.lab_engine.specs.Recording.{Line}
@@ -10,8 +10,3 @@ pub refused_at : {X : Type 0} (result : Result X PlayFault) (level kind : Level)
     → IfErr result (IsScriptedFault kind opening lines) → IfErr result (IsScriptedFault level setup lines)
 refused_at result level kind setup opening lines at on fault =
     subst (λ s. IfErr result (IsScriptedFault level s lines)) on (subst (λ l. IfErr result (IsScriptedFault l opening lines)) at fault)
-
--- what holds of an answer, where another thing does
-pub each_ok : {X Y : Type 0} {P Q : X → Type 0} (result : Result X Y) → ((x : X) → P x → Q x) → IfOk result P → IfOk result Q
-each_ok (Ok x) f holds = f x holds
-each_ok (Err e) f holds = tt

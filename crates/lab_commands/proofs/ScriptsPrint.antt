@@ -14,14 +14,14 @@ line_prints (first ∷ lines) all line (zero, lt, is) = subst (λ l. CommandPrin
 line_prints (first ∷ lines) all line (suc k, lt, is) = line_prints lines all.1 line (k, omega arith, is)
 
 -- what prints isn't too deep
-not_deep : (command : Command) → CommandPrints command → IsDeep command → ⊥
+pub not_deep : (command : Command) → CommandPrints command → IsDeep command → ⊥
 not_deep Begin prints deep = deep
 not_deep Commit prints deep = deep
 not_deep Abort prints deep = deep
 not_deep (Run s) prints deep = absurd (omega (arith, prints.shallow, deep))
 
 -- nor too long
-not_long : (command : Command) → CommandPrints command → IsLong command → ⊥
+pub not_long : (command : Command) → CommandPrints command → IsLong command → ⊥
 not_long Begin prints long = long
 not_long Commit prints long = long
 not_long Abort prints long = long

@@ -49,5 +49,6 @@ module _ (h : History) where
 
   pub none_intermediate : option_and_then read_of (fault_in kind.IntermediateRead h) ≡ None → (n k : ℕ) (row : Row) → Stands h (IntermediateRead n k row) → ⊥
   none_intermediate none n k row (op, c, d) =
-      let nothing : fault_in kind.IntermediateRead h ≡ None = no_fault (fault_in kind.IntermediateRead h) IntermediateRead (λ n k row. refl) (λ x e. let w = intermediate x e in (w.0, w.1, w.2, w.3)) none in
+      let nothing : fault_in kind.IntermediateRead h ≡ None =
+      no_fault (fault_in kind.IntermediateRead h) IntermediateRead (λ n k row. refl) (λ x e. let w = intermediate x e in (w.0, w.1, w.2, w.3)) none in
       pass_finds_none kind.IntermediateRead h nothing n k op row c ((decides_intermediate h n k op row).1 d)

@@ -54,7 +54,8 @@ module _ (h : History) (installed : (row : Row) → Stands h (InstallOrder row) 
   pub are_writes : (e : Edge) → Contains (flat_map neighbours_at (map.entries h.installed)) e → IsEdge h e × (e.kind ≡ Write)
   are_writes e found =
       let of_row = from_each neighbours_at (map.entries h.installed) e found in
-      neighbour_is_edge of_row.source.0 e (neighbours_are of_row.source.0 (installers h of_row.source.0) e (subst (λ ns. Contains (neighbours_at (of_row.source.0, ns)) e) (named of_row.source of_row.is_source) of_row.is_made))
+      neighbour_is_edge of_row.source.0 e (neighbours_are of_row.source.0 (installers h of_row.source.0) e
+      (subst (λ ns. Contains (neighbours_at (of_row.source.0, ns)) e) (named of_row.source of_row.is_source) of_row.is_made))
 
   pub writes_are : (e : Edge) → IsEdge h e × (e.kind ≡ Write) → Contains (flat_map neighbours_at (map.entries h.installed)) e
   writes_are e ((a, b, differ, depends), is_write) = written (subst (λ k. Depends h k e.row e.from e.to) is_write depends)
@@ -62,4 +63,5 @@ module _ (h : History) (installed : (row : Row) → Stands h (InstallOrder row) 
       written : Depends h Write e.row e.from e.to → Contains (flat_map neighbours_at (map.entries h.installed)) e
       written (p, from, to) =
           of_each neighbours_at (map.entries h.installed) (e.row, installers h e.row) e (found_entry h.installed e.row (installers h e.row) (installed_entry h e.row p e.from from))
-          (subst (λ k. Contains (neighbours_at (e.row, installers h e.row)) (record { from = e.from; to = e.to; kind = k; row = e.row })) (sym is_write) (are_neighbours e.row (installers h e.row) p e.from e.to from to differ))
+          (subst (λ k. Contains (neighbours_at (e.row, installers h e.row)) (record { from = e.from; to = e.to; kind = k; row = e.row })) (sym is_write)
+          (are_neighbours e.row (installers h e.row) p e.from e.to from to differ))

@@ -9,10 +9,10 @@ use Rattle.lab_engine.specs.declared.waits.Wait.{Wait}
 use Rattle.lab_engine.specs.Log.{Past, waiting}
 use Rattle.lab_engine.specs.Rules.{BlockedBy, IsChain, IsCircle, MayAsk}
 use Rattle.lab_engine.specs.Recording.{IsRetryable}
-use Rattle.lab_engine.specs.WaitsFor.{waits_for, IsWalk, IsRound, WaitsOn, AreWaits, AreWaitsWith}
+use Rattle.lab_engine.specs.WaitsFor.{waits_for, IsWalk, IsRound, WaitsOn, AreWaits}
 use Rattle.lab_engine.specs.Released.{IsReleased}
 use Rattle.lab_engine.proofs.Locks.{some_same}
-use Rattle.lab_engine.proofs.Waiting.{asked_is}
+use Rattle.lab_engine.proofs.Waiting.{asked_is, AreWaitsWith}
 
 -- a walk begins with a step
 first_step : (waits : List Wait) (session : ℕ) (rest : List ℕ) (goal : ℕ) → IsWalk waits session rest goal → (other : ℕ) × IsTrue (waits_for waits session other)

@@ -145,10 +145,6 @@ kept_none : (txn : Option Txn) → Agree txn None → txn ≡ None
 kept_none None agree = refl
 kept_none (Some t) agree = absurd agree
 
-kept_some : (txn : Txn) (running : Option RunningTxn) → Agree (Some txn) running → (r : RunningTxn) × (running ≡ Some r) × IsRunning txn r
-kept_some txn None agree = absurd agree
-kept_some txn (Some r) agree = (r, refl, agree)
-
 -- where one is kept, the session has an active transaction
 pub running_txn : (past : Past) (situation : Situation) → Describes past situation → (session : ℕ) (running : RunningTxn) → running_of situation.sessions.items session ≡ Some running
     → (txn : Txn) × (active past session ≡ Some txn) × IsRunning txn running

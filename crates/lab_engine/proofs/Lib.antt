@@ -5,8 +5,6 @@ pub mod Records
 pub mod Runs
 pub mod Order
 pub mod Begins
-pub mod Recorded
-pub mod Views
 pub mod Describing
 pub mod Holding
 pub mod InstalledChains

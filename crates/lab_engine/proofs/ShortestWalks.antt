@@ -6,8 +6,15 @@ use Rattle.std.proofs.lemmas.Bool.{eqb-true, both_ways}
 use Rattle.lab_engine.specs.declared.circle.Hop.{Hop}
 use Rattle.lab_engine.specs.declared.waits.Wait.{Wait}
 use Rattle.lab_engine.specs.WaitsFor.{waits_for, IsWalk}
-use Rattle.lab_engine.specs.Hops.{is_reached, trail, IsNewHop, IsSearched}
+use Rattle.lab_engine.specs.Hops.{is_reached, trail, IsNewHop, AreHops}
 use Rattle.lab_engine.proofs.Walks.{goal_reached, more_hops}
+
+-- after so many turns: no trail has more sessions, all whose walk to the goal is shorter are reached, and no walk from the goal back to it is
+pub record IsSearched (graph : List Wait) (goal : ℕ) (hops : List Hop) (turns : ℕ) : Type 0 where
+  pub lead : AreHops graph goal hops
+  pub short : (session : ℕ) → length (trail hops session) ≤ turns
+  pub all : (session : ℕ) (rest : List ℕ) → IsWalk graph session rest goal → length rest < turns → IsTrue (is_reached hops goal session)
+  pub none : (rest : List ℕ) → IsWalk graph goal rest goal → turns ≤ length rest
 
 -- new hops aren't on the trail of one that was reached before
 trail_skips : (waits : List Wait) (goal : ℕ) (hops new : List Hop) → All (IsNewHop waits hops goal) new → (session : ℕ) → IsTrue (is_reached hops goal session)

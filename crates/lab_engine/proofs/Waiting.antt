@@ -17,7 +17,7 @@ use Rattle.lab_engine.specs.declared.waits.Wait.{Wait}
 use Rattle.lab_engine.specs.Log.{Past, Txn, active, waiting}
 use Rattle.lab_engine.specs.Rules.{BlockedBy, MayAsk}
 use Rattle.lab_engine.specs.Situation.{all_sessions, Agree, IsRunning, Describes, DescribesSession, DescribesAll}
-use Rattle.lab_engine.specs.WaitsFor.{waits_for, AreBlockers, WaitsOn, AreWaits, AreWaitsWith}
+use Rattle.lab_engine.specs.WaitsFor.{waits_for, AreBlockers, WaitsOn, AreWaits}
 use Rattle.lab_engine.proofs.Locks.{none_some, some_same}
 use Rattle.lab_engine.proofs.Rising.{AreThose, those_hold, those_all, those_increase, sessions_of, is_among, among}
 
@@ -153,6 +153,12 @@ waits_all level setup past situation passed waits d all h session other = (
 pub asked_is : (past : Past) (session : ℕ) (s held : Statement) → MayAsk past session s → waiting past session ≡ Some held → held ≡ s
 asked_is past session s held (inl none) is = none_some _ (sym none ∙ is)
 asked_is past session s held (inr some) is = some_same held s (sym is ∙ some)
+
+-- the graph has who waits for whom after a log, but of one session it has the blockers of this statement
+abbrev pub AreWaitsWith : Level → Table → Past → ℕ → Statement → List Wait → Type 0
+AreWaitsWith level setup past session s waits =
+    ((other : ℕ) → IsTrue (waits_for waits session other) ↔ BlockedBy level setup past session s other)
+    × ((waiter other : ℕ) → waiter ≢ session → IsTrue (waits_for waits waiter other) ↔ WaitsOn level setup past waiter other)
 
 -- the graph with a session's blockers of what it asks for
 pub waits_with : (level : Level) (setup : Table) (past : Past) (session : ℕ) (s : Statement) (waits : List Wait) (wait : Wait) → wait.session ≡ session → AreWaits level setup past waits → MayAsk past session s

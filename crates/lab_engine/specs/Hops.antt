@@ -1,9 +1,9 @@
 -- Walks to a goal along the graph of who waits for whom, hop by hop.
-use Rattle.std.specs.Prelude.{◌≡◌, ◌≤◌, ◌<◌, ◌==◌, ℕ, Bool, false, ◌||◌, cond, List, [], ◌∷◌, length, IsTrue, ⊤}
+use Rattle.std.specs.Prelude.{◌≡◌, ◌==◌, ℕ, Bool, false, ◌||◌, cond, List, [], ◌∷◌, IsTrue, ⊤}
 use Rattle.std.specs.List.{list_any}
 use Rattle.lab_engine.specs.declared.circle.Hop.{Hop}
 use Rattle.lab_engine.specs.declared.waits.Wait.{Wait}
-use Rattle.lab_engine.specs.WaitsFor.{waits_for, IsWalk}
+use Rattle.lab_engine.specs.WaitsFor.{waits_for}
 
 -- whether a session is the goal, or has a hop
 abbrev pub is_reached : List Hop → ℕ → ℕ → Bool
@@ -30,10 +30,3 @@ pub record IsNewHop (graph : List Wait) (hops : List Hop) (goal : ℕ) (hop : Ho
 abbrev pub trail : List Hop → ℕ → List ℕ
 trail [] at = []
 trail (hop ∷ hops) at = cond (hop.session == at) (at ∷ trail hops hop.next) (trail hops at)
-
--- after so many turns: no trail has more sessions, all whose walk to the goal is shorter are reached, and no walk from the goal back to it is
-pub record IsSearched (graph : List Wait) (goal : ℕ) (hops : List Hop) (turns : ℕ) : Type 0 where
-  pub lead : AreHops graph goal hops
-  pub short : (session : ℕ) → length (trail hops session) ≤ turns
-  pub all : (session : ℕ) (rest : List ℕ) → IsWalk graph session rest goal → length rest < turns → IsTrue (is_reached hops goal session)
-  pub none : (rest : List ℕ) → IsWalk graph goal rest goal → turns ≤ length rest

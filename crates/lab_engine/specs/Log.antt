@@ -107,10 +107,6 @@ writers row txns = filter (λ txn. is_some (version_by txn row)) txns
 abbrev pub numbers : List Txn → List ℕ
 numbers txns = reverse (list.map (λ txn. txn.no) txns)
 
--- the numbers of the committed transactions, in order of their commits
-abbrev pub commit_order : Past → List ℕ
-commit_order past = numbers (commits past)
-
 -- a row's installed list: the numbers of the committed transactions that wrote it, in order of their commits
 abbrev pub installers : Past → Row → List ℕ
 installers past row = numbers (writers row (commits past))

@@ -1,5 +1,5 @@
 -- Who waits for whom, as a graph.
-use Rattle.std.specs.Prelude.{◌≡◌, ◌≢◌, ◌==◌, ℕ, Bool, ◌&&◌, Some, List, [], ◌∷◌, Contains, IsTrue, ◌↔◌}
+use Rattle.std.specs.Prelude.{◌≡◌, ◌==◌, ℕ, Bool, ◌&&◌, Some, List, [], ◌∷◌, Contains, IsTrue, ◌↔◌}
 use Rattle.std.specs.List.{list_any}
 use Rattle.std.specs.List.Sorted.{IsStrictlyIncreasing}
 use Rattle.lab_table.specs.Table.{Table}
@@ -35,9 +35,3 @@ WaitsOn level setup past session other = (s : Statement) × (waiting past sessio
 -- the graph has who waits for whom after a log
 abbrev pub AreWaits : Level → Table → Past → List Wait → Type 0
 AreWaits level setup past waits = (session other : ℕ) → IsTrue (waits_for waits session other) ↔ WaitsOn level setup past session other
-
--- so it does, but of one session it has the blockers of this statement
-abbrev pub AreWaitsWith : Level → Table → Past → ℕ → Statement → List Wait → Type 0
-AreWaitsWith level setup past session s waits =
-    ((other : ℕ) → IsTrue (waits_for waits session other) ↔ BlockedBy level setup past session s other)
-    × ((waiter other : ℕ) → waiter ≢ session → IsTrue (waits_for waits waiter other) ↔ WaitsOn level setup past waiter other)

@@ -19,7 +19,7 @@ use Rattle.lab_history.specs.declared.operation.Op.{Op}
 use Rattle.lab_history.specs.declared.transaction.Txn.{Txn}
 use Rattle.lab_history.specs.History.{History}
 use Rattle.lab_history.specs.Kept.{operations, op_rows, named_rows, distinct_rows}
-use Rattle.lab_history.specs.Walked.{with_rows, with_op, with_ops, with_txns, rows_in}
+use Rattle.lab_history.specs.Walked.{with_rows, with_op, with_ops, with_txns}
 
 -- ---- one row more
 
@@ -139,6 +139,10 @@ txns_added seen [] = refl
 txns_added seen (t ∷ ts) =
     txns_added (with_ops seen t.ops) ts ∙ ap (λ s. rows_added s (flat_map op_rows (operations ts))) (ops_added seen t.ops)
     ∙ added_both seen (flat_map op_rows t.ops) (flat_map op_rows (operations ts)) ∙ ap (rows_added seen) (sym (flat_map-append op_rows t.ops (operations ts)))
+
+-- those of all lists of a history
+abbrev pub rows_in : History → List Row
+rows_in h = with_rows (with_rows (with_txns (with_rows [] (entries h.initial)) h.txns) (entries h.installed)) (entries h.end_table)
 
 -- the different rows of a history's lists
 pub length_rows_in : (h : History) → length (rows_in h) ≡ distinct_rows (named_rows h)

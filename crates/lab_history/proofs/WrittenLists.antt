@@ -6,7 +6,7 @@ use Rattle.std.specs.List.{All, list_all}
 use Rattle.std.proofs.lemmas.List.{map-append, take_more, take_all}
 use Rattle.std.proofs.lemmas.List.Folds.{list_all-map}
 use Rattle.std.proofs.lemmas.List.Sums.{AllPass-from_list_all}
-use Rattle.std.proofs.lemmas.List.Elements.{All-head, All-tail, All-more, All-nil}
+use Rattle.std.proofs.lemmas.List.Elements.{All-head, All-tail, All-more}
 use Rattle.std.specs.declared.alloc.Global.{Global}
 use Rattle.serde_json.specs.Data.{Data, array}
 use Rattle.serde_json.specs.View.{view, items_of}
@@ -22,9 +22,6 @@ pub record Written {X : Type 0} (tree : X → Data) (Is : Data → X → Type 0)
   pub each : All (λ x. Is (tree x) x) xs
 
 module _ {X : Type 0} (tree : X → Data) (Is : Data → X → Type 0) where
-  -- no element
-  pub none_written : Written tree Is [] []
-  none_written = record { trees = refl; each = All-nil (λ x. Is (tree x) x) }
 
   -- one more element
   pub one_written : (values new : List Value) (v : Value) (xs : List X) (i : ℕ) (x : X) → i < length xs → x ≡ get_or xs i x

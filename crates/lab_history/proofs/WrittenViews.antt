@@ -25,10 +25,6 @@ pub record Seen (values : List Value) (entries : List (Row × VersionName)) : Ty
   pub trees : map view values ≡ seen_trees entries
   pub each : AreEach IsVersion (items_of (seen_trees entries)) entries
 
--- no version
-pub none_seen : Seen [] []
-none_seen = record { trees = refl; each = tt }
-
 -- two lists, one behind the other
 both_stand : {X : Type 0} (Is : Data → X → Type 0) (ds es : List Data) (xs ys : List X) → AreEach Is (items_of ds) xs → AreEach Is (items_of es) ys
     → AreEach Is (items_of (ds ++ es)) (xs ++ ys)

@@ -3,8 +3,11 @@ use Rattle.std.specs.Prelude.{ℕ, ◌+◌, nat_le, List, [], ◌∷◌, length,
 use Rattle.std.specs.BTreeSet.{insert_key}
 use Rattle.std.specs.FinMap as finite
 use Rattle.lab_table.specs.Row.{Row, row_cmp}
+<<<<<<< HEAD
 use Rattle.lab_history.specs.History.{History}
 use Rattle.lab_history.specs.Limits.{max_entries}
+=======
+>>>>>>> 253a71c4cbc5ef191882dbe7f23677138bdc2795
 use Rattle.lab_history.specs.declared.operation.Op.{Op}
 use Rattle.lab_history.specs.declared.transaction.Txn.{Txn}
 
@@ -26,10 +29,6 @@ with_ops seen (op ∷ ops) = with_ops (with_op seen op) ops
 abbrev pub with_txns : List Row → List Txn → List Row
 with_txns seen [] = seen
 with_txns seen (t ∷ ts) = with_txns (with_ops seen t.ops) ts
-
--- those of all lists of a history
-abbrev pub rows_in : History → List Row
-rows_in h = with_rows (with_rows (with_txns (with_rows [] (finite.entries h.initial)) h.txns) (finite.entries h.installed)) (finite.entries h.end_table)
 
 -- ---- counts of entries, none past the limit
 

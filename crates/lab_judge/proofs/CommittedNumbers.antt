@@ -20,11 +20,13 @@ passes : (test : ℕ → Bool) (ts : List Txn) (n : ℕ) → 1 ≤ times n (numb
 passes test [] n h = absurd (omega arith)
 passes test (t ∷ ts) n h = at (passes test ts n) (test t.no) refl h
   where
-    here : (1 ≤ times n (numbers_that test ts) → test n ≡ true) → (b : Bool) → (t.no == n) ≡ b → test t.no ≡ true → 1 ≤ cond b (1 + times n (numbers_that test ts)) (times n (numbers_that test ts)) → test n ≡ true
+    here : (1 ≤ times n (numbers_that test ts) → test n ≡ true) → (b : Bool) → (t.no == n) ≡ b → test t.no ≡ true
+        → 1 ≤ cond b (1 + times n (numbers_that test ts)) (times n (numbers_that test ts)) → test n ≡ true
     here rest true e passed l = subst (λ m. test m ≡ true) (eqb-true t.no n e) passed
     here rest false e passed l = rest l
 
-    at : (1 ≤ times n (numbers_that test ts) → test n ≡ true) → (b : Bool) → test t.no ≡ b → 1 ≤ times n (map (λ t. t.no) (cond b (t ∷ filter (λ t. test t.no) ts) (filter (λ t. test t.no) ts))) → test n ≡ true
+    at : (1 ≤ times n (numbers_that test ts) → test n ≡ true) → (b : Bool) → test t.no ≡ b
+        → 1 ≤ times n (map (λ t. t.no) (cond b (t ∷ filter (λ t. test t.no) ts) (filter (λ t. test t.no) ts))) → test n ≡ true
     at rest true passed l = here rest (t.no == n) refl passed l
     at rest false failed l = rest l
 
@@ -41,7 +43,8 @@ found test (t ∷ ts) n h passed = at (λ c. found test ts n c passed) (t.no == 
     here true p e = omega (arith, times_here n t.no (numbers_that test ts) (eqb-true t.no n e))
     here false p e = absurd (false≢true (sym p ∙ ap test (eqb-true t.no n e) ∙ passed))
 
-    at : (has_committed (option_map (λ t. t.outcome) (find_txn ts n)) ≡ true → 1 ≤ times n (numbers_that test ts)) → (b : Bool) → (t.no == n) ≡ b → has_committed (option_map (λ t. t.outcome) (cond b (Some t) (find_txn ts n))) ≡ true → 1 ≤ times n (numbers_that test (t ∷ ts))
+    at : (has_committed (option_map (λ t. t.outcome) (find_txn ts n)) ≡ true → 1 ≤ times n (numbers_that test ts)) → (b : Bool) → (t.no == n) ≡ b
+        → has_committed (option_map (λ t. t.outcome) (cond b (Some t) (find_txn ts n))) ≡ true → 1 ≤ times n (numbers_that test (t ∷ ts))
     at rest true e c = here (test t.no) refl e
     at rest false e c = more (test t.no) (rest c)
 

@@ -71,7 +71,8 @@ module _ (allowed : Allowed) (nodes : List ℕ) (es : List Edge) (graph : Arrows
   leads_back h all e ws walk through = (position nodes e.to ∷ map (λ w. position nodes w.to) ws, (refl, walk_leads h (λ w edge kind. all w edge) e.to ws e.from walk through))
 
   -- the nodes of a path, after its first
-  pub way_of : (from to : ℕ) (path : List ℕ) (first : ℕ) (way : List ℕ) → path ≡ first ∷ way → IsPath graph from to path → (first ≡ from) × LeadsAlong allowed nodes es first way × (last_of first way ≡ to)
+  pub way_of : (from to : ℕ) (path : List ℕ) (first : ℕ) (way : List ℕ) → path ≡ first ∷ way → IsPath graph from to path
+      → (first ≡ from) × LeadsAlong allowed nodes es first way × (last_of first way ≡ to)
   way_of from to path first way parts h =
       let p : (first ≡ from) × Leads graph first way to = subst (IsPath graph from to) parts h in
       (p.0, along_path allowed nodes es graph is first way to p.1, path_ends graph first way to p.1)

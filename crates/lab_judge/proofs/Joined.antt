@@ -76,7 +76,8 @@ last_step at i way lt =
     ap (last_of at) (drop-cons way i 0 lt ∙ ap (λ k. get_or way i 0 ∷ drop k way) one)
 
 -- the dependency that leads to the next node
-pub next_joining : (allowed : Allowed) (nodes : List ℕ) (es : List Edge) → All (HasEnds nodes) es → (at i : ℕ) (way : List ℕ) → i < length way → LeadsAlong allowed nodes es at (drop i way) → Joining allowed nodes es at (get_or way i 0)
+pub next_joining : (allowed : Allowed) (nodes : List ℕ) (es : List Edge) → All (HasEnds nodes) es → (at i : ℕ) (way : List ℕ) → i < length way
+    → LeadsAlong allowed nodes es at (drop i way) → Joining allowed nodes es at (get_or way i 0)
 next_joining allowed nodes es ends at i way lt leads = joining allowed nodes es ends at (get_or way i 0) (step allowed nodes es at i way lt leads).0
 
 -- one dependency more of an allowed kind leaves none of other kinds

@@ -19,7 +19,8 @@ use Rattle.lab_judge.specs.Graphs.{stands_before}
 in_turn : (a b : Edge) → edge_cmp a b ≡ Less → (a.from < b.from) ⊎ ((a.from ≡ b.from) × (a.to ≤ b.to))
 in_turn a b less = at (nat_cmp a.from b.from) (nat_cmp a.to b.to) refl refl less
   where
-    at : (o p : Ordering) → nat_cmp a.from b.from ≡ o → nat_cmp a.to b.to ≡ p → ordering_then o (ordering_then p (ordering_then (nat_cmp (kind_place a.kind) (kind_place b.kind)) (row_cmp a.row b.row))) ≡ Less
+    at : (o p : Ordering) → nat_cmp a.from b.from ≡ o → nat_cmp a.to b.to ≡ p
+        → ordering_then o (ordering_then p (ordering_then (nat_cmp (kind_place a.kind) (kind_place b.kind)) (row_cmp a.row b.row))) ≡ Less
         → (a.from < b.from) ⊎ ((a.from ≡ b.from) × (a.to ≤ b.to))
     at Less p eo ep h = inl (ranked a.from b.from Less (sym eo))
     at Equal Less eo ep h = inr (ranked a.from b.from Equal (sym eo), (let l : a.to < b.to = ranked a.to b.to Less (sym ep) in omega arith))
@@ -54,7 +55,8 @@ module _ (from to : ℕ) where
   parted [] h = λ i j d le lt t. absurd (omega arith)
   parted (e ∷ es) h = at (parted es (sorted_tail edge_cmp e es h))
     where
-      at : IsPartitionedBy (stands_before from to) es → (i j : ℕ) (d : Edge) → i ≤ j → j < length (e ∷ es) → stands_before from to (get_or (e ∷ es) j d) ≡ true → stands_before from to (get_or (e ∷ es) i d) ≡ true
+      at : IsPartitionedBy (stands_before from to) es → (i j : ℕ) (d : Edge) → i ≤ j → j < length (e ∷ es) → stands_before from to (get_or (e ∷ es) j d) ≡ true
+          → stands_before from to (get_or (e ∷ es) i d) ≡ true
       at rest zero zero d le lt t = t
       at rest zero (suc j) d le lt t = earlier e (get_or es j d) (All-after_first edge_cmp e es h j d (omega arith)) t
       at rest (suc i) zero d le lt t = absurd (omega arith)
@@ -69,7 +71,8 @@ module _ (from to : ℕ) where
       at (inr (same, l)) = omega (arith, l, t)
 
   -- so it stands in the rest
-  pub in_rest : (es shown : List Edge) (start : ℕ) → shown ≡ take (length es - start) (drop start es) → IsPartitionPoint (λ e. stands_before from to e ≡ true) (λ e. stands_before from to e ≡ false) es start
+  pub in_rest : (es shown : List Edge) (start : ℕ) → shown ≡ take (length es - start) (drop start es)
+      → IsPartitionPoint (λ e. stands_before from to e ≡ true) (λ e. stands_before from to e ≡ false) es start
       → (e : Edge) → Contains es e → e.from ≡ from → e.to ≡ to → Contains shown e
   in_rest es shown start is point e (k, lt, here) f t = elim (cases_lt k start) [
     | inl before ↦ absurd (not_before e f t (ap (stands_before from to) (sym here) ∙ point.0 k e (omega arith) before))

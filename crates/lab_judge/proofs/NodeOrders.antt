@@ -40,7 +40,8 @@ module _ (h : History) (nodes : List ℕ) (once : HoldsEachOnce h nodes) where
   back : (a : ℕ) → a < length nodes → position nodes (slice_index nodes a) ≡ a
   back a lt =
       let here : slice_get nodes a ≡ Some (slice_index nodes a) = slice_get-get_or nodes a 0 lt in
-      one_place nodes (position nodes (slice_index nodes a)) a (slice_index nodes a) (at_most (slice_index nodes a)) (at_position nodes (slice_index nodes a) (at_times nodes a (slice_index nodes a) here)) here
+      one_place nodes (position nodes (slice_index nodes a)) a (slice_index nodes a) (at_most (slice_index nodes a))
+      (at_position nodes (slice_index nodes a) (at_times nodes a (slice_index nodes a) here)) here
 
   module _ (n : ℕ) (there : Contains nodes n) where
     -- a node has this number exactly if it is its place

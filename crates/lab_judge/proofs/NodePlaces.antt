@@ -80,7 +80,8 @@ no_more n ns all once = let is = total-is n ns all in let most = total-most n ns
 
 -- each node comes once in an order
 pub once_in : (graph : Arrows) (ns : List ℕ) → order.HoldsEachOnce graph ns → (a : ℕ) → times a ns ≤ 1
-once_in graph ns each a = elim (nat_lt a (nodes_of graph)) as (λ b. times a ns ≡ cond b 1 0 → times a ns ≤ 1) [ true ↦ λ e. omega (arith, e) | false ↦ λ e. omega (arith, e) ] (times_count a ns ∙ each a)
+once_in graph ns each a =
+    elim (nat_lt a (nodes_of graph)) as (λ b. times a ns ≡ cond b 1 0 → times a ns ≤ 1) [ true ↦ λ e. omega (arith, e) | false ↦ λ e. omega (arith, e) ] (times_count a ns ∙ each a)
 
 -- and is there
 pub in_order : (graph : Arrows) (ns : List ℕ) → order.HoldsEachOnce graph ns → (a : ℕ) → a < nodes_of graph → Contains ns a
@@ -109,7 +110,8 @@ module _ (places ns : List ℕ) (count : ℕ) (size : length places ≡ count) (
       ]
 
 -- where each place has its node, each node has its place
-pub all_placed : (places ns : List ℕ) (i : ℕ) → length ns ≤ i → ((k : ℕ) → k < i → slice_index places (get_or ns k 0) ≡ k) → (node : ℕ) → Contains ns node → slice_index places node ≡ order.position ns node
+pub all_placed : (places ns : List ℕ) (i : ℕ) → length ns ≤ i → ((k : ℕ) → k < i → slice_index places (get_or ns k 0) ≡ k) → (node : ℕ) → Contains ns node
+    → slice_index places node ≡ order.position ns node
 all_placed places ns i past placed node there =
     let p : ℕ = order.position ns node in
     let lt : order.position ns node < length ns = subst (λ k. k < length ns) (sym (same_position ns node)) (position_within ns node there) in

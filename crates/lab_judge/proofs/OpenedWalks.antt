@@ -60,7 +60,8 @@ none_beside test xs e ys passes one =
     omega arith
 
 -- beside the edge that opens a walk all kinds are allowed
-beside : (opening : Opening) (a : Allowed) (xs : List Edge) (e : Edge) (ys : List Edge) → opens opening e.kind ≡ true → times (λ k. not (allows a k)) (xs ++ e ∷ ys) ≤ 1 → times (λ k. not (allows a k)) (ys ++ xs) ≡ 0
+beside : (opening : Opening) (a : Allowed) (xs : List Edge) (e : Edge) (ys : List Edge) → opens opening e.kind ≡ true → times (λ k. not (allows a k)) (xs ++ e ∷ ys) ≤ 1
+    → times (λ k. not (allows a k)) (ys ++ xs) ≡ 0
 beside opening allowed.All xs e ys opened few = none_other (ys ++ xs)
 beside opening allowed.Writes xs e ys opened few = none_beside (λ k. not (allows allowed.Writes k)) xs e ys (ap not (not_writes opening e.kind opened)) few
 beside opening allowed.Flow xs e ys opened few = none_beside (λ k. not (allows allowed.Flow k)) xs e ys (ap not (not_flow opening e.kind opened)) few

@@ -19,14 +19,10 @@ module _ (opening : Opening) (graph : Arrows) (nodes : List ℕ) where
   other_kind e other opened = false≢true (sym other ∙ opened.0)
 
   -- from the end of an edge that isn't marked no path leads back
-  pub unmarked : (marks : List Bool) (e : Edge) (from : ℕ) → e.from ≡ from → ((n : ℕ) → IsTrue (is_marked marks n) ↔ Reaches graph n (position nodes from)) → is_marked marks (position nodes e.to) ≡ false → IsOpening opening graph nodes e → ⊥
+  pub unmarked : (marks : List Bool) (e : Edge) (from : ℕ) → e.from ≡ from → ((n : ℕ) → IsTrue (is_marked marks n) ↔ Reaches graph n (position nodes from))
+      → is_marked marks (position nodes e.to) ≡ false → IsOpening opening graph nodes e → ⊥
   unmarked marks e from same exact none opened =
       false≢true (sym none ∙ (exact (position nodes e.to)).1 (subst (λ n. Reaches graph (position nodes e.to) (position nodes n)) same opened.1))
-
-  -- from the end of an edge that is marked a path leads back
-  pub marked : (marks : List Bool) (e : Edge) (from : ℕ) → e.from ≡ from → ((n : ℕ) → IsTrue (is_marked marks n) ↔ Reaches graph n (position nodes from)) → opens opening e.kind ≡ true → is_marked marks (position nodes e.to) ≡ true → IsOpening opening graph nodes e
-  marked marks e from same exact opened there =
-      (opened, subst (λ n. Reaches graph (position nodes e.to) (position nodes n)) (sym same) ((exact (position nodes e.to)).0 there))
 
 -- the mark of a node is what is read there
 pub mark_read : (marks : List Bool) (n p : ℕ) (b : Bool) → n ≡ p → n < length marks → b ≡ slice_index_or marks n b → is_marked marks p ≡ b
@@ -46,7 +42,8 @@ from_it_all : (from : ℕ) (es : List Edge) → All (λ e. e.from ≡ from) (tak
 from_it_all from [] = All-nil (λ e. e.from ≡ from)
 from_it_all from (e ∷ es) = at (from_it_all from es) (e.from == from) refl
   where
-    at : All (λ e. e.from ≡ from) (take (prefix_len (λ e. e.from == from) es) es) → (b : Bool) → (e.from == from) ≡ b → All (λ e. e.from ≡ from) (take (cond b (1 + prefix_len (λ e. e.from == from) es) 0) (e ∷ es))
+    at : All (λ e. e.from ≡ from) (take (prefix_len (λ e. e.from == from) es) es) → (b : Bool) → (e.from == from) ≡ b
+        → All (λ e. e.from ≡ from) (take (cond b (1 + prefix_len (λ e. e.from == from) es) 0) (e ∷ es))
     at rest true same =
         subst (λ n. All (λ e. e.from ≡ from) (take n (e ∷ es))) (sym (one-add (prefix_len (λ e. e.from == from) es)))
         (All-cons (λ e. e.from ≡ from) e (take (prefix_len (λ e. e.from == from) es) es) (eqb-true e.from from same) rest)

@@ -60,9 +60,12 @@ spans_has : (n p : ℕ) → p < n → spans n (start_node p) (commit_node p) ≡
 spans_has zero p lt = absurd (omega arith)
 spans_has (suc n) p lt = at (spans_has n p) (cases_lt p n)
   where
-    at : (p < n → spans n (start_node p) (commit_node p) ≡ true) → (p < n) ⊎ (n ≤ p) → ((start_node n == start_node p && commit_node n == commit_node p) || spans n (start_node p) (commit_node p)) ≡ true
+    at : (p < n → spans n (start_node p) (commit_node p) ≡ true) → (p < n) ⊎ (n ≤ p)
+        → ((start_node n == start_node p && commit_node n == commit_node p) || spans n (start_node p) (commit_node p)) ≡ true
     at rest (inl less) = or_right (start_node n == start_node p && commit_node n == commit_node p) (spans n (start_node p) (commit_node p)) (rest less)
-    at rest (inr more) = or_left (start_node n == start_node p && commit_node n == commit_node p) (spans n (start_node p) (commit_node p)) (both_hold (start_node n) (start_node p) (commit_node n) (commit_node p) (omega arith) (omega arith))
+    at rest (inr more) =
+        or_left (start_node n == start_node p && commit_node n == commit_node p) (spans n (start_node p) (commit_node p))
+        (both_hold (start_node n) (start_node p) (commit_node n) (commit_node p) (omega arith) (omega arith))
 
 module _ (h : History) (ns : List ℕ) (once : HoldsEachOnce h ns) (es : List Edge) (exact : (e : Edge) → Contains es e ↔ IsEdge h e)
     (graph : Arrows) (is : IsPlaceGraph ns es graph) where
@@ -89,14 +92,18 @@ module _ (h : History) (ns : List ℕ) (once : HoldsEachOnce h ns) (es : List Ed
       at true kind t =
           let parts = and_parts (start_node (position ns e.from) == a) (commit_node (position ns e.to) == b) t in
           let one : IsArrow h (Start e.from) (Commit e.to) = inr (e, edge, refl, refl, kind) in
-          let p : Start e.from ≡ point_at ns a = ap Start (sym (number_at e.from edge.0)) ∙ sym (point_start ns (position ns e.from)) ∙ ap (point_at ns) (eqb-true (start_node (position ns e.from)) a parts.0) in
-          let q : Commit e.to ≡ point_at ns b = ap Commit (sym (number_at e.to edge.1)) ∙ sym (point_commit ns (position ns e.to)) ∙ ap (point_at ns) (eqb-true (commit_node (position ns e.to)) b parts.1) in
+          let p : Start e.from ≡ point_at ns a =
+          ap Start (sym (number_at e.from edge.0)) ∙ sym (point_start ns (position ns e.from)) ∙ ap (point_at ns) (eqb-true (start_node (position ns e.from)) a parts.0) in
+          let q : Commit e.to ≡ point_at ns b =
+          ap Commit (sym (number_at e.to edge.1)) ∙ sym (point_commit ns (position ns e.to)) ∙ ap (point_at ns) (eqb-true (commit_node (position ns e.to)) b parts.1) in
           subst (λ y. IsArrow h (point_at ns a) y) q (subst (λ x. IsArrow h x (Commit e.to)) p one)
       at false kind t =
           let parts = and_parts (commit_node (position ns e.from) == a) (start_node (position ns e.to) == b) t in
           let one : IsArrow h (Commit e.from) (Start e.to) = (e, edge, refl, refl, ap not kind) in
-          let p : Commit e.from ≡ point_at ns a = ap Commit (sym (number_at e.from edge.0)) ∙ sym (point_commit ns (position ns e.from)) ∙ ap (point_at ns) (eqb-true (commit_node (position ns e.from)) a parts.0) in
-          let q : Start e.to ≡ point_at ns b = ap Start (sym (number_at e.to edge.1)) ∙ sym (point_start ns (position ns e.to)) ∙ ap (point_at ns) (eqb-true (start_node (position ns e.to)) b parts.1) in
+          let p : Commit e.from ≡ point_at ns a =
+          ap Commit (sym (number_at e.from edge.0)) ∙ sym (point_commit ns (position ns e.from)) ∙ ap (point_at ns) (eqb-true (commit_node (position ns e.from)) a parts.0) in
+          let q : Start e.to ≡ point_at ns b =
+          ap Start (sym (number_at e.to edge.1)) ∙ sym (point_start ns (position ns e.to)) ∙ ap (point_at ns) (eqb-true (start_node (position ns e.to)) b parts.1) in
           subst (λ y. IsArrow h (point_at ns a) y) q (subst (λ x. IsArrow h x (Start e.to)) p one)
 
   -- each arrow of the graph is one between points
@@ -116,15 +123,20 @@ module _ (h : History) (ns : List ℕ) (once : HoldsEachOnce h ns) (es : List Ed
   has_it (Start m) (Commit n) (inl (c, same)) =
       subst (λ k. has_arrow graph (start_node (position ns m)) (commit_node (position ns k)) ≡ true) same
       (is.arrows (start_node (position ns m)) (commit_node (position ns m))
-      ∙ or_left (spans (length ns) (start_node (position ns m)) (commit_node (position ns m))) (list_any (leads ns (start_node (position ns m)) (commit_node (position ns m))) es) (spans_has (length ns) (position ns m) (position_within ns m (is_node h ns once m c))))
+      ∙ or_left (spans (length ns) (start_node (position ns m)) (commit_node (position ns m))) (list_any (leads ns (start_node (position ns m)) (commit_node (position ns m))) es)
+      (spans_has (length ns) (position ns m) (position_within ns m (is_node h ns once m c))))
   has_it (Start m) (Commit n) (inr (e, edge, from, to, kind)) =
       led e edge (start_node (position ns m)) (commit_node (position ns n))
-      (ap (λ b. cond b (start_node (position ns e.from) == start_node (position ns m) && commit_node (position ns e.to) == commit_node (position ns n)) (commit_node (position ns e.from) == start_node (position ns m) && start_node (position ns e.to) == commit_node (position ns n))) kind
-      ∙ both_hold (start_node (position ns e.from)) (start_node (position ns m)) (commit_node (position ns e.to)) (commit_node (position ns n)) (ap (λ k. start_node (position ns k)) from) (ap (λ k. commit_node (position ns k)) to))
+      (ap (λ b. cond b (start_node (position ns e.from) == start_node (position ns m) && commit_node (position ns e.to) == commit_node (position ns n))
+      (commit_node (position ns e.from) == start_node (position ns m) && start_node (position ns e.to) == commit_node (position ns n))) kind
+      ∙ both_hold (start_node (position ns e.from)) (start_node (position ns m)) (commit_node (position ns e.to)) (commit_node (position ns n))
+      (ap (λ k. start_node (position ns k)) from) (ap (λ k. commit_node (position ns k)) to))
   has_it (Commit m) (Start n) (e, edge, from, to, kind) =
       led e edge (commit_node (position ns m)) (start_node (position ns n))
-      (ap (λ b. cond b (start_node (position ns e.from) == commit_node (position ns m) && commit_node (position ns e.to) == start_node (position ns n)) (commit_node (position ns e.from) == commit_node (position ns m) && start_node (position ns e.to) == start_node (position ns n))) (not-true (is_anti e.kind) kind)
-      ∙ both_hold (commit_node (position ns e.from)) (commit_node (position ns m)) (start_node (position ns e.to)) (start_node (position ns n)) (ap (λ k. commit_node (position ns k)) from) (ap (λ k. start_node (position ns k)) to))
+      (ap (λ b. cond b (start_node (position ns e.from) == commit_node (position ns m) && commit_node (position ns e.to) == start_node (position ns n))
+      (commit_node (position ns e.from) == commit_node (position ns m) && start_node (position ns e.to) == start_node (position ns n))) (not-true (is_anti e.kind) kind)
+      ∙ both_hold (commit_node (position ns e.from)) (commit_node (position ns m)) (start_node (position ns e.to)) (start_node (position ns n))
+      (ap (λ k. commit_node (position ns k)) from) (ap (λ k. start_node (position ns k)) to))
   has_it (Start m) (Start n) arrow = absurd arrow
   has_it (Commit m) (Commit n) arrow = absurd arrow
 

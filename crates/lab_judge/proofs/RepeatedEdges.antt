@@ -96,7 +96,8 @@ module _ (nodes : List ℕ) (e : Edge) where
   lead_known (Some other) graph there same a b led =
       let parts = and_parts (other.from == e.from && other.to == e.to) (not (differ (is_anti other.kind) (is_anti e.kind))) same in
       let ends = and_parts (other.from == e.from) (other.to == e.to) parts.0 in
-      let way = λ (anti : Bool) (from to : ℕ). cond anti (start_node (position nodes from) == a && commit_node (position nodes to) == b) (commit_node (position nodes from) == a && start_node (position nodes to) == b) in
+      let way = λ (anti : Bool) (from to : ℕ). cond anti (start_node (position nodes from) == a && commit_node (position nodes to) == b)
+      (commit_node (position nodes from) == a && start_node (position nodes to) == b) in
       let is : leads nodes a b other ≡ leads nodes a b e =
       ap (λ anti. way anti other.from other.to) (same_test (is_anti other.kind) (is_anti e.kind) parts.1)
       ∙ (ap (λ n. way (is_anti e.kind) n other.to) (eqb-true other.from e.from ends.0) ∙ ap (λ n. way (is_anti e.kind) e.from n) (eqb-true other.to e.to ends.1)) in

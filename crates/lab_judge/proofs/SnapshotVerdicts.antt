@@ -133,7 +133,8 @@ module _ (h : History) (ns : List ℕ) (once : HoldsEachOnce h ns) (es : List Ed
 
       at : (1 ≤ times x (all_places (map (span_in ns places) ms)) → (n : ℕ) × (1 ≤ times n ms) × ((starts n ≡ x) ⊎ (commits n ≡ x)))
           → (s c : Bool) → (starts m == x) ≡ s → (commits m == x) ≡ c
-          → 1 ≤ cond s (1 + cond c (1 + times x (all_places (map (span_in ns places) ms))) (times x (all_places (map (span_in ns places) ms)))) (cond c (1 + times x (all_places (map (span_in ns places) ms))) (times x (all_places (map (span_in ns places) ms))))
+          → 1 ≤ cond s (1 + cond c (1 + times x (all_places (map (span_in ns places) ms))) (times x (all_places (map (span_in ns places) ms))))
+          (cond c (1 + times x (all_places (map (span_in ns places) ms))) (times x (all_places (map (span_in ns places) ms))))
           → (n : ℕ) × (1 ≤ times n (m ∷ ms)) × ((starts n ≡ x) ⊎ (commits n ≡ x))
       at rest true c es ec h = (m, mine, inl (eqb-true (starts m) x es))
       at rest false true es ec h = (m, mine, inr (eqb-true (commits m) x ec))
@@ -173,7 +174,8 @@ module _ (h : History) (ns : List ℕ) (once : HoldsEachOnce h ns) (es : List Ed
       of_commit e n h (inr c) = other n h (commits_apart n m (below n h) hm (c ∙ sym e))
 
       at : times x (all_places (map (span_in ns places) ms)) ≤ 1 → (s c : Bool) → (starts m == x) ≡ s → (commits m == x) ≡ c
-          → cond s (1 + cond c (1 + times x (all_places (map (span_in ns places) ms))) (times x (all_places (map (span_in ns places) ms)))) (cond c (1 + times x (all_places (map (span_in ns places) ms))) (times x (all_places (map (span_in ns places) ms)))) ≤ 1
+          → cond s (1 + cond c (1 + times x (all_places (map (span_in ns places) ms))) (times x (all_places (map (span_in ns places) ms))))
+          (cond c (1 + times x (all_places (map (span_in ns places) ms))) (times x (all_places (map (span_in ns places) ms)))) ≤ 1
       at rest true true es ec = absurd (never m m hm hm (eqb-true (starts m) x es ∙ sym (eqb-true (commits m) x ec)))
       at rest true false es ec = let none = no_more (of_start (eqb-true (starts m) x es)) in omega (arith, none)
       at rest false true es ec = let none = no_more (of_commit (eqb-true (commits m) x ec)) in omega (arith, none)
@@ -183,7 +185,8 @@ module _ (h : History) (ns : List ℕ) (once : HoldsEachOnce h ns) (es : List Ed
   apart x = subst (λ k. k ≤ 1) (times_count x (all_places (map (span_in ns places) ns))) (distinct ns (orders.at_most h ns once) (contains_it ns) x)
 
   -- the spans rest on their law
-  pub rests : IsSound h → (made : List Span) → made ≡ map (span_in ns places) ns → IsSound h × HoldsEachOnce h (map (λ s. s.txn) made) × ((x : ℕ) → count_by (λ p. p == x) (all_places made) ≤ 1) × IsForwardPlacing h made
+  pub rests : IsSound h → (made : List Span) → made ≡ map (span_in ns places) ns
+      → IsSound h × HoldsEachOnce h (map (λ s. s.txn) made) × ((x : ℕ) → count_by (λ p. p == x) (all_places made) ≤ 1) × IsForwardPlacing h made
   rests sound made same =
       subst (λ l. IsSound h × HoldsEachOnce h (map (λ s. s.txn) l) × ((x : ℕ) → count_by (λ p. p == x) (all_places l) ≤ 1) × IsForwardPlacing h l) (sym same) (sound, each_once, apart, forward)
 

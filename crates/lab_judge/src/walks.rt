@@ -55,7 +55,8 @@ pub(crate) fn walk_along(
     requires ends { All (HasEnds nodes.now) edges.now }
     requires order { IsInOrder edges.now }
     requires way { LeadsAlong allowed nodes.now edges.now from way.now }
-    ensures walk { IfOk result (λ walk. (h : History) → ((e : Spelled) → Contains edges.now e → IsEdge h e) → IsWalk h (slice_index nodes.now from) walk.items (slice_index nodes.now (last_of from way.now))) }
+    ensures walk { IfOk result (λ walk. (h : History) → ((e : Spelled) → Contains edges.now e → IsEdge h e)
+        → IsWalk h (slice_index nodes.now from) walk.items (slice_index nodes.now (last_of from way.now))) }
     ensures allowed { IfOk result (λ walk. count_others allowed walk.items ≡ 0) }
     ensures length { IfOk result (λ walk. length walk.items ≡ length way.now) }
 {

@@ -75,7 +75,16 @@ insert_prints id value small little =
 
 -- each statement of G0
 g0_print : AllPrint g0_lines
-g0_print = (tt, (tt, (update_prints 1 11 (omega arith) (omega arith), (update_prints 1 12 (omega arith) (omega arith), (update_prints 2 21 (omega arith) (omega arith), (tt, (update_prints 2 22 (omega arith) (omega arith), (tt, tt))))))))
+g0_print = (
+  tt,
+  (
+    tt,
+    (
+      update_prints 1 11 (omega arith) (omega arith),
+      (update_prints 1 12 (omega arith) (omega arith), (update_prints 2 21 (omega arith) (omega arith), (tt, (update_prints 2 22 (omega arith) (omega arith), (tt, tt))))),
+    ),
+  ),
+)
 
 -- each statement of G1a
 g1a_print : AllPrint g1a_lines
@@ -87,11 +96,39 @@ g1b_print = (tt, (tt, (update_prints 1 101 (omega arith) (omega arith), (all_pri
 
 -- each statement of G1c
 g1c_print : AllPrint g1c_lines
-g1c_print = (tt, (tt, (update_prints 1 11 (omega arith) (omega arith), (update_prints 2 22 (omega arith) (omega arith), (equal_prints Id 2 (omega arith), (equal_prints Id 1 (omega arith), (tt, (tt, tt))))))))
+g1c_print =
+    (tt, (tt, (update_prints 1 11 (omega arith) (omega arith), (update_prints 2 22 (omega arith) (omega arith), (equal_prints Id 2 (omega arith), (equal_prints Id 1 (omega arith), (tt, (tt, tt))))))))
 
 -- each statement of OTV
 otv_print : AllPrint otv_lines
-otv_print = (tt, (tt, (tt, (update_prints 1 11 (omega arith) (omega arith), (update_prints 2 19 (omega arith) (omega arith), (update_prints 1 12 (omega arith) (omega arith), (tt, (equal_prints Id 1 (omega arith), (update_prints 2 18 (omega arith) (omega arith), (equal_prints Id 2 (omega arith), (tt, (equal_prints Id 2 (omega arith), (equal_prints Id 1 (omega arith), (tt, tt))))))))))))))
+otv_print = (
+  tt,
+  (
+    tt,
+    (
+      tt,
+      (
+        update_prints 1 11 (omega arith) (omega arith),
+        (
+          update_prints 2 19 (omega arith) (omega arith),
+          (
+            update_prints 1 12 (omega arith) (omega arith),
+            (
+              tt,
+              (
+                equal_prints Id 1 (omega arith),
+                (
+                  update_prints 2 18 (omega arith) (omega arith),
+                  (equal_prints Id 2 (omega arith), (tt, (equal_prints Id 2 (omega arith), (equal_prints Id 1 (omega arith), (tt, tt))))),
+                ),
+              ),
+            ),
+          ),
+        ),
+      ),
+    ),
+  ),
+)
 
 -- each statement of PMP
 pmp_print : AllPrint pmp_lines
@@ -99,11 +136,24 @@ pmp_print = (tt, (tt, (equal_prints Column 30 (omega arith), (insert_prints 3 30
 
 -- each statement of P4
 p4_print : AllPrint p4_lines
-p4_print = (tt, (tt, (equal_prints Id 1 (omega arith), (equal_prints Id 1 (omega arith), (update_prints 1 11 (omega arith) (omega arith), (update_prints 1 11 (omega arith) (omega arith), (tt, (tt, tt))))))))
+p4_print =
+    (tt, (tt, (equal_prints Id 1 (omega arith), (equal_prints Id 1 (omega arith), (update_prints 1 11 (omega arith) (omega arith), (update_prints 1 11 (omega arith) (omega arith), (tt, (tt, tt))))))))
 
 -- each statement of GSingle
 g_single_print : AllPrint g_single_lines
-g_single_print = (tt, (tt, (equal_prints Id 1 (omega arith), (equal_prints Id 1 (omega arith), (equal_prints Id 2 (omega arith), (update_prints 1 12 (omega arith) (omega arith), (update_prints 2 18 (omega arith) (omega arith), (tt, (equal_prints Id 2 (omega arith), (tt, tt))))))))))
+g_single_print = (
+  tt,
+  (
+    tt,
+    (
+      equal_prints Id 1 (omega arith),
+      (
+        equal_prints Id 1 (omega arith),
+        (equal_prints Id 2 (omega arith), (update_prints 1 12 (omega arith) (omega arith), (update_prints 2 18 (omega arith) (omega arith), (tt, (equal_prints Id 2 (omega arith), (tt, tt)))))),
+      ),
+    ),
+  ),
+)
 
 -- each statement of G2Item
 g2_item_print : AllPrint g2_item_lines
@@ -111,7 +161,19 @@ g2_item_print = (tt, (tt, (two_print, (two_print, (update_prints 1 11 (omega ari
 
 -- each statement of G2
 g2_print : AllPrint g2_lines
-g2_print = (tt, (tt, (rest_prints 3 0 (omega arith) (omega arith), (rest_prints 3 0 (omega arith) (omega arith), (insert_prints 3 30 (omega arith) (omega arith), (insert_prints 4 42 (omega arith) (omega arith), (tt, (tt, tt))))))))
+g2_print = (
+  tt,
+  (
+    tt,
+    (
+      rest_prints 3 0 (omega arith) (omega arith),
+      (
+        rest_prints 3 0 (omega arith) (omega arith),
+        (insert_prints 3 30 (omega arith) (omega arith), (insert_prints 4 42 (omega arith) (omega arith), (tt, (tt, tt)))),
+      ),
+    ),
+  ),
+)
 
 -- the line of the usual setup is short
 setup_short : length (printed_setup usual_setup) ≤ 4000

@@ -21,14 +21,17 @@ module _ (graph : Arrows) (old : List (List ℕ)) (node : ℕ) (noted : (from to
           let same : node ≡ to = eqb-true node to q in
           let a : how_often (after new from) to ≡ how_often (after old from) to + cond (node == to) (how_often row from) 0 = grew from to in
           let b : how_often (after old from) to ≡ 0 = noted from to ∙ ap (λ k. cond k (how_often (before graph to) from) 0) (le-ltb to node (omega arith)) in
-          let c : cond (node == to) (how_often row from) 0 ≡ how_often (before graph to) from = ap (λ k. cond k (how_often row from) 0) q ∙ ap (λ ns. how_often ns from) is ∙ ap (λ k. how_often (before graph k) from) same in
-          let d : cond (nat_lt to (node + 1)) (how_often (before graph to) from) 0 ≡ how_often (before graph to) from = ap (λ k. cond k (how_often (before graph to) from) 0) (lt-ltb to (node + 1) (omega arith)) in
+          let c : cond (node == to) (how_often row from) 0 ≡ how_often (before graph to) from =
+          ap (λ k. cond k (how_often row from) 0) q ∙ ap (λ ns. how_often ns from) is ∙ ap (λ k. how_often (before graph k) from) same in
+          let d : cond (nat_lt to (node + 1)) (how_often (before graph to) from) 0 ≡ how_often (before graph to) from =
+          ap (λ k. cond k (how_often (before graph to) from) 0) (lt-ltb to (node + 1) (omega arith)) in
           omega arith
       at false q (inl lt) =
           let a : how_often (after new from) to ≡ how_often (after old from) to + cond (node == to) (how_often row from) 0 = grew from to in
           let b : how_often (after old from) to ≡ how_often (before graph to) from = noted from to ∙ ap (λ k. cond k (how_often (before graph to) from) 0) (lt-ltb to node lt) in
           let c : cond (node == to) (how_often row from) 0 ≡ 0 = ap (λ k. cond k (how_often row from) 0) q in
-          let d : cond (nat_lt to (node + 1)) (how_often (before graph to) from) 0 ≡ how_often (before graph to) from = ap (λ k. cond k (how_often (before graph to) from) 0) (lt-ltb to (node + 1) (omega arith)) in
+          let d : cond (nat_lt to (node + 1)) (how_often (before graph to) from) 0 ≡ how_often (before graph to) from =
+          ap (λ k. cond k (how_often (before graph to) from) 0) (lt-ltb to (node + 1) (omega arith)) in
           omega arith
       at false q (inr le) =
           let other : node ≡ to → ⊥ = eqb-false node to q in

@@ -50,7 +50,8 @@ module _ (fault : PrintFault) where
   too_long s true is e = let same : TooLong ≡ fault = cc in subst (λ (f : PrintFault). Breaks f (Run s)) same (ltb-true 1000 (length (printed_statement s)) is)
   too_long s false is e = absurd (none-some fault e)
 
-  too_deep : (s : Statement) (b : Bool) → nat_lt 16 (statement_depth s) ≡ b → cond b (Some TooDeep) (cond (nat_lt 1000 (length (printed_statement s))) (Some TooLong) None) ≡ Some fault → Breaks fault (Run s)
+  too_deep : (s : Statement) (b : Bool) → nat_lt 16 (statement_depth s) ≡ b
+      → cond b (Some TooDeep) (cond (nat_lt 1000 (length (printed_statement s))) (Some TooLong) None) ≡ Some fault → Breaks fault (Run s)
   too_deep s true is e = let same : TooDeep ≡ fault = cc in subst (λ (f : PrintFault). Breaks f (Run s)) same (ltb-true 16 (statement_depth s) is)
   too_deep s false is e = too_long s (nat_lt 1000 (length (printed_statement s))) refl e
 
@@ -107,7 +108,8 @@ module _ (fault : PrintFault) where
   any_shown inside table [] h = absurd h
   any_shown inside table (line ∷ lines) h =
       let after : ℕ → Bool = inside_after inside line.session line.command in
-      elim (is_begin line.command && not (inside line.session)) as (λ b. AnyBreaks (shown table (cond b (whole_of line.session lines ∷ []) [] ++ transactions after lines)) → SomeBreaks (line ∷ lines)) [
+      elim (is_begin line.command && not (inside line.session)) as
+      (λ b. AnyBreaks (shown table (cond b (whole_of line.session lines ∷ []) [] ++ transactions after lines)) → SomeBreaks (line ∷ lines)) [
         | true ↦ λ own. elim (any_append (shown_of table (statements_of line.session lines)) (shown (table_after table (whole_of line.session lines)) (transactions after lines)) own) [
           | inl first ↦ later line lines (any_of line.session lines (any_shown_of table (statements_of line.session lines) first))
           | inr others ↦ later line lines (any_shown after (table_after table (whole_of line.session lines)) lines others)

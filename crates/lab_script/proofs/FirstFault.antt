@@ -19,8 +19,9 @@ use Rattle.lab_script.specs.Fault as wrong
 use Rattle.lab_script.specs.Fault.{SpellsNothing, LacksSession, SaysOfTokens, IsWrong, IsFaultyLine, IsWithoutSetup, IsFaultOf, IsLineFault}
 use Rattle.lab_script.proofs.ReadCommands.{no_setup}
 use Rattle.lab_script.proofs.ReadSetup.{setup_begins}
-use Rattle.lab_script.proofs.ScriptLines.{some_is, fit_of, lines_once, lines_join, lines_front, IsFew, line_few}
+use Rattle.lab_script.proofs.ScriptLines.{fit_of, lines_once, lines_join, lines_front, IsFew, line_few}
 use Rattle.lab_table.proofs.Tests.{slice_get-middle}
+use Rattle.lab_script.proofs.Same.{some_is}
 
 -- the lines so far, of which there are so many, spell nothing yet or a script, and these are left
 pub record IsReadTo (text : List ℕ) (number : ℕ) (rest : List (List ℕ)) (script : Option Script) : Type 0 where
@@ -153,7 +154,7 @@ end_fault {text} {number} read =
 -- what reading a text gave is the script that it spells, or there was no memory
 pub only_read : (text : List ℕ) (result : Result Script ScriptFault) → MatchResult result (λ r. Spells text r) (IsFaultOf text)
     → (s : Script) → Spells text s → MatchResult result (λ r. r ≡ s) (λ f. f ≡ fault.NoMemory)
-only_read text (Ok r) is s spells = some_is (lines_once 1 None (lines text) is spells)
+only_read text (Ok r) is s spells = some_is _ _ (lines_once 1 None (lines text) is spells)
 only_read text (Err fault.NoMemory) is s spells = refl
 only_read text (Err (fault.At number kind)) is s spells = absurd (fault_spells_nothing text number kind s is spells)
 

@@ -9,8 +9,7 @@ use Rattle.lab_script.specs.Grammar.{Kind, P, A, N, IsAtom, IsPred, IsWhere, IsS
 use Rattle.lab_script.specs.Grammar as grammar
 use Rattle.lab_script.specs.Printed.{is_and, is_or}
 use Rattle.lab_script.specs.Depth.{deeper, depth_of, where_depth, statement_depth}
-use Rattle.lab_script.specs.Limits.{StatementPrints, CommandPrints}
-use Rattle.lab_script.specs.Grammar.{IsWholeStatement}
+use Rattle.lab_script.specs.Limits.{CommandPrints}
 
 -- how deep a predicate of a kind is where it stands as such
 abbrev depth_as : Kind → Predicate → ℕ
@@ -80,7 +79,3 @@ pub commands_print : {ts : List Token} {cs : List Command} → IsCommands ts cs 
 commands_print (grammar.one h) = command_prints h
 commands_print (grammar.closed h) = command_prints h
 commands_print (grammar.more {cs} {ds} h hs) = both_print cs ds (command_prints h) (commands_print hs)
-
--- one statement prints
-pub statement_prints : {ts : List Token} {s : Statement} → IsWholeStatement ts s → StatementPrints s
-statement_prints h = record { shallow = statement_shallow h.parts.3; short = h.printed }

@@ -23,7 +23,8 @@ known_kept (token.Digits n) is = let small : n ≤ 1000000000 = leb-true n 10000
 known_kept t is = refl
 
 held_kept : (t : Token) → is_known (held t) ≡ true → held t ≡ t
-held_kept (token.Digits n) is = let small : min n 1000000001 ≤ 1000000000 = leb-true (min n 1000000001) 1000000000 is in let same : min n 1000000001 ≡ n = omega arith in ap (λ (k : ℕ). token.Digits k) same
+held_kept (token.Digits n) is =
+    let small : min n 1000000001 ≤ 1000000000 = leb-true (min n 1000000001) 1000000000 is in let same : min n 1000000001 ≡ n = omega arith in ap (λ (k : ℕ). token.Digits k) same
 held_kept t is = refl
 
 -- and so are such tokens

@@ -67,7 +67,8 @@ cmp_known cmp.Ge = refl
 atom_known : {ts : List Token} {p : Predicate} → IsAtom ts p → AllKnown ts
 atom_known (grammar.compare {ts = ts} c m is) = one (col_token c) (cmp_token m ∷ ts) (col_known c) (one (cmp_token m) ts (cmp_known m) (number_known is))
 atom_known (grammar.one_of {ts = ts} c is) = one (col_token c) (token.Word word.In ∷ token.Open ∷ ts ++ token.Close ∷ []) (col_known c) (both ts (token.Close ∷ []) (number_list_known is) refl)
-atom_known (grammar.remainder {ms = ms} {rs = rs} c is low high rest) = one (col_token c) (token.Percent ∷ ms ++ token.Equal ∷ rs) (col_known c) (both ms (token.Equal ∷ rs) (number_known is) (number_known rest))
+atom_known (grammar.remainder {ms = ms} {rs = rs} c is low high rest) =
+    one (col_token c) (token.Percent ∷ ms ++ token.Equal ∷ rs) (col_known c) (both ms (token.Equal ∷ rs) (number_known is) (number_known rest))
 
 pred_known : {d : ℕ} {k : Kind} {ts : List Token} {p : Predicate} → IsPred d k ts p → AllKnown ts
 pred_known (grammar.atom is) = atom_known is

@@ -1,6 +1,6 @@
 -- The length of the printed form is the sum of its parts.
-use Rattle.std.proofs.Common.{◌≡◌, ℕ, ℤ, ◌+◌, ◌≤◌, Bool, true, false, List, [], ◌∷◌, ◌++◌, Option, Some, None, length, length-append, refl, ap, ◌∙◌, arith}
-use Rattle.std.specs.Prelude.{◌||◌, ◌↔◌, IsTrue, is_some, codes}
+use Rattle.std.proofs.Common.{◌≡◌, ℕ, ℤ, ◌+◌, Bool, true, false, List, [], ◌∷◌, ◌++◌, Option, Some, None, length, length-append, refl, ap, ◌∙◌, arith}
+use Rattle.std.specs.Prelude.{◌||◌, codes}
 use Rattle.std.specs.Fmt.{signed_decimal}
 use Rattle.lab_table.specs.Row.{Row}
 use Rattle.lab_table.specs.Predicate.{Predicate}
@@ -14,7 +14,7 @@ use Rattle.lab_table.specs.declared.statement.Expr.TheVariants as expr
 use Rattle.lab_table.specs.declared.statement.Statement.{Statement}
 use Rattle.lab_table.specs.declared.statement.Statement.TheVariants as statement
 use Rattle.lab_script.specs.Printed.{printed_col, printed_cmp, joined, printed_numbers, parenthesized, is_or, is_and, printed_pred, printed_where, printed_expr, printed_row, printed_rows, printed_statement, rows_or}
-use Rattle.lab_script.specs.Length.{parentheses_length, col_length, cmp_length, more_numbers_length, numbers_length, pred_length, where_length, expr_length, row_length, statement_length, more_rows_length, setup_length, Leaves}
+use Rattle.lab_script.specs.Length.{parentheses_length, col_length, cmp_length, more_numbers_length, numbers_length, pred_length, where_length, expr_length, row_length, statement_length, more_rows_length, setup_length}
 use Rattle.lab_script.proofs.Joined.{followed, joined_is}
 
 length_parenthesized : (b : Bool) (text : List ℕ) → length (parenthesized b text) ≡ parentheses_length b + length text
@@ -46,7 +46,8 @@ length_pred (predicate.Compare c m n) = omega (arith, length-append {A = ℕ}, l
 length_pred (predicate.Remainder c m r) = omega (arith, length-append {A = ℕ}, length_col c)
 length_pred (predicate.OneOf c ns) = omega (arith, length-append {A = ℕ}, length_col c, length_numbers ns)
 length_pred (predicate.Not p) = omega (arith, length-append {A = ℕ}, length_parenthesized (is_and p || is_or p) (printed_pred p), length_pred p)
-length_pred (predicate.And p q) = omega (arith, length-append {A = ℕ}, length_parenthesized (is_or p) (printed_pred p), length_parenthesized (is_and q || is_or q) (printed_pred q), length_pred p, length_pred q)
+length_pred (predicate.And p q) =
+    omega (arith, length-append {A = ℕ}, length_parenthesized (is_or p) (printed_pred p), length_parenthesized (is_and q || is_or q) (printed_pred q), length_pred p, length_pred q)
 length_pred (predicate.Or p q) = omega (arith, length-append {A = ℕ}, length_parenthesized (is_or q) (printed_pred q), length_pred p, length_pred q)
 
 length_where : (p : Option Predicate) → length (printed_where p) ≡ where_length p
@@ -72,13 +73,9 @@ more_rows [] = refl
 more_rows (row ∷ rows) = omega (arith, length-append (printed_row row.0 row.1) (followed (printed_rows rows)), length_row row.0 row.1, more_rows rows)
 
 length_rows : (row : Row × ℤ) (rows : List (Row × ℤ)) → length (joined (printed_rows (row ∷ rows))) ≡ row_length row.0 row.1 + more_rows_length rows
-length_rows row rows = ap length (joined_is (printed_row row.0 row.1) (printed_rows rows)) ∙ omega (arith, length-append (printed_row row.0 row.1) (followed (printed_rows rows)), length_row row.0 row.1, more_rows rows)
+length_rows row rows =
+    ap length (joined_is (printed_row row.0 row.1) (printed_rows rows)) ∙ omega (arith, length-append (printed_row row.0 row.1) (followed (printed_rows rows)), length_row row.0 row.1, more_rows rows)
 
 pub length_setup : (rows : List (Row × ℤ)) → length (codes "setup " ++ rows_or (codes "()") rows ++ codes ";") ≡ setup_length rows
 length_setup [] = refl
 length_setup (row ∷ rows) = omega (arith, length-append (rows_or (codes "()") (row ∷ rows)) (codes ";"), length_rows row rows)
-
--- something is left of a room exactly where the text fits in it
-pub fits_is : (limit bytes : ℕ) (text : List ℕ) (room : Option ℕ) (answer : Bool) → length text ≡ bytes → Leaves limit bytes room → answer ≡ is_some room → IsTrue answer ↔ (length text ≤ limit)
-fits_is limit bytes text None answer long h is = ((λ e. absurd cc), (λ le. absurd (omega arith)))
-fits_is limit bytes text (Some n) answer long h is = ((λ e. omega arith), (λ le. is))

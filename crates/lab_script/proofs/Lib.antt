@@ -10,10 +10,13 @@ pub mod Appended
 pub mod ReadRows
 pub mod SetupLoop
 pub mod DistinctRows
+pub mod SetupAgain
 pub mod ReadSetup
+pub mod AtomParts
 pub mod ReadAtoms
 pub mod ReadPredicates
 pub mod ReadStatements
+pub mod OneCommand
 pub mod ReadCommands
 pub mod GrammarPrints
 pub mod Remarks
@@ -24,6 +27,7 @@ pub mod KnownTokens
 pub mod HeldTokens
 pub mod StatementText
 pub mod FirstFault
+pub mod CutTexts
 pub mod LongTexts
 pub mod SpelledPrints
 pub mod StatementLines

@@ -6,9 +6,7 @@ use Rattle.lab_script.specs.declared.stop.Stop.{Stop}
 use Rattle.lab_script.specs.declared.stop.Stop.TheVariants as stop
 use Rattle.lab_script.specs.Reading.{Fails, after, more_of}
 use Rattle.lab_script.specs.ReadingPredicates.{joined_of}
-
-abbrev one : {A : Type 0} → A → Option A
-one a = Some a
+use Rattle.lab_script.proofs.Same.{some}
 
 abbrev pub Reader : Type 0 → Type 0
 Reader X = List Token → Option (X × List Token)
@@ -29,7 +27,7 @@ module _ {A X : Type 0} (member : Reader X) (connective : Token) (join : A → X
 
   -- the same, where the joined value has a name
   pub goes_on_to : (k : ℕ) (a : A) (x : X) (b : A) (ts rest behind : List Token) (total : Option (A × List Token)) → length ts ≤ k → more_of k member connective join a ts ≡ total
-      → after connective ts ≡ Some rest → length rest < length ts → member rest ≡ Some (x, behind) → length behind ≤ length rest → one (join a x) ≡ one b
+      → after connective ts ≡ Some rest → length rest < length ts → member rest ≡ Some (x, behind) → length behind ≤ length rest → some (join a x) ≡ some b
       → (j : ℕ) × (length behind ≤ j) × (more_of j member connective join b behind ≡ total)
   goes_on_to k a x b ts rest behind total le so_far took lt read shorter made =
       let same : join a x ≡ b = cc in

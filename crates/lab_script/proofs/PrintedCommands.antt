@@ -120,10 +120,12 @@ line_fit number line r p le = record {
 -- all of a line is printed
 pub line_ascii : (line : Line) → list_all is_code_byte (line_text line) ≡ true
 line_ascii line =
-    append_ascii (printed_command line.command ++ codes "; -- T") (decimal line.session) (append_ascii (printed_command line.command) (codes "; -- T") (command_plain line.command).ascii refl) (decimal_plain line.session).ascii
+    append_ascii (printed_command line.command ++ codes "; -- T") (decimal line.session)
+    (append_ascii (printed_command line.command) (codes "; -- T") (command_plain line.command).ascii refl) (decimal_plain line.session).ascii
 
 -- a printed line gives its command
 pub line_spells : (number : ℕ) (line : Line) (before : Script) → SessionInRange line.session → CommandInRange line.command → CommandPrints line.command → number ≤ 2000 → length before.lines + 1 ≤ 1999
     → LineSpells number (line_text line) (Some before) (Some (extended before line.session number (line.command ∷ [])))
 line_spells number line before r h p le few =
-    script.commands before (line_fit number line r p le) (subst (λ (ts : List Token). IsCommands ts (line.command ∷ [])) (sym (line_tokens line h)) (grammar.closed (command_fits line.command h p))) (line_session line r) few
+    script.commands before (line_fit number line r p le) (subst (λ (ts : List Token). IsCommands ts (line.command ∷ [])) (sym (line_tokens line h))
+    (grammar.closed (command_fits line.command h p))) (line_session line r) few

@@ -109,7 +109,8 @@ pub list_reads : (zs : List ℤ) → All ValueInRange zs → Reads (joined (prin
 list_reads [] r = empty_reads
 list_reads (z ∷ []) r = number_reads z (All-head ValueInRange z [] r)
 list_reads (z ∷ y ∷ zs) r =
-    reads_between (signed_decimal z) (codes ", ") (joined (printed_numbers (y ∷ zs))) (number_tokens z) (token.Comma ∷ []) (list_tokens (y ∷ zs)) (number_reads z (All-head ValueInRange z (y ∷ zs) r)) (λ rest. refl) comma_leads (list_reads (y ∷ zs) (All-tail ValueInRange z (y ∷ zs) r))
+    reads_between (signed_decimal z) (codes ", ") (joined (printed_numbers (y ∷ zs))) (number_tokens z) (token.Comma ∷ []) (list_tokens (y ∷ zs))
+    (number_reads z (All-head ValueInRange z (y ∷ zs) r)) (λ rest. refl) comma_leads (list_reads (y ∷ zs) (All-tail ValueInRange z (y ∷ zs) r))
 
 -- the tokens of one number or more are in the grammar
 numbers_fit : (z : ℤ) (zs : List ℤ) → All ValueInRange (z ∷ zs) → IsNumbers (list_tokens (z ∷ zs)) (z ∷ zs)

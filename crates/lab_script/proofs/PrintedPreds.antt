@@ -90,24 +90,28 @@ remainder_reads c m r h =
 one_of_reads : (c : Col) (zs : List ℤ) → PredInRange (predicate.OneOf c zs) → Reads (printed_pred (predicate.OneOf c zs)) (atom_tokens (predicate.OneOf c zs))
 one_of_reads c zs h =
     leads_reads _ _ (cut_leads (printed_col c ++ codes " in (" ++ joined (printed_numbers zs)) (codes ")") (col_token c ∷ token.Word word.In ∷ token.Open ∷ list_tokens zs) (token.Close ∷ [])
-    (reads_between (printed_col c) (codes " in (") (joined (printed_numbers zs)) (col_token c ∷ []) (token.Word word.In ∷ token.Open ∷ []) (list_tokens zs) (col_reads c) (λ rest. refl) in_leads (list_reads zs h))
+    (reads_between (printed_col c) (codes " in (") (joined (printed_numbers zs)) (col_token c ∷ []) (token.Word word.In ∷ token.Open ∷ []) (list_tokens zs) (col_reads c)
+    (λ rest. refl) in_leads (list_reads zs h))
     (λ rest. refl) close_leads)
 
 -- a text in parentheses, where the test is true, has its tokens
 wrapped_reads : (b : Bool) (text : List ℕ) (ts : List Token) → Reads text ts → Reads (parenthesized b text) (wrapped b ts)
-wrapped_reads true text ts r = leads_reads _ _ (cut_leads (codes "(" ++ text) (codes ")") (token.Open ∷ ts) (token.Close ∷ []) (leads_then (codes "(") text (token.Open ∷ []) ts open_leads r) (λ rest. refl) close_leads)
+wrapped_reads true text ts r =
+    leads_reads _ _ (cut_leads (codes "(" ++ text) (codes ")") (token.Open ∷ ts) (token.Close ∷ []) (leads_then (codes "(") text (token.Open ∷ []) ts open_leads r) (λ rest. refl) close_leads)
 wrapped_reads false text ts r = r
 
 -- a printed predicate has its tokens
 pub pred_reads : (p : Predicate) → PredInRange p → Reads (printed_pred p) (pred_tokens p)
-pred_reads (predicate.Compare c m z) h = reads_between (printed_col c) (printed_cmp m) (signed_decimal z) (col_token c ∷ []) (cmp_token m ∷ []) (number_tokens z) (col_reads c) (cmp_cuts m) (cmp_leads m) (number_reads z h)
+pred_reads (predicate.Compare c m z) h =
+    reads_between (printed_col c) (printed_cmp m) (signed_decimal z) (col_token c ∷ []) (cmp_token m ∷ []) (number_tokens z) (col_reads c) (cmp_cuts m) (cmp_leads m) (number_reads z h)
 pred_reads (predicate.Remainder c m r) h = remainder_reads c m r h
 pred_reads (predicate.OneOf c zs) h = one_of_reads c zs h
 pred_reads (predicate.Not p) h =
     leads_then (codes "not ") (parenthesized (is_and p || is_or p) (printed_pred p)) (token.Word word.Not ∷ []) (wrapped (is_and p || is_or p) (pred_tokens p)) not_leads
     (wrapped_reads (is_and p || is_or p) (printed_pred p) (pred_tokens p) (pred_reads p h))
 pred_reads (predicate.And p q) h =
-    reads_between (parenthesized (is_or p) (printed_pred p)) (codes " and ") (parenthesized (is_and q || is_or q) (printed_pred q)) (wrapped (is_or p) (pred_tokens p)) (token.Word word.And ∷ []) (wrapped (is_and q || is_or q) (pred_tokens q))
+    reads_between (parenthesized (is_or p) (printed_pred p)) (codes " and ") (parenthesized (is_and q || is_or q) (printed_pred q)) (wrapped (is_or p) (pred_tokens p))
+    (token.Word word.And ∷ []) (wrapped (is_and q || is_or q) (pred_tokens q))
     (wrapped_reads (is_or p) (printed_pred p) (pred_tokens p) (pred_reads p h.0)) (λ rest. refl) and_leads (wrapped_reads (is_and q || is_or q) (printed_pred q) (pred_tokens q) (pred_reads q h.1))
 pred_reads (predicate.Or p q) h =
     reads_between (printed_pred p) (codes " or ") (parenthesized (is_or q) (printed_pred q)) (pred_tokens p) (token.Word word.Or ∷ []) (wrapped (is_or q) (pred_tokens q))
@@ -149,10 +153,15 @@ wrapped_plain false text p = p
 pub pred_plain : (p : Predicate) → Plain (printed_pred p)
 pred_plain (predicate.Compare c m z) = plain_between (printed_col c) (printed_cmp m) (signed_decimal z) (col_plain c) (cmp_plain m) (signed_plain z)
 pred_plain (predicate.Remainder c m r) =
-    plain_between (printed_col c ++ codes " % " ++ decimal m) (codes " = ") (signed_decimal r) (plain_between (printed_col c) (codes " % ") (decimal m) (col_plain c) (all_plain (codes " % ") refl) (decimal_plain m)) (all_plain (codes " = ") refl) (signed_plain r)
+    plain_between (printed_col c ++ codes " % " ++ decimal m) (codes " = ") (signed_decimal r)
+    (plain_between (printed_col c) (codes " % ") (decimal m) (col_plain c) (all_plain (codes " % ") refl) (decimal_plain m)) (all_plain (codes " = ") refl) (signed_plain r)
 pred_plain (predicate.OneOf c zs) =
-    append_plain (printed_col c ++ codes " in (" ++ joined (printed_numbers zs)) (codes ")") (plain_between (printed_col c) (codes " in (") (joined (printed_numbers zs)) (col_plain c) (all_plain (codes " in (") refl) (list_plain zs)) (all_plain (codes ")") refl)
-pred_plain (predicate.Not p) = append_plain (codes "not ") (parenthesized (is_and p || is_or p) (printed_pred p)) (all_plain (codes "not ") refl) (wrapped_plain (is_and p || is_or p) (printed_pred p) (pred_plain p))
+    append_plain (printed_col c ++ codes " in (" ++ joined (printed_numbers zs)) (codes ")")
+    (plain_between (printed_col c) (codes " in (") (joined (printed_numbers zs)) (col_plain c) (all_plain (codes " in (") refl) (list_plain zs)) (all_plain (codes ")") refl)
+pred_plain (predicate.Not p) =
+    append_plain (codes "not ") (parenthesized (is_and p || is_or p) (printed_pred p)) (all_plain (codes "not ") refl) (wrapped_plain (is_and p || is_or p) (printed_pred p) (pred_plain p))
 pred_plain (predicate.And p q) =
-    plain_between (parenthesized (is_or p) (printed_pred p)) (codes " and ") (parenthesized (is_and q || is_or q) (printed_pred q)) (wrapped_plain (is_or p) (printed_pred p) (pred_plain p)) (all_plain (codes " and ") refl) (wrapped_plain (is_and q || is_or q) (printed_pred q) (pred_plain q))
-pred_plain (predicate.Or p q) = plain_between (printed_pred p) (codes " or ") (parenthesized (is_or q) (printed_pred q)) (pred_plain p) (all_plain (codes " or ") refl) (wrapped_plain (is_or q) (printed_pred q) (pred_plain q))
+    plain_between (parenthesized (is_or p) (printed_pred p)) (codes " and ") (parenthesized (is_and q || is_or q) (printed_pred q))
+    (wrapped_plain (is_or p) (printed_pred p) (pred_plain p)) (all_plain (codes " and ") refl) (wrapped_plain (is_and q || is_or q) (printed_pred q) (pred_plain q))
+pred_plain (predicate.Or p q) =
+    plain_between (printed_pred p) (codes " or ") (parenthesized (is_or q) (printed_pred q)) (pred_plain p) (all_plain (codes " or ") refl) (wrapped_plain (is_or q) (printed_pred q) (pred_plain q))

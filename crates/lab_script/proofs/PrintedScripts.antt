@@ -1,5 +1,5 @@
 -- A printed script spells the script, with the lines of the printed text.
-use Rattle.std.proofs.Common.{◌≡◌, ℕ, ◌+◌, ◌≤◌, List, [], ◌∷◌, ◌++◌, length, map, flat_map, Some, None, refl, sym, ap, subst, ◌∙◌, append_assoc, length-append, arith}
+use Rattle.std.proofs.Common.{◌≡◌, ℕ, ◌+◌, ◌≤◌, List, [], ◌∷◌, ◌++◌, length, map, flat_map, Some, None, sym, ap, subst, ◌∙◌, append_assoc, length-append, arith}
 use Rattle.std.specs.List.{All}
 use Rattle.std.specs.Str.Lines.{lines}
 use Rattle.std.proofs.lemmas.List.Elements.{All-head, All-tail}
@@ -7,7 +7,7 @@ use Rattle.std.proofs.lemmas.List.{append-nil}
 use Rattle.lab_script.specs.declared.script.Line.{Line}
 use Rattle.lab_script.specs.declared.script.Script.{Script}
 use Rattle.lab_script.specs.Limits.{AllPrint, ScriptPrints}
-use Rattle.lab_script.specs.Printed.{newline, printed_setup, printed_line, printed_script}
+use Rattle.lab_script.specs.Printed.{printed_setup, printed_line, printed_script}
 use Rattle.lab_script.specs.Script.{LinesSpell, Spells, extended}
 use Rattle.lab_script.specs.Ranges.{LineInRange, ScriptInRange}
 use Rattle.lab_script.specs.Renumbered.{numbered, renumbered}
@@ -43,15 +43,6 @@ lines_spell number before (line ∷ ls) r p le few =
       subst (λ (all : List Line). LinesSpell (number + 1) (Some next) (map line_text ls) (Some (record { setup = before.setup; lines = all }))) (append_assoc before.lines _ (numbered (number + 1) ls))
           (lines_spell (number + 1) next ls (All-tail LineInRange line ls r) p.1 (omega arith) (omega arith)),
     )
-
--- lines print alike whatever their numbers
-same_lines : (number : ℕ) (ls : List Line) → flat_map printed_line (numbered number ls) ≡ flat_map printed_line ls
-same_lines number [] = refl
-same_lines number (line ∷ ls) = ap (λ (t : List ℕ). printed_line line ++ t) (same_lines (number + 1) ls)
-
--- the lines' numbers aren't printed
-pub printed_renumbered : (script : Script) → printed_script (renumbered script) ≡ printed_script script
-printed_renumbered script = ap (λ (t : List ℕ). printed_setup script.setup ++ newline ++ t) (same_lines 2 script.lines)
 
 -- a printed script spells the script, with the lines of the printed text
 pub script_spells : (script : Script) → ScriptInRange script → ScriptPrints script → Spells (printed_script script) (renumbered script)

@@ -107,7 +107,8 @@ row_fits id z r h = grammar.row (grammar.named id (grammar.positive id (omega ar
 pub row_plain : (id : Row) (z : ℤ) → Plain (printed_row id z)
 row_plain id z =
     append_plain (codes "(" ++ decimal id ++ codes ", " ++ signed_decimal z) (codes ")")
-    (plain_between (codes "(" ++ decimal id) (codes ", ") (signed_decimal z) (append_plain (codes "(") (decimal id) (all_plain (codes "(") refl) (decimal_plain id)) (all_plain (codes ", ") refl) (signed_plain z))
+    (plain_between (codes "(" ++ decimal id) (codes ", ") (signed_decimal z)
+    (append_plain (codes "(") (decimal id) (all_plain (codes "(") refl) (decimal_plain id)) (all_plain (codes ", ") refl) (signed_plain z))
     (all_plain (codes ")") refl)
 
 -- the tokens of a printed statement
@@ -115,7 +116,8 @@ abbrev pub statement_tokens : Statement → List Token
 statement_tokens (statement.Select p) = token.Word word.Select ∷ token.Star ∷ token.Word word.From ∷ token.Word word.Test ∷ where_tokens p
 statement_tokens (statement.Update e p) = token.Word word.Update ∷ token.Word word.Test ∷ token.Word word.Set ∷ token.Word word.Value ∷ token.Equal ∷ expr_tokens e ++ where_tokens p
 statement_tokens (statement.Insert id z) =
-    token.Word word.Insert ∷ token.Word word.Into ∷ token.Word word.Test ∷ token.Open ∷ token.Word word.Id ∷ token.Comma ∷ token.Word word.Value ∷ token.Close ∷ token.Word word.Values ∷ row_tokens id z
+    token.Word word.Insert ∷ token.Word word.Into ∷ token.Word word.Test ∷ token.Open ∷ token.Word word.Id ∷ token.Comma ∷ token.Word word.Value ∷ token.Close
+    ∷ token.Word word.Values ∷ row_tokens id z
 statement_tokens (statement.Delete p) = token.Word word.Delete ∷ token.Word word.From ∷ token.Word word.Test ∷ where_tokens p
 
 -- the first words of each statement have their tokens
@@ -128,18 +130,24 @@ delete_reads = record { is = λ rest h. ap (λ (ts : List Token). token.Word wor
 update_leads : Leads (codes "update test set value = ") (token.Word word.Update ∷ token.Word word.Test ∷ token.Word word.Set ∷ token.Word word.Value ∷ token.Equal ∷ [])
 update_leads = record { is = λ rest. refl }
 
-insert_leads : Leads (codes "insert into test (id, value) values ") (token.Word word.Insert ∷ token.Word word.Into ∷ token.Word word.Test ∷ token.Open ∷ token.Word word.Id ∷ token.Comma ∷ token.Word word.Value ∷ token.Close ∷ token.Word word.Values ∷ [])
+insert_leads : Leads (codes "insert into test (id, value) values ")
+    (token.Word word.Insert ∷ token.Word word.Into ∷ token.Word word.Test ∷ token.Open ∷ token.Word word.Id ∷ token.Comma ∷ token.Word word.Value ∷ token.Close ∷ token.Word word.Values ∷ [])
 insert_leads = record { is = λ rest. refl }
 
 -- a printed statement has its tokens
 pub statement_reads : (s : Statement) → StatementInRange s → Reads (printed_statement s) (statement_tokens s)
-statement_reads (statement.Select p) h = reads_then (codes "select * from test") (printed_where p) (token.Word word.Select ∷ token.Star ∷ token.Word word.From ∷ token.Word word.Test ∷ []) (where_tokens p) select_reads (where_breaks p) (where_reads p h)
+statement_reads (statement.Select p) h =
+    reads_then (codes "select * from test") (printed_where p) (token.Word word.Select ∷ token.Star ∷ token.Word word.From ∷ token.Word word.Test ∷ [])
+    (where_tokens p) select_reads (where_breaks p) (where_reads p h)
 statement_reads (statement.Update e p) h =
-    reads_then (codes "update test set value = " ++ printed_expr e) (printed_where p) (token.Word word.Update ∷ token.Word word.Test ∷ token.Word word.Set ∷ token.Word word.Value ∷ token.Equal ∷ expr_tokens e) (where_tokens p)
-    (leads_then (codes "update test set value = ") (printed_expr e) (token.Word word.Update ∷ token.Word word.Test ∷ token.Word word.Set ∷ token.Word word.Value ∷ token.Equal ∷ []) (expr_tokens e) update_leads (expr_reads e h.0))
+    reads_then (codes "update test set value = " ++ printed_expr e) (printed_where p)
+    (token.Word word.Update ∷ token.Word word.Test ∷ token.Word word.Set ∷ token.Word word.Value ∷ token.Equal ∷ expr_tokens e) (where_tokens p)
+    (leads_then (codes "update test set value = ") (printed_expr e)
+    (token.Word word.Update ∷ token.Word word.Test ∷ token.Word word.Set ∷ token.Word word.Value ∷ token.Equal ∷ []) (expr_tokens e) update_leads (expr_reads e h.0))
     (where_breaks p) (where_reads p h.1)
 statement_reads (statement.Insert id z) h = leads_reads _ _ (leads_leads (codes "insert into test (id, value) values ") (printed_row id z) _ (row_tokens id z) insert_leads (row_leads id z h.0 h.1))
-statement_reads (statement.Delete p) h = reads_then (codes "delete from test") (printed_where p) (token.Word word.Delete ∷ token.Word word.From ∷ token.Word word.Test ∷ []) (where_tokens p) delete_reads (where_breaks p) (where_reads p h)
+statement_reads (statement.Delete p) h =
+    reads_then (codes "delete from test") (printed_where p) (token.Word word.Delete ∷ token.Word word.From ∷ token.Word word.Test ∷ []) (where_tokens p) delete_reads (where_breaks p) (where_reads p h)
 
 -- the tokens of a printed statement are in the grammar
 pub statement_fits : (s : Statement) → StatementInRange s → statement_depth s ≤ 16 → IsStatement (statement_tokens s) s
@@ -152,8 +160,10 @@ statement_fits (statement.Delete p) h le = grammar.delete (where_fits p h le)
 pub statement_plain : (s : Statement) → Plain (printed_statement s)
 statement_plain (statement.Select p) = append_plain (codes "select * from test") (printed_where p) (all_plain (codes "select * from test") refl) (where_plain p)
 statement_plain (statement.Update e p) =
-    append_plain (codes "update test set value = " ++ printed_expr e) (printed_where p) (append_plain (codes "update test set value = ") (printed_expr e) (all_plain (codes "update test set value = ") refl) (expr_plain e)) (where_plain p)
-statement_plain (statement.Insert id z) = append_plain (codes "insert into test (id, value) values ") (printed_row id z) (all_plain (codes "insert into test (id, value) values ") refl) (row_plain id z)
+    append_plain (codes "update test set value = " ++ printed_expr e) (printed_where p)
+    (append_plain (codes "update test set value = ") (printed_expr e) (all_plain (codes "update test set value = ") refl) (expr_plain e)) (where_plain p)
+statement_plain (statement.Insert id z) =
+    append_plain (codes "insert into test (id, value) values ") (printed_row id z) (all_plain (codes "insert into test (id, value) values ") refl) (row_plain id z)
 statement_plain (statement.Delete p) = append_plain (codes "delete from test") (printed_where p) (all_plain (codes "delete from test") refl) (where_plain p)
 
 -- a printed statement spells the statement
@@ -164,6 +174,13 @@ statement_spells s h prints =
       bytes = omega arith;
       ascii = plain.ascii;
       no_remark = plain_code (printed_statement s) plain;
-      parts = (statement_tokens s, [], reads_all (printed_statement s) (statement_tokens s) (statement_reads s h) ∙ sym (append-nil (statement_tokens s)), statement_fits s h prints.shallow, grammar.open_end);
+      parts = (
+        statement_tokens s,
+        [],
+        reads_all (printed_statement s) (statement_tokens s) (statement_reads s h)
+            ∙ sym (append-nil (statement_tokens s)),
+        statement_fits s h prints.shallow,
+        grammar.open_end,
+      );
       printed = prints.short;
     }

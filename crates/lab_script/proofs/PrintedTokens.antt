@@ -75,7 +75,8 @@ module _ (atom : Predicate → List Token) where
   as_term d (predicate.And p q) h le = inside d (depth_of (predicate.And p q)) (tokens_of atom (predicate.And p q)) (predicate.And p q) (λ e l. grammar.one_member (h e l)) le
   as_term d (predicate.Or p q) h le = inside d (depth_of (predicate.Or p q)) (tokens_of atom (predicate.Or p q)) (predicate.Or p q) h le
 
-  negated : (d : ℕ) (p : Predicate) → Good p → suc (deeper (is_and p || is_or p) (depth_of p)) ≤ d → IsPred d N (token.Word word.Not ∷ wrapped (is_and p || is_or p) (tokens_of atom p)) (predicate.Not p)
+  negated : (d : ℕ) (p : Predicate) → Good p → suc (deeper (is_and p || is_or p) (depth_of p)) ≤ d
+      → IsPred d N (token.Word word.Not ∷ wrapped (is_and p || is_or p) (tokens_of atom p)) (predicate.Not p)
   negated zero p h le = absurd (omega arith)
   negated (suc d) p h le = grammar.negation (as_term d p h (omega arith))
 

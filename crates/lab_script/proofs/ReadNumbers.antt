@@ -52,7 +52,8 @@ number_takes ts x e = signed (after token.Minus ts) refl e
     signed (Some rest) is h =
         let a = bind_some (magnitude_at rest) (λ n. Some (pos 0 -ℤ pos n.0, n.1)) x h in
         let m = magnitude_takes rest a.0 a.1 in
-        subst (Taken IsNumber ts) (some_is (pos 0 -ℤ pos a.0.0, a.0.1) x a.2) (token.Minus ∷ token.Digits a.0.0 ∷ [], after_is token.Minus ts rest is ∙ ap (λ (r : List Token). token.Minus ∷ r) m.0, grammar.negative a.0.0 m.1)
+        subst (Taken IsNumber ts) (some_is (pos 0 -ℤ pos a.0.0, a.0.1) x a.2)
+        (token.Minus ∷ token.Digits a.0.0 ∷ [], after_is token.Minus ts rest is ∙ ap (λ (r : List Token). token.Minus ∷ r) m.0, grammar.negative a.0.0 m.1)
 
 pub number_then : {X : Type 0} (f : ℤ → X) (ts : List Token) (x : X × List Token) → (number_at ts >>= λ n. Some (f n.0, n.1)) ≡ Some x
     → (front : List Token) × (z : ℤ) × (ts ≡ front ++ x.1) × IsNumber front z × (f z ≡ x.0)

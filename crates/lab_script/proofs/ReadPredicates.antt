@@ -1,5 +1,5 @@
 -- Predicates that are read are those of the grammar, and the other way round.
-use Rattle.std.proofs.Common.{◌≡◌, ℕ, zero, suc, ◌≤◌, ◌<◌, List, [], ◌∷◌, ◌++◌, length, Option, Some, None, refl, sym, ap, subst, ◌∙◌, append_assoc, length-append, arith}
+use Rattle.std.proofs.Common.{◌≡◌, ℕ, zero, suc, ◌≤◌, List, [], ◌∷◌, ◌++◌, length, Option, Some, None, refl, sym, ap, subst, ◌∙◌, append_assoc, length-append, arith}
 use Rattle.lab_table.specs.Predicate.{Predicate}
 use Rattle.lab_table.specs.Predicate as predicate
 use Rattle.lab_table.specs.declared.predicate.Col.TheVariants as col
@@ -38,9 +38,6 @@ atom_term (suc d) (grammar.one_of col.Value h) rest = atom_again (grammar.one_of
 atom_term (suc d) (grammar.remainder col.Id h low high i) rest = atom_again (grammar.remainder col.Id h low high i) rest
 atom_term (suc d) (grammar.remainder col.Value h low high i) rest = atom_again (grammar.remainder col.Value h low high i) rest
 
-longer : (a b : List Token) (t : Token) → length b < length (t ∷ a ++ b)
-longer a b t = grind (arith, length-append)
-
 shorter : (a b : List Token) → length b ≤ length (a ++ b)
 shorter a b = grind (arith, length-append)
 
@@ -49,7 +46,8 @@ conj_whole d ts rest p h none =
     let s = h rest in
     s.2 ∙ ends (term_at d) (token.Word word.And) predicate.And s.0 p rest (more_of s.0 (term_at d) (token.Word word.And) predicate.And p rest) refl none
 
-pred_whole : (d : ℕ) (ts rest : List Token) (p : Predicate) → Again d P ts p → after (token.Word word.And) rest ≡ None → after (token.Word word.Or) rest ≡ None → pred_at d (ts ++ rest) ≡ Some (p, rest)
+pred_whole : (d : ℕ) (ts rest : List Token) (p : Predicate) → Again d P ts p → after (token.Word word.And) rest ≡ None → after (token.Word word.Or) rest ≡ None
+    → pred_at d (ts ++ rest) ≡ Some (p, rest)
 pred_whole d ts rest p h none none' =
     let s = h rest none in
     s.2 ∙ ends (conj_at d) (token.Word word.Or) predicate.Or s.0 p rest (more_of s.0 (conj_at d) (token.Word word.Or) predicate.Or p rest) refl none'
@@ -65,17 +63,20 @@ again (grammar.one_factor {d} {ts} {p} h) = λ rest.
     (length rest, omega arith, sym (starts (term_at d) (token.Word word.And) predicate.And (ts ++ rest) rest p (again h rest)))
 again (grammar.conjunction {d} {ts} {rest = others} {p} {q} hp hq) = λ rest.
     let s = again hp (token.Word word.And ∷ others ++ rest) in
-    let g = goes_on (term_at d) (token.Word word.And) predicate.And s.0 p q (token.Word word.And ∷ others ++ rest) (others ++ rest) rest _ s.1 refl refl (omega arith) (again hq rest) (shorter others rest) in
+    let g = goes_on (term_at d) (token.Word word.And) predicate.And s.0 p q (token.Word word.And ∷ others ++ rest) (others ++ rest) rest _ s.1 refl refl (omega arith)
+    (again hq rest) (shorter others rest) in
     (g.0, g.1, ap (conj_at d) (append_assoc ts (token.Word word.And ∷ others) rest) ∙ s.2 ∙ sym g.2)
 again (grammar.one_member {d} {ts} {p} h) = λ rest none.
     (length rest, omega arith, sym (starts (conj_at d) (token.Word word.Or) predicate.Or (ts ++ rest) rest p (conj_whole d ts rest p (again h) none)))
 again (grammar.disjunction {d} {ts} {rest = others} {p} {q} hp hq) = λ rest none.
     let s = again hp (token.Word word.Or ∷ others ++ rest) refl in
-    let g = goes_on (conj_at d) (token.Word word.Or) predicate.Or s.0 p q (token.Word word.Or ∷ others ++ rest) (others ++ rest) rest _ s.1 refl refl (omega arith) (conj_whole d others rest q (again hq) none) (shorter others rest) in
+    let g = goes_on (conj_at d) (token.Word word.Or) predicate.Or s.0 p q (token.Word word.Or ∷ others ++ rest) (others ++ rest) rest _ s.1 refl refl (omega arith)
+    (conj_whole d others rest q (again hq) none) (shorter others rest) in
     (g.0, g.1, ap (pred_at d) (append_assoc ts (token.Word word.Or ∷ others) rest) ∙ s.2 ∙ sym g.2)
 
 -- a predicate of the grammar is read as itself
-pub pred_again : {ts : List Token} {p : Predicate} (d : ℕ) → IsPred d P ts p → (rest : List Token) → after (token.Word word.And) rest ≡ None → after (token.Word word.Or) rest ≡ None → pred_at d (ts ++ rest) ≡ Some (p, rest)
+pub pred_again : {ts : List Token} {p : Predicate} (d : ℕ) → IsPred d P ts p → (rest : List Token) → after (token.Word word.And) rest ≡ None
+    → after (token.Word word.Or) rest ≡ None → pred_at d (ts ++ rest) ≡ Some (p, rest)
 pred_again {ts} {p} d h rest none none' = pred_whole d ts rest p (again h) none none'
 
 -- What is read is in the grammar.

@@ -62,7 +62,8 @@ abbrev pub RowTaken : List Token → (Row × ℤ) × List Token → Type 0
 RowTaken ts x = Taken (λ front row. IsRow front row.0 row.1) ts x
 
 -- a row is taken where each of its parts is
-row_taken : (ts a b c : List Token) (i : Row × List Token) (v : ℤ × List Token) (x : (Row × ℤ) × List Token) → ts ≡ token.Open ∷ a → Taken IsId a i → i.1 ≡ token.Comma ∷ b → Taken IsNumber b v → v.1 ≡ token.Close ∷ c
+row_taken : (ts a b c : List Token) (i : Row × List Token) (v : ℤ × List Token) (x : (Row × ℤ) × List Token) → ts ≡ token.Open ∷ a → Taken IsId a i → i.1 ≡ token.Comma ∷ b
+    → Taken IsNumber b v → v.1 ≡ token.Close ∷ c
     → Some ((i.0, v.0), c) ≡ Some x → RowTaken ts x
 row_taken ts a b c i v x opened id comma value closed e =
     let last : b ≡ value.0 ++ token.Close ∷ c = value.1 ∙ ap (λ (r : List Token). value.0 ++ r) closed in

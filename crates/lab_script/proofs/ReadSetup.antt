@@ -1,9 +1,9 @@
--- Setups that are read are setups of the grammar, and the other way round.
-use Rattle.std.proofs.Common.{◌≡◌, ℕ, zero, suc, ◌+◌, ◌≤◌, ◌<◌, ℤ, Bool, true, false, cond, List, [], ◌∷◌, ◌++◌, length, Option, Some, None, refl, sym, ap, subst, ◌∙◌, append_assoc, arith}
+-- Setups that are read are setups of the grammar.
+use Rattle.std.proofs.Common.{◌≡◌, ℕ, zero, suc, ◌≤◌, ℤ, Bool, true, false, cond, List, [], ◌∷◌, ◌++◌, length, Option, Some, None, refl, sym, ap, subst, ◌∙◌, append_assoc}
 use Rattle.std.specs.Prelude.{◌==◌, nat_le, Result, Ok, Err, IfOk}
-use Rattle.std.specs.FinMap.{find, insert, empty, contains_key, from_entries}
-use Rattle.std.proofs.lemmas.Bool.{eqb-true, le-leb, leb-true, and_parts}
-use Rattle.std.proofs.lemmas.List.{length-append, nil_from_length}
+use Rattle.std.specs.FinMap.{find, insert, empty, contains_key}
+use Rattle.std.proofs.lemmas.Bool.{eqb-true, leb-true, and_parts}
+use Rattle.std.proofs.lemmas.List.{nil_from_length}
 use Rattle.std.proofs.lemmas.Option.{cond_some}
 use Rattle.lab_table.specs.Row.{Row, row_cmp}
 use Rattle.lab_table.specs.Table.{Table}
@@ -11,7 +11,7 @@ use Rattle.lab_script.specs.declared.token.Word.TheVariants as word
 use Rattle.lab_script.specs.declared.token.Token.{Token}
 use Rattle.lab_script.specs.declared.token.Token.TheVariants as token
 use Rattle.lab_script.specs.declared.stop.Stop.{Stop}
-use Rattle.lab_script.specs.Grammar.{IsNumber, IsId, IsRow, IsRows, IsRowList, IsEnd, IsSetup, AllDistinct}
+use Rattle.lab_script.specs.Grammar.{IsRow, IsRows, IsRowList, IsEnd, IsSetup, AllDistinct}
 use Rattle.lab_script.specs.Grammar as grammar
 use Rattle.lab_script.specs.Printed.{printed_setup}
 use Rattle.lab_script.specs.Reading.{Gives, ◌>>=◌, is_token, after, is_end}
@@ -19,72 +19,10 @@ use Rattle.lab_script.specs.ReadingRows.{row_at}
 use Rattle.lab_script.specs.ReadingSetup.{row_onto, rows_onto, rows_at, no_rows_at, table_at, ends_setup, setup_at}
 use Rattle.lab_script.proofs.Same.{same_token, after_is, bind_some, some_is}
 use Rattle.lab_script.proofs.ReadNumbers.{after_then, under}
-use Rattle.lab_script.proofs.ReadRows.{RowTaken, parts_of, row_again, row_takes}
+use Rattle.lab_script.proofs.ReadRows.{RowTaken, row_takes}
 use Rattle.lab_script.proofs.SetupLoop.{behind_row}
-use Rattle.lab_script.proofs.DistinctRows.{none_distinct, not_before, absent_from, is_absent, pushed_table, pushed_distinct}
-
--- the table that rows make
-abbrev table_of : List (Row × ℤ) → Table
-table_of rows = from_entries rows
-
--- what is in the grammar is read
-
--- a row of the grammar is added to those before it, whatever follows it
-row_onto_again : {ts : List Token} {id : Row} {value : ℤ} → IsRow ts id value → (before : List (Row × ℤ)) → find row_cmp id before ≡ None → (rest : List Token)
-    → row_onto (table_of before) (ts ++ rest) ≡ Some (table_of (before ++ (id, value) ∷ []), rest)
-unfolding row_onto
-row_onto_again {ts} {id} {value} h before none rest =
-    rw (row_onto, row_again h rest, is_absent before id none) (ap (λ (t : Table). Some (t, rest)) (sym (pushed_table before (id, value) none)))
-
--- rows of the grammar are added to those before them, where no row comes twice
-rows_again : {ts : List Token} {rows : List (Row × ℤ)} → IsRows ts rows → (before : List (Row × ℤ)) → AllDistinct (before ++ rows) → (end : List Token) → after token.Comma end ≡ None
-    → (k : ℕ) → length (ts ++ end) < k → rows_onto k (table_of before) (ts ++ end) ≡ Some (table_of (before ++ rows), end)
-unfolding rows_onto
-rows_again h before all end none zero lt = absurd (omega (arith, lt))
-rows_again (grammar.last {ts} {id} {value} h) before all end none (suc k) lt =
-    rw (rows_onto, row_onto_again h before (not_before before [] (id, value) all) end) (ap (behind_row k (table_of (before ++ (id, value) ∷ [])) end) none)
-rows_again (grammar.more {ts} {rest} {id} {value} {rows} h hs) before all end none (suc k) lt =
-    let text : ts ++ token.Comma ∷ rest ++ end ≡ ts ++ (token.Comma ∷ (rest ++ end)) = append_assoc ts (token.Comma ∷ rest) end in
-    let listed : before ++ (id, value) ∷ rows ≡ before ++ (id, value) ∷ [] ++ rows = sym (append_assoc before ((id, value) ∷ []) rows) in
-    let long : length (ts ++ token.Comma ∷ rest ++ end) ≡ length ts + suc (length (rest ++ end)) = ap length text ∙ length-append ts (token.Comma ∷ (rest ++ end)) in
-    let next = rows_again hs (before ++ (id, value) ∷ []) (subst AllDistinct listed all) end none k (omega (arith, lt, long)) in
-    rw (text, rows_onto, row_onto_again h before (not_before before rows (id, value) all) (token.Comma ∷ (rest ++ end))) (next ∙ ap (λ (l : List (Row × ℤ)). Some (table_of l, end)) (sym listed))
-
--- a number doesn't begin with a parenthesis
-no_close : {ts : List Token} {z : ℤ} → IsNumber ts z → (rest : List Token) → after token.Close (ts ++ rest) ≡ None
-no_close (grammar.positive n le) rest = refl
-no_close (grammar.negative n le) rest = refl
-
-id_no_close : {ts : List Token} {id : Row} → IsId ts id → (rest : List Token) → after token.Close (ts ++ rest) ≡ None
-id_no_close (grammar.named id number low high) rest = no_close number rest
-
--- what begins with a row isn't the parentheses of no row
-row_shown : {ts : List Token} {id : Row} {value : ℤ} → IsRow ts id value → (rest : List Token) → no_rows_at (ts ++ rest) ≡ None
-unfolding no_rows_at
-row_shown (grammar.row {is} {vs} i v) rest = rw (parts_of is vs rest) (id_no_close i (token.Comma ∷ (vs ++ token.Close ∷ rest)))
-
-rows_shown : {ts : List Token} {rows : List (Row × ℤ)} → IsRows ts rows → (end : List Token) → no_rows_at (ts ++ end) ≡ None
-rows_shown (grammar.last h) end = row_shown h end
-rows_shown (grammar.more {ts} {rest} h hs) end = ap no_rows_at (append_assoc ts (token.Comma ∷ rest) end) ∙ row_shown h (token.Comma ∷ rest ++ end)
-
-no_comma : (end : List Token) → IsEnd end → after token.Comma end ≡ None
-no_comma _ grammar.open_end = refl
-no_comma _ grammar.semicolon = refl
-
--- the rows of a setup are read as their table
-table_again : {ts : List Token} {rows : List (Row × ℤ)} → IsRowList ts rows → AllDistinct rows → (end : List Token) → IsEnd end → table_at (ts ++ end) ≡ Some (table_of rows, end)
-unfolding table_at rows_at no_rows_at
-table_again grammar.none all end e = refl
-table_again (grammar.some {ts} {rows} h) all end e = rw (table_at, rows_shown h end) (rows_again h [] all end (no_comma end e) (suc (length (ts ++ end))) (omega arith))
-
-end_again : (end : List Token) → IsEnd end → is_end end ≡ true
-end_again _ grammar.open_end = refl
-end_again _ grammar.semicolon = refl
-
--- a setup of the grammar is read as its table
-pub setup_again : {ts : List Token} {table : Table} → IsSetup ts table → setup_at ts ≡ Some table
-unfolding setup_at
-setup_again (grammar.setup {ts} {end} {rows} h all e short) = rw (table_again h all end e, end_again end e, le-leb (length (printed_setup (table_of rows))) 4000 short) refl
+use Rattle.lab_script.proofs.DistinctRows.{none_distinct, absent_from, pushed_table, pushed_distinct, table_of}
+use Rattle.lab_script.proofs.SetupAgain.{setup_again}
 
 -- what is read is in the grammar
 
@@ -129,7 +67,8 @@ one_added : (before : List (Row × ℤ)) (ts : List Token) (x : Table × List To
 one_added before ts x all r = record { rows = r.row ∷ []; front = r.front; text = r.text; spelled = grammar.last r.spelled; distinct = pushed_distinct before r.row all r.absent; table = r.table }
 
 -- a row, a comma and the rows behind it
-more_added : (before : List (Row × ℤ)) (ts rest : List Token) (x y : Table × List Token) (r : RowAdded before ts y) → y.1 ≡ token.Comma ∷ rest → RowsAdded (before ++ r.row ∷ []) rest x → RowsAdded before ts x
+more_added : (before : List (Row × ℤ)) (ts rest : List Token) (x y : Table × List Token) (r : RowAdded before ts y) → y.1 ≡ token.Comma ∷ rest
+    → RowsAdded (before ++ r.row ∷ []) rest x → RowsAdded before ts x
 more_added before ts rest x y r comma s =
     let listed : before ++ r.row ∷ [] ++ s.rows ≡ before ++ r.row ∷ s.rows = append_assoc before (r.row ∷ []) s.rows in
     record {
@@ -191,7 +130,8 @@ end_takes (t ∷ ts) e =
     subst IsEnd whole grammar.semicolon
 
 -- the setup of a table that is taken behind its word
-setup_made : (ts rest : List Token) (table : Table) (x : Table × List Token) → ts ≡ token.Word word.Setup ∷ rest → TableTaken rest x → cond (ends_setup x.0 x.1) (Some x.0) None ≡ Some table → IsSetup ts table
+setup_made : (ts rest : List Token) (table : Table) (x : Table × List Token) → ts ≡ token.Word word.Setup ∷ rest → TableTaken rest x
+    → cond (ends_setup x.0 x.1) (Some x.0) None ≡ Some table → IsSetup ts table
 setup_made ts rest table x begun t e =
     let g = cond_some (ends_setup x.0 x.1) x.0 table e in
     let both = and_parts (is_end x.1) (nat_le (length (printed_setup x.0)) 4000) g.0 in

@@ -1,6 +1,6 @@
 -- Statements that are read are those of the grammar, and the other way round.
-use Rattle.std.proofs.Common.{◌≡◌, ◌≤◌, List, [], ◌∷◌, ◌++◌, length, Option, Some, None, refl, sym, ap, subst, ◌∙◌, append_assoc, inl, inr}
-use Rattle.std.specs.Prelude.{ℤ, ◌&&◌, ◌==◌, ◌⊎◌, nat_le, Result, Ok, Err, IfOk}
+use Rattle.std.proofs.Common.{◌≡◌, ◌≤◌, List, [], ◌∷◌, ◌++◌, length, Some, None, refl, sym, ap, subst, ◌∙◌, append_assoc, inl, inr}
+use Rattle.std.specs.Prelude.{ℤ, ◌&&◌, ◌==◌, ◌⊎◌, nat_le}
 use Rattle.std.proofs.lemmas.Bool.{eqb-true, le-leb, leb-true, and_parts}
 use Rattle.std.proofs.lemmas.List.{nil_from_length}
 use Rattle.std.proofs.lemmas.Option.{cond_some}
@@ -14,13 +14,12 @@ use Rattle.lab_script.specs.declared.token.Token.TheVariants as token
 use Rattle.lab_script.specs.Grammar.{IsNumber, IsExpr, IsStatement, IsEnd}
 use Rattle.lab_script.specs.Grammar as grammar
 use Rattle.lab_script.specs.Printed.{printed_statement}
-use Rattle.lab_script.specs.declared.stop.Stop.{Stop}
-use Rattle.lab_script.specs.Reading.{Gives, is_token, after, after_all}
+use Rattle.lab_script.specs.Reading.{is_token, after, after_all}
 use Rattle.lab_script.specs.ReadingRows.{row_at}
 use Rattle.lab_script.specs.ReadingPredicates.{where_at}
 use Rattle.lab_script.specs.ReadingStatements.{expr_at, select_at, update_at, insert_at, delete_at, statement_at, ended_at, whole_statement_at}
 use Rattle.lab_script.specs.Grammar.{IsWholeStatement}
-use Rattle.lab_script.proofs.Same.{same_token, after_is, bind_some, some_is, when_takes}
+use Rattle.lab_script.proofs.Same.{same_token, after_is, bind_some, some_is, when_takes, some}
 use Rattle.lab_script.proofs.ReadNumbers.{Taken, number_again, number_then, under}
 use Rattle.lab_script.proofs.ReadRows.{row_again, row_takes}
 use Rattle.lab_script.proofs.ReadPredicates.{IsUnjoined, where_again, where_takes}
@@ -53,8 +52,12 @@ expr_takes ts x e = when_takes (token.Word word.Value) ts _ _ x e
     (token.Word word.Value ∷ token.Plus ∷ n.0, was ∙ under _ _ _ (is ∙ under _ _ _ n.2), subst (IsExpr (token.Word word.Value ∷ token.Plus ∷ n.0)) n.4 (grammar.plus n.3)))
     (λ none g.
     let b = bind_some (after token.Minus rest) _ x g in
-    let n = number_then (λ z. expr.Minus z) b.0 x b.2 in
-    (token.Word word.Value ∷ token.Minus ∷ n.0, was ∙ under _ _ _ (after_is token.Minus rest b.0 b.1 ∙ under _ _ _ n.2), subst (IsExpr (token.Word word.Value ∷ token.Minus ∷ n.0)) n.4 (grammar.minus n.3))))
+    let n = number_then (λ z. expr.Minus z) b.0 x b.2 in (
+      token.Word word.Value ∷ token.Minus ∷ n.0,
+      was ∙ under _ _ _ (after_is token.Minus rest b.0 b.1 ∙ under _ _ _ n.2),
+      subst
+          (IsExpr (token.Word word.Value ∷ token.Minus ∷ n.0)) n.4 (grammar.minus n.3),
+    )))
     (λ none h.
     let n = number_then (λ z. expr.Set z) ts x h in
     (n.0, n.2, subst (IsExpr n.0) n.4 (grammar.set n.3)))
@@ -89,8 +92,12 @@ update_takes ts x e =
     let h = expr_takes a.0 g.0 g.1 in
     let p = where_takes g.0.1 w.0 w.1 in
     let behind : a.0 ≡ (h.0 ++ p.0) ++ w.0.1 = h.1 ∙ ap (λ (r : List Token). h.0 ++ r) p.1 ∙ sym (append_assoc h.0 p.0 w.0.1) in
-    subst (Taken IsStatement (token.Word word.Update ∷ ts)) (some_is (statement.Update g.0.0 w.0.0, w.0.1) x w.2)
-    (token.Word word.Update ∷ token.Word word.Test ∷ token.Word word.Set ∷ token.Word word.Value ∷ token.Equal ∷ h.0 ++ p.0, under _ _ _ (after_all_is front ts a.0 a.1 ∙ ap (λ (r : List Token). front ++ r) behind), grammar.update h.2 p.2)
+    subst (Taken IsStatement (token.Word word.Update ∷ ts)) (some_is (statement.Update g.0.0 w.0.0, w.0.1) x w.2) (
+      token.Word word.Update ∷ token.Word word.Test ∷ token.Word word.Set ∷ token.Word word.Value ∷ token.Equal ∷ h.0 ++ p.0,
+      under _ _ _
+          (after_all_is front ts a.0 a.1 ∙ ap (λ (r : List Token). front ++ r) behind),
+      grammar.update h.2 p.2,
+    )
 
 insert_takes : (ts : List Token) (x : Statement × List Token) → insert_at ts ≡ Some x → Taken IsStatement (token.Word word.Insert ∷ ts) x
 unfolding insert_at
@@ -161,9 +168,6 @@ end_is ts e = elim (ended_is ts [] e) [
 
 -- one statement, and nothing else
 
-abbrev some : {A : Type 0} → A → Option A
-some a = Some a
-
 parts_again : (ts front end : List Token) (s : Statement) → ts ≡ front ++ end → IsStatement front s → IsEnd end → length (printed_statement s) ≤ 1000 → whole_statement_at ts ≡ Some s
 unfolding whole_statement_at
 parts_again ts front end s is h e le = rw (is, statement_again h end (unjoined (end_closes e)), ended_again e, le-leb (length (printed_statement s)) 1000 le) refl
@@ -184,8 +188,3 @@ whole_takes ts s e =
     let end : IsEnd a.0.1 = end_is a.0.1 (b.1 ∙ ap (λ (r : List Token). some r) none) in
     let p = statement_takes ts a.0 a.1 in
     subst (IsWholeStatement ts) g.1 (record { parts = (p.0, a.0.1, p.1, p.2, end); printed = leb-true _ _ both.0 })
-
--- the statement that is found
-pub whole_found : (ts : List Token) (r : Result Statement Stop) → Gives (λ x. x) r (whole_statement_at ts) → IfOk r (IsWholeStatement ts)
-whole_found ts (Ok s) given = whole_takes ts s given
-whole_found ts (Err e) given = tt

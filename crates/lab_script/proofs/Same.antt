@@ -10,7 +10,45 @@ use Rattle.lab_script.specs.declared.token.Token.TheVariants as token
 use Rattle.lab_script.specs.Reading.{word_number, token_number, token_digits, is_token, when, after, ◌>>=◌}
 
 abbrev named : ℕ → Token
-named n = cond (n == 0) (token.Word word.Setup) (cond (n == 1) (token.Word word.Begin) (cond (n == 2) (token.Word word.Commit) (cond (n == 3) (token.Word word.Abort) (cond (n == 4) (token.Word word.Rollback) (cond (n == 5) (token.Word word.Set) (cond (n == 6) (token.Word word.Transaction) (cond (n == 7) (token.Word word.Isolation) (cond (n == 8) (token.Word word.Level) (cond (n == 9) (token.Word word.Select) (cond (n == 10) (token.Word word.From) (cond (n == 11) (token.Word word.Test) (cond (n == 12) (token.Word word.Where) (cond (n == 13) (token.Word word.Update) (cond (n == 14) (token.Word word.Value) (cond (n == 15) (token.Word word.Insert) (cond (n == 16) (token.Word word.Into) (cond (n == 17) (token.Word word.Id) (cond (n == 18) (token.Word word.Values) (cond (n == 19) (token.Word word.Delete) (cond (n == 20) (token.Word word.And) (cond (n == 21) (token.Word word.Or) (cond (n == 22) (token.Word word.Not) (cond (n == 23) (token.Word word.In) (cond (n == 24) (token.Word word.Other) (cond (n == 50) token.Open (cond (n == 51) token.Close (cond (n == 52) token.Comma (cond (n == 53) token.Semicolon (cond (n == 54) token.Star (cond (n == 55) token.Equal (cond (n == 56) token.Unequal (cond (n == 57) token.Less (cond (n == 58) token.AtMost (cond (n == 59) token.Greater (cond (n == 60) token.AtLeast (cond (n == 61) token.Percent (cond (n == 62) token.Plus (cond (n == 63) token.Minus (cond (n == 64) token.Unknown (token.Unknown))))))))))))))))))))))))))))))))))))))))
+named n =
+    cond (n == 0) (token.Word word.Setup) (cond (n == 1) (token.Word word.Begin)
+    (cond (n == 2) (token.Word word.Commit) (cond (n == 3) (token.Word word.Abort)
+    (cond (n == 4) (token.Word word.Rollback) (cond (n == 5) (token.Word word.Set)
+    (cond (n == 6) (token.Word word.Transaction)
+    (cond (n == 7) (token.Word word.Isolation)
+    (cond (n == 8) (token.Word word.Level)
+    (cond (n == 9) (token.Word word.Select)
+    (cond (n == 10) (token.Word word.From)
+    (cond (n == 11) (token.Word word.Test)
+    (cond (n == 12) (token.Word word.Where)
+    (cond (n == 13) (token.Word word.Update)
+    (cond (n == 14) (token.Word word.Value)
+    (cond (n == 15) (token.Word word.Insert)
+    (cond (n == 16) (token.Word word.Into)
+    (cond (n == 17) (token.Word word.Id)
+    (cond (n == 18) (token.Word word.Values)
+    (cond (n == 19) (token.Word word.Delete)
+    (cond (n == 20) (token.Word word.And)
+    (cond (n == 21) (token.Word word.Or)
+    (cond (n == 22) (token.Word word.Not)
+    (cond (n == 23) (token.Word word.In)
+    (cond (n == 24) (token.Word word.Other)
+    (cond (n == 50) token.Open
+    (cond (n == 51) token.Close
+    (cond (n == 52) token.Comma
+    (cond (n == 53) token.Semicolon
+    (cond (n == 54) token.Star
+    (cond (n == 55) token.Equal
+    (cond (n == 56) token.Unequal
+    (cond (n == 57) token.Less
+    (cond (n == 58) token.AtMost
+    (cond (n == 59) token.Greater
+    (cond (n == 60) token.AtLeast
+    (cond (n == 61) token.Percent
+    (cond (n == 62) token.Plus
+    (cond (n == 63) token.Minus
+    (cond (n == 64) token.Unknown
+    (token.Unknown))))))))))))))))))))))))))))))))))))))))
 
 abbrev numbered : ℕ → ℕ → Token
 numbered n digits = cond (n == 99) (token.Digits digits) (named n)
@@ -64,9 +102,11 @@ again token.Unknown = refl
 pub same_token : (t u : Token) → is_token t u ≡ true → t ≡ u
 same_token t u e =
     let both = and_parts (token_number t == token_number u) (token_digits t == token_digits u) e in
-    sym (again t) ∙ ap (λ (n : ℕ). numbered n (token_digits t)) (eqb-true (token_number t) (token_number u) both.0) ∙ ap (numbered (token_number u)) (eqb-true (token_digits t) (token_digits u) both.1) ∙ again u
+    sym (again t) ∙ ap (λ (n : ℕ). numbered n (token_digits t)) (eqb-true (token_number t) (token_number u) both.0)
+    ∙ ap (numbered (token_number u)) (eqb-true (token_digits t) (token_digits u) both.1) ∙ again u
 
-abbrev some : {A : Type 0} → A → Option A
+-- Some as a function
+abbrev pub some : {A : Type 0} → A → Option A
 some x = Some x
 
 pub some_is : {A : Type 0} (x y : A) → some x ≡ some y → x ≡ y

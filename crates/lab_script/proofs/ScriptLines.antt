@@ -17,6 +17,7 @@ use Rattle.lab_script.specs.Script as script
 use Rattle.lab_script.specs.Script.{code_of, remark_of, session_of, is_passed, IsFit, BeginsSetup, extended, LineSpells, LinesSpell}
 use Rattle.lab_script.proofs.ReadCommands.{commands_once, not_empty}
 use Rattle.lab_script.proofs.ReadSetup.{setup_once, setup_begins}
+use Rattle.lab_script.proofs.Same.{some_is}
 
 -- blanks have no tokens
 pub no_tokens : (code : List ℕ) → list_all is_blank code ≡ true → tokens code ≡ []
@@ -41,9 +42,6 @@ fit_of (script.passed s fit is) = fit
 fit_of (script.setup fit is) = fit
 fit_of (script.commands s fit is session room) = fit
 
-pub some_is : {A : Type 0} {x y : A} → ◌≡◌ {A = Option A} (Some x) (Some y) → x ≡ y
-some_is e = cc
-
 -- a line makes one thing at most of what stands before it
 pub line_once : {number : ℕ} {line : List ℕ} {before a b : Option Script} → LineSpells number line before a → LineSpells number line before b → a ≡ b
 line_once {line = line} (script.passed s fit is) (script.passed r fits also) = refl
@@ -54,7 +52,7 @@ line_once {line = line} (script.setup fit spelled) (script.setup fits also) = ap
 line_once {line = line} (script.commands s fit spelled session room) (script.passed r fits also) = passed_no_commands line also spelled
 line_once {number} {line} (script.commands {cs = cs} {session = one} s fit spelled session room) (script.commands {cs = ds} {session = other} r fits also named few) =
     ap (λ c. Some (extended s one number c)) (commands_once spelled also)
-    ∙ ap (λ n. Some (extended s n number ds)) (some_is (sym session ∙ named))
+    ∙ ap (λ n. Some (extended s n number ds)) (some_is one other (sym session ∙ named))
 
 -- lines make one thing at most of what stands before them
 pub lines_once : (number : ℕ) (before : Option Script) (ls : List (List ℕ)) {a b : Option Script} → LinesSpell number before ls a → LinesSpell number before ls b → a ≡ b

@@ -30,7 +30,8 @@ row_ends zero table new ts rest total lt so_far row none = absurd (omega (arith,
 row_ends (suc k) table new ts rest total lt so_far row none = sym so_far ∙ rw (rows_onto, row) (ap (behind_row k new rest) none)
 
 -- behind a comma there is another row
-pub row_goes_on : (k : ℕ) (table new : Table) (ts rest behind : List Token) (total : Read) → length ts < k → rows_onto k table ts ≡ total → row_onto table ts ≡ Some (new, rest) → length rest ≤ length ts
+pub row_goes_on : (k : ℕ) (table new : Table) (ts rest behind : List Token) (total : Read) → length ts < k → rows_onto k table ts ≡ total → row_onto table ts ≡ Some (new, rest)
+    → length rest ≤ length ts
     → after token.Comma rest ≡ Some behind → length behind < length rest → (j : ℕ) × (length behind < j) × (rows_onto j new behind ≡ total)
 unfolding rows_onto
 row_goes_on zero table new ts rest behind total lt so_far row shorter comma less = absurd (omega (arith, lt))

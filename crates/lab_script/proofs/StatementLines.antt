@@ -1,13 +1,10 @@
 -- The line of a statement, and the table that it leaves, from what running it answers.
-use Rattle.std.proofs.Common.{◌≡◌, ℕ, ℤ, true, false, cond, not, ◌≢◌, List, [], ◌∷◌, ◌++◌, Option, Some, None, refl, sym, ap, ◌∙◌, append_assoc}
-use Rattle.std.specs.Prelude.{◌||◌, option_map, is_none, codes}
-use Rattle.std.specs.List.{list_any}
-use Rattle.std.proofs.lemmas.Option.{none-some}
+use Rattle.std.proofs.Common.{◌≡◌, ℕ, ℤ, ◌≢◌, List, ◌++◌, Option, Some, None, refl, sym, ap, ◌∙◌, append_assoc}
+use Rattle.std.specs.Prelude.{option_map, codes}
 use Rattle.lab_table.specs.Row.{Row}
-use Rattle.lab_table.specs.Table.{Table, overwritten}
-use Rattle.lab_table.specs.Statement.{Ran, run, matching, applied, in_range, rows_of, writes_of}
-use Rattle.lab_table.specs.Running.{Gives, IsFault, overflowing}
-use Rattle.lab_table.specs.declared.statement.Expr.{Expr}
+use Rattle.lab_table.specs.Table.{Table}
+use Rattle.lab_table.specs.Statement.{Ran, run}
+use Rattle.lab_table.specs.Running.{Gives, IsFault}
 use Rattle.lab_table.specs.declared.statement.Statement.{Statement}
 use Rattle.lab_table.specs.declared.statement.Statement.TheVariants.{Select, Update, Insert, Delete}
 use Rattle.lab_table.specs.declared.table.TableFault.{TableFault}
@@ -15,6 +12,7 @@ use Rattle.lab_table.specs.declared.table.TableFault.TheVariants.{NoMemory, Dupl
 use Rattle.lab_script.specs.Printed.{printed_statement, printed_id, newline, rows_or}
 use Rattle.lab_script.specs.Transcript.{row_text, refusal_text, answer_text, statement_text, table_with}
 use Rattle.lab_script.specs.Told.{fault_text}
+use Rattle.lab_table.proofs.Running.{fault_is_due}
 
 -- a statement that runs lists its rows
 gives_text : (s : Statement) (t new : Table) (r : Option Ran) (rows : List (Row × ℤ)) → Gives r rows new → rows_or (codes "none") rows ≡ answer_text s t r
@@ -26,28 +24,14 @@ gives_table : (new : Table) (r : Option Ran) (rows : List (Row × ℤ)) → Give
 gives_table new None rows h = absurd h
 gives_table new (Some ran) rows h = ap Some (sym h.1)
 
--- a value out of range is among the new ones
-overflow_refuses : (e : Expr) (rows : List (Row × ℤ)) (id : Row) → overflowing e rows ≡ Some id → list_any (λ row. not (in_range (applied e row.1))) rows ≡ true
-overflow_refuses e [] id h = absurd (none-some id h)
-overflow_refuses e (row ∷ rows) id h =
-    elim (in_range (applied e row.1)) as (λ b. cond (is_none (cond b (Some (applied e row.1)) None)) (Some row.0) (overflowing e rows) ≡ Some id → (not b || list_any (λ row. not (in_range (applied e row.1))) rows) ≡ true) [
-      | true ↦ λ k. overflow_refuses e rows id k
-      | false ↦ λ _. refl
-    ] h
-
--- what a statement would give
-all_of : Statement → Table → Option Ran
-all_of s t = Some (record { table = overwritten (writes_of s t) t; rows = rows_of s t; writes = writes_of s t })
-
 -- a statement that a table refuses doesn't run, and the fault is why
 refused : (s : Statement) (t : Table) (fault : TableFault) → IsFault s t fault → fault ≢ NoMemory → (run s t ≡ None) × (fault_text fault ≡ refusal_text s t)
-unfolding all_of
 refused s t NoMemory h n = absurd (n refl)
-refused (Insert row new) t (DuplicateKey id) h n = (ap (λ b. cond b None (all_of (Insert row new) t)) h.1, ap (λ x. codes "DuplicateKey " ++ printed_id x) h.0)
+refused (Insert row new) t (DuplicateKey id) h n = (fault_is_due (Insert row new) t (DuplicateKey id) h, ap (λ x. codes "DuplicateKey " ++ printed_id x) h.0)
 refused (Select p) t (DuplicateKey id) h n = absurd h
 refused (Update e p) t (DuplicateKey id) h n = absurd h
 refused (Delete p) t (DuplicateKey id) h n = absurd h
-refused (Update e p) t (OutOfRange id) h n = (ap (λ b. cond b None (all_of (Update e p) t)) (overflow_refuses e (matching (Update e p) t) id h), ap (λ x. codes "OutOfRange " ++ row_text x) (sym h))
+refused (Update e p) t (OutOfRange id) h n = (fault_is_due (Update e p) t (OutOfRange id) h, ap (λ x. codes "OutOfRange " ++ row_text x) (sym h))
 refused (Select p) t (OutOfRange id) h n = absurd h
 refused (Insert row new) t (OutOfRange id) h n = absurd h
 refused (Delete p) t (OutOfRange id) h n = absurd h
@@ -56,17 +40,20 @@ spread : (a p q r s : List ℕ) → (((a ++ p) ++ q) ++ r) ++ s ≡ a ++ (((p ++
 spread a p q r s = simp append_assoc
 
 -- a statement's line, put piece by piece
-line_of : (s : Statement) (t : Table) (a b c d e answer : List ℕ) → b ≡ a ++ printed_statement s → c ≡ b ++ codes " -> " → d ≡ c ++ answer → e ≡ d ++ newline → answer ≡ answer_text s t (run s t) → e ≡ a ++ statement_text s t
+line_of : (s : Statement) (t : Table) (a b c d e answer : List ℕ) → b ≡ a ++ printed_statement s → c ≡ b ++ codes " -> " → d ≡ c ++ answer → e ≡ d ++ newline
+    → answer ≡ answer_text s t (run s t) → e ≡ a ++ statement_text s t
 unfolding statement_text
 line_of s t a b c d e answer p q r l same =
     l ∙ ap (λ x. x ++ newline) (r ∙ ap (λ x. x ++ answer) (q ∙ ap (λ x. x ++ codes " -> ") p))
     ∙ spread a (printed_statement s) (codes " -> ") answer newline
     ∙ ap (λ x. a ++ (((printed_statement s ++ codes " -> ") ++ x) ++ newline)) same
 
-pub line_of_rows : (s : Statement) (t new : Table) (rows : List (Row × ℤ)) (a b c d e : List ℕ) → b ≡ a ++ printed_statement s → c ≡ b ++ codes " -> " → d ≡ c ++ rows_or (codes "none") rows → e ≡ d ++ newline → Gives (run s t) rows new → e ≡ a ++ statement_text s t
+pub line_of_rows : (s : Statement) (t new : Table) (rows : List (Row × ℤ)) (a b c d e : List ℕ) → b ≡ a ++ printed_statement s → c ≡ b ++ codes " -> "
+    → d ≡ c ++ rows_or (codes "none") rows → e ≡ d ++ newline → Gives (run s t) rows new → e ≡ a ++ statement_text s t
 line_of_rows s t new rows a b c d e p q r l h = line_of s t a b c d e (rows_or (codes "none") rows) p q r l (gives_text s t new (run s t) rows h)
 
-pub line_of_fault : (s : Statement) (t : Table) (fault : TableFault) (a b c d e : List ℕ) → b ≡ a ++ printed_statement s → c ≡ b ++ codes " -> " → d ≡ c ++ fault_text fault → e ≡ d ++ newline → IsFault s t fault → fault ≢ NoMemory → e ≡ a ++ statement_text s t
+pub line_of_fault : (s : Statement) (t : Table) (fault : TableFault) (a b c d e : List ℕ) → b ≡ a ++ printed_statement s → c ≡ b ++ codes " -> " → d ≡ c ++ fault_text fault
+    → e ≡ d ++ newline → IsFault s t fault → fault ≢ NoMemory → e ≡ a ++ statement_text s t
 line_of_fault s t fault a b c d e p q r l h n =
     let why = refused s t fault h n in
     line_of s t a b c d e (fault_text fault) p q r l (why.1 ∙ ap (answer_text s t) (sym why.0))

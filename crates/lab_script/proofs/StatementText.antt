@@ -39,7 +39,8 @@ code_tokens text code is within same found =
     let all : code_of text ≡ text = all_code text (subst (λ (c : List ℕ). length text ≤ length c) is within) in
     inl (all, same ∙ found ∙ ap held_tokens (is ∙ all))
 
-pub remark_tokens : (text code : List ℕ) {ts found : List Token} → code ≡ code_of text → length code < length text → ts ≡ found ++ token.Unknown ∷ [] → found ≡ held_tokens code → AreStatementTokens text ts
+pub remark_tokens : (text code : List ℕ) {ts found : List Token} → code ≡ code_of text → length code < length text → ts ≡ found ++ token.Unknown ∷ [] → found ≡ held_tokens code
+    → AreStatementTokens text ts
 remark_tokens text code is shorter same found =
     inr (
       λ all. let len : length code ≡ length text = ap length (is ∙ all) in absurd (omega arith),

@@ -39,7 +39,8 @@ first_broken_append before [] b = refl
 first_broken_append before (s ∷ a) b = first_broken_append (broken_with before s) a b
 
 -- where a transaction has been told, the others are
-told_first : (n : ℕ) (told next : Told) (table new : Table) (whole : Whole) (wholes : List Whole) → next.text ≡ told.text ++ whole_text (n + 1) table whole → next.unprintable ≡ first_broken told.unprintable (shown_of table whole.statements) → new ≡ table_after table whole
+told_first : (n : ℕ) (told next : Told) (table new : Table) (whole : Whole) (wholes : List Whole) → next.text ≡ told.text ++ whole_text (n + 1) table whole
+    → next.unprintable ≡ first_broken told.unprintable (shown_of table whole.statements) → new ≡ table_after table whole
     → told_on (n + 1) next new wholes ≡ told_on n told table (whole ∷ wholes)
 told_first n told next table new whole wholes text broken left =
     let after : Table = table_after table whole in
@@ -51,16 +52,20 @@ told_first n told next table new whole wholes text broken left =
     } in
     at_new ∙ e
 
-module _ (n : ℕ) (told : Told) (table : Table) (inside : ℕ → Bool) (line : Line) (rest later : List Line) (total : Told) (so_far : told_by n told table inside rest ≡ total) (here : rest ≡ line ∷ later) where
+module _ (n : ℕ) (told : Told) (table : Table) (inside : ℕ → Bool) (line : Line) (rest later : List Line) (total : Told) (so_far : told_by n told table inside rest ≡ total)
+    (here : rest ≡ line ∷ later) where
   next_is : told_by n told table inside (line ∷ later) ≡ total
   next_is = ap (told_by n told table inside) (sym here) ∙ so_far
 
-  with : (b : Bool) → (is_begin line.command && not (inside line.session)) ≡ b → told_on n told table ((cond b (whole_of line.session later ∷ []) []) ++ transactions (inside_after inside line.session line.command) later) ≡ total
+  with : (b : Bool) → (is_begin line.command && not (inside line.session)) ≡ b
+      → told_on n told table ((cond b (whole_of line.session later ∷ []) []) ++ transactions (inside_after inside line.session line.command) later) ≡ total
   with b is = sym (ap (λ (x : Bool). told_on n told table ((cond x (whole_of line.session later ∷ []) []) ++ transactions (inside_after inside line.session line.command) later)) is) ∙ next_is
 
   -- a line that begins a transaction, which has been told
-  pub told_line : (after : ℕ → Bool) → after ≡ inside_after inside line.session line.command → (is_begin line.command && not (inside line.session)) ≡ true → (m : ℕ) (next : Told) (new : Table) → m ≡ n + 1 → next.text ≡ told.text ++ whole_text (n + 1) table (whole_of line.session later)
-      → next.unprintable ≡ first_broken told.unprintable (shown_of table (statements_of line.session later)) → new ≡ table_after table (whole_of line.session later) → told_by m next new after later ≡ total
+  pub told_line : (after : ℕ → Bool) → after ≡ inside_after inside line.session line.command → (is_begin line.command && not (inside line.session)) ≡ true
+      → (m : ℕ) (next : Told) (new : Table) → m ≡ n + 1 → next.text ≡ told.text ++ whole_text (n + 1) table (whole_of line.session later)
+      → next.unprintable ≡ first_broken told.unprintable (shown_of table (statements_of line.session later)) → new ≡ table_after table (whole_of line.session later)
+      → told_by m next new after later ≡ total
   told_line after moved is m next new one text broken left =
       ap (λ (k : ℕ). told_by k next new after later) one
       ∙ ap (λ (f : ℕ → Bool). told_by (n + 1) next new f later) moved
@@ -68,7 +73,8 @@ module _ (n : ℕ) (told : Told) (table : Table) (inside : ℕ → Bool) (line :
       ∙ with true is
 
   -- a line that begins none
-  pub other_line : (after : ℕ → Bool) → after ≡ inside_after inside line.session line.command → (is_begin line.command && not (inside line.session)) ≡ false → (m : ℕ) (next : Told) (new : Table) → m ≡ n → next ≡ told → new ≡ table → told_by m next new after later ≡ total
+  pub other_line : (after : ℕ → Bool) → after ≡ inside_after inside line.session line.command → (is_begin line.command && not (inside line.session)) ≡ false
+      → (m : ℕ) (next : Told) (new : Table) → m ≡ n → next ≡ told → new ≡ table → told_by m next new after later ≡ total
   other_line after moved is m next new same_number same_told same_table =
       ap (λ (k : ℕ). told_by k next new after later) same_number
       ∙ ap (λ (t : Told). told_by n t new after later) same_told

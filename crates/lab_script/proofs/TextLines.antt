@@ -69,7 +69,8 @@ cut (b ∷ bytes) = elim (cases_Bool (is_newline b)) [ inl is ↦ inr (here is) 
 -- one carriage return at the end is lost, of no bytes none
 no_return : (front : List ℕ) → no_cr front ≡ strip_carriage_return front
 no_return [] = refl
-no_return (b ∷ bytes) = ap (λ (v : Bool). cond (v && (get_or (b ∷ bytes) (length (b ∷ bytes) - 1) 0 == 13)) (take (length (b ∷ bytes) - 1) (b ∷ bytes)) (b ∷ bytes)) (lt-ltb 0 (length (b ∷ bytes)) (omega arith))
+no_return (b ∷ bytes) =
+    ap (λ (v : Bool). cond (v && (get_or (b ∷ bytes) (length (b ∷ bytes) - 1) 0 == 13)) (take (length (b ∷ bytes) - 1) (b ∷ bytes)) (b ∷ bytes)) (lt-ltb 0 (length (b ∷ bytes)) (omega arith))
 
 -- a line that a newline ends loses a carriage return before it
 ended : (front : List ℕ) → without_terminator (front ++ 10 ∷ []) ≡ strip_carriage_return front
@@ -93,7 +94,8 @@ unended (b ∷ bytes) whole =
     let one : lines_of line ≡ line ∷ [] = lines-step line some ∙ ap (λ (k : ℕ). take k line ∷ lines_of (drop k line)) whole.len
     ∙ ap (λ (l : List ℕ). l ∷ lines_of (drop (length line) line)) (take_all (length line) line (omega arith))
     ∙ ap (λ (l : List ℕ). line ∷ lines_of l) (drop_all (length line) line (omega arith)) ∙ ap (λ (ls : List (List ℕ)). line ∷ ls) lines-nil in
-    let kept : without_terminator line ≡ line = ap (λ (v : Bool). cond v (no_cr (take (length line - 1) line)) line) (ap (λ (v : Bool). nat_lt 0 (length line) && v) (whole.free (length line - 1)) ∙ and-false (nat_lt 0 (length line))) in
+    let kept : without_terminator line ≡ line =
+    ap (λ (v : Bool). cond v (no_cr (take (length line - 1) line)) line) (ap (λ (v : Bool). nat_lt 0 (length line) && v) (whole.free (length line - 1)) ∙ and-false (nat_lt 0 (length line))) in
     ap (map without_terminator) one ∙ ap (λ (l : List ℕ). l ∷ []) kept
     ∙ ap (λ (v : Bool). cond v [] (line ∷ [])) (sym (eqb-suc-zero (length bytes)))
     ∙ ap lines_of_parts (sym whole.part)

@@ -35,7 +35,8 @@ letters_run (b ∷ bs) word =
     elim (cases_Bool (is_letter b)) [
       | inl is ↦ goes_on (letters word) (letters (word ++ to_ascii_lowercase b ∷ [])) b bs (ap (λ (v : Bool). cond v (Some (letters (word ++ to_ascii_lowercase b ∷ []))) None) is)
           ∙ letters_run bs (word ++ to_ascii_lowercase b ∷ [])
-          ∙ ap (λ (w : List ℕ). token.Word (word_named w) ∷ tokens (drop (prefix_len is_letter bs) bs)) (append_assoc word (to_ascii_lowercase b ∷ []) (map to_ascii_lowercase (take (prefix_len is_letter bs) bs)))
+          ∙ ap (λ (w : List ℕ). token.Word (word_named w) ∷ tokens (drop (prefix_len is_letter bs) bs))
+          (append_assoc word (to_ascii_lowercase b ∷ []) (map to_ascii_lowercase (take (prefix_len is_letter bs) bs)))
           ∙ ap (word_then word (b ∷ bs)) (one_more is_letter b bs is)
       | inr isnt ↦ breaks (letters word) b bs (ap (λ (v : Bool). cond v (Some (letters (word ++ to_ascii_lowercase b ∷ []))) None) isnt)
           ∙ ap (λ (w : List ℕ). token.Word (word_named w) ∷ tokens (b ∷ bs)) (sym (append-nil word))
@@ -88,7 +89,8 @@ word_begins b bs p q =
     ∙ sym (goes_on (letters []) (letters (to_ascii_lowercase b ∷ [])) b bs (ap (λ (v : Bool). cond v (Some (letters (to_ascii_lowercase b ∷ []))) None) q))
 
 pub digit_goes_on : (n b : ℕ) (bs : List ℕ) → is_ascii_digit b ≡ true → tokens_from (whole (token.Digits n)) (b ∷ bs) ≡ tokens_from (whole (token.Digits (10 * n + (b - 48)))) bs
-digit_goes_on n b bs q = goes_on (whole (token.Digits n)) (whole (token.Digits (10 * n + (b - 48)))) b bs (ap (λ (v : Bool). option_map whole (cond v (Some (token.Digits (10 * n + (b - 48)))) None)) q)
+digit_goes_on n b bs q =
+    goes_on (whole (token.Digits n)) (whole (token.Digits (10 * n + (b - 48)))) b bs (ap (λ (v : Bool). option_map whole (cond v (Some (token.Digits (10 * n + (b - 48)))) None)) q)
 
 pub digit_ends : (n b : ℕ) (bs : List ℕ) → is_ascii_digit b ≡ false → tokens_from (whole (token.Digits n)) (b ∷ bs) ≡ token.Digits n ∷ tokens (b ∷ bs)
 digit_ends n b bs q = breaks (whole (token.Digits n)) b bs (ap (λ (v : Bool). option_map whole (cond v (Some (token.Digits (10 * n + (b - 48)))) None)) q)
@@ -105,13 +107,10 @@ pub mark_begins : (b : ℕ) (bs : List ℕ) → is_blank b ≡ false → is_lett
 mark_begins b bs p q r =
     from_part bs _ _ (last (is_blank b) (is_letter b) (is_ascii_digit b) gap (letters (to_ascii_lowercase b ∷ [])) (whole (token.Digits (b - 48))) (whole (mark b)) p q r)
 
-pub digits_on : (n i : ℕ) (bs : List ℕ) → i < length bs → is_ascii_digit (get_or bs i 0) ≡ true → tokens_from (whole (token.Digits n)) (drop i bs) ≡ tokens_from (whole (token.Digits (10 * n + (get_or bs i 0 - 48)))) (drop (i + 1) bs)
-digits_on n i bs lt q = ap (tokens_from (whole (token.Digits n))) (drop-cons bs i 0 lt ∙ ap (λ (k : ℕ). get_or bs i 0 ∷ drop k bs) (sym (add-one i))) ∙ digit_goes_on n (get_or bs i 0) (drop (i + 1) bs) q
-
-pub digits_end : (n i : ℕ) (bs : List ℕ) → i < length bs → is_ascii_digit (get_or bs i 0) ≡ false → tokens_from (whole (token.Digits n)) (drop i bs) ≡ token.Digits n ∷ tokens (drop i bs)
-digits_end n i bs lt q =
-    let split : drop i bs ≡ get_or bs i 0 ∷ drop (suc i) bs = drop-cons bs i 0 lt in
-    ap (tokens_from (whole (token.Digits n))) split ∙ digit_ends n (get_or bs i 0) (drop (suc i) bs) q ∙ ap (λ (x : List ℕ). token.Digits n ∷ tokens x) (sym split)
+pub digits_on : (n i : ℕ) (bs : List ℕ) → i < length bs → is_ascii_digit (get_or bs i 0) ≡ true
+    → tokens_from (whole (token.Digits n)) (drop i bs) ≡ tokens_from (whole (token.Digits (10 * n + (get_or bs i 0 - 48)))) (drop (i + 1) bs)
+digits_on n i bs lt q =
+    ap (tokens_from (whole (token.Digits n))) (drop-cons bs i 0 lt ∙ ap (λ (k : ℕ). get_or bs i 0 ∷ drop k bs) (sym (add-one i))) ∙ digit_goes_on n (get_or bs i 0) (drop (i + 1) bs) q
 
 -- a token that no byte makes longer is whole
 pub whole_run : (t : Token) (bs : List ℕ) → ((b : ℕ) → longer_token t b ≡ None) → tokens_from (whole t) bs ≡ t ∷ tokens bs
@@ -128,7 +127,16 @@ either true t u p q = p
 either false t u p q = q
 
 others : (b : ℕ) → (b == 60) ≡ false → (b == 62) ≡ false → Still (mark b)
-others b p q = rw (p, q) (either (b == 40) token.Open _ (record { ends = λ n. refl; kept = refl }) (either (b == 41) token.Close _ (record { ends = λ n. refl; kept = refl }) (either (b == 44) token.Comma _ (record { ends = λ n. refl; kept = refl }) (either (b == 59) token.Semicolon _ (record { ends = λ n. refl; kept = refl }) (either (b == 42) token.Star _ (record { ends = λ n. refl; kept = refl }) (either (b == 61) token.Equal _ (record { ends = λ n. refl; kept = refl }) (either (b == 37) token.Percent _ (record { ends = λ n. refl; kept = refl }) (either (b == 43) token.Plus _ (record { ends = λ n. refl; kept = refl }) (either (b == 45) token.Minus _ (record { ends = λ n. refl; kept = refl }) (record { ends = λ n. refl; kept = refl }))))))))))
+others b p q =
+    rw (p, q) (either (b == 40) token.Open _ (record { ends = λ n. refl; kept = refl })
+    (either (b == 41) token.Close _ (record { ends = λ n. refl; kept = refl })
+    (either (b == 44) token.Comma _ (record { ends = λ n. refl; kept = refl })
+    (either (b == 59) token.Semicolon _ (record { ends = λ n. refl; kept = refl })
+    (either (b == 42) token.Star _ (record { ends = λ n. refl; kept = refl })
+    (either (b == 61) token.Equal _ (record { ends = λ n. refl; kept = refl })
+    (either (b == 37) token.Percent _ (record { ends = λ n. refl; kept = refl })
+    (either (b == 43) token.Plus _ (record { ends = λ n. refl; kept = refl })
+    (either (b == 45) token.Minus _ (record { ends = λ n. refl; kept = refl }) (record { ends = λ n. refl; kept = refl }))))))))))
 
 mark_run : (b : ℕ) (bs : List ℕ) → (b == 60) ≡ false → (b == 62) ≡ false → held_from (whole (mark b)) bs ≡ mark b ∷ held_tokens bs
 mark_run b bs p q =
@@ -142,10 +150,12 @@ isnt_eq a b h = false_from_ne_true (a == b) (λ e. h (eqb-true a b e))
 pub other_mark : (b : ℕ) (bs : List ℕ) (t : Token) → t ≡ mark b → (b ≡ 60 → ⊥) → (b ≡ 62 → ⊥) → held_from (whole (mark b)) bs ≡ t ∷ held_tokens bs
 other_mark b bs t e p q = mark_run b bs (isnt_eq b 60 p) (isnt_eq b 62 q) ∙ ap (λ (u : Token). u ∷ held_tokens bs) (sym e)
 
-word_run : (bs text rest : List ℕ) (len : ℕ) (word : Word) → len ≡ prefix_len is_letter bs → text ≡ take len bs → rest ≡ drop len bs → word ≡ word_named (map to_ascii_lowercase text) → tokens_from (letters []) bs ≡ token.Word word ∷ tokens rest
+word_run : (bs text rest : List ℕ) (len : ℕ) (word : Word) → len ≡ prefix_len is_letter bs → text ≡ take len bs → rest ≡ drop len bs
+    → word ≡ word_named (map to_ascii_lowercase text) → tokens_from (letters []) bs ≡ token.Word word ∷ tokens rest
 word_run bs text rest len word p q r e = rw (e, q, r, p) (letters_run bs [])
 
-pub whole_word : (bs text rest : List ℕ) (len : ℕ) (word : Word) → len ≡ prefix_len is_letter bs → text ≡ take len bs → rest ≡ drop len bs → word ≡ word_named (map to_ascii_lowercase text) → held_from (letters []) bs ≡ token.Word word ∷ held_tokens rest
+pub whole_word : (bs text rest : List ℕ) (len : ℕ) (word : Word) → len ≡ prefix_len is_letter bs → text ≡ take len bs → rest ≡ drop len bs
+    → word ≡ word_named (map to_ascii_lowercase text) → held_from (letters []) bs ≡ token.Word word ∷ held_tokens rest
 whole_word bs text rest len word p q r e = ap (map held) (word_run bs text rest len word p q r e)
 
 -- what is held of digits depends on their number only as far as it is told apart
@@ -175,14 +185,17 @@ not_blank bs mid after k b p q r = front_stops is_blank bs b after (ap (λ (n : 
 pub found_none : (bs mid : List ℕ) (k : ℕ) → k ≡ prefix_len is_blank bs → mid ≡ drop k bs → mid ≡ [] → tokens bs ≡ []
 found_none bs mid k p q r = skipped bs mid k p q ∙ ap tokens r
 
-pub found_word : (bs mid after : List ℕ) (k b : ℕ) (r : List Token) → k ≡ prefix_len is_blank bs → mid ≡ drop k bs → mid ≡ b ∷ after → is_letter b ≡ true → held_from (letters []) mid ≡ r → held_tokens bs ≡ r
+pub found_word : (bs mid after : List ℕ) (k b : ℕ) (r : List Token) → k ≡ prefix_len is_blank bs → mid ≡ drop k bs → mid ≡ b ∷ after → is_letter b ≡ true
+    → held_from (letters []) mid ≡ r → held_tokens bs ≡ r
 found_word bs mid after k b r p q e is h =
     ap (map held) (skipped bs mid k p q ∙ ap tokens e ∙ word_begins b after (not_blank bs mid after k b p q e) is ∙ ap (tokens_from (letters [])) (sym e)) ∙ h
 
-pub found_digits : (bs mid after : List ℕ) (k b : ℕ) (r : List Token) → k ≡ prefix_len is_blank bs → mid ≡ drop k bs → mid ≡ b ∷ after → is_letter b ≡ false → is_ascii_digit b ≡ true → held_from (whole (token.Digits 0)) mid ≡ r → held_tokens bs ≡ r
+pub found_digits : (bs mid after : List ℕ) (k b : ℕ) (r : List Token) → k ≡ prefix_len is_blank bs → mid ≡ drop k bs → mid ≡ b ∷ after → is_letter b ≡ false
+    → is_ascii_digit b ≡ true → held_from (whole (token.Digits 0)) mid ≡ r → held_tokens bs ≡ r
 found_digits bs mid after k b r p q e isnt is h =
     ap (map held) (skipped bs mid k p q ∙ ap tokens e ∙ digits_begin b after (not_blank bs mid after k b p q e) isnt is ∙ ap (tokens_from (whole (token.Digits 0))) (sym e)) ∙ h
 
-pub found_mark : (bs mid after : List ℕ) (k b : ℕ) (r : List Token) → k ≡ prefix_len is_blank bs → mid ≡ drop k bs → mid ≡ b ∷ after → is_letter b ≡ false → is_ascii_digit b ≡ false → held_from (whole (mark b)) after ≡ r → held_tokens bs ≡ r
+pub found_mark : (bs mid after : List ℕ) (k b : ℕ) (r : List Token) → k ≡ prefix_len is_blank bs → mid ≡ drop k bs → mid ≡ b ∷ after → is_letter b ≡ false
+    → is_ascii_digit b ≡ false → held_from (whole (mark b)) after ≡ r → held_tokens bs ≡ r
 found_mark bs mid after k b r p q e isnt isnt' h =
     ap (map held) (skipped bs mid k p q ∙ ap tokens e ∙ mark_begins b after (not_blank bs mid after k b p q e) isnt isnt') ∙ h

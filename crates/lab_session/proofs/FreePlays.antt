@@ -29,7 +29,8 @@ same_commands session before [] = refl
 same_commands session before (event ∷ log) = at (event.session == session && is_answer event.outcome) (same_commands session (before + 1) log)
   where
     at : (b : Bool) → commands_in (calls_behind session (before + 1) log) ≡ commands_called session log
-        → commands_in (cond b (call_at (before + 1) event ∷ []) [] ++ calls_behind session (before + 1) log) ≡ map (λ (e : LogEvent). e.command) (cond b (event ∷ calls session log) (calls session log))
+        → commands_in (cond b (call_at (before + 1) event ∷ []) [] ++ calls_behind session (before + 1) log)
+        ≡ map (λ (e : LogEvent). e.command) (cond b (event ∷ calls session log) (calls session log))
     at true h = ap (λ l. event.command ∷ l) h
     at false h = h
 

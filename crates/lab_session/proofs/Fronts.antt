@@ -31,7 +31,8 @@ pub nothing_covered : (past : Past) → IsCovered past (record { lines = 0; of_s
 nothing_covered past session few = omega (arith, no_counts session)
 
 -- one line more, which is its session's
-module _ (lines : List ScriptLine) (front : Front) (line : ScriptLine) (behind : IsBehind lines front) (lt : front.lines < length lines) (is : line ≡ get_or lines front.lines line) (own : IsSession line.session) where
+module _ (lines : List ScriptLine) (front : Front) (line : ScriptLine) (behind : IsBehind lines front) (lt : front.lines < length lines)
+    (is : line ≡ get_or lines front.lines line) (own : IsSession line.session) where
   abbrev more : List Line
   more = (line.session, line.command) ∷ behind.passed
 
@@ -44,7 +45,8 @@ module _ (lines : List ScriptLine) (front : Front) (line : ScriptLine) (behind :
 
   own_more : suc (lines_by line.session behind.passed) ≡ lines_by line.session more
   own_more = elim (eqb_tells line.session line.session) [
-    | inl p ↦ omega (arith, subst (λ (b : Bool). cond b 1 0 + lines_by line.session behind.passed ≡ lines_by line.session more) p.0 (lines_more line.session (line.session, line.command) behind.passed))
+    | inl p ↦
+        omega (arith, subst (λ (b : Bool). cond b 1 0 + lines_by line.session behind.passed ≡ lines_by line.session more) p.0 (lines_more line.session (line.session, line.command) behind.passed))
     | inr p ↦ absurd (p.1 refl)
   ]
 
@@ -53,7 +55,8 @@ module _ (lines : List ScriptLine) (front : Front) (line : ScriptLine) (behind :
   step past covered =
       ap (λ l. next_line past behind.passed (given_lines l)) (drop_at lines front.lines line lt is)
       ∙ ap (λ b. cond b (next_line past more (given_lines (drop (front.lines + 1) lines))) (Some (line.session, line.command)))
-      (ap (λ b. is_some (waiting past line.session) || b) (lt-ltb (lines_by line.session behind.passed) (given past line.session) (omega (arith, own_more, covered))) ∙ or-true (is_some (waiting past line.session)))
+      (ap (λ b. is_some (waiting past line.session) || b) (lt-ltb (lines_by line.session behind.passed) (given past line.session) (omega (arith, own_more, covered)))
+      ∙ or-true (is_some (waiting past line.session)))
 
   small : line.session < 10
   small = omega (arith, own)

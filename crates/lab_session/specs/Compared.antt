@@ -15,5 +15,6 @@ Fits (Differs place) = Unit {0}
 -- what a comparison says of the seats of a session, whose calls in a log are `all`, where those of the events not yet walked are `rest`
 abbrev pub Says : List Seated → ℕ → List Call → List Call → Comparison → Type 0
 Says seats session all rest Unseated = seats_of session seats ≡ 0
-Says seats session all rest (Agrees calls met) = (seat : Seated) × Contains seats seat × (seat.session ≡ session) × (seat.calls ≡ calls.now) × (met ≤ length calls.now) × (all ≡ take met calls.now ++ rest)
+Says seats session all rest (Agrees calls met) =
+    (seat : Seated) × Contains seats seat × (seat.session ≡ session) × (seat.calls ≡ calls.now) × (met ≤ length calls.now) × (all ≡ take met calls.now ++ rest)
 Says seats session all rest (Differs place) = (seat : Seated) × Contains seats seat × (seat.session ≡ session) × DifferFirst seat.calls all place

@@ -1,10 +1,16 @@
 use Rattle.std.proofs.Common.{inl, inr, refl, rules}
-use Rattle.lab_commands.proofs.Refusals.{each_ok}
+use Rattle.std.proofs.lemmas.Result.{IfOk-weaker}
 use Rattle.lab_commands.proofs.playing.answer.Goals as goal
 
 pub returns-in-Ok-played : goal.returns-in-Ok-played
 returns-in-Ok-played c =
-    each_ok c.told.result (λ answer tells. inl (record { script = c.in-Ok.script; spelled = c.in-Ok.ensures.found; recording = c.in-Ok-played.recording; played = c.in-Ok-played.ensures.play; tells = tells })) c.told.ensures
+    IfOk-weaker c.told.result _ _ (λ answer tells. inl (record {
+      script = c.in-Ok.script;
+      spelled = c.in-Ok.ensures.found;
+      recording = c.in-Ok-played.recording;
+      played = c.in-Ok-played.ensures.play;
+      tells = tells;
+    })) c.told.ensures
 
 pub returns : goal.returns
 returns c =

@@ -12,7 +12,8 @@ loop-op-preserved c =
     let all = flat_map f c.args.ops.now in
     let old = c.loop-op.edges.items in
     let behind = drop (c.loop-op.op-index + 1) c.args.ops.now in
-    let left : drop c.loop-op.op-index c.args.ops.now ≡ c.op-item.result ∷ behind = drop_more c.args.ops.now c.loop-op.op-index c.op-item.result c.loop-op-test.true ∙ ap (λ op. op ∷ behind) (sym c.op-item.is) in
+    let left : drop c.loop-op.op-index c.args.ops.now ≡ c.op-item.result ∷ behind =
+    drop_more c.args.ops.now c.loop-op.op-index c.op-item.result c.loop-op-test.true ∙ ap (λ op. op ∷ behind) (sym c.op-item.is) in
     let so_far = subst (λ ops. HasMembersOf (old ++ flat_map f ops) all) left c.loop-op.invariant in
     let tidy = c.without_doubles.new.edges.items in
     let has = members_of tidy c.add_op.new.edges.items (old ++ f c.op-item.result) c.in_ok-most.ensures c.in_ok-add_op.ensures in

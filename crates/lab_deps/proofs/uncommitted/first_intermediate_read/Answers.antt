@@ -7,7 +7,9 @@ use Rattle.lab_deps.proofs.UncommittedReads.{intermediate_stands, none_intermedi
 use Rattle.lab_deps.proofs.uncommitted.first_intermediate_read.Goals as goal
 
 pub returns-clause-found : goal.returns-clause-found
-returns-clause-found c = IfOk-weaker c.first_read.result _ _ (λ found is. subst (λ o. IfSome o (λ read. Stands c.args.history.now (IntermediateRead read.txn read.op read.row))) (sym is) (intermediate_stands c.args.history.now)) c.first_read.ensures
+returns-clause-found c =
+    IfOk-weaker c.first_read.result _ _ (λ found is. subst (λ o. IfSome o (λ read. Stands c.args.history.now (IntermediateRead read.txn read.op read.row))) (sym is)
+    (intermediate_stands c.args.history.now)) c.first_read.ensures
 
 pub returns-clause-none : goal.returns-clause-none
 returns-clause-none c = IfOk-weaker c.first_read.result _ _ (λ found is none. none_intermediate c.args.history.now (sym is ∙ none)) c.first_read.ensures

@@ -6,9 +6,9 @@ use Rattle.std.specs.List.{All}
 use Rattle.lab_engine.specs.declared.circle.Hop.{Hop}
 use Rattle.lab_engine.specs.declared.waits.Wait.{Wait}
 use Rattle.lab_engine.specs.WaitsFor.{IsRound, waits_for}
-use Rattle.lab_engine.specs.Hops.{is_reached, trail, IsNewHop, IsSearched}
+use Rattle.lab_engine.specs.Hops.{is_reached, trail, IsNewHop}
 use Rattle.lab_engine.proofs.Walks.{trail_round, no_walk, fewer_missing, missing}
-use Rattle.lab_engine.proofs.ShortestWalks.{nobody_new, search_goes_on, found_shortest}
+use Rattle.lab_engine.proofs.ShortestWalks.{nobody_new, search_goes_on, found_shortest, IsSearched}
 use Rattle.lab_engine.proofs.circle.shortest_circle.Goals as goal
 
 -- what isn't 0 is more

@@ -1,5 +1,5 @@
 use Rattle.std.proofs.Common.{ℕ}
-use Rattle.lab_engine.specs.Hops.{IsSearched}
+use Rattle.lab_engine.proofs.ShortestWalks.{IsSearched}
 use Rattle.lab_engine.proofs.Walks.{missing}
 use Rattle.lab_engine.proofs.circle.shortest_circle.Given as goal
 

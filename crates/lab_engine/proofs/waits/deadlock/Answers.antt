@@ -1,8 +1,8 @@
 use Rattle.std.proofs.Common.{◌≡◌, ◌∷◌, ◌++◌, [], refl, sym, subst, ◌∙◌}
 use Rattle.lab_engine.specs.declared.waits.Wait.{Wait}
-use Rattle.lab_engine.specs.WaitsFor.{AreBlockers, AreWaitsWith}
+use Rattle.lab_engine.specs.WaitsFor.{AreBlockers}
 use Rattle.lab_engine.proofs.Circles.{deadlock_is}
-use Rattle.lab_engine.proofs.Waiting.{waits_with}
+use Rattle.lab_engine.proofs.Waiting.{waits_with, AreWaitsWith}
 use Rattle.lab_engine.proofs.waits.deadlock.Goals as goal
 
 pub returns : goal.returns

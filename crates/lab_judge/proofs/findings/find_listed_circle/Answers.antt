@@ -20,5 +20,6 @@ find_circle-requires-clause-ends c =
 pub returns : goal.returns
 returns c =
     IfOk-weaker c.find_circle.result _ _
-    (λ finding finds. finds_g0 c.args.history.now finding (finds c.args.history.now (subst (HasEdgesOf c.args.history.now Writes) (sym c.deref-2.ensures.value) (has_writes c.args.history.now c.in_ok-edges.edges.items c.in_ok-edges.ensures.exact))))
+    (λ finding finds. finds_g0 c.args.history.now finding (finds c.args.history.now
+    (subst (HasEdgesOf c.args.history.now Writes) (sym c.deref-2.ensures.value) (has_writes c.args.history.now c.in_ok-edges.edges.items c.in_ok-edges.ensures.exact))))
     c.find_circle.ensures

@@ -6,5 +6,13 @@ pub returns : goal.returns
 returns c =
     let none = c.requires.forward in
     let aborted : NoG1a c.args._history.now = none_aborted c.args._history.now c.requires.sound in
-    let intermediate : NoG1b c.args._history.now = none_intermediate c.args._history.now c.requires.sound in
-    (λ es w. none es w.0, aborted, intermediate, λ es w. none es w.0, λ es w. none es w.0, λ es w. none es w.0, λ es w. none es w.0, ((aborted, intermediate, λ es w. none es w.0), λ es w. none es w.0))
+    let intermediate : NoG1b c.args._history.now = none_intermediate c.args._history.now c.requires.sound in (
+      λ es w. none es w.0,
+      aborted,
+      intermediate,
+      λ es w. none es w.0,
+      λ es w. none es w.0,
+      λ es w. none es w.0,
+      λ es w. none es w.0,
+      ((aborted, intermediate, λ es w. none es w.0), λ es w. none es w.0),
+    )

@@ -36,8 +36,11 @@ loop-edge-preserved c =
           ∙ ap (λ n. position nodes e.from == a && n == b || has_arrow old a b) w.place-then-not-repeats.ensures.place
           ) in
           record {
-            graph = subst (IsGraphOf allowed nodes (take (i + 1) es)) (sym w.graph-is) (with_next allowed nodes e es i c.loop-edge-test.true c.edge-item.is old new g w.in_ok-add.ensures.nodes (sym c.allows.ensures ∙ w.if-allows.true) arrows);
-            last = subst (λ (graph : Arrows). (other : Edge) → Some e ≡ Some other → allows allowed other.kind ≡ true → has_arrow graph (position nodes other.from) (position nodes other.to) ≡ true) (sym w.graph-is)
+            graph =
+                subst (IsGraphOf allowed nodes (take (i + 1) es)) (sym w.graph-is)
+                (with_next allowed nodes e es i c.loop-edge-test.true c.edge-item.is old new g w.in_ok-add.ensures.nodes (sym c.allows.ensures ∙ w.if-allows.true) arrows);
+            last = subst (λ (graph : Arrows). (other : Edge) → Some e ≡ Some other → allows allowed other.kind ≡ true → has_arrow graph (position nodes other.from)
+                (position nodes other.to) ≡ true) (sym w.graph-is)
                 (λ other same _. is_last allowed nodes e new (has_own allowed nodes e old new arrows) other same);
           }
       | else-allows w ↦ elim w.else-allows.branch [
@@ -45,7 +48,8 @@ loop-edge-preserved c =
             let there = repeated allowed nodes e c.loop-edge.before old c.loop-edge.invariant.last (sym v.if-not-repeats.ensures) in
             record {
               graph = subst (IsGraphOf allowed nodes (take (i + 1) es)) (sym w.graph-is) (with_known allowed nodes e es i c.loop-edge-test.true c.edge-item.is old g there);
-              last = subst (λ (graph : Arrows). (other : Edge) → Some e ≡ Some other → allows allowed other.kind ≡ true → has_arrow graph (position nodes other.from) (position nodes other.to) ≡ true) (sym w.graph-is)
+              last = subst (λ (graph : Arrows). (other : Edge) → Some e ≡ Some other → allows allowed other.kind ≡ true → has_arrow graph (position nodes other.from)
+                  (position nodes other.to) ≡ true) (sym w.graph-is)
                   (λ other same _. is_last allowed nodes e old there other same);
             }
         | else-allows-via-else-allows v ↦

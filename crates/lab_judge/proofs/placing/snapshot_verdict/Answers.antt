@@ -19,12 +19,14 @@ pub places_in-requires-clause-within : goal.places_in-requires-clause-within
 places_in-requires-clause-within c =
     let ordered = subst (IsOrdered c.in_ok-graph.graph) c.in-Order.is c.in_ok-order.ensures.ordered in
     subst (All (λ n. n < 2 * c.len.result)) (sym c.deref.ensures.value)
-    (subst (λ k. All (λ n. n < k) c.in-Order.order.items) (c.in_ok-graph.ensures.size ∙ ap (λ k. 2 * k) (sym c.len.ensures.count)) (within c.in_ok-graph.graph c.in-Order.order.items ordered.each_once))
+    (subst (λ k. All (λ n. n < k) c.in-Order.order.items) (c.in_ok-graph.ensures.size ∙ ap (λ k. 2 * k) (sym c.len.ensures.count))
+    (within c.in_ok-graph.graph c.in-Order.order.items ordered.each_once))
 
 pub places_in-requires-clause-once : goal.places_in-requires-clause-once
 places_in-requires-clause-once c = λ node.
     let ordered = subst (IsOrdered c.in_ok-graph.graph) c.in-Order.is c.in_ok-order.ensures.ordered in
-    subst (λ l. count_by (λ n. n == node) l ≤ 1) (sym c.deref.ensures.value) (subst (λ k. k ≤ 1) (times_count node c.in-Order.order.items) (once_in c.in_ok-graph.graph c.in-Order.order.items ordered.each_once node))
+    subst (λ l. count_by (λ n. n == node) l ≤ 1) (sym c.deref.ensures.value)
+    (subst (λ k. k ≤ 1) (times_count node c.in-Order.order.items) (once_in c.in_ok-graph.graph c.in-Order.order.items ordered.each_once node))
 
 pub places_in-requires-clause-few : goal.places_in-requires-clause-few
 places_in-requires-clause-few c =
@@ -37,14 +39,16 @@ pub returns-in-Order-clause-verdict : goal.returns-in-Order-clause-verdict
 returns-in-Order-clause-verdict c =
     let ordered = subst (IsOrdered c.in_ok-graph.graph) c.in-Order.is c.in_ok-order.ensures.ordered in
     let are = subst (λ l. (node : ℕ) → Contains l node → slice_index c.in_ok-places-in-Order.places.items node ≡ position l node) c.deref.ensures.value c.in_ok-places-in-Order.ensures.places in
-    runs c.args._history.now c.args.nodes.now c.requires.nodes c.args.edges.now c.requires.exact c.in_ok-graph.graph c.in_ok-graph.ensures c.in-Order.order.items ordered c.in_ok-places-in-Order.places.items are c.requires.sound c.new.result
+    runs c.args._history.now c.args.nodes.now c.requires.nodes c.args.edges.now c.requires.exact c.in_ok-graph.graph c.in_ok-graph.ensures c.in-Order.order.items ordered
+    c.in_ok-places-in-Order.places.items are c.requires.sound c.new.result
     (c.new.ensures ∙ c.in_ok-spans-in-Order.ensures ∙ ap (λ l. map (span_in c.args.nodes.now l) c.args.nodes.now) c.deref-in-Order.ensures.value)
 
 pub returns-in-Order-clause-rests : goal.returns-in-Order-clause-rests
 returns-in-Order-clause-rests c =
     let ordered = subst (IsOrdered c.in_ok-graph.graph) c.in-Order.is c.in_ok-order.ensures.ordered in
     let are = subst (λ l. (node : ℕ) → Contains l node → slice_index c.in_ok-places-in-Order.places.items node ≡ position l node) c.deref.ensures.value c.in_ok-places-in-Order.ensures.places in
-    rests c.args._history.now c.args.nodes.now c.requires.nodes c.args.edges.now c.requires.exact c.in_ok-graph.graph c.in_ok-graph.ensures c.in-Order.order.items ordered c.in_ok-places-in-Order.places.items are c.requires.sound c.new.result
+    rests c.args._history.now c.args.nodes.now c.requires.nodes c.args.edges.now c.requires.exact c.in_ok-graph.graph c.in_ok-graph.ensures c.in-Order.order.items ordered
+    c.in_ok-places-in-Order.places.items are c.requires.sound c.new.result
     (c.new.ensures ∙ c.in_ok-spans-in-Order.ensures ∙ ap (λ l. map (span_in c.args.nodes.now l) c.args.nodes.now) c.deref-in-Order.ensures.value)
 
 pub points_of-requires : goal.points_of-requires
@@ -58,5 +62,6 @@ returns-clause-verdict c =
     let circle = subst (IsOrdered c.in_ok-graph.graph) c.in-Circle.is c.in_ok-order.ensures.ordered in
     let made = c.new-in-Circle.ensures ∙ c.in_ok-points-in-Circle.ensures ∙ ap (map (point_at c.args.nodes.now)) c.deref-in-Circle.ensures.value in (
       c.requires.sound,
-      subst (IsCircle c.args._history.now) (sym made) (circle_is c.args._history.now c.args.nodes.now c.requires.nodes c.args.edges.now c.requires.exact c.in_ok-graph.graph c.in_ok-graph.ensures c.in-Circle.circle.items circle),
+      subst (IsCircle c.args._history.now) (sym made) (circle_is c.args._history.now c.args.nodes.now c.requires.nodes c.args.edges.now c.requires.exact c.in_ok-graph.graph
+          c.in_ok-graph.ensures c.in-Circle.circle.items circle),
     )

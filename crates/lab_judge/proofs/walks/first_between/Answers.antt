@@ -6,4 +6,5 @@ use Rattle.lab_judge.proofs.walks.first_between.Goals as goal
 
 pub returns-clause-point : goal.returns-clause-point
 returns-clause-point c =
-    IsPartitionPoint-from_clause (stands_before c.args.from c.args.to) c.args.edges.now c.partition_point.result c.partition_point.ensures.partitioned (parted c.args.from c.args.to c.args.edges.now c.requires) (λ a r f' called. (search rules, search rules))
+    IsPartitionPoint-from_clause (stands_before c.args.from c.args.to) c.args.edges.now c.partition_point.result c.partition_point.ensures.partitioned
+    (parted c.args.from c.args.to c.args.edges.now c.requires) (λ a r f' called. (search rules, search rules))

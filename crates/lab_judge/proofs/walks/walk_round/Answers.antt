@@ -4,9 +4,12 @@ use Rattle.lab_judge.proofs.walks.walk_round.Goals as goal
 
 pub walk_along-requires-clause-way : goal.walk_along-requires-clause-way
 walk_along-requires-clause-way c =
-    (round c.args.allowed c.args.nodes.now c.args.edges.now c.args.circle.items c.requires.circle c.index-first.result.now c.deref.result.now c.index-first.ensures (c.deref.ensures.value ∙ c.in_ok-push.ensures.items)).leads
+    (round c.args.allowed c.args.nodes.now c.args.edges.now c.args.circle.items c.requires.circle c.index-first.result.now c.deref.result.now c.index-first.ensures
+    (c.deref.ensures.value ∙ c.in_ok-push.ensures.items)).leads
 
 pub returns-clause-closed : goal.returns-clause-closed
 returns-clause-closed c = λ h real.
-    let back = round c.args.allowed c.args.nodes.now c.args.edges.now c.args.circle.items c.requires.circle c.index-first.result.now c.deref.result.now c.index-first.ensures (c.deref.ensures.value ∙ c.in_ok-push.ensures.items) in
-    closed_round h c.args.allowed c.args.nodes.now c.args.edges.now c.index-first.result.now _ back c.in_ok-walk_along.field-0.items c.new.result c.new.ensures c.in_ok-walk_along.ensures.length (c.in_ok-walk_along.ensures.walk h real)
+    let back = round c.args.allowed c.args.nodes.now c.args.edges.now c.args.circle.items c.requires.circle c.index-first.result.now c.deref.result.now c.index-first.ensures
+    (c.deref.ensures.value ∙ c.in_ok-push.ensures.items) in
+    closed_round h c.args.allowed c.args.nodes.now c.args.edges.now c.index-first.result.now _ back c.in_ok-walk_along.field-0.items c.new.result c.new.ensures
+    c.in_ok-walk_along.ensures.length (c.in_ok-walk_along.ensures.walk h real)

@@ -11,5 +11,7 @@ returns-in-Ok-clause-cell c =
 pub returns : goal.returns
 returns c = record {
   cell = tt;
-  fault = fault_is c.args.name Snapshot _ _ c.in_ok-script.script c.in_ok-script.ensures (c.new-engine.ensures.opening ∙ c.in_ok-copy.ensures) c.new-engine.ensures.kind c.in-Err.fault c.in-Err.ensures.fault;
+  fault =
+      fault_is c.args.name Snapshot _ _ c.in_ok-script.script c.in_ok-script.ensures
+      (c.new-engine.ensures.opening ∙ c.in_ok-copy.ensures) c.new-engine.ensures.kind c.in-Err.fault c.in-Err.ensures.fault;
 }

@@ -9,5 +9,6 @@ use Rattle.lab_order.proofs.reach.reaching.Goals as goal
 pub returns-clause-exact : goal.returns-clause-exact
 returns-clause-exact c =
     IfOk-weaker c.have_notes.result _ _
-    (λ marks is from. subst (λ b. IsTrue b ↔ Reaches c.args.graph.now from c.args.goal) (sym (marked_is_noted c.deref.result.now marks.items is from)) (subst (λ notes. IsTrue (is_some (steps_of notes from)) ↔ Reaches c.args.graph.now from c.args.goal) (sym c.deref.ensures.value) (c.in_ok-notes.ensures.exact from)))
+    (λ marks is from. subst (λ b. IsTrue b ↔ Reaches c.args.graph.now from c.args.goal) (sym (marked_is_noted c.deref.result.now marks.items is from))
+    (subst (λ notes. IsTrue (is_some (steps_of notes from)) ↔ Reaches c.args.graph.now from c.args.goal) (sym c.deref.ensures.value) (c.in_ok-notes.ensures.exact from)))
     c.have_notes.ensures

@@ -1,12 +1,13 @@
-use Rattle.std.proofs.Common.{◌≡◌, ◌∙◌, ◌+◌, ◌<◌, ℕ, [], ap, sym, subst, arith, length}
+use Rattle.std.proofs.Common.{◌≡◌, ◌∙◌, ◌+◌, ◌<◌, [], ap, sym, subst, arith, length}
 use Rattle.std.specs.Prelude.{vec_len}
 use Rattle.std.specs.Vec.{with_items}
 use Rattle.std.proofs.lemmas.Bool.{eqb-true, eqb-false}
 use Rattle.std.proofs.lemmas.List.{nil_from_length, with_items_is}
-use Rattle.lab_order.specs.Steps.{unnoted, AreSteps, Grows, leads_into}
-use Rattle.lab_order.proofs.Layers.{noted_are_reaching, next_steps, layer_within}
+use Rattle.lab_order.specs.Steps.{unnoted, Grows, leads_into}
+use Rattle.lab_order.proofs.Layers.{noted_are_reaching, next_steps, layer_within, AreSteps}
 use Rattle.lab_order.proofs.reach.steps_to.Goals as goal
 use Rattle.lab_order.proofs.reach.steps_to.Goals.{After-drop-layer-in-layers}
+use Rattle.lab_order.proofs.Members.{some_length}
 
 pub returns-clause-exact : goal.returns-clause-exact
 returns-clause-exact c =
@@ -25,11 +26,8 @@ made c = with_items_is c.layers.notes c.next_layer.new.notes (c.in_ok-layer-2.en
 grew : (c : After-drop-layer-in-layers) → Grows (c.layers.steps + 1) (leads_into c.args.graph.now c.layers.layer.items) c.layers.notes.items c.next_layer.new.notes c.in_ok-layer-2.layer.items
 grew c =
     subst (λ notes. Grows (c.layers.steps + 1) (leads_into c.args.graph.now c.layers.layer.items) notes c.next_layer.new.notes c.in_ok-layer-2.layer.items) c.deref_mut.ensures.value
-    (subst (λ layer. Grows (c.layers.steps + 1) (leads_into c.args.graph.now layer) c.deref_mut.result.now c.next_layer.new.notes c.in_ok-layer-2.layer.items) c.deref.ensures.value c.in_ok-layer-2.ensures.grows)
-
--- what isn't 0 is more
-some_length : (n : ℕ) → (n ≡ 0 → ⊥) → 0 < n
-some_length n h = omega arith
+    (subst (λ layer. Grows (c.layers.steps + 1) (leads_into c.args.graph.now layer) c.deref_mut.result.now c.next_layer.new.notes c.in_ok-layer-2.layer.items)
+    c.deref.ensures.value c.in_ok-layer-2.ensures.grows)
 
 pub layers-preserved : goal.layers-preserved
 layers-preserved c = record {

@@ -1,7 +1,8 @@
 use Rattle.std.proofs.Common.{◌≡◌, ◌+◌, ◌≤◌, length}
 use Rattle.lab_order.specs.Arrows.{nodes_of}
-use Rattle.lab_order.specs.Steps.{unnoted, AreSteps}
+use Rattle.lab_order.specs.Steps.{unnoted}
 use Rattle.lab_order.proofs.reach.steps_to.Given as goal
+use Rattle.lab_order.proofs.Layers.{AreSteps}
 
 -- the notes are right up to the layer
 abbrev pub invariant-layers : goal.invariant-layers

@@ -11,7 +11,8 @@ none_left false d depth n is none le = absurd (omega arith)
 
 pub returns-in-None : goal.returns-in-None
 returns-in-None t c =
-    let taken : c.from.result ≤ deeper c.args.enclosed 0 = elim c.args.enclosed as (λ b. c.from.result ≡ mir.Val.bool_byte b → c.from.result ≤ deeper b 0) [ true ↦ λ e. omega arith | false ↦ λ e. omega arith ] c.from.ensures in
+    let taken : c.from.result ≤ deeper c.args.enclosed 0 =
+    elim c.args.enclosed as (λ b. c.from.result ≡ mir.Val.bool_byte b → c.from.result ≤ deeper b 0) [ true ↦ λ e. omega arith | false ↦ λ e. omega arith ] c.from.ensures in
     let none : (1 ≤ c.args.depth - c.from.result → ⊥) = λ le. c.in-None.ensures (omega arith) in
     let view : predicate_of c.pred.inside.kind ≡ c.args.pred.now = c.pred.view_is in
     let is = sym view ∙ ap predicate_of c.in-Not.is in

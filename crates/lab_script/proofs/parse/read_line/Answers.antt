@@ -30,7 +30,8 @@ returns-in_err-setup_script-in-None-clause-fault c =
     record { few = c.if-number-gt-MAX_LINES.false; short = c.if-line-gt-MAX_LINE_BYTES.false; code_is = c.code_and_remark.ensures.code; remark_is = c.code_and_remark.ensures.remark } in
     let given = c.in_err-setup_script-in-None.field-0.0 in
     let fault : IsLineFault c.args.number c.args.line.now None given =
-    tokens_fault split c.deref.result.now (c.deref.ensures.value ∙ c.in_ok-tokens_into.ensures) (sym c.is_ascii_code.ensures ∙ c.if-not-is_ascii_code.false) None given (sym c.is_blank_code.ensures ∙ c.if-is_blank_code.false) (c.in_err-setup_script-in-None.ensures.fault c.code_and_remark.result.1.now) in
+    tokens_fault split c.deref.result.now (c.deref.ensures.value ∙ c.in_ok-tokens_into.ensures) (sym c.is_ascii_code.ensures ∙ c.if-not-is_ascii_code.false) None given
+    (sym c.is_blank_code.ensures ∙ c.if-is_blank_code.false) (c.in_err-setup_script-in-None.ensures.fault c.code_and_remark.result.1.now) in
     let p = err_from_is_err_and c.from_residual-in_err-setup_script-in-None.result c.from_residual-in_err-setup_script-in-None.ensures.1 in
     rw (p.1, p.2, c.in-None.is) fault
 
@@ -41,7 +42,8 @@ returns-in_ok-setup_script-in-None-clause-found c =
     record { few = c.if-number-gt-MAX_LINES.false; short = c.if-line-gt-MAX_LINE_BYTES.false; code_is = c.code_and_remark.ensures.code; remark_is = c.code_and_remark.ensures.remark } in
     let made = c.in_ok-setup_script-in-None.field-0 in
     subst (λ (before : Option Script). LineSpells c.args.number c.args.line.now before (Some made)) (sym c.in-None.is)
-    (setup_line split c.deref.result.now (c.deref.ensures.value ∙ c.in_ok-tokens_into.ensures) (sym c.is_ascii_code.ensures ∙ c.if-not-is_ascii_code.false) made c.in_ok-setup_script-in-None.ensures.found)
+    (setup_line split c.deref.result.now (c.deref.ensures.value ∙ c.in_ok-tokens_into.ensures)
+    (sym c.is_ascii_code.ensures ∙ c.if-not-is_ascii_code.false) made c.in_ok-setup_script-in-None.ensures.found)
 
 pub returns-in-Some-clause-found : goal.returns-in-Some-clause-found
 returns-in-Some-clause-found c =
@@ -50,7 +52,8 @@ returns-in-Some-clause-found c =
     let made = c.add_commands.new.script in
     on_ok_weaker c.add_commands.result
     (λ adds. subst (λ (before : Option Script). LineSpells c.args.number c.args.line.now before (Some made)) (sym c.in-Some.is)
-    (commands_line split c.deref-in-Some.result.now (c.deref-in-Some.ensures.value ∙ c.in_ok-tokens_into.ensures) (sym c.is_ascii_code.ensures ∙ c.if-not-is_ascii_code.false) c.in-Some.script made adds))
+    (commands_line split c.deref-in-Some.result.now (c.deref-in-Some.ensures.value ∙ c.in_ok-tokens_into.ensures)
+    (sym c.is_ascii_code.ensures ∙ c.if-not-is_ascii_code.false) c.in-Some.script made adds))
     c.add_commands.ensures.found
 
 pub returns-in-Some-clause-fault : goal.returns-in-Some-clause-fault
@@ -59,5 +62,6 @@ returns-in-Some-clause-fault c =
     record { few = c.if-number-gt-MAX_LINES.false; short = c.if-line-gt-MAX_LINE_BYTES.false; code_is = c.code_and_remark.ensures.code; remark_is = c.code_and_remark.ensures.remark } in
     IfErr-weaker c.add_commands.result _ _
     (λ f says. subst (λ (before : Option Script). IsLineFault c.args.number c.args.line.now before f) (sym c.in-Some.is)
-    (tokens_fault split c.deref-in-Some.result.now (c.deref-in-Some.ensures.value ∙ c.in_ok-tokens_into.ensures) (sym c.is_ascii_code.ensures ∙ c.if-not-is_ascii_code.false) (Some c.in-Some.script) f (sym c.is_blank_code.ensures ∙ c.if-is_blank_code.false) says))
+    (tokens_fault split c.deref-in-Some.result.now (c.deref-in-Some.ensures.value ∙ c.in_ok-tokens_into.ensures) (sym c.is_ascii_code.ensures ∙ c.if-not-is_ascii_code.false)
+    (Some c.in-Some.script) f (sym c.is_blank_code.ensures ∙ c.if-is_blank_code.false) says))
     c.add_commands.ensures.fault

@@ -1,6 +1,7 @@
 use Rattle.std.proofs.Common.{subst}
 use Rattle.lab_script.specs.Reading.{Gives}
-use Rattle.lab_script.proofs.ReadSetup.{setup_again, setup_found}
+use Rattle.lab_script.proofs.SetupAgain.{setup_again}
+use Rattle.lab_script.proofs.ReadSetup.{setup_found}
 use Rattle.lab_script.proofs.setup.read_setup.Goals as goal
 
 pub returns-clause-found : goal.returns-clause-found

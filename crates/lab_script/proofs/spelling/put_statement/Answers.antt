@@ -15,7 +15,8 @@ returns-in_ok-put_expr-in-Update c =
     let expr = printed_expr c.in-Update.expr in
     let put : c.put_expr.new.out.items ≡ old ++ (codes "update test set value = " ++ expr) =
     c.in_ok-put_expr-in-Update.ensures ∙ ap (λ text. text ++ expr) c.in_ok-extend_from_slice-in-Update.ensures.items ∙ append_assoc old (codes "update test set value = ") expr in
-    rest_appended c.put_where-in-Update.result old (codes "update test set value = " ++ expr) (printed_where c.in-Update.pred) _ _ _ put c.put_where-in-Update.ensures (ap printed_statement c.in-Update.is)
+    rest_appended c.put_where-in-Update.result old (codes "update test set value = " ++ expr) (printed_where c.in-Update.pred) _ _ _ put c.put_where-in-Update.ensures
+    (ap printed_statement c.in-Update.is)
 
 pub returns-in_ok-extend_from_slice-in-Insert : goal.returns-in_ok-extend_from_slice-in-Insert
 returns-in_ok-extend_from_slice-in-Insert c =

@@ -35,5 +35,6 @@ loop-before-preserved c = λ session low high d.
       | inr apart ↦
           let other : event.session ≢ session = λ own. apart (sym own ∙ sym c.number.ensures.value ∙ sym c.from-number.ensures) in
           subst (λ e. Says seats session all rest e) (sym (get_or-set_other old number session c.after.result d apart))
-          (subst (λ (l : List Call). Says seats session all l (slice_index_or old session d)) (behind_other session before log event c.loop-before-test.true c.index-log-before.is other) (c.loop-before.invariant session low high d))
+          (subst (λ (l : List Call). Says seats session all l (slice_index_or old session d))
+          (behind_other session before log event c.loop-before-test.true c.index-log-before.is other) (c.loop-before.invariant session low high d))
     ]

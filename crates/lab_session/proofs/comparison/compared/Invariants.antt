@@ -6,4 +6,5 @@ use Rattle.lab_session.proofs.comparison.compared.Given as goal
 
 -- each list beside the events so far
 abbrev pub invariant-loop-before : goal.invariant-loop-before
-invariant-loop-before l = (session : ℕ) → 1 ≤ session → session < 10 → HoldsAt (Says l.seats session (placed_calls session l.log) (calls_behind session l.before (drop l.before l.log))) l.comparisons session
+invariant-loop-before l =
+    (session : ℕ) → 1 ≤ session → session < 10 → HoldsAt (Says l.seats session (placed_calls session l.log) (calls_behind session l.before (drop l.before l.log))) l.comparisons session

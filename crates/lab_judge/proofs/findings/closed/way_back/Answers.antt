@@ -10,7 +10,8 @@ use Rattle.lab_judge.proofs.findings.closed.way_back.Goals as goal
 pub walk_along-requires-clause-way : goal.walk_along-requires-clause-way
 walk_along-requires-clause-way c =
     (
-    way_of c.args.allowed c.args.nodes.now c.args.edges.now c.args.graph.now c.requires.graph c.place.result c.place-2.result c.in-Some.nodes_back.items c.in-Some-split_first.first.now c.in-Some-split_first.way.now
+    way_of c.args.allowed c.args.nodes.now c.args.edges.now c.args.graph.now c.requires.graph c.place.result c.place-2.result c.in-Some.nodes_back.items
+    c.in-Some-split_first.first.now c.in-Some-split_first.way.now
     (sym c.deref.ensures.value ∙ c.in-Some-split_first.ensures.cases.0)
     (subst (λ o. IfSome o (λ path. IsPath c.args.graph.now c.place.result c.place-2.result path.items)) c.in-Some.is c.in_ok-nodes_back.ensures.found)
     ).1

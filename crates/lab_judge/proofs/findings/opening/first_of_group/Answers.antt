@@ -21,12 +21,17 @@ loop-edge-preserved c =
     (
     subst (λ e. IsOpening c.args.opening c.args.graph.now c.args.nodes.now e → ⊥) c.edge-item.is
     (elim c.else-opens.branch [
-      | else-opens-via-then-opens+else-index w ↦ unmarked c.args.opening c.args.graph.now c.args.nodes.now c.in_ok-reach.reach.items c.edge-item.result c.args.from (subst (λ (e : Edge). e.from ≡ c.args.from) (sym c.edge-item.is) (c.requires.from c.loop-edge.edge-index _ (omega arith)))
+      | else-opens-via-then-opens+else-index w ↦
+          unmarked c.args.opening c.args.graph.now c.args.nodes.now c.in_ok-reach.reach.items c.edge-item.result c.args.from
+          (subst (λ (e : Edge). e.from ≡ c.args.from) (sym c.edge-item.is) (c.requires.from c.loop-edge.edge-index _ (omega arith)))
           (subst (λ n. (m : ℕ) → IsTrue (is_marked c.in_ok-reach.reach.items m) ↔ Reaches c.args.graph.now m n) c.place.ensures.place c.in_ok-reach.ensures.exact)
-          (mark_read c.in_ok-reach.reach.items w.place-then-opens.result (position c.args.nodes.now c.edge-item.result.to) w.index.result.now w.place-then-opens.ensures.place (omega (arith, w.place-then-opens.ensures.within, c.in_ok-reach.ensures.nodes, c.requires.nodes)) w.index.ensures ∙ w.if-index.false)
+          (mark_read c.in_ok-reach.reach.items w.place-then-opens.result (position c.args.nodes.now c.edge-item.result.to) w.index.result.now w.place-then-opens.ensures.place
+          (omega (arith, w.place-then-opens.ensures.within, c.in_ok-reach.ensures.nodes, c.requires.nodes)) w.index.ensures ∙ w.if-index.false)
       | else-opens-via-else-opens w ↦ other_kind c.args.opening c.args.graph.now c.args.nodes.now c.edge-item.result (sym c.opens.ensures ∙ w.if-opens.false)
     ])
     )
 
 pub returns-clause-none : goal.returns-clause-none
-returns-clause-none c = λ none. All-same (λ e. IsOpening c.args.opening c.args.graph.now c.args.nodes.now e → ⊥) c.args.group.now _ (sym (take_all c.loop-edge.edge-index c.args.group.now (omega arith))) c.loop-edge.invariant
+returns-clause-none c =
+    λ none. All-same (λ e. IsOpening c.args.opening c.args.graph.now c.args.nodes.now e → ⊥) c.args.group.now _
+    (sym (take_all c.loop-edge.edge-index c.args.group.now (omega arith))) c.loop-edge.invariant

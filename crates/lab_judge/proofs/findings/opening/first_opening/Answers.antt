@@ -15,7 +15,8 @@ groups-preserved c = record {
   left = λ none.
       c.groups.invariant.left
       (
-      in_parts (λ e. IsOpening c.args.opening c.args.graph.now c.args.nodes.now e → ⊥) c.how_many_from.result c.groups.rest.now c.split_at.result.0.now c.split_at.result.1.now c.split_at.ensures.front c.split_at.ensures.back
+      in_parts (λ e. IsOpening c.args.opening c.args.graph.now c.args.nodes.now e
+      → ⊥) c.how_many_from.result c.groups.rest.now c.split_at.result.0.now c.split_at.result.1.now c.split_at.ensures.front c.split_at.ensures.back
       (c.in_ok-edge.ensures.none c.in_default-2.is) none
       );
 }

@@ -24,20 +24,25 @@ pub conj-returns-in_err-right-clause-gives : goal.conj-returns-in_err-right-clau
 conj-returns-in_err-right-clause-gives t c =
     let p = err_from_is_err_and c.from_residual-in_err-right.result c.from_residual-in_err-right.ensures.1 in
     let s = c.loop-alloc.invariant.so_far in
-    rw (p.1, p.2) (next_fails (term_at c.args.depth) (token.Word word.And) predicate.And s.0 c.loop-alloc.pred c.in_err-right.field-0.0 c.loop-alloc.self c.took.new.self (conj_at c.args.depth c.args.self.now) s.1 s.2 c.loop-alloc-test.ensures.gives c.loop-alloc-test.ensures.shorter c.in_err-right.ensures.gives)
+    rw (p.1, p.2) (next_fails (term_at c.args.depth) (token.Word word.And) predicate.And s.0 c.loop-alloc.pred c.in_err-right.field-0.0 c.loop-alloc.self c.took.new.self
+    (conj_at c.args.depth c.args.self.now) s.1 s.2 c.loop-alloc-test.ensures.gives c.loop-alloc-test.ensures.shorter c.in_err-right.ensures.gives)
 
 pub conj-loop-alloc-preserved : goal.conj-loop-alloc-preserved
 conj-loop-alloc-preserved t c =
     let s = c.loop-alloc.invariant.so_far in
     record {
       shorter = omega (arith, c.loop-alloc-test.ensures.shorter, c.in_ok-right.ensures.shorter, c.loop-alloc.invariant.shorter);
-      so_far = goes_on_to (term_at c.args.depth) (token.Word word.And) predicate.And s.0 c.loop-alloc.pred c.in_ok-right.right c.in_ok-pred-2.pred c.loop-alloc.self c.took.new.self c.term-in-loop-alloc.new.self (conj_at c.args.depth c.args.self.now) s.1 s.2 c.loop-alloc-test.ensures.gives c.loop-alloc-test.ensures.shorter c.in_ok-right.ensures.gives c.in_ok-right.ensures.shorter c.in_ok-pred-2.ensures;
+      so_far =
+          goes_on_to (term_at c.args.depth) (token.Word word.And) predicate.And s.0 c.loop-alloc.pred c.in_ok-right.right c.in_ok-pred-2.pred c.loop-alloc.self c.took.new.self
+          c.term-in-loop-alloc.new.self (conj_at c.args.depth c.args.self.now) s.1 s.2 c.loop-alloc-test.ensures.gives c.loop-alloc-test.ensures.shorter
+          c.in_ok-right.ensures.gives c.in_ok-right.ensures.shorter c.in_ok-pred-2.ensures;
     }
 
 pub conj-returns-clause-gives : goal.conj-returns-clause-gives
 conj-returns-clause-gives t c =
     let s = c.loop-alloc.invariant.so_far in
-    rw c.loop-alloc-test.ensures.gives.1 (ends (term_at c.args.depth) (token.Word word.And) predicate.And s.0 c.loop-alloc.pred c.loop-alloc.self (conj_at c.args.depth c.args.self.now) s.2 c.loop-alloc-test.ensures.gives.0)
+    rw c.loop-alloc-test.ensures.gives.1 (ends (term_at c.args.depth) (token.Word word.And) predicate.And s.0 c.loop-alloc.pred c.loop-alloc.self
+    (conj_at c.args.depth c.args.self.now) s.2 c.loop-alloc-test.ensures.gives.0)
 
 pub pred-returns-in_err-pred-clause-gives : goal.pred-returns-in_err-pred-clause-gives
 unfolding pred_at
@@ -56,17 +61,22 @@ pub pred-returns-in_err-right-clause-gives : goal.pred-returns-in_err-right-clau
 pred-returns-in_err-right-clause-gives t c =
     let p = err_from_is_err_and c.from_residual-in_err-right.result c.from_residual-in_err-right.ensures.1 in
     let s = c.loop-alloc.invariant.so_far in
-    rw (p.1, p.2) (next_fails (conj_at c.args.depth) (token.Word word.Or) predicate.Or s.0 c.loop-alloc.pred c.in_err-right.field-0.0 c.loop-alloc.self c.took.new.self (pred_at c.args.depth c.args.self.now) s.1 s.2 c.loop-alloc-test.ensures.gives c.loop-alloc-test.ensures.shorter c.in_err-right.ensures.gives)
+    rw (p.1, p.2) (next_fails (conj_at c.args.depth) (token.Word word.Or) predicate.Or s.0 c.loop-alloc.pred c.in_err-right.field-0.0 c.loop-alloc.self c.took.new.self
+    (pred_at c.args.depth c.args.self.now) s.1 s.2 c.loop-alloc-test.ensures.gives c.loop-alloc-test.ensures.shorter c.in_err-right.ensures.gives)
 
 pub pred-loop-alloc-preserved : goal.pred-loop-alloc-preserved
 pred-loop-alloc-preserved t c =
     let s = c.loop-alloc.invariant.so_far in
     record {
       shorter = omega (arith, c.loop-alloc-test.ensures.shorter, c.in_ok-right.ensures.shorter, c.loop-alloc.invariant.shorter);
-      so_far = goes_on_to (conj_at c.args.depth) (token.Word word.Or) predicate.Or s.0 c.loop-alloc.pred c.in_ok-right.right c.in_ok-pred-2.pred c.loop-alloc.self c.took.new.self c.conj-in-loop-alloc.new.self (pred_at c.args.depth c.args.self.now) s.1 s.2 c.loop-alloc-test.ensures.gives c.loop-alloc-test.ensures.shorter c.in_ok-right.ensures.gives c.in_ok-right.ensures.shorter c.in_ok-pred-2.ensures;
+      so_far =
+          goes_on_to (conj_at c.args.depth) (token.Word word.Or) predicate.Or s.0 c.loop-alloc.pred c.in_ok-right.right c.in_ok-pred-2.pred c.loop-alloc.self c.took.new.self
+          c.conj-in-loop-alloc.new.self (pred_at c.args.depth c.args.self.now) s.1 s.2 c.loop-alloc-test.ensures.gives c.loop-alloc-test.ensures.shorter
+          c.in_ok-right.ensures.gives c.in_ok-right.ensures.shorter c.in_ok-pred-2.ensures;
     }
 
 pub pred-returns-clause-gives : goal.pred-returns-clause-gives
 pred-returns-clause-gives t c =
     let s = c.loop-alloc.invariant.so_far in
-    rw c.loop-alloc-test.ensures.gives.1 (ends (conj_at c.args.depth) (token.Word word.Or) predicate.Or s.0 c.loop-alloc.pred c.loop-alloc.self (pred_at c.args.depth c.args.self.now) s.2 c.loop-alloc-test.ensures.gives.0)
+    rw c.loop-alloc-test.ensures.gives.1 (ends (conj_at c.args.depth) (token.Word word.Or) predicate.Or s.0 c.loop-alloc.pred c.loop-alloc.self
+    (pred_at c.args.depth c.args.self.now) s.2 c.loop-alloc-test.ensures.gives.0)

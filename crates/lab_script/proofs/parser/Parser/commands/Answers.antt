@@ -11,7 +11,8 @@ loop-alloc-init c =
     record { fits = s.0; so_far = (length c.step.new.self, omega arith, s.1) }
 
 pub loop-alloc-smaller : goal.loop-alloc-smaller
-loop-alloc-smaller c = step_short c.args.room c.loop-alloc.commands.items c.loop-alloc.self (c.step-in-loop-alloc.new.commands.items, c.step-in-loop-alloc.new.self) c.in_ok-step-2.ensures c.loop-alloc.invariant.fits
+loop-alloc-smaller c =
+    step_short c.args.room c.loop-alloc.commands.items c.loop-alloc.self (c.step-in-loop-alloc.new.commands.items, c.step-in-loop-alloc.new.self) c.in_ok-step-2.ensures c.loop-alloc.invariant.fits
 
 pub loop-alloc-preserved : goal.loop-alloc-preserved
 loop-alloc-preserved c =
@@ -20,7 +21,9 @@ loop-alloc-preserved c =
     let some : 1 ≤ length c.loop-alloc.self = some_left c.is_done.result _ c.is_done.ensures c.loop-alloc-test.true in
     record {
       fits = step_fits c.args.room c.loop-alloc.commands.items c.step-in-loop-alloc.new.commands.items c.loop-alloc.self c.step-in-loop-alloc.new.self c.in_ok-step-2.ensures i.fits;
-      so_far = steps_on s.0 c.args.room c.loop-alloc.commands.items c.step-in-loop-alloc.new.commands.items c.loop-alloc.self c.step-in-loop-alloc.new.self (commands_at c.args.room c.args.self.now) some s.1 i.fits s.2 c.in_ok-step-2.ensures;
+      so_far =
+          steps_on s.0 c.args.room c.loop-alloc.commands.items c.step-in-loop-alloc.new.commands.items c.loop-alloc.self c.step-in-loop-alloc.new.self
+          (commands_at c.args.room c.args.self.now) some s.1 i.fits s.2 c.in_ok-step-2.ensures;
     }
 
 pub returns-in_err-step-2 : goal.returns-in_err-step-2

@@ -14,14 +14,18 @@ pub returns-in_err-number-clause-gives : goal.returns-in_err-number-clause-gives
 returns-in_err-number-clause-gives c =
     let p = err_from_is_err_and c.from_residual-in_err-number.result c.from_residual-in_err-number.ensures.1 in
     let s = c.loop-self.invariant.so_far in
-    rw (p.1, p.2) (next_fails number_at token.Comma one_more s.0 c.loop-self.numbers.items c.in_err-number.field-0.0 c.loop-self.self c.took.new.self (numbers_at c.args.self.now) s.1 s.2 c.loop-self-test.ensures.gives c.loop-self-test.ensures.shorter c.in_err-number.ensures.gives)
+    rw (p.1, p.2) (next_fails number_at token.Comma one_more s.0 c.loop-self.numbers.items c.in_err-number.field-0.0 c.loop-self.self c.took.new.self
+    (numbers_at c.args.self.now) s.1 s.2 c.loop-self-test.ensures.gives c.loop-self-test.ensures.shorter c.in_err-number.ensures.gives)
 
 pub loop-self-preserved : goal.loop-self-preserved
 loop-self-preserved c =
     let s = c.loop-self.invariant.so_far in
     record {
       shorter = omega (arith, c.loop-self-test.ensures.shorter, c.in_ok-number.ensures.shorter, c.loop-self.invariant.shorter);
-      so_far = goes_on_to number_at token.Comma one_more s.0 c.loop-self.numbers.items c.in_ok-number.number c.push-in-loop-self.new.self.items c.loop-self.self c.took.new.self c.number-in-loop-self.new.self (numbers_at c.args.self.now) s.1 s.2 c.loop-self-test.ensures.gives c.loop-self-test.ensures.shorter c.in_ok-number.ensures.gives c.in_ok-number.ensures.shorter (ap some_list (sym c.in_ok-push-2.ensures.items));
+      so_far =
+          goes_on_to number_at token.Comma one_more s.0 c.loop-self.numbers.items c.in_ok-number.number c.push-in-loop-self.new.self.items c.loop-self.self c.took.new.self
+          c.number-in-loop-self.new.self (numbers_at c.args.self.now) s.1 s.2 c.loop-self-test.ensures.gives c.loop-self-test.ensures.shorter c.in_ok-number.ensures.gives
+          c.in_ok-number.ensures.shorter (ap some_list (sym c.in_ok-push-2.ensures.items));
     }
 
 pub returns-clause-gives : goal.returns-clause-gives

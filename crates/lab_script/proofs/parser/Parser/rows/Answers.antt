@@ -23,5 +23,6 @@ returns-then-not-took c =
 pub loop-table-preserved : goal.loop-table-preserved
 loop-table-preserved c =
     let i = c.loop-table.invariant in
-    row_goes_on i.0 c.loop-table.table c.row_onto.new.table c.loop-table.self c.row_onto.new.self c.took.new.self (rows_at c.args.self.now) i.1 i.2 c.in_ok-row_onto.ensures.gives c.in_ok-row_onto.ensures.shorter
+    row_goes_on i.0 c.loop-table.table c.row_onto.new.table c.loop-table.self c.row_onto.new.self c.took.new.self
+    (rows_at c.args.self.now) i.1 i.2 c.in_ok-row_onto.ensures.gives c.in_ok-row_onto.ensures.shorter
     c.if-not-took.ensures.gives c.if-not-took.ensures.shorter
