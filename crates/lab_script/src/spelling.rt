@@ -10,7 +10,7 @@ use lab_table::{
     Cmp, Col, Command, Expr, NoMemory, Pred, PredKind, RowId, Statement, Table, Value,
 };
 
-/// Room for a comma, a space and a row, whatever its numbers are: each has at most 20 digits, and one a sign.
+/// Room for a comma, a space and a row, whatever its numbers are: each has at most 20 digits, and one of them a sign.
 const ROW_BYTES: usize = 48;
 
 /// Appends a number in decimal.
@@ -177,7 +177,7 @@ fn put_expr(out: &mut Vec<u8>, expr: Expr) -> Result<(), NoMemory>
     }
 }
 
-/// Writes a byte in front of what stands from `end` on. Answers where that starts.
+/// Writes a byte in front of what stands from `end` on. Answers where it stands.
 fn write_byte(text: &mut [u8; ROW_BYTES], end: usize, byte: u8) -> usize
     requires { (1 ≤ end) × (end ≤ 48) }
     ensures start { result + 1 ≡ end }
@@ -187,7 +187,7 @@ fn write_byte(text: &mut [u8; ROW_BYTES], end: usize, byte: u8) -> usize
     end - 1
 }
 
-/// Writes a number in decimal in front of what stands from `end` on. Answers where that starts.
+/// Writes a number in decimal in front of what stands from `end` on. Answers where it starts.
 fn write_natural(text: &mut [u8; ROW_BYTES], end: usize, n: u64) -> usize
     requires { (20 ≤ end) × (end ≤ 48) }
     ensures start { (end ≤ result + 20) × (result ≤ end) }
@@ -196,7 +196,7 @@ fn write_natural(text: &mut [u8; ROW_BYTES], end: usize, n: u64) -> usize
     write_digits(n, text, end)
 }
 
-/// Writes a number with its sign in front of what stands from `end` on. Answers where that starts.
+/// Writes a number with its sign in front of what stands from `end` on. Answers where it starts.
 fn write_number(text: &mut [u8; ROW_BYTES], end: usize, n: i64) -> usize
     requires { (21 ≤ end) × (end ≤ 48) }
     ensures start { (end ≤ result + 21) × (result ≤ end) }
@@ -210,7 +210,7 @@ fn write_number(text: &mut [u8; ROW_BYTES], end: usize, n: i64) -> usize
     }
 }
 
-/// Writes a row to the end of a text, from the back since so its digits come. Answers where it starts.
+/// Writes a row to the end of a text, from the back, since a number's last digit is found first. Answers where it starts.
 fn write_row(text: &mut [u8; ROW_BYTES], id: RowId, value: Value) -> usize
     ensures start { (2 ≤ result) × (result ≤ 48) }
     ensures written { drop result text.new ≡ printed_row id value }
@@ -223,6 +223,7 @@ fn write_row(text: &mut [u8; ROW_BYTES], id: RowId, value: Value) -> usize
     write_byte(text, start, b'(')
 }
 
+/// Appends a row. Its text is built first: one growth and one copy for it.
 fn put_row(out: &mut Vec<u8>, id: RowId, value: Value) -> Result<(), NoMemory>
     ensures { OnOk result (out.new.items ≡ out.old.items ++ printed_row id value) }
 {
