@@ -10,8 +10,7 @@ use crate::ending::{Ending, RunFault};
 use crate::input::read_input;
 use crate::output::{Answer, write_text};
 use lab_script::{
-    PrintFault, Script, ScriptFault, first_bytes_tell_a_script, parse_script, print_script_fault,
-    print_transcript, run_serial,
+    Script, ScriptFault, first_bytes_tell_a_script, parse_script, print_script_fault, run_serial,
 };
 use lab_table::NoMemory;
 use std::alloc::{AllocError, Global};
@@ -22,11 +21,9 @@ fn transcript_of(alloc: Global, script: &Script) -> Result<Vec<u8>, NoMemory>
     requires { ScriptPrints script.now }
     ensures { IfOk result (λ text. text.items ≡ transcript script.now) }
 {
-    let told = run_serial(alloc, script)?;
-    match print_transcript(alloc, &told) {
+    match run_serial(alloc, script)?.into_text() {
         Ok(text) => Ok(text),
-        Err(PrintFault::NoMemory) => Err(AllocError),
-        Err(PrintFault::TooDeep | PrintFault::TooLong) => unreachable!(),
+        Err(_) => unreachable!(),
     }
 }
 

@@ -3,11 +3,7 @@ use Rattle.std.specs.Prelude.{ℕ, ◌+◌, nat_le, List, [], ◌∷◌, length,
 use Rattle.std.specs.BTreeSet.{insert_key}
 use Rattle.std.specs.FinMap as finite
 use Rattle.lab_table.specs.Row.{Row, row_cmp}
-<<<<<<< HEAD
-use Rattle.lab_history.specs.History.{History}
 use Rattle.lab_history.specs.Limits.{max_entries}
-=======
->>>>>>> 253a71c4cbc5ef191882dbe7f23677138bdc2795
 use Rattle.lab_history.specs.declared.operation.Op.{Op}
 use Rattle.lab_history.specs.declared.transaction.Txn.{Txn}
 

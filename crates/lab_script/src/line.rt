@@ -31,7 +31,12 @@ fn is_code_byte(byte: u8) -> bool
 pub fn is_ascii_code(code: &[u8]) -> bool
     ensures { result ≡ list_all is_code_byte code.now }
 {
-    code.iter().all(|byte| is_code_byte(*byte))
+    // Without an end at the first that isn't, many bytes are looked at side by side.
+    let mut all = true;
+    for byte in code {
+        all &= is_code_byte(*byte);
+    }
+    all
 }
 
 /// Whether all bytes are spaces and tabs.

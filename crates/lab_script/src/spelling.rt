@@ -1,14 +1,17 @@
 //! The printed form. Each function appends a text; after NoMemory, part of it may stand there.
 
-ghost use Rattle.std.specs.Prelude.{◌≡◌, ◌++◌, ◌||◌, [], codes, if◌then◌else◌, OnOk};
+ghost use Rattle.std.specs.Prelude.{◌≡◌, ◌≤◌, ◌+◌, ◌∷◌, ◌++◌, ◌||◌, [], drop, codes, if◌then◌else◌, OnOk};
 ghost use Rattle.std.specs.Fmt.{decimal, signed_decimal};
 ghost use Rattle.lab_script.specs.Printed.{printed_col, printed_cmp, joined, printed_numbers, printed_pred, printed_where, printed_expr, printed_id, printed_row, is_and, is_or, rows_or, printed_statement, printed_command, printed_setup, printed_line};
 
 use crate::script::Line;
-use itoa::Buffer;
+use itoa::{Buffer, write_digits};
 use lab_table::{
     Cmp, Col, Command, Expr, NoMemory, Pred, PredKind, RowId, Statement, Table, Value,
 };
+
+/// Room for a comma, a space and a row, whatever its numbers are: each has at most 20 digits, and one of them a sign.
+const ROW_BYTES: usize = 48;
 
 /// Appends a number in decimal.
 pub fn put_number(out: &mut Vec<u8>, n: i64) -> Result<(), NoMemory>
@@ -174,14 +177,70 @@ fn put_expr(out: &mut Vec<u8>, expr: Expr) -> Result<(), NoMemory>
     }
 }
 
+/// Writes a byte in front of what stands from `end` on. Answers where it stands.
+fn write_byte(text: &mut [u8; ROW_BYTES], end: usize, byte: u8) -> usize
+    requires { (1 ≤ end) × (end ≤ 48) }
+    ensures start { result + 1 ≡ end }
+    ensures written { drop result text.new ≡ byte ∷ drop end text.old }
+{
+    text[end - 1] = byte;
+    end - 1
+}
+
+/// Writes a number in decimal in front of what stands from `end` on. Answers where it starts.
+fn write_natural(text: &mut [u8; ROW_BYTES], end: usize, n: u64) -> usize
+    requires { (20 ≤ end) × (end ≤ 48) }
+    ensures start { (end ≤ result + 20) × (result ≤ end) }
+    ensures written { drop result text.new ≡ decimal n ++ drop end text.old }
+{
+    write_digits(n, text, end)
+}
+
+/// Writes a number with its sign in front of what stands from `end` on. Answers where it starts.
+fn write_number(text: &mut [u8; ROW_BYTES], end: usize, n: i64) -> usize
+    requires { (21 ≤ end) × (end ≤ 48) }
+    ensures start { (end ≤ result + 21) × (result ≤ end) }
+    ensures written { drop result text.new ≡ signed_decimal n ++ drop end text.old }
+{
+    let start = write_natural(text, end, n.unsigned_abs());
+    if n < 0 {
+        write_byte(text, start, b'-')
+    } else {
+        start
+    }
+}
+
+/// Writes a row to the end of a text, from the back, since a number's last digit is found first. Answers where it starts.
+fn write_row(text: &mut [u8; ROW_BYTES], id: RowId, value: Value) -> usize
+    ensures start { (2 ≤ result) × (result ≤ 48) }
+    ensures written { drop result text.new ≡ printed_row id value }
+{
+    let start = write_byte(text, ROW_BYTES, b')');
+    let start = write_number(text, start, value.number());
+    let start = write_byte(text, start, b' ');
+    let start = write_byte(text, start, b',');
+    let start = write_natural(text, start, u64::from(id.number()));
+    write_byte(text, start, b'(')
+}
+
+/// Appends a row. Its text is built first: one growth and one copy for it.
 fn put_row(out: &mut Vec<u8>, id: RowId, value: Value) -> Result<(), NoMemory>
     ensures { OnOk result (out.new.items ≡ out.old.items ++ printed_row id value) }
 {
-    out.extend_from_slice(b"(")?;
-    put_id(out, id)?;
-    out.extend_from_slice(b", ")?;
-    put_number(out, value.number())?;
-    out.extend_from_slice(b")")
+    let mut text = [0; ROW_BYTES];
+    let start = write_row(&mut text, id, value);
+    out.extend_from_slice(&text[start..])
+}
+
+/// Appends a row behind another one.
+fn put_next_row(out: &mut Vec<u8>, id: RowId, value: Value) -> Result<(), NoMemory>
+    ensures { OnOk result (out.new.items ≡ out.old.items ++ (codes ", " ++ printed_row id value)) }
+{
+    let mut text = [0; ROW_BYTES];
+    let start = write_row(&mut text, id, value);
+    let start = write_byte(&mut text, start, b' ');
+    let start = write_byte(&mut text, start, b',');
+    out.extend_from_slice(&text[start..])
 }
 
 /// Appends a statement.
@@ -229,8 +288,7 @@ fn put_rows_or(out: &mut Vec<u8>, none: &[u8], rows: &[(RowId, Value)]) -> Resul
     };
     put_row(out, first.0, first.1)?;
     for (id, value) in rest {
-        out.extend_from_slice(b", ")?;
-        put_row(out, *id, *value)?;
+        put_next_row(out, *id, *value)?;
     }
     Ok(())
 }

@@ -12,7 +12,8 @@ use lab_table::{NoMemory, RowId, Session, Statement, TableFault, Value};
 use std::alloc::{AllocError, Global};
 use std::marker::Model;
 
-/// What a script does where its transactions run whole: the text is made as they run, and `print_transcript` hands it out.
+/// What a script does where its transactions run whole: the text is made as they run, and `print_transcript` and
+/// `into_text` hand it out.
 #[derive(Drop)]
 pub struct Transcript {
     text: Vec<u8>,
@@ -98,6 +99,20 @@ impl Transcript {
     {
         self.text.extend_from_slice(reason)?;
         put_id(&mut self.text, id)
+    }
+
+    /// The text that `print_transcript` copies, handed out as it is, if each statement in it keeps the limits of a text.
+    /// TooDeep or TooLong as the first that doesn't, depth first. It takes no memory.
+    pub fn into_text(self) -> Result<Vec<u8>, PrintFault>
+        ensures text { IfOk result (λ text. text.items ≡ self.text) }
+        ensures printed { OnOk result (self.unprintable ≡ None) }
+        ensures fault { IfErr result (λ fault. self.unprintable ≡ Some fault) }
+    {
+        let Transcript { text, unprintable } = self;
+        if let Some(fault) = unprintable {
+            return Err(fault);
+        }
+        Ok(text)
     }
 }
 
