@@ -1,4 +1,4 @@
--- Sorted lists of rows with their versions: one entry put into them, and two of them merged.
+-- Sorted lists of rows with their versions, two of which are merged.
 use Rattle.std.proofs.Common.{◌≡◌, ℕ, zero, suc, ◌+◌, ℤ, true, false, cond, T, List, [], ◌∷◌, ◌++◌, map, take, drop, Option, Some, None, refl, sym, ap, ◌∙◌, subst, slice_get, slice_set, ◌==◌, option_map, append_assoc, one-add}
 use Rattle.std.specs.Bool.{⊤}
 use Rattle.std.specs.Option.{option_or}
@@ -6,7 +6,7 @@ use Rattle.std.specs.List.{prefix_len, insert as insert_at}
 use Rattle.std.specs.Ordering.{is_eq, is_lt, is_gt}
 use Rattle.std.specs.declared.cmp.Ordering.{Ordering}
 use Rattle.std.specs.declared.cmp.Ordering.TheVariants.{Less, Equal, Greater}
-use Rattle.std.specs.FinMap.{find, is_sorted, get, from_sorted, insert, put, entries, same_entries_map, entries-insert, entries-from_sorted, get-entries, get-from_sorted, get-insert}
+use Rattle.std.specs.FinMap.{find, is_sorted, get, from_sorted, insert, put, entries, entries_sorted, get-entries, get-from_sorted, get-insert}
 use Rattle.std.specs.FinMap.Entries.{below_all, by_order, is_sorted-put, find-put}
 use Rattle.lab_table.specs.Row.{Row, row_cmp, row_eq, rows_total, rows_apart, rows_tested}
 use Rattle.lab_table.specs.Table.{Table, State, Writes}
@@ -15,24 +15,17 @@ use Rattle.lab_history.specs.declared.operation.State.{State as Written}
 use Rattle.lab_history.specs.declared.operation.VersionName.{VersionName}
 use Rattle.lab_history.specs.declared.operation.VersionName.TheVariants.{Initial}
 use Rattle.lab_table.proofs.Maps.{find_below, find-map, same_row}
+use Rattle.lab_table.proofs.Putting.{is_own}
 use Rattle.lab_table.proofs.Tests.{both}
 use Rattle.lab_table.proofs.Orderings.{is_less, turned, turned_back}
 use Rattle.lab_table.proofs.SortedRows.{lower, sorted-map}
 use Rattle.lab_engine.specs.Log.{Version}
 use Rattle.lab_engine.specs.Sight.{Listed, comes_after, listed_version}
-use Rattle.lab_engine.specs.Merging.{initial_entry, written_entry, written_version, is_row, is_row_at, merged, without_row, insert_each}
+use Rattle.lab_engine.specs.Merging.{initial_entry, written_entry, written_version, merged, without_row, insert_each}
 
 -- rows with their versions
 abbrev pub Entries : Type 0
 Entries = List (Row × Version)
-
--- nothing is both true and not
-never : (P : Type 0) → false ≡ true → P
-never P h = absurd (subst T (sym h) tt)
-
--- a row tests as the one that it is
-is_own : (a b : Row) (r : Ordering) → row_cmp a b ≡ r → (a == b) ≡ is_eq r
-is_own a b r q = rows_tested a b ∙ ap is_eq q
 
 -- the initial version of a row's value
 initial : ℤ → Version
@@ -80,50 +73,6 @@ pub written_found : (name : VersionName) (all : Writes) (writes : List (Row × W
 written_found name all writes made row states h is =
     get-from_sorted row_cmp made row h ∙ ap (find row_cmp row) (is ∙ written_states name writes) ∙ find-map (named name) row (new_states writes)
     ∙ ap (option_map (named name)) (ap (find row_cmp row) states ∙ sym (get-entries all row)) ∙ written_as name (get all row)
-
--- a version in the place of the row's own
-pub replaced : (row : Row) (v : Version) (es : Entries) → is_row_at es (prefix_len (comes_after row) es) row ≡ true → slice_set es (prefix_len (comes_after row) es) (row, v) ≡ put row_cmp row v es
-replaced row v [] h = never _ h
-replaced row v (e ∷ es) h = at (λ own. replaced row v es own) (row_cmp row e.0) refl h
-  where
-    at : (is_row_at es (prefix_len (comes_after row) es) row ≡ true → slice_set es (prefix_len (comes_after row) es) (row, v) ≡ put row_cmp row v es)
-        → (r : Ordering) → row_cmp row e.0 ≡ r → is_row row (slice_get (e ∷ es) (cond (is_gt r) (1 + prefix_len (comes_after row) es) 0)) ≡ true
-        → slice_set (e ∷ es) (cond (is_gt r) (1 + prefix_len (comes_after row) es) 0) (row, v) ≡ by_order r ((row, v) ∷ e ∷ es) ((e.0, v) ∷ es) (e ∷ put row_cmp row v es)
-    at rest Less q own = never _ (sym (is_own row e.0 Less q) ∙ own)
-    at rest Equal q own = ap (λ k. (k, v) ∷ es) (rows_apart row e.0 q)
-    at rest Greater q own =
-        let step = one-add (prefix_len (comes_after row) es) in
-        ap (λ n. slice_set (e ∷ es) n (row, v)) step ∙ ap (λ l. e ∷ l) (rest (sym (ap (λ n. is_row row (slice_get (e ∷ es) n)) step) ∙ own))
-
--- a version before those that come after the row, none of which is its own
-pub inserted : (row : Row) (v : Version) (es : Entries) → is_row_at es (prefix_len (comes_after row) es) row ≡ false
-    → take (prefix_len (comes_after row) es) es ++ (row, v) ∷ drop (prefix_len (comes_after row) es) es ≡ put row_cmp row v es
-inserted row v [] h = refl
-inserted row v (e ∷ es) h = at (λ own. inserted row v es own) (row_cmp row e.0) refl h
-  where
-    at : (is_row_at es (prefix_len (comes_after row) es) row ≡ false → take (prefix_len (comes_after row) es) es ++ (row, v) ∷ drop (prefix_len (comes_after row) es) es ≡ put row_cmp row v es)
-        → (r : Ordering) → row_cmp row e.0 ≡ r → is_row row (slice_get (e ∷ es) (cond (is_gt r) (1 + prefix_len (comes_after row) es) 0)) ≡ false
-        → take (cond (is_gt r) (1 + prefix_len (comes_after row) es) 0) (e ∷ es) ++ (row, v) ∷ drop (cond (is_gt r) (1 + prefix_len (comes_after row) es) 0) (e ∷ es)
-        ≡ by_order r ((row, v) ∷ e ∷ es) ((e.0, v) ∷ es) (e ∷ put row_cmp row v es)
-    at rest Less q own = refl
-    at rest Equal q own = never _ (sym own ∙ is_own row e.0 Equal q)
-    at rest Greater q own =
-        let step = one-add (prefix_len (comes_after row) es) in
-        ap (λ n. take n (e ∷ es) ++ (row, v) ∷ drop n (e ∷ es)) step
-        ∙ ap (λ l. e ∷ l) (rest (sym (ap (λ n. is_row row (slice_get (e ∷ es) n)) step) ∙ own))
-
--- the entries with the one that was put are in order
-pub put_sorted : (row : Row) (v : Version) (es news : Entries) → T (is_sorted row_cmp es) → news ≡ put row_cmp row v es → T (is_sorted row_cmp news)
-put_sorted row v es news h is = subst (λ l. T (is_sorted row_cmp l)) (sym is) (is_sorted-put row_cmp rows_total row v es h)
-
--- they are the map with that entry
-pub put_map : (row : Row) (v : Version) (es news : Entries) (old : Listed) → T (is_sorted row_cmp es) → from_sorted es ≡ old → news ≡ put row_cmp row v es → from_sorted {R = row_cmp} news ≡ insert old row v
-put_map row v es news old h view is =
-    same_entries_map _ _ (
-    entries-from_sorted row_cmp news (put_sorted row v es news h is) ∙ is
-    ∙ sym (entries-insert rows_total (from_sorted es) row v ∙ ap (put row_cmp row v) (entries-from_sorted row_cmp es h))
-    )
-    ∙ ap (λ m. insert m row v) view
 
 -- a version before those that come after the row, in the place of the row's own if it is there
 split : (row : Row) (v : Version) (es : Entries) → take (prefix_len (comes_after row) es) es ++ (row, v) ∷ without_row row (drop (prefix_len (comes_after row) es) es) ≡ put row_cmp row v es
@@ -211,17 +160,17 @@ each_found row es (e ∷ over) h =
     ∙ ap (option_or (find row_cmp row over)) (find-put row_cmp rows_total row e.0 e.1 es)
     ∙ first_stays row e over (find row_cmp row es) parts.0
 
--- two lists merged are in order
-pub merged_sorted : (under over made : Entries) → T (is_sorted row_cmp under) → T (is_sorted row_cmp over) → made ≡ merged under over → T (is_sorted row_cmp made)
-merged_sorted under over made low high is = subst (λ l. T (is_sorted row_cmp l)) (sym (is ∙ merged_put under over high)) (each_sorted under over low)
+-- two maps' entries merged are in order
+pub merged_sorted : (below above : Listed) (made : Entries) → made ≡ merged (entries below) (entries above) → T (is_sorted row_cmp made)
+merged_sorted below above made is =
+    subst (λ l. T (is_sorted row_cmp l)) (sym (is ∙ merged_put (entries below) (entries above) (entries_sorted above))) (each_sorted (entries below) (entries above) (entries_sorted below))
 
 -- a row is found as the second has it, else as the first has it
-pub merged_found : (below above : Listed) (under over made : Entries) (row : Row) → T (is_sorted row_cmp under) → T (is_sorted row_cmp over) → from_sorted under ≡ below → from_sorted over ≡ above
-    → made ≡ merged under over → get (from_sorted {R = row_cmp} made) row ≡ option_or (get above row) (get below row)
-merged_found below above under over made row low high under_is over_is is =
-    get-from_sorted row_cmp made row (merged_sorted under over made low high is) ∙ ap (find row_cmp row) (is ∙ merged_put under over high) ∙ each_found row under over high
-    ∙ ap (λ o. option_or o (find row_cmp row under)) (sym (get-from_sorted row_cmp over row high) ∙ ap (λ m. get m row) over_is)
-    ∙ ap (option_or (get above row)) (sym (get-from_sorted row_cmp under row low) ∙ ap (λ m. get m row) under_is)
+pub merged_found : (below above : Listed) (made : Entries) (row : Row) → made ≡ merged (entries below) (entries above) → get (from_sorted {R = row_cmp} made) row ≡ option_or (get above row) (get below row)
+merged_found below above made row is =
+    get-from_sorted row_cmp made row (merged_sorted below above made is)
+    ∙ ap (find row_cmp row) (is ∙ merged_put (entries below) (entries above) (entries_sorted above)) ∙ each_found row (entries below) (entries above) (entries_sorted above)
+    ∙ ap (λ o. option_or o (find row_cmp row (entries below))) (sym (get-entries above row)) ∙ ap (option_or (get above row)) (sym (get-entries below row))
 
 -- what is left of a sorted list is in order
 sorted-drop : (n : ℕ) (es : Entries) → T (is_sorted row_cmp es) → T (is_sorted row_cmp (drop n es))
@@ -252,19 +201,7 @@ merge_step made news left rest over whole e n before place new is =
     ∙ ap (λ k. made ++ (take k left ++ e ∷ merged (without_row e.0 (drop k left)) over)) place
     ∙ before
 
--- the same, as `put_entry` finds it
-pub replaced_at : (row : Row) (v : Version) (es seen tested : Entries) (n : ℕ) → seen ≡ es → tested ≡ es → n ≡ prefix_len (comes_after row) seen → is_row_at tested n row ≡ true
-    → slice_set es n (row, v) ≡ put row_cmp row v es
-replaced_at row v es seen tested n is also place own =
-    let at : n ≡ prefix_len (comes_after row) es = place ∙ ap (prefix_len (comes_after row)) is in
-    ap (λ k. slice_set es k (row, v)) at ∙ replaced row v es (sym (ap (λ l. is_row_at l n row) also ∙ ap (λ k. is_row_at es k row) at) ∙ own)
-
-pub inserted_at : (row : Row) (v : Version) (es seen tested : Entries) (n : ℕ) → seen ≡ es → tested ≡ es → n ≡ prefix_len (comes_after row) seen → is_row_at tested n row ≡ false
-    → insert_at es n (row, v) ≡ put row_cmp row v es
-inserted_at row v es seen tested n is also place own =
-    let at : n ≡ prefix_len (comes_after row) es = place ∙ ap (prefix_len (comes_after row)) is in
-    ap (λ k. insert_at es k (row, v)) at ∙ inserted row v es (sym (ap (λ l. is_row_at l n row) also ∙ ap (λ k. is_row_at es k row) at) ∙ own)
-
+-- putting each over versions: a row is found as they have it, else as before
 each_inserted : (row : Row) (versions : Listed) (over : Entries) → T (is_sorted row_cmp over) → get (insert_each versions over) row ≡ option_or (find row_cmp row over) (get versions row)
 each_inserted row versions [] h = refl
 each_inserted row versions (e ∷ over) h =
@@ -274,8 +211,6 @@ each_inserted row versions (e ∷ over) h =
     ∙ first_stays row e over (get versions row) parts.0
 
 -- a row is found as the entries that were put have it, else as before
-pub cover_found : (old above : Listed) (over seen : Entries) (row : Row) → T (is_sorted row_cmp over) → from_sorted over ≡ above → seen ≡ over
-    → get (insert_each old seen) row ≡ option_or (get above row) (get old row)
-cover_found old above over seen row h is same =
-    ap (λ l. get (insert_each old l) row) same ∙ each_inserted row old over h
-    ∙ ap (λ o. option_or o (get old row)) (sym (get-from_sorted row_cmp over row h) ∙ ap (λ m. get m row) is)
+pub cover_found : (old above : Listed) (seen : Entries) (row : Row) → seen ≡ entries above → get (insert_each old seen) row ≡ option_or (get above row) (get old row)
+cover_found old above seen row is =
+    ap (λ l. get (insert_each old l) row) is ∙ each_inserted row old (entries above) (entries_sorted above) ∙ ap (λ o. option_or o (get old row)) (sym (get-entries above row))

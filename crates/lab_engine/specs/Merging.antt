@@ -1,5 +1,5 @@
 -- Sorted lists of rows with their versions.
-use Rattle.std.specs.Prelude.{ℕ, Bool, false, cond, ◌==◌, ℤ, Option, Some, None, List, [], ◌∷◌, ◌++◌, take, drop, slice_get}
+use Rattle.std.specs.Prelude.{cond, ◌==◌, ℤ, Option, Some, None, List, [], ◌∷◌, ◌++◌, take, drop}
 use Rattle.std.specs.List.{prefix_len}
 use Rattle.std.specs.FinMap as map
 use Rattle.lab_table.specs.Row.{Row}
@@ -23,15 +23,6 @@ written_entry name e = (e.0, record { name = name; state = state_value e.1 })
 abbrev pub written_version : VersionName → Option State → Option Version
 written_version name None = None
 written_version name (Some state) = Some (record { name = name; state = state })
-
--- whether an entry is the row's
-abbrev pub is_row : Row → Option (Row × Version) → Bool
-is_row row None = false
-is_row row (Some e) = row == e.0
-
--- whether the row's entry stands at a place
-abbrev pub is_row_at : List (Row × Version) → ℕ → Row → Bool
-is_row_at es place row = is_row row (slice_get es place)
 
 -- a list without its first entry, if that is the row's
 abbrev pub without_row : Row → List (Row × Version) → List (Row × Version)

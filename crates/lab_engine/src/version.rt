@@ -10,11 +10,11 @@ ghost use Rattle.lab_engine.specs.Chains.{version_before, chain_in};
 ghost use Rattle.lab_engine.specs.EachRow.{with_row, each_row};
 ghost use Rattle.lab_engine.specs.Sight.{listed_version, comes_after};
 ghost use Rattle.lab_history.specs.VersionName.{state_value};
-ghost use Rattle.lab_engine.specs.Merging.{initial_entry, written_entry, written_version, insert_each, is_row_at, merged, without_row};
+ghost use Rattle.lab_engine.specs.Merging.{initial_entry, written_entry, written_version, insert_each, merged, without_row};
 
 use crate::chain::Chains;
 use lab_history::{State, VersionName, Writes};
-use lab_table::{NoMemory, RowId, Table, Value};
+use lab_table::{ByRow, NoMemory, RowId, Table, Value, place_of};
 use std::alloc::Global;
 use std::marker::Model;
 
@@ -28,14 +28,13 @@ pub struct Version {
     pub state: Option<Value>,
 }
 
-/// A version of each of some rows. It is kept sorted by row, so a row is found by halving.
+/// A version of each of some rows.
 #[derive(Debug, Drop)]
 pub struct Versions {
-    entries: Vec<(RowId, Version)>,
+    by_row: ByRow<Version>,
 }
 
 impl Model for Versions {
-    ghost use Rattle.std.specs.Prelude.{T};
     ghost use Rattle.std.specs.FinMap as map;
     ghost use Rattle.lab_table.specs.Row.{row_cmp, coded_row};
     ghost use Rattle.lab_engine.specs.declared.version.Version.{Version};
@@ -45,9 +44,7 @@ impl Model for Versions {
 
     ghost coded = { map.code coded_row version.the_row.coded };
 
-    ghost view = { λ v. map.from_sorted v.entries.items };
-
-    ghost invariant = { λ v. T (map.is_sorted row_cmp v.entries.items) };
+    ghost view = { λ v. v.by_row };
 }
 
 impl Versions {
@@ -56,7 +53,7 @@ impl Versions {
         ensures { result ≡ map.empty }
     {
         Versions {
-            entries: Vec::new(alloc),
+            by_row: ByRow::new(alloc),
         }
     }
 
@@ -65,7 +62,7 @@ impl Versions {
         ensures { IfOk result (λ made. (row : Row) → map.get made row ≡ listed_version (map.get table.now row)) }
     {
         Ok(Versions {
-            entries: initial_entries(alloc, table.rows())?,
+            by_row: ByRow::from_rising(initial_entries(alloc, table.rows())?),
         })
     }
 
@@ -74,7 +71,7 @@ impl Versions {
         ensures { IfOk result (λ made. (row : Row) → map.get made row ≡ written_version name (map.get writes.now row)) }
     {
         Ok(Versions {
-            entries: written_entries(alloc, writes.entries(), name)?,
+            by_row: ByRow::from_rising(written_entries(alloc, writes.entries(), name)?),
         })
     }
 
@@ -82,14 +79,14 @@ impl Versions {
     pub fn get(&self, row: RowId) -> Option<Version>
         ensures { result ≡ map.get self.now row }
     {
-        version_at(&self.entries, row)
+        self.by_row.get(row)
     }
 
     /// The rows with their versions, by rising row.
     pub fn entries(&self) -> &[(RowId, Version)]
         ensures { result.now ≡ map.entries self.now }
     {
-        &self.entries
+        self.by_row.entries()
     }
 
     /// Of these rows the versions that were the last to be installed by commits with fewer events before them than these.
@@ -98,7 +95,7 @@ impl Versions {
         ensures { IfOk result (λ made. (row : Row) → map.get made row ≡ option_and_then (λ _. version_before place (chain_in chains.now row)) (map.get self.now row)) }
     {
         Ok(Versions {
-            entries: entries_before(alloc, &self.entries, chains, place)?,
+            by_row: ByRow::from_rising(entries_before(alloc, self.entries(), chains, place)?),
         })
     }
 
@@ -108,8 +105,7 @@ impl Versions {
         ensures ok { IfOk result (λ _. self.new ≡ map.insert self.old row version) }
         ensures err { OnErr result (self.new ≡ self.old) }
     {
-        put_entry(&mut self.entries, row, version)?;
-        Ok(())
+        self.by_row.put(row, version)
     }
 
     /// Puts the others' versions over these: of a row that both have, the other's stays.
@@ -117,8 +113,9 @@ impl Versions {
     pub fn cover(&mut self, alloc: Global, over: &Versions) -> Result<(), NoMemory>
         ensures { IfOk result (λ _. (row : Row) → map.get self.new row ≡ option_or (map.get over.now row) (map.get self.old row)) }
     {
-        if over.entries.len() <= FEW {
-            self.put_each(alloc, &over.entries)?;
+        let entries = over.entries();
+        if entries.len() <= FEW {
+            self.put_each(alloc, entries)?;
         } else {
             *self = self.under(alloc, over)?;
         }
@@ -140,7 +137,7 @@ impl Versions {
         ensures { IfOk result (λ made. (row : Row) → map.get made row ≡ option_or (map.get over.now row) (map.get self.now row)) }
     {
         Ok(Versions {
-            entries: merged_entries(alloc, &self.entries, &over.entries)?,
+            by_row: ByRow::from_rising(merged_entries(alloc, self.entries(), over.entries())?),
         })
     }
 }
@@ -215,33 +212,6 @@ fn entries_before(
         .collect(alloc)
 }
 
-fn stands_at(entries: &[(RowId, Version)], place: usize, row: RowId) -> bool
-    ensures { result ≡ is_row_at entries.now place row }
-{
-    match entries.get(place) {
-        Some(entry) => row == entry.0,
-        None => false,
-    }
-}
-
-fn put_entry(
-    entries: &mut Vec<(RowId, Version)>,
-    row: RowId,
-    version: Version,
-) -> Result<(), NoMemory>
-    requires { T (map.is_sorted row_cmp entries.old.items) }
-    ensures ok { IfOk result (λ _. entries.new.items ≡ map.put row_cmp row version entries.old.items) }
-    ensures err { OnErr result (entries.new.items ≡ entries.old.items) }
-{
-    let place = place_of(entries, row);
-    if stands_at(entries, place, row) {
-        entries[place] = (row, version);
-    } else {
-        entries.insert(place, (row, version))?;
-    }
-    Ok(())
-}
-
 /// The entries behind the row's, of a list that has none before it.
 fn behind(entries: &[(RowId, Version)], row: RowId) -> &[(RowId, Version)]
     ensures { result.now ≡ without_row row entries.now }
@@ -273,23 +243,7 @@ fn merged_entries(
     Ok(entries)
 }
 
-fn version_at(entries: &[(RowId, Version)], row: RowId) -> Option<Version>
-    requires { T (map.is_sorted row_cmp entries.now) }
-    ensures { result ≡ map.find row_cmp row entries.now }
-{
-    let entry = entries.get(place_of(entries, row))?;
-    if row == entry.0 { Some(entry.1) } else { None }
-}
-
-fn place_of(entries: &[(RowId, Version)], row: RowId) -> usize
-    requires { T (map.is_sorted row_cmp entries.now) }
-    ensures value { result ≡ prefix_len (comes_after row) entries.now }
-    ensures bound { result ≤ length entries.now }
-{
-    entries.partition_point(|entry| row > entry.0)
-}
-
-/// The same place, for a row that mostly stands at the front.
+/// How many entries stand before a row, which is mostly none.
 fn place_near(entries: &[(RowId, Version)], row: RowId) -> usize
     requires { T (map.is_sorted row_cmp entries.now) }
     ensures value { result ≡ prefix_len (comes_after row) entries.now }

@@ -14,7 +14,7 @@ use Rattle.lab_history.specs.declared.path.ListPlace.{ListPlace}
 use Rattle.lab_history.specs.declared.path.ListPlace.TheVariants as list
 use Rattle.lab_history.specs.declared.path.Path.TheVariants as path
 use Rattle.lab_history.proofs.Steps.{both_ok, step_on, required_ok, required_is}
-use Rattle.lab_history.proofs.Trees.{array_of}
+use Rattle.lab_history.proofs.JsonShapes.{array_of}
 use Rattle.lab_history.proofs.ListsRead.{map_read, map_is_read}
 
 -- ---- [id, x]

@@ -18,7 +18,7 @@ use Rattle.lab_history.specs.declared.path.ListPlace.TheVariants as list
 use Rattle.lab_history.specs.declared.path.Path.{Path}
 use Rattle.lab_history.specs.declared.path.Path.TheVariants as path
 use Rattle.lab_history.proofs.Steps.{either_err, required_ok, required_err}
-use Rattle.lab_history.proofs.Trees.{array_of}
+use Rattle.lab_history.proofs.JsonShapes.{array_of}
 use Rattle.lab_history.proofs.EntriesRead.{pair_read, version_read, installed_read}
 
 -- a value that may not stand at its path

@@ -17,7 +17,7 @@ use Rattle.lab_history.specs.declared.fault.Limit.TheVariants as limit
 use Rattle.lab_history.specs.declared.path.Path.TheVariants as path
 use Rattle.lab_history.specs.declared.transaction.Txn.{Txn}
 use Rattle.lab_history.proofs.Steps.{either_err, required_ok, required_err, refused_err}
-use Rattle.lab_history.proofs.Trees.{array_of}
+use Rattle.lab_history.proofs.JsonShapes.{array_of}
 use Rattle.lab_history.proofs.OperationsRead.{each_count}
 use Rattle.lab_history.proofs.TransactionsRead.{txn_read}
 use Rattle.lab_history.proofs.Standing.{operations_push}

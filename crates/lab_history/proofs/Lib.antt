@@ -1,10 +1,10 @@
 pub mod Rising
 pub mod Members
 pub mod Entries
-pub mod States
+pub mod NewStates
+pub mod WritesRead
 pub mod Steps
-pub mod Trees
-pub mod Rises
+pub mod JsonShapes
 pub mod ListsRead
 pub mod EntriesRead
 pub mod OperationsRead
@@ -22,7 +22,6 @@ pub mod FaultsAreTrue
 pub mod GoodLists
 pub mod Faultless
 pub mod Halving
-pub mod SortedRows
 pub mod FirstValues
 pub mod LastWrites
 pub mod Greatest
@@ -37,10 +36,10 @@ pub mod PartsFaults
 pub mod Appended
 pub mod WrittenLists
 pub mod WrittenViews
-pub mod WrittenStates
+pub mod WrittenWrites
 pub mod CodeBytes
 pub mod KeptOperations
-pub mod WrittenTrees
+pub mod WritableTree
 pub mod Keys
 pub mod Counts
 pub mod OpsRead

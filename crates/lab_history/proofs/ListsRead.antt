@@ -14,8 +14,8 @@ use Rattle.lab_history.specs.declared.fault.FileFault.{FileFault}
 use Rattle.lab_history.specs.declared.path.ListPlace.{ListPlace}
 use Rattle.lab_history.specs.declared.path.Path.TheVariants as path
 use Rattle.lab_history.proofs.Steps.{both_ok, step_on, required_ok, required_is}
-use Rattle.lab_history.proofs.Trees.{array_of}
-use Rattle.lab_history.proofs.Rises.{AllFollow, first_follows, entries_step, entries_some, entries_rise}
+use Rattle.lab_history.proofs.JsonShapes.{array_of}
+use Rattle.lab_history.proofs.Rising.{rises_after, rises_all, entries_step, entries_some, entries_rise}
 
 placed : {A : Type 0} (b : Bool) (r q : Result A FileFault) → T b → (if b then r else q) ≡ r
 placed true r q t = refl
@@ -42,16 +42,17 @@ module _ {X : Type 0} (read : ℕ → Data → Result (Row × X) FileFault) (pla
         (found.0, array_of d found.0 (required_ok _ _ _ found.1), subst (AreEach Is found.0) (sym same) (each_read 0 None found.0 xs found.2))
 
   module _ (is_read : (i : ℕ) (d : Data) (x : Row × X) → Is d x → read i d ≡ Ok x) where
-    each_is_read : (i : ℕ) (before : Option Row) (ds : Items) (xs : List (Row × X)) → AreEach Is ds xs → T (finite.is_sorted row_cmp xs) → AllFollow before xs
+    each_is_read : (i : ℕ) (before : Option Row) (ds : Items) (xs : List (Row × X)) → AreEach Is ds xs → T (rises_after before xs)
         → entries_from read place i before ds ≡ Ok xs
-    each_is_read i before no_items [] each rise follow = refl
-    each_is_read i before no_items (x ∷ xs) each rise follow = absurd each
-    each_is_read i before (item d ds) [] each rise follow = absurd each
-    each_is_read i before (item d ds) (x ∷ xs) each rise follow =
-        step_on _ (is_read i d x each.0) (placed (follows before x.0) _ _ (first_follows before x xs follow)
-        ∙ step_on _ (each_is_read (i + 1) (Some x.0) ds xs each.1 (both _ _ rise).1 (both _ _ rise).0) refl)
+    each_is_read i before no_items [] each rise = refl
+    each_is_read i before no_items (x ∷ xs) each rise = absurd each
+    each_is_read i before (item d ds) [] each rise = absurd each
+    each_is_read i before (item d ds) (x ∷ xs) each rise =
+        let follow = both (follows before x.0) (rises_after (Some x.0) xs) rise in
+        step_on _ (is_read i d x each.0) (placed (follows before x.0) _ _ follow.0
+        ∙ step_on _ (each_is_read (i + 1) (Some x.0) ds xs each.1 follow.1) refl)
 
     -- a map that a list stands for is read of it
     pub map_is_read : (d : Data) (m : FinMap row_cmp X) → IsMapOf Is d m → entries_in read place d ≡ Ok (finite.entries m)
     map_is_read d m is =
-        step_on _ (required_is (path.List place) (ap as_array is.1)) (each_is_read 0 None is.0 (finite.entries m) is.2 (finite.entries_sorted m) tt)
+        step_on _ (required_is (path.List place) (ap as_array is.1)) (each_is_read 0 None is.0 (finite.entries m) is.2 (subst T (sym (rises_all (finite.entries m))) (finite.entries_sorted m)))

@@ -14,7 +14,7 @@ use Rattle.lab_history.specs.declared.path.ListPlace.TheVariants as list
 use Rattle.lab_history.specs.declared.path.Path.TheVariants as path
 use Rattle.lab_script.proofs.StatementRead.{spells_in, in_spells}
 use Rattle.lab_history.proofs.Steps.{both_ok, step_on, required_ok}
-use Rattle.lab_history.proofs.Trees.{string_of, keyed_shape}
+use Rattle.lab_history.proofs.JsonShapes.{string_of, keyed_shape}
 use Rattle.lab_history.proofs.ListsRead.{map_again}
 use Rattle.lab_history.proofs.EntriesRead.{values_read, values_are_read, writes_read, writes_are_read, view_read, view_is_read}
 

@@ -14,7 +14,7 @@ use Rattle.lab_history.specs.declared.fault.FileFault.TheVariants as fault
 use Rattle.lab_history.specs.declared.path.ListPlace.TheVariants as list
 use Rattle.lab_history.specs.declared.path.Path.TheVariants as path
 use Rattle.lab_history.proofs.Steps.{both_ok, both_some, step_on, required_ok, refused_ok, when_found}
-use Rattle.lab_history.proofs.Trees.{string_of, keyed_shape}
+use Rattle.lab_history.proofs.JsonShapes.{string_of, keyed_shape}
 use Rattle.lab_history.proofs.ListsRead.{map_again}
 use Rattle.lab_history.proofs.EntriesRead.{values_read, values_are_read, installed_list_read, installed_list_is_read}
 use Rattle.lab_history.proofs.TransactionsRead.{AllStand, list_read, list_is_read}

@@ -16,7 +16,7 @@ use Rattle.lab_history.specs.declared.transaction.Outcome.{Outcome}
 use Rattle.lab_history.specs.declared.transaction.Outcome.TheVariants.{Committed, Aborted}
 use Rattle.lab_history.specs.declared.transaction.Txn.{Txn}
 use Rattle.lab_history.proofs.Steps.{both_ok, both_some, step_on, required_ok, required_is, refused_ok, refused_is, kept_limit, limit_kept}
-use Rattle.lab_history.proofs.Trees.{array_of, string_of, keyed_shape}
+use Rattle.lab_history.proofs.JsonShapes.{array_of, string_of, keyed_shape}
 use Rattle.lab_history.proofs.OperationsRead.{ops_read, ops_are_read, each_count}
 
 -- ---- outcomes

@@ -1,14 +1,12 @@
 //! Values that are found by their keys.
 
-ghost use Rattle.std.specs.Prelude.{◌≡◌, ◌≤◌, T, true, false, length, IfOk};
+ghost use Rattle.std.specs.Prelude.{◌≡◌, ◌≤◌, true, false, length, IfOk};
 ghost use Rattle.std.specs.Option.{option_copied};
 ghost use Rattle.std.specs.Ordering.{is_lt};
 ghost use Rattle.std.specs.List.Sorted.{IsSortedByKey, IsPartitionPoint};
-ghost use Rattle.std.specs.FinMap as map;
-ghost use Rattle.lab_table.specs.Row.{row_cmp};
 ghost use Rattle.lab_history.specs.Keyed.{value_at};
 
-use lab_table::{NoMemory, RowId};
+use lab_table::NoMemory;
 use std::marker::Model;
 
 /// Values by their keys: what a key has is the first value that a list gave it. It is found by halving.
@@ -50,7 +48,7 @@ impl<K: Ord + Copy, V: Copy> Keyed<K, V> {
 }
 
 /// The first value that entries, which are sorted by their keys, give a key.
-pub fn first_value<K: Ord + Copy, V>(entries: &[(K, V)], key: K) -> Option<&V>
+fn first_value<K: Ord + Copy, V>(entries: &[(K, V)], key: K) -> Option<&V>
     requires { IsSortedByKey (λ e. e.0) K.cmp entries.now }
     ensures { option_copied result ≡ value_at K.cmp entries.now key }
 {
@@ -60,14 +58,6 @@ pub fn first_value<K: Ord + Copy, V>(entries: &[(K, V)], key: K) -> Option<&V>
     } else {
         None
     }
-}
-
-/// The value of a row in a list that is sorted by rows.
-pub fn value_of_row<V>(entries: &[(RowId, V)], row: RowId) -> Option<&V>
-    requires { T (map.is_sorted row_cmp entries.now) }
-    ensures { option_copied result ≡ map.find row_cmp row entries.now }
-{
-    first_value(entries, row)
 }
 
 /// How many entries stand below a key.

@@ -5,9 +5,8 @@ ghost use Rattle.std.specs.FinMap as map;
 ghost use Rattle.lab_table.specs.Row.{row_cmp};
 ghost use Rattle.lab_history.specs.VersionName.{new_states, state_value};
 
-use crate::keyed::value_of_row;
 use crate::order::rises;
-use lab_table::{NoMemory, RowId, Statement, TxnNo, Value};
+use lab_table::{ByRow, NoMemory, RowId, Statement, TxnNo, Value, value_of};
 use std::alloc::Global;
 use std::marker::Model;
 
@@ -29,12 +28,11 @@ pub enum State {
 /// The versions that an operation saw, by rising row. A row that isn't listed was seen at its initial version.
 #[derive(Drop)]
 pub struct View {
-    entries: Vec<(RowId, VersionName)>,
+    by_row: ByRow<VersionName>,
 }
 
 impl Model for View {
     ghost use Rattle.std.specs.FinMap as map;
-    ghost use Rattle.std.specs.Prelude.{T};
     ghost use Rattle.lab_table.specs.Row.{row_cmp, coded_row};
     ghost use Rattle.lab_history.specs.VersionName.{View, coded_version};
 
@@ -42,20 +40,17 @@ impl Model for View {
 
     ghost coded = { map.code coded_row coded_version };
 
-    ghost view = { λ v. map.from_sorted v.entries.items };
-
-    ghost invariant = { λ v. T (map.is_sorted row_cmp v.entries.items) };
+    ghost view = { λ v. v.by_row };
 }
 
 /// Rows with their values, by rising row.
 #[derive(Drop)]
 pub struct Rows {
-    entries: Vec<(RowId, Value)>,
+    by_row: ByRow<Value>,
 }
 
 impl Model for Rows {
     ghost use Rattle.std.specs.FinMap as map;
-    ghost use Rattle.std.specs.Prelude.{T};
     ghost use Rattle.std.specs.Coded.{coded_ℤ};
     ghost use Rattle.lab_table.specs.Row.{row_cmp, coded_row};
     ghost use Rattle.lab_table.specs.Table.{Rows};
@@ -64,9 +59,7 @@ impl Model for Rows {
 
     ghost coded = { map.code coded_row coded_ℤ };
 
-    ghost view = { λ r. map.from_sorted r.entries.items };
-
-    ghost invariant = { λ r. T (map.is_sorted row_cmp r.entries.items) };
+    ghost view = { λ r. r.by_row };
 }
 
 /// The rows that an operation wrote with their new states, by rising row.
@@ -126,7 +119,9 @@ impl View {
         requires { T (map.is_sorted row_cmp entries.items) }
         ensures { result ≡ map.from_sorted entries.items }
     {
-        View { entries }
+        View {
+            by_row: ByRow::from_rising(entries),
+        }
     }
 
     /// The view that lists these versions, or the entries back where their rows don't rise strictly. It takes no memory.
@@ -138,7 +133,7 @@ impl View {
         ensures back { IfErr result (λ back. back ≡ entries) }
     {
         if rises(&entries) {
-            Ok(View { entries })
+            Ok(View::new(entries))
         } else {
             Err(entries)
         }
@@ -148,14 +143,14 @@ impl View {
     pub fn entries(&self) -> &[(RowId, VersionName)]
         ensures { result.now ≡ map.entries self.now }
     {
-        &self.entries
+        self.by_row.entries()
     }
 
     /// The version that is listed for a row, if one is.
     pub fn get(&self, row: RowId) -> Option<VersionName>
         ensures { result ≡ map.get self.now row }
     {
-        value_of_row(&self.entries, row).copied()
+        self.by_row.get(row)
     }
 
     /// A copy; NoMemory where a growth was refused.
@@ -163,7 +158,7 @@ impl View {
         ensures { IfOk result (λ copy. copy ≡ self.now) }
     {
         Ok(View {
-            entries: Vec::from_slice(alloc, &self.entries)?,
+            by_row: self.by_row.copy(alloc)?,
         })
     }
 }
@@ -174,7 +169,9 @@ impl Rows {
         requires { T (map.is_sorted row_cmp entries.items) }
         ensures { result ≡ map.from_sorted entries.items }
     {
-        Rows { entries }
+        Rows {
+            by_row: ByRow::from_rising(entries),
+        }
     }
 
     /// The rows of these entries, or the entries back where their rows don't rise strictly. It takes no memory.
@@ -184,7 +181,7 @@ impl Rows {
         ensures back { IfErr result (λ back. back ≡ entries) }
     {
         if rises(&entries) {
-            Ok(Rows { entries })
+            Ok(Rows::new(entries))
         } else {
             Err(entries)
         }
@@ -194,14 +191,14 @@ impl Rows {
     pub fn entries(&self) -> &[(RowId, Value)]
         ensures { result.now ≡ map.entries self.now }
     {
-        &self.entries
+        self.by_row.entries()
     }
 
     /// A row's value, if the row is listed.
     pub fn get(&self, row: RowId) -> Option<Value>
         ensures { result ≡ map.get self.now row }
     {
-        value_of_row(&self.entries, row).copied()
+        self.by_row.get(row)
     }
 
     /// A copy; NoMemory where a growth was refused.
@@ -209,7 +206,7 @@ impl Rows {
         ensures { IfOk result (λ copy. copy ≡ self.now) }
     {
         Ok(Rows {
-            entries: Vec::from_slice(alloc, &self.entries)?,
+            by_row: self.by_row.copy(alloc)?,
         })
     }
 }
@@ -224,7 +221,7 @@ impl Writes {
     }
 
     /// The writes of these new states, or the entries back where their rows don't rise strictly. It takes no memory.
-    #[tactic(auto, using(crate::proofs::States::new_states_sorted))]
+    #[tactic(auto, using(crate::proofs::NewStates::new_states_sorted))]
     pub fn from_entries(entries: Vec<(RowId, State)>) -> Result<Writes, Vec<(RowId, State)>>
         ensures found { IfOk result (λ made. made ≡ map.from_sorted (new_states entries.items)) }
         ensures only { IsOk result ↔ T (map.is_sorted row_cmp (new_states entries.items)) }
@@ -248,7 +245,7 @@ impl Writes {
     pub fn get(&self, row: RowId) -> Option<State>
         ensures { option_map state_value result ≡ map.get self.now row }
     {
-        value_of_row(&self.entries, row).copied()
+        value_of(&self.entries, row).copied()
     }
 
     /// A copy; NoMemory where a growth was refused.

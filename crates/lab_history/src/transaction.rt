@@ -5,10 +5,9 @@ ghost use Rattle.std.specs.Option.{option_copied};
 ghost use Rattle.std.specs.FinMap as map;
 ghost use Rattle.lab_table.specs.Row.{row_cmp};
 
-use crate::keyed::value_of_row;
 use crate::operation::Ops;
 use crate::order::rises;
-use lab_table::{RowId, TxnNo};
+use lab_table::{RowId, TxnNo, value_of};
 use std::marker::Model;
 
 /// How a transaction ended.
@@ -151,6 +150,6 @@ impl Installed {
     pub fn get(&self, row: RowId) -> Option<&Installers>
         ensures { option_copied result ≡ map.get self.now row }
     {
-        value_of_row(&self.entries, row)
+        value_of(&self.entries, row)
     }
 }

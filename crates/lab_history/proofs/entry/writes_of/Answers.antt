@@ -2,7 +2,7 @@ use Rattle.std.proofs.Common.{sym, subst}
 use Rattle.serde_json.specs.View.{view}
 use Rattle.lab_history.specs.VersionName.{new_states}
 use Rattle.lab_history.specs.Faults.{Gives}
-use Rattle.lab_history.proofs.States.{gives_more, rises_seen, states_read}
+use Rattle.lab_history.proofs.WritesRead.{gives_more, rises_seen, states_read}
 use Rattle.lab_history.proofs.entry.writes_of.Goals as goal
 
 pub returns-clause-read : goal.returns-clause-read

@@ -5,5 +5,4 @@ use Rattle.lab_engine.proofs.version.Versions.cover.Goals as goal
 
 pub returns-in_ok-put_each : goal.returns-in_ok-put_each
 returns-in_ok-put_each c = λ row.
-    ap (λ m. get m row) c.in_ok-put_each.ensures
-    ∙ cover_found c.args.self.now c.args.over.now c.over.inside.entries.items c.deref.result.now row c.over.invariant c.over.view_is c.deref.ensures.value
+    ap (λ m. get m row) c.in_ok-put_each.ensures ∙ cover_found c.args.self.now c.args.over.now c.entries-entries.result.now row c.entries-entries.ensures

@@ -5,5 +5,5 @@ use Rattle.lab_history.proofs.transaction.Installed.get.Goals as goal
 
 pub returns : goal.returns
 returns c =
-    c.value_of_row.ensures ∙ ap (find row_cmp c.args.row) c.deref.ensures.value
+    c.value_of.ensures ∙ ap (find row_cmp c.args.row) c.deref.ensures.value
     ∙ sym (get-from_sorted row_cmp c.self.inside.entries.items c.args.row c.self.invariant) ∙ ap (λ m. get m c.args.row) c.self.view_is

@@ -1,6 +1,6 @@
 use Rattle.std.proofs.Common.{◌∙◌}
 use Rattle.lab_history.proofs.WrittenLists.{one_written, all_written, list_stands, list_seen}
-use Rattle.lab_history.proofs.WrittenStates.{write_tree, IsWrite, write_trees, writes_stand}
+use Rattle.lab_history.proofs.WrittenWrites.{write_tree, IsWrite, write_trees, writes_stand}
 use Rattle.lab_history.proofs.writing.values.writes_json.Goals as goal
 
 pub loop-write-preserved : goal.loop-write-preserved

@@ -1,6 +1,6 @@
 use Rattle.std.proofs.Common.{take}
 use Rattle.lab_history.proofs.WrittenLists.{Written}
-use Rattle.lab_history.proofs.WrittenStates.{write_tree, IsWrite}
+use Rattle.lab_history.proofs.WrittenWrites.{write_tree, IsWrite}
 use Rattle.lab_history.proofs.writing.values.writes_json.Given as goal
 
 abbrev pub invariant-loop-write : goal.invariant-loop-write

@@ -1,7 +1,0 @@
-use Rattle.std.proofs.Common.{◌∙◌, sym, ap}
-use Rattle.std.specs.FinMap.{entries, entries-from_sorted}
-use Rattle.lab_table.specs.Row.{row_cmp}
-use Rattle.lab_engine.proofs.version.Versions.entries.Goals as goal
-
-pub returns : goal.returns
-returns c = c.deref.ensures.value ∙ sym (entries-from_sorted row_cmp c.self.inside.entries.items c.self.invariant) ∙ ap entries c.self.view_is

@@ -1,9 +1,0 @@
-use Rattle.std.proofs.Common.{◌∙◌, sym, ap}
-use Rattle.std.specs.FinMap.{get, find, get-from_sorted}
-use Rattle.lab_table.specs.Row.{row_cmp}
-use Rattle.lab_engine.proofs.version.Versions.get.Goals as goal
-
-pub returns : goal.returns
-returns c =
-    c.version_at.ensures ∙ ap (find row_cmp c.args.row) c.deref.ensures.value
-    ∙ sym (get-from_sorted row_cmp c.self.inside.entries.items c.args.row c.self.invariant) ∙ ap (λ m. get m c.args.row) c.self.view_is

@@ -1,0 +1,102 @@
+-- Reading a list of written rows: what is read with the states of the code is what contracts read.
+use Rattle.std.proofs.Common.{◌≡◌, ℕ, ◌+◌, Bool, true, false, ◌&&◌, T, List, [], ◌∷◌, Option, Some, None, option_map, ℤ, Result, Ok, Err, if◌then◌else◌, IfOk, refl, ap, ◌∙◌, subst, sym}
+use Rattle.std.specs.FinMap.{is_sorted}
+use Rattle.serde_json.specs.Data.{Data, Items, no_items, item}
+use Rattle.serde_json.specs.Find.{as_array}
+use Rattle.lab_table.specs.Row.{Row, row_cmp}
+use Rattle.lab_history.specs.VersionName.{new_states, state_value}
+use Rattle.lab_history.specs.Faults.{◌>>=◌, required, Gives}
+use Rattle.lab_history.specs.Entries.{id_in, written_in, follows, pair_in, pair_of, entries_from, entries_in, writes_in}
+use Rattle.lab_history.specs.WrittenState.{state_from, state_in}
+use Rattle.lab_history.specs.declared.fault.FileFault.{FileFault}
+use Rattle.lab_history.specs.declared.fault.FileFault.TheVariants as fault
+use Rattle.lab_history.specs.declared.path.Path.{Path}
+use Rattle.lab_history.specs.declared.path.Path.TheVariants as path
+use Rattle.lab_history.specs.declared.path.ListPlace.{ListPlace}
+use Rattle.lab_history.specs.declared.operation.State.{State}
+use Rattle.lab_history.specs.declared.stop.Stop.{Stop}
+use Rattle.lab_history.specs.declared.stop.Stop.TheVariants as stop
+use Rattle.lab_history.proofs.NewStates.{new_states_sorted}
+
+-- a state is seen as what it was made of
+value_state : (s : Option ℤ) → state_value (state_from s) ≡ s
+value_state None = refl
+value_state (Some z) = refl
+
+-- an entry as contracts see it; below, what is read with states of the code and then seen so is what contracts read
+abbrev seen : Row × State → Row × Option ℤ
+seen e = (e.0, state_value e.1)
+
+-- what is written,
+seen_part : (id : Row) (at : Path) (s : Option (Option ℤ))
+    → (required at s >>= λ x. Ok (id, x)) ≡ ((required at (option_map state_from s) >>= λ x. Ok (id, x)) >>= λ e. Ok (seen e))
+seen_part id at None = refl
+seen_part id at (Some s) = ap (λ x. Ok (id, x)) (sym (value_state s))
+
+-- the row before it,
+seen_pair : (place : ListPlace) (index : ℕ) (id : Result Row FileFault) (d : Data)
+    → (id >>= λ id. required (path.Part place index 1) (written_in d) >>= λ x. Ok (id, x))
+    ≡ ((id >>= λ id. required (path.Part place index 1) (state_in d) >>= λ x. Ok (id, x)) >>= λ e. Ok (seen e))
+seen_pair place index (Ok id) d = seen_part id (path.Part place index 1) (written_in d)
+seen_pair place index (Err f) d = refl
+
+-- and the list of the two
+seen_parts : (place : ListPlace) (index : ℕ) (pair : Result (Data × Data) FileFault)
+    → (pair >>= λ p. required (path.Part place index 0) (id_in p.0) >>= λ id. required (path.Part place index 1) (written_in p.1) >>= λ x. Ok (id, x))
+    ≡ ((pair >>= λ p. required (path.Part place index 0) (id_in p.0) >>= λ id. required (path.Part place index 1) (state_in p.1) >>= λ x. Ok (id, x)) >>= λ e. Ok (seen e))
+seen_parts place index (Ok p) = seen_pair place index (required (path.Part place index 0) (id_in p.0)) p.1
+seen_parts place index (Err f) = refl
+
+-- a member,
+pair_seen : (place : ListPlace) (index : ℕ) (parts : Option Items) → pair_of written_in place index parts ≡ (pair_of state_in place index parts >>= λ e. Ok (seen e))
+pair_seen place index parts = seen_parts place index (pair_in place index parts)
+
+module _ (place : ListPlace) where
+  abbrev written : ℕ → Data → Result (Row × Option ℤ) FileFault
+  written index d = pair_of written_in place index (as_array d)
+
+  abbrev stated : ℕ → Data → Result (Row × State) FileFault
+  stated index d = pair_of state_in place index (as_array d)
+
+  -- what follows an entry moves across
+  seen_more : (b : Bool) (e : Row × State) (rest : Result (List (Row × State)) FileFault)
+      → (if b then ((rest >>= λ es. Ok (new_states es)) >>= λ es. Ok (seen e ∷ es)) else Err (fault.Unsorted (path.List place)))
+      ≡ ((if b then (rest >>= λ es. Ok (e ∷ es)) else Err (fault.Unsorted (path.List place))) >>= λ es. Ok (new_states es))
+  seen_more true e (Ok es) = refl
+  seen_more true e (Err f) = refl
+  seen_more false e rest = refl
+
+  -- the members from one on,
+  states_from : (index : ℕ) (before : Option Row) (ds : Items) → entries_from written place index before ds ≡ (entries_from stated place index before ds >>= λ es. Ok (new_states es))
+  states_from index before no_items = refl
+  states_from index before (item d ds) =
+      ap (λ r. r >>= λ e. if follows before e.0 then (entries_from written place (index + 1) (Some e.0) ds >>= λ es. Ok (e ∷ es)) else Err (fault.Unsorted (path.List place))) (pair_seen place index (as_array d))
+      ∙ elim (stated index d) as (λ r. ((r >>= λ e. Ok (seen e)) >>= λ e. if follows before e.0 then (entries_from written place (index + 1) (Some e.0) ds >>= λ es. Ok (e ∷ es)) else Err (fault.Unsorted (path.List place)))
+      ≡ ((r >>= λ e. if follows before e.0 then (entries_from stated place (index + 1) (Some e.0) ds >>= λ es. Ok (e ∷ es)) else Err (fault.Unsorted (path.List place))) >>= λ es. Ok (new_states es))) [
+        | Ok e ↦
+            ap (λ rest. if follows before e.0 then (rest >>= λ es. Ok (seen e ∷ es)) else Err (fault.Unsorted (path.List place))) (states_from (index + 1) (Some e.0) ds)
+            ∙ seen_more (follows before e.0) e (entries_from stated place (index + 1) (Some e.0) ds)
+        | Err f ↦ refl
+      ]
+
+  -- a value that may be a list,
+  states_list : (items : Option Items)
+      → (required (path.List place) items >>= entries_from written place 0 None)
+      ≡ ((required (path.List place) items >>= entries_from stated place 0 None) >>= λ es. Ok (new_states es))
+  states_list None = refl
+  states_list (Some ds) = states_from 0 None ds
+
+  -- and a list
+  pub states_read : (d : Data) → writes_in place d ≡ (entries_in stated place d >>= λ es. Ok (new_states es))
+  states_read d = states_list (as_array d)
+
+-- what is seen further of what was given
+pub gives_more : {X Y Z : Type 0} (f : X → Y) (g : Y → Z) (result : Result X Stop) (read : Result Y FileFault) → Gives f result read → Gives (λ x. g (f x)) result (read >>= λ y. Ok (g y))
+gives_more f g (Ok x) read given = ap (λ r. r >>= λ y. Ok (g y)) given
+gives_more f g (Err stop.NoMemory) read given = tt
+gives_more f g (Err (stop.Fault fault)) read given = ap (λ r. r >>= λ y. Ok (g y)) given
+
+-- a result whose rows rise, seen as new states
+pub rises_seen : {X : Type 0} (items : X → List (Row × State)) (result : Result X Stop) → IfOk result (λ x. T (is_sorted row_cmp (items x))) → IfOk result (λ x. T (is_sorted row_cmp (new_states (items x))))
+rises_seen items (Ok x) h = subst T (sym (new_states_sorted (items x))) h
+rises_seen items (Err e) h = tt
