@@ -1,5 +1,5 @@
 -- Lists of rows in which no row comes twice, and the tables that they make.
-use Rattle.std.proofs.Common.{◌≡◌, ℕ, ◌+◌, ◌≤◌, ℤ, Bool, true, false, cond, List, [], ◌∷◌, ◌++◌, length, Some, None, is_some, refl, sym, ap, ◌∙◌, arith, inl, inr}
+use Rattle.std.proofs.Common.{◌≡◌, ℕ, ◌+◌, ◌≤◌, ℤ, Bool, true, false, cond, List, [], ◌∷◌, ◌++◌, length, Option, Some, None, is_some, refl, sym, ap, ◌∙◌, arith, inl, inr}
 use Rattle.std.specs.FinMap.{find, insert, entries, empty, contains_key, from_entries, from_entries_push, get-from_entries, len-insert, len-entries, len-empty}
 use Rattle.std.proofs.lemmas.Bool.{cases_Bool, true≢false}
 use Rattle.std.proofs.lemmas.List.{length-append}
@@ -8,7 +8,6 @@ use Rattle.lab_table.specs.Row.{Row, row_cmp, row_eq, rows_total, rows_apart}
 use Rattle.lab_table.specs.Table.{Table}
 use Rattle.lab_table.proofs.Maps.{same_row, row_eq_self}
 use Rattle.lab_script.specs.Grammar.{AllDistinct}
-use Rattle.lab_table.proofs.Adding.{not_some}
 
 -- the table that rows make
 abbrev pub table_of : List (Row × ℤ) → Table
@@ -17,6 +16,10 @@ table_of rows = from_entries rows
 -- a table has a row where the list has it
 is_here : (rows : List (Row × ℤ)) (id : Row) → contains_key (table_of rows) id ≡ is_some (find row_cmp id rows)
 is_here rows id = ap is_some (get-from_entries rows_total rows id)
+
+found_none : (o : Option ℤ) → is_some o ≡ false → o ≡ None
+found_none None h = refl
+found_none (Some v) h = absurd cc
 
 -- how many rows a table has
 abbrev size : Table → ℕ
@@ -50,7 +53,7 @@ distinct_rest : (row : Row × ℤ) (rows : List (Row × ℤ)) → AllDistinct (r
 distinct_rest row rows all =
     elim (cases_Bool (contains_key (table_of rows) row.0)) [
       | inl is ↦ absurd (omega (arith, at_most rows, size_where (table_of rows) row.0 row.1 true is, all))
-      | inr isnt ↦ (not_some (find row_cmp row.0 rows) (sym (is_here rows row.0) ∙ isnt), omega (arith, size_where (table_of rows) row.0 row.1 false isnt, all))
+      | inr isnt ↦ (found_none (find row_cmp row.0 rows) (sym (is_here rows row.0) ∙ isnt), omega (arith, size_where (table_of rows) row.0 row.1 false isnt, all))
     ]
 
 -- rows are apart in either order
