@@ -2,6 +2,7 @@
 use denote.RattleType.{RattleType}
 use denote.Param.Send.{IsSend, sendable}
 use denote.Param.SendFields.{declared_send}
+use Rattle.std.specs.declared.default.Default.{Ghosts as Defaults}
 use Rattle.std.proofs.Crossing.{crosses}
 use Rattle.lab_table.proofs.number.TxnNo.TheSendSync as number
 use Rattle.lab_table.proofs.number.Session.TheSendSync as session
@@ -36,9 +37,9 @@ situation = declared_send Situation.the_type (
   (search (sendable, versions.the_send), (search (sendable, chains.the_send), (search sendable, (search sendable, tt)))),
 )
 
-module _ (R : RattleType) (rules : Ghosts R.Denot) where
-  kept : IsSend R → IsSend (Inside.the_row R rules)
-  kept r = declared_send (Inside.the_type R rules) (
+module _ (R : RattleType) (rules : Ghosts R.Denot) (default : Defaults R.Denot) where
+  kept : IsSend R → IsSend (Inside.the_row R rules default)
+  kept r = declared_send (Inside.the_type R rules default) (
     search (sendable, r),
     (
       search (sendable, table.the_send),
@@ -53,5 +54,5 @@ module _ (R : RattleType) (rules : Ghosts R.Denot) where
   )
 
   -- an engine may, where its rules may
-  pub journal : IsSend R → IsSend (Journal.the_row R rules)
+  pub journal : IsSend R → IsSend (Journal.the_row R rules default)
   journal r = let inside = kept r in search (sendable, inside)

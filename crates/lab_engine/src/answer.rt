@@ -39,7 +39,7 @@ pub fn answer_to<R: Rules>(
     requires room { length log.now < max_events }
     requires situation { Describes (past_of log.now) situation.now }
     requires may { MayGive (past_of log.now) session command.now }
-    ensures { IfOk result (Answers (R.kind rules.now) setup.now (past_of log.now) session command.now) }
+    ensures { IfOk result (Answers R.kind setup.now (past_of log.now) session command.now) }
 {
     let Some(running) = situation.running(session) else {
         return Ok(without_transaction(log, situation, session, command));
@@ -99,7 +99,7 @@ pub fn run_statement<R: Rules>(
     requires situation { Describes (past_of log.now) situation.now }
     requires may { MayAsk (past_of log.now) session statement.now }
     requires running { (txn : Txn) × (active (past_of log.now) session ≡ Some txn) × IsRunning txn running.now }
-    ensures { IfOk result (Answers (R.kind rules.now) setup.now (past_of log.now) session (Run statement.now)) }
+    ensures { IfOk result (Answers R.kind setup.now (past_of log.now) session (Run statement.now)) }
 {
     let seen = seen_by(alloc, rules.level(), setup, situation, running)?;
     let on = blockers(alloc, rules, setup, situation, session, &seen, statement)?;

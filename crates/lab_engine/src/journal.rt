@@ -44,9 +44,9 @@ impl<R: Rules> Model for Journal<R> {
 
     ghost coded = { coded_kept level.the_row.coded event.the_row.coded };
 
-    ghost view = { λ j. record { level = R.kind j.rules; setup = j.setup; log = j.log.items } };
+    ghost view = { λ j. record { level = R.kind; setup = j.setup; log = j.log.items } };
 
-    ghost invariant = { λ j. Keeps (R.kind j.rules) j.setup (past_of j.log.items) j.retryable j.situation };
+    ghost invariant = { λ j. Keeps R.kind j.setup (past_of j.log.items) j.retryable j.situation };
 }
 
 /// An event that the rules permit next, its outcome once more, and what is kept of the log after it.
@@ -60,13 +60,13 @@ struct Next {
 
 impl<R: Rules> Journal<R> {
     /// An engine that has done nothing yet, on this table. It takes no memory.
-    pub fn new(alloc: Global, rules: R, setup: Table) -> Journal<R>
-        ensures level { result.level ≡ R.kind rules }
+    pub fn new(alloc: Global, setup: Table) -> Journal<R>
+        ensures level { result.level ≡ R.kind }
         ensures setup { result.setup ≡ setup }
         ensures log { result.log ≡ [] }
     {
         Journal {
-            rules,
+            rules: R::default(),
             setup,
             log: Vec::new(alloc),
             retryable: None,
@@ -105,7 +105,7 @@ fn next_event<R: Rules>(
     requires situation { Describes (past_of log.now) situation }
     ensures event { IfOk result (λ n. n.event ≡ event) }
     ensures copy { IfOk result (λ n. n.outcome ≡ event.outcome) }
-    ensures keeps { IfOk result (λ n. Keeps (R.kind rules.now) setup.now (n.event ∷ past_of log.now) n.retryable (Some n.situation)) }
+    ensures keeps { IfOk result (λ n. Keeps R.kind setup.now (n.event ∷ past_of log.now) n.retryable (Some n.situation)) }
 {
     let outcome = event.outcome.copy(alloc)?;
     let mut situation = situation;
@@ -131,7 +131,7 @@ fn step_outcome<R: Rules>(
 ) -> Result<Outcome, NoMemory>
     requires room { length log.now < max_events }
     requires situation { Describes (past_of log.now) situation.now }
-    ensures permitted { IfOk result (Permitted (R.kind rules.now) setup.now (past_of log.now) session command.now) }
+    ensures permitted { IfOk result (Permitted R.kind setup.now (past_of log.now) session command.now) }
     ensures busy { IfOk result (λ outcome. IsSome (waiting (past_of log.now) session) → outcome ≡ Refused Busy) }
 {
     if situation.is_waiting(session) {
@@ -153,8 +153,8 @@ fn step_event<R: Rules>(
 ) -> Result<Next, NoMemory>
     requires room { length log.now < max_events }
     requires situation { Describes (past_of log.now) situation }
-    ensures step { IfOk result (λ n. IsStep (R.kind rules.now) setup.now log.now (log.now ++ n.event ∷ []) session command.now n.outcome) }
-    ensures keeps { IfOk result (λ n. Keeps (R.kind rules.now) setup.now (n.event ∷ past_of log.now) n.retryable (Some n.situation)) }
+    ensures step { IfOk result (λ n. IsStep R.kind setup.now log.now (log.now ++ n.event ∷ []) session command.now n.outcome) }
+    ensures keeps { IfOk result (λ n. Keeps R.kind setup.now (n.event ∷ past_of log.now) n.retryable (Some n.situation)) }
 {
     let outcome = step_outcome(alloc, rules, setup, log, &situation, session, command)?;
     let command = command.copy(alloc)?;
@@ -179,8 +179,8 @@ fn retry_event<R: Rules>(
     requires room { length log.now < max_events }
     requires situation { Describes (past_of log.now) situation }
     requires waits { IsSome (waiting (past_of log.now) session) }
-    ensures retry { IfOk result (λ n. IsRetry (R.kind rules.now) setup.now log.now (log.now ++ n.event ∷ []) session n.outcome) }
-    ensures keeps { IfOk result (λ n. Keeps (R.kind rules.now) setup.now (n.event ∷ past_of log.now) n.retryable (Some n.situation)) }
+    ensures retry { IfOk result (λ n. IsRetry R.kind setup.now log.now (log.now ++ n.event ∷ []) session n.outcome) }
+    ensures keeps { IfOk result (λ n. Keeps R.kind setup.now (n.event ∷ past_of log.now) n.retryable (Some n.situation)) }
 {
     let Some(statement) = situation.waiting(session) else {
         unreachable!();

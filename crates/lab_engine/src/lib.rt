@@ -9,7 +9,7 @@
 //!
 //! A [`Journal`] is an engine of any [`Rules`], which say who blocks a statement and which commits conflict. Beside its
 //! setup and its log it keeps the [`Situation`] in which the log leaves sessions and rows, so no call looks through the
-//! log. The engines themselves are in `lab_locking` and `lab_versions`.
+//! log. The rules of each level, and the engines as journals over them, are in `lab_locking` and `lab_versions`.
 #![tactic(auto)]
 
 mod answer;

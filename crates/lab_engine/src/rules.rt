@@ -21,14 +21,15 @@ pub struct Conflict {
     pub by: TxnNo,
 }
 
-/// What is particular to a level: who blocks a statement, and which commits conflict.
-pub trait Rules {
+/// What is particular to a level: who blocks a statement, and which commits conflict. A type of rules has one level, and
+/// a journal makes its own by `default`.
+pub trait Rules: Default {
     /// The level that they are the rules of.
-    ghost kind: { Self → Kind };
+    ghost kind: { Kind };
 
     /// The level that they are the rules of.
     fn level(&self) -> Level
-        ensures { result ≡ kind self.now };
+        ensures { result ≡ kind };
 
     /// Whether a transaction of another session blocks a statement of one that sees these versions, after the events
     /// of this situation.
@@ -40,14 +41,14 @@ pub trait Rules {
         statement: &Statement,
         holder: &RunningTxn,
     ) -> bool
-        ensures yes { (past : Past) (asker txn : Txn) → Describes past situation.now → IsSight (kind self.now) setup.now past asker seen.now
-            → IsRunning txn holder.now → result ≡ true → Blocks (kind self.now) setup.now past asker statement.now txn }
-        ensures never { (past : Past) (asker txn : Txn) → Describes past situation.now → IsSight (kind self.now) setup.now past asker seen.now
-            → IsRunning txn holder.now → result ≡ false → ¬ Blocks (kind self.now) setup.now past asker statement.now txn };
+        ensures yes { (past : Past) (asker txn : Txn) → Describes past situation.now → IsSight kind setup.now past asker seen.now
+            → IsRunning txn holder.now → result ≡ true → Blocks kind setup.now past asker statement.now txn }
+        ensures never { (past : Past) (asker txn : Txn) → Describes past situation.now → IsSight kind setup.now past asker seen.now
+            → IsRunning txn holder.now → result ≡ false → ¬ Blocks kind setup.now past asker statement.now txn };
 
     /// Why a session's active transaction may not commit after the events of this situation, if it may not; None where
     /// it may.
     fn conflict(&self, situation: &Situation, session: Session) -> Option<Conflict>
         ensures { (past : Past) (txn : Txn) → Describes past situation.now → active past session ≡ Some txn
-            → MatchOption result (MayCommit (kind self.now) past txn) (IsFirstConflict (kind self.now) past txn) };
+            → MatchOption result (MayCommit kind past txn) (IsFirstConflict kind past txn) };
 }

@@ -38,9 +38,9 @@ fn is_blocked_by<R: Rules>(
     state: &SessionState,
 ) -> bool
     ensures yes { (past : Past) (txn : Txn) → Describes past situation.now → DescribesSession past state.now → active past session ≡ Some txn
-        → IsSight (R.kind rules.now) setup.now past txn seen.now → result ≡ true → BlockedBy (R.kind rules.now) setup.now past session statement.now state.now.session }
+        → IsSight R.kind setup.now past txn seen.now → result ≡ true → BlockedBy R.kind setup.now past session statement.now state.now.session }
     ensures never { (past : Past) (txn : Txn) → Describes past situation.now → DescribesSession past state.now → active past session ≡ Some txn
-        → IsSight (R.kind rules.now) setup.now past txn seen.now → result ≡ false → ¬ BlockedBy (R.kind rules.now) setup.now past session statement.now state.now.session }
+        → IsSight R.kind setup.now past txn seen.now → result ≡ false → ¬ BlockedBy R.kind setup.now past session statement.now state.now.session }
 {
     if state.session == session {
         return false;
@@ -63,8 +63,8 @@ pub fn blockers<R: Rules>(
     statement: &Statement,
 ) -> Result<Sessions, NoMemory>
     ensures { (past : Past) (txn : Txn) → Describes past situation.now → active past session ≡ Some txn
-        → IsSight (R.kind rules.now) setup.now past txn seen.now
-        → IfOk result (AreBlockers (R.kind rules.now) setup.now past session statement.now) }
+        → IsSight R.kind setup.now past txn seen.now
+        → IfOk result (AreBlockers R.kind setup.now past session statement.now) }
 {
     let mut on = Vec::new(alloc);
     for state in &situation.sessions {
@@ -85,7 +85,7 @@ fn waits_on<R: Rules>(
     state: &SessionState,
 ) -> Result<Sessions, NoMemory>
     ensures { (past : Past) → Describes past situation.now → DescribesSession past state.now
-        → IfOk result (λ on. (other : ℕ) → Contains on other ↔ WaitsOn (R.kind rules.now) setup.now past state.now.session other) }
+        → IfOk result (λ on. (other : ℕ) → Contains on other ↔ WaitsOn R.kind setup.now past state.now.session other) }
 {
     let Some(statement) = &state.waits else {
         return Ok(Sessions::new(Vec::new(alloc)));
@@ -114,7 +114,7 @@ pub fn all_waits<R: Rules>(
     situation: &Situation,
 ) -> Result<Vec<Wait>, NoMemory>
     ensures { (past : Past) → Describes past situation.now
-        → IfOk result (λ waits. AreWaits (R.kind rules.now) setup.now past waits.items) }
+        → IfOk result (λ waits. AreWaits R.kind setup.now past waits.items) }
 {
     let mut waits = Vec::new(alloc);
     for state in &situation.sessions {
@@ -140,9 +140,9 @@ pub fn deadlock<R: Rules>(
     on: &Sessions,
 ) -> Result<Option<Sessions>, NoMemory>
     ensures { (past : Past) (s : Asked) → Describes past situation.now → MayAsk past session s
-        → AreBlockers (R.kind rules.now) setup.now past session s on.now
-        → IfOk result (λ found. MatchOption found ((circle : List ℕ) → ¬ IsCircle (R.kind rules.now) setup.now past session s circle)
-        (IsCircle (R.kind rules.now) setup.now past session s)) }
+        → AreBlockers R.kind setup.now past session s on.now
+        → IfOk result (λ found. MatchOption found ((circle : List ℕ) → ¬ IsCircle R.kind setup.now past session s circle)
+        (IsCircle R.kind setup.now past session s)) }
 {
     let mut waits = all_waits(alloc, rules, setup, situation)?;
     waits.push(Wait {
@@ -183,7 +183,7 @@ pub fn retryable<R: Rules>(
     situation: &Situation,
 ) -> Result<Option<Session>, NoMemory>
     ensures { (past : Past) → Describes past situation.now
-        → IfOk result (λ found. MatchOption found (NoneRetryable (R.kind rules.now) setup.now past) (IsLeastRetryable (R.kind rules.now) setup.now past)) }
+        → IfOk result (λ found. MatchOption found (NoneRetryable R.kind setup.now past) (IsLeastRetryable R.kind setup.now past)) }
 {
     let waits = all_waits(alloc, rules, setup, situation)?;
     for state in &situation.sessions {

@@ -1,2 +1,1 @@
 pub mod Blocking
-pub mod Crosses

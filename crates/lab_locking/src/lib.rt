@@ -4,7 +4,8 @@
 //! that it would write, or that has run a statement that matches a row before or after it would write it. Where those
 //! that it would wait for wait for it in turn, it is refused, and its transaction aborted.
 //!
-//! To use it, make a [`LockEngine`] of a table by `new`, and hand it commands as any `lab_engine::Engine`.
+//! It is the [`LockEngine`], a `lab_engine::Journal` over these rules: make one of a table by `new`, and hand it commands
+//! as any `lab_engine::Engine`.
 #![tactic(auto)]
 
 mod blockers;

@@ -1,2 +1,1 @@
 pub mod Conflicts
-pub mod Crosses

@@ -4,7 +4,8 @@
 //! then refuses the second one's commit. [`CommittedEngine`] lets each statement see what has committed by now, and
 //! makes it wait for those that have written a row that it would write.
 //!
-//! To use one, make it of a table by `new`, and hand it commands as any `lab_engine::Engine`.
+//! Each is a `lab_engine::Journal` over its rules: make one of a table by `new`, and hand it commands as any
+//! `lab_engine::Engine`.
 #![tactic(auto)]
 
 mod committed;

@@ -37,4 +37,4 @@ returns-in-Some-conflict g c = let t = running_txn (past_of c.args.log.now) c.ar
     ((t.0, gives _ _ _ _ t.0 c.in-Commit.is refl c.requires.may t.1, p.0, p.1, p.2), λ eq. cc)
 
 pub returns-in-Run : goal.returns-in-Run
-returns-in-Run g c = ran (g.R.Rules.kind c.args.rules.now) c.args.setup.now (past_of c.args.log.now) c.args.session _ _ _ c.in-Run.is c.run_statement.ensures
+returns-in-Run g c = ran g.R.Rules.kind c.args.setup.now (past_of c.args.log.now) c.args.session _ _ _ c.in-Run.is c.run_statement.ensures

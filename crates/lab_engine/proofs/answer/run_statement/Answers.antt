@@ -8,7 +8,7 @@ pub returns-then-is_empty : goal.returns-then-is_empty
 returns-then-is_empty g c =
     let t = c.requires.running in
     let asks = asking c.args.statement.now t.0 c.requires.may t.1 in
-    let sight : IsSight (g.R.Rules.kind c.args.rules.now) c.args.setup.now (past_of c.args.log.now) t.0 c.in_ok-seen.seen =
+    let sight : IsSight g.R.Rules.kind c.args.setup.now (past_of c.args.log.now) t.0 c.in_ok-seen.seen =
     subst (λ level. IsSight level c.args.setup.now (past_of c.args.log.now) t.0 c.in_ok-seen.seen) c.level.ensures
     (c.in_ok-seen.ensures (past_of c.args.log.now) c.args.session t.0 c.requires.situation t.1 t.2) in
     let blockers = c.in_ok-on.ensures (past_of c.args.log.now) t.0 c.requires.situation t.1 sight in
@@ -19,7 +19,7 @@ pub returns-in-Some : goal.returns-in-Some
 returns-in-Some g c =
     let t = c.requires.running in
     let asks = asking c.args.statement.now t.0 c.requires.may t.1 in
-    let sight : IsSight (g.R.Rules.kind c.args.rules.now) c.args.setup.now (past_of c.args.log.now) t.0 c.in_ok-seen.seen =
+    let sight : IsSight g.R.Rules.kind c.args.setup.now (past_of c.args.log.now) t.0 c.in_ok-seen.seen =
     subst (λ level. IsSight level c.args.setup.now (past_of c.args.log.now) t.0 c.in_ok-seen.seen) c.level.ensures
     (c.in_ok-seen.ensures (past_of c.args.log.now) c.args.session t.0 c.requires.situation t.1 t.2) in
     let blockers = c.in_ok-on.ensures (past_of c.args.log.now) t.0 c.requires.situation t.1 sight in
@@ -30,7 +30,7 @@ pub returns : goal.returns
 returns g c =
     let t = c.requires.running in
     let asks = asking c.args.statement.now t.0 c.requires.may t.1 in
-    let sight : IsSight (g.R.Rules.kind c.args.rules.now) c.args.setup.now (past_of c.args.log.now) t.0 c.in_ok-seen.seen =
+    let sight : IsSight g.R.Rules.kind c.args.setup.now (past_of c.args.log.now) t.0 c.in_ok-seen.seen =
     subst (λ level. IsSight level c.args.setup.now (past_of c.args.log.now) t.0 c.in_ok-seen.seen) c.level.ensures
     (c.in_ok-seen.ensures (past_of c.args.log.now) c.args.session t.0 c.requires.situation t.1 t.2) in
     let blockers = c.in_ok-on.ensures (past_of c.args.log.now) t.0 c.requires.situation t.1 sight in

@@ -24,10 +24,10 @@ loop-state-preserved g c = λ past d.
           waits_kept c.loop-state.waits.items c.if-not-is_empty.waits.items c.state-item.result.session c.in_ok-on.on (ap (λ v. v.items) {y = c.loop-state.waits} w.waits-is)
           (sym (ap length c.as_slice.ensures) ∙ eqb-true (length c.as_slice.result.now) 0 (sym c.is_empty.ensures ∙ w.if-not-is_empty.false)) session other
     ] in
-    waits_step (g.R.Rules.kind c.args.rules.now) c.args.setup.now past c.args.situation.now.sessions.items c.loop-state.state-index c.state-item.result c.loop-state.waits.items c.if-not-is_empty.waits.items c.in_ok-on.on
+    waits_step g.R.Rules.kind c.args.setup.now past c.args.situation.now.sessions.items c.loop-state.state-index c.state-item.result c.loop-state.waits.items c.if-not-is_empty.waits.items c.in_ok-on.on
     at.lt at.is (c.loop-state.invariant past d) (c.in_ok-on.ensures past d described) step
 
 pub returns : goal.returns
 returns g c = λ past d.
-    waits_all (g.R.Rules.kind c.args.rules.now) c.args.setup.now past c.args.situation.now c.loop-state.state-index c.loop-state.waits.items d
+    waits_all g.R.Rules.kind c.args.setup.now past c.args.situation.now c.loop-state.state-index c.loop-state.waits.items d
     (subst (λ xs. length xs ≤ c.loop-state.state-index) c.deref-state-items.ensures.value c.loop-state-test.false) (c.loop-state.invariant past d)

@@ -12,7 +12,7 @@ loop-state-preserved g c = λ past txn d is_active sight.
     let at : StandsAt c.args.situation.now.sessions.items c.loop-state.state-index c.state-item.result =
     stands_at c.args.situation.now.sessions.items c.deref-state-items.result.now c.loop-state.state-index c.state-item.result c.deref-state-items.ensures.value c.loop-state-test.true c.state-item.is in
     let described : DescribesSession past c.state-item.result = described_at past c.args.situation.now c.loop-state.state-index c.state-item.result d at in
-    those_step (BlockedBy (g.R.Rules.kind c.args.rules.now) c.args.setup.now past c.args.session c.args.statement.now) c.args.situation.now.sessions.items c.loop-state.state-index c.state-item.result
+    those_step (BlockedBy g.R.Rules.kind c.args.setup.now past c.args.session c.args.statement.now) c.args.situation.now.sessions.items c.loop-state.state-index c.state-item.result
     c.loop-state.on.items c.if-is_blocked_by.on.items at.lt at.is (c.loop-state.invariant past txn d is_active sight)
     (elim c.if-is_blocked_by.branch [
       | then-is_blocked_by+in_ok-push w ↦ inl (c.is_blocked_by.ensures.yes past txn d described is_active sight w.if-is_blocked_by.true, ◌∙◌ {c = c.loop-state.on.items ++ c.state-item.result.session ∷ []} (ap (λ v. v.items) {y = w.push.new.self} w.on-is) w.in_ok-push.ensures.items)
@@ -21,6 +21,6 @@ loop-state-preserved g c = λ past txn d is_active sight.
 
 pub returns : goal.returns
 returns g c = λ past txn d is_active sight.
-    subst (AreBlockers (g.R.Rules.kind c.args.rules.now) c.args.setup.now past c.args.session c.args.statement.now) (sym c.new.ensures)
-    (blockers_all (g.R.Rules.kind c.args.rules.now) c.args.setup.now past c.args.situation.now c.args.session c.args.statement.now c.loop-state.state-index c.loop-state.on.items d
+    subst (AreBlockers g.R.Rules.kind c.args.setup.now past c.args.session c.args.statement.now) (sym c.new.ensures)
+    (blockers_all g.R.Rules.kind c.args.setup.now past c.args.situation.now c.args.session c.args.statement.now c.loop-state.state-index c.loop-state.on.items d
     (subst (λ xs. length xs ≤ c.loop-state.state-index) c.deref-state-items.ensures.value c.loop-state-test.false) (c.loop-state.invariant past txn d is_active sight))

@@ -9,5 +9,5 @@ use Rattle.lab_engine.proofs.waits.blockers.Given as goal
 
 -- of the sessions so far, those that block the statement
 abbrev pub invariant-loop-state : goal.invariant-loop-state
-invariant-loop-state g l = (past : Past) (txn : Txn) → Describes past l.situation → active past l.fn.session ≡ Some txn → IsSight (g.R.Rules.kind l.rules) l.setup past txn l.seen
-    → AreThose (BlockedBy (g.R.Rules.kind l.rules) l.setup past l.fn.session l.statement) (sessions_of (take l.state-index l.situation.sessions.items)) l.on.items
+invariant-loop-state g l = (past : Past) (txn : Txn) → Describes past l.situation → active past l.fn.session ≡ Some txn → IsSight g.R.Rules.kind l.setup past txn l.seen
+    → AreThose (BlockedBy g.R.Rules.kind l.setup past l.fn.session l.statement) (sessions_of (take l.state-index l.situation.sessions.items)) l.on.items

@@ -13,9 +13,9 @@ returns g c = λ past d described.
     running_txn past c.args.state.now.session c.in-Some-running.running (subst (Agree (active past c.args.state.now.session)) c.in-Some-running.is described.running) in
     let waits : waiting past c.args.state.now.session ≡ Some c.in-Some.statement =
     sym described.waits ∙ c.in-Some.is in
-    let sight : IsSight (g.R.Rules.kind c.args.rules.now) c.args.setup.now past txn.0 c.in_ok-seen.seen =
+    let sight : IsSight g.R.Rules.kind c.args.setup.now past txn.0 c.in_ok-seen.seen =
     subst (λ level. IsSight level c.args.setup.now past txn.0 c.in_ok-seen.seen) c.level.ensures (c.in_ok-seen.ensures past c.args.state.now.session txn.0 d txn.1 txn.2) in
-    if_ok (AreBlockers (g.R.Rules.kind c.args.rules.now) c.args.setup.now past c.args.state.now.session c.in-Some.statement)
-    (λ on. (other : ℕ) → Contains on other ↔ WaitsOn (g.R.Rules.kind c.args.rules.now) c.args.setup.now past c.args.state.now.session other)
-    c.blockers.result (λ on. waits_on_blockers (g.R.Rules.kind c.args.rules.now) c.args.setup.now past c.args.state.now.session c.in-Some.statement on waits)
+    if_ok (AreBlockers g.R.Rules.kind c.args.setup.now past c.args.state.now.session c.in-Some.statement)
+    (λ on. (other : ℕ) → Contains on other ↔ WaitsOn g.R.Rules.kind c.args.setup.now past c.args.state.now.session other)
+    c.blockers.result (λ on. waits_on_blockers g.R.Rules.kind c.args.setup.now past c.args.state.now.session c.in-Some.statement on waits)
     (c.blockers.ensures past txn.0 d txn.1 sight)

@@ -5,7 +5,7 @@ use Rattle.lab_matrix.proofs.filling.at_committed.Goals as goal
 
 pub returns-in-Ok-clause-cell : goal.returns-in-Ok-clause-cell
 returns-in-Ok-clause-cell c =
-    cell_is c.args.name Committed _ _ c.in_ok-script.script c.in_ok-script.ensures (c.new-engine.ensures.opening ∙ c.in_ok-copy.ensures) c.new-engine.ensures.kind
+    cell_is c.args.name Committed _ _ c.in_ok-script.script c.in_ok-script.ensures (c.new-engine.ensures.setup ∙ c.in_ok-copy.ensures) c.new-engine.ensures.level
     c.in-Ok.recording c.in_ok-judge_recording-in-Ok.field-0 c.in-Ok.ensures.level c.in-Ok.ensures.setup c.in-Ok.ensures.scripted c.in-Ok.ensures.history c.in_ok-judge_recording-in-Ok.ensures.exact
 
 pub returns : goal.returns
@@ -13,5 +13,5 @@ returns c = record {
   cell = tt;
   fault =
       fault_is c.args.name Committed _ _ c.in_ok-script.script c.in_ok-script.ensures
-      (c.new-engine.ensures.opening ∙ c.in_ok-copy.ensures) c.new-engine.ensures.kind c.in-Err.fault c.in-Err.ensures.fault;
+      (c.new-engine.ensures.setup ∙ c.in_ok-copy.ensures) c.new-engine.ensures.level c.in-Err.fault c.in-Err.ensures.fault;
 }

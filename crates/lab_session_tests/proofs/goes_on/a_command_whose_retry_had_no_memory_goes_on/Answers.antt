@@ -6,7 +6,7 @@ use Rattle.lab_table.proofs.number.Session.TheSendSync as session
 use Rattle.lab_table.proofs.predicate.Pred.TheLaws.TheKnot as predicate
 use Rattle.lab_table.specs.contracts.statement.Command as Command
 use Rattle.lab_engine.proofs.event.Outcome.TheSendSync as outcome
-use Rattle.lab_locking.proofs.Crosses.{engine}
+use Rattle.lab_engine.proofs.Crosses.{journal}
 use Rattle.lab_session.specs.contracts.bench.Bench as Bench
 use Rattle.lab_session.specs.contracts.bench.Bench.TheInside as Inside
 use Rattle.lab_session.specs.contracts.bench.Receipt as Receipt
@@ -20,7 +20,7 @@ use Rattle.lab_session_tests.specs.contracts.goes_on.RefusingEngine.TheImpl as i
 use Rattle.lab_session_tests.proofs.goes_on.a_command_whose_retry_had_no_memory_goes_on.Goals as goal
 
 refusing : IsSend Refusing.the_row
-refusing = declared_send Refusing.the_type (search (sendable, engine), (search sendable, (search (sendable, crosses) depth 40, tt)))
+refusing = declared_send Refusing.the_type (search (sendable, journal), (search sendable, (search (sendable, crosses) depth 40, tt)))
 
 inside : IsSend (Inside.the_row Refusing.the_row impl.ghosts)
 inside = declared_send (Inside.the_type Refusing.the_row impl.ghosts) (search (sendable, refusing), tt)
