@@ -1,14 +1,14 @@
 -- Sorted lists of rows with their versions, two of which are merged.
-use Rattle.std.proofs.Common.{◌≡◌, ℕ, zero, suc, ◌+◌, ℤ, true, false, cond, T, List, [], ◌∷◌, ◌++◌, map, take, drop, Option, Some, None, refl, sym, ap, ◌∙◌, subst, slice_get, slice_set, ◌==◌, option_map, append_assoc, one-add}
+use Rattle.std.proofs.Common.{◌≡◌, ℕ, zero, suc, ◌+◌, ℤ, true, false, cond, T, List, [], ◌∷◌, ◌++◌, map, take, drop, Option, Some, None, refl, sym, ap, ◌∙◌, subst, ◌==◌, option_map, append_assoc, one-add}
 use Rattle.std.specs.Bool.{⊤}
 use Rattle.std.specs.Option.{option_or}
-use Rattle.std.specs.List.{prefix_len, insert as insert_at}
-use Rattle.std.specs.Ordering.{is_eq, is_lt, is_gt}
+use Rattle.std.specs.List.{prefix_len}
+use Rattle.std.specs.Ordering.{is_lt, is_gt}
 use Rattle.std.specs.declared.cmp.Ordering.{Ordering}
 use Rattle.std.specs.declared.cmp.Ordering.TheVariants.{Less, Equal, Greater}
 use Rattle.std.specs.FinMap.{find, is_sorted, get, from_sorted, insert, put, entries, entries_sorted, get-entries, get-from_sorted, get-insert}
 use Rattle.std.specs.FinMap.Entries.{below_all, by_order, is_sorted-put, find-put}
-use Rattle.lab_table.specs.Row.{Row, row_cmp, row_eq, rows_total, rows_apart, rows_tested}
+use Rattle.lab_table.specs.Row.{Row, row_cmp, row_eq, rows_total, rows_apart}
 use Rattle.lab_table.specs.Table.{Table, State, Writes}
 use Rattle.lab_history.specs.VersionName.{new_states}
 use Rattle.lab_history.specs.declared.operation.State.{State as Written}

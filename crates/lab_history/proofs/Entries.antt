@@ -1,18 +1,15 @@
 -- Reading the members of a list one after the other.
-use Rattle.std.proofs.Common.{◌≡◌, ℕ, ◌+◌, ◌≤◌, List, ◌∷◌, ◌++◌, length, drop, Bool, true, false, ◌&&◌, T, if◌then◌else◌, IfOk, subst, Option, Some, None, Result, Ok, Err, refl, sym, ap, ◌∙◌, append-nil}
+use Rattle.std.proofs.Common.{◌≡◌, ℕ, ◌+◌, ◌≤◌, List, ◌++◌, length, drop, T, Option, Result, Ok, sym, ap, ◌∙◌, append-nil}
 use Rattle.std.proofs.lemmas.List.{drop_all}
-use Rattle.serde_json.specs.Data.{Data, Items, no_items, item}
-use Rattle.serde_json.specs.Find.{as_array}
+use Rattle.serde_json.specs.Data.{Data}
 use Rattle.serde_json.specs.View.{items_view}
 use Rattle.serde_json.specs.declared.value.Value.{Value}
 use Rattle.lab_table.specs.Row.{Row, row_cmp}
-use Rattle.lab_history.specs.Faults.{◌>>=◌, required}
-use Rattle.lab_history.specs.Entries.{follows, entries_from, entries_in}
+use Rattle.lab_history.specs.Faults.{◌>>=◌}
+use Rattle.lab_history.specs.Entries.{entries_from, entries_in}
 use Rattle.lab_history.proofs.Rising.{entries_rise}
 use Rattle.std.specs.FinMap.{is_sorted}
 use Rattle.lab_history.specs.declared.fault.FileFault.{FileFault}
-use Rattle.lab_history.specs.declared.fault.FileFault.TheVariants as fault
-use Rattle.lab_history.specs.declared.path.Path.TheVariants as path
 use Rattle.lab_history.specs.declared.path.ListPlace.{ListPlace}
 
 -- the entries before, and then those that are read

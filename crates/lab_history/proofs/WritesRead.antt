@@ -1,5 +1,5 @@
 -- Reading a list of written rows: what is read with the states of the code is what contracts read.
-use Rattle.std.proofs.Common.{◌≡◌, ℕ, ◌+◌, Bool, true, false, ◌&&◌, T, List, [], ◌∷◌, Option, Some, None, option_map, ℤ, Result, Ok, Err, if◌then◌else◌, IfOk, refl, ap, ◌∙◌, subst, sym}
+use Rattle.std.proofs.Common.{◌≡◌, ℕ, ◌+◌, Bool, true, false, T, List, ◌∷◌, Option, Some, None, option_map, ℤ, Result, Ok, Err, if◌then◌else◌, IfOk, refl, ap, ◌∙◌, subst, sym}
 use Rattle.std.specs.FinMap.{is_sorted}
 use Rattle.serde_json.specs.Data.{Data, Items, no_items, item}
 use Rattle.serde_json.specs.Find.{as_array}
