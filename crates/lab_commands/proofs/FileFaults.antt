@@ -20,19 +20,20 @@ use Rattle.lab_history.specs.declared.fault.FileFault.TheVariants.{NoMemory, Not
 use Rattle.lab_history.specs.declared.fault.Limit.TheVariants.{Bytes}
 use Rattle.lab_commands.specs.declared.ending.Ending.{Ending}
 use Rattle.lab_commands.specs.Judging.{IsJudgeAnswer}
-use Rattle.lab_commands.specs.Input.{read_of, most_bytes}
-use Rattle.lab_commands.specs.HistoryFile.{most_file_bytes, HoldsHistory, IsFormatFault, no_text, no_history, IsFileFault, too_long, of_format}
+use Rattle.lab_commands.specs.Input.{read_of, max_input_bytes}
+use Rattle.lab_history.specs.Limits.{max_file_bytes}
+use Rattle.lab_commands.specs.HistoryFile.{HoldsHistory, IsFormatFault, no_text, no_history, IsFileFault, too_long, of_format}
 
 -- an input of which no more is read than a file may have is read whole
-read_whole : (input : List ℕ) → length (read_of input) ≤ most_file_bytes → read_of input ≡ input
+read_whole : (input : List ℕ) → length (read_of input) ≤ max_file_bytes → read_of input ≡ input
 read_whole input few =
-    let cut : length (read_of input) ≡ min most_bytes (length input) = length-take most_bytes input in
-    take_all most_bytes input (omega arith)
+    let cut : length (read_of input) ≡ min max_input_bytes (length input) = length-take max_input_bytes input in
+    take_all max_input_bytes input (omega arith)
 
 -- an input of which more is read has more
-read_more : (input : List ℕ) → most_file_bytes < length (read_of input) → most_file_bytes < length input
+read_more : (input : List ℕ) → max_file_bytes < length (read_of input) → max_file_bytes < length input
 read_more input many =
-    let cut : length (read_of input) ≡ min most_bytes (length input) = length-take most_bytes input in
+    let cut : length (read_of input) ≡ min max_input_bytes (length input) = length-take max_input_bytes input in
     omega arith
 
 -- the history that what is read holds is the one of the whole input
@@ -71,25 +72,25 @@ module _ (bytes : List ℕ) (fault : FileFault) (told : fault ≢ NoMemory) wher
       no_history tree (u, is) (not_for_memory (only tree u is))
 
   -- what the refusals of reading a file say is that the fault is its first
-  pub is_first : (most_file_bytes < length bytes → fault ≡ OverLimit Bytes)
-      → ((tree : Data) → length bytes ≤ most_file_bytes → IsUtf8 bytes → read bytes ≡ Some tree → (fault ≡ NoMemory) ⊎ (history_in tree ≡ Err fault))
-      → (length bytes ≤ most_file_bytes → ((tree : Data) → IsUtf8 bytes → read bytes ≢ Some tree) → (fault ≡ NoMemory) ⊎ (fault ≡ NotJson))
+  pub is_first : (max_file_bytes < length bytes → fault ≡ OverLimit Bytes)
+      → ((tree : Data) → length bytes ≤ max_file_bytes → IsUtf8 bytes → read bytes ≡ Some tree → (fault ≡ NoMemory) ⊎ (history_in tree ≡ Err fault))
+      → (length bytes ≤ max_file_bytes → ((tree : Data) → IsUtf8 bytes → read bytes ≢ Some tree) → (fault ≡ NoMemory) ⊎ (fault ≡ NotJson))
       → IsFileFault bytes fault
-  is_first long only none = elim (cases_lt most_file_bytes (length bytes)) [
+  is_first long only none = elim (cases_lt max_file_bytes (length bytes)) [
     | inl many ↦ too_long many (long many)
     | inr few ↦ of_format few (of_text (is_utf8 bytes) refl (read bytes) refl (λ tree. only tree few) (none few))
   ]
 
 -- the fault that reading a file is refused with is its first
-pub first_fault : {X : Type 0} (result : Result X FileFault) (bytes : List ℕ) → (most_file_bytes < length bytes → result ≡ Err (OverLimit Bytes))
-    → ((tree : Data) → length bytes ≤ most_file_bytes → IsUtf8 bytes → read bytes ≡ Some tree → IfErr result (λ fault. (fault ≡ NoMemory) ⊎ (history_in tree ≡ Err fault)))
-    → (length bytes ≤ most_file_bytes → ((tree : Data) → IsUtf8 bytes → read bytes ≢ Some tree) → IfErr result (λ fault. (fault ≡ NoMemory) ⊎ (fault ≡ NotJson)))
+pub first_fault : {X : Type 0} (result : Result X FileFault) (bytes : List ℕ) → (max_file_bytes < length bytes → result ≡ Err (OverLimit Bytes))
+    → ((tree : Data) → length bytes ≤ max_file_bytes → IsUtf8 bytes → read bytes ≡ Some tree → IfErr result (λ fault. (fault ≡ NoMemory) ⊎ (history_in tree ≡ Err fault)))
+    → (length bytes ≤ max_file_bytes → ((tree : Data) → IsUtf8 bytes → read bytes ≢ Some tree) → IfErr result (λ fault. (fault ≡ NoMemory) ⊎ (fault ≡ NotJson)))
     → IfErr result (λ fault. fault ≢ NoMemory → IsFileFault bytes fault)
 first_fault (Ok x) bytes long only none = tt
 first_fault (Err f) bytes long only none = λ told. is_first bytes f told (λ many. IfErr-at_err (λ g. f ≡ g) (long many) refl) only none
 
 -- a judgement of a file is one of the history that it holds
-pub held_report : (result : Result Report FileFault) (bytes : List ℕ) → IfOk result (IsFileJudgement bytes) → IfOk result (λ report. length bytes ≤ most_file_bytes)
+pub held_report : (result : Result Report FileFault) (bytes : List ℕ) → IfOk result (IsFileJudgement bytes) → IfOk result (λ report. length bytes ≤ max_file_bytes)
     → IfOk result (λ report. (history : History) × HoldsHistory bytes history × IsExactJudgement history report)
 held_report (Err f) bytes judged short = tt
 held_report (Ok report) bytes (tree, history, text, held, exact) short =

@@ -3,18 +3,15 @@ use Rattle.std.specs.Prelude.{◌≡◌, ℕ, ◌≤◌, ◌<◌, List, length, 
 use Rattle.serde_json.specs.Data.{Data}
 use Rattle.lab_history.specs.History.{History}
 use Rattle.lab_history.specs.Format.{history_in}
+use Rattle.lab_history.specs.Limits.{max_file_bytes}
 use Rattle.lab_history.specs.FileRead.{IsTextOf, IsNoText}
 use Rattle.lab_history.specs.declared.fault.FileFault.{FileFault}
 use Rattle.lab_history.specs.declared.fault.FileFault.TheVariants.{NotJson, OverLimit}
 use Rattle.lab_history.specs.declared.fault.Limit.TheVariants.{Bytes}
 
--- the most bytes of a history file
-abbrev pub most_file_bytes : ℕ
-most_file_bytes = 8388608
-
 -- the bytes are a file of the history
 pub record HoldsHistory (bytes : List ℕ) (history : History) : Type 0 where
-  pub short : length bytes ≤ most_file_bytes
+  pub short : length bytes ≤ max_file_bytes
   pub tree : Data
   pub spelled : IsTextOf bytes tree
   pub held : history_in tree ≡ Ok history
@@ -26,5 +23,5 @@ pub data IsFormatFault (bytes : List ℕ) (fault : FileFault) : Type 0 where
 
 -- the fault is the first that the bytes have
 pub data IsFileFault (bytes : List ℕ) (fault : FileFault) : Type 0 where
-  too_long : most_file_bytes < length bytes → fault ≡ OverLimit Bytes → IsFileFault bytes fault
-  of_format : length bytes ≤ most_file_bytes → IsFormatFault bytes fault → IsFileFault bytes fault
+  too_long : max_file_bytes < length bytes → fault ≡ OverLimit Bytes → IsFileFault bytes fault
+  of_format : length bytes ≤ max_file_bytes → IsFormatFault bytes fault → IsFileFault bytes fault

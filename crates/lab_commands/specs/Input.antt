@@ -1,14 +1,15 @@
 -- What is read of an input.
-use Rattle.std.specs.Prelude.{◌≡◌, ℕ, List, ◌++◌, take, Option}
+use Rattle.std.specs.Prelude.{◌≡◌, ℕ, ◌+◌, List, ◌++◌, take, Option}
 use Rattle.std.specs.Io.KnownBytes.{Consumes}
+use Rattle.lab_history.specs.Limits.{max_file_bytes}
 
--- the most bytes that are read
-abbrev pub most_bytes : ℕ
-most_bytes = 8388609
+-- the most bytes that are read: one more than a history file may have, so that a longer one shows
+abbrev pub max_input_bytes : ℕ
+max_input_bytes = max_file_bytes + 1
 
 -- what is read of the bytes that there are
 abbrev pub read_of : List ℕ → List ℕ
-read_of bytes = take most_bytes bytes
+read_of bytes = take max_input_bytes bytes
 
 -- some bytes went from a reader, which had `left` and has `rest`, to the end of those before
 pub record Takes (left rest : Option (List ℕ)) (old new : List ℕ) : Type 0 where

@@ -12,6 +12,7 @@ use Rattle.lab_engine.specs.Log.{past_of}
 use Rattle.lab_engine.specs.Recording.{IsRecording}
 use Rattle.lab_engine.specs.RecordedLog.{RecordedLog, IsSoundRecord}
 use Rattle.lab_engine.specs.declared.event.Level.{Level}
+use Rattle.lab_history.specs.Limits.{max_file_bytes}
 use Rattle.lab_session.specs.Play.{given_lines, IsLegalPlay, IsScriptedFault}
 use Rattle.lab_session.specs.Free.{AllSessionsPlayed}
 use Rattle.lab_session.specs.LogText.{log_text}
@@ -24,7 +25,6 @@ use Rattle.lab_judge.specs.FileFaultText.{file_fault_text}
 use Rattle.lab_judge.specs.declared.report.Report.{Report}
 use Rattle.lab_commands.specs.declared.ending.Ending.{Ending}
 use Rattle.lab_commands.specs.declared.ending.Ending.TheVariants.{Done, Refused}
-use Rattle.lab_commands.specs.HistoryFile.{most_file_bytes}
 use Rattle.lab_commands.specs.Serial.{IsRefused}
 
 -- a recording of a script that is played by one thread, at a level: its log is legal and follows the script to its end
@@ -62,7 +62,7 @@ pub record TellsLog (recording : RecordedLog) (text : List ℕ) (ending : Ending
 -- the text is the file of what was recorded and a newline, or the line that says that the file would be too long
 pub data TellsHistory (recording : RecordedLog) (text : List ℕ) (ending : Ending) : Type 0 where
   written : text ≡ file_text recording.history ++ newline → ending ≡ Done → TellsHistory recording text ending
-  too_long : most_file_bytes < length (file_text recording.history) → text ≡ file_fault_text (OverLimit Bytes) → ending ≡ Refused → TellsHistory recording text ending
+  too_long : max_file_bytes < length (file_text recording.history) → text ≡ file_fault_text (OverLimit Bytes) → ending ≡ Refused → TellsHistory recording text ending
 
 -- what is told of a recording: its history where that is asked for, else its log
 abbrev pub Tells : Bool → RecordedLog → List ℕ → Ending → Type 0

@@ -2,17 +2,18 @@
 
 ghost use Rattle.std.specs.Prelude.{◌≡◌, ◌⊎◌, ◌≤◌, ◌<◌, length, IfOk, OnOk, IfSome};
 ghost use Rattle.std.specs.Io.KnownBytes.{IsAtEnd};
-ghost use Rattle.lab_commands.specs.Input.{read_of, Takes, most_bytes};
+ghost use Rattle.lab_commands.specs.Input.{read_of, Takes, max_input_bytes};
 
 use crate::ending::RunFault;
+use lab_history::MAX_FILE_BYTES;
 use std::alloc::Global;
 use std::io::{ErrorKind, Read};
 
-/// Bytes that are read of an input: one more than a history file may have, so that a longer one shows.
-const MOST_BYTES: usize = 8_388_609;
+/// The most bytes that are read of an input: one more than a history file may have, so that a longer one shows.
+const MAX_INPUT_BYTES: usize = MAX_FILE_BYTES + 1;
 
-/// Calls of a reader, those counted that were interrupted.
-const MOST_CALLS: u32 = 20_000_000;
+/// The most calls of a reader, those counted that were interrupted.
+const MAX_CALLS: u32 = 20_000_000;
 
 /// Bytes that one call may give.
 const CHUNK: usize = 8_192;
@@ -31,18 +32,18 @@ fn read_turn<R: Read>(
     chunk: &mut [u8; CHUNK],
     bytes: &mut Vec<u8>,
 ) -> Result<Turn, RunFault>
-    requires { length bytes.old.items < most_bytes }
+    requires { length bytes.old.items < max_input_bytes }
     ensures part { OnOk result (Takes (R.remaining reader.old) (R.remaining reader.new) bytes.old.items bytes.new.items) }
-    ensures few { OnOk result (length bytes.new.items ≤ most_bytes) }
-    ensures more { IfOk result (λ turn. turn ≡ Turn.More → length bytes.new.items < most_bytes) }
-    ensures end { IfOk result (λ turn. turn ≡ Turn.End → IsAtEnd (R.remaining reader.new) ⊎ (length bytes.new.items ≡ most_bytes)) }
+    ensures few { OnOk result (length bytes.new.items ≤ max_input_bytes) }
+    ensures more { IfOk result (λ turn. turn ≡ Turn.More → length bytes.new.items < max_input_bytes) }
+    ensures end { IfOk result (λ turn. turn ≡ Turn.End → IsAtEnd (R.remaining reader.new) ⊎ (length bytes.new.items ≡ max_input_bytes)) }
 {
-    let room = (MOST_BYTES - bytes.len()).min(CHUNK);
+    let room = (MAX_INPUT_BYTES - bytes.len()).min(CHUNK);
     match reader.read(&mut chunk[..room]) {
         Ok(0) => Ok(Turn::End),
         Ok(count) => {
             bytes.extend_from_slice(&chunk[..count])?;
-            if bytes.len() < MOST_BYTES {
+            if bytes.len() < MAX_INPUT_BYTES {
                 Ok(Turn::More)
             } else {
                 Ok(Turn::End)
@@ -68,7 +69,7 @@ pub fn read_input<R: Read>(alloc: Global, reader: &mut R) -> Result<Vec<u8>, Run
 {
     let mut chunk = [0u8; CHUNK];
     let mut bytes = Vec::new(alloc);
-    for _ in 0..MOST_CALLS {
+    for _ in 0..MAX_CALLS {
         match read_turn(reader, &mut chunk, &mut bytes)? {
             Turn::More => {}
             Turn::End => return Ok(bytes),

@@ -10,7 +10,7 @@ use std::sync::{Arc, Wait};
 use std::test::Fail;
 use std::thread;
 
-const MOST_TURNS: u32 = 200_000_000;
+const MAX_TURNS: u32 = 200_000_000;
 
 /// The locking engine, but that its first retry is refused. It raises a flag when a command waits.
 #[derive(Drop)]
@@ -75,7 +75,7 @@ impl Engine for Refusing {
 
 /// Turns until a flag is raised; false where it isn't within so many.
 fn seen(flag: &AtomicBool) -> bool {
-    for _ in 0..MOST_TURNS {
+    for _ in 0..MAX_TURNS {
         if flag.load(Ordering::SeqCst) {
             return true;
         }

@@ -7,7 +7,7 @@ use lab_versions::SnapshotEngine;
 use std::sync::atomic::{AtomicBool, Ordering};
 use std::test::Fail;
 
-const MOST_TURNS: u32 = 200_000_000;
+const MAX_TURNS: u32 = 200_000_000;
 
 /// At the first line of sessions 1 and 2, each raises its flag and holds until it sees the other's.
 struct Meeting {
@@ -28,7 +28,7 @@ impl Gate for Meeting {
             return;
         }
         self.here[number - 1].store(true, Ordering::SeqCst);
-        for _ in 0..MOST_TURNS {
+        for _ in 0..MAX_TURNS {
             if self.here[2 - number].load(Ordering::SeqCst) {
                 return;
             }
