@@ -49,13 +49,13 @@ faults_whole input fault (of_format few is) =
 -- what is to be said of what is read is to be said of the whole input
 pub answers_whole : (input text : List ℕ) (ending : Ending) → IsJudgeAnswer (read_of input) text ending → IsJudgeAnswer input text ending
 answers_whole input text ending (inl j) =
-    inl (record { history = j.history; held = holds_whole input j.history j.held; report = j.report; judgement = j.judgement; told = j.told; done = j.done })
+    inl (record { history = j.history; held = holds_whole input j.history j.held; report = j.report; judgement = j.judgement; text_is = j.text_is; done = j.done })
 answers_whole input text ending (inr r) =
-    inr (record { fault = r.fault; faulty = faults_whole input r.fault r.faulty; told = r.told; refused = r.refused })
+    inr (record { fault = r.fault; faulty = faults_whole input r.fault r.faulty; text_is = r.text_is; refused = r.refused })
 
-module _ (bytes : List ℕ) (fault : FileFault) (told : fault ≢ NoMemory) where
+module _ (bytes : List ℕ) (fault : FileFault) (real : fault ≢ NoMemory) where
   not_for_memory : {X : Type 0} → (fault ≡ NoMemory) ⊎ X → X
-  not_for_memory (inl is) = absurd (told is)
+  not_for_memory (inl is) = absurd (real is)
   not_for_memory (inr x) = x
 
   -- bytes that a reader of values refuses, by whether they are the text of one
@@ -87,7 +87,7 @@ pub first_fault : {X : Type 0} (result : Result X FileFault) (bytes : List ℕ) 
     → (length bytes ≤ max_file_bytes → ((tree : Data) → IsUtf8 bytes → read bytes ≢ Some tree) → IfErr result (λ fault. (fault ≡ NoMemory) ⊎ (fault ≡ NotJson)))
     → IfErr result (λ fault. fault ≢ NoMemory → IsFileFault bytes fault)
 first_fault (Ok x) bytes long only none = tt
-first_fault (Err f) bytes long only none = λ told. is_first bytes f told (λ many. IfErr-at_err (λ g. f ≡ g) (long many) refl) only none
+first_fault (Err f) bytes long only none = λ real. is_first bytes f real (λ many. IfErr-at_err (λ g. f ≡ g) (long many) refl) only none
 
 -- a judgement of a file is one of the history that it holds
 pub held_report : (result : Result Report FileFault) (bytes : List ℕ) → IfOk result (IsFileJudgement bytes) → IfOk result (λ report. length bytes ≤ max_file_bytes)

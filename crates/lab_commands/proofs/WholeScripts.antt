@@ -17,10 +17,10 @@ module _ (spelled : (text : List ℕ) (n : ℕ) (script : Script) → 8388608 < 
     (faulty : (text : List ℕ) (n : ℕ) (fault : ScriptFault) → 8388608 < n → IsFaultOf (take n text) fault → IsFaultOf text fault)
     (input text : List ℕ) (ending : Ending) where
   refused_whole : IsRefused (read_of input) text ending → IsRefused input text ending
-  refused_whole r = record { line = r.line; kind = r.kind; faulty = faulty input max_input_bytes (fault.At r.line r.kind) (omega arith) r.faulty; told = r.told; refused = r.refused }
+  refused_whole r = record { line = r.line; kind = r.kind; faulty = faulty input max_input_bytes (fault.At r.line r.kind) (omega arith) r.faulty; text_is = r.text_is; refused = r.refused }
 
   pub serial_whole : IsSerialAnswer (read_of input) text ending → IsSerialAnswer input text ending
-  serial_whole (inl t) = inl (record { script = t.script; spelled = spelled input max_input_bytes t.script (omega arith) t.spelled; told = t.told; done = t.done })
+  serial_whole (inl t) = inl (record { script = t.script; spelled = spelled input max_input_bytes t.script (omega arith) t.spelled; text_is = t.text_is; done = t.done })
   serial_whole (inr r) = inr (refused_whole r)
 
   pub run_whole : (Plays : Script → RecordedLog → Type 0) (Refuses : Script → PlayFault → Type 0) (history : Bool) → IsRunAnswer Plays Refuses history (read_of input) text ending
@@ -34,6 +34,6 @@ module _ (spelled : (text : List ℕ) (n : ℕ) (script : Script) → 8388608 < 
     fault = u.fault;
     told_why = u.told_why;
     faulty = u.faulty;
-    told = u.told;
+    text_is = u.text_is;
     refused = u.refused;
   }))

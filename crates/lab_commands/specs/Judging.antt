@@ -16,14 +16,14 @@ pub record IsJudged (input text : List ℕ) (ending : Ending) : Type 0 where
   pub held : HoldsHistory input history
   pub report : Report
   pub judgement : IsExactJudgement history report
-  pub told : text ≡ report_text report
+  pub text_is : text ≡ report_text report
   pub done : ending ≡ Done
 
 -- the input is no history file, and the text is the line of its first fault
 pub record IsNoFile (input text : List ℕ) (ending : Ending) : Type 0 where
   pub fault : FileFault
   pub faulty : IsFileFault input fault
-  pub told : text ≡ file_fault_text fault
+  pub text_is : text ≡ file_fault_text fault
   pub refused : ending ≡ Refused
 
 -- the text is what is to be said of the input, and the ending is the one due

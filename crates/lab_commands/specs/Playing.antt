@@ -53,21 +53,21 @@ abbrev pub file_text : History → List ℕ
 file_text history = compact_text (tree_of history)
 
 -- the text is the log, and the report of a judgement of what it recorded
-pub record TellsLog (recording : RecordedLog) (text : List ℕ) (ending : Ending) : Type 0 where
+pub record IsLogAnswer (recording : RecordedLog) (text : List ℕ) (ending : Ending) : Type 0 where
   pub report : Report
   pub judgement : IsExactJudgement recording.history report
-  pub told : text ≡ log_text recording.log ++ report_text report
+  pub text_is : text ≡ log_text recording.log ++ report_text report
   pub done : ending ≡ Done
 
 -- the text is the file of what was recorded and a newline, or the line that says that the file would be too long
-pub data TellsHistory (recording : RecordedLog) (text : List ℕ) (ending : Ending) : Type 0 where
-  written : text ≡ file_text recording.history ++ newline → ending ≡ Done → TellsHistory recording text ending
-  too_long : max_file_bytes < length (file_text recording.history) → text ≡ file_fault_text (OverLimit Bytes) → ending ≡ Refused → TellsHistory recording text ending
+pub data IsHistoryAnswer (recording : RecordedLog) (text : List ℕ) (ending : Ending) : Type 0 where
+  written : text ≡ file_text recording.history ++ newline → ending ≡ Done → IsHistoryAnswer recording text ending
+  too_long : max_file_bytes < length (file_text recording.history) → text ≡ file_fault_text (OverLimit Bytes) → ending ≡ Refused → IsHistoryAnswer recording text ending
 
 -- what is told of a recording: its history where that is asked for, else its log
-abbrev pub Tells : Bool → RecordedLog → List ℕ → Ending → Type 0
-Tells false recording text ending = TellsLog recording text ending
-Tells true recording text ending = TellsHistory recording text ending
+abbrev pub IsRecordingAnswer : Bool → RecordedLog → List ℕ → Ending → Type 0
+IsRecordingAnswer false recording text ending = IsLogAnswer recording text ending
+IsRecordingAnswer true recording text ending = IsHistoryAnswer recording text ending
 
 -- What is said of a script whose plays give such recordings, or are refused for such a fault.
 module _ (Plays : Script → RecordedLog → Type 0) (Refuses : Script → PlayFault → Type 0) where
@@ -77,7 +77,7 @@ module _ (Plays : Script → RecordedLog → Type 0) (Refuses : Script → PlayF
     pub spelled : Spells input script
     pub recording : RecordedLog
     pub played : Plays script recording
-    pub tells : Tells history recording text ending
+    pub tells : IsRecordingAnswer history recording text ending
 
   -- the input spells a script whose play was refused, and the text is the line of its fault
   pub record IsUnplayed (input text : List ℕ) (ending : Ending) : Type 0 where
@@ -86,7 +86,7 @@ module _ (Plays : Script → RecordedLog → Type 0) (Refuses : Script → PlayF
     pub fault : PlayFault
     pub told_why : fault ≢ NoMemory
     pub faulty : Refuses script fault
-    pub told : text ≡ play_fault_text fault
+    pub text_is : text ≡ play_fault_text fault
     pub refused : ending ≡ Refused
 
   -- the text is what is to be said of the input, and the ending is the one due

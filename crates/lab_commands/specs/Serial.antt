@@ -13,7 +13,7 @@ use Rattle.lab_commands.specs.declared.ending.Ending.TheVariants.{Done, Refused}
 pub record IsTranscribed (input text : List ℕ) (ending : Ending) : Type 0 where
   pub script : Script
   pub spelled : Spells input script
-  pub told : text ≡ transcript script
+  pub text_is : text ≡ transcript script
   pub done : ending ≡ Done
 
 -- the input has a fault, and the text is its line
@@ -21,7 +21,7 @@ pub record IsRefused (input text : List ℕ) (ending : Ending) : Type 0 where
   pub line : ℕ
   pub kind : ScriptFaultKind
   pub faulty : IsFaultOf input (fault.At line kind)
-  pub told : text ≡ fault_text (fault.At line kind)
+  pub text_is : text ≡ fault_text (fault.At line kind)
   pub refused : ending ≡ Refused
 
 -- the text is what is to be said of the input, and the ending is the one due

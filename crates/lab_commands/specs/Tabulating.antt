@@ -16,7 +16,7 @@ use Rattle.lab_commands.specs.declared.ending.Ending.TheVariants.{Done, Refused}
 pub record IsTabulated (text : List ℕ) (ending : Ending) : Type 0 where
   pub matrix : Matrix
   pub cells : AreCells matrix
-  pub told : text ≡ matrix_text matrix
+  pub text_is : text ≡ matrix_text matrix
   pub done : ending ≡ Done
 
 -- a case's play at a level was refused, and the text is the line of its fault
@@ -25,7 +25,7 @@ pub record IsUntabulated (text : List ℕ) (ending : Ending) : Type 0 where
   pub level : Level
   pub fault : PlayFault
   pub faulty : IsScriptedFault level usual_setup (given_lines (listing case)) fault
-  pub told : text ≡ play_fault_text fault
+  pub text_is : text ≡ play_fault_text fault
   pub refused : ending ≡ Refused
 
 -- the text is what is to be said, and the ending is the one due

@@ -13,7 +13,7 @@ mod output;
 mod playing;
 mod playing_free;
 mod tabulating;
-mod telling;
+mod recording_answer;
 mod transcribing;
 
 pub use batching::batch;

@@ -3,12 +3,12 @@
 ghost use Rattle.std.specs.Prelude.{◌≡◌, ◌⊎◌, List, ℕ, Err, IfOk, IfErr, IfSome};
 ghost use Rattle.std.specs.Io.KnownBytes.{Appends, Keeps};
 ghost use Rattle.lab_script.specs.Limits.{ScriptPrints};
-ghost use Rattle.lab_commands.specs.Playing.{IsScriptedPlay, IsScriptedRefusal, IsRunAnswer, Tells};
+ghost use Rattle.lab_commands.specs.Playing.{IsScriptedPlay, IsScriptedRefusal, IsRunAnswer, IsRecordingAnswer};
 
 use crate::ending::{Ending, RunFault};
 use crate::input::read_input;
 use crate::output::{Answer, write_text};
-use crate::telling::{told_history, told_log};
+use crate::recording_answer::{history_answer, log_answer};
 use lab_engine::{Level, Recording};
 use lab_locking::LockEngine;
 use lab_script::{
@@ -34,7 +34,7 @@ fn played(alloc: Global, script: &Script, level: Level) -> Result<Recording, Pla
 }
 
 /// What there is to tell of a recording of a script that prints: its history where that is asked for, else its log.
-fn told(
+fn answer_of(
     alloc: Global,
     script: &Script,
     level: Level,
@@ -43,12 +43,12 @@ fn told(
 ) -> Result<Answer, NoMemory>
     requires prints { ScriptPrints script.now }
     requires played { IsScriptedPlay level script.now recording.now }
-    ensures { IfOk result (λ answer. Tells history recording.now answer.text.items answer.ending) }
+    ensures { IfOk result (λ answer. IsRecordingAnswer history recording.now answer.text.items answer.ending) }
 {
     if history {
-        return told_history(alloc, recording);
+        return history_answer(alloc, recording);
     }
-    match told_log(alloc, recording) {
+    match log_answer(alloc, recording) {
         Ok(answer) => Ok(answer),
         Err(PrintFault::NoMemory) => Err(AllocError),
         Err(PrintFault::TooDeep) => unreachable!(),
@@ -72,7 +72,7 @@ fn answer(alloc: Global, input: &[u8], level: Level, history: bool) -> Result<An
         }
     };
     match played(alloc, &script, level) {
-        Ok(recording) => told(alloc, &script, level, &recording, history),
+        Ok(recording) => answer_of(alloc, &script, level, &recording, history),
         Err(PlayFault::NoMemory) => Err(AllocError),
         Err(fault) => Ok(Answer {
             text: print_play_fault(alloc, &fault)?,

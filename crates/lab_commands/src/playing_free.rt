@@ -3,12 +3,12 @@
 ghost use Rattle.std.specs.Prelude.{◌≡◌, ◌⊎◌, List, ℕ, IfOk, IfErr, IfSome};
 ghost use Rattle.std.specs.Io.KnownBytes.{Appends, Keeps};
 ghost use Rattle.lab_engine.specs.RecordedLog.{RecordedLog};
-ghost use Rattle.lab_commands.specs.Playing.{IsFreePlay, IsAnyRefusal, IsRunAnswer, Tells};
+ghost use Rattle.lab_commands.specs.Playing.{IsFreePlay, IsAnyRefusal, IsRunAnswer, IsRecordingAnswer};
 
 use crate::ending::{Ending, RunFault};
 use crate::input::read_input;
 use crate::output::{Answer, write_text};
-use crate::telling::{told_history, told_log};
+use crate::recording_answer::{history_answer, log_answer};
 use lab_engine::{Level, Recording};
 use lab_history::Limit;
 use lab_locking::LockEngine;
@@ -63,13 +63,13 @@ fn played<T: Threads + Wait + Sync>(
 
 /// What there is to tell of a recording: its history where that is asked for, else its log. A log of which a statement
 /// doesn't print is a play that is over that limit.
-fn told(alloc: Global, recording: &Recording, history: bool) -> Result<Answer, PlayFault>
-    ensures { IfOk result (λ answer. Tells history recording.now answer.text.items answer.ending) }
+fn answer_of(alloc: Global, recording: &Recording, history: bool) -> Result<Answer, PlayFault>
+    ensures { IfOk result (λ answer. IsRecordingAnswer history recording.now answer.text.items answer.ending) }
 {
     if history {
-        return Ok(told_history(alloc, recording)?);
+        return Ok(history_answer(alloc, recording)?);
     }
-    match told_log(alloc, recording) {
+    match log_answer(alloc, recording) {
         Ok(answer) => Ok(answer),
         Err(PrintFault::NoMemory) => Err(PlayFault::NoMemory),
         Err(PrintFault::TooDeep | PrintFault::TooLong) => Err(PlayFault::OverLimit {
@@ -79,17 +79,17 @@ fn told(alloc: Global, recording: &Recording, history: bool) -> Result<Answer, P
 }
 
 /// What a play of a script tells, or why there is nothing to tell.
-fn play_told<T: Threads + Wait + Sync>(
+fn play_answer<T: Threads + Wait + Sync>(
     rt: &T,
     alloc: Global,
     script: &Script,
     level: Level,
     history: bool,
 ) -> Result<Answer, PlayFault>
-    ensures { IfOk result (λ answer. (recording : RecordedLog) × IsFreePlay script.now recording × Tells history recording answer.text.items answer.ending) }
+    ensures { IfOk result (λ answer. (recording : RecordedLog) × IsFreePlay script.now recording × IsRecordingAnswer history recording answer.text.items answer.ending) }
 {
     let recording = played(rt, alloc, script, level)?;
-    told(alloc, &recording, history)
+    answer_of(alloc, &recording, history)
 }
 
 /// What there is to say of an input: what its recording tells, or the line of the first fault of the script or of the
@@ -113,7 +113,7 @@ fn answer<T: Threads + Wait + Sync>(
             });
         }
     };
-    match play_told(rt, alloc, &script, level, history) {
+    match play_answer(rt, alloc, &script, level, history) {
         Ok(answer) => Ok(answer),
         Err(PlayFault::NoMemory) => Err(AllocError),
         Err(fault) => Ok(Answer {

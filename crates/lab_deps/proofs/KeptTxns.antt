@@ -5,7 +5,7 @@ use Rattle.std.specs.List.{list_any}
 use Rattle.std.proofs.lemmas.Bool.{false≢true, eqb-true, eq-eqb, or_parts}
 use Rattle.std.proofs.lemmas.Option.{none-some, same_Some}
 use Rattle.lab_history.specs.History.{History}
-use Rattle.lab_history.specs.Kept.{AllDistinct, Keeps, operations}
+use Rattle.lab_history.specs.HistoryRules.{AllDistinct, Keeps, operations}
 use Rattle.lab_history.specs.Version.{find_txn}
 use Rattle.lab_history.specs.declared.transaction.Txn.{Txn}
 use Rattle.lab_deps.specs.Passes.{IsTxnOf}

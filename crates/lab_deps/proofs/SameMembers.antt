@@ -3,7 +3,7 @@ use Rattle.std.proofs.Common.{◌≡◌, List, ◌++◌, inl, inr, subst}
 use Rattle.std.specs.Prelude.{Contains}
 use Rattle.std.proofs.lemmas.List.Elements.{Contains-append_left, Contains-append_right, Contains-append_cases}
 use Rattle.lab_deps.specs.declared.edge.Edge.{Edge}
-use Rattle.lab_deps.specs.Walked.{HasMembersOf}
+use Rattle.lab_deps.specs.EdgesByRow.{HasMembersOf}
 
 pub members_of : (es fs gs : List Edge) → HasMembersOf es fs → fs ≡ gs → HasMembersOf es gs
 members_of es fs gs has same = subst (HasMembersOf es) same has

@@ -14,7 +14,7 @@ use Rattle.lab_table.proofs.Maps.{same_row}
 use Rattle.lab_table.proofs.Orderings.{turned}
 use Rattle.lab_table.proofs.Tests.{joined}
 use Rattle.lab_engine.specs.Recording.{if_any}
-use Rattle.lab_engine.specs.Told.{numbers_of, groups_from}
+use Rattle.lab_engine.specs.Gathered.{numbers_of, groups_from}
 
 -- rows each with who installed it
 abbrev Installs : Type 0

@@ -10,7 +10,7 @@ use Rattle.lab_table.proofs.Maps.{find_below, same_row}
 use Rattle.lab_table.proofs.Tests.{both}
 use Rattle.lab_engine.specs.Log.{Version}
 use Rattle.lab_engine.specs.Sight.{Listed}
-use Rattle.lab_engine.specs.Told.{numbers_of}
+use Rattle.lab_engine.specs.Gathered.{numbers_of}
 
 -- of rows that rise each is noted at most once
 noted_each : (row : Row) (n : ℕ) (es : List (Row × Version)) → T (is_sorted row_cmp es) → numbers_of row (map (λ (e : Row × Version). (e.0, n)) es) ≡ cond (is_some (find row_cmp row es)) (n ∷ []) []

@@ -19,11 +19,11 @@ pub mod Waiting
 pub mod Circles
 pub mod Retrying
 pub mod Crosses
-pub mod LogsTold
-mod Tellings
+pub mod GatheredLogs
+mod Gatherings
 mod Installing
 mod Grouping
-pub mod ToldMaps
+pub mod GatheredMaps
 pub mod Recordings
 pub mod ListedVersions
 pub mod BrokenLimits

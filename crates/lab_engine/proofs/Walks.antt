@@ -5,11 +5,11 @@ use Rattle.std.specs.List.{All, Contains, list_any}
 use Rattle.std.proofs.lemmas.Bool.{eq-eqb, eqb-true, eqb-false, ne_eqb, both_ways, or_cases, or_parts, or_right, and_parts, and_from}
 use Rattle.std.proofs.lemmas.List.Folds.{list_any-append}
 use Rattle.std.proofs.lemmas.List.{take_all}
-use Rattle.lab_engine.specs.declared.circle.Hop.{Hop}
+use Rattle.lab_engine.specs.declared.circle.WaitEdge.{WaitEdge}
 use Rattle.lab_engine.specs.declared.waits.Wait.{Wait}
 use Rattle.lab_engine.specs.WaitsFor.{waits_for, IsWalk, IsRound}
 use Rattle.lab_engine.specs.Released.{IsReleased}
-use Rattle.lab_engine.specs.Hops.{is_reached, trail, AreHops, IsNewHop}
+use Rattle.lab_engine.specs.WaitEdges.{is_reached, trail, AreWaitEdges, IsNewWaitEdge}
 
 -- who waits for somebody stands in the graph
 pub waiter : (waits : List Wait) (session other : ℕ) → IsTrue (waits_for waits session other) → list_any (λ wait. wait.session == session) waits ≡ true
@@ -22,134 +22,134 @@ waiter (wait ∷ waits) session other h = at (waiter waits session other) (wait.
     at rest false h = rest h
 
 -- the goal is reached
-pub goal_reached : (hops : List Hop) (goal : ℕ) → is_reached hops goal goal ≡ true
-goal_reached hops goal = ap (λ b. b || list_any (λ hop. hop.session == goal) hops) (eq-eqb goal goal refl)
+pub goal_reached : (edges : List WaitEdge) (goal : ℕ) → is_reached edges goal goal ≡ true
+goal_reached edges goal = ap (λ b. b || list_any (λ edge. edge.session == goal) edges) (eq-eqb goal goal refl)
 
 -- where nobody who isn't reached waits for one who is, no walk to the goal begins with a session that waits for none who is
-pub no_walk : (waits : List Wait) (hops : List Hop) (goal : ℕ)
-    → ((session other : ℕ) → is_reached hops goal session ≡ false → IsTrue (waits_for waits session other) → is_reached hops goal other ≡ false)
-    → (session : ℕ) (rest : List ℕ) → ((other : ℕ) → IsTrue (is_reached hops goal other) → waits_for waits session other ≡ false) → IsWalk waits session rest goal → ⊥
-no_walk waits hops goal closed session [] none walk = both_ways _ (none goal (goal_reached hops goal)) walk
-no_walk waits hops goal closed session (next ∷ rest) none (first, walk) = no_walk waits hops goal closed next rest after walk
+pub no_walk : (waits : List Wait) (edges : List WaitEdge) (goal : ℕ)
+    → ((session other : ℕ) → is_reached edges goal session ≡ false → IsTrue (waits_for waits session other) → is_reached edges goal other ≡ false)
+    → (session : ℕ) (rest : List ℕ) → ((other : ℕ) → IsTrue (is_reached edges goal other) → waits_for waits session other ≡ false) → IsWalk waits session rest goal → ⊥
+no_walk waits edges goal closed session [] none walk = both_ways _ (none goal (goal_reached edges goal)) walk
+no_walk waits edges goal closed session (next ∷ rest) none (first, walk) = no_walk waits edges goal closed next rest after walk
   where
-    unreached : (b : Bool) → is_reached hops goal next ≡ b → b ≡ false
+    unreached : (b : Bool) → is_reached edges goal next ≡ b → b ≡ false
     unreached true q = absurd (both_ways _ (none next q) first)
     unreached false q = refl
 
-    refused : (other : ℕ) (b : Bool) → waits_for waits next other ≡ b → IsTrue (is_reached hops goal other) → b ≡ false
+    refused : (other : ℕ) (b : Bool) → waits_for waits next other ≡ b → IsTrue (is_reached edges goal other) → b ≡ false
     refused other true q there = absurd (both_ways _ (closed next other (unreached _ refl) q) there)
     refused other false q there = refl
 
-    after : (other : ℕ) → IsTrue (is_reached hops goal other) → waits_for waits next other ≡ false
+    after : (other : ℕ) → IsTrue (is_reached edges goal other) → waits_for waits next other ≡ false
     after other there = refused other _ refl there
 
 -- hops lead along a walk to the goal
-pub trail_walks : (waits : List Wait) (goal : ℕ) (hops : List Hop) (session at : ℕ) → AreHops waits goal hops → IsTrue (waits_for waits session at) → IsTrue (is_reached hops goal at)
-    → IsWalk waits session (trail hops at) goal
+pub trail_walks : (waits : List Wait) (goal : ℕ) (edges : List WaitEdge) (session at : ℕ) → AreWaitEdges waits goal edges → IsTrue (waits_for waits session at) → IsTrue (is_reached edges goal at)
+    → IsWalk waits session (trail edges at) goal
 trail_walks waits goal [] session at h first there = elim (or_cases (at == goal) false there) [
   | inl p ↦ subst (λ k. IsTrue (waits_for waits session k)) (eqb-true at goal p) first
   | inr p ↦ absurd (both_ways _ refl p)
 ]
-trail_walks waits goal (hop ∷ hops) session at h first there = by (λ s a w r. trail_walks waits goal hops s a h.1 w r) (hop.session == at) refl
+trail_walks waits goal (edge ∷ edges) session at h first there = by (λ s a w r. trail_walks waits goal edges s a h.1 w r) (edge.session == at) refl
   where
-    by : ((s a : ℕ) → IsTrue (waits_for waits s a) → IsTrue (is_reached hops goal a) → IsWalk waits s (trail hops a) goal)
-        → (own : Bool) → (hop.session == at) ≡ own → IsWalk waits session (cond own (at ∷ trail hops hop.next) (trail hops at)) goal
-    by rest true q = (first, rest at hop.next (subst (λ k. IsTrue (waits_for waits k hop.next)) (eqb-true hop.session at q) h.0.waits) h.0.reached)
-    by rest false q = rest session at first (subst (λ b. IsTrue (at == goal || (b || list_any (λ hop. hop.session == at) hops))) q there)
+    by : ((s a : ℕ) → IsTrue (waits_for waits s a) → IsTrue (is_reached edges goal a) → IsWalk waits s (trail edges a) goal)
+        → (own : Bool) → (edge.session == at) ≡ own → IsWalk waits session (cond own (at ∷ trail edges edge.next) (trail edges at)) goal
+    by rest true q = (first, rest at edge.next (subst (λ k. IsTrue (waits_for waits k edge.next)) (eqb-true edge.session at q) h.0.waits) h.0.reached)
+    by rest false q = rest session at first (subst (λ b. IsTrue (at == goal || (b || list_any (λ edge. edge.session == at) edges))) q there)
 
 -- nor do they pass the goal
-pub trail_avoids : (waits : List Wait) (goal : ℕ) (hops : List Hop) (at : ℕ) → AreHops waits goal hops → Contains (trail hops at) goal → ⊥
+pub trail_avoids : (waits : List Wait) (goal : ℕ) (edges : List WaitEdge) (at : ℕ) → AreWaitEdges waits goal edges → Contains (trail edges at) goal → ⊥
 trail_avoids waits goal [] at h (k, lt, is) = absurd (omega arith)
-trail_avoids waits goal (hop ∷ hops) at h in_it = by (λ a. trail_avoids waits goal hops a h.1) (hop.session == at) refl in_it
+trail_avoids waits goal (edge ∷ edges) at h in_it = by (λ a. trail_avoids waits goal edges a h.1) (edge.session == at) refl in_it
   where
-    first : (hop.session == at) ≡ true → at ≡ goal → ⊥
-    first q same = eqb-false hop.session goal h.0.apart (eqb-true hop.session at q ∙ same)
+    first : (edge.session == at) ≡ true → at ≡ goal → ⊥
+    first q same = eqb-false edge.session goal h.0.apart (eqb-true edge.session at q ∙ same)
 
-    by : ((a : ℕ) → Contains (trail hops a) goal → ⊥) → (own : Bool) → (hop.session == at) ≡ own → Contains (cond own (at ∷ trail hops hop.next) (trail hops at)) goal → ⊥
+    by : ((a : ℕ) → Contains (trail edges a) goal → ⊥) → (own : Bool) → (edge.session == at) ≡ own → Contains (cond own (at ∷ trail edges edge.next) (trail edges at)) goal → ⊥
     by rest true q (zero, lt, is) = first q is
-    by rest true q (suc k, lt, is) = rest hop.next (k, omega arith, is)
+    by rest true q (suc k, lt, is) = rest edge.next (k, omega arith, is)
     by rest false q c = rest at c
 
 -- one who waits for a session that is reached stands on a circle with those on the way
-pub trail_round : (waits : List Wait) (goal : ℕ) (hops : List Hop) (first : ℕ) → AreHops waits goal hops → IsTrue (waits_for waits goal first) → IsTrue (is_reached hops goal first)
-    → IsRound waits goal (goal ∷ trail hops first)
-trail_round waits goal hops first h waits_on there = (refl, trail_walks waits goal hops goal first h waits_on there, trail_avoids waits goal hops first h)
+pub trail_round : (waits : List Wait) (goal : ℕ) (edges : List WaitEdge) (first : ℕ) → AreWaitEdges waits goal edges → IsTrue (waits_for waits goal first) → IsTrue (is_reached edges goal first)
+    → IsRound waits goal (goal ∷ trail edges first)
+trail_round waits goal edges first h waits_on there = (refl, trail_walks waits goal edges goal first h waits_on there, trail_avoids waits goal edges first h)
 
 -- what is reached stays so behind more hops
-pub stays_reached : (new hops : List Hop) (goal session : ℕ) → IsTrue (is_reached hops goal session) → IsTrue (is_reached (new ++ hops) goal session)
-stays_reached new hops goal session there = at (session == goal) there
+pub stays_reached : (new edges : List WaitEdge) (goal session : ℕ) → IsTrue (is_reached edges goal session) → IsTrue (is_reached (new ++ edges) goal session)
+stays_reached new edges goal session there = at (session == goal) there
   where
-    at : (own : Bool) → (own || list_any (λ hop. hop.session == session) hops) ≡ true → (own || list_any (λ hop. hop.session == session) (new ++ hops)) ≡ true
+    at : (own : Bool) → (own || list_any (λ edge. edge.session == session) edges) ≡ true → (own || list_any (λ edge. edge.session == session) (new ++ edges)) ≡ true
     at true h = refl
-    at false h = list_any-append (λ hop. hop.session == session) new hops ∙ or_right _ _ h
+    at false h = list_any-append (λ edge. edge.session == session) new edges ∙ or_right _ _ h
 
 -- more hops behind which these stand
-pub more_hops : (waits : List Wait) (goal : ℕ) (hops new : List Hop) → AreHops waits goal hops → All (IsNewHop waits hops goal) new → AreHops waits goal (new ++ hops)
-more_hops waits goal hops [] h all = h
-more_hops waits goal hops (hop ∷ new) h all =
-    let first : IsNewHop waits hops goal hop = all 0 hop (omega arith) in (
-      record { apart = (or_parts _ _ first.new).0; waits = first.waits; reached = stays_reached new hops goal hop.next first.reached },
-      more_hops waits goal hops new h (λ k d lt. all (suc k) d (omega arith)),
+pub more_edges : (waits : List Wait) (goal : ℕ) (edges new : List WaitEdge) → AreWaitEdges waits goal edges → All (IsNewWaitEdge waits edges goal) new → AreWaitEdges waits goal (new ++ edges)
+more_edges waits goal edges [] h all = h
+more_edges waits goal edges (edge ∷ new) h all =
+    let first : IsNewWaitEdge waits edges goal edge = all 0 edge (omega arith) in (
+      record { apart = (or_parts _ _ first.new).0; waits = first.waits; reached = stays_reached new edges goal edge.next first.reached },
+      more_edges waits goal edges new h (λ k d lt. all (suc k) d (omega arith)),
     )
 
 -- how many of those in the graph aren't reached
-abbrev pub missing : List Hop → ℕ → List Wait → ℕ
-missing hops goal [] = 0
-missing hops goal (wait ∷ waits) = cond (is_reached hops goal wait.session) (missing hops goal waits) (suc (missing hops goal waits))
+abbrev pub missing : List WaitEdge → ℕ → List Wait → ℕ
+missing edges goal [] = 0
+missing edges goal (wait ∷ waits) = cond (is_reached edges goal wait.session) (missing edges goal waits) (suc (missing edges goal waits))
 
 -- where more are reached, no more are missing
-missing_le : (new hops : List Hop) (goal : ℕ) (waits : List Wait) → missing (new ++ hops) goal waits ≤ missing hops goal waits
-missing_le new hops goal [] = omega arith
-missing_le new hops goal (wait ∷ waits) = at (is_reached hops goal wait.session) (is_reached (new ++ hops) goal wait.session) (stays_reached new hops goal wait.session) (missing_le new hops goal waits)
+missing_le : (new edges : List WaitEdge) (goal : ℕ) (waits : List Wait) → missing (new ++ edges) goal waits ≤ missing edges goal waits
+missing_le new edges goal [] = omega arith
+missing_le new edges goal (wait ∷ waits) = at (is_reached edges goal wait.session) (is_reached (new ++ edges) goal wait.session) (stays_reached new edges goal wait.session) (missing_le new edges goal waits)
   where
-    at : (before after : Bool) → (before ≡ true → after ≡ true) → missing (new ++ hops) goal waits ≤ missing hops goal waits
-        → cond after (missing (new ++ hops) goal waits) (suc (missing (new ++ hops) goal waits)) ≤ cond before (missing hops goal waits) (suc (missing hops goal waits))
+    at : (before after : Bool) → (before ≡ true → after ≡ true) → missing (new ++ edges) goal waits ≤ missing edges goal waits
+        → cond after (missing (new ++ edges) goal waits) (suc (missing (new ++ edges) goal waits)) ≤ cond before (missing edges goal waits) (suc (missing edges goal waits))
     at true true stays le = le
     at true false stays le = absurd (both_ways _ refl (stays refl))
     at false true stays le = omega arith
     at false false stays le = omega arith
 
 -- where one of the graph is reached that wasn't, fewer are missing
-pub missing_lt : (new hops : List Hop) (goal session : ℕ) (waits : List Wait) → is_reached hops goal session ≡ false → is_reached (new ++ hops) goal session ≡ true
-    → list_any (λ wait. wait.session == session) waits ≡ true → missing (new ++ hops) goal waits < missing hops goal waits
-missing_lt new hops goal session [] before after h = absurd (both_ways _ refl h)
-missing_lt new hops goal session (wait ∷ waits) before after h = at (missing_lt new hops goal session waits before after) (wait.session == session) refl h
+pub missing_lt : (new edges : List WaitEdge) (goal session : ℕ) (waits : List Wait) → is_reached edges goal session ≡ false → is_reached (new ++ edges) goal session ≡ true
+    → list_any (λ wait. wait.session == session) waits ≡ true → missing (new ++ edges) goal waits < missing edges goal waits
+missing_lt new edges goal session [] before after h = absurd (both_ways _ refl h)
+missing_lt new edges goal session (wait ∷ waits) before after h = at (missing_lt new edges goal session waits before after) (wait.session == session) refl h
   where
-    here : (was is : Bool) → was ≡ false → is ≡ true → missing (new ++ hops) goal waits ≤ missing hops goal waits
-        → cond is (missing (new ++ hops) goal waits) (suc (missing (new ++ hops) goal waits)) < cond was (missing hops goal waits) (suc (missing hops goal waits))
+    here : (was is : Bool) → was ≡ false → is ≡ true → missing (new ++ edges) goal waits ≤ missing edges goal waits
+        → cond is (missing (new ++ edges) goal waits) (suc (missing (new ++ edges) goal waits)) < cond was (missing edges goal waits) (suc (missing edges goal waits))
     here true is w i le = absurd (both_ways _ w refl)
     here false false w i le = absurd (both_ways _ refl i)
     here false true w i le = omega arith
 
-    there : (was is : Bool) → (was ≡ true → is ≡ true) → missing (new ++ hops) goal waits < missing hops goal waits
-        → cond is (missing (new ++ hops) goal waits) (suc (missing (new ++ hops) goal waits)) < cond was (missing hops goal waits) (suc (missing hops goal waits))
+    there : (was is : Bool) → (was ≡ true → is ≡ true) → missing (new ++ edges) goal waits < missing edges goal waits
+        → cond is (missing (new ++ edges) goal waits) (suc (missing (new ++ edges) goal waits)) < cond was (missing edges goal waits) (suc (missing edges goal waits))
     there true true stays lt = lt
     there true false stays lt = absurd (both_ways _ refl (stays refl))
     there false true stays lt = omega arith
     there false false stays lt = omega arith
 
-    at : (list_any (λ wait. wait.session == session) waits ≡ true → missing (new ++ hops) goal waits < missing hops goal waits)
+    at : (list_any (λ wait. wait.session == session) waits ≡ true → missing (new ++ edges) goal waits < missing edges goal waits)
         → (own : Bool) → (wait.session == session) ≡ own → (own || list_any (λ wait. wait.session == session) waits) ≡ true
-        → missing (new ++ hops) goal (wait ∷ waits) < missing hops goal (wait ∷ waits)
+        → missing (new ++ edges) goal (wait ∷ waits) < missing edges goal (wait ∷ waits)
     at rest true q h =
         let same : wait.session ≡ session = eqb-true wait.session session q in
-        here (is_reached hops goal wait.session) (is_reached (new ++ hops) goal wait.session) (ap (is_reached hops goal) same ∙ before) (ap (is_reached (new ++ hops) goal) same ∙ after) (missing_le new hops goal waits)
-    at rest false q h = there (is_reached hops goal wait.session) (is_reached (new ++ hops) goal wait.session) (stays_reached new hops goal wait.session) (rest h)
+        here (is_reached edges goal wait.session) (is_reached (new ++ edges) goal wait.session) (ap (is_reached edges goal) same ∙ before) (ap (is_reached (new ++ edges) goal) same ∙ after) (missing_le new edges goal waits)
+    at rest false q h = there (is_reached edges goal wait.session) (is_reached (new ++ edges) goal wait.session) (stays_reached new edges goal wait.session) (rest h)
 
 -- a hop reaches its session
-hop_reaches : (hop : Hop) (hops : List Hop) (goal : ℕ) → is_reached (hop ∷ hops) goal hop.session ≡ true
-hop_reaches hop hops goal = at (hop.session == goal) (eq-eqb hop.session hop.session refl)
+edge_reaches : (edge : WaitEdge) (edges : List WaitEdge) (goal : ℕ) → is_reached (edge ∷ edges) goal edge.session ≡ true
+edge_reaches edge edges goal = at (edge.session == goal) (eq-eqb edge.session edge.session refl)
   where
-    at : (a : Bool) → (hop.session == hop.session) ≡ true → (a || ((hop.session == hop.session) || list_any (λ h. h.session == hop.session) hops)) ≡ true
+    at : (a : Bool) → (edge.session == edge.session) ≡ true → (a || ((edge.session == edge.session) || list_any (λ h. h.session == edge.session) edges)) ≡ true
     at true h = refl
-    at false h = ap (λ b. b || list_any (λ h. h.session == hop.session) hops) h
+    at false h = ap (λ b. b || list_any (λ h. h.session == edge.session) edges) h
 
 -- each turn that finds a new hop leaves fewer missing
-pub fewer_missing : (waits : List Wait) (goal : ℕ) (hops new : List Hop) → All (IsNewHop waits hops goal) new → 0 < length new → missing (new ++ hops) goal waits < missing hops goal waits
-fewer_missing waits goal hops [] all some = absurd (omega arith)
-fewer_missing waits goal hops (hop ∷ new) all some =
-    let first : IsNewHop waits hops goal hop = all 0 hop (omega arith) in
-    missing_lt (hop ∷ new) hops goal hop.session waits first.new (hop_reaches hop (new ++ hops) goal) (waiter waits hop.session hop.next first.waits)
+pub fewer_missing : (waits : List Wait) (goal : ℕ) (edges new : List WaitEdge) → All (IsNewWaitEdge waits edges goal) new → 0 < length new → missing (new ++ edges) goal waits < missing edges goal waits
+fewer_missing waits goal edges [] all some = absurd (omega arith)
+fewer_missing waits goal edges (edge ∷ new) all some =
+    let first : IsNewWaitEdge waits edges goal edge = all 0 edge (omega arith) in
+    missing_lt (edge ∷ new) edges goal edge.session waits first.new (edge_reaches edge (new ++ edges) goal) (waiter waits edge.session edge.next first.waits)
 
 -- all that wait are passed where the whole graph is
 pub waiter_passed : (waits : List Wait) (passed : ℕ) → length waits ≤ passed → (session other : ℕ) → IsTrue (waits_for waits session other)

@@ -12,11 +12,11 @@ pub mod Pending
 pub mod WaitsFor
 pub mod Answer
 pub mod Journal
-pub mod Look
+pub mod LogQuery
 pub mod Merging
 pub mod EachRow
-pub mod Hops
+pub mod WaitEdges
 pub mod Released
 pub mod RecordedLog
-pub mod Told
+pub mod Gathered
 pub mod OverLimit

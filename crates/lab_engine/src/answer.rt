@@ -1,7 +1,7 @@
 //! What an engine answers to a command.
 
 ghost use Rattle.std.specs.Prelude.{◌≡◌, ◌<◌, ◌∷◌, Some, None, length, IfOk};
-ghost use Rattle.lab_table.specs.Table.{Table as Rows};
+ghost use Rattle.lab_table.specs.Table.{Table as PlainTable};
 ghost use Rattle.lab_engine.specs.declared.event.Level.{Level as Kind};
 ghost use Rattle.lab_engine.specs.Sight.{version_in};
 ghost use Rattle.lab_engine.specs.Effect.{IsResultOn, IsRefusalOn, IsEffectFault};
@@ -70,7 +70,7 @@ fn without_transaction(
     requires room { length log.now < max_events }
     requires situation { Describes (past_of log.now) situation.now }
     requires none { active (past_of log.now) session ≡ None }
-    ensures { (level : Kind) (setup : Rows) → Answers level setup (past_of log.now) session command.now result }
+    ensures { (level : Kind) (setup : PlainTable) → Answers level setup (past_of log.now) session command.now result }
 {
     match command {
         Command::Begin => match TxnNo::new(situation.begun + 1) {

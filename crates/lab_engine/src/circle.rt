@@ -7,7 +7,7 @@
 ghost use Rattle.std.specs.Prelude.{◌≡◌, ◌≤◌, ◌==◌, ◌+◌, ◌∷◌, ◌++◌, ◌⊎◌, [], true, false, None, Some, List, ℕ, length, IfOk, IfSome, IsTrue};
 ghost use Rattle.std.specs.List.{All, list_any};
 ghost use Rattle.lab_engine.specs.WaitsFor.{IsWalk, IsRound, waits_for};
-ghost use Rattle.lab_engine.specs.Hops.{is_reached, trail, AreHops, IsNewHop};
+ghost use Rattle.lab_engine.specs.WaitEdges.{is_reached, trail, AreWaitEdges, IsNewWaitEdge};
 
 use crate::event::Sessions;
 use crate::waits::Wait;
@@ -16,7 +16,7 @@ use std::alloc::Global;
 
 /// A session, and the one that it waits for on its walk to the goal.
 #[derive(Clone, Copy)]
-struct Hop {
+struct WaitEdge {
     session: Session,
     next: Session,
 }
@@ -29,17 +29,17 @@ fn is_waiting_for(waits: &[Wait], session: Session, other: Session) -> bool
 }
 
 /// Whether a session has a hop.
-fn has_hop(hops: &[Hop], session: Session) -> bool
-    ensures { result ≡ list_any (λ hop. hop.session == session) hops.now }
+fn has_edge(edges: &[WaitEdge], session: Session) -> bool
+    ensures { result ≡ list_any (λ edge. edge.session == session) edges.now }
 {
-    hops.iter().any(|hop| hop.session == session)
+    edges.iter().any(|edge| edge.session == session)
 }
 
 /// Whether a session is the goal, or has a hop.
-fn has_reached(hops: &[Hop], goal: Session, session: Session) -> bool
-    ensures { result ≡ is_reached hops.now goal session }
+fn has_reached(edges: &[WaitEdge], goal: Session, session: Session) -> bool
+    ensures { result ≡ is_reached edges.now goal session }
 {
-    session == goal || has_hop(hops, session)
+    session == goal || has_edge(edges, session)
 }
 
 /// The lesser of this session and the least so far.
@@ -54,18 +54,18 @@ fn lesser(least: Option<Session>, session: Session) -> Session
 
 /// The session reached by which this one's walk goes on: the goal, where it waits for that, else the least that it
 /// waits for; or None where it waits for nobody reached.
-fn next_of(waits: &[Wait], hops: &[Hop], goal: Session, session: Session) -> Option<Session>
+fn next_of(waits: &[Wait], edges: &[WaitEdge], goal: Session, session: Session) -> Option<Session>
     ensures waits { IfSome result (λ next. IsTrue (waits_for waits.now session next)) }
-    ensures reached { IfSome result (λ next. IsTrue (is_reached hops.now goal next)) }
-    ensures none { result ≡ None → (other : ℕ) → IsTrue (is_reached hops.now goal other) → waits_for waits.now session other ≡ false }
+    ensures reached { IfSome result (λ next. IsTrue (is_reached edges.now goal next)) }
+    ensures none { result ≡ None → (other : ℕ) → IsTrue (is_reached edges.now goal other) → waits_for waits.now session other ≡ false }
 {
     if is_waiting_for(waits, session, goal) {
         return Some(goal);
     }
     let mut least = None;
-    for hop in hops {
-        if is_waiting_for(waits, session, hop.session) {
-            least = Some(lesser(least, hop.session));
+    for edge in edges {
+        if is_waiting_for(waits, session, edge.session) {
+            least = Some(lesser(least, edge.session));
         }
     }
     least
@@ -75,18 +75,18 @@ fn next_of(waits: &[Wait], hops: &[Hop], goal: Session, session: Session) -> Opt
 fn next_layer(
     alloc: Global,
     waits: &[Wait],
-    hops: &[Hop],
+    edges: &[WaitEdge],
     goal: Session,
-) -> Result<Vec<Hop>, NoMemory>
-    ensures new { IfOk result (λ layer. All (IsNewHop waits.now hops.now goal) layer.items) }
-    ensures all { IfOk result (λ layer. (session other : ℕ) → IsTrue (waits_for waits.now session other) → IsTrue (is_reached hops.now goal other)
-        → IsTrue (is_reached (layer.items ++ hops.now) goal session)) }
+) -> Result<Vec<WaitEdge>, NoMemory>
+    ensures new { IfOk result (λ layer. All (IsNewWaitEdge waits.now edges.now goal) layer.items) }
+    ensures all { IfOk result (λ layer. (session other : ℕ) → IsTrue (waits_for waits.now session other) → IsTrue (is_reached edges.now goal other)
+        → IsTrue (is_reached (layer.items ++ edges.now) goal session)) }
 {
     let mut layer = Vec::new(alloc);
     for wait in waits {
-        if !has_reached(hops, goal, wait.session) {
-            if let Some(next) = next_of(waits, hops, goal, wait.session) {
-                layer.push(Hop {
+        if !has_reached(edges, goal, wait.session) {
+            if let Some(next) = next_of(waits, edges, goal, wait.session) {
+                layer.push(WaitEdge {
                     session: wait.session,
                     next,
                 })?;
@@ -100,19 +100,19 @@ fn next_layer(
 /// NoMemory where a growth was refused.
 fn circle_by(
     alloc: Global,
-    hops: &[Hop],
+    edges: &[WaitEdge],
     session: Session,
     first: Session,
 ) -> Result<Sessions, NoMemory>
-    ensures { IfOk result (λ circle. circle ≡ session ∷ trail hops.now first) }
+    ensures { IfOk result (λ circle. circle ≡ session ∷ trail edges.now first) }
 {
     let mut circle = Vec::new(alloc);
     circle.push(session)?;
     let mut at = first;
-    for hop in hops {
-        if hop.session == at {
+    for edge in edges {
+        if edge.session == at {
             circle.push(at)?;
-            at = hop.next;
+            at = edge.next;
         }
     }
     Ok(Sessions::new(circle))
@@ -130,16 +130,16 @@ pub fn shortest_circle(
     ensures shortest { IfOk result (λ found. IfSome found (λ circle. (rest : List ℕ) → IsWalk waits.now session rest session → length circle ≤ 1 + length rest)) }
     ensures none { IfOk result (λ found. found ≡ None → (rest : List ℕ) → ¬ IsWalk waits.now session rest session) }
 {
-    let mut hops = Vec::new(alloc);
+    let mut edges = Vec::new(alloc);
     loop {
-        if let Some(first) = next_of(waits, &hops, session, session) {
-            return Ok(Some(circle_by(alloc, &hops, session, first)?));
+        if let Some(first) = next_of(waits, &edges, session, session) {
+            return Ok(Some(circle_by(alloc, &edges, session, first)?));
         }
-        let mut layer = next_layer(alloc, waits, &hops, session)?;
+        let mut layer = next_layer(alloc, waits, &edges, session)?;
         if layer.is_empty() {
             return Ok(None);
         }
-        layer.extend_from_slice(&hops)?;
-        hops = layer;
+        layer.extend_from_slice(&edges)?;
+        edges = layer;
     }
 }

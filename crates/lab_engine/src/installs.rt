@@ -8,18 +8,18 @@ ghost use Rattle.lab_engine.specs.EachRow.{with_row, each_row};
 ghost use Rattle.lab_engine.specs.Limits.{max_events};
 ghost use Rattle.lab_engine.specs.Log.{initial_version};
 ghost use Rattle.lab_engine.specs.Recording.{if_any};
-ghost use Rattle.lab_engine.specs.Told as plain;
-ghost use Rattle.lab_engine.specs.Told.{version_told, numbers_of, groups_from};
+ghost use Rattle.lab_engine.specs.Gathered as plain;
+ghost use Rattle.lab_engine.specs.Gathered.{version_told, numbers_of, groups_from};
 
 use crate::event::Outcome;
-use crate::telling::{ToldTxn, place_of};
+use crate::gathering::{GatheredTxn, place_of};
 use crate::version::{Version, Versions};
 use lab_history::{Installed, Installers, VersionName};
 use lab_table::{NoMemory, RowId, Table, TxnNo, Value};
 use std::alloc::Global;
 
 /// The last version of each row that a transaction wrote.
-fn last_versions(alloc: Global, txn: &ToldTxn) -> Result<Versions, NoMemory>
+fn last_versions(alloc: Global, txn: &GatheredTxn) -> Result<Versions, NoMemory>
     requires { length txn.now.ops.items ≤ max_events }
     ensures { IfOk result (λ last. (row : Row) → map.get last row ≡ version_told txn.now row) }
 {
@@ -30,7 +30,7 @@ fn last_versions(alloc: Global, txn: &ToldTxn) -> Result<Versions, NoMemory>
             op: index as u32 + 1,
         };
         let written = Versions::written(alloc, &op.writes, name)?;
-        last.cover(alloc, &written)?;
+        last.overlay(alloc, &written)?;
     }
     Ok(last)
 }
@@ -54,7 +54,7 @@ pub fn install(
     alloc: Global,
     committed: &mut Versions,
     installs: &mut Vec<(RowId, TxnNo)>,
-    txn: Option<&ToldTxn>,
+    txn: Option<&GatheredTxn>,
 ) -> Result<(), NoMemory>
     requires { plain.IsShort (list.option_map (λ t. t.now) txn) }
     ensures committed { OnOk result ((row : Row) → map.get committed.new row ≡ plain.installed_over (list.option_map (λ t. t.now) txn.entry) row (map.get committed.old row)) }
@@ -64,28 +64,28 @@ pub fn install(
         return Ok(());
     };
     let last = last_versions(alloc, txn)?;
-    committed.cover(alloc, &last)?;
+    committed.overlay(alloc, &last)?;
     note_rows(installs, last.entries(), txn.number)?;
     Ok(())
 }
 
 /// The transaction that commits by an outcome of its session, of those numbered from 1.
 pub fn installing<'t>(
-    txns: &'t [ToldTxn],
+    txns: &'t [GatheredTxn],
     outcome: &Outcome,
     by: Option<TxnNo>,
-) -> Option<&'t ToldTxn>
-    ensures { list.option_map (λ (txn : _). txn.now) result ≡ plain.installing outcome.now (plain.told_by txns.now by) }
+) -> Option<&'t GatheredTxn>
+    ensures { list.option_map (λ (txn : _). txn.now) result ≡ plain.installing outcome.now (plain.gathered_by txns.now by) }
 {
     match outcome {
-        Outcome::Committed => told_by(txns, by),
+        Outcome::Committed => gathered_by(txns, by),
         _ => None,
     }
 }
 
 /// The transaction with this number, of those numbered from 1.
-fn told_by(txns: &[ToldTxn], by: Option<TxnNo>) -> Option<&ToldTxn>
-    ensures { list.option_map (λ (txn : _). txn.now) result ≡ plain.told_by txns.now by }
+fn gathered_by(txns: &[GatheredTxn], by: Option<TxnNo>) -> Option<&GatheredTxn>
+    ensures { list.option_map (λ (txn : _). txn.now) result ≡ plain.gathered_by txns.now by }
 {
     txns.get(place_of(by?))
 }
@@ -146,6 +146,6 @@ pub fn end_table(alloc: Global, setup: &Table, committed: &Versions) -> Result<T
     ensures { IfOk result (λ table. (row : Row) → map.get table row ≡ (unwrap_or (map.get committed.now row) (initial_version setup.now row)).state) }
 {
     let initial = Versions::of_table(alloc, setup)?;
-    let versions = initial.under(alloc, committed)?;
+    let versions = initial.overlaid_with(alloc, committed)?;
     Ok(Table::from_rising(all_present(alloc, versions.entries())?))
 }

@@ -13,7 +13,7 @@ ghost use Rattle.lab_engine.specs.Engine.{IsStep, IsRetry};
 use crate::answer::answer_to;
 use crate::engine::Engine;
 use crate::event::{EngineFault, Level, LogEvent, Outcome};
-use crate::look::{is_active, waiting_statement};
+use crate::log_query::{is_active, waiting_statement};
 use crate::rules::Rules;
 use crate::situation::Situation;
 use crate::waits::retryable;
@@ -34,15 +34,15 @@ pub struct Journal<R: Rules> {
 }
 
 impl<R: Rules> Model for Journal<R> {
-    ghost use Rattle.lab_engine.specs.Journal.{Kept, coded_kept};
+    ghost use Rattle.lab_engine.specs.Journal.{EngineRun, coded_run};
     ghost use Rattle.lab_engine.specs.Log.{past_of};
     ghost use Rattle.lab_engine.specs.Answer.{Keeps};
     ghost use Rattle.lab_engine.specs.contracts.event.Level as level;
     ghost use Rattle.lab_engine.specs.contracts.event.LogEvent as event;
 
-    ghost Value = { Kept };
+    ghost Value = { EngineRun };
 
-    ghost coded = { coded_kept level.the_row.coded event.the_row.coded };
+    ghost coded = { coded_run level.the_row.coded event.the_row.coded };
 
     ghost view = { λ j. record { level = R.kind; setup = j.setup; log = j.log.items } };
 

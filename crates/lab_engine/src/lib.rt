@@ -21,13 +21,13 @@ mod event;
 mod installs;
 mod journal;
 mod laws;
-mod look;
+mod log_query;
 mod pending;
 mod recording;
 mod rules;
 mod sight;
 mod situation;
-mod telling;
+mod gathering;
 mod version;
 mod waits;
 

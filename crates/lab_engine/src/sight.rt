@@ -27,7 +27,7 @@ fn under_chains(
     let installed = situation
         .committed
         .before(alloc, &situation.chains, before)?;
-    initial.under(alloc, &installed)
+    initial.overlaid_with(alloc, &installed)
 }
 
 /// The committed versions that an active transaction of this level sees, over the setup's.
@@ -43,8 +43,8 @@ fn committed_seen(
 {
     let initial = Versions::of_table(alloc, setup)?;
     match level {
-        Level::Locking => initial.under(alloc, &situation.committed),
-        Level::Committed => initial.under(alloc, &situation.committed),
+        Level::Locking => initial.overlaid_with(alloc, &situation.committed),
+        Level::Committed => initial.overlaid_with(alloc, &situation.committed),
         Level::Snapshot => under_chains(alloc, &initial, situation, running.before),
     }
 }
@@ -61,5 +61,5 @@ pub fn seen_by(
     ensures { (past : Past) (session : ℕ) (txn : Txn) → Describes past situation.now → active past session ≡ Some txn → IsRunning txn running.now → IfOk result (IsSight level setup.now past txn) }
 {
     let committed = committed_seen(alloc, level, setup, situation, running)?;
-    committed.under(alloc, &running.last)
+    committed.overlaid_with(alloc, &running.last)
 }

@@ -14,7 +14,7 @@ ghost use Rattle.lab_engine.specs.Situation.{Describes, DescribesSession, Descri
 
 use crate::chain::Chains;
 use crate::event::{LogEvent, Outcome};
-use crate::look::{asked_statement, is_busy, is_fatal_fault, waits_after};
+use crate::log_query::{asked_statement, is_busy, is_fatal_fault, waits_after};
 use crate::version::Versions;
 use lab_history::{VersionName, Writes};
 use lab_table::{Command, NoMemory, Session, Statement, TxnNo};
@@ -112,7 +112,7 @@ impl Situation {
     {
         install(alloc, &mut self.committed, &self.sessions, event)?;
         lengthen(alloc, &mut self.chains, &self.sessions, event, self.events)?;
-        go_on(alloc, &mut self.sessions, event, self.events)?;
+        advance_session(alloc, &mut self.sessions, event, self.events)?;
         self.begun = begun_next(&event.outcome, self.begun);
         self.events += 1;
         Ok(())
@@ -157,7 +157,7 @@ impl RunningTxn {
             op: self.statements.len() as u32 + 1,
         };
         let written = Versions::written(alloc, writes, name)?;
-        self.last.cover(alloc, &written)?;
+        self.last.overlay(alloc, &written)?;
         self.statements.push(statement.copy(alloc)?)?;
         Ok(())
     }
@@ -271,7 +271,7 @@ fn run_in(
 }
 
 /// Goes on by one event in its session, with so many events before it.
-fn go_on(
+fn advance_session(
     alloc: Global,
     states: &mut Vec<SessionState>,
     event: &LogEvent,
@@ -301,7 +301,7 @@ fn install(
     match &event.outcome {
         Outcome::Committed => {
             if let Some(running) = running_in(states, event.session) {
-                committed.cover(alloc, &running.last)?;
+                committed.overlay(alloc, &running.last)?;
             }
             Ok(())
         }

@@ -110,14 +110,14 @@ impl Versions {
 
     /// Puts the others' versions over these: of a row that both have, the other's stays.
     /// After NoMemory some may have been put.
-    pub fn cover(&mut self, alloc: Global, over: &Versions) -> Result<(), NoMemory>
+    pub fn overlay(&mut self, alloc: Global, over: &Versions) -> Result<(), NoMemory>
         ensures { IfOk result (λ _. (row : Row) → map.get self.new row ≡ option_or (map.get over.now row) (map.get self.old row)) }
     {
         let entries = over.entries();
         if entries.len() <= FEW {
             self.put_each(alloc, entries)?;
         } else {
-            *self = self.under(alloc, over)?;
+            *self = self.overlaid_with(alloc, over)?;
         }
         Ok(())
     }
@@ -133,7 +133,7 @@ impl Versions {
 
     /// These versions with the others' over them: of a row that both have, the other's stays.
     /// NoMemory where a growth was refused.
-    pub fn under(&self, alloc: Global, over: &Versions) -> Result<Versions, NoMemory>
+    pub fn overlaid_with(&self, alloc: Global, over: &Versions) -> Result<Versions, NoMemory>
         ensures { IfOk result (λ made. (row : Row) → map.get made row ≡ option_or (map.get over.now row) (map.get self.now row)) }
     {
         Ok(Versions {

@@ -6,11 +6,11 @@ use Rattle.std.proofs.lemmas.Bool.{true≢false, lt-ltb, le-ltb}
 use Rattle.std.proofs.lemmas.Grind.{flat_map-append}
 use Rattle.std.proofs.lemmas.List.{at_drop_more, take_more, length-append, append-nil}
 use Rattle.std.specs.Result.{IsErrAnd}
-use Rattle.lab_history.specs.Faults.{◌>>=◌, refused_if, Stops, Gives}
-use Rattle.lab_history.specs.declared.stop.Stop.{Stop}
-use Rattle.lab_history.specs.declared.stop.Stop.TheVariants as stop
-use Rattle.lab_history.specs.Kept.{operations}
-use Rattle.lab_history.specs.Checked.{ops_checked, txn_checked, txns_checked}
+use Rattle.lab_history.specs.Faults.{◌>>=◌, refused_if, Refuses, Gives}
+use Rattle.lab_history.specs.declared.refusal.Refusal.{Refusal}
+use Rattle.lab_history.specs.declared.refusal.Refusal.TheVariants as refusal
+use Rattle.lab_history.specs.HistoryRules.{operations}
+use Rattle.lab_history.specs.FirstPartsFault.{ops_checked, txn_checked, txns_checked}
 use Rattle.lab_history.specs.declared.transaction.Txn.{Txn}
 use Rattle.lab_history.specs.declared.fault.FileFault.{FileFault}
 use Rattle.lab_history.specs.declared.fault.FileFault.TheVariants as fault
@@ -70,6 +70,6 @@ was_absent false added e h = refl
 was_absent true added e h = absurd (true≢false (sym h ∙ e))
 
 -- a fault that ends the walk is what a function gives
-pub gives_fault : (r : Result ⊤ Stop) (f : FileFault) (read : Result ⊤ FileFault) → IsErrAnd r (λ s. s ≡ stop.Fault f) → read ≡ Err f → Gives (λ _. tt) r read
+pub gives_fault : (r : Result ⊤ Refusal) (f : FileFault) (read : Result ⊤ FileFault) → IsErrAnd r (λ s. s ≡ refusal.Fault f) → read ≡ Err f → Gives (λ _. tt) r read
 gives_fault (Ok x) f read h e = absurd h
-gives_fault (Err s) f read h e = subst (λ t. Stops t read) (sym h) e
+gives_fault (Err s) f read h e = subst (λ t. Refuses t read) (sym h) e

@@ -10,8 +10,8 @@ use Rattle.lab_history.specs.VersionName.{new_states}
 use Rattle.lab_history.specs.declared.operation.State.{State}
 use Rattle.lab_history.specs.declared.operation.Op.{Op}
 use Rattle.lab_history.specs.declared.transaction.Txn.{Txn}
-use Rattle.lab_history.specs.Kept.{operations, op_entries}
-use Rattle.lab_history.specs.Walked.{counted, op_counted, ops_counted, txns_counted}
+use Rattle.lab_history.specs.HistoryRules.{operations, op_entries}
+use Rattle.lab_history.specs.RunningCounts.{counted, op_counted, ops_counted, txns_counted}
 
 -- new states are as many as the states
 pub length_new_states : (es : List (Row × State)) → length (new_states es) ≡ length es

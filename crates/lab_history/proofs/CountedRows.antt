@@ -18,8 +18,8 @@ use Rattle.lab_history.specs.declared.operation.State.{State}
 use Rattle.lab_history.specs.declared.operation.Op.{Op}
 use Rattle.lab_history.specs.declared.transaction.Txn.{Txn}
 use Rattle.lab_history.specs.History.{History}
-use Rattle.lab_history.specs.Kept.{operations, op_rows, named_rows, distinct_rows}
-use Rattle.lab_history.specs.Walked.{with_rows, with_op, with_ops, with_txns}
+use Rattle.lab_history.specs.HistoryRules.{operations, op_rows, named_rows, distinct_rows}
+use Rattle.lab_history.specs.RunningCounts.{with_rows, with_op, with_ops, with_txns}
 
 -- ---- one row more
 

@@ -8,12 +8,12 @@ use Rattle.serde_json.specs.Find.{as_array, as_object, as_str, as_number, as_u64
 use Rattle.lab_script.specs.Script.{SpellsStatement}
 use Rattle.lab_history.specs.Entries.{txn_in_number, value_in, written_in}
 use Rattle.lab_history.specs.FaultOf.{all_ops, IsWrong, IsRepeated, IsBadStatement, IsUnsorted, IsOverLimit, IsTrueFault}
-use Rattle.lab_history.specs.Fitting.{fits, parts_of}
+use Rattle.lab_history.specs.PlaceShape.{fits, parts_of}
 use Rattle.lab_history.specs.ValueAt.{txn_at, operation_at, list_at, value_at}
 use Rattle.lab_history.specs.FileOf.{AreEach, IsFileOf, IsOperation, IsTransaction, outcome_text}
 use Rattle.lab_history.specs.Format.{at_key, has_keys, txn_keys, op_keys, outcome_named, count}
 use Rattle.lab_history.specs.History.{History}
-use Rattle.lab_history.specs.Kept.{AllDistinct, operations, named_rows, distinct_rows, op_entries}
+use Rattle.lab_history.specs.HistoryRules.{AllDistinct, operations, named_rows, distinct_rows, op_entries}
 use Rattle.lab_history.specs.declared.fault.FileFault.{FileFault}
 use Rattle.lab_history.specs.declared.fault.FileFault.TheVariants as fault
 use Rattle.lab_history.specs.declared.fault.Limit.{Limit}

@@ -6,10 +6,10 @@ use Rattle.serde_json.specs.Find.{as_number, as_u64, as_object, as_str}
 use Rattle.lab_history.specs.Faults.{required, refused_if}
 use Rattle.lab_history.specs.Entries.{value_in, values_in, installed_in}
 use Rattle.lab_history.specs.FaultOf.{IsTrueFault}
-use Rattle.lab_history.specs.Fitting.{is_format}
+use Rattle.lab_history.specs.PlaceShape.{is_format}
 use Rattle.lab_history.specs.Format.{at_key, has_keys, root_keys, keyed, format_in, version_in, txns_in, parts_in, history_in}
 use Rattle.lab_history.specs.History.{History}
-use Rattle.lab_history.specs.Kept.{named_rows, distinct_rows}
+use Rattle.lab_history.specs.HistoryRules.{named_rows, distinct_rows}
 use Rattle.lab_history.specs.WithinLimits.{within_limits}
 use Rattle.lab_history.specs.declared.fault.FileFault.{FileFault}
 use Rattle.lab_history.specs.declared.fault.FileFault.TheVariants as fault

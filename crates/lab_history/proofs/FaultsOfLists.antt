@@ -7,7 +7,7 @@ use Rattle.lab_table.specs.Row.{Row, row_cmp}
 use Rattle.lab_history.specs.Faults.{required}
 use Rattle.lab_history.specs.Entries.{follows, entries_from, entries_in, id_in, txn_in_number, op_in_number, pair_of, version_of, installers_from, installers_of, installed_of, view_in, installed_in}
 use Rattle.lab_history.specs.FaultOf.{row_of, FallsSomewhere, IsTrueFault}
-use Rattle.lab_history.specs.Fitting.{fits, parts_of, has_size, has_items, second_fits}
+use Rattle.lab_history.specs.PlaceShape.{fits, parts_of, has_size, has_items, second_fits}
 use Rattle.lab_history.specs.ValueAt.{list_at, value_at}
 use Rattle.lab_history.specs.Format.{at_key}
 use Rattle.lab_history.specs.declared.fault.FileFault.{FileFault}

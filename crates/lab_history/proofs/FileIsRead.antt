@@ -4,7 +4,7 @@ use Rattle.serde_json.specs.Data.{Data}
 use Rattle.lab_history.specs.FileOf.{IsFileOf}
 use Rattle.lab_history.specs.Format.{parts_in, history_in}
 use Rattle.lab_history.specs.History.{History}
-use Rattle.lab_history.specs.Kept.{Keeps}
+use Rattle.lab_history.specs.HistoryRules.{Keeps}
 use Rattle.lab_history.specs.WithinLimits.{within_limits}
 use Rattle.lab_history.specs.declared.fault.FileFault.TheVariants as fault
 use Rattle.lab_history.specs.declared.fault.Limit.TheVariants as limit

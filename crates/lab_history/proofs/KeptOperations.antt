@@ -1,6 +1,6 @@
 -- What operations keep, one by one.
 use Rattle.std.proofs.Common.{◌≡◌, ℕ, zero, suc, ◌<◌, List, [], ◌∷◌, ◌++◌, length, get_or, subst, sym, arith}
-use Rattle.lab_history.specs.Kept.{operations, OpKeeps, OpsKeep}
+use Rattle.lab_history.specs.HistoryRules.{operations, OpKeeps, OpsKeep}
 use Rattle.lab_history.specs.declared.operation.Op.{Op}
 use Rattle.lab_history.specs.declared.transaction.Txn.{Txn}
 

@@ -13,9 +13,9 @@ use Rattle.lab_script.specs.Printed.{printed_statement}
 use Rattle.lab_script.specs.Limits.{StatementPrints}
 use Rattle.lab_history.specs.Faults.{◌>>=◌, refused_if}
 use Rattle.lab_history.specs.History.{History}
-use Rattle.lab_history.specs.Kept.{AllDistinct, operations, named_rows, distinct_rows, op_entries, is_listed, OpKeeps, OpsKeep, has_installer, Keeps}
+use Rattle.lab_history.specs.HistoryRules.{AllDistinct, operations, named_rows, distinct_rows, op_entries, is_listed, OpKeeps, OpsKeep, has_installer, Keeps}
 use Rattle.lab_history.specs.WithinLimits.{within_limits}
-use Rattle.lab_history.specs.Checked.{statement_prints, listed_from, op_checked, ops_checked, txn_checked, txns_checked, installed_checked, checked}
+use Rattle.lab_history.specs.FirstPartsFault.{statement_prints, listed_from, op_checked, ops_checked, txn_checked, txns_checked, installed_checked, checked}
 use Rattle.lab_history.specs.declared.fault.FileFault.{FileFault}
 use Rattle.lab_history.specs.declared.fault.FileFault.TheVariants as fault
 use Rattle.lab_history.specs.declared.fault.Limit.TheVariants as limit

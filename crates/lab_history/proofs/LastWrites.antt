@@ -9,7 +9,7 @@ use Rattle.std.specs.Ordering.{nat_cmp, is_eq, ordering_then}
 use Rattle.lab_table.specs.Row.{Row, row_cmp}
 use Rattle.lab_history.specs.Index.{txn_row_cmp, written_by, written_from, written}
 use Rattle.lab_history.specs.Keyed.{value_at}
-use Rattle.lab_history.specs.Kept.{AllDistinct}
+use Rattle.lab_history.specs.HistoryRules.{AllDistinct}
 use Rattle.lab_history.specs.Version.{find_txn, ops_in, last_write}
 use Rattle.lab_history.specs.VersionName.{new_states}
 use Rattle.lab_history.specs.declared.operation.Op.{Op}

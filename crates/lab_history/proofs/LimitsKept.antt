@@ -4,9 +4,9 @@ use Rattle.std.specs.Prelude.{nat_lt}
 use Rattle.std.proofs.lemmas.Bool.{lt-ltb, le-ltb}
 use Rattle.lab_history.specs.Faults.{◌>>=◌, refused_if}
 use Rattle.lab_history.specs.History.{History}
-use Rattle.lab_history.specs.Kept.{operations, named_rows, distinct_rows, op_entries}
+use Rattle.lab_history.specs.HistoryRules.{operations, named_rows, distinct_rows, op_entries}
 use Rattle.lab_history.specs.WithinLimits.{within_limits}
-use Rattle.lab_history.specs.Walked.{txns_counted}
+use Rattle.lab_history.specs.RunningCounts.{txns_counted}
 use Rattle.lab_history.specs.declared.fault.FileFault.TheVariants as fault
 use Rattle.lab_history.specs.declared.fault.Limit.TheVariants as limit
 use Rattle.lab_history.proofs.CountedEntries.{few_entries, many_entries}

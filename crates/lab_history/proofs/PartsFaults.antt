@@ -10,9 +10,9 @@ use Rattle.std.proofs.lemmas.Option.{slice_get_within}
 use Rattle.lab_table.specs.Row.{Row}
 use Rattle.lab_history.specs.Faults.{◌>>=◌, refused_if}
 use Rattle.lab_history.specs.History.{History}
-use Rattle.lab_history.specs.Kept.{operations, named_rows, distinct_rows, op_entries, is_listed, has_installer}
+use Rattle.lab_history.specs.HistoryRules.{operations, named_rows, distinct_rows, op_entries, is_listed, has_installer}
 use Rattle.lab_history.specs.WithinLimits.{within_limits}
-use Rattle.lab_history.specs.Checked.{statement_prints, listed_from, op_checked, ops_checked, txn_checked, txns_checked, installed_checked, checked}
+use Rattle.lab_history.specs.FirstPartsFault.{statement_prints, listed_from, op_checked, ops_checked, txn_checked, txns_checked, installed_checked, checked}
 use Rattle.lab_history.specs.PartsFault.{IsOpFault, unprintable, unlisted, IsPartsFault, many_transactions, repeated, many_operations, of_operation, no_installer, many_ids, many_entries}
 use Rattle.lab_history.specs.declared.fault.FileFault.{FileFault}
 use Rattle.lab_history.specs.declared.fault.FileFault.TheVariants as fault

@@ -11,7 +11,7 @@ use Rattle.lab_history.specs.Faults.{refused_if}
 use Rattle.lab_history.specs.FileOf.{AreEach, IsVersion, IsInstalled, IsOperation, IsTransaction}
 use Rattle.lab_history.specs.Format.{parts_in}
 use Rattle.lab_history.specs.History.{History}
-use Rattle.lab_history.specs.Kept.{operations, named_rows, distinct_rows, is_listed, has_installer, OpKeeps, OpsKeep, Keeps}
+use Rattle.lab_history.specs.HistoryRules.{operations, named_rows, distinct_rows, is_listed, has_installer, OpKeeps, OpsKeep, Keeps}
 use Rattle.lab_history.specs.WithinLimits.{within_limits}
 use Rattle.lab_history.specs.declared.fault.FileFault.TheVariants as fault
 use Rattle.lab_history.specs.declared.fault.Limit.TheVariants as limit

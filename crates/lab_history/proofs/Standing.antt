@@ -3,7 +3,7 @@ use Rattle.std.proofs.Common.{◌≡◌, ℕ, ◌+◌, ◌≤◌, ◌==◌, fals
 use Rattle.std.specs.List.{list_any}
 use Rattle.std.proofs.lemmas.Bool.{or_parts, or_from}
 use Rattle.std.proofs.lemmas.Grind.{flat_map-append}
-use Rattle.lab_history.specs.Kept.{AllDistinct, operations}
+use Rattle.lab_history.specs.HistoryRules.{AllDistinct, operations}
 use Rattle.lab_history.specs.declared.transaction.Txn.{Txn}
 use Rattle.lab_history.proofs.TransactionsRead.{AllStand}
 

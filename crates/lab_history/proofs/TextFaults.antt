@@ -6,4 +6,4 @@ use Rattle.lab_history.specs.declared.fault.FileFault.TheVariants as fault
 use Rattle.lab_history.proofs.FaultsAreTrue.{fault_is_true}
 
 pub no_text_fault : (d : Data) → history_in d ≢ Err fault.NotJson
-no_text_fault d told = fault_is_true d fault.NotJson told
+no_text_fault d known = fault_is_true d fault.NotJson known

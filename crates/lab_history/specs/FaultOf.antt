@@ -7,10 +7,10 @@ use Rattle.lab_table.specs.Row.{Row, row_cmp}
 use Rattle.lab_table.specs.declared.statement.Statement.{Statement}
 use Rattle.lab_script.specs.Script.{SpellsStatement}
 use Rattle.lab_history.specs.Entries.{id_in, txn_in_number}
-use Rattle.lab_history.specs.Fitting.{fits}
+use Rattle.lab_history.specs.PlaceShape.{fits}
 use Rattle.lab_history.specs.Format.{at_key, count, parts_in}
 use Rattle.lab_history.specs.History.{History}
-use Rattle.lab_history.specs.Kept.{operations, named_rows, distinct_rows, op_entries}
+use Rattle.lab_history.specs.HistoryRules.{operations, named_rows, distinct_rows, op_entries}
 use Rattle.lab_history.specs.Limits.{max_transactions, max_operations, max_ids, max_entries}
 use Rattle.lab_history.specs.ValueAt.{txn_at, operation_at, list_at, value_at}
 use Rattle.lab_history.specs.declared.fault.FileFault.{FileFault}

@@ -8,7 +8,7 @@ use Rattle.lab_table.specs.Row.{Row, row_cmp}
 use Rattle.lab_script.specs.Script.{SpellsStatement}
 use Rattle.lab_history.specs.Entries.{id_in, txn_in_number, op_in_number, value_in, written_in}
 use Rattle.lab_history.specs.History.{History}
-use Rattle.lab_history.specs.Kept.{Keeps}
+use Rattle.lab_history.specs.HistoryRules.{Keeps}
 use Rattle.lab_history.specs.declared.operation.Op.{Op}
 use Rattle.lab_history.specs.declared.operation.VersionName.{VersionName}
 use Rattle.lab_history.specs.declared.operation.VersionName.TheVariants.{Of}

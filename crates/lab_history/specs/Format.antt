@@ -10,7 +10,7 @@ use Rattle.lab_script.specs.StatementText.{statement_in}
 use Rattle.lab_history.specs.Faults.{◌>>=◌, required, refused_if}
 use Rattle.lab_history.specs.Entries.{txn_in_number, values_in, writes_in, view_in, installed_in}
 use Rattle.lab_history.specs.History.{History}
-use Rattle.lab_history.specs.Kept.{operations}
+use Rattle.lab_history.specs.HistoryRules.{operations}
 use Rattle.lab_history.specs.Limits.{max_transactions, max_operations}
 use Rattle.lab_history.specs.WithinLimits.{within_limits}
 use Rattle.lab_history.specs.declared.fault.FileFault.{FileFault}

@@ -5,7 +5,7 @@ use Rattle.lab_table.specs.Row.{Row}
 use Rattle.lab_script.specs.Limits.{StatementPrints}
 use Rattle.lab_history.specs.History.{History}
 use Rattle.lab_history.specs.Limits.{max_transactions, max_operations, max_ids, max_entries}
-use Rattle.lab_history.specs.Kept.{operations, named_rows, distinct_rows, op_entries, is_listed}
+use Rattle.lab_history.specs.HistoryRules.{operations, named_rows, distinct_rows, op_entries, is_listed}
 use Rattle.lab_history.specs.declared.fault.FileFault.{FileFault}
 use Rattle.lab_history.specs.declared.fault.FileFault.TheVariants as fault
 use Rattle.lab_history.specs.declared.fault.Limit.TheVariants as limit

@@ -3,7 +3,7 @@ use Rattle.std.specs.Prelude.{⊤, nat_lt, map, sum, Result}
 use Rattle.lab_history.specs.Faults.{◌>>=◌, refused_if}
 use Rattle.lab_history.specs.History.{History}
 use Rattle.lab_history.specs.Limits.{max_ids, max_entries}
-use Rattle.lab_history.specs.Kept.{operations, named_rows, distinct_rows, op_entries}
+use Rattle.lab_history.specs.HistoryRules.{operations, named_rows, distinct_rows, op_entries}
 use Rattle.lab_history.specs.declared.fault.FileFault.{FileFault}
 use Rattle.lab_history.specs.declared.fault.FileFault.TheVariants as fault
 use Rattle.lab_history.specs.declared.fault.Limit.TheVariants as limit

@@ -1,12 +1,12 @@
 //! Histories from their parts.
 
 ghost use Rattle.std.specs.Prelude.{◌≡◌, ◌≢◌, ◌⊎◌, ◌<◌, ◌≤◌, [], length, Ok, Err, IfOk, IfErr};
-ghost use Rattle.lab_history.specs.Kept.{Keeps};
+ghost use Rattle.lab_history.specs.HistoryRules.{Keeps};
 ghost use Rattle.lab_history.specs.Limits.{max_operations};
 ghost use Rattle.lab_history.specs.Faults.{Gives};
 ghost use Rattle.lab_history.specs.PartsFault.{IsPartsFault};
-ghost use Rattle.lab_history.specs.Checked.{statement_prints, listed_from, op_checked, ops_checked, txns_checked, installed_checked, checked};
-ghost use Rattle.lab_history.specs.Kept as kept;
+ghost use Rattle.lab_history.specs.FirstPartsFault.{statement_prints, listed_from, op_checked, ops_checked, txns_checked, installed_checked, checked};
+ghost use Rattle.lab_history.specs.HistoryRules as rules;
 ghost use Rattle.lab_history.specs.declared.fault.FileFault.TheVariants as fault;
 ghost use Rattle.lab_history.specs.declared.path.Path.TheVariants as path;
 
@@ -16,7 +16,7 @@ use crate::limits::{MAX_OPERATIONS, MAX_TRANSACTIONS, check_limits};
 use crate::operation::{Op, VersionName};
 use crate::parts::Parts;
 use crate::path::{ListPlace, Path};
-use crate::stop::Stop;
+use crate::refusal::Refusal;
 use crate::transaction::{Installers, Txn};
 use lab_script::check_statement;
 use lab_table::{RowId, Statement, TxnNo};
@@ -41,19 +41,19 @@ impl History {
                 Ok(history) => Ok(history),
                 Err((parts, _)) => Err((parts, FileFault::NoMemory)),
             },
-            Err(Stop::NoMemory) => Err((parts, FileFault::NoMemory)),
-            Err(Stop::Fault(fault)) => Err((parts, fault)),
+            Err(Refusal::NoMemory) => Err((parts, FileFault::NoMemory)),
+            Err(Refusal::Fault(fault)) => Err((parts, fault)),
         }
     }
 }
 
 /// The first fault of the parts, in the order of a file's walk.
-fn check_parts(alloc: Global, parts: &Parts) -> Result<(), Stop>
+fn check_parts(alloc: Global, parts: &Parts) -> Result<(), Refusal>
     ensures { Gives (λ _. tt) result (checked parts.now) }
 {
     let txns = parts.txns.as_slice();
     if txns.len() > MAX_TRANSACTIONS {
-        return Err(Stop::Fault(FileFault::OverLimit {
+        return Err(Refusal::Fault(FileFault::OverLimit {
             which: Limit::Transactions,
         }));
     }
@@ -63,18 +63,18 @@ fn check_parts(alloc: Global, parts: &Parts) -> Result<(), Stop>
 }
 
 /// Their numbers are distinct, the operations of all together are within the limit, and each operation is sound.
-fn check_txns(alloc: Global, txns: &[Txn]) -> Result<(), Stop>
+fn check_txns(alloc: Global, txns: &[Txn]) -> Result<(), Refusal>
     ensures { Gives (λ _. tt) result (txns_checked [] 0 txns.now) }
 {
     let mut numbers = BTreeSet::new(alloc);
     let mut operations = 0;
     for (index, txn) in txns.iter().enumerate() {
         if !numbers.insert(txn.no)? {
-            return Err(Stop::Fault(FileFault::RepeatedTxn { no: txn.no }));
+            return Err(Refusal::Fault(FileFault::RepeatedTxn { no: txn.no }));
         }
         let ops = txn.ops.as_slice();
         if ops.len() > MAX_OPERATIONS - operations {
-            return Err(Stop::Fault(FileFault::OverLimit {
+            return Err(Refusal::Fault(FileFault::OverLimit {
                 which: Limit::Operations,
             }));
         }
@@ -128,7 +128,7 @@ fn check_view(place: ListPlace, entries: &[(RowId, VersionName)]) -> Result<(), 
 
 /// Whether a view may list a version.
 fn is_listed(version: VersionName) -> bool
-    ensures { result ≡ kept.is_listed version }
+    ensures { result ≡ rules.is_listed version }
 {
     match version {
         VersionName::Initial => false,
@@ -151,6 +151,6 @@ fn wrong_member(place: ListPlace, index: usize) -> FileFault
     ensures { result ≡ fault.WrongFormat (path.Member place index) }
 {
     FileFault::WrongFormat {
-        path: Path::Member(place, index),
+        path: Path::Member { list: place, index },
     }
 }

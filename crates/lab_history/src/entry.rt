@@ -13,7 +13,7 @@ ghost use Rattle.lab_history.specs.Entries.{installers_of as spec_installers_of}
 ghost use Rattle.lab_history.specs.WrittenState.{state_in};
 ghost use Rattle.lab_history.specs.declared.fault.FileFault.{FileFault};
 ghost use Rattle.lab_history.specs.declared.fault.FileFault.TheVariants as fault;
-ghost use Rattle.lab_history.specs.declared.stop.Stop.TheVariants as stop;
+ghost use Rattle.lab_history.specs.declared.refusal.Refusal.TheVariants as refusal;
 ghost use Rattle.lab_history.specs.declared.path.ListPlace.{ListPlace};
 
 use crate::fault::FileFault;
@@ -21,7 +21,7 @@ use crate::limits::MAX_OPERATIONS;
 use crate::operation::{State, VersionName};
 use crate::order::follows;
 use crate::path::{ListPlace, Path};
-use crate::stop::{Stop, wrong};
+use crate::refusal::{Refusal, wrong};
 use crate::transaction::Installers;
 use lab_table::{RowId, TxnNo, Value};
 use serde_json::Value as Json;
@@ -82,7 +82,7 @@ fn written_of(json: &Json) -> Option<State>
 }
 
 /// What has to be at a place.
-pub fn required<X>(found: Option<X>, path: Path) -> Result<X, Stop>
+pub fn required<X>(found: Option<X>, path: Path) -> Result<X, Refusal>
     ensures { Gives (λ x. x) result (spec_required path found) }
 {
     found.ok_or(wrong(path))
@@ -90,10 +90,10 @@ pub fn required<X>(found: Option<X>, path: Path) -> Result<X, Stop>
 
 /// The parts of a member that has two.
 #[tactic(auto, using(crate::proofs::Members::no_pair))]
-fn pair<'a>(place: ListPlace, index: usize, json: &'a Json) -> Result<(&'a Json, &'a Json), Stop>
+fn pair<'a>(place: ListPlace, index: usize, json: &'a Json) -> Result<(&'a Json, &'a Json), Refusal>
     ensures { Gives (λ parts. (view parts.0.now, view parts.1.now)) result (pair_in place index (as_array (view json.now))) }
 {
-    let path = Path::Member(place, index);
+    let path = Path::Member { list: place, index };
     let parts = required(json.as_array(), path)?;
     let [first, second] = parts.as_slice() else {
         return Err(wrong(path));
@@ -107,10 +107,10 @@ fn triple<'a>(
     place: ListPlace,
     index: usize,
     json: &'a Json,
-) -> Result<(&'a Json, &'a Json, &'a Json), Stop>
+) -> Result<(&'a Json, &'a Json, &'a Json), Refusal>
     ensures { Gives (λ parts. (view parts.0.now, view parts.1.now, view parts.2.now)) result (triple_in place index (as_array (view json.now))) }
 {
-    let path = Path::Member(place, index);
+    let path = Path::Member { list: place, index };
     let parts = required(json.as_array(), path)?;
     let [first, second, third] = parts.as_slice() else {
         return Err(wrong(path));
@@ -119,22 +119,22 @@ fn triple<'a>(
 }
 
 /// The numbers of the transactions that installed a row.
-fn numbers_of(alloc: Global, index: usize, numbers: &[Json]) -> Result<Vec<TxnNo>, Stop>
+fn numbers_of(alloc: Global, index: usize, numbers: &[Json]) -> Result<Vec<TxnNo>, Refusal>
     ensures { Gives (λ found. found.items) result (installers_from index 0 (items_view numbers.now)) }
 {
     let mut found = Vec::with_capacity(alloc, numbers.len())?;
     for (at, number) in numbers.iter().enumerate() {
-        found.push(required(txn_of(number), Path::Installer(index, at))?)?;
+        found.push(required(txn_of(number), Path::Installer { index, place: at })?)?;
     }
     Ok(found)
 }
 
 /// The installers of a row, of which there is at least one.
 #[tactic(auto, using(crate::proofs::Members::no_installer, crate::proofs::Members::some_installer))]
-fn installers_of(alloc: Global, index: usize, json: &Json) -> Result<Installers, Stop>
+fn installers_of(alloc: Global, index: usize, json: &Json) -> Result<Installers, Refusal>
     ensures { Gives (λ installers. installers) result (spec_installers_of index (as_array (view json.now))) }
 {
-    let path = Path::Part(ListPlace::Installed, index, 1);
+    let path = Path::Part { list: ListPlace::Installed, index, part: 1 };
     let numbers = required(json.as_array(), path)?;
     if numbers.is_empty() {
         return Err(wrong(path));
@@ -152,7 +152,7 @@ trait Entry: Sized + Drop {
         place: ListPlace,
         index: usize,
         json: &Json,
-    ) -> Result<(RowId, Self), Stop>
+    ) -> Result<(RowId, Self), Refusal>
         ensures { Gives (λ entry. entry) result (read place index (view json.now)) };
 }
 
@@ -168,10 +168,10 @@ impl Entry for Value {
         place: ListPlace,
         index: usize,
         json: &Json,
-    ) -> Result<(RowId, Value), Stop> {
+    ) -> Result<(RowId, Value), Refusal> {
         let (id, value) = pair(place, index, json)?;
-        let id = required(id_of(id), Path::Part(place, index, 0))?;
-        let value = required(value_of(value), Path::Part(place, index, 1))?;
+        let id = required(id_of(id), Path::Part { list: place, index, part: 0 })?;
+        let value = required(value_of(value), Path::Part { list: place, index, part: 1 })?;
         Ok((id, value))
     }
 }
@@ -189,10 +189,10 @@ impl Entry for State {
         place: ListPlace,
         index: usize,
         json: &Json,
-    ) -> Result<(RowId, State), Stop> {
+    ) -> Result<(RowId, State), Refusal> {
         let (id, state) = pair(place, index, json)?;
-        let id = required(id_of(id), Path::Part(place, index, 0))?;
-        let state = required(written_of(state), Path::Part(place, index, 1))?;
+        let id = required(id_of(id), Path::Part { list: place, index, part: 0 })?;
+        let state = required(written_of(state), Path::Part { list: place, index, part: 1 })?;
         Ok((id, state))
     }
 }
@@ -209,11 +209,11 @@ impl Entry for VersionName {
         place: ListPlace,
         index: usize,
         json: &Json,
-    ) -> Result<(RowId, VersionName), Stop> {
+    ) -> Result<(RowId, VersionName), Refusal> {
         let (id, txn, op) = triple(place, index, json)?;
-        let id = required(id_of(id), Path::Part(place, index, 0))?;
-        let txn = required(txn_of(txn), Path::Part(place, index, 1))?;
-        let op = required(op_of(op), Path::Part(place, index, 2))?;
+        let id = required(id_of(id), Path::Part { list: place, index, part: 0 })?;
+        let txn = required(txn_of(txn), Path::Part { list: place, index, part: 1 })?;
+        let op = required(op_of(op), Path::Part { list: place, index, part: 2 })?;
         Ok((id, VersionName::Of { txn, op }))
     }
 }
@@ -230,9 +230,9 @@ impl Entry for Installers {
         _: ListPlace,
         index: usize,
         json: &Json,
-    ) -> Result<(RowId, Installers), Stop> {
+    ) -> Result<(RowId, Installers), Refusal> {
         let (id, installers) = pair(ListPlace::Installed, index, json)?;
-        let id = required(id_of(id), Path::Part(ListPlace::Installed, index, 0))?;
+        let id = required(id_of(id), Path::Part { list: ListPlace::Installed, index, part: 0 })?;
         let installers = installers_of(alloc, index, installers)?;
         Ok((id, installers))
     }
@@ -243,7 +243,7 @@ fn entries_of<E: Entry>(
     alloc: Global,
     place: ListPlace,
     json: &Json,
-) -> Result<Vec<(RowId, E)>, Stop>
+) -> Result<Vec<(RowId, E)>, Refusal>
     ensures read { Gives (λ entries. entries.items) result (entries_in (E.read place) place (view json.now)) }
     ensures rises { IfOk result (λ entries. T (map.is_sorted row_cmp entries.items)) }
 {
@@ -253,7 +253,7 @@ fn entries_of<E: Entry>(
     for (index, member) in members.as_slice().iter().enumerate() {
         let entry = E::read(alloc, place, index, member)?;
         if !follows(before, entry.0) {
-            return Err(Stop::Fault(FileFault::Unsorted {
+            return Err(Refusal::Fault(FileFault::Unsorted {
                 path: Path::List(place),
             }));
         }
@@ -264,7 +264,7 @@ fn entries_of<E: Entry>(
 }
 
 /// A list of rows with their values.
-pub fn values_of(alloc: Global, place: ListPlace, json: &Json) -> Result<Vec<(RowId, Value)>, Stop>
+pub fn values_of(alloc: Global, place: ListPlace, json: &Json) -> Result<Vec<(RowId, Value)>, Refusal>
     ensures read { Gives (λ entries. entries.items) result (values_in place (view json.now)) }
     ensures rises { IfOk result (λ entries. T (map.is_sorted row_cmp entries.items)) }
 {
@@ -272,7 +272,7 @@ pub fn values_of(alloc: Global, place: ListPlace, json: &Json) -> Result<Vec<(Ro
 }
 
 /// A list of written rows with their new states.
-pub fn writes_of(alloc: Global, place: ListPlace, json: &Json) -> Result<Vec<(RowId, State)>, Stop>
+pub fn writes_of(alloc: Global, place: ListPlace, json: &Json) -> Result<Vec<(RowId, State)>, Refusal>
     ensures read { Gives (λ entries. new_states entries.items) result (writes_in place (view json.now)) }
     ensures rises { IfOk result (λ entries. T (map.is_sorted row_cmp (new_states entries.items))) }
 {
@@ -284,7 +284,7 @@ pub fn view_of(
     alloc: Global,
     place: ListPlace,
     json: &Json,
-) -> Result<Vec<(RowId, VersionName)>, Stop>
+) -> Result<Vec<(RowId, VersionName)>, Refusal>
     ensures read { Gives (λ entries. entries.items) result (view_in place (view json.now)) }
     ensures rises { IfOk result (λ entries. T (map.is_sorted row_cmp entries.items)) }
 {
@@ -292,7 +292,7 @@ pub fn view_of(
 }
 
 /// The list of the rows that were installed, with their installers.
-pub fn installed_of(alloc: Global, json: &Json) -> Result<Vec<(RowId, Installers)>, Stop>
+pub fn installed_of(alloc: Global, json: &Json) -> Result<Vec<(RowId, Installers)>, Refusal>
     ensures read { Gives (λ entries. entries.items) result (installed_in (view json.now)) }
     ensures rises { IfOk result (λ entries. T (map.is_sorted row_cmp entries.items)) }
 {

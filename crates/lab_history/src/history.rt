@@ -2,7 +2,7 @@
 
 ghost use Rattle.std.specs.Prelude.{◌≡◌, IfOk, IfErr};
 ghost use Rattle.lab_history.specs.Index.{IsIndexOf};
-ghost use Rattle.lab_history.specs.Kept.{Keeps};
+ghost use Rattle.lab_history.specs.HistoryRules.{Keeps};
 
 use crate::index::Index;
 use crate::parts::Parts;
@@ -25,7 +25,7 @@ pub struct History {
 impl Model for History {
     ghost use Rattle.lab_history.specs.History as spec;
     ghost use Rattle.lab_history.specs.Index.{IsIndexOf};
-    ghost use Rattle.lab_history.specs.Kept.{Keeps};
+    ghost use Rattle.lab_history.specs.HistoryRules.{Keeps};
     ghost use Rattle.lab_history.specs.contracts.parts.Parts as stored;
 
     ghost Value = { spec.History };

@@ -2,7 +2,7 @@
 
 ghost use Rattle.std.specs.Prelude.{◌≡◌, ◌≤◌, ◌++◌, length, reverse, IfOk, OnOk};
 ghost use Rattle.std.specs.FinMap as map;
-ghost use Rattle.lab_history.specs.Kept.{Keeps, operations};
+ghost use Rattle.lab_history.specs.HistoryRules.{Keeps, operations};
 ghost use Rattle.lab_history.specs.Limits.{max_operations};
 ghost use Rattle.lab_history.specs.Index.{IsIndexOf, numbers_from, written_by, written_from, written, placed_from, placed};
 

@@ -20,7 +20,7 @@ pub fn history_is_read_from_its_file()
 /// A fault that reading has is true of the value that is read, told at the place that the fault names;
 /// no fault is true of a file.
 pub fn faults_are_true()
-    ensures told { (d : Data) (f : FaultValue) → history_in d ≡ Err f → IsTrueFault d f }
+    ensures true_fault { (d : Data) (f : FaultValue) → history_in d ≡ Err f → IsTrueFault d f }
     ensures faultless { (d : Data) (h : HistoryValue) → IsFileOf d h → (f : FaultValue) → IsTrueFault d f → ⊥ }
 {}
 

@@ -28,7 +28,7 @@ mod parts;
 mod path;
 mod path_text;
 mod reading;
-mod stop;
+mod refusal;
 mod transaction;
 mod writing;
 

@@ -2,17 +2,17 @@
 
 ghost use Rattle.std.specs.Prelude.{◌≡◌, ◌≤◌, IfOk, OnOk, IfSome};
 ghost use Rattle.lab_history.specs.Faults.{Gives};
-ghost use Rattle.lab_history.specs.Kept.{named_rows, distinct_rows};
+ghost use Rattle.lab_history.specs.HistoryRules.{named_rows, distinct_rows};
 ghost use Rattle.lab_history.specs.Limits.{max_entries};
 ghost use Rattle.lab_history.specs.WithinLimits.{within_limits};
 ghost use Rattle.lab_history.specs.declared.fault.FileFault.TheVariants as fault;
-ghost use Rattle.lab_history.specs.declared.stop.Stop.TheVariants as stop;
-ghost use Rattle.lab_history.specs.Walked.{with_rows, with_op, with_ops, with_txns, counted, op_counted, ops_counted, txns_counted};
+ghost use Rattle.lab_history.specs.declared.refusal.Refusal.TheVariants as refusal;
+ghost use Rattle.lab_history.specs.RunningCounts.{with_rows, with_op, with_ops, with_txns, counted, op_counted, ops_counted, txns_counted};
 
 use crate::fault::{FileFault, Limit};
 use crate::operation::Op;
 use crate::parts::Parts;
-use crate::stop::{Stop, over};
+use crate::refusal::{Refusal, over};
 use crate::transaction::Txn;
 use lab_table::{NoMemory, RowId};
 use std::alloc::Global;
@@ -35,7 +35,7 @@ pub const MAX_IDS: usize = 1_000;
 pub const MAX_ENTRIES: usize = 200_000;
 
 /// Whether parts keep the limits on ids and entries.
-pub fn check_limits(alloc: Global, parts: &Parts) -> Result<(), Stop>
+pub fn check_limits(alloc: Global, parts: &Parts) -> Result<(), Refusal>
     ensures { Gives (λ _. tt) result (within_limits parts.now) }
 {
     if count_ids(alloc, parts)? > MAX_IDS {

@@ -30,23 +30,27 @@ pub enum Path {
     /// A list.
     List(ListPlace),
     /// A member of a list.
-    Member(ListPlace, usize),
+    Member { list: ListPlace, index: usize },
     /// A part of a member of a list.
-    Part(ListPlace, usize, usize),
+    Part {
+        list: ListPlace,
+        index: usize,
+        part: usize,
+    },
     /// One of the installers of a row: the member of `installed`, and the place in its inner list.
-    Installer(usize, usize),
+    Installer { index: usize, place: usize },
     /// The list of the transactions.
     Transactions,
     /// A transaction.
-    Transaction(usize),
+    Transaction { txn: usize },
     /// The number of a transaction.
-    Number(usize),
+    Number { txn: usize },
     /// How a transaction ended.
-    Outcome(usize),
+    Outcome { txn: usize },
     /// The list of the operations of a transaction.
-    Operations(usize),
+    Operations { txn: usize },
     /// An operation of a transaction.
-    Operation(usize, usize),
+    Operation { txn: usize, op: usize },
     /// The statement of an operation of a transaction.
-    Statement(usize, usize),
+    Statement { txn: usize, op: usize },
 }

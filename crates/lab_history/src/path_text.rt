@@ -31,28 +31,28 @@ fn put_path(out: &mut Vec<u8>, path: Path) -> Result<(), NoMemory>
         Path::Format => out.extend_from_slice(b"/format"),
         Path::Version => out.extend_from_slice(b"/version"),
         Path::List(place) => put_list(out, place),
-        Path::Member(place, index) => {
+        Path::Member { list: place, index } => {
             put_list(out, place)?;
             put_index(out, index)
         }
-        Path::Part(place, index, part) => {
+        Path::Part { list: place, index, part } => {
             put_list(out, place)?;
             put_index(out, index)?;
             put_index(out, part)
         }
-        Path::Installer(index, at) => {
+        Path::Installer { index, place: at } => {
             out.extend_from_slice(b"/installed")?;
             put_index(out, index)?;
             out.extend_from_slice(b"/1")?;
             put_index(out, at)
         }
         Path::Transactions => out.extend_from_slice(b"/transactions"),
-        Path::Transaction(txn) => put_in_txn(out, txn, b""),
-        Path::Number(txn) => put_in_txn(out, txn, b"/no"),
-        Path::Outcome(txn) => put_in_txn(out, txn, b"/outcome"),
-        Path::Operations(txn) => put_in_txn(out, txn, b"/ops"),
-        Path::Operation(txn, op) => put_in_op(out, txn, op, b""),
-        Path::Statement(txn, op) => put_in_op(out, txn, op, b"/statement"),
+        Path::Transaction { txn } => put_in_txn(out, txn, b""),
+        Path::Number { txn } => put_in_txn(out, txn, b"/no"),
+        Path::Outcome { txn } => put_in_txn(out, txn, b"/outcome"),
+        Path::Operations { txn } => put_in_txn(out, txn, b"/ops"),
+        Path::Operation { txn, op } => put_in_op(out, txn, op, b""),
+        Path::Statement { txn, op } => put_in_op(out, txn, op, b"/statement"),
     }
 }
 

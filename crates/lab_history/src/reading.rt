@@ -22,7 +22,7 @@ use crate::history::History;
 use crate::limits::{MAX_FILE_BYTES, check_limits};
 use crate::parts::Parts;
 use crate::path::{ListPlace, Path};
-use crate::stop::{Stop, wrong};
+use crate::refusal::{Refusal, wrong};
 use crate::transaction::Installed;
 use keys::{has_keys, text_at};
 use lab_table::Table;
@@ -32,7 +32,7 @@ use std::alloc::Global;
 use transaction::txns_of;
 
 /// Whether a value is an object that says it is a history file.
-fn check_format(json: &Json) -> Result<(), Stop>
+fn check_format(json: &Json) -> Result<(), Refusal>
     ensures { Gives (λ _. tt) result (format_in (view json.now)) }
 {
     if !json.is_object() {
@@ -45,18 +45,18 @@ fn check_format(json: &Json) -> Result<(), Stop>
 }
 
 /// Whether a value says that it is of version 1 of the format.
-fn check_version(json: &Json) -> Result<(), Stop>
+fn check_version(json: &Json) -> Result<(), Refusal>
     ensures { Gives (λ _. tt) result (version_in (view json.now)) }
 {
     match json.get("version").and_then(Json::as_u64) {
         Some(1) => Ok(()),
-        Some(number) => Err(Stop::Fault(FileFault::WrongVersion { number })),
+        Some(number) => Err(Refusal::Fault(FileFault::WrongVersion { number })),
         None => Err(wrong(Path::Version)),
     }
 }
 
 /// The parts of the history that a value holds.
-fn parts_of(alloc: Global, json: &Json) -> Result<Parts, Stop>
+fn parts_of(alloc: Global, json: &Json) -> Result<Parts, Refusal>
     ensures { Gives (λ parts. parts) result (parts_in (view json.now)) }
 {
     check_format(json)?;
@@ -87,16 +87,16 @@ fn parts_of(alloc: Global, json: &Json) -> Result<Parts, Stop>
 }
 
 /// The parts of the history that a file holds. Its value is given back before the limits are looked at.
-fn parts_in_file(alloc: Global, bytes: &[u8]) -> Result<Parts, Stop>
+fn parts_in_file(alloc: Global, bytes: &[u8]) -> Result<Parts, Refusal>
     ensures { ReadsAs parts_in bytes.now result }
 {
     match Json::from_slice(alloc, bytes) {
         Ok(json) => parts_of(alloc, &json),
         Err(error) => {
             if error.is_memory() {
-                Err(Stop::NoMemory)
+                Err(Refusal::NoMemory)
             } else {
-                Err(Stop::Fault(FileFault::NotJson))
+                Err(Refusal::Fault(FileFault::NotJson))
             }
         }
     }
@@ -104,14 +104,14 @@ fn parts_in_file(alloc: Global, bytes: &[u8]) -> Result<Parts, Stop>
 
 /// The history that a file of any length holds.
 #[tactic(auto, using(crate::proofs::ReadKeeps::read_keeps))]
-fn history_in_file(alloc: Global, bytes: &[u8]) -> Result<History, Stop>
+fn history_in_file(alloc: Global, bytes: &[u8]) -> Result<History, Refusal>
     ensures { ReadsAs history_in bytes.now result }
 {
     let parts = parts_in_file(alloc, bytes)?;
     check_limits(alloc, &parts)?;
     match History::assembled(alloc, parts) {
         Ok(history) => Ok(history),
-        Err(_) => Err(Stop::NoMemory),
+        Err(_) => Err(Refusal::NoMemory),
     }
 }
 
@@ -137,7 +137,7 @@ pub fn read_history(alloc: Global, bytes: &[u8]) -> Result<History, FileFault>
     }
     match history_in_file(alloc, bytes) {
         Ok(history) => Ok(history),
-        Err(Stop::NoMemory) => Err(FileFault::NoMemory),
-        Err(Stop::Fault(fault)) => Err(fault),
+        Err(Refusal::NoMemory) => Err(FileFault::NoMemory),
+        Err(Refusal::Fault(fault)) => Err(fault),
     }
 }

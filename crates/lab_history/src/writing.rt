@@ -9,7 +9,7 @@ ghost use Rattle.serde_json.specs.View.{view};
 ghost use Rattle.serde_json.specs.Written.{compact_text};
 ghost use Rattle.lab_history.specs.FileOf.{IsFileOf};
 ghost use Rattle.lab_history.specs.Format.{history_in};
-ghost use Rattle.lab_history.specs.Kept.{Keeps};
+ghost use Rattle.lab_history.specs.HistoryRules.{Keeps};
 ghost use Rattle.lab_history.specs.Limits.{max_file_bytes};
 ghost use Rattle.lab_history.specs.Tree.{tree_of};
 

@@ -15,7 +15,7 @@ ghost use Rattle.lab_judge.specs.Runs.{HoldsEachOnce};
 ghost use Rattle.lab_judge.specs.Phenomena.{NoWalk, IsClosedWalk, IsG0, MeetsPl2};
 ghost use Rattle.lab_judge.specs.Judgement.{FindsWalk, JudgesAll, JudgesReads, JudgesNothing, JudgesAtFault};
 
-mod closed;
+mod closed_walk;
 mod grade;
 mod opening;
 mod reads;
@@ -24,7 +24,7 @@ use crate::allowed::Allowed;
 use crate::graphs::graph_of;
 use crate::nodes::Nodes;
 use crate::report::{Finding, Grade};
-use closed::{find_circle, find_opened};
+use closed_walk::{find_circle, find_opened};
 use grade::{grade_of, low_grade_of};
 use lab_deps::{Edge, LocalFault, write_edges};
 use lab_history::History;

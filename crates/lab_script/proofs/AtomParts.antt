@@ -14,7 +14,7 @@ use Rattle.lab_script.specs.Grammar.{IsNumber, IsNumbers, IsNumberList, col_toke
 use Rattle.lab_script.specs.Grammar as grammar
 use Rattle.lab_script.specs.Reading.{◌>>=◌, after, digits_at, number_at, more_of}
 use Rattle.lab_script.specs.ReadingPredicates.{cmp_of, col_at, cmp_at, modulus_at, one_more, numbers_at, number_list_at}
-use Rattle.lab_script.proofs.Same.{after_is, bind_some, some_is, when_takes, some}
+use Rattle.lab_script.proofs.TokenNumbers.{after_is, bind_some, some_is, when_takes, some}
 use Rattle.lab_script.proofs.ReadNumbers.{Taken, number_again, number_takes, digits_take, under}
 use Rattle.lab_script.proofs.ReadRows.{not_negative}
 use Rattle.lab_script.proofs.Loops.{ends}

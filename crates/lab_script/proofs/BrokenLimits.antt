@@ -15,8 +15,8 @@ use Rattle.lab_script.specs.declared.print.PrintFault.TheVariants.{NoMemory, Too
 use Rattle.lab_script.specs.Depth.{statement_depth}
 use Rattle.lab_script.specs.Printed.{printed_statement}
 use Rattle.lab_script.specs.Limits.{StatementPrints, CommandPrints, AllPrint, SomeLine}
-use Rattle.lab_script.specs.Transcript.{statements_on, statements_of, inside_after, is_begin, nobody, whole_of, transactions, table_with, table_after}
-use Rattle.lab_script.specs.Told.{Breaks, shown_of, shown, limit_broken, first_broken, unprintable}
+use Rattle.lab_script.specs.Transcript.{statements_on, statements_of, inside_after, is_begin, nobody, transaction_of, transactions, table_with, table_after}
+use Rattle.lab_script.specs.TranscriptView.{Breaks, shown_of, shown, limit_broken, first_broken, unprintable}
 
 -- a statement that prints breaks no limit
 prints : (fault : PrintFault) (s : Statement) → StatementPrints s → Breaks fault (Run s) → ⊥
@@ -109,10 +109,10 @@ module _ (fault : PrintFault) where
   any_shown inside table (line ∷ lines) h =
       let after : ℕ → Bool = inside_after inside line.session line.command in
       elim (is_begin line.command && not (inside line.session)) as
-      (λ b. AnyBreaks (shown table (cond b (whole_of line.session lines ∷ []) [] ++ transactions after lines)) → SomeBreaks (line ∷ lines)) [
-        | true ↦ λ own. elim (any_append (shown_of table (statements_of line.session lines)) (shown (table_after table (whole_of line.session lines)) (transactions after lines)) own) [
+      (λ b. AnyBreaks (shown table (cond b (transaction_of line.session lines ∷ []) [] ++ transactions after lines)) → SomeBreaks (line ∷ lines)) [
+        | true ↦ λ own. elim (any_append (shown_of table (statements_of line.session lines)) (shown (table_after table (transaction_of line.session lines)) (transactions after lines)) own) [
           | inl first ↦ later line lines (any_of line.session lines (any_shown_of table (statements_of line.session lines) first))
-          | inr others ↦ later line lines (any_shown after (table_after table (whole_of line.session lines)) lines others)
+          | inr others ↦ later line lines (any_shown after (table_after table (transaction_of line.session lines)) lines others)
         ]
         | false ↦ λ other. later line lines (any_shown after table lines other)
       ] h

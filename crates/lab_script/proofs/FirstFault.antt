@@ -21,7 +21,7 @@ use Rattle.lab_script.proofs.ReadCommands.{no_setup}
 use Rattle.lab_script.proofs.ReadSetup.{setup_begins}
 use Rattle.lab_script.proofs.ScriptLines.{fit_of, lines_once, lines_join, lines_front, IsFew, line_few}
 use Rattle.lab_table.proofs.Tests.{slice_get-middle}
-use Rattle.lab_script.proofs.Same.{some_is}
+use Rattle.lab_script.proofs.TokenNumbers.{some_is}
 
 -- the lines so far, of which there are so many, spell nothing yet or a script, and these are left
 pub record IsReadTo (text : List ℕ) (number : ℕ) (rest : List (List ℕ)) (script : Option Script) : Type 0 where

@@ -1,5 +1,5 @@
 pub mod Tokens
-pub mod Same
+pub mod TokenNumbers
 pub mod Loops
 pub mod Numbers
 pub mod PrintedTokens
@@ -31,7 +31,7 @@ pub mod CutTexts
 pub mod LongTexts
 pub mod SpelledPrints
 pub mod StatementLines
-pub mod StillTold
+pub mod RemainingTranscript
 pub mod BrokenLimits
 pub mod PrintedText
 pub mod PrintedNumbers
@@ -42,4 +42,4 @@ pub mod PrintedLines
 pub mod PrintedCommands
 pub mod PrintedSetups
 pub mod PrintedScripts
-pub mod Walked
+pub mod EachElement

@@ -2,19 +2,19 @@
 use Rattle.std.proofs.Common.{◌≡◌, ℕ, zero, suc, ◌≤◌, ◌<◌, List, length, Option, Some, None, refl, sym, ◌∙◌, subst, arith}
 use Rattle.lab_table.specs.Predicate.{Predicate}
 use Rattle.lab_script.specs.declared.token.Token.{Token}
-use Rattle.lab_script.specs.declared.stop.Stop.{Stop}
-use Rattle.lab_script.specs.declared.stop.Stop.TheVariants as stop
+use Rattle.lab_script.specs.declared.refusal.Refusal.{Refusal}
+use Rattle.lab_script.specs.declared.refusal.Refusal.TheVariants as refusal
 use Rattle.lab_script.specs.Reading.{Fails, after, more_of}
 use Rattle.lab_script.specs.ReadingPredicates.{joined_of}
-use Rattle.lab_script.proofs.Same.{some}
+use Rattle.lab_script.proofs.TokenNumbers.{some}
 
 abbrev pub Reader : Type 0 → Type 0
 Reader X = List Token → Option (X × List Token)
 
 -- what gives nothing wherever a reading does fails as that reading does
-pub fails_none : {A B : Type 0} (e : Stop) (r : Option A) → Fails e r → (s : Option B) → (r ≡ None → s ≡ None) → Fails e s
-fails_none stop.NoMemory r h s f = tt
-fails_none (stop.Fault kind) r h s f = f h
+pub fails_none : {A B : Type 0} (e : Refusal) (r : Option A) → Fails e r → (s : Option B) → (r ≡ None → s ≡ None) → Fails e s
+fails_none refusal.NoMemory r h s f = tt
+fails_none (refusal.Fault kind) r h s f = f h
 
 module _ {A X : Type 0} (member : Reader X) (connective : Token) (join : A → X → A) where
   -- one member more
@@ -34,7 +34,7 @@ module _ {A X : Type 0} (member : Reader X) (connective : Token) (join : A → X
       subst (λ (c : A). (j : ℕ) × (length behind ≤ j) × (more_of j member connective join c behind ≡ total)) same (goes_on k a x ts rest behind total le so_far took lt read shorter)
 
   -- a connective with no member behind it
-  pub next_fails : (k : ℕ) (a : A) (e : Stop) (ts rest : List Token) (total : Option (A × List Token)) → length ts ≤ k → more_of k member connective join a ts ≡ total
+  pub next_fails : (k : ℕ) (a : A) (e : Refusal) (ts rest : List Token) (total : Option (A × List Token)) → length ts ≤ k → more_of k member connective join a ts ≡ total
       → after connective ts ≡ Some rest → length rest < length ts → Fails e (member rest) → Fails e total
   unfolding more_of
   next_fails zero a e ts rest total le so_far took lt fails = absurd (omega arith)
@@ -52,6 +52,6 @@ module _ (member : Reader Predicate) (connective : Token) (join : Predicate → 
   unfolding joined_of
   starts ts rest p h = rw h refl
 
-  pub first_fails : (e : Stop) (ts : List Token) → Fails e (member ts) → Fails e (joined_of member connective join ts)
+  pub first_fails : (e : Refusal) (ts : List Token) → Fails e (member ts) → Fails e (joined_of member connective join ts)
   unfolding joined_of
   first_fails e ts h = fails_none e (member ts) h _ (λ n. rw n refl)

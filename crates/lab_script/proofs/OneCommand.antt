@@ -15,8 +15,8 @@ use Rattle.lab_script.specs.Grammar as grammar
 use Rattle.lab_script.specs.Printed.{printed_statement}
 use Rattle.lab_script.specs.Reading.{after_all}
 use Rattle.lab_script.specs.ReadingStatements.{statement_at, ended_at}
-use Rattle.lab_script.specs.ReadingCommands.{is_word, words_at, level_at, command_at, is_short, closed_at}
-use Rattle.lab_script.proofs.Same.{bind_some, some_is, when_takes, some}
+use Rattle.lab_script.specs.ReadingCommands.{is_word, words_at, level_at, command_at, is_short, terminated_at}
+use Rattle.lab_script.proofs.TokenNumbers.{bind_some, some_is, when_takes, some}
 use Rattle.lab_script.proofs.ReadNumbers.{Taken, under}
 use Rattle.lab_script.proofs.ReadStatements.{after_all_is, statement_again, statement_takes, Closes, nothing, semicolon, unjoined, ended_is}
 
@@ -123,10 +123,10 @@ command_long (grammar.run (grammar.delete h) le) = omega arith
 
 -- the command of a statement with its end that is read, with what is left
 abbrev Closed : List Token → List Command → List Token → Type 0
-Closed ts cs rest = (c : Option Command) × (closed_at ts ≡ Some (c, rest)) × (listed c ≡ cs)
+Closed ts cs rest = (c : Option Command) × (terminated_at ts ≡ Some (c, rest)) × (listed c ≡ cs)
 
 pub closed_again : {ts : List Token} {cs : List Command} → IsCommand ts cs → (end rest : List Token) → Closes end → ended_at end ≡ Some rest → Closed (ts ++ end) cs rest
-unfolding closed_at
+unfolding terminated_at
 closed_again h end rest closes ended =
     let g = command_again h end closes in
     (g.0, rw (g.1, ended, g.2) refl, g.3)
@@ -135,8 +135,8 @@ closed_again h end rest closes ended =
 abbrev ClosedTaken : List Token → Option Command × List Token → Type 0
 ClosedTaken ts x = (front end : List Token) × (ts ≡ front ++ end) × IsCommand front (listed x.0) × (ended_at end ≡ Some x.1)
 
-pub closed_takes : (ts : List Token) (x : Option Command × List Token) → closed_at ts ≡ Some x → ClosedTaken ts x
-unfolding closed_at
+pub closed_takes : (ts : List Token) (x : Option Command × List Token) → terminated_at ts ≡ Some x → ClosedTaken ts x
+unfolding terminated_at
 closed_takes ts x e =
     let a = bind_some (command_at ts) _ x e in
     let b = bind_some (ended_at a.0.1) _ x a.2 in

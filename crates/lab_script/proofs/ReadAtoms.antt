@@ -12,7 +12,7 @@ use Rattle.lab_script.specs.Grammar.{IsAtom, col_token, cmp_token}
 use Rattle.lab_script.specs.Grammar as grammar
 use Rattle.lab_script.specs.Reading.{after, number_at}
 use Rattle.lab_script.specs.ReadingPredicates.{col_at, cmp_at, modulus_at, number_list_at, compare_at, remainder_at, one_of_at, atom_at}
-use Rattle.lab_script.proofs.Same.{after_is, bind_some, some_is, when_takes}
+use Rattle.lab_script.proofs.TokenNumbers.{after_is, bind_some, some_is, when_takes}
 use Rattle.lab_script.proofs.ReadNumbers.{Taken, number_again, number_takes, under}
 use Rattle.lab_script.proofs.AtomParts.{col_again, col_takes, cmp_again, cmp_takes, modulus_again, modulus_takes, number_list_again, number_list_takes}
 

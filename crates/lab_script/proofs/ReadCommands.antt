@@ -7,13 +7,13 @@ use Rattle.lab_table.specs.declared.statement.Command.{Command}
 use Rattle.lab_script.specs.declared.token.Word.TheVariants as word
 use Rattle.lab_script.specs.declared.token.Token.{Token}
 use Rattle.lab_script.specs.declared.token.Token.TheVariants as token
-use Rattle.lab_script.specs.declared.stop.Stop.{Stop}
+use Rattle.lab_script.specs.declared.refusal.Refusal.{Refusal}
 use Rattle.lab_script.specs.Grammar.{IsCommand, IsCommands}
 use Rattle.lab_script.specs.Grammar as grammar
 use Rattle.lab_script.specs.Reading.{Fails, ◌>>=◌, after}
 use Rattle.lab_script.specs.ReadingStatements.{statement_at, ended_at}
-use Rattle.lab_script.specs.ReadingCommands.{command_at, closed_at, added, step_at, more_commands, commands_at}
-use Rattle.lab_script.proofs.Same.{bind_some, some_is, some}
+use Rattle.lab_script.specs.ReadingCommands.{command_at, terminated_at, added, step_at, more_commands, commands_at}
+use Rattle.lab_script.proofs.TokenNumbers.{bind_some, some_is, some}
 use Rattle.lab_script.proofs.ReadStatements.{Closes, nothing, semicolon, ended_is}
 use Rattle.lab_script.proofs.Loops.{fails_none}
 use Rattle.lab_script.proofs.OneCommand.{listed, command_long, closed_again, closed_takes, closed_short}
@@ -49,7 +49,7 @@ StepTaken room before ts x = (front end : List Token) × (cs : List Command) × 
 pub step_takes : (room : ℕ) (before : List Command) (ts : List Token) (x : List Command × List Token) → step_at room before ts ≡ Some x → length before ≤ room → StepTaken room before ts x
 unfolding step_at
 step_takes room before ts x e le =
-    let a = bind_some (closed_at ts) _ x e in
+    let a = bind_some (terminated_at ts) _ x e in
     let b = bind_some (added room before a.0.0) _ x a.2 in
     let c = closed_takes ts a.0 a.1 in
     let d = added_is room before b.0 a.0.0 b.1 le in
@@ -158,7 +158,7 @@ not_empty h = let long : 1 ≤ 0 = commands_long h in omega (arith, long)
 
 -- a statement doesn't begin as the setup
 pub no_setup : {ts : List Token} {cs : List Command} → IsCommands (token.Word word.Setup ∷ ts) cs → ⊥
-unfolding commands_at step_at closed_at command_at statement_at
+unfolding commands_at step_at terminated_at command_at statement_at
 no_setup {ts} {cs} h = let read : commands_at (length cs) (token.Word word.Setup ∷ ts) ≡ Some cs = commands_again h (length cs) (omega arith) in absurd (cc read)
 
 -- the loop over the statements of a line
@@ -173,7 +173,7 @@ steps_on (suc k) room before after (t ∷ ts) rest total some le fits so_far rea
     let less : length rest < length (t ∷ ts) = step_short room before (t ∷ ts) (after, rest) read fits in
     (k, omega (arith, le, less), sym (rw read refl) ∙ so_far)
 
-pub step_fails : (k room : ℕ) (before : List Command) (e : Stop) (ts : List Token) (total : Option (List Command)) → 1 ≤ length ts → length ts ≤ k → more_commands ts k room before ≡ total
+pub step_fails : (k room : ℕ) (before : List Command) (e : Refusal) (ts : List Token) (total : Option (List Command)) → 1 ≤ length ts → length ts ≤ k → more_commands ts k room before ≡ total
     → Fails e (step_at room before ts) → Fails e total
 unfolding more_commands
 step_fails k room before e [] total some le so_far fails = absurd (omega (arith, some))

@@ -8,7 +8,7 @@ use Rattle.lab_script.specs.declared.token.Token.TheVariants as token
 use Rattle.lab_script.specs.Grammar.{IsNumber}
 use Rattle.lab_script.specs.Grammar as grammar
 use Rattle.lab_script.specs.Reading.{◌>>=◌, after, digits_at, magnitude_at, number_at}
-use Rattle.lab_script.proofs.Same.{after_is, bind_some, some_is}
+use Rattle.lab_script.proofs.TokenNumbers.{after_is, bind_some, some_is}
 
 pub magnitude_again : (n : ℕ) (rest : List Token) → n ≤ 1000000000 → magnitude_at (token.Digits n ∷ rest) ≡ Some (n, rest)
 unfolding magnitude_at digits_at

@@ -10,7 +10,7 @@ use Rattle.lab_script.specs.Grammar.{Kind, P, A, N, IsAtom, IsPred, IsWhere}
 use Rattle.lab_script.specs.Grammar as grammar
 use Rattle.lab_script.specs.Reading.{after, more_of}
 use Rattle.lab_script.specs.ReadingPredicates.{atom_at, joined_of, term_at, conj_at, pred_at, where_at}
-use Rattle.lab_script.proofs.Same.{after_is, bind_some, some_is, when_takes}
+use Rattle.lab_script.proofs.TokenNumbers.{after_is, bind_some, some_is, when_takes}
 use Rattle.lab_script.proofs.ReadNumbers.{Taken, under}
 use Rattle.lab_script.proofs.ReadAtoms.{atom_again, atom_takes}
 use Rattle.lab_script.proofs.Loops.{Reader, starts, goes_on, ends}

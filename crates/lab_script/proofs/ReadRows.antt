@@ -11,7 +11,7 @@ use Rattle.lab_script.specs.Grammar.{IsNumber, IsId, IsRow}
 use Rattle.lab_script.specs.Grammar as grammar
 use Rattle.lab_script.specs.Reading.{◌>>=◌, after, digits_at, number_at}
 use Rattle.lab_script.specs.ReadingRows.{id_at, row_at}
-use Rattle.lab_script.proofs.Same.{bind_some, some_is}
+use Rattle.lab_script.proofs.TokenNumbers.{bind_some, some_is}
 use Rattle.lab_script.proofs.ReadNumbers.{Taken, number_again, number_takes, digits_take, after_then, under}
 
 -- what a minus stands before is no id

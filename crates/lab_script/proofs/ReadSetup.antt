@@ -10,14 +10,14 @@ use Rattle.lab_table.specs.Table.{Table}
 use Rattle.lab_script.specs.declared.token.Word.TheVariants as word
 use Rattle.lab_script.specs.declared.token.Token.{Token}
 use Rattle.lab_script.specs.declared.token.Token.TheVariants as token
-use Rattle.lab_script.specs.declared.stop.Stop.{Stop}
+use Rattle.lab_script.specs.declared.refusal.Refusal.{Refusal}
 use Rattle.lab_script.specs.Grammar.{IsRow, IsRows, IsRowList, IsEnd, IsSetup, AllDistinct}
 use Rattle.lab_script.specs.Grammar as grammar
 use Rattle.lab_script.specs.Printed.{printed_setup}
 use Rattle.lab_script.specs.Reading.{Gives, ◌>>=◌, is_token, after, is_end}
 use Rattle.lab_script.specs.ReadingRows.{row_at}
 use Rattle.lab_script.specs.ReadingSetup.{row_onto, rows_onto, rows_at, no_rows_at, table_at, ends_setup, setup_at}
-use Rattle.lab_script.proofs.Same.{same_token, after_is, bind_some, some_is}
+use Rattle.lab_script.proofs.TokenNumbers.{same_token, after_is, bind_some, some_is}
 use Rattle.lab_script.proofs.ReadNumbers.{after_then, under}
 use Rattle.lab_script.proofs.ReadRows.{RowTaken, row_takes}
 use Rattle.lab_script.proofs.SetupLoop.{behind_row}
@@ -151,7 +151,7 @@ setup_takes ts table e =
     setup_made ts a.0 table b.0 a.1 (table_takes a.0 b.0 b.1) b.2
 
 -- the same, as the code meets it
-pub setup_found : (ts : List Token) (r : Result Table Stop) → Gives (λ x. x) r (setup_at ts) → IfOk r (λ table. IsSetup ts table)
+pub setup_found : (ts : List Token) (r : Result Table Refusal) → Gives (λ x. x) r (setup_at ts) → IfOk r (λ table. IsSetup ts table)
 setup_found ts (Ok table) given = setup_takes ts table given
 setup_found ts (Err e) given = tt
 

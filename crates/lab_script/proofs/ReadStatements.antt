@@ -19,7 +19,7 @@ use Rattle.lab_script.specs.ReadingRows.{row_at}
 use Rattle.lab_script.specs.ReadingPredicates.{where_at}
 use Rattle.lab_script.specs.ReadingStatements.{expr_at, select_at, update_at, insert_at, delete_at, statement_at, ended_at, whole_statement_at}
 use Rattle.lab_script.specs.Grammar.{IsWholeStatement}
-use Rattle.lab_script.proofs.Same.{same_token, after_is, bind_some, some_is, when_takes, some}
+use Rattle.lab_script.proofs.TokenNumbers.{same_token, after_is, bind_some, some_is, when_takes, some}
 use Rattle.lab_script.proofs.ReadNumbers.{Taken, number_again, number_then, under}
 use Rattle.lab_script.proofs.ReadRows.{row_again, row_takes}
 use Rattle.lab_script.proofs.ReadPredicates.{IsUnjoined, where_again, where_takes}

@@ -17,7 +17,7 @@ use Rattle.lab_script.specs.Script as script
 use Rattle.lab_script.specs.Script.{code_of, remark_of, session_of, is_passed, IsFit, BeginsSetup, extended, LineSpells, LinesSpell}
 use Rattle.lab_script.proofs.ReadCommands.{commands_once, not_empty}
 use Rattle.lab_script.proofs.ReadSetup.{setup_once, setup_begins}
-use Rattle.lab_script.proofs.Same.{some_is}
+use Rattle.lab_script.proofs.TokenNumbers.{some_is}
 
 -- blanks have no tokens
 pub no_tokens : (code : List ℕ) → list_all is_blank code ≡ true → tokens code ≡ []

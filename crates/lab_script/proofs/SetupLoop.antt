@@ -3,7 +3,7 @@ use Rattle.std.proofs.Common.{◌≡◌, ℕ, zero, suc, ◌≤◌, ◌<◌, Lis
 use Rattle.lab_table.specs.Table.{Table}
 use Rattle.lab_script.specs.declared.token.Token.{Token}
 use Rattle.lab_script.specs.declared.token.Token.TheVariants as token
-use Rattle.lab_script.specs.declared.stop.Stop.{Stop}
+use Rattle.lab_script.specs.declared.refusal.Refusal.{Refusal}
 use Rattle.lab_script.specs.Reading.{Fails, after}
 use Rattle.lab_script.specs.ReadingSetup.{row_onto, rows_onto}
 use Rattle.lab_script.proofs.Loops.{fails_none}
@@ -12,7 +12,7 @@ abbrev pub Read : Type 0
 Read = Option (Table × List Token)
 
 -- where a row can't be read or added, the rows can't
-pub row_fails : (k : ℕ) (table : Table) (e : Stop) (ts : List Token) (total : Read) → length ts < k → rows_onto k table ts ≡ total → Fails e (row_onto table ts) → Fails e total
+pub row_fails : (k : ℕ) (table : Table) (e : Refusal) (ts : List Token) (total : Read) → length ts < k → rows_onto k table ts ≡ total → Fails e (row_onto table ts) → Fails e total
 unfolding rows_onto
 row_fails zero table e ts total lt so_far h = absurd (omega (arith, lt))
 row_fails (suc k) table e ts total lt so_far h = fails_none e (row_onto table ts) h total (λ none. sym so_far ∙ rw (rows_onto, none) refl)

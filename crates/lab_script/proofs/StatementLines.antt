@@ -11,7 +11,7 @@ use Rattle.lab_table.specs.declared.table.TableFault.{TableFault}
 use Rattle.lab_table.specs.declared.table.TableFault.TheVariants.{NoMemory, DuplicateKey, OutOfRange}
 use Rattle.lab_script.specs.Printed.{printed_statement, printed_id, newline, rows_or}
 use Rattle.lab_script.specs.Transcript.{row_text, refusal_text, answer_text, statement_text, table_with}
-use Rattle.lab_script.specs.Told.{fault_text}
+use Rattle.lab_script.specs.TranscriptView.{fault_text}
 use Rattle.lab_table.proofs.Running.{fault_is_due}
 
 -- a statement that runs lists its rows

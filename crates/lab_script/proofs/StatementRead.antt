@@ -14,7 +14,7 @@ use Rattle.lab_script.specs.Ranges.{StatementInRange}
 use Rattle.lab_script.specs.ReadingStatements.{whole_statement_at}
 use Rattle.lab_script.specs.Script.{code_of, is_code_byte, SpellsStatement}
 use Rattle.lab_script.specs.StatementText.{is_code_alone, statement_in}
-use Rattle.lab_script.proofs.Same.{some_is}
+use Rattle.lab_script.proofs.TokenNumbers.{some_is}
 use Rattle.lab_script.proofs.ReadStatements.{whole_again, whole_takes}
 use Rattle.lab_script.proofs.StatementText.{all_code}
 use Rattle.lab_script.proofs.PrintedStatements.{statement_spells}

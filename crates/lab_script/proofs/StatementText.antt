@@ -3,14 +3,14 @@ use Rattle.std.proofs.Common.{◌≡◌, ℕ, ◌<◌, ◌≤◌, Bool, true, co
 use Rattle.std.specs.List.{list_all}
 use Rattle.std.proofs.lemmas.Bool.{cases_Bool}
 use Rattle.lab_table.specs.declared.statement.Statement.{Statement}
-use Rattle.lab_script.specs.declared.stop.GrammarFault.{GrammarFault}
-use Rattle.lab_script.specs.declared.stop.GrammarFault.TheVariants as grammar
-use Rattle.lab_script.specs.declared.stop.Stop.{Stop}
-use Rattle.lab_script.specs.declared.stop.Stop.TheVariants as stop
+use Rattle.lab_script.specs.declared.refusal.GrammarFault.{GrammarFault}
+use Rattle.lab_script.specs.declared.refusal.GrammarFault.TheVariants as grammar
+use Rattle.lab_script.specs.declared.refusal.Refusal.{Refusal}
+use Rattle.lab_script.specs.declared.refusal.Refusal.TheVariants as refusal
 use Rattle.lab_script.specs.declared.token.Token.{Token}
 use Rattle.lab_script.specs.declared.token.Token.TheVariants as token
 use Rattle.lab_script.specs.Token.{tokens}
-use Rattle.lab_script.specs.Fault.{SaysOfStatement, IsStatementFault, kind_of, stop_at}
+use Rattle.lab_script.specs.Fault.{SaysOfStatement, IsStatementFault, kind_of, refusal_at}
 use Rattle.lab_script.specs.Grammar.{IsWholeStatement}
 use Rattle.lab_script.specs.HeldTokens.{held_tokens, AreStatementTokens}
 use Rattle.lab_script.specs.Script.{begins_remark, code_of, is_code_byte, SpellsStatement}
@@ -79,6 +79,6 @@ module _ (text : List ℕ) (ts : List Token) (are : AreStatementTokens text ts) 
   says_of grammar.DuplicateSetupRow = (short, ascii)
 
   -- where reading these tokens stopped, the text spells nothing
-  pub stop_fault : (s : Stop) → ((t : Statement) → IsWholeStatement ts t → Fails s (Some t)) → IsStatementFault text (stop_at s 1)
-  stop_fault stop.NoMemory fails = tt
-  stop_fault (stop.Fault f) fails = (refl, λ t spells. let none = fails t (spelled_tokens t spells) in absurd cc, says_of f)
+  pub stop_fault : (s : Refusal) → ((t : Statement) → IsWholeStatement ts t → Fails s (Some t)) → IsStatementFault text (refusal_at s 1)
+  stop_fault refusal.NoMemory fails = tt
+  stop_fault (refusal.Fault f) fails = (refl, λ t spells. let none = fails t (spelled_tokens t spells) in absurd cc, says_of f)

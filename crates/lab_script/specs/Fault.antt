@@ -10,10 +10,10 @@ use Rattle.lab_script.specs.declared.fault.ScriptFault.{ScriptFault}
 use Rattle.lab_script.specs.declared.fault.ScriptFault.TheVariants as fault
 use Rattle.lab_script.specs.declared.fault.ScriptFaultKind.{ScriptFaultKind}
 use Rattle.lab_script.specs.declared.fault.ScriptFaultKind.TheVariants as kinds
-use Rattle.lab_script.specs.declared.stop.GrammarFault.{GrammarFault}
-use Rattle.lab_script.specs.declared.stop.GrammarFault.TheVariants as grammar
-use Rattle.lab_script.specs.declared.stop.Stop.{Stop}
-use Rattle.lab_script.specs.declared.stop.Stop.TheVariants as stop
+use Rattle.lab_script.specs.declared.refusal.GrammarFault.{GrammarFault}
+use Rattle.lab_script.specs.declared.refusal.GrammarFault.TheVariants as grammar
+use Rattle.lab_script.specs.declared.refusal.Refusal.{Refusal}
+use Rattle.lab_script.specs.declared.refusal.Refusal.TheVariants as refusal
 use Rattle.lab_script.specs.declared.script.Script.{Script}
 use Rattle.lab_script.specs.declared.token.Token.{Token}
 use Rattle.lab_script.specs.Token.{tokens}
@@ -121,9 +121,9 @@ kind_of grammar.TooLong = kinds.TooLong
 kind_of grammar.DuplicateSetupRow = kinds.DuplicateSetupRow
 
 -- the fault of a script whose line with this number stopped so
-abbrev pub stop_at : Stop → ℕ → ScriptFault
-stop_at stop.NoMemory number = fault.NoMemory
-stop_at (stop.Fault f) number = fault.At number (kind_of f)
+abbrev pub refusal_at : Refusal → ℕ → ScriptFault
+refusal_at refusal.NoMemory number = fault.NoMemory
+refusal_at (refusal.Fault f) number = fault.At number (kind_of f)
 
 -- the name of a kind
 abbrev pub kind_name : ScriptFaultKind → List ℕ

@@ -4,9 +4,9 @@ use Rattle.lab_script.specs.declared.token.Word.{Word}
 use Rattle.lab_script.specs.declared.token.Word.TheVariants as word
 use Rattle.lab_script.specs.declared.token.Token.{Token}
 use Rattle.lab_script.specs.declared.token.Token.TheVariants as token
-use Rattle.lab_script.specs.declared.stop.GrammarFault.TheVariants as grammar
-use Rattle.lab_script.specs.declared.stop.Stop.{Stop}
-use Rattle.lab_script.specs.declared.stop.Stop.TheVariants as stop
+use Rattle.lab_script.specs.declared.refusal.GrammarFault.TheVariants as grammar
+use Rattle.lab_script.specs.declared.refusal.Refusal.{Refusal}
+use Rattle.lab_script.specs.declared.refusal.Refusal.TheVariants as refusal
 
 -- A number for each word.
 abbrev pub word_number : Word → ℕ
@@ -72,15 +72,15 @@ abbrev pub ◌>>=◌ : {A B : Type 0} → Option A → (A → Option B) → Opti
 None >>= f = None
 
 -- reading fails too, or memory ran out
-abbrev pub Fails : {Y : Type 0} → Stop → Option Y → Type 0
-Fails stop.NoMemory read = Unit {0}
-Fails (stop.Fault kind) read = read ≡ None
+abbrev pub Fails : {Y : Type 0} → Refusal → Option Y → Type 0
+Fails refusal.NoMemory read = Unit {0}
+Fails (refusal.Fault kind) read = read ≡ None
 
 -- reading stopped because something is too long, or memory ran out
-abbrev pub StopsTooLong : {X : Type 0} → Result X Stop → Type 0
-StopsTooLong (Ok x) = ⊥
-StopsTooLong (Err stop.NoMemory) = Unit {0}
-StopsTooLong (Err (stop.Fault kind)) = kind ≡ grammar.TooLong
+abbrev pub RefusesTooLong : {X : Type 0} → Result X Refusal → Type 0
+RefusesTooLong (Ok x) = ⊥
+RefusesTooLong (Err refusal.NoMemory) = Unit {0}
+RefusesTooLong (Err (refusal.Fault kind)) = kind ≡ grammar.TooLong
 
 -- what follows a token that was found, or else what comes in its place
 abbrev pub when : {X : Type 0} → Option (List Token) → (List Token → Option X) → Option X → Option X
@@ -88,7 +88,7 @@ when (Some rest) found other = found rest
 when None found other = other
 
 -- what a function returned, seen by view, is what reading gives, unless memory ran out
-abbrev pub Gives : {X Y : Type 0} → (X → Y) → Result X Stop → Option Y → Type 0
+abbrev pub Gives : {X Y : Type 0} → (X → Y) → Result X Refusal → Option Y → Type 0
 Gives view (Ok x) read = read ≡ Some (view x)
 Gives view (Err e) read = Fails e read
 

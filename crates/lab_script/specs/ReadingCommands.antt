@@ -45,8 +45,8 @@ is_short (Some (command.Run s)) = nat_le (length (printed_statement s)) max_stat
 is_short c = true
 
 -- a statement of a line with its end
-unfoldable pub closed_at : List Token → Option (Option Command × List Token)
-closed_at ts = do
+unfoldable pub terminated_at : List Token → Option (Option Command × List Token)
+terminated_at ts = do
   c ← command_at ts
   rest ← ended_at c.1
   if is_short c.0 then Some (c.0, rest) else None
@@ -59,7 +59,7 @@ added room cs (Some c) = if nat_lt (length cs) room then Some (cs ++ c ∷ []) e
 -- commands with that of the next statement
 unfoldable pub step_at : ℕ → List Command → List Token → Option (List Command × List Token)
 step_at room cs ts = do
-  c ← closed_at ts
+  c ← terminated_at ts
   ds ← added room cs c.0
   Some (ds, c.1)
 

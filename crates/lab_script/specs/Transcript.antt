@@ -14,7 +14,7 @@ use Rattle.lab_script.specs.declared.script.Script.{Script}
 use Rattle.lab_script.specs.Printed.{printed_statement, printed_list, printed_id, newline}
 
 -- a transaction: its session, its statements, and whether it ends in a commit
-pub record Whole : Type 0 where
+pub record Transaction : Type 0 where
   pub session : ℕ
   pub statements : List Statement
   pub commits : Bool
@@ -44,8 +44,8 @@ commits_of session [] = false
 commits_of session (line ∷ lines) = if line.session == session then commits_on line.command (commits_of session lines) else commits_of session lines
 
 -- the transaction of a session whose begin stands before these lines
-abbrev pub whole_of : ℕ → List Line → Whole
-whole_of session lines = record { session = session; statements = statements_of session lines; commits = commits_of session lines }
+abbrev pub transaction_of : ℕ → List Line → Transaction
+transaction_of session lines = record { session = session; statements = statements_of session lines; commits = commits_of session lines }
 
 -- whether a session is inside a transaction, from a command of it and whether it was before
 abbrev pub inside_on : Command → Bool → Bool
@@ -59,8 +59,8 @@ abbrev pub inside_after : (ℕ → Bool) → ℕ → Command → ℕ → Bool
 inside_after inside session command s = if s == session then inside_on command (inside s) else inside s
 
 -- the sessions whose number has a mark
-abbrev pub marked : List Bool → ℕ → Bool
-marked marks s = slice_index_or marks s false
+abbrev pub sessions_in : List Bool → ℕ → Bool
+sessions_in marks s = slice_index_or marks s false
 
 -- before the first command no session is inside a transaction
 abbrev pub nobody : ℕ → Bool
@@ -74,10 +74,10 @@ is_begin command.Abort = false
 is_begin (command.Run s) = false
 
 -- the transactions in the order of their begins, while some sessions are inside one
-abbrev pub transactions : (ℕ → Bool) → List Line → List Whole
+abbrev pub transactions : (ℕ → Bool) → List Line → List Transaction
 transactions inside [] = []
 transactions inside (line ∷ lines) =
-    (if is_begin line.command && not (inside line.session) then whole_of line.session lines ∷ [] else [])
+    (if is_begin line.command && not (inside line.session) then transaction_of line.session lines ∷ [] else [])
     ++ transactions (inside_after inside line.session line.command) lines
 
 -- the name of a row, if there is one
@@ -122,21 +122,21 @@ committed table [] commits = if commits then Some table else None
 committed table (s ∷ statements) commits = elim (table_with s table) [ None ↦ None | Some after ↦ committed after statements commits ]
 
 -- the table after a transaction: an abort puts it back
-abbrev pub table_after : Table → Whole → Table
-table_after table whole = unwrap_or (committed table whole.statements whole.commits) table
+abbrev pub table_after : Table → Transaction → Table
+table_after table txn = unwrap_or (committed table txn.statements txn.commits) table
 
 -- the first line of a transaction
 abbrev pub heading_text : ℕ → ℕ → List ℕ
 heading_text n session = codes "txn " ++ decimal n ++ codes " T" ++ decimal session ++ newline
 
 -- the lines of a transaction, from a table
-abbrev pub whole_text : ℕ → Table → Whole → List ℕ
-whole_text n table whole = heading_text n whole.session ++ body_text table whole.statements whole.commits
+abbrev pub transaction_text : ℕ → Table → Transaction → List ℕ
+transaction_text n table txn = heading_text n txn.session ++ body_text table txn.statements txn.commits
 
 -- the lines of transactions, of which the first has this number, and the table in the end
-abbrev pub serial_text : ℕ → Table → List Whole → List ℕ
+abbrev pub serial_text : ℕ → Table → List Transaction → List ℕ
 serial_text n table [] = codes "end " ++ printed_list table ++ newline
-serial_text n table (whole ∷ wholes) = whole_text n table whole ++ serial_text (n + 1) (table_after table whole) wholes
+serial_text n table (txn ∷ txns) = transaction_text n table txn ++ serial_text (n + 1) (table_after table txn) txns
 
 -- what is printed where a script's transactions run whole, in the order of their begins
 abbrev pub transcript : Script → List ℕ

@@ -5,7 +5,7 @@ ghost use Rattle.lab_script.specs.Reading.{Gives};
 ghost use Rattle.lab_script.specs.ReadingPredicates.{cmp_of, col_at, cmp_at, modulus_at, numbers_at, number_list_at, compare_at, remainder_at, one_of_at, atom_at};
 
 use crate::parser::Parser;
-use crate::stop::{GrammarFault, Stop};
+use crate::refusal::{GrammarFault, Refusal};
 use crate::token::{Token, Word};
 use lab_table::{Cmp, Col, Modulus, Numbers, Pred, PredKind, Value};
 use std::alloc::Global;
@@ -28,7 +28,7 @@ fn cmp_of(token: Token) -> Option<Cmp>
 impl Parser<'_> {
     /// A comparison, a remainder or a list.
     #[tactic(auto, unfolding(crate::specs::ReadingPredicates::atom_at))]
-    pub fn atom(&mut self, alloc: Global) -> Result<Pred, Stop>
+    pub fn atom(&mut self, alloc: Global) -> Result<Pred, Refusal>
         ensures gives { Gives (λ x. (x, self.new)) result (atom_at self.old) }
         ensures shorter { length self.new ≤ length self.old }
     {
@@ -44,7 +44,7 @@ impl Parser<'_> {
 
     /// A column.
     #[tactic(auto, unfolding(crate::specs::ReadingPredicates::col_at))]
-    fn col(&mut self) -> Result<Col, Stop>
+    fn col(&mut self) -> Result<Col, Refusal>
         ensures gives { Gives (λ x. (x, self.new)) result (col_at self.old) }
         ensures shorter { length self.new ≤ length self.old }
     {
@@ -58,7 +58,7 @@ impl Parser<'_> {
 
     /// What stands behind the column of a comparison.
     #[tactic(auto, unfolding(crate::specs::ReadingPredicates::compare_at))]
-    fn compare(&mut self, col: Col) -> Result<Pred, Stop>
+    fn compare(&mut self, col: Col) -> Result<Pred, Refusal>
         ensures gives { Gives (λ x. (x, self.new)) result (compare_at col self.old) }
         ensures shorter { length self.new ≤ length self.old }
     {
@@ -71,14 +71,14 @@ impl Parser<'_> {
 
     /// A sign that compares.
     #[tactic(auto, unfolding(crate::specs::ReadingPredicates::cmp_at))]
-    fn cmp(&mut self) -> Result<Cmp, Stop>
+    fn cmp(&mut self) -> Result<Cmp, Refusal>
         ensures gives { Gives (λ x. (x, self.new)) result (cmp_at self.old) }
         ensures shorter { length self.new ≤ length self.old }
     {
         match self.rest.split_first() {
-            None => Err(Stop::Fault(GrammarFault::UnknownStatement)),
+            None => Err(Refusal::Fault(GrammarFault::UnknownStatement)),
             Some((first, rest)) => match cmp_of(*first) {
-                None => Err(Stop::Fault(GrammarFault::UnknownStatement)),
+                None => Err(Refusal::Fault(GrammarFault::UnknownStatement)),
                 Some(cmp) => {
                     self.rest = rest;
                     Ok(cmp)
@@ -89,7 +89,7 @@ impl Parser<'_> {
 
     /// What stands behind the percent sign of a remainder.
     #[tactic(auto, unfolding(crate::specs::ReadingPredicates::remainder_at))]
-    fn remainder(&mut self, col: Col) -> Result<Pred, Stop>
+    fn remainder(&mut self, col: Col) -> Result<Pred, Refusal>
         ensures gives { Gives (λ x. (x, self.new)) result (remainder_at col self.old) }
         ensures shorter { length self.new ≤ length self.old }
     {
@@ -103,21 +103,21 @@ impl Parser<'_> {
 
     /// A modulus, from 1 to 1,000,000. Digits behind a minus are a number that is out of this range.
     #[tactic(auto, unfolding(crate::specs::ReadingPredicates::modulus_at))]
-    fn modulus(&mut self) -> Result<Modulus, Stop>
+    fn modulus(&mut self) -> Result<Modulus, Refusal>
         ensures gives { Gives (λ x. (x, self.new)) result (modulus_at self.old) }
         ensures shorter { length self.new ≤ length self.old }
     {
         let negative = self.took(Token::Minus);
         let number = self.digits()?;
         if negative {
-            return Err(Stop::Fault(GrammarFault::NumberOutOfRange));
+            return Err(Refusal::Fault(GrammarFault::NumberOutOfRange));
         }
-        Modulus::new(number).ok_or(Stop::Fault(GrammarFault::NumberOutOfRange))
+        Modulus::new(number).ok_or(Refusal::Fault(GrammarFault::NumberOutOfRange))
     }
 
     /// What stands behind the `in` of a list.
     #[tactic(auto, unfolding(crate::specs::ReadingPredicates::one_of_at))]
-    fn one_of(&mut self, alloc: Global, col: Col) -> Result<Pred, Stop>
+    fn one_of(&mut self, alloc: Global, col: Col) -> Result<Pred, Refusal>
         ensures gives { Gives (λ x. (x, self.new)) result (one_of_at col self.old) }
         ensures shorter { length self.new ≤ length self.old }
     {
@@ -129,7 +129,7 @@ impl Parser<'_> {
 
     /// Numbers in parentheses, which may be none.
     #[tactic(auto, unfolding(crate::specs::ReadingPredicates::number_list_at))]
-    fn number_list(&mut self, alloc: Global) -> Result<Numbers, Stop>
+    fn number_list(&mut self, alloc: Global) -> Result<Numbers, Refusal>
         ensures gives { Gives (λ x. (x, self.new)) result (number_list_at self.old) }
         ensures shorter { length self.new ≤ length self.old }
     {
@@ -144,7 +144,7 @@ impl Parser<'_> {
 
     /// Numbers with a comma between two of them.
     #[tactic(auto, unfolding(crate::specs::ReadingPredicates::numbers_at))]
-    fn numbers(&mut self, alloc: Global) -> Result<Vec<Value>, Stop>
+    fn numbers(&mut self, alloc: Global) -> Result<Vec<Value>, Refusal>
         ensures gives { Gives (λ x. (x.items, self.new)) result (numbers_at self.old) }
         ensures shorter { length self.new ≤ length self.old }
     {

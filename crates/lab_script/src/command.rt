@@ -3,11 +3,11 @@
 ghost use Rattle.std.specs.Prelude.{◌≡◌, ◌∷◌, [], ◌≤◌, if◌then◌else◌, length, Some, None, OnOk};
 ghost use Rattle.std.specs.List.{prefix_len};
 ghost use Rattle.lab_script.specs.Reading.{Gives};
-ghost use Rattle.lab_script.specs.ReadingCommands.{is_word, words_at, level_at, command_at, is_short, closed_at, added, step_at, commands_at};
+ghost use Rattle.lab_script.specs.ReadingCommands.{is_word, words_at, level_at, command_at, is_short, terminated_at, added, step_at, commands_at};
 
 use crate::parser::Parser;
 use crate::statement::check_length;
-use crate::stop::{GrammarFault, Stop};
+use crate::refusal::{GrammarFault, Refusal};
 use crate::token::{Token, Word};
 use lab_table::Command;
 use std::alloc::Global;
@@ -15,7 +15,7 @@ use std::alloc::Global;
 impl Parser<'_> {
     /// The commands of all statements of a line, of which there is room for so many.
     #[tactic(auto, unfolding(crate::specs::ReadingCommands::commands_at))]
-    pub fn commands(&mut self, alloc: Global, room: usize) -> Result<Vec<Command>, Stop>
+    pub fn commands(&mut self, alloc: Global, room: usize) -> Result<Vec<Command>, Refusal>
         ensures { Gives (λ x. x.items) result (commands_at room self.old) }
     {
         let mut commands = Vec::new(alloc);
@@ -28,17 +28,17 @@ impl Parser<'_> {
 
     /// Reads a statement with its end, and adds its command.
     #[tactic(auto, unfolding(crate::specs::ReadingCommands::step_at))]
-    fn step(&mut self, alloc: Global, room: usize, commands: &mut Vec<Command>) -> Result<(), Stop>
+    fn step(&mut self, alloc: Global, room: usize, commands: &mut Vec<Command>) -> Result<(), Refusal>
         ensures { Gives (λ x. (commands.new.items, self.new)) result (step_at room commands.old.items self.old) }
     {
-        let command = self.closed(alloc)?;
+        let command = self.terminated(alloc)?;
         add(commands, room, command)
     }
 
     /// A statement with its end, and its command if it gives one.
-    #[tactic(auto, unfolding(crate::specs::ReadingCommands::closed_at))]
-    fn closed(&mut self, alloc: Global) -> Result<Option<Command>, Stop>
-        ensures { Gives (λ x. (x, self.new)) result (closed_at self.old) }
+    #[tactic(auto, unfolding(crate::specs::ReadingCommands::terminated_at))]
+    fn terminated(&mut self, alloc: Global) -> Result<Option<Command>, Refusal>
+        ensures { Gives (λ x. (x, self.new)) result (terminated_at self.old) }
     {
         let command = self.command(alloc)?;
         self.ended()?;
@@ -48,7 +48,7 @@ impl Parser<'_> {
 
     /// A statement, and its command if it gives one.
     #[tactic(auto, unfolding(crate::specs::ReadingCommands::command_at))]
-    fn command(&mut self, alloc: Global) -> Result<Option<Command>, Stop>
+    fn command(&mut self, alloc: Global) -> Result<Option<Command>, Refusal>
         ensures { Gives (λ x. (x, self.new)) result (command_at self.old) }
     {
         if self.took(Token::Word(Word::Begin)) {
@@ -70,7 +70,7 @@ impl Parser<'_> {
 
     /// The words that set a level, from behind the first on.
     #[tactic(auto, unfolding(crate::specs::ReadingCommands::level_at))]
-    fn level(&mut self) -> Result<(), Stop>
+    fn level(&mut self) -> Result<(), Refusal>
         ensures { Gives (λ x. self.new) result (level_at self.old) }
     {
         self.expect_all(&[
@@ -83,14 +83,14 @@ impl Parser<'_> {
 
     /// Words, at least one.
     #[tactic(auto, unfolding(crate::specs::ReadingCommands::words_at))]
-    fn words(&mut self) -> Result<(), Stop>
+    fn words(&mut self) -> Result<(), Refusal>
         ensures { Gives (λ x. self.new) result (words_at self.old) }
     {
         match self.rest.split_first() {
-            None => Err(Stop::Fault(GrammarFault::UnknownStatement)),
+            None => Err(Refusal::Fault(GrammarFault::UnknownStatement)),
             Some((first, rest)) => {
                 if !is_word(*first) {
-                    return Err(Stop::Fault(GrammarFault::UnknownStatement));
+                    return Err(Refusal::Fault(GrammarFault::UnknownStatement));
                 }
                 let (_, behind) = rest.split_at(words_len(rest));
                 self.rest = behind;
@@ -118,7 +118,7 @@ fn words_len(tokens: &[Token]) -> usize
 }
 
 /// The printed form of a command is as short as it must be.
-fn check_short(command: &Option<Command>) -> Result<(), Stop>
+fn check_short(command: &Option<Command>) -> Result<(), Refusal>
     ensures { Gives (λ x. x) result (if is_short command.now then Some tt else None) }
 {
     match command {
@@ -128,14 +128,14 @@ fn check_short(command: &Option<Command>) -> Result<(), Stop>
 }
 
 /// Adds a command, if there is one, and room for it.
-fn add(commands: &mut Vec<Command>, room: usize, command: Option<Command>) -> Result<(), Stop>
+fn add(commands: &mut Vec<Command>, room: usize, command: Option<Command>) -> Result<(), Refusal>
     ensures { Gives (λ x. commands.new.items) result (added room commands.old.items command) }
 {
     let Some(command) = command else {
         return Ok(());
     };
     if commands.len() >= room {
-        return Err(Stop::Fault(GrammarFault::TooLong));
+        return Err(Refusal::Fault(GrammarFault::TooLong));
     }
     commands.push(command)?;
     Ok(())

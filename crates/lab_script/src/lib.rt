@@ -49,7 +49,7 @@ mod setup;
 mod spelling;
 mod statement;
 mod statement_text;
-mod stop;
+mod refusal;
 mod token;
 mod transcript;
 

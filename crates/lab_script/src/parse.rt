@@ -1,8 +1,8 @@
 //! Reading a script's text line by line.
 
 ghost use Rattle.std.specs.Prelude.{◌≡◌, ◌+◌, ◌≤◌, length, [], IfOk, OnOk, IfErr, IfSome, MatchResult, MatchBool, List, ℕ, Some, None};
-ghost use Rattle.lab_table.specs.Table.{Table as Rows};
-ghost use Rattle.lab_script.specs.declared.script.Script.{Script as Whole};
+ghost use Rattle.lab_table.specs.Table.{Table as PlainTable};
+ghost use Rattle.lab_script.specs.declared.script.Script.{Script as PlainScript};
 ghost use Rattle.lab_script.specs.Grammar.{IsSetup};
 ghost use Rattle.lab_script.specs.Script.{Spells, LineSpells, BeginsSetup, AddsCommands};
 ghost use Rattle.lab_script.specs.Fault.{IsFaultOf, IsLineFault, IsTokensFault};
@@ -24,7 +24,7 @@ use std::alloc::Global;
 pub fn parse_script(alloc: Global, text: &[u8]) -> Result<Script, ScriptFault>
     ensures found { IfOk result (λ script. Spells text.now script) }
     // A text spells one script at most, and it is read unless memory runs out.
-    ensures only { (script : Whole) → Spells text.now script → MatchResult result (λ read. read ≡ script) (λ fault. fault ≡ ScriptFault.NoMemory) }
+    ensures only { (script : PlainScript) → Spells text.now script → MatchResult result (λ read. read ≡ script) (λ fault. fault ≡ ScriptFault.NoMemory) }
     ensures prints { IfOk result ScriptPrints }
     ensures fault { IfErr result (IsFaultOf text.now) }
 {
@@ -93,7 +93,7 @@ fn begins_setup(tokens: &[Token]) -> bool
 
 /// The script with the setup of the line that has these tokens.
 fn setup_script(alloc: Global, number: u32, tokens: &[Token]) -> Result<Script, ScriptFault>
-    ensures found { IfOk result (λ script. (table : Rows) × IsSetup tokens.now table × (script ≡ record { setup = table; lines = [] })) }
+    ensures found { IfOk result (λ script. (table : PlainTable) × IsSetup tokens.now table × (script ≡ record { setup = table; lines = [] })) }
     ensures fault { (remark : List ℕ) → IfErr result (IsTokensFault number tokens.now remark None) }
 {
     if !begins_setup(tokens) {
@@ -104,7 +104,7 @@ fn setup_script(alloc: Global, number: u32, tokens: &[Token]) -> Result<Script, 
             setup,
             lines: Lines::new(Vec::new(alloc)),
         }),
-        Err(stop) => Err(stop.at(number)),
+        Err(refusal) => Err(refusal.at(number)),
     }
 }
 
@@ -126,7 +126,7 @@ fn add_commands(
     let room = MAX_COMMANDS - script.lines.as_slice().len();
     let commands = match read_commands(alloc, tokens, room) {
         Ok(commands) => commands,
-        Err(stop) => return Err(stop.at(number)),
+        Err(refusal) => return Err(refusal.at(number)),
     };
     let Some(session) = session_of(remark) else {
         return Err(at(number, ScriptFaultKind::NoSession));

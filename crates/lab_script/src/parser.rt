@@ -7,7 +7,7 @@ ghost use Rattle.lab_table.specs.declared.statement.Statement.{Statement as Spel
 ghost use Rattle.lab_script.specs.Grammar.{IsCommands, IsWholeStatement};
 ghost use Rattle.lab_script.specs.Reading.{after, after_all, digits_at, magnitude_at, number_at, Fails, Gives};
 
-use crate::stop::{GrammarFault, Stop};
+use crate::refusal::{GrammarFault, Refusal};
 use crate::token::{Token, Word};
 use lab_table::{Command, Statement, Value};
 use std::alloc::Global;
@@ -37,13 +37,13 @@ impl<'a> Parser<'a> {
     }
 
     /// Nothing may be left.
-    pub fn nothing_left(&self) -> Result<(), Stop>
+    pub fn nothing_left(&self) -> Result<(), Refusal>
         ensures { Gives (λ x. x) result (if length self.now == 0 then Some tt else None) }
     {
         if self.is_done() {
             Ok(())
         } else {
-            Err(Stop::Fault(GrammarFault::UnknownStatement))
+            Err(Refusal::Fault(GrammarFault::UnknownStatement))
         }
     }
 
@@ -66,19 +66,19 @@ impl<'a> Parser<'a> {
     }
 
     /// Takes this token, which must be the first.
-    pub fn expect(&mut self, token: Token) -> Result<(), Stop>
+    pub fn expect(&mut self, token: Token) -> Result<(), Refusal>
         ensures gives { Gives (λ x. self.new) result (after token self.old) }
         ensures shorter { length self.new ≤ length self.old }
     {
         if self.took(token) {
             Ok(())
         } else {
-            Err(Stop::Fault(GrammarFault::UnknownStatement))
+            Err(Refusal::Fault(GrammarFault::UnknownStatement))
         }
     }
 
     /// Takes these tokens, which must be the first.
-    pub fn expect_all(&mut self, tokens: &[Token]) -> Result<(), Stop>
+    pub fn expect_all(&mut self, tokens: &[Token]) -> Result<(), Refusal>
         ensures { Gives (λ x. self.new) result (after_all tokens.now self.old) }
     {
         for token in tokens {
@@ -89,25 +89,25 @@ impl<'a> Parser<'a> {
 
     /// Digits, and their number.
     #[tactic(auto, unfolding(crate::specs::Reading::digits_at))]
-    pub fn digits(&mut self) -> Result<u32, Stop>
+    pub fn digits(&mut self) -> Result<u32, Refusal>
         ensures gives { Gives (λ x. (x, self.new)) result (digits_at self.old) }
         ensures shorter { length self.new ≤ length self.old }
     {
         match self.rest.split_first() {
-            None => Err(Stop::Fault(GrammarFault::UnknownStatement)),
+            None => Err(Refusal::Fault(GrammarFault::UnknownStatement)),
             Some((first, rest)) => match first {
                 Token::Digits(number) => {
                     self.rest = rest;
                     Ok(*number)
                 }
-                _ => Err(Stop::Fault(GrammarFault::UnknownStatement)),
+                _ => Err(Refusal::Fault(GrammarFault::UnknownStatement)),
             },
         }
     }
 
     /// A number without a sign, up to 1,000,000,000.
     #[tactic(auto, unfolding(crate::specs::Reading::magnitude_at))]
-    pub fn magnitude(&mut self) -> Result<u32, Stop>
+    pub fn magnitude(&mut self) -> Result<u32, Refusal>
         ensures gives { Gives (λ x. (x, self.new)) result (magnitude_at self.old) }
         ensures shorter { length self.new ≤ length self.old }
         ensures below { IfOk result (λ x. x ≤ 1000000000) }
@@ -116,13 +116,13 @@ impl<'a> Parser<'a> {
         if number <= 1_000_000_000 {
             Ok(number)
         } else {
-            Err(Stop::Fault(GrammarFault::NumberOutOfRange))
+            Err(Refusal::Fault(GrammarFault::NumberOutOfRange))
         }
     }
 
     /// A number, from -1,000,000,000 to 1,000,000,000.
     #[tactic(auto, unfolding(crate::specs::Reading::number_at))]
-    pub fn number(&mut self) -> Result<Value, Stop>
+    pub fn number(&mut self) -> Result<Value, Refusal>
         ensures gives { Gives (λ x. (x, self.new)) result (number_at self.old) }
         ensures shorter { length self.new ≤ length self.old }
     {
@@ -131,13 +131,13 @@ impl<'a> Parser<'a> {
         } else {
             i64::from(self.magnitude()?)
         };
-        Value::new(number).ok_or(Stop::Fault(GrammarFault::NumberOutOfRange))
+        Value::new(number).ok_or(Refusal::Fault(GrammarFault::NumberOutOfRange))
     }
 }
 
 /// The commands of a line, of which there is room for so many.
 /// NoMemory may come in place of any other answer.
-pub fn read_commands(alloc: Global, tokens: &[Token], room: usize) -> Result<Vec<Command>, Stop>
+pub fn read_commands(alloc: Global, tokens: &[Token], room: usize) -> Result<Vec<Command>, Refusal>
     // What is read is in the grammar.
     ensures found { IfOk result (λ commands. IsCommands tokens.now commands.items) }
     ensures within { IfOk result (λ commands. length commands.items ≤ room) }
@@ -147,13 +147,13 @@ pub fn read_commands(alloc: Global, tokens: &[Token], room: usize) -> Result<Vec
     let mut parser = Parser { rest: tokens };
     match parser.commands(alloc, room) {
         Ok(commands) => Ok(commands),
-        Err(stop) => Err(placed(stop, tokens, parser.rest.len())),
+        Err(refusal) => Err(placed(refusal, tokens, parser.rest.len())),
     }
 }
 
 /// One statement, with a semicolon behind it or none.
 /// NoMemory may come in place of any other answer.
-pub fn read_statement(alloc: Global, tokens: &[Token]) -> Result<Statement, Stop>
+pub fn read_statement(alloc: Global, tokens: &[Token]) -> Result<Statement, Refusal>
     // What is read is in the grammar.
     ensures found { IfOk result (IsWholeStatement tokens.now) }
     // What is in the grammar is read, unless memory runs out.
@@ -162,22 +162,22 @@ pub fn read_statement(alloc: Global, tokens: &[Token]) -> Result<Statement, Stop
     let mut parser = Parser { rest: tokens };
     match parser.whole_statement(alloc) {
         Ok(statement) => Ok(statement),
-        Err(stop) => Err(placed(stop, tokens, parser.rest.len())),
+        Err(refusal) => Err(placed(refusal, tokens, parser.rest.len())),
     }
 }
 
 /// The stop of a line of which so many tokens are left: behind a `where` of its statement an unknown token is a bad predicate.
-fn placed(stop: Stop, tokens: &[Token], left: usize) -> Stop
-    ensures stops { (read : Option (List Spelled)) → Fails stop read → Fails result read }
-    ensures stops_statement { (read : Option SpelledStatement) → Fails stop read → Fails result read }
+fn placed(refusal: Refusal, tokens: &[Token], left: usize) -> Refusal
+    ensures stops { (read : Option (List Spelled)) → Fails refusal read → Fails result read }
+    ensures stops_statement { (read : Option SpelledStatement) → Fails refusal read → Fails result read }
 {
-    match stop {
-        Stop::Fault(GrammarFault::UnknownStatement) => {
+    match refusal {
+        Refusal::Fault(GrammarFault::UnknownStatement) => {
             let read = tokens.len().saturating_sub(left);
             if ends_in_predicate(&tokens[..read]) {
-                Stop::Fault(GrammarFault::BadPredicate)
+                Refusal::Fault(GrammarFault::BadPredicate)
             } else {
-                Stop::Fault(GrammarFault::UnknownStatement)
+                Refusal::Fault(GrammarFault::UnknownStatement)
             }
         }
         other => other,

@@ -7,7 +7,7 @@ ghost use Rattle.lab_script.specs.ReadingPredicates.{term_at, conj_at, pred_at, 
 
 use crate::limits::MAX_DEPTH;
 use crate::parser::Parser;
-use crate::stop::{GrammarFault, Stop};
+use crate::refusal::{GrammarFault, Refusal};
 use crate::token::{Token, Word};
 use lab_table::{Pred, PredKind};
 use std::alloc::Global;
@@ -15,7 +15,7 @@ use std::alloc::Global;
 impl Parser<'_> {
     /// The predicate behind a `where`, if one stands here.
     #[tactic(auto, unfolding(crate::specs::ReadingPredicates::where_at))]
-    pub fn where_clause(&mut self, alloc: Global) -> Result<Option<Pred>, Stop>
+    pub fn where_clause(&mut self, alloc: Global) -> Result<Option<Pred>, Refusal>
         ensures { Gives (λ x. (x, self.new)) result (where_at self.old) }
     {
         if self.took(Token::Word(Word::Where)) {
@@ -29,7 +29,7 @@ impl Parser<'_> {
     /// A predicate that may have an `or` at its top, under which this many parentheses and `not`s may still be open.
     #[cycle(pred)]
     #[tactic(auto, unfolding(crate::specs::ReadingPredicates::pred_at))]
-    fn pred(&mut self, alloc: Global, depth: u8) -> Result<Pred, Stop>
+    fn pred(&mut self, alloc: Global, depth: u8) -> Result<Pred, Refusal>
         ensures gives { Gives (λ x. (x, self.new)) result (pred_at depth self.old) }
         ensures shorter { length self.new ≤ length self.old }
     {
@@ -44,7 +44,7 @@ impl Parser<'_> {
     /// A predicate that may have an `and` at its top.
     #[cycle(pred)]
     #[tactic(auto, unfolding(crate::specs::ReadingPredicates::conj_at))]
-    fn conj(&mut self, alloc: Global, depth: u8) -> Result<Pred, Stop>
+    fn conj(&mut self, alloc: Global, depth: u8) -> Result<Pred, Refusal>
         ensures gives { Gives (λ x. (x, self.new)) result (conj_at depth self.old) }
         ensures shorter { length self.new ≤ length self.old }
     {
@@ -59,20 +59,20 @@ impl Parser<'_> {
     /// A predicate with neither at its top.
     #[cycle(pred)]
     #[tactic(auto, unfolding(crate::specs::ReadingPredicates::term_at, crate::specs::ReadingPredicates::pred_at, crate::specs::ReadingPredicates::conj_at))]
-    fn term(&mut self, alloc: Global, depth: u8) -> Result<Pred, Stop>
+    fn term(&mut self, alloc: Global, depth: u8) -> Result<Pred, Refusal>
         ensures gives { Gives (λ x. (x, self.new)) result (term_at depth self.old) }
         ensures shorter { length self.new ≤ length self.old }
     {
         if self.took(Token::Word(Word::Not)) {
             if depth == 0 {
-                return Err(Stop::Fault(GrammarFault::TooDeep));
+                return Err(Refusal::Fault(GrammarFault::TooDeep));
             }
             let pred = self.term(alloc, depth - 1)?;
             return negation(alloc, pred);
         }
         if self.took(Token::Open) {
             if depth == 0 {
-                return Err(Stop::Fault(GrammarFault::TooDeep));
+                return Err(Refusal::Fault(GrammarFault::TooDeep));
             }
             let pred = self.pred(alloc, depth - 1)?;
             self.expect(Token::Close)?;
@@ -82,7 +82,7 @@ impl Parser<'_> {
     }
 }
 
-fn negation(alloc: Global, pred: Pred) -> Result<Pred, Stop>
+fn negation(alloc: Global, pred: Pred) -> Result<Pred, Refusal>
     ensures { Gives (λ x. x) result (Some (predicate.Not pred)) }
 {
     Ok(Pred {
@@ -90,7 +90,7 @@ fn negation(alloc: Global, pred: Pred) -> Result<Pred, Stop>
     })
 }
 
-fn conjunction(alloc: Global, left: Pred, right: Pred) -> Result<Pred, Stop>
+fn conjunction(alloc: Global, left: Pred, right: Pred) -> Result<Pred, Refusal>
     ensures { Gives (λ x. x) result (Some (predicate.And left right)) }
 {
     Ok(Pred {
@@ -98,7 +98,7 @@ fn conjunction(alloc: Global, left: Pred, right: Pred) -> Result<Pred, Stop>
     })
 }
 
-fn disjunction(alloc: Global, left: Pred, right: Pred) -> Result<Pred, Stop>
+fn disjunction(alloc: Global, left: Pred, right: Pred) -> Result<Pred, Refusal>
     ensures { Gives (λ x. x) result (Some (predicate.Or left right)) }
 {
     Ok(Pred {

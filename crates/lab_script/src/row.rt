@@ -5,28 +5,28 @@ ghost use Rattle.lab_script.specs.Reading.{Gives};
 ghost use Rattle.lab_script.specs.ReadingRows.{id_at, row_at};
 
 use crate::parser::Parser;
-use crate::stop::{GrammarFault, Stop};
+use crate::refusal::{GrammarFault, Refusal};
 use crate::token::Token;
 use lab_table::{RowId, Value};
 
 impl Parser<'_> {
     /// A row's name, from 1 to 999,999. Digits behind a minus are a number that is out of this range.
     #[tactic(auto, unfolding(crate::specs::ReadingRows::id_at))]
-    pub fn id(&mut self) -> Result<RowId, Stop>
+    pub fn id(&mut self) -> Result<RowId, Refusal>
         ensures gives { Gives (λ x. (x, self.new)) result (id_at self.old) }
         ensures shorter { length self.new ≤ length self.old }
     {
         let negative = self.took(Token::Minus);
         let number = self.digits()?;
         if negative {
-            return Err(Stop::Fault(GrammarFault::NumberOutOfRange));
+            return Err(Refusal::Fault(GrammarFault::NumberOutOfRange));
         }
-        RowId::new(number).ok_or(Stop::Fault(GrammarFault::NumberOutOfRange))
+        RowId::new(number).ok_or(Refusal::Fault(GrammarFault::NumberOutOfRange))
     }
 
     /// A row with its value: both in parentheses, with a comma between them.
     #[tactic(auto, unfolding(crate::specs::ReadingRows::row_at))]
-    pub fn row(&mut self) -> Result<(RowId, Value), Stop>
+    pub fn row(&mut self) -> Result<(RowId, Value), Refusal>
         ensures gives { Gives (λ x. (x, self.new)) result (row_at self.old) }
         ensures shorter { length self.new ≤ length self.old }
     {

@@ -2,8 +2,8 @@
 
 ghost use Rattle.std.specs.Prelude.{◌≡◌, ◌++◌, ◌&&◌, not, None, Some, cond, IfOk, IfSome, OnOk};
 ghost use Rattle.lab_script.specs.Limits.{AllPrint, SomeLine};
-ghost use Rattle.lab_script.specs.Told.{Breaks, broken_with, first_broken, shown_of, unprintable};
-ghost use Rattle.lab_script.specs.Transcript.{body_text, commits_of, committed, end_text, inside_after, inside_on, is_begin, marked, statement_text, statements_of, table_after, table_with, transcript, whole_of, whole_text};
+ghost use Rattle.lab_script.specs.TranscriptView.{Breaks, broken_with, first_broken, shown_of, unprintable};
+ghost use Rattle.lab_script.specs.Transcript.{body_text, commits_of, committed, end_text, inside_after, inside_on, is_begin, sessions_in, statement_text, statements_of, table_after, table_with, transcript, transaction_of, transaction_text};
 
 use crate::script::{Line, Script};
 use crate::transcript::Transcript;
@@ -17,12 +17,12 @@ const SESSIONS: usize = 10;
 /// A begin inside a transaction and any other command outside of one are left out.
 /// NoMemory where a growth was refused.
 pub fn run_serial(alloc: Global, script: &Script) -> Result<Transcript, NoMemory>
-    ensures text { IfOk result (λ told. told.text ≡ transcript script.now) }
-    ensures unprintable { IfOk result (λ told. told.unprintable ≡ unprintable script.now) }
-    ensures printed { IfOk result (λ told. AllPrint script.now.lines → told.unprintable ≡ None) }
-    ensures broken { IfOk result (λ told. IfSome told.unprintable (λ fault. SomeLine (Breaks fault) script.now)) }
+    ensures text { IfOk result (λ output. output.text ≡ transcript script.now) }
+    ensures unprintable { IfOk result (λ output. output.unprintable ≡ unprintable script.now) }
+    ensures printed { IfOk result (λ output. AllPrint script.now.lines → output.unprintable ≡ None) }
+    ensures broken { IfOk result (λ output. IfSome output.unprintable (λ fault. SomeLine (Breaks fault) script.now)) }
 {
-    let mut told = Transcript::new(alloc);
+    let mut output = Transcript::new(alloc);
     let mut table = script.setup.copy(alloc)?;
     let mut inside = [false; SESSIONS];
     let mut number = 0;
@@ -31,27 +31,27 @@ pub fn run_serial(alloc: Global, script: &Script) -> Result<Transcript, NoMemory
     while let Some((line, later)) = rest.split_first() {
         if begins(&inside, line) {
             number += 1;
-            run_transaction(alloc, &mut told, &mut table, number, line.session, later)?;
+            run_transaction(alloc, &mut output, &mut table, number, line.session, later)?;
         }
         note(&mut inside, line);
         rest = later;
     }
-    told.put(b"end ")?;
-    told.put_rows(table.rows())?;
-    told.put(b"\n")?;
-    Ok(told)
+    output.put(b"end ")?;
+    output.put_rows(table.rows())?;
+    output.put(b"\n")?;
+    Ok(output)
 }
 
 /// Whether a line begins a transaction.
 fn begins(inside: &[bool; SESSIONS], line: &Line) -> bool
-    ensures { result ≡ (is_begin line.now.command && not (marked inside.now line.now.session)) }
+    ensures { result ≡ (is_begin line.now.command && not (sessions_in inside.now line.now.session)) }
 {
     matches!(line.command, Command::Begin) && !inside[usize::from(line.session.number())]
 }
 
 /// Notes whether a line's session is inside a transaction after it.
 fn note(inside: &mut [bool; SESSIONS], line: &Line)
-    ensures { marked inside.new ≡ inside_after (marked inside.old) line.now.session line.now.command }
+    ensures { sessions_in inside.new ≡ inside_after (sessions_in inside.old) line.now.session line.now.command }
 {
     let session = usize::from(line.session.number());
     inside[session] = is_inside(&line.command, inside[session]);
@@ -71,19 +71,19 @@ fn is_inside(command: &Command, before: bool) -> bool
 /// An abort puts the table back.
 fn run_transaction(
     alloc: Global,
-    told: &mut Transcript,
+    output: &mut Transcript,
     table: &mut Table,
     number: usize,
     session: Session,
     lines: &[Line],
 ) -> Result<(), NoMemory>
-    ensures text { OnOk result (told.new.text ≡ told.old.text ++ whole_text number table.old (whole_of session lines.now)) }
-    ensures unprintable { OnOk result (told.new.unprintable ≡ first_broken told.old.unprintable (shown_of table.old (statements_of session lines.now))) }
-    ensures table { OnOk result (table.new ≡ table_after table.old (whole_of session lines.now)) }
+    ensures text { OnOk result (output.new.text ≡ output.old.text ++ transaction_text number table.old (transaction_of session lines.now)) }
+    ensures unprintable { OnOk result (output.new.unprintable ≡ first_broken output.old.unprintable (shown_of table.old (statements_of session lines.now))) }
+    ensures table { OnOk result (table.new ≡ table_after table.old (transaction_of session lines.now)) }
 {
     let before = table.copy(alloc)?;
-    told.put_heading(number, session)?;
-    if !run_body(alloc, told, table, session, lines)? {
+    output.put_heading(number, session)?;
+    if !run_body(alloc, output, table, session, lines)? {
         *table = before;
     }
     Ok(())
@@ -92,49 +92,49 @@ fn run_transaction(
 /// Runs a statement and appends its line. Answers whether it ran: one that is refused leaves the table as it was.
 fn run_statement(
     alloc: Global,
-    told: &mut Transcript,
+    output: &mut Transcript,
     table: &mut Table,
     statement: &Statement,
 ) -> Result<bool, NoMemory>
-    ensures text { OnOk result (told.new.text ≡ told.old.text ++ statement_text statement.now table.old) }
-    ensures unprintable { OnOk result (told.new.unprintable ≡ broken_with told.old.unprintable statement.now) }
+    ensures text { OnOk result (output.new.text ≡ output.old.text ++ statement_text statement.now table.old) }
+    ensures unprintable { OnOk result (output.new.unprintable ≡ broken_with output.old.unprintable statement.now) }
     ensures table { IfOk result (λ ran. table_with statement.now table.old ≡ cond ran (Some table.new) None) }
 {
-    told.put_statement(statement)?;
-    told.put(b" -> ")?;
+    output.put_statement(statement)?;
+    output.put(b" -> ")?;
     let ran = match table.run(alloc, statement) {
         Ok(rows) => {
-            told.put_rows(&rows)?;
+            output.put_rows(&rows)?;
             true
         }
         Err(fault) => {
-            told.put_fault(&fault)?;
+            output.put_fault(&fault)?;
             false
         }
     };
-    told.put(b"\n")?;
+    output.put(b"\n")?;
     Ok(ran)
 }
 
 /// Appends the last line of a transaction.
-fn put_end(told: &mut Transcript, commits: bool) -> Result<(), NoMemory>
-    ensures text { OnOk result (told.new.text ≡ told.old.text ++ end_text commits) }
-    ensures unprintable { OnOk result (told.new.unprintable ≡ told.old.unprintable) }
+fn put_end(output: &mut Transcript, commits: bool) -> Result<(), NoMemory>
+    ensures text { OnOk result (output.new.text ≡ output.old.text ++ end_text commits) }
+    ensures unprintable { OnOk result (output.new.unprintable ≡ output.old.unprintable) }
 {
-    told.put(if commits { b"commit\n" } else { b"abort\n" })
+    output.put(if commits { b"commit\n" } else { b"abort\n" })
 }
 
 /// Runs a session's statements up to its first commit or abort, and appends their lines and that of the end.
 /// Answers whether they commit: where they don't, the table is left as the last of them made it.
 fn run_body(
     alloc: Global,
-    told: &mut Transcript,
+    output: &mut Transcript,
     table: &mut Table,
     session: Session,
     lines: &[Line],
 ) -> Result<bool, NoMemory>
-    ensures text { OnOk result (told.new.text ≡ told.old.text ++ body_text table.old (statements_of session lines.now) (commits_of session lines.now)) }
-    ensures unprintable { OnOk result (told.new.unprintable ≡ first_broken told.old.unprintable (shown_of table.old (statements_of session lines.now))) }
+    ensures text { OnOk result (output.new.text ≡ output.old.text ++ body_text table.old (statements_of session lines.now) (commits_of session lines.now)) }
+    ensures unprintable { OnOk result (output.new.unprintable ≡ first_broken output.old.unprintable (shown_of table.old (statements_of session lines.now))) }
     ensures table { IfOk result (λ commits. committed table.old (statements_of session lines.now) (commits_of session lines.now) ≡ cond commits (Some table.new) None) }
 {
     for line in lines {
@@ -142,16 +142,16 @@ fn run_body(
             match &line.command {
                 Command::Begin => {}
                 Command::Commit => {
-                    put_end(told, true)?;
+                    put_end(output, true)?;
                     return Ok(true);
                 }
                 Command::Abort => {
-                    put_end(told, false)?;
+                    put_end(output, false)?;
                     return Ok(false);
                 }
                 Command::Run(statement) => {
-                    if !run_statement(alloc, told, table, statement)? {
-                        put_end(told, false)?;
+                    if !run_statement(alloc, output, table, statement)? {
+                        put_end(output, false)?;
                         return Ok(false);
                     }
                 }
@@ -160,6 +160,6 @@ fn run_body(
     }
     // A transaction without an end aborts.
     let commits = false;
-    put_end(told, commits)?;
+    put_end(output, commits)?;
     Ok(commits)
 }

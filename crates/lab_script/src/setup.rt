@@ -8,7 +8,7 @@ ghost use Rattle.lab_script.specs.ReadingSetup.{row_onto, rows_at, no_rows_at, t
 
 use crate::fits::setup_fits;
 use crate::parser::Parser;
-use crate::stop::{GrammarFault, Stop};
+use crate::refusal::{GrammarFault, Refusal};
 use crate::token::{Token, Word};
 use lab_table::Table;
 use std::alloc::Global;
@@ -16,7 +16,7 @@ use std::alloc::Global;
 impl Parser<'_> {
     /// Adds a row to the table; DuplicateSetupRow where it is present.
     #[tactic(auto, unfolding(crate::specs::ReadingSetup::row_onto))]
-    fn row_onto(&mut self, alloc: Global, table: &mut Table) -> Result<(), Stop>
+    fn row_onto(&mut self, alloc: Global, table: &mut Table) -> Result<(), Refusal>
         ensures gives { Gives (λ x. (table.new, self.new)) result (row_onto table.old self.old) }
         ensures shorter { length self.new ≤ length self.old }
     {
@@ -24,12 +24,12 @@ impl Parser<'_> {
         if table.add(alloc, row.0, row.1)? {
             Ok(())
         } else {
-            Err(Stop::Fault(GrammarFault::DuplicateSetupRow))
+            Err(Refusal::Fault(GrammarFault::DuplicateSetupRow))
         }
     }
 
     /// The table of one row or more.
-    fn rows(&mut self, alloc: Global) -> Result<Table, Stop>
+    fn rows(&mut self, alloc: Global) -> Result<Table, Refusal>
         ensures { Gives (λ x. (x, self.new)) result (rows_at self.old) }
     {
         let mut table = Table::new(alloc);
@@ -57,7 +57,7 @@ impl Parser<'_> {
 
     /// The table of a setup.
     #[tactic(auto, unfolding(crate::specs::ReadingSetup::table_at))]
-    fn table(&mut self, alloc: Global) -> Result<Table, Stop>
+    fn table(&mut self, alloc: Global) -> Result<Table, Refusal>
         ensures { Gives (λ x. (x, self.new)) result (table_at self.old) }
     {
         if self.took_no_rows() {
@@ -69,7 +69,7 @@ impl Parser<'_> {
 
     /// The end of the setup of this table, which is its `;` or the end of the line.
     /// TooLong where the printed line is over 4,000 bytes; then what stands behind the `;` doesn't matter.
-    fn setup_end(&mut self, table: &Table) -> Result<(), Stop>
+    fn setup_end(&mut self, table: &Table) -> Result<(), Refusal>
         ensures { Gives (λ x. x) result (if ends_setup table.now self.old then Some tt else None) }
     {
         if !self.took(Token::Semicolon) {
@@ -78,13 +78,13 @@ impl Parser<'_> {
         if setup_fits(table) {
             self.nothing_left()
         } else {
-            Err(Stop::Fault(GrammarFault::TooLong))
+            Err(Refusal::Fault(GrammarFault::TooLong))
         }
     }
 
     /// A setup, all of the line.
     #[tactic(auto, unfolding(crate::specs::ReadingSetup::setup_at))]
-    fn setup(&mut self, alloc: Global) -> Result<Table, Stop>
+    fn setup(&mut self, alloc: Global) -> Result<Table, Refusal>
         ensures { Gives (λ x. x) result (setup_at self.old) }
     {
         self.expect(Token::Word(Word::Setup))?;
@@ -100,7 +100,7 @@ impl Parser<'_> {
 /// has there; NumberOutOfRange for an id or a value out of its range; DuplicateSetupRow at the end of a row
 /// that came before; TooLong at the end of a setup whose printed line is over 4,000 bytes.
 /// NoMemory may come in place of any other answer.
-pub fn read_setup(alloc: Global, tokens: &[Token]) -> Result<Table, Stop>
+pub fn read_setup(alloc: Global, tokens: &[Token]) -> Result<Table, Refusal>
     // What is read is in the grammar.
     ensures found { IfOk result (λ table. IsSetup tokens.now table) }
     // What is in the grammar is read, unless memory runs out.

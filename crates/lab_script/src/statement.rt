@@ -5,12 +5,12 @@ ghost use Rattle.lab_table.specs.declared.statement.Statement.{Statement as Spel
 ghost use Rattle.lab_script.specs.declared.token.Token.{Token as Shown};
 ghost use Rattle.lab_script.specs.Limits.{max_statement_bytes};
 ghost use Rattle.lab_script.specs.Printed.{printed_statement};
-ghost use Rattle.lab_script.specs.Reading.{Gives, StopsTooLong};
+ghost use Rattle.lab_script.specs.Reading.{Gives, RefusesTooLong};
 ghost use Rattle.lab_script.specs.ReadingStatements.{expr_at, select_at, update_at, insert_at, delete_at, statement_at, ended_at, whole_statement_at};
 
 use crate::fits::statement_fits;
 use crate::parser::Parser;
-use crate::stop::{GrammarFault, Stop};
+use crate::refusal::{GrammarFault, Refusal};
 use crate::token::{Token, Word};
 use lab_table::{Expr, Statement};
 use std::alloc::Global;
@@ -18,10 +18,10 @@ use std::alloc::Global;
 impl Parser<'_> {
     /// One statement, which is all that is left, but for a semicolon.
     #[tactic(auto, unfolding(crate::specs::ReadingStatements::whole_statement_at))]
-    pub fn whole_statement(&mut self, alloc: Global) -> Result<Statement, Stop>
+    pub fn whole_statement(&mut self, alloc: Global) -> Result<Statement, Refusal>
         ensures gives { Gives (λ x. x) result (whole_statement_at self.old) }
         // A statement that is over its limit at its end is told before what stands behind it.
-        ensures long { (s : Spelled) (end behind : List Shown) → (statement_at self.old ≡ Some (s, end)) → (ended_at end ≡ Some behind) → max_statement_bytes < length (printed_statement s) → StopsTooLong result }
+        ensures long { (s : Spelled) (end behind : List Shown) → (statement_at self.old ≡ Some (s, end)) → (ended_at end ≡ Some behind) → max_statement_bytes < length (printed_statement s) → RefusesTooLong result }
     {
         let statement = self.statement(alloc)?;
         self.ended()?;
@@ -32,7 +32,7 @@ impl Parser<'_> {
 
     /// One of the four kinds of statement.
     #[tactic(auto, unfolding(crate::specs::ReadingStatements::statement_at))]
-    pub fn statement(&mut self, alloc: Global) -> Result<Statement, Stop>
+    pub fn statement(&mut self, alloc: Global) -> Result<Statement, Refusal>
         ensures { Gives (λ x. (x, self.new)) result (statement_at self.old) }
     {
         if self.took(Token::Word(Word::Select)) {
@@ -49,7 +49,7 @@ impl Parser<'_> {
 
     /// A select, from behind its first word on.
     #[tactic(auto, unfolding(crate::specs::ReadingStatements::select_at))]
-    fn select(&mut self, alloc: Global) -> Result<Statement, Stop>
+    fn select(&mut self, alloc: Global) -> Result<Statement, Refusal>
         ensures { Gives (λ x. (x, self.new)) result (select_at self.old) }
     {
         self.expect_all(&[
@@ -63,7 +63,7 @@ impl Parser<'_> {
 
     /// An update, from behind its first word on.
     #[tactic(auto, unfolding(crate::specs::ReadingStatements::update_at))]
-    fn update(&mut self, alloc: Global) -> Result<Statement, Stop>
+    fn update(&mut self, alloc: Global) -> Result<Statement, Refusal>
         ensures { Gives (λ x. (x, self.new)) result (update_at self.old) }
     {
         self.expect_all(&[
@@ -79,7 +79,7 @@ impl Parser<'_> {
 
     /// The new value of an update.
     #[tactic(auto, unfolding(crate::specs::ReadingStatements::expr_at))]
-    fn expr(&mut self) -> Result<Expr, Stop>
+    fn expr(&mut self) -> Result<Expr, Refusal>
         ensures { Gives (λ x. (x, self.new)) result (expr_at self.old) }
     {
         if !self.took(Token::Word(Word::Value)) {
@@ -94,7 +94,7 @@ impl Parser<'_> {
 
     /// An insert, from behind its first word on.
     #[tactic(auto, unfolding(crate::specs::ReadingStatements::insert_at))]
-    fn insert(&mut self) -> Result<Statement, Stop>
+    fn insert(&mut self) -> Result<Statement, Refusal>
         ensures { Gives (λ x. (x, self.new)) result (insert_at self.old) }
     {
         self.expect_all(&[
@@ -113,7 +113,7 @@ impl Parser<'_> {
 
     /// A delete, from behind its first word on.
     #[tactic(auto, unfolding(crate::specs::ReadingStatements::delete_at))]
-    fn delete(&mut self, alloc: Global) -> Result<Statement, Stop>
+    fn delete(&mut self, alloc: Global) -> Result<Statement, Refusal>
         ensures { Gives (λ x. (x, self.new)) result (delete_at self.old) }
     {
         self.expect_all(&[Token::Word(Word::From), Token::Word(Word::Test)])?;
@@ -123,14 +123,14 @@ impl Parser<'_> {
 
     /// The end of a statement: nothing is left, or a semicolon.
     #[tactic(auto, unfolding(crate::specs::ReadingStatements::ended_at))]
-    pub fn ended(&mut self) -> Result<(), Stop>
+    pub fn ended(&mut self) -> Result<(), Refusal>
         ensures { Gives (λ x. self.new) result (ended_at self.old) }
     {
         match self.rest.split_first() {
             None => Ok(()),
             Some((first, rest)) => {
                 if *first != Token::Semicolon {
-                    return Err(Stop::Fault(GrammarFault::UnknownStatement));
+                    return Err(Refusal::Fault(GrammarFault::UnknownStatement));
                 }
                 self.rest = rest;
                 Ok(())
@@ -140,14 +140,14 @@ impl Parser<'_> {
 }
 
 /// The printed form is as short as it must be.
-#[tactic(auto, using(crate::proofs::Same::same_test))]
-pub fn check_length(statement: &Statement) -> Result<(), Stop>
+#[tactic(auto, using(crate::proofs::TokenNumbers::same_test))]
+pub fn check_length(statement: &Statement) -> Result<(), Refusal>
     ensures gives { Gives (λ x. x) result (if nat_le (length (printed_statement statement.now)) max_statement_bytes then Some tt else None) }
-    ensures long { OnErr result (StopsTooLong result) }
+    ensures long { OnErr result (RefusesTooLong result) }
 {
     if statement_fits(statement) {
         Ok(())
     } else {
-        Err(Stop::Fault(GrammarFault::TooLong))
+        Err(Refusal::Fault(GrammarFault::TooLong))
     }
 }

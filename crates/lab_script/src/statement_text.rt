@@ -42,7 +42,7 @@ pub fn parse_statement(alloc: Global, text: &[u8]) -> Result<Statement, ScriptFa
     let tokens = statement_tokens(alloc, text)?;
     match read_statement(alloc, &tokens) {
         Ok(statement) => Ok(statement),
-        Err(stop) => Err(stop.at(1)),
+        Err(refusal) => Err(refusal.at(1)),
     }
 }
 

@@ -2,7 +2,7 @@
 
 ghost use Rattle.std.specs.Prelude.{◌≡◌, ◌++◌, [], None, codes, IfOk, IfErr, OnOk, ◌⊎◌, ◌≢◌, Some};
 ghost use Rattle.lab_script.specs.Printed.{printed_id, printed_statement, rows_or};
-ghost use Rattle.lab_script.specs.Told.{broken_with, fault_text, limit_broken};
+ghost use Rattle.lab_script.specs.TranscriptView.{broken_with, fault_text, limit_broken};
 ghost use Rattle.lab_script.specs.Transcript.{heading_text};
 
 use crate::print::{PrintFault, check_statement};
@@ -21,9 +21,9 @@ pub struct Transcript {
 }
 
 impl Model for Transcript {
-    ghost use Rattle.lab_script.specs.Told.{Told};
+    ghost use Rattle.lab_script.specs.TranscriptView.{TranscriptView};
 
-    ghost Value = { Told };
+    ghost Value = { TranscriptView };
 
     ghost view = { λ t. record { text = t.text.items; unprintable = t.unprintable } };
 }
@@ -124,13 +124,13 @@ fn limit_broken(statement: &Statement) -> Option<PrintFault>
 
 /// The text of a transcript, if each statement in it keeps the limits of a text.
 /// TooDeep or TooLong as the first that doesn't, depth first; NoMemory where a growth was refused.
-pub fn print_transcript(alloc: Global, told: &Transcript) -> Result<Vec<u8>, PrintFault>
-    ensures text { IfOk result (λ text. text.items ≡ told.now.text) }
-    ensures printed { IfOk result (λ text. told.now.unprintable ≡ None) }
-    ensures fault { IfErr result (λ fault. (fault ≡ PrintFault.NoMemory) ⊎ (told.now.unprintable ≡ Some fault)) }
+pub fn print_transcript(alloc: Global, output: &Transcript) -> Result<Vec<u8>, PrintFault>
+    ensures text { IfOk result (λ text. text.items ≡ output.now.text) }
+    ensures printed { IfOk result (λ text. output.now.unprintable ≡ None) }
+    ensures fault { IfErr result (λ fault. (fault ≡ PrintFault.NoMemory) ⊎ (output.now.unprintable ≡ Some fault)) }
 {
-    match told.unprintable {
-        None => Ok(Vec::from_slice(alloc, &told.text)?),
+    match output.unprintable {
+        None => Ok(Vec::from_slice(alloc, &output.text)?),
         Some(fault) => Err(fault),
     }
 }

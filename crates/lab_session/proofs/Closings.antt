@@ -5,7 +5,7 @@ use Rattle.lab_engine.specs.declared.event.Level.{Level}
 use Rattle.lab_engine.specs.declared.recording.RecordFault.{RecordFault}
 use Rattle.lab_engine.specs.declared.recording.RecordFault.TheVariants as record_fault
 use Rattle.lab_engine.specs.Log.{past_of}
-use Rattle.lab_engine.specs.Journal.{Kept}
+use Rattle.lab_engine.specs.Journal.{EngineRun}
 use Rattle.lab_engine.specs.Recording.{Line}
 use Rattle.lab_engine.specs.OverLimit.{IsRecordFault, BreaksLimit}
 use Rattle.lab_session.specs.declared.fault.CloseFault.{CloseFault}
@@ -15,13 +15,13 @@ use Rattle.lab_session.specs.Seats.{Seated}
 use Rattle.lab_session.specs.Closing.{AreClosed, IsCloseFault, close_fault_of}
 
 -- a log without a recording isn't closed
-pub unrecorded_is : (sessions : ℕ) (run : Kept) (seats : List Seated) (fault : RecordFault) → AreClosed sessions run.log seats → IsRecordFault run.setup (past_of run.log) fault
+pub unrecorded_is : (sessions : ℕ) (run : EngineRun) (seats : List Seated) (fault : RecordFault) → AreClosed sessions run.log seats → IsRecordFault run.setup (past_of run.log) fault
     → IsCloseFault sessions run seats (close_fault_of fault)
 unrecorded_is sessions run seats record_fault.NoMemory closed h = tt
 unrecorded_is sessions run seats (record_fault.OverLimit which) closed h = (closed, h)
 
 -- a play without seats isn't closed where its log breaks a limit
-pub unclosed_is : (level : Level) (setup : Table) (lines : List Line) (run : Kept) → run.setup ≡ setup → IsLegalPlay level setup lines run.log
+pub unclosed_is : (level : Level) (setup : Table) (lines : List Line) (run : EngineRun) → run.setup ≡ setup → IsLegalPlay level setup lines run.log
     → (fault : CloseFault) → IsCloseFault 0 run [] fault → IsScriptedFault level setup lines (unclosed_fault fault)
 unclosed_is level setup lines run same play NoMemory h = tt
 unclosed_is level setup lines run same play (SeatMissing session) h = absurd (omega (arith, h.1.from, h.1.within))

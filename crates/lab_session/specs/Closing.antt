@@ -5,7 +5,7 @@ use Rattle.lab_engine.specs.declared.event.LogEvent.{LogEvent}
 use Rattle.lab_engine.specs.declared.recording.RecordFault.{RecordFault}
 use Rattle.lab_engine.specs.declared.recording.RecordFault.TheVariants as record_fault
 use Rattle.lab_engine.specs.Log.{past_of}
-use Rattle.lab_engine.specs.Journal.{Kept}
+use Rattle.lab_engine.specs.Journal.{EngineRun}
 use Rattle.lab_engine.specs.OverLimit.{BreaksLimit}
 use Rattle.lab_session.specs.Bench.{IsSoundRun}
 use Rattle.lab_session.specs.Seats.{Seated, placed_calls, DifferFirst}
@@ -60,7 +60,7 @@ pub record AreClosed (sessions : ℕ) (log : List LogEvent) (seats : List Seated
   pub agree : AllAgree log seats
 
 -- what a refusal to close says, in the order in which each is looked for; memory may be wanting at any time
-abbrev pub IsCloseFault : ℕ → Kept → List Seated → CloseFault → Type 0
+abbrev pub IsCloseFault : ℕ → EngineRun → List Seated → CloseFault → Type 0
 IsCloseFault sessions run seats NoMemory = Unit {0}
 IsCloseFault sessions run seats (SeatRepeated session) = IsLeastRepeated seats session
 IsCloseFault sessions run seats (SeatMissing session) = NoneRepeated seats × IsLeastMissing sessions seats session
@@ -69,7 +69,7 @@ IsCloseFault sessions run seats (OverLimit which) = AreClosed sessions run.log s
 
 -- a refusal to close is right of some bench
 abbrev pub IsLabCloseFault : ℕ → List Seated → CloseFault → Type 0
-IsLabCloseFault sessions seats fault = (run : Kept) × IsSoundRun run × IsCloseFault sessions run seats fault
+IsLabCloseFault sessions seats fault = (run : EngineRun) × IsSoundRun run × IsCloseFault sessions run seats fault
 
 -- why a run isn't closed, where the log has no recording
 abbrev pub close_fault_of : RecordFault → CloseFault

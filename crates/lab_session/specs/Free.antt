@@ -4,7 +4,7 @@ use Rattle.std.specs.List.{All}
 use Rattle.lab_table.specs.declared.statement.Command.{Command}
 use Rattle.lab_engine.specs.declared.event.LogEvent.{LogEvent}
 use Rattle.lab_engine.specs.Log.{past_of}
-use Rattle.lab_engine.specs.Journal.{Kept}
+use Rattle.lab_engine.specs.Journal.{EngineRun}
 use Rattle.lab_engine.specs.Recording.{Line}
 use Rattle.lab_engine.specs.OverLimit.{BreaksLimit}
 use Rattle.lab_session.specs.declared.seat.Call.{Call}
@@ -61,7 +61,7 @@ IsStop Full = Unit {0}
 -- why a free play has no recording: the legal log of such a play breaks a limit; what a lock holds and which threads were given no definition says
 abbrev pub IsFreeFault : List Line → PlayFault → Type 0
 IsFreeFault lines NoMemory = Unit {0}
-IsFreeFault lines (OverLimit which) = (run : Kept) × IsSoundRun run × AllSessionsPlayed lines run.log × BreaksLimit run.setup (past_of run.log) which
+IsFreeFault lines (OverLimit which) = (run : EngineRun) × IsSoundRun run × AllSessionsPlayed lines run.log × BreaksLimit run.setup (past_of run.log) which
 IsFreeFault lines (Close fault) = Unit {0}
 IsFreeFault lines NoThread = Unit {0}
 IsFreeFault lines Full = Unit {0}

@@ -5,7 +5,7 @@ use Rattle.lab_engine.specs.declared.event.Outcome.{Outcome}
 use Rattle.lab_engine.specs.declared.event.LogEvent.{LogEvent}
 use Rattle.lab_engine.specs.Log.{Past, past_of}
 use Rattle.lab_engine.specs.Recording.{Line, given, lines_by, next_line, AllFollowScript}
-use Rattle.lab_engine.specs.Journal.{Kept}
+use Rattle.lab_engine.specs.Journal.{EngineRun}
 use Rattle.lab_script.specs.declared.script.Line.{Line as ScriptLine}
 use Rattle.lab_session.specs.Bench.{IsSoundRun}
 use Rattle.lab_session.specs.Play.{given_lines}
@@ -33,7 +33,7 @@ abbrev pub HasMore : List LogEvent → List LogEvent → ℕ → Command → Typ
 HasMore old new session command = (outcome : Outcome) × (new ≡ old ++ record { session = session; command = command; outcome = outcome } ∷ [])
 
 -- a play that has followed a script so far, with how many lines each session has given
-pub record IsUnderWay (run : Kept) (lines : List Line) (counts : List ℕ) : Type 0 where
+pub record IsUnderWay (run : EngineRun) (lines : List Line) (counts : List ℕ) : Type 0 where
   pub sound : IsSoundRun run
   pub follows : AllFollowScript run.level run.setup lines (past_of run.log)
   pub of_sessions : AllOfSessions (past_of run.log)

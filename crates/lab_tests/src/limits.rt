@@ -60,8 +60,8 @@ fn script(alloc: Global, begins: usize, statement: Statement) -> Result<Script, 
 }
 
 fn transcript(alloc: Global, script: &Script) -> Result<Option<PrintFault>, NoMemory> {
-    let told = run_serial(alloc, script)?;
-    Ok(print_transcript(alloc, &told).err())
+    let output = run_serial(alloc, script)?;
+    Ok(print_transcript(alloc, &output).err())
 }
 
 #[test]

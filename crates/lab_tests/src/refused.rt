@@ -77,13 +77,13 @@ fn copied(alloc: Global, command: &Command) -> Result<Vec<u8>, PrintFault> {
 }
 
 /// A text of a script, printed, with its transcript; or the line of its fault.
-fn told(alloc: Global, text: &[u8]) -> Result<Vec<u8>, PrintFault> {
+fn printed(alloc: Global, text: &[u8]) -> Result<Vec<u8>, PrintFault> {
     match parse_script(alloc, text) {
         Ok(script) => {
-            let mut told = print_script(alloc, &script)?;
+            let mut printed = print_script(alloc, &script)?;
             let transcript = print_transcript(alloc, &run_serial(alloc, &script)?)?;
-            told.extend_from_slice(&transcript)?;
-            Ok(told)
+            printed.extend_from_slice(&transcript)?;
+            Ok(printed)
         }
         Err(ScriptFault::NoMemory) => Err(PrintFault::NoMemory),
         Err(fault) => Ok(print_script_fault(alloc, &fault)?),
@@ -108,7 +108,7 @@ fn texts_that_are_refused_memory_are_not_made(rt: HostRuntime) -> Result<(), Fai
             let made = if text.is_empty() {
                 copied(alloc, &command)
             } else {
-                told(alloc, text.as_bytes())
+                printed(alloc, text.as_bytes())
             };
             let refused = was_refused(alloc);
             match made {

@@ -6,7 +6,7 @@ use std::alloc::{AllocError, Global};
 use std::test::Fail;
 
 /// The line that tells a text's fault; nothing where it is read.
-fn told(alloc: Global, text: &[u8]) -> Result<Vec<u8>, NoMemory> {
+fn outcome(alloc: Global, text: &[u8]) -> Result<Vec<u8>, NoMemory> {
     match parse_statement(alloc, text) {
         Ok(_) => Ok(Vec::new(alloc)),
         Err(ScriptFault::NoMemory) => Err(AllocError),
@@ -43,7 +43,7 @@ fn a_statement_is_code_alone(rt: HostRuntime) -> Result<(), Fail> {
         let mut code = vec![in rt.alloc(); b' '; spaces]?;
         code.extend_from_slice(text.as_bytes())?;
         assert_eq!(rt;
-            told(rt.alloc(), &code)?.as_slice(),
+            outcome(rt.alloc(), &code)?.as_slice(),
             fault.as_bytes(),
             "{spaces} {text}"
         );

@@ -2,7 +2,7 @@
 
 ghost use Rattle.std.specs.Prelude.{◌≡◌, ◌≤◌, ◌+◌, ◌==◌, ◌++◌, ◌∷◌, [], length, IfOk};
 ghost use Rattle.std.specs.List.{list_any};
-ghost use Rattle.lab_history.specs.Kept.{operations};
+ghost use Rattle.lab_history.specs.HistoryRules.{operations};
 ghost use Rattle.lab_history.specs.Limits.{max_operations};
 
 use crate::transaction::{Txn, Txns};
@@ -27,7 +27,7 @@ impl Model for Earlier {
     ghost use Rattle.std.specs.Coded.{coded_list};
     ghost use Rattle.lab_history.specs.declared.transaction.Txn.{Txn};
     ghost use Rattle.lab_history.specs.contracts.transaction.Txn as txn;
-    ghost use Rattle.lab_history.specs.Kept.{operations};
+    ghost use Rattle.lab_history.specs.HistoryRules.{operations};
     ghost use Rattle.lab_history.specs.Limits.{max_operations};
 
     ghost Value = { List Txn };

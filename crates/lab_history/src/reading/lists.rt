@@ -14,17 +14,17 @@ use crate::entry::{installed_of, values_of, view_of, writes_of};
 use crate::fault::FileFault;
 use crate::operation::{State, VersionName};
 use crate::path::{ListPlace, Path};
-use crate::stop::{Stop, wrong};
+use crate::refusal::{Refusal, wrong};
 use crate::transaction::Installers;
 use lab_table::{RowId, Value};
 use serde_json::Value as Json;
 use std::alloc::Global;
 
 /// The value at a key, where a list has to be.
-fn list_at<'v>(json: &'v Json, key: &str, place: ListPlace) -> Result<&'v Json, Stop>
+fn list_at<'v>(json: &'v Json, key: &str, place: ListPlace) -> Result<&'v Json, Refusal>
     ensures found { IfOk result (λ list. view list.now ≡ at_key key.now (view json.now)) }
-    ensures missing { IfErr result (λ stop. at_key key.now (view json.now) ≡ null) }
-    ensures fault { IfErr result (λ stop. stop ≡ Stop.Fault (FileFault.WrongFormat (Path.List place))) }
+    ensures missing { IfErr result (λ refusal. at_key key.now (view json.now) ≡ null) }
+    ensures fault { IfErr result (λ refusal. refusal ≡ Refusal.Fault (FileFault.WrongFormat (Path.List place))) }
 {
     match json.get(key) {
         Some(list) => Ok(list),
@@ -38,7 +38,7 @@ pub fn values_at(
     json: &Json,
     key: &str,
     place: ListPlace,
-) -> Result<Vec<(RowId, Value)>, Stop>
+) -> Result<Vec<(RowId, Value)>, Refusal>
     ensures read { Gives (λ entries. entries.items) result (values_in place (at_key key.now (view json.now))) }
     ensures rises { IfOk result (λ entries. T (map.is_sorted row_cmp entries.items)) }
 {
@@ -46,7 +46,7 @@ pub fn values_at(
 }
 
 /// The rows with their new states that an operation wrote.
-pub fn writes_at(alloc: Global, json: &Json, place: ListPlace) -> Result<Vec<(RowId, State)>, Stop>
+pub fn writes_at(alloc: Global, json: &Json, place: ListPlace) -> Result<Vec<(RowId, State)>, Refusal>
     ensures read { Gives (λ entries. new_states entries.items) result (writes_in place (at_key (codes "writes") (view json.now))) }
     ensures rises { IfOk result (λ entries. T (map.is_sorted row_cmp (new_states entries.items))) }
 {
@@ -58,7 +58,7 @@ pub fn view_at(
     alloc: Global,
     json: &Json,
     place: ListPlace,
-) -> Result<Vec<(RowId, VersionName)>, Stop>
+) -> Result<Vec<(RowId, VersionName)>, Refusal>
     ensures read { Gives (λ entries. entries.items) result (view_in place (at_key (codes "view") (view json.now))) }
     ensures rises { IfOk result (λ entries. T (map.is_sorted row_cmp entries.items)) }
 {
@@ -66,7 +66,7 @@ pub fn view_at(
 }
 
 /// The rows with their installers.
-pub fn installed_at(alloc: Global, json: &Json) -> Result<Vec<(RowId, Installers)>, Stop>
+pub fn installed_at(alloc: Global, json: &Json) -> Result<Vec<(RowId, Installers)>, Refusal>
     ensures read { Gives (λ entries. entries.items) result (installed_in (at_key (codes "installed") (view json.now))) }
     ensures rises { IfOk result (λ entries. T (map.is_sorted row_cmp entries.items)) }
 {

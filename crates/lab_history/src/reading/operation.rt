@@ -12,7 +12,7 @@ use super::lists::{values_at, view_at, writes_at};
 use crate::fault::FileFault;
 use crate::operation::{Op, Ops, Rows, View, Writes};
 use crate::path::{ListPlace, Path};
-use crate::stop::{Stop, wrong};
+use crate::refusal::{Refusal, wrong};
 use lab_script::{ScriptFault, parse_statement};
 use lab_table::{NoMemory, Statement, TxnNo};
 use serde_json::Value as Json;
@@ -30,18 +30,18 @@ fn statement_of(alloc: Global, text: &str) -> Result<Option<Statement>, NoMemory
 }
 
 /// The operation at a place of the transaction with this place and this number.
-fn op_of(alloc: Global, txn: usize, number: TxnNo, op: usize, json: &Json) -> Result<Op, Stop>
+fn op_of(alloc: Global, txn: usize, number: TxnNo, op: usize, json: &Json) -> Result<Op, Refusal>
     requires { op < max_operations }
     ensures { Gives (λ read. read) result (op_in txn number op (view json.now)) }
 {
     if !has_keys(json, &["rows", "statement", "view", "writes"]) {
-        return Err(wrong(Path::Operation(txn, op)));
+        return Err(wrong(Path::Operation { txn, op }));
     }
     let Some(text) = text_at(json, "statement") else {
-        return Err(wrong(Path::Statement(txn, op)));
+        return Err(wrong(Path::Statement { txn, op }));
     };
     let Some(statement) = statement_of(alloc, text)? else {
-        return Err(Stop::Fault(FileFault::BadStatement {
+        return Err(Refusal::Fault(FileFault::BadStatement {
             txn: number,
             op: op as u32 + 1,
         }));
@@ -59,7 +59,7 @@ fn op_of(alloc: Global, txn: usize, number: TxnNo, op: usize, json: &Json) -> Re
 
 /// The operations of the transaction with this place and this number.
 #[tactic(auto, using(crate::proofs::OpsRead::op_read, crate::proofs::OpsRead::op_fault, crate::proofs::OpsRead::ops_end))]
-pub fn ops_of(alloc: Global, txn: usize, number: TxnNo, items: &[Json]) -> Result<Ops, Stop>
+pub fn ops_of(alloc: Global, txn: usize, number: TxnNo, items: &[Json]) -> Result<Ops, Refusal>
     requires { length items.now ≤ max_operations }
     ensures read { Gives (λ ops. ops) result (ops_from txn number 0 (items_view items.now)) }
     ensures count { IfOk result (λ ops. length ops ≡ length items.now) }

@@ -6,7 +6,7 @@ ghost use Rattle.serde_json.specs.Find.{as_str};
 ghost use Rattle.lab_history.specs.Entries.{txn_in_number};
 ghost use Rattle.lab_history.specs.Faults.{Gives};
 ghost use Rattle.lab_history.specs.Format.{at_key, outcome_named, txn_in, txns_in};
-ghost use Rattle.lab_history.specs.Kept.{operations};
+ghost use Rattle.lab_history.specs.HistoryRules.{operations};
 ghost use Rattle.lab_history.specs.Limits.{max_operations};
 
 use super::earlier::Earlier;
@@ -16,7 +16,7 @@ use crate::entry::txn_of;
 use crate::fault::{FileFault, Limit};
 use crate::limits::{MAX_OPERATIONS, MAX_TRANSACTIONS};
 use crate::path::Path;
-use crate::stop::{Stop, over, wrong};
+use crate::refusal::{Refusal, over, wrong};
 use crate::transaction::{Outcome, Txn, Txns};
 use lab_table::TxnNo;
 use serde_json::Value as Json;
@@ -45,24 +45,24 @@ fn outcome_of(json: &Json) -> Option<Outcome>
 
 /// The transaction at a place behind the earlier ones.
 #[tactic(auto, using(crate::proofs::Counts::too_many, crate::proofs::Counts::few_enough))]
-fn transaction_of(alloc: Global, earlier: &Earlier, index: usize, json: &Json) -> Result<Txn, Stop>
+fn transaction_of(alloc: Global, earlier: &Earlier, index: usize, json: &Json) -> Result<Txn, Refusal>
     ensures read { Gives (λ txn. txn) result (txn_in earlier.now index (view json.now)) }
     ensures few { IfOk result (λ txn. length (operations earlier.now) + length txn.ops ≤ max_operations) }
 {
     if !has_keys(json, &["no", "ops", "outcome"]) {
-        return Err(wrong(Path::Transaction(index)));
+        return Err(wrong(Path::Transaction { txn: index }));
     }
     let Some(no) = number_of(json) else {
-        return Err(wrong(Path::Number(index)));
+        return Err(wrong(Path::Number { txn: index }));
     };
     if earlier.has(no) {
-        return Err(Stop::Fault(FileFault::RepeatedTxn { no }));
+        return Err(Refusal::Fault(FileFault::RepeatedTxn { no }));
     }
     let Some(outcome) = outcome_of(json) else {
-        return Err(wrong(Path::Outcome(index)));
+        return Err(wrong(Path::Outcome { txn: index }));
     };
     let Some(items) = items_at(json, "ops") else {
-        return Err(wrong(Path::Operations(index)));
+        return Err(wrong(Path::Operations { txn: index }));
     };
     if earlier.operations() + items.len() > MAX_OPERATIONS {
         return Err(over(Limit::Operations));
@@ -73,7 +73,7 @@ fn transaction_of(alloc: Global, earlier: &Earlier, index: usize, json: &Json) -
 
 /// The transactions of a history.
 #[tactic(auto, using(crate::proofs::TxnsRead::txn_read, crate::proofs::TxnsRead::txn_fault, crate::proofs::TxnsRead::txns_end, crate::proofs::Counts::items_count))]
-pub fn txns_of(alloc: Global, json: &Json) -> Result<Txns, Stop>
+pub fn txns_of(alloc: Global, json: &Json) -> Result<Txns, Refusal>
     ensures { Gives (λ txns. txns) result (txns_in (at_key (codes "transactions") (view json.now))) }
 {
     let Some(items) = items_at(json, "transactions") else {

@@ -7,7 +7,7 @@ ghost use Rattle.lab_script.specs.Limits.{StatementPrints};
 ghost use Rattle.lab_script.specs.Printed.{printed_statement};
 ghost use Rattle.lab_script.specs.Script.{SpellsStatement};
 ghost use Rattle.lab_history.specs.FileOf.{outcome_text, IsListOf, IsOperation, IsTransaction};
-ghost use Rattle.lab_history.specs.Kept.{operations, OpKeeps, OpsKeep};
+ghost use Rattle.lab_history.specs.HistoryRules.{operations, OpKeeps, OpsKeep};
 ghost use Rattle.lab_history.specs.Tree.{list_tree, op_tree, txn_tree};
 
 use crate::operation::Op;

@@ -7,7 +7,7 @@ ghost use Rattle.serde_json.specs.Data.{array, no_items, item};
 ghost use Rattle.serde_json.specs.View.{view};
 ghost use Rattle.lab_history.specs.Entries.{id_in, txn_in_number, value_in, written_in};
 ghost use Rattle.lab_history.specs.FileOf.{IsListOf, IsMapOf, IsPair, IsVersion, IsInstalled};
-ghost use Rattle.lab_history.specs.Kept.{is_listed, has_installer};
+ghost use Rattle.lab_history.specs.HistoryRules.{is_listed, has_installer};
 ghost use Rattle.lab_history.specs.Tree.{id_tree, natural_tree, value_tree, written_tree, list_tree, pair_tree, map_tree, version_tree, view_tree};
 ghost use Rattle.lab_history.specs.VersionName.{state_value, new_states};
 ghost use Rattle.lab_history.specs.declared.operation.VersionName.TheVariants.{Of};

@@ -1,6 +1,6 @@
 use Rattle.std.proofs.Common.{◌≡◌, ◌++◌}
 use Rattle.std.specs.List.{flat_map}
-use Rattle.lab_deps.specs.Walked.{found_at_row, found_by}
+use Rattle.lab_deps.specs.EdgesByRow.{found_at_row, found_by}
 use Rattle.lab_deps.proofs.collect.add_at_rows.Given as goal
 
 abbrev pub invariant-loop-row : goal.invariant-loop-row

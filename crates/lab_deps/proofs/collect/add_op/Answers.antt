@@ -2,8 +2,8 @@ use Rattle.std.proofs.Common.{◌≡◌, ◌++◌, nat_eq, sym, ap, ◌∙◌, s
 use Rattle.std.specs.Prelude.{None, Some, OnOk}
 use Rattle.std.specs.Map.{lookup}
 use Rattle.std.proofs.lemmas.List.{append-nil}
-use Rattle.lab_deps.specs.Walked.{rows_of, found_at_row}
-use Rattle.lab_deps.proofs.NarrowOps.{found_there, found_nowhere}
+use Rattle.lab_deps.specs.EdgesByRow.{rows_of, found_at_row}
+use Rattle.lab_deps.proofs.OpsOfOneRow.{found_there, found_nowhere}
 use Rattle.lab_deps.proofs.collect.add_op.Goals as goal
 
 pub returns-in-None-get : goal.returns-in-None-get

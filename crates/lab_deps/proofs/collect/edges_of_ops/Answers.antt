@@ -2,7 +2,7 @@ use Rattle.std.proofs.Common.{◌≡◌, ◌+◌, ◌++◌, ◌∷◌, drop, sym
 use Rattle.std.specs.List.{flat_map}
 use Rattle.std.proofs.lemmas.List.{append-nil, drop_all, drop_more}
 use Rattle.std.proofs.lemmas.Result.{IfOk-weaker}
-use Rattle.lab_deps.specs.Walked.{HasMembersOf, found_by}
+use Rattle.lab_deps.specs.EdgesByRow.{HasMembersOf, found_by}
 use Rattle.lab_deps.proofs.SameMembers.{joined_members, members_of, members_through}
 use Rattle.lab_deps.proofs.collect.edges_of_ops.Goals as goal
 

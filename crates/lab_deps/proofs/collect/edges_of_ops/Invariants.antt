@@ -1,6 +1,6 @@
 use Rattle.std.proofs.Common.{◌++◌, drop}
 use Rattle.std.specs.List.{flat_map}
-use Rattle.lab_deps.specs.Walked.{HasMembersOf, found_by}
+use Rattle.lab_deps.specs.EdgesByRow.{HasMembersOf, found_by}
 use Rattle.lab_deps.proofs.collect.edges_of_ops.Given as goal
 
 -- the edges so far and those of the operations that are left are all

@@ -3,7 +3,7 @@ use Rattle.std.specs.List.{flat_map}
 use Rattle.std.specs.FinMap as map
 use Rattle.std.proofs.lemmas.List.{append-nil, drop_all, drop_more}
 use Rattle.lab_deps.specs.Collected.{neighbours_at}
-use Rattle.lab_deps.specs.Walked.{HasMembersOf, found_by, found_in}
+use Rattle.lab_deps.specs.EdgesByRow.{HasMembersOf, found_by, found_in}
 use Rattle.lab_deps.proofs.SameMembers.{members_of, next_members}
 use Rattle.lab_deps.proofs.Walks.{all_walked}
 use Rattle.lab_deps.proofs.collect.edges_of_txns.Goals as goal

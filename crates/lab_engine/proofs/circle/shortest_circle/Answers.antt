@@ -3,10 +3,10 @@ use Rattle.std.specs.Prelude.{IsTrue, vec_len}
 use Rattle.std.proofs.lemmas.List.{nil_from_length}
 use Rattle.std.proofs.lemmas.Bool.{eqb-true, eqb-false}
 use Rattle.std.specs.List.{All}
-use Rattle.lab_engine.specs.declared.circle.Hop.{Hop}
+use Rattle.lab_engine.specs.declared.circle.WaitEdge.{WaitEdge}
 use Rattle.lab_engine.specs.declared.waits.Wait.{Wait}
 use Rattle.lab_engine.specs.WaitsFor.{IsRound, waits_for}
-use Rattle.lab_engine.specs.Hops.{is_reached, trail, IsNewHop}
+use Rattle.lab_engine.specs.WaitEdges.{is_reached, trail, IsNewWaitEdge}
 use Rattle.lab_engine.proofs.Walks.{trail_round, no_walk, fewer_missing, missing}
 use Rattle.lab_engine.proofs.ShortestWalks.{nobody_new, search_goes_on, found_shortest, IsSearched}
 use Rattle.lab_engine.proofs.circle.shortest_circle.Goals as goal
@@ -17,20 +17,20 @@ some_length n h = omega arith
 
 pub returns-in-Some-clause-found : goal.returns-in-Some-clause-found
 returns-in-Some-clause-found c =
-    subst (IsRound c.args.waits.now c.args.session) (sym (c.in_ok-circle_by.ensures ∙ ap (λ hops. c.args.session ∷ trail hops c.in-Some.first) c.deref-in-Some.ensures.value))
-    (trail_round c.args.waits.now c.args.session c.loop-first.hops.items c.in-Some.first c.loop-first.invariant.1.lead c.in-Some.ensures.waits
-    (subst (λ hops. IsTrue (is_reached hops c.args.session c.in-Some.first)) c.deref.ensures.value c.in-Some.ensures.reached))
+    subst (IsRound c.args.waits.now c.args.session) (sym (c.in_ok-circle_by.ensures ∙ ap (λ edges. c.args.session ∷ trail edges c.in-Some.first) c.deref-in-Some.ensures.value))
+    (trail_round c.args.waits.now c.args.session c.loop-first.edges.items c.in-Some.first c.loop-first.invariant.1.lead c.in-Some.ensures.waits
+    (subst (λ edges. IsTrue (is_reached edges c.args.session c.in-Some.first)) c.deref.ensures.value c.in-Some.ensures.reached))
 
 pub returns-in-Some-clause-shortest : goal.returns-in-Some-clause-shortest
 returns-in-Some-clause-shortest c = λ rest walk.
-    subst (λ (circle : List ℕ). length circle ≤ 1 + length rest) (sym (c.in_ok-circle_by.ensures ∙ ap (λ hops. c.args.session ∷ trail hops c.in-Some.first) c.deref-in-Some.ensures.value))
-    (found_shortest c.args.waits.now c.args.session c.loop-first.invariant.0 c.loop-first.hops.items c.loop-first.invariant.1 c.in-Some.first rest walk)
+    subst (λ (circle : List ℕ). length circle ≤ 1 + length rest) (sym (c.in_ok-circle_by.ensures ∙ ap (λ edges. c.args.session ∷ trail edges c.in-Some.first) c.deref-in-Some.ensures.value))
+    (found_shortest c.args.waits.now c.args.session c.loop-first.invariant.0 c.loop-first.edges.items c.loop-first.invariant.1 c.in-Some.first rest walk)
 
 -- what a turn says of these hops it says of the same hops
-held : (waits : List Wait) (goal : ℕ) (shown hops : List Hop) (layer : List Hop) → shown ≡ hops
+held : (waits : List Wait) (goal : ℕ) (shown edges : List WaitEdge) (layer : List WaitEdge) → shown ≡ edges
     → ((session other : ℕ) → IsTrue (waits_for waits session other) → IsTrue (is_reached shown goal other) → IsTrue (is_reached (layer ++ shown) goal session))
-    → (session other : ℕ) → IsTrue (waits_for waits session other) → IsTrue (is_reached hops goal other) → IsTrue (is_reached (layer ++ hops) goal session)
-held waits goal shown hops layer same all = subst (λ hs. (session other : ℕ) → IsTrue (waits_for waits session other) → IsTrue (is_reached hs goal other) → IsTrue (is_reached (layer ++ hs) goal session)) same all
+    → (session other : ℕ) → IsTrue (waits_for waits session other) → IsTrue (is_reached edges goal other) → IsTrue (is_reached (layer ++ edges) goal session)
+held waits goal shown edges layer same all = subst (λ hs. (session other : ℕ) → IsTrue (waits_for waits session other) → IsTrue (is_reached hs goal other) → IsTrue (is_reached (layer ++ hs) goal session)) same all
 
 pub returns-then-is_empty-clause-none : goal.returns-then-is_empty-clause-none
 returns-then-is_empty-clause-none c = λ none rest.
@@ -38,24 +38,24 @@ returns-then-is_empty-clause-none c = λ none rest.
     (nobody_new c.args.waits.now c.deref-in-loop-first.result.now c.in_ok-layer.layer.items c.args.session
     (nil_from_length _ (sym c.in_ok-layer.layer.ok.0 ∙ eqb-true (vec_len c.in_ok-layer.layer) 0 (sym c.is_empty.ensures ∙ c.if-is_empty.true))) c.in_ok-layer.ensures.all)
     c.args.session rest
-    (subst (λ hops. (other : ℕ) → IsTrue (is_reached hops c.args.session other) → waits_for c.args.waits.now c.args.session other ≡ false)
+    (subst (λ edges. (other : ℕ) → IsTrue (is_reached edges c.args.session other) → waits_for c.args.waits.now c.args.session other ≡ false)
     (c.deref.ensures.value ∙ sym c.deref-in-loop-first.ensures.value) (c.in_default.ensures.none refl))
 
 pub loop-first-smaller : goal.loop-first-smaller
 loop-first-smaller c =
-    subst (λ hops. missing hops c.args.session c.args.waits.now < missing c.loop-first.hops.items c.args.session c.args.waits.now)
-    (sym (c.in_ok-extend_from_slice.ensures.items ∙ ap (λ hops. c.in_ok-layer.layer.items ++ hops) c.deref-in-loop-first-2.ensures.value))
-    (fewer_missing c.args.waits.now c.args.session c.loop-first.hops.items c.in_ok-layer.layer.items
-    (subst (λ hops. All (IsNewHop c.args.waits.now hops c.args.session) c.in_ok-layer.layer.items) c.deref-in-loop-first.ensures.value c.in_ok-layer.ensures.new)
+    subst (λ edges. missing edges c.args.session c.args.waits.now < missing c.loop-first.edges.items c.args.session c.args.waits.now)
+    (sym (c.in_ok-extend_from_slice.ensures.items ∙ ap (λ edges. c.in_ok-layer.layer.items ++ edges) c.deref-in-loop-first-2.ensures.value))
+    (fewer_missing c.args.waits.now c.args.session c.loop-first.edges.items c.in_ok-layer.layer.items
+    (subst (λ edges. All (IsNewWaitEdge c.args.waits.now edges c.args.session) c.in_ok-layer.layer.items) c.deref-in-loop-first.ensures.value c.in_ok-layer.ensures.new)
     (some_length _ (λ none. eqb-false (vec_len c.in_ok-layer.layer) 0 (sym c.is_empty.ensures ∙ c.if-is_empty.false) (c.in_ok-layer.layer.ok.0 ∙ none))))
 
 pub loop-first-preserved : goal.loop-first-preserved
 loop-first-preserved c = (
   suc c.loop-first.invariant.0,
-  subst (λ hops. IsSearched c.args.waits.now c.args.session hops (suc c.loop-first.invariant.0))
-      (sym (c.in_ok-extend_from_slice.ensures.items ∙ ap (λ hops. c.in_ok-layer.layer.items ++ hops) c.deref-in-loop-first-2.ensures.value))
-      (search_goes_on c.args.waits.now c.args.session c.loop-first.invariant.0 c.loop-first.hops.items c.in_ok-layer.layer.items c.loop-first.invariant.1
-      (subst (λ hops. All (IsNewHop c.args.waits.now hops c.args.session) c.in_ok-layer.layer.items) c.deref-in-loop-first.ensures.value c.in_ok-layer.ensures.new)
-      (held c.args.waits.now c.args.session _ c.loop-first.hops.items c.in_ok-layer.layer.items c.deref-in-loop-first.ensures.value c.in_ok-layer.ensures.all)
-      (subst (λ hops. (other : ℕ) → IsTrue (is_reached hops c.args.session other) → waits_for c.args.waits.now c.args.session other ≡ false) c.deref.ensures.value (c.in_default.ensures.none refl))),
+  subst (λ edges. IsSearched c.args.waits.now c.args.session edges (suc c.loop-first.invariant.0))
+      (sym (c.in_ok-extend_from_slice.ensures.items ∙ ap (λ edges. c.in_ok-layer.layer.items ++ edges) c.deref-in-loop-first-2.ensures.value))
+      (search_goes_on c.args.waits.now c.args.session c.loop-first.invariant.0 c.loop-first.edges.items c.in_ok-layer.layer.items c.loop-first.invariant.1
+      (subst (λ edges. All (IsNewWaitEdge c.args.waits.now edges c.args.session) c.in_ok-layer.layer.items) c.deref-in-loop-first.ensures.value c.in_ok-layer.ensures.new)
+      (held c.args.waits.now c.args.session _ c.loop-first.edges.items c.in_ok-layer.layer.items c.deref-in-loop-first.ensures.value c.in_ok-layer.ensures.all)
+      (subst (λ edges. (other : ℕ) → IsTrue (is_reached edges c.args.session other) → waits_for c.args.waits.now c.args.session other ≡ false) c.deref.ensures.value (c.in_default.ensures.none refl))),
 )

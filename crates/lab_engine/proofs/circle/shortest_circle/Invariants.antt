@@ -5,8 +5,8 @@ use Rattle.lab_engine.proofs.circle.shortest_circle.Given as goal
 
 -- some turns of the search are done
 abbrev pub invariant-loop-first : goal.invariant-loop-first
-invariant-loop-first l = (turns : ℕ) × IsSearched l.waits l.session l.hops.items turns
+invariant-loop-first l = (turns : ℕ) × IsSearched l.waits l.session l.edges.items turns
 
 -- each turn reaches another one
 abbrev pub decreases-loop-first : goal.decreases-loop-first
-decreases-loop-first l = missing l.hops.items l.session l.waits
+decreases-loop-first l = missing l.edges.items l.session l.waits

@@ -1,5 +1,5 @@
 use Rattle.std.proofs.Common.{◌≡◌, ◌++◌, [], drop}
-use Rattle.lab_engine.specs.Told.{groups_from}
+use Rattle.lab_engine.specs.Gathered.{groups_from}
 use Rattle.lab_engine.proofs.installs.grouped.Given as goal
 
 -- the groups so far and those of the installs that are left are all

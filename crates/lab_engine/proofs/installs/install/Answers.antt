@@ -1,7 +1,7 @@
 use Rattle.std.proofs.Common.{sym, ap, ◌∙◌, ◌++◌, cond, Option, Bor, [], ◌∷◌}
 use Rattle.std.specs.Prelude.{is_some, option_map}
-use Rattle.lab_engine.specs.declared.telling.ToldTxn.{ToldTxn}
-use Rattle.lab_engine.specs.Told.{numbers_of, installs_by}
+use Rattle.lab_engine.specs.declared.gathering.GatheredTxn.{GatheredTxn}
+use Rattle.lab_engine.specs.Gathered.{numbers_of, installs_by}
 use Rattle.lab_engine.proofs.Installing.{noted}
 use Rattle.lab_engine.proofs.installs.install.Goals as goal
 
@@ -9,4 +9,4 @@ pub returns-clause-installs : goal.returns-clause-installs
 returns-clause-installs c = λ row.
     noted row c.in-Some.txn.now.number c.in_ok-last.last c.entries.result.now c.args.installs.now.items c.note_rows.new.installs.items c.entries.ensures c.in_ok-note_rows.ensures
     ∙ ap (λ v. numbers_of row c.args.installs.now.items ++ cond (is_some v) (c.in-Some.txn.now.number ∷ []) []) (c.in_ok-last.ensures row)
-    ∙ ap (λ (o : Option (Bor ToldTxn)). numbers_of row c.args.installs.now.items ++ installs_by (option_map (λ (t : Bor ToldTxn). t.now) o) row) (sym c.in-Some.is)
+    ∙ ap (λ (o : Option (Bor GatheredTxn)). numbers_of row c.args.installs.now.items ++ installs_by (option_map (λ (t : Bor GatheredTxn). t.now) o) row) (sym c.in-Some.is)

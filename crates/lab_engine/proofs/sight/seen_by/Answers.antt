@@ -23,11 +23,11 @@ first_of None None None = refl
 pub returns : goal.returns
 returns c past session txn describes is_active running =
     let setup : Table = c.args.setup.now in
-    IfOk-weaker c.under.result _ (IsSight c.args.level setup past txn)
+    IfOk-weaker c.overlaid_with.result _ (IsSight c.args.level setup past txn)
     (λ made is row.
     let installed = last_installed (commits (sight c.args.level past txn)) row in
     ap (λ o. unwrap_or o (initially None)) (is row
     ∙ ap (λ o. option_or o (get c.in_ok-committed.committed row)) (running.last row)
     ∙ ap (option_or (version_by txn row)) (c.in_ok-committed.ensures past session txn describes is_active running row))
     ∙ first_of (version_by txn row) installed (get setup row))
-    c.under.ensures
+    c.overlaid_with.ensures

@@ -8,10 +8,10 @@ use Rattle.lab_engine.proofs.sight.under_chains.Goals as goal
 
 pub returns : goal.returns
 returns c = λ past session txn d is_active before.
-    IfOk-weaker c.under.result _ _
+    IfOk-weaker c.overlaid_with.result _ _
     (λ made is row.
     is row
     ∙ ap (λ o. option_or o (get c.args.initial.now row)) (c.in_ok-installed.ensures row
     ∙ before_listed row c.args.before past (get c.args.situation.now.committed row) (chain_in c.args.situation.now.chains row) (d.committed row) (d.chains row)
     ∙ ap (λ n. version_before n (chain past row)) before ∙ (since_begin past session txn row is_active).then))
-    c.under.ensures
+    c.overlaid_with.ensures

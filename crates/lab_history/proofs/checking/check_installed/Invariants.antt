@@ -1,5 +1,5 @@
 use Rattle.std.proofs.Common.{◌≡◌, drop}
-use Rattle.lab_history.specs.Checked.{installed_checked}
+use Rattle.lab_history.specs.FirstPartsFault.{installed_checked}
 use Rattle.lab_history.proofs.checking.check_installed.Given as goal
 
 abbrev pub invariant-loop-index : goal.invariant-loop-index

@@ -1,5 +1,5 @@
 use Rattle.std.proofs.Common.{◌≡◌, drop}
-use Rattle.lab_history.specs.Checked.{ops_checked}
+use Rattle.lab_history.specs.FirstPartsFault.{ops_checked}
 use Rattle.lab_history.proofs.checking.check_ops.Given as goal
 
 abbrev pub invariant-loop-index : goal.invariant-loop-index

@@ -2,8 +2,8 @@ use Rattle.std.proofs.Common.{◌≡◌, ◌≤◌, ◌<◌, ◌+◌, [], length
 use Rattle.std.proofs.lemmas.Grind.{common_steps}
 use Rattle.std.specs.Ordering.{nat_cmp}
 use Rattle.std.specs.BTreeSet.{contains}
-use Rattle.lab_history.specs.Kept.{operations}
-use Rattle.lab_history.specs.Checked.{ops_checked, txns_checked}
+use Rattle.lab_history.specs.HistoryRules.{operations}
+use Rattle.lab_history.specs.FirstPartsFault.{ops_checked, txns_checked}
 use Rattle.lab_history.specs.declared.fault.FileFault.TheVariants as fault
 use Rattle.lab_history.specs.declared.fault.Limit.TheVariants as limit
 use Rattle.lab_history.proofs.CheckedTxns.{repeated, too_many, operations_decide, operations_here, walk_stops, walk_goes, was_there, was_absent, gives_fault}

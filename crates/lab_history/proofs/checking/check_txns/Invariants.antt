@@ -2,8 +2,8 @@ use Rattle.std.proofs.Common.{◌≡◌, ◌≤◌, ℕ, ◌==◌, [], take, dro
 use Rattle.std.specs.List.{list_any}
 use Rattle.std.specs.Ordering.{nat_cmp}
 use Rattle.std.specs.BTreeSet.{contains}
-use Rattle.lab_history.specs.Kept.{operations}
-use Rattle.lab_history.specs.Checked.{txns_checked}
+use Rattle.lab_history.specs.HistoryRules.{operations}
+use Rattle.lab_history.specs.FirstPartsFault.{txns_checked}
 use Rattle.lab_history.proofs.checking.check_txns.Given as goal
 
 abbrev pub invariant-loop-index : goal.invariant-loop-index

@@ -1,5 +1,5 @@
 use Rattle.std.proofs.Common.{◌≡◌, drop}
-use Rattle.lab_history.specs.Checked.{listed_from}
+use Rattle.lab_history.specs.FirstPartsFault.{listed_from}
 use Rattle.lab_history.proofs.checking.check_view.Given as goal
 
 abbrev pub invariant-loop-index : goal.invariant-loop-index

@@ -1,5 +1,5 @@
 use Rattle.std.proofs.Common.{◌≡◌, ◌++◌, drop, ◌≤◌, length}
-use Rattle.lab_history.specs.Kept.{operations}
+use Rattle.lab_history.specs.HistoryRules.{operations}
 use Rattle.lab_history.specs.Index.{written}
 use Rattle.lab_history.proofs.index.last_writes_of.Given as goal
 

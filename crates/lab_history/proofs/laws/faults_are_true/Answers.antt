@@ -3,4 +3,4 @@ use Rattle.lab_history.proofs.FaultsAreTrue.{fault_is_true}
 use Rattle.lab_history.proofs.laws.faults_are_true.Goals as goal
 
 pub returns : goal.returns
-returns c = record { told = fault_is_true; faultless = faultless }
+returns c = record { true_fault = fault_is_true; faultless = faultless }

@@ -1,8 +1,8 @@
 use Rattle.std.proofs.Common.{◌≤◌, ◌∙◌, sym, ap, subst, arith}
-use Rattle.lab_history.specs.Faults.{Stops}
-use Rattle.lab_history.specs.Kept.{named_rows, distinct_rows}
+use Rattle.lab_history.specs.Faults.{Refuses}
+use Rattle.lab_history.specs.HistoryRules.{named_rows, distinct_rows}
 use Rattle.lab_history.specs.WithinLimits.{within_limits}
-use Rattle.lab_history.specs.Walked.{txns_counted}
+use Rattle.lab_history.specs.RunningCounts.{txns_counted}
 use Rattle.lab_history.proofs.LimitsKept.{entries_within, entries_over}
 use Rattle.lab_history.proofs.limits.check_limits.Goals as goal
 
@@ -16,4 +16,4 @@ pub returns-in-None : goal.returns-in-None
 returns-in-None c =
     let parts = c.args.parts.now in
     let ids : distinct_rows (named_rows parts) ≤ 1000 = omega (arith, c.if-branch-gt-MAX_IDS.false, c.in_ok-count_ids.ensures) in
-    subst (λ s. Stops s (within_limits parts)) (sym c.over-in-None.ensures) (entries_over parts ids (sym (c.count_txns.ensures ∙ ap (txns_counted 0) c.as_slice.ensures) ∙ c.in-None.is))
+    subst (λ s. Refuses s (within_limits parts)) (sym c.over-in-None.ensures) (entries_over parts ids (sym (c.count_txns.ensures ∙ ap (txns_counted 0) c.as_slice.ensures) ∙ c.in-None.is))

@@ -1,6 +1,6 @@
 use Rattle.std.proofs.Common.{◌∙◌, ap, length}
 use Rattle.std.specs.FinMap.{entries}
-use Rattle.lab_history.specs.Walked.{with_rows, with_txns}
+use Rattle.lab_history.specs.RunningCounts.{with_rows, with_txns}
 use Rattle.lab_history.proofs.CountedRows.{length_rows_in}
 use Rattle.lab_history.proofs.limits.count_ids.Goals as goal
 

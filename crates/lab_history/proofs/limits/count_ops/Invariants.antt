@@ -1,5 +1,5 @@
 use Rattle.std.proofs.Common.{◌≡◌, ◌≤◌, drop}
-use Rattle.lab_history.specs.Walked.{ops_counted}
+use Rattle.lab_history.specs.RunningCounts.{ops_counted}
 use Rattle.lab_history.proofs.limits.count_ops.Given as goal
 
 abbrev pub invariant-loop-op : goal.invariant-loop-op

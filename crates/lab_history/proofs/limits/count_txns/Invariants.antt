@@ -1,5 +1,5 @@
 use Rattle.std.proofs.Common.{◌≡◌, ◌≤◌, drop}
-use Rattle.lab_history.specs.Walked.{txns_counted}
+use Rattle.lab_history.specs.RunningCounts.{txns_counted}
 use Rattle.lab_history.proofs.limits.count_txns.Given as goal
 
 abbrev pub invariant-loop-txn : goal.invariant-loop-txn

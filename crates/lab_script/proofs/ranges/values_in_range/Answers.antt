@@ -1,5 +1,5 @@
 use Rattle.lab_script.specs.Ranges.{ValueInRange}
-use Rattle.lab_script.proofs.Walked.{one_more, all_walked}
+use Rattle.lab_script.proofs.EachElement.{one_more, all_walked}
 use Rattle.lab_script.proofs.ranges.values_in_range.Goals as goal
 
 pub loop-value-preserved : goal.loop-value-preserved

@@ -1,6 +1,6 @@
 use Rattle.std.proofs.Common.{◌≡◌, drop}
-use Rattle.lab_script.proofs.StillTold.{ended_by}
+use Rattle.lab_script.proofs.RemainingTranscript.{ended_by}
 use Rattle.lab_script.proofs.serial.run_body.Given as goal
 
 abbrev pub invariant-loop-line : goal.invariant-loop-line
-invariant-loop-line l = ended_by l.session l.told l.table (drop l.line-index l.lines) ≡ ended_by l.session l.fn.told l.fn.table l.lines
+invariant-loop-line l = ended_by l.session l.output l.table (drop l.line-index l.lines) ≡ ended_by l.session l.fn.output l.fn.table l.lines

@@ -1,37 +1,37 @@
 use Rattle.std.proofs.Common.{◌≡◌, sym, ap, ◌∙◌, arith}
 use Rattle.std.proofs.lemmas.List.{nil_from_length}
-use Rattle.lab_script.specs.Told.{Told, unprintable}
-use Rattle.lab_script.specs.Transcript.{marked}
+use Rattle.lab_script.specs.TranscriptView.{TranscriptView, unprintable}
+use Rattle.lab_script.specs.Transcript.{sessions_in}
 use Rattle.lab_script.proofs.BrokenLimits.{broken_in, printed_all}
-use Rattle.lab_script.proofs.StillTold.{told_line, other_line, no_line}
+use Rattle.lab_script.proofs.RemainingTranscript.{transaction_line, other_line, no_line}
 use Rattle.lab_script.proofs.serial.run_serial.Goals as goal
 use Rattle.lab_script.proofs.serial.run_serial.Goals.{then-begins+in_ok-run_transaction, else-begins}
 
 pub loop-line-preserved : goal.loop-line-preserved
 loop-line-preserved c = record {
-  told = elim c.if-begins.branch [
+  output = elim c.if-begins.branch [
     | then-begins+in_ok-run_transaction w ↦
-        told_line c.loop-line.number c.loop-line.told c.loop-line.table
-        (marked c.loop-line.inside) c.in-Some.line.now c.loop-line.rest.now c.in-Some.later.now _ c.loop-line.invariant.told c.in-Some.ensures.cases.0
-        (marked c.note.new.inside) c.note.ensures (sym c.begins.ensures ∙ w.if-begins.true) c.if-begins.number c.if-begins.told c.if-begins.table w.number-is
-        (ap (λ (told : Told). told.text) w.told-is ∙ w.in_ok-run_transaction.ensures.text)
-        (ap (λ (told : Told). told.unprintable) w.told-is ∙ w.in_ok-run_transaction.ensures.unprintable) (w.table-is ∙ w.in_ok-run_transaction.ensures.table)
+        transaction_line c.loop-line.number c.loop-line.output c.loop-line.table
+        (sessions_in c.loop-line.inside) c.in-Some.line.now c.loop-line.rest.now c.in-Some.later.now _ c.loop-line.invariant.output c.in-Some.ensures.cases.0
+        (sessions_in c.note.new.inside) c.note.ensures (sym c.begins.ensures ∙ w.if-begins.true) c.if-begins.number c.if-begins.output c.if-begins.table w.number-is
+        (ap (λ (output : TranscriptView). output.text) w.output-is ∙ w.in_ok-run_transaction.ensures.text)
+        (ap (λ (output : TranscriptView). output.unprintable) w.output-is ∙ w.in_ok-run_transaction.ensures.unprintable) (w.table-is ∙ w.in_ok-run_transaction.ensures.table)
     | else-begins w ↦
-        other_line c.loop-line.number c.loop-line.told c.loop-line.table
-        (marked c.loop-line.inside) c.in-Some.line.now c.loop-line.rest.now c.in-Some.later.now _ c.loop-line.invariant.told c.in-Some.ensures.cases.0
-        (marked c.note.new.inside) c.note.ensures (sym c.begins.ensures ∙ w.if-begins.false) c.if-begins.number c.if-begins.told c.if-begins.table w.number-is w.told-is w.table-is
+        other_line c.loop-line.number c.loop-line.output c.loop-line.table
+        (sessions_in c.loop-line.inside) c.in-Some.line.now c.loop-line.rest.now c.in-Some.later.now _ c.loop-line.invariant.output c.in-Some.ensures.cases.0
+        (sessions_in c.note.new.inside) c.note.ensures (sym c.begins.ensures ∙ w.if-begins.false) c.if-begins.number c.if-begins.output c.if-begins.table w.number-is w.output-is w.table-is
   ];
   few = elim c.if-begins.branch [ then-begins+in_ok-run_transaction w ↦ omega (arith, c.in-Some.ensures.cases.1) | else-begins w ↦ omega (arith, c.in-Some.ensures.cases.1) ];
 }
 
 pub returns-clause-printed : goal.returns-clause-printed
 returns-clause-printed c =
-    let last : c.loop-line.told.unprintable ≡ unprintable c.args.script.now =
-    no_line c.loop-line.number c.loop-line.told c.loop-line.table (marked c.loop-line.inside) c.loop-line.rest.now _ c.loop-line.invariant.told (nil_from_length _ c.in_default.ensures.cases) in
+    let last : c.loop-line.output.unprintable ≡ unprintable c.args.script.now =
+    no_line c.loop-line.number c.loop-line.output c.loop-line.table (sessions_in c.loop-line.inside) c.loop-line.rest.now _ c.loop-line.invariant.output (nil_from_length _ c.in_default.ensures.cases) in
     printed_all c.args.script.now _ (c.in_ok-put-2.ensures.unprintable ∙ c.in_ok-put_rows.ensures.unprintable ∙ c.in_ok-put.ensures.unprintable ∙ last)
 
 pub returns-clause-broken : goal.returns-clause-broken
 returns-clause-broken c =
-    let last : c.loop-line.told.unprintable ≡ unprintable c.args.script.now =
-    no_line c.loop-line.number c.loop-line.told c.loop-line.table (marked c.loop-line.inside) c.loop-line.rest.now _ c.loop-line.invariant.told (nil_from_length _ c.in_default.ensures.cases) in
+    let last : c.loop-line.output.unprintable ≡ unprintable c.args.script.now =
+    no_line c.loop-line.number c.loop-line.output c.loop-line.table (sessions_in c.loop-line.inside) c.loop-line.rest.now _ c.loop-line.invariant.output (nil_from_length _ c.in_default.ensures.cases) in
     broken_in c.args.script.now _ (c.in_ok-put-2.ensures.unprintable ∙ c.in_ok-put_rows.ensures.unprintable ∙ c.in_ok-put.ensures.unprintable ∙ last)

@@ -1,12 +1,12 @@
 use Rattle.std.proofs.Common.{◌≡◌, ◌+◌, ◌≤◌, length}
-use Rattle.lab_script.specs.Told.{unprintable}
-use Rattle.lab_script.specs.Transcript.{marked, transcript}
-use Rattle.lab_script.proofs.StillTold.{told_by}
+use Rattle.lab_script.specs.TranscriptView.{unprintable}
+use Rattle.lab_script.specs.Transcript.{sessions_in, transcript}
+use Rattle.lab_script.proofs.RemainingTranscript.{output_by}
 use Rattle.lab_script.proofs.serial.run_serial.Given as goal
 
 abbrev pub invariant-loop-line : goal.invariant-loop-line
 invariant-loop-line l = record {
-  told : told_by l.number l.told l.table (marked l.inside) l.rest ≡ record { text = transcript l.script; unprintable = unprintable l.script };
+  output : output_by l.number l.output l.table (sessions_in l.inside) l.rest ≡ record { text = transcript l.script; unprintable = unprintable l.script };
   few : l.number + length l.rest ≤ length l.script.lines;
 }
 

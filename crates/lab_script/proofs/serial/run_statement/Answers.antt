@@ -2,7 +2,7 @@ use Rattle.std.proofs.Common.{Bool, cond, Some, None, sym, ap, ◌++◌, ◌∙�
 use Rattle.std.specs.Prelude.{codes, ℤ}
 use Rattle.lab_table.specs.Row.{Row}
 use Rattle.lab_script.specs.Printed.{rows_or}
-use Rattle.lab_script.specs.Told.{Told}
+use Rattle.lab_script.specs.TranscriptView.{TranscriptView}
 use Rattle.lab_script.proofs.StatementLines.{line_of_rows, line_of_fault, with_rows, with_fault}
 use Rattle.lab_script.proofs.serial.run_statement.Goals as goal
 use Rattle.lab_script.proofs.serial.run_statement.Goals.{in-Ok+in_ok-put_rows-in-Ok, in-Err+in_ok-put_fault-in-Err}
@@ -11,10 +11,10 @@ pub returns-clause-text : goal.returns-clause-text
 returns-clause-text c =
     elim c.match-run.branch [
       | in-Ok+in_ok-put_rows-in-Ok w ↦ line_of_rows c.args.statement.now c.args.table.now c.run.new.self w.in-Ok.rows.items _ _ _ _ _ c.in_ok-put_statement.ensures.text c.in_ok-put.ensures.text
-          (ap (λ (told : Told). told.text) w.told-is ∙ w.in_ok-put_rows-in-Ok.ensures.text
+          (ap (λ (output : TranscriptView). output.text) w.output-is ∙ w.in_ok-put_rows-in-Ok.ensures.text
           ∙ ap (λ (rows : List (Row × ℤ)). c.put.new.self.text ++ rows_or (codes "none") rows) w.deref.ensures.value) c.in_ok-put-2.ensures.text w.in-Ok.ensures.ok
       | in-Err+in_ok-put_fault-in-Err w ↦ line_of_fault c.args.statement.now c.args.table.now w.in-Err.fault _ _ _ _ _ c.in_ok-put_statement.ensures.text c.in_ok-put.ensures.text
-          (ap (λ (told : Told). told.text) w.told-is ∙ w.in_ok-put_fault-in-Err.ensures.text) c.in_ok-put-2.ensures.text w.in-Err.ensures.fault w.in_ok-put_fault-in-Err.ensures.refused
+          (ap (λ (output : TranscriptView). output.text) w.output-is ∙ w.in_ok-put_fault-in-Err.ensures.text) c.in_ok-put-2.ensures.text w.in-Err.ensures.fault w.in_ok-put_fault-in-Err.ensures.refused
     ]
 
 pub returns-clause-table : goal.returns-clause-table

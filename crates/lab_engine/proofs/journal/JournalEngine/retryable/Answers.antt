@@ -1,8 +1,8 @@
 use Rattle.std.proofs.Common.{subst}
 use Rattle.lab_engine.specs.Log.{past_of}
 use Rattle.lab_engine.specs.Answer.{IsRetryChoice}
-use Rattle.lab_engine.specs.Journal.{Kept}
+use Rattle.lab_engine.specs.Journal.{EngineRun}
 use Rattle.lab_engine.proofs.journal.JournalEngine.retryable.Goals as goal
 
 pub returns : goal.returns
-returns g c = subst (λ (k : Kept). IsRetryChoice k.level k.setup (past_of k.log) c.self.inside.retryable) c.self.view_is c.self.invariant.retryable
+returns g c = subst (λ (k : EngineRun). IsRetryChoice k.level k.setup (past_of k.log) c.self.inside.retryable) c.self.view_is c.self.invariant.retryable

@@ -4,7 +4,7 @@ use Rattle.lab_engine.specs.Log.{past_of}
 use Rattle.lab_engine.specs.Answer.{IsRetryChoice}
 use Rattle.lab_engine.specs.Situation.{Describes}
 use Rattle.lab_engine.specs.Engine.{IsStep}
-use Rattle.lab_engine.specs.Journal.{Kept}
+use Rattle.lab_engine.specs.Journal.{EngineRun}
 use Rattle.lab_engine.specs.declared.event.LogEvent.{LogEvent}
 use Rattle.lab_engine.proofs.journal.JournalEngine.step.Goals as goal
 
@@ -17,6 +17,6 @@ invariant_of-self-in_err-push g c = record {
 
 pub returns-clause-ok : goal.returns-clause-ok
 returns-clause-ok g c =
-    subst (λ (k : Kept). IsStep k.level k.setup k.log c.push.new.self.items c.args.session c.args.command.now c.in_ok-next.next.outcome) c.self.view_is
+    subst (λ (k : EngineRun). IsStep k.level k.setup k.log c.push.new.self.items c.args.session c.args.command.now c.in_ok-next.next.outcome) c.self.view_is
     (subst (λ (new : List LogEvent). IsStep g.R.Rules.kind c.self.inside.setup c.self.inside.log.items new c.args.session c.args.command.now c.in_ok-next.next.outcome) (sym c.in_ok-push.ensures.items)
     (subst (λ (log : List LogEvent). IsStep g.R.Rules.kind c.self.inside.setup log (log ++ c.in_ok-next.next.event ∷ []) c.args.session c.args.command.now c.in_ok-next.next.outcome) c.deref-2.ensures.value c.in_ok-next.ensures.step))

@@ -14,7 +14,7 @@ begun_next-self-requires c =
 
 pub returns : goal.returns
 returns c = λ past is.
-    goes_on past c.args.event.now c.args.self.now _ is c.go_on.ensures.session c.in_ok-go_on.ensures.sessions (c.in_ok-go_on.ensures.states past is.states is.events)
+    goes_on past c.args.event.now c.args.self.now _ is c.advance_session.ensures.session c.in_ok-advance_session.ensures.sessions (c.in_ok-advance_session.ensures.states past is.states is.events)
     (c.in_ok-install.ensures (active past c.args.event.now.session) (commits past)
     (subst (λ l. Agree (active past c.args.event.now.session) (running_of l c.args.event.now.session)) (sym c.deref.ensures.value) (running_agrees past c.args.self.now is c.args.event.now.session))
     is.committed)

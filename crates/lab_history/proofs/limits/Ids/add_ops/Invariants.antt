@@ -1,5 +1,5 @@
 use Rattle.std.proofs.Common.{◌≡◌, drop}
-use Rattle.lab_history.specs.Walked.{with_ops}
+use Rattle.lab_history.specs.RunningCounts.{with_ops}
 use Rattle.lab_history.proofs.limits.Ids.add_ops.Given as goal
 
 abbrev pub invariant-loop-op : goal.invariant-loop-op

@@ -1,5 +1,5 @@
 use Rattle.std.proofs.Common.{◌≡◌, drop}
-use Rattle.lab_history.specs.Walked.{with_rows}
+use Rattle.lab_history.specs.RunningCounts.{with_rows}
 use Rattle.lab_history.proofs.limits.Ids.add_rows.Given as goal
 
 abbrev pub invariant-loop-entry : goal.invariant-loop-entry

@@ -1,5 +1,5 @@
 use Rattle.std.proofs.Common.{◌≡◌, drop}
-use Rattle.lab_history.specs.Walked.{with_txns}
+use Rattle.lab_history.specs.RunningCounts.{with_txns}
 use Rattle.lab_history.proofs.limits.Ids.add_txns.Given as goal
 
 abbrev pub invariant-loop-txn : goal.invariant-loop-txn

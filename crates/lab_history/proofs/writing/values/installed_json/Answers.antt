@@ -1,7 +1,7 @@
 use Rattle.std.proofs.Common.{subst}
 use Rattle.std.specs.FinMap.{entries}
 use Rattle.lab_history.specs.FileOf.{IsInstalled}
-use Rattle.lab_history.specs.Kept.{has_installer}
+use Rattle.lab_history.specs.HistoryRules.{has_installer}
 use Rattle.lab_history.specs.Tree.{natural_tree, list_tree, pair_tree}
 use Rattle.lab_history.proofs.WrittenLists.{Written, value_passes, one_written, all_written, list_stands, list_seen}
 use Rattle.lab_history.proofs.writing.values.installed_json.Goals as goal

@@ -1,5 +1,5 @@
 use Rattle.std.proofs.Common.{true≢false, ap, sym, ◌∙◌}
-use Rattle.lab_history.specs.Kept.{is_listed}
+use Rattle.lab_history.specs.HistoryRules.{is_listed}
 use Rattle.lab_history.proofs.WrittenLists.{value_passes}
 use Rattle.lab_history.proofs.WrittenViews.{one_seen, all_seen, view_stands, view_seen}
 use Rattle.lab_history.proofs.writing.values.view_json.Goals as goal

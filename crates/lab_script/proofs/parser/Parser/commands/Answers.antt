@@ -1,7 +1,7 @@
 use Rattle.std.proofs.Common.{◌≤◌, length, arith}
 use Rattle.std.proofs.lemmas.Result.{err_from_is_err_and}
 use Rattle.lab_script.specs.ReadingCommands.{commands_at}
-use Rattle.lab_script.proofs.Same.{some_left, none_left}
+use Rattle.lab_script.proofs.TokenNumbers.{some_left, none_left}
 use Rattle.lab_script.proofs.ReadCommands.{steps_start, step_fits, step_short, steps_on, step_fails, steps_end}
 use Rattle.lab_script.proofs.parser.Parser.commands.Goals as goal
 

@@ -1,0 +1,8 @@
+use Rattle.std.proofs.Common.{take}
+use Rattle.lab_engine.specs.Log.{past_of}
+use Rattle.lab_engine.specs.Gathered.{Gathers}
+use Rattle.lab_engine.proofs.gathering.Gathering.of.Given as goal
+
+-- what the events so far tell
+abbrev pub invariant-loop-event : goal.invariant-loop-event
+invariant-loop-event l = Gathers (past_of (take l.event-index l.log)) l.gathered

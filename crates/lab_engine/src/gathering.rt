@@ -1,0 +1,243 @@
+//! What a log tells, gathered for its recording in one walk.
+
+ghost use Rattle.std.specs.Prelude.{◌≡◌, ◌≤◌, ◌<◌, ◌++◌, ◌∷◌, ◌-◌, [], length, IfOk, OnOk, Option, slice_get};
+ghost use Rattle.std.specs.Prelude as list;
+ghost use Rattle.std.specs.FinMap as map;
+ghost use Rattle.lab_table.specs.Row.{Row};
+ghost use Rattle.lab_table.specs.Table.{Table as PlainTable};
+ghost use Rattle.lab_engine.specs.declared.event.Level.{Level};
+ghost use Rattle.lab_engine.specs.Limits.{max_events};
+ghost use Rattle.lab_engine.specs.Log.{Past, past_of};
+ghost use Rattle.lab_engine.specs.Rules.{IsLegal};
+ghost use Rattle.lab_engine.specs.Recording.{op_of};
+ghost use Rattle.lab_engine.specs.Gathered as plain;
+ghost use Rattle.lab_engine.specs.Gathered.{Gathers, AreActive, IsWithin};
+
+use crate::event::{LogEvent, Outcome};
+use crate::installs::{install, installing};
+use crate::log_query::{asked_statement, is_fatal_fault};
+use crate::version::Versions;
+use lab_history::{Op, Outcome as End};
+use lab_table::{NoMemory, RowId, Session, TxnNo};
+use std::alloc::Global;
+
+/// A transaction, as far as the events went.
+#[derive(Drop)]
+pub struct GatheredTxn {
+    pub number: TxnNo,
+    /// It counts as aborted until it commits.
+    pub outcome: End,
+    pub ops: Vec<Op>,
+}
+
+/// What the events so far say, and where they leave sessions and rows.
+#[derive(Drop)]
+pub struct Gathering {
+    /// For each of the sessions 1 to 9 the number of its active transaction, if any.
+    pub active: Vec<Option<TxnNo>>,
+    /// The transactions, by rising number.
+    pub txns: Vec<GatheredTxn>,
+    /// The last installed version of each row that was ever installed.
+    pub committed: Versions,
+    /// Each row that a transaction installed, and the transaction, in order of commits.
+    pub installs: Vec<(RowId, TxnNo)>,
+}
+
+impl Gathering {
+    /// What these events tell, the oldest first. NoMemory where a growth was refused.
+    pub fn of(alloc: Global, log: &[LogEvent]) -> Result<Gathering, NoMemory>
+        requires few { length log.now ≤ max_events }
+        requires legal { (level : Level) × (setup : PlainTable) × IsLegal level setup (past_of log.now) }
+        ensures { IfOk result (Gathers (past_of log.now)) }
+    {
+        let mut gathered = Gathering {
+            active: none_active(alloc)?,
+            txns: Vec::new(alloc),
+            committed: Versions::new(alloc),
+            installs: Vec::new(alloc),
+        };
+        for event in log {
+            gathered.take_in(alloc, event)?;
+        }
+        Ok(gathered)
+    }
+
+    /// Goes on by one event. After NoMemory it is of no use.
+    fn take_in(&mut self, alloc: Global, event: &LogEvent) -> Result<(), NoMemory>
+        requires { (level : Level) × (setup : PlainTable) × (past : Past) × Gathers past self.old × IsLegal level setup (event.now ∷ past) × (length past < max_events) }
+        ensures { (level : Level) (setup : PlainTable) (past : Past) → Gathers past self.old → IsLegal level setup (event.now ∷ past)
+            → IfOk result (λ _. Gathers (event.now ∷ past) self.new) }
+    {
+        let place = place_of_session(event.session);
+        self.install(alloc, event, place)?;
+        self.add(alloc, event, place)?;
+        self.keep_active(event, place);
+        Ok(())
+    }
+}
+
+impl Gathering {
+    /// Puts the versions that a commit installs over those installed before, and notes who installed them.
+    fn install(&mut self, alloc: Global, event: &LogEvent, place: usize) -> Result<(), NoMemory>
+        requires place { place < length self.old.active.items }
+        requires short { plain.IsShort (plain.installing event.now.outcome (plain.gathered_by self.old.txns.items (plain.number_at self.old.active.items place))) }
+        ensures active { self.new.active ≡ self.old.active }
+        ensures txns { self.new.txns ≡ self.old.txns }
+        ensures committed { OnOk result ((row : Row) → map.get self.new.committed row ≡ plain.installed_over (plain.installing event.now.outcome (plain.gathered_by self.old.txns.items (plain.number_at self.old.active.items place))) row (map.get self.old.committed row)) }
+        ensures installs { OnOk result ((row : Row) → plain.numbers_of row self.new.installs.items ≡ plain.numbers_of row self.old.installs.items ++ plain.installs_by (plain.installing event.now.outcome (plain.gathered_by self.old.txns.items (plain.number_at self.old.active.items place))) row) }
+    {
+        let by = self.active[place];
+        let txn = installing(&self.txns, &event.outcome, by);
+        install(alloc, &mut self.committed, &mut self.installs, txn)
+    }
+
+    /// Adds what an event did to the transaction that its session had active.
+    fn add(&mut self, alloc: Global, event: &LogEvent, place: usize) -> Result<(), NoMemory>
+        requires place { place < length self.old.active.items }
+        requires within { IsWithin (plain.number_at self.old.active.items place) (length self.old.txns.items) }
+        ensures active { self.new.active ≡ self.old.active }
+        ensures txns { OnOk result (list.map plain.recorded self.new.txns.items ≡ plain.txns_after event.now.command event.now.outcome (plain.number_at self.old.active.items place) (list.map plain.recorded self.old.txns.items)) }
+        ensures committed { self.new.committed ≡ self.old.committed }
+        ensures installs { self.new.installs ≡ self.old.installs }
+    {
+        let by = self.active[place];
+        add_event(alloc, &mut self.txns, event, by)
+    }
+
+    /// Keeps the number of the transaction that an event's session has active after it.
+    fn keep_active(&mut self, event: &LogEvent, place: usize)
+        requires { place < length self.old.active.items }
+        ensures active { (past : Past) → AreActive past self.old.active.items → place ≡ event.now.session - 1 → 1 ≤ event.now.session → event.now.session ≤ 9
+            → AreActive (event.now ∷ past) self.new.active.items }
+        ensures txns { self.new.txns ≡ self.old.txns }
+        ensures committed { self.new.committed ≡ self.old.committed }
+        ensures installs { self.new.installs ≡ self.old.installs }
+    {
+        let by = self.active[place];
+        self.active[place] = number_after(&event.outcome, by);
+    }
+}
+
+impl GatheredTxn {
+    /// A transaction that begins. It takes no memory.
+    fn begun(alloc: Global, number: TxnNo) -> GatheredTxn
+        ensures { plain.recorded result ≡ plain.new_txn number }
+    {
+        GatheredTxn {
+            number,
+            outcome: End::Aborted,
+            ops: Vec::new(alloc),
+        }
+    }
+
+    /// Adds the operation that an event is, if it is one.
+    fn run(&mut self, alloc: Global, event: &LogEvent) -> Result<(), NoMemory>
+        ensures { OnOk result (plain.recorded self.new ≡ plain.with_ops (op_of event.now.command event.now.outcome) (plain.recorded self.old)) }
+    {
+        let Outcome::Rows { view, rows, writes } = &event.outcome else {
+            return Ok(());
+        };
+        let Some(statement) = asked_statement(&event.command) else {
+            return Ok(());
+        };
+        self.ops.push(Op {
+            statement: statement.copy(alloc)?,
+            view: view.copy(alloc)?,
+            rows: rows.copy(alloc)?,
+            writes: writes.copy(alloc)?,
+        })?;
+        Ok(())
+    }
+
+    fn commit(&mut self)
+        ensures { plain.recorded self.new ≡ plain.committed (plain.recorded self.old) }
+    {
+        self.outcome = End::Committed;
+    }
+}
+
+/// No number for any session.
+fn none_active(alloc: Global) -> Result<Vec<Option<TxnNo>>, NoMemory>
+    ensures { IfOk result (λ numbers. AreActive [] numbers.items) }
+{
+    Vec::from_slice(alloc, &[None; 9])
+}
+
+/// The place of a session, where the first is session 1.
+fn place_of_session(session: Session) -> usize
+    ensures value { result ≡ session - 1 }
+    ensures low { 1 ≤ session }
+    ensures high { session ≤ 9 }
+{
+    usize::from(session.number() - 1)
+}
+
+/// The number of the active transaction of a session after one of its events.
+fn number_after(outcome: &Outcome, by: Option<TxnNo>) -> Option<TxnNo>
+    ensures { result ≡ plain.number_after outcome.now by }
+{
+    match outcome {
+        Outcome::Begun(number) => Some(*number),
+        Outcome::Rows { .. } => by,
+        Outcome::Committed => None,
+        Outcome::Aborted => None,
+        Outcome::Waits { .. } => by,
+        Outcome::Refused(fault) => { if is_fatal_fault(fault) { None } else { by } }
+    }
+}
+
+/// The place of a transaction, where the first has number 1.
+pub fn place_of(number: TxnNo) -> usize
+    ensures { result ≡ number - 1 }
+{
+    number.number() as usize - 1
+}
+
+/// Adds what an event did to the transaction that its session had active.
+fn add_event(
+    alloc: Global,
+    txns: &mut Vec<GatheredTxn>,
+    event: &LogEvent,
+    by: Option<TxnNo>,
+) -> Result<(), NoMemory>
+    requires { IsWithin by (length txns.old.items) }
+    ensures { OnOk result (list.map plain.recorded txns.new.items ≡ plain.txns_after event.now.command event.now.outcome by (list.map plain.recorded txns.old.items)) }
+{
+    match &event.outcome {
+        Outcome::Begun(number) => {
+            txns.push(GatheredTxn::begun(alloc, *number))?;
+            Ok(())
+        }
+        Outcome::Rows { .. } => run_by(alloc, txns, event, by),
+        Outcome::Committed => {
+            commit_by(txns, by);
+            Ok(())
+        }
+        _ => Ok(()),
+    }
+}
+
+/// Adds the operation that an event is, if it is one, to the transaction with this number.
+fn run_by(
+    alloc: Global,
+    txns: &mut Vec<GatheredTxn>,
+    event: &LogEvent,
+    by: Option<TxnNo>,
+) -> Result<(), NoMemory>
+    requires { IsWithin by (length txns.old.items) }
+    ensures { OnOk result (list.map plain.recorded txns.new.items ≡ plain.changed_by by (plain.with_ops (op_of event.now.command event.now.outcome)) (list.map plain.recorded txns.old.items)) }
+{
+    if let Some(number) = by {
+        txns[place_of(number)].run(alloc, event)?;
+    }
+    Ok(())
+}
+
+fn commit_by(txns: &mut Vec<GatheredTxn>, by: Option<TxnNo>)
+    requires { IsWithin by (length txns.old.items) }
+    ensures { list.map plain.recorded txns.new.items ≡ plain.changed_by by plain.committed (list.map plain.recorded txns.old.items) }
+{
+    if let Some(number) = by {
+        txns[place_of(number)].commit();
+    }
+}

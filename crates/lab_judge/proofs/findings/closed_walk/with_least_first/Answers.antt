@@ -1,0 +1,10 @@
+use Rattle.std.proofs.Common.{sym, subst, ap, ◌∙◌}
+use Rattle.lab_judge.specs.Phenomena.{IsClosedWalk, count_kind}
+use Rattle.lab_judge.proofs.ClosedWalks.{turned_at, counts_at}
+use Rattle.lab_judge.proofs.findings.closed_walk.with_least_first.Goals as goal
+
+pub returns-clause-closed : goal.returns-clause-closed
+returns-clause-closed c = λ h closed. subst (IsClosedWalk h) (sym c.rotate_left.ensures.items) (turned_at h c.place_of_least-least.result c.args.walk.items closed)
+
+pub returns-clause-kinds : goal.returns-clause-kinds
+returns-clause-kinds c = λ test. ap (count_kind test) c.rotate_left.ensures.items ∙ counts_at test c.place_of_least-least.result c.args.walk.items
