@@ -12,8 +12,8 @@ mod listing;
 mod output;
 mod playing;
 mod playing_free;
-mod tabulating;
 mod recording_answer;
+mod tabulating;
 mod transcribing;
 
 pub use batching::batch;

@@ -18,6 +18,7 @@ mod circle;
 mod effect;
 mod engine;
 mod event;
+mod gathering;
 mod installs;
 mod journal;
 mod laws;
@@ -27,7 +28,6 @@ mod recording;
 mod rules;
 mod sight;
 mod situation;
-mod gathering;
 mod version;
 mod waits;
 

@@ -22,7 +22,6 @@ pub record Written {X : Type 0} (tree : X → Data) (Is : Data → X → Type 0)
   pub each : All (λ x. Is (tree x) x) xs
 
 module _ {X : Type 0} (tree : X → Data) (Is : Data → X → Type 0) where
-
   -- one more element
   pub one_written : (values new : List Value) (v : Value) (xs : List X) (i : ℕ) (x : X) → i < length xs → x ≡ get_or xs i x
       → view v ≡ tree x → Is (tree x) x → new ≡ values ++ v ∷ [] → Written tree Is values (take i xs) → Written tree Is new (take (i + 1) xs)

@@ -134,7 +134,11 @@ fn numbers_of(alloc: Global, index: usize, numbers: &[Json]) -> Result<Vec<TxnNo
 fn installers_of(alloc: Global, index: usize, json: &Json) -> Result<Installers, Refusal>
     ensures { Gives (λ installers. installers) result (spec_installers_of index (as_array (view json.now))) }
 {
-    let path = Path::Part { list: ListPlace::Installed, index, part: 1 };
+    let path = Path::Part {
+        list: ListPlace::Installed,
+        index,
+        part: 1,
+    };
     let numbers = required(json.as_array(), path)?;
     if numbers.is_empty() {
         return Err(wrong(path));
@@ -170,8 +174,22 @@ impl Entry for Value {
         json: &Json,
     ) -> Result<(RowId, Value), Refusal> {
         let (id, value) = pair(place, index, json)?;
-        let id = required(id_of(id), Path::Part { list: place, index, part: 0 })?;
-        let value = required(value_of(value), Path::Part { list: place, index, part: 1 })?;
+        let id = required(
+            id_of(id),
+            Path::Part {
+                list: place,
+                index,
+                part: 0,
+            },
+        )?;
+        let value = required(
+            value_of(value),
+            Path::Part {
+                list: place,
+                index,
+                part: 1,
+            },
+        )?;
         Ok((id, value))
     }
 }
@@ -191,8 +209,22 @@ impl Entry for State {
         json: &Json,
     ) -> Result<(RowId, State), Refusal> {
         let (id, state) = pair(place, index, json)?;
-        let id = required(id_of(id), Path::Part { list: place, index, part: 0 })?;
-        let state = required(written_of(state), Path::Part { list: place, index, part: 1 })?;
+        let id = required(
+            id_of(id),
+            Path::Part {
+                list: place,
+                index,
+                part: 0,
+            },
+        )?;
+        let state = required(
+            written_of(state),
+            Path::Part {
+                list: place,
+                index,
+                part: 1,
+            },
+        )?;
         Ok((id, state))
     }
 }
@@ -211,9 +243,30 @@ impl Entry for VersionName {
         json: &Json,
     ) -> Result<(RowId, VersionName), Refusal> {
         let (id, txn, op) = triple(place, index, json)?;
-        let id = required(id_of(id), Path::Part { list: place, index, part: 0 })?;
-        let txn = required(txn_of(txn), Path::Part { list: place, index, part: 1 })?;
-        let op = required(op_of(op), Path::Part { list: place, index, part: 2 })?;
+        let id = required(
+            id_of(id),
+            Path::Part {
+                list: place,
+                index,
+                part: 0,
+            },
+        )?;
+        let txn = required(
+            txn_of(txn),
+            Path::Part {
+                list: place,
+                index,
+                part: 1,
+            },
+        )?;
+        let op = required(
+            op_of(op),
+            Path::Part {
+                list: place,
+                index,
+                part: 2,
+            },
+        )?;
         Ok((id, VersionName::Of { txn, op }))
     }
 }
@@ -232,7 +285,14 @@ impl Entry for Installers {
         json: &Json,
     ) -> Result<(RowId, Installers), Refusal> {
         let (id, installers) = pair(ListPlace::Installed, index, json)?;
-        let id = required(id_of(id), Path::Part { list: ListPlace::Installed, index, part: 0 })?;
+        let id = required(
+            id_of(id),
+            Path::Part {
+                list: ListPlace::Installed,
+                index,
+                part: 0,
+            },
+        )?;
         let installers = installers_of(alloc, index, installers)?;
         Ok((id, installers))
     }
@@ -264,7 +324,11 @@ fn entries_of<E: Entry>(
 }
 
 /// A list of rows with their values.
-pub fn values_of(alloc: Global, place: ListPlace, json: &Json) -> Result<Vec<(RowId, Value)>, Refusal>
+pub fn values_of(
+    alloc: Global,
+    place: ListPlace,
+    json: &Json,
+) -> Result<Vec<(RowId, Value)>, Refusal>
     ensures read { Gives (λ entries. entries.items) result (values_in place (view json.now)) }
     ensures rises { IfOk result (λ entries. T (map.is_sorted row_cmp entries.items)) }
 {
@@ -272,7 +336,11 @@ pub fn values_of(alloc: Global, place: ListPlace, json: &Json) -> Result<Vec<(Ro
 }
 
 /// A list of written rows with their new states.
-pub fn writes_of(alloc: Global, place: ListPlace, json: &Json) -> Result<Vec<(RowId, State)>, Refusal>
+pub fn writes_of(
+    alloc: Global,
+    place: ListPlace,
+    json: &Json,
+) -> Result<Vec<(RowId, State)>, Refusal>
     ensures read { Gives (λ entries. new_states entries.items) result (writes_in place (view json.now)) }
     ensures rises { IfOk result (λ entries. T (map.is_sorted row_cmp (new_states entries.items))) }
 {

@@ -30,7 +30,10 @@ pub enum Path {
     /// A list.
     List(ListPlace),
     /// A member of a list.
-    Member { list: ListPlace, index: usize },
+    Member {
+        list: ListPlace,
+        index: usize,
+    },
     /// A part of a member of a list.
     Part {
         list: ListPlace,
@@ -38,19 +41,36 @@ pub enum Path {
         part: usize,
     },
     /// One of the installers of a row: the member of `installed`, and the place in its inner list.
-    Installer { index: usize, place: usize },
+    Installer {
+        index: usize,
+        place: usize,
+    },
     /// The list of the transactions.
     Transactions,
     /// A transaction.
-    Transaction { txn: usize },
+    Transaction {
+        txn: usize,
+    },
     /// The number of a transaction.
-    Number { txn: usize },
+    Number {
+        txn: usize,
+    },
     /// How a transaction ended.
-    Outcome { txn: usize },
+    Outcome {
+        txn: usize,
+    },
     /// The list of the operations of a transaction.
-    Operations { txn: usize },
+    Operations {
+        txn: usize,
+    },
     /// An operation of a transaction.
-    Operation { txn: usize, op: usize },
+    Operation {
+        txn: usize,
+        op: usize,
+    },
     /// The statement of an operation of a transaction.
-    Statement { txn: usize, op: usize },
+    Statement {
+        txn: usize,
+        op: usize,
+    },
 }

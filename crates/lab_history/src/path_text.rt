@@ -35,7 +35,11 @@ fn put_path(out: &mut Vec<u8>, path: Path) -> Result<(), NoMemory>
             put_list(out, place)?;
             put_index(out, index)
         }
-        Path::Part { list: place, index, part } => {
+        Path::Part {
+            list: place,
+            index,
+            part,
+        } => {
             put_list(out, place)?;
             put_index(out, index)?;
             put_index(out, part)

@@ -6,8 +6,8 @@ ghost use Rattle.lab_script.specs.Reading.{Gives};
 ghost use Rattle.lab_script.specs.ReadingCommands.{is_word, words_at, level_at, command_at, is_short, terminated_at, added, step_at, commands_at};
 
 use crate::parser::Parser;
-use crate::statement::check_length;
 use crate::refusal::{GrammarFault, Refusal};
+use crate::statement::check_length;
 use crate::token::{Token, Word};
 use lab_table::Command;
 use std::alloc::Global;
@@ -28,7 +28,12 @@ impl Parser<'_> {
 
     /// Reads a statement with its end, and adds its command.
     #[tactic(auto, unfolding(crate::specs::ReadingCommands::step_at))]
-    fn step(&mut self, alloc: Global, room: usize, commands: &mut Vec<Command>) -> Result<(), Refusal>
+    fn step(
+        &mut self,
+        alloc: Global,
+        room: usize,
+        commands: &mut Vec<Command>,
+    ) -> Result<(), Refusal>
         ensures { Gives (λ x. (commands.new.items, self.new)) result (step_at room commands.old.items self.old) }
     {
         let command = self.terminated(alloc)?;

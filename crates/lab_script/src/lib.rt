@@ -41,6 +41,7 @@ mod parser;
 mod predicate;
 mod print;
 mod ranges;
+mod refusal;
 mod round_trip;
 mod row;
 mod script;
@@ -49,7 +50,6 @@ mod setup;
 mod spelling;
 mod statement;
 mod statement_text;
-mod refusal;
 mod token;
 mod transcript;
 

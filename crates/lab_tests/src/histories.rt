@@ -85,7 +85,10 @@ const USUAL: Shape = Shape {
 };
 
 fn wrong(place: ListPlace) -> Option<FileFault> {
-    let path = Path::Member { list: place, index: 0 };
+    let path = Path::Member {
+        list: place,
+        index: 0,
+    };
     Some(FileFault::WrongFormat { path })
 }
 

@@ -46,7 +46,11 @@ pub fn values_at(
 }
 
 /// The rows with their new states that an operation wrote.
-pub fn writes_at(alloc: Global, json: &Json, place: ListPlace) -> Result<Vec<(RowId, State)>, Refusal>
+pub fn writes_at(
+    alloc: Global,
+    json: &Json,
+    place: ListPlace,
+) -> Result<Vec<(RowId, State)>, Refusal>
     ensures read { Gives (λ entries. new_states entries.items) result (writes_in place (at_key (codes "writes") (view json.now))) }
     ensures rises { IfOk result (λ entries. T (map.is_sorted row_cmp (new_states entries.items))) }
 {

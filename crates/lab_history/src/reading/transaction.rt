@@ -45,7 +45,12 @@ fn outcome_of(json: &Json) -> Option<Outcome>
 
 /// The transaction at a place behind the earlier ones.
 #[tactic(auto, using(crate::proofs::Counts::too_many, crate::proofs::Counts::few_enough))]
-fn transaction_of(alloc: Global, earlier: &Earlier, index: usize, json: &Json) -> Result<Txn, Refusal>
+fn transaction_of(
+    alloc: Global,
+    earlier: &Earlier,
+    index: usize,
+    json: &Json,
+) -> Result<Txn, Refusal>
     ensures read { Gives (λ txn. txn) result (txn_in earlier.now index (view json.now)) }
     ensures few { IfOk result (λ txn. length (operations earlier.now) + length txn.ops ≤ max_operations) }
 {
