@@ -83,7 +83,7 @@ not_before (first ∷ before) rows row all =
 
 -- a row that the table of rows doesn't have isn't among them
 pub absent_from : (before : List (Row × ℤ)) (id : Row) → contains_key (table_of before) id ≡ false → find row_cmp id before ≡ None
-absent_from before id h = not_some (find row_cmp id before) (sym (is_here before id) ∙ h)
+absent_from before id h = found_none (find row_cmp id before) (sym (is_here before id) ∙ h)
 
 -- and the other way round
 pub is_absent : (before : List (Row × ℤ)) (id : Row) → find row_cmp id before ≡ None → contains_key (table_of before) id ≡ false
