@@ -1,4 +1,5 @@
 pub mod Tokens
+pub mod HeldDigits
 pub mod TokenNumbers
 pub mod Loops
 pub mod Numbers

@@ -1,5 +1,5 @@
 -- How tokens go on.
-use Rattle.std.proofs.Common.{◌≡◌, ℕ, ◌+◌, ◌-◌, ◌*◌, ◌<◌, min, Bool, true, false, cond, ◌==◌, List, [], ◌∷◌, ◌++◌, length, take, drop, map, Option, Some, None, refl, sym, ap, ◌∙◌, append_assoc, suc, arith, subst, get_or, drop-cons, add-one, inl, inr}
+use Rattle.std.proofs.Common.{◌≡◌, ℕ, ◌+◌, ◌-◌, ◌*◌, ◌<◌, Bool, true, false, cond, ◌==◌, List, [], ◌∷◌, ◌++◌, length, take, drop, map, Option, Some, None, refl, sym, ap, ◌∙◌, append_assoc, suc, arith, subst, get_or, drop-cons, add-one, inl, inr}
 use Rattle.std.proofs.Math.Numerals.{one-add}
 use Rattle.std.specs.Prelude.{is_some, unwrap_or, option_map}
 use Rattle.std.specs.List.{prefix_len}
@@ -157,24 +157,6 @@ word_run bs text rest len word p q r e = rw (e, q, r, p) (letters_run bs [])
 pub whole_word : (bs text rest : List ℕ) (len : ℕ) (word : Word) → len ≡ prefix_len is_letter bs → text ≡ take len bs → rest ≡ drop len bs
     → word ≡ word_named (map to_ascii_lowercase text) → held_from (letters []) bs ≡ token.Word word ∷ held_tokens rest
 whole_word bs text rest len word p q r e = ap (map held) (word_run bs text rest len word p q r e)
-
--- what is held of digits depends on their number only as far as it is told apart
-told_apart : (n m b : ℕ) → min n 1000000001 ≡ min m 1000000001 → min (10 * n + (b - 48)) 1000000001 ≡ min (10 * m + (b - 48)) 1000000001
-told_apart n m b same = omega arith
-
-pub held_alike : (n m : ℕ) (bs : List ℕ) → min n 1000000001 ≡ min m 1000000001 → held_from (whole (token.Digits n)) bs ≡ held_from (whole (token.Digits m)) bs
-held_alike n m [] same = ap (λ (k : ℕ). token.Digits k ∷ []) same
-held_alike n m (b ∷ bs) same =
-    elim (cases_Bool (is_ascii_digit b)) [
-      | inl is ↦ ap (map held) (digit_goes_on n b bs is) ∙ held_alike (10 * n + (b - 48)) (10 * m + (b - 48)) bs (told_apart n m b same) ∙ sym (ap (map held) (digit_goes_on m b bs is))
-      | inr isnt ↦ ap (map held) (digit_ends n b bs isnt) ∙ ap (λ (k : ℕ). token.Digits k ∷ held_tokens (b ∷ bs)) same ∙ sym (ap (map held) (digit_ends m b bs isnt))
-    ]
-
--- one more digit of a number
-pub held_on : (n digit next i : ℕ) (bs text : List ℕ) → held_from (whole (token.Digits n)) (drop i bs) ≡ held_from (whole (token.Digits 0)) text → i < length bs → is_ascii_digit (get_or bs i 0) ≡ true
-    → digit ≡ get_or bs i 0 - 48 → next ≡ min (10 * n + digit) 1000000001 → held_from (whole (token.Digits next)) (drop (i + 1) bs) ≡ held_from (whole (token.Digits 0)) text
-held_on n digit next i bs text so_far lt q d is =
-    held_alike next (10 * n + (get_or bs i 0 - 48)) (drop (i + 1) bs) (omega arith) ∙ sym (ap (map held) (digits_on n i bs lt q)) ∙ so_far
 
 skipped : (bs mid : List ℕ) (k : ℕ) → k ≡ prefix_len is_blank bs → mid ≡ drop k bs → tokens bs ≡ tokens mid
 skipped bs mid k p q = rw (q, p) (blanks_run bs)
