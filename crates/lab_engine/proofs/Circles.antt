@@ -11,7 +11,7 @@ use Rattle.lab_engine.specs.Rules.{BlockedBy, IsChain, IsCircle, MayAsk}
 use Rattle.lab_engine.specs.Recording.{IsRetryable}
 use Rattle.lab_engine.specs.WaitsFor.{waits_for, IsWalk, IsRound, WaitsOn, AreWaits}
 use Rattle.lab_engine.specs.Released.{IsReleased}
-use Rattle.lab_engine.proofs.Locks.{some_same}
+use Rattle.lab_engine.proofs.LockSteps.{some_same}
 use Rattle.lab_engine.proofs.Waiting.{asked_is, AreWaitsWith}
 
 -- a walk begins with a step

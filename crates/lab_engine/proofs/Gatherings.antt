@@ -15,7 +15,8 @@ use Rattle.lab_engine.specs.Log.{Past, past_of, active}
 use Rattle.lab_engine.specs.Rules.{IsLegal}
 use Rattle.lab_engine.specs.Gathered.{number_of, number_at, AreActive, recorded, txns_after, gathered_by, installing, IsShort, IsWithin, installed_over, installs_by, numbers_of, Gathers}
 use Rattle.lab_engine.proofs.Runs.{past_of-push}
-use Rattle.lab_engine.proofs.GatheredLogs.{legal_front, txns_go, within, few_ops, installed_goes, installers_go}
+use Rattle.lab_engine.proofs.GatheredLogs.{legal_front, within, few_ops, installed_goes, installers_go}
+use Rattle.lab_engine.proofs.TxnsAfterEvents.{txns_go}
 
 -- nothing is told before the first event
 pub nothing_gathered : (gathered : Gathering) → AreActive [] gathered.active.items → gathered.txns.items ≡ [] → gathered.committed ≡ empty → gathered.installs.items ≡ [] → Gathers [] gathered

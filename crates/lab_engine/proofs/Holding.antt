@@ -19,7 +19,7 @@ use Rattle.lab_engine.specs.Log.{Past, Version, Txn, version_by, has_read}
 use Rattle.lab_engine.specs.Rules.{HoldsWrite}
 use Rattle.lab_engine.specs.Sight.{Listed, version_in, IsSight}
 use Rattle.lab_engine.specs.Pending.{writes_over}
-use Rattle.lab_engine.proofs.Locks.{none_some, some_same}
+use Rattle.lab_engine.proofs.LockSteps.{none_some, some_same}
 
 -- the version of a row that is absent from the start
 abbrev pub absent : Version

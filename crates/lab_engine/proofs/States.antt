@@ -7,7 +7,7 @@ use Rattle.lab_engine.specs.declared.event.LogEvent.{LogEvent}
 use Rattle.lab_engine.specs.declared.situation.SessionState.{SessionState}
 use Rattle.lab_engine.specs.Log.{Past, active, active_after, waiting, waiting_after}
 use Rattle.lab_engine.specs.Situation.{DescribesSession, DescribesAll, Agree, HasRoom, all_sessions}
-use Rattle.lab_engine.proofs.Describing.{has_room}
+use Rattle.lab_engine.proofs.EventBounds.{has_room}
 
 -- after an event of another session what is kept of a session still agrees
 other_session : (past : Past) (event : LogEvent) (state : SessionState) → event.session ≢ state.session → DescribesSession past state → DescribesSession (event ∷ past) state

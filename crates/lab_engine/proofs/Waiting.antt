@@ -18,7 +18,7 @@ use Rattle.lab_engine.specs.Log.{Past, Txn, active, waiting}
 use Rattle.lab_engine.specs.Rules.{BlockedBy, MayAsk}
 use Rattle.lab_engine.specs.Situation.{all_sessions, Agree, IsRunning, Describes, DescribesSession, DescribesAll}
 use Rattle.lab_engine.specs.WaitsFor.{waits_for, AreBlockers, WaitsOn, AreWaits}
-use Rattle.lab_engine.proofs.Locks.{none_some, some_same}
+use Rattle.lab_engine.proofs.LockSteps.{none_some, some_same}
 use Rattle.lab_engine.proofs.Rising.{AreThose, those_hold, those_all, those_increase, sessions_of, is_among, among}
 
 -- each state of a situation is described

@@ -18,7 +18,7 @@ use Rattle.lab_engine.specs.Rules.{IsBelow, MayCommit, Conflicts}
 use Rattle.lab_engine.specs.Chains.{chain, chain_in, first_since}
 use Rattle.lab_engine.specs.Sight.{IsFirstConflict}
 use Rattle.lab_engine.specs.Situation.{Describes, IsRunning, running_of}
-use Rattle.lab_engine.proofs.Locks.{none_some, some_same}
+use Rattle.lab_engine.proofs.LockSteps.{none_some, some_same}
 use Rattle.lab_engine.proofs.Describing.{running_txn}
 use Rattle.lab_engine.proofs.InstalledChains.{SinceThen, since_begin, last_no}
 use Rattle.lab_versions.specs.Conflict.{first_taken}

@@ -7,7 +7,8 @@ use Rattle.lab_engine.specs.declared.circle.WaitEdge.{WaitEdge}
 use Rattle.lab_engine.specs.declared.waits.Wait.{Wait}
 use Rattle.lab_engine.specs.WaitsFor.{IsRound, waits_for}
 use Rattle.lab_engine.specs.WaitEdges.{is_reached, trail, IsNewWaitEdge}
-use Rattle.lab_engine.proofs.Walks.{trail_round, no_walk, fewer_missing, missing}
+use Rattle.lab_engine.proofs.Walks.{trail_round, no_walk}
+use Rattle.lab_engine.proofs.Unreached.{fewer_missing, missing}
 use Rattle.lab_engine.proofs.ShortestWalks.{nobody_new, search_goes_on, found_shortest, IsSearched}
 use Rattle.lab_engine.proofs.circle.shortest_circle.Goals as goal
 

@@ -1,6 +1,6 @@
 use Rattle.lab_engine.specs.Recording.{op_of}
 use Rattle.lab_engine.specs.Gathered.{with_ops}
-use Rattle.lab_engine.proofs.GatheredLogs.{set_by}
+use Rattle.lab_engine.proofs.TxnsAfterEvents.{set_by}
 use Rattle.lab_engine.proofs.gathering.run_by.Goals as goal
 
 pub returns-in_ok-run : goal.returns-in_ok-run

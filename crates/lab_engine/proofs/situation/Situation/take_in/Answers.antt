@@ -2,7 +2,8 @@ use Rattle.std.proofs.Common.{sym, ap, subst, refl, ◌∙◌, arith}
 use Rattle.lab_engine.specs.Log.{active, commits}
 use Rattle.lab_engine.specs.Chains.{chain_in, chain_after}
 use Rattle.lab_engine.specs.Situation.{Agree, running_of}
-use Rattle.lab_engine.proofs.Describing.{begun_at_most, running_agrees, goes_on}
+use Rattle.lab_engine.proofs.Describing.{running_agrees, goes_on}
+use Rattle.lab_engine.proofs.EventBounds.{begun_at_most}
 use Rattle.lab_engine.proofs.situation.Situation.take_in.Goals as goal
 
 pub begun_next-self-requires : goal.begun_next-self-requires
