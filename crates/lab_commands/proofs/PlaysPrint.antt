@@ -20,7 +20,7 @@ use Rattle.lab_engine.specs.declared.event.LogEvent.{LogEvent}
 use Rattle.lab_engine.specs.Log.{Past, Txn, active, active_after, waiting, waiting_after}
 use Rattle.lab_engine.specs.Rules.{Asks, Permitted, IsLegal}
 use Rattle.lab_engine.specs.Recording.{Line, given, lines_by, next_line, FollowsScript, AllFollowScript}
-use Rattle.lab_engine.proofs.Locks.{none_some, some_same}
+use Rattle.lab_engine.proofs.LockSteps.{none_some, some_same}
 use Rattle.lab_session.specs.LogText.{AllPrint, SomeEvent}
 use Rattle.lab_session.specs.Play.{given_lines, IsLegalPlay}
 use Rattle.lab_commands.proofs.ScriptsPrint.{not_deep, not_long}

@@ -23,7 +23,7 @@ use Rattle.lab_engine.specs.declared.event.LogEvent.{LogEvent}
 use Rattle.lab_engine.specs.Log.{Past, Version, Txn, past_of, active, waiting, asked, begun}
 use Rattle.lab_engine.specs.Rules.{Gives, MayAsk, Asks, IsFree, IsCircle, IsEffect, MayCommit, in_view}
 use Rattle.lab_engine.specs.Answer.{MayGive, Answers}
-use Rattle.lab_engine.proofs.Describing.{begun_at_most}
+use Rattle.lab_engine.proofs.EventBounds.{begun_at_most}
 
 -- a command that runs no statement is given at rest
 at_rest : (past : Past) (session : ℕ) (command : Command) → asked command ≡ None → MayGive past session command → waiting past session ≡ None
@@ -140,7 +140,8 @@ Looked level past txn found = MatchOption found (MayCommit level past txn) (IsFi
 pub conflict_none : (level : Level) (past : Past) (txn : Txn) (found : Option Conflict) → found ≡ None → Looked level past txn found → MayCommit level past txn
 conflict_none level past txn found none looked = subst (Looked level past txn) none looked
 
-pub conflict_some : (level : Level) (past : Past) (txn : Txn) (found : Option Conflict) (conflict : Conflict) → found ≡ Some conflict → Looked level past txn found → IsFirstConflict level past txn conflict
+pub conflict_some : (level : Level) (past : Past) (txn : Txn) (found : Option Conflict) (conflict : Conflict) → found ≡ Some conflict → Looked level past txn found
+    → IsFirstConflict level past txn conflict
 conflict_some level past txn found conflict some looked = subst (Looked level past txn) some looked
 
 -- what is answered to a statement is answered to the command that runs it

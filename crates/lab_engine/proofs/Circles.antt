@@ -11,7 +11,7 @@ use Rattle.lab_engine.specs.Rules.{BlockedBy, IsChain, IsCircle, MayAsk}
 use Rattle.lab_engine.specs.Recording.{IsRetryable}
 use Rattle.lab_engine.specs.WaitsFor.{waits_for, IsWalk, IsRound, WaitsOn, AreWaits}
 use Rattle.lab_engine.specs.Released.{IsReleased}
-use Rattle.lab_engine.proofs.Locks.{some_same}
+use Rattle.lab_engine.proofs.LockSteps.{some_same}
 use Rattle.lab_engine.proofs.Waiting.{asked_is, AreWaitsWith}
 
 -- a walk begins with a step
@@ -63,7 +63,8 @@ circle_walk level setup past waits session s h may (first ∷ rest) (own, chain)
     all : (next : ℕ) (t : Statement) → waiting past next ≡ Some t → (other : ℕ) → BlockedBy level setup past next t other → IsTrue (waits_for waits next other)
     all next t is other b = elim (cases_eq next session) [
       | inl same ↦ subst (λ k. IsTrue (waits_for waits k other)) (sym same)
-          ((h.0 other).1 (subst (λ u. BlockedBy level setup past session u other) (asked_is past session s t may (subst (λ k. waiting past k ≡ Some t) same is)) (subst (λ k. BlockedBy level setup past k t other) same b)))
+          ((h.0 other).1 (subst (λ u. BlockedBy level setup past session u other) (asked_is past session s t may (subst (λ k. waiting past k ≡ Some t) same is))
+          (subst (λ k. BlockedBy level setup past k t other) same b)))
       | inr apart ↦ (h.1 next other apart).1 (t, is, b)
     ]
 
@@ -93,7 +94,8 @@ released_retryable level setup past waits session s h is (inr (rest, walk)) = (
 )
 
 -- a retryable session is released
-pub retryable_released : (level : Level) (setup : Table) (past : Past) (waits : List Wait) (session : ℕ) → AreWaits level setup past waits → IsRetryable level setup past session → IsReleased waits session
+pub retryable_released : (level : Level) (setup : Table) (past : Past) (waits : List Wait) (session : ℕ) → AreWaits level setup past waits → IsRetryable level setup past session
+    → IsReleased waits session
 retryable_released level setup past waits session h (s, is, inl free) = inl nobody
   where
     at : (other : ℕ) (b : Bool) → waits_for waits session other ≡ b → b ≡ false

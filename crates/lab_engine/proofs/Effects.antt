@@ -1,34 +1,29 @@
 -- What is made of each row that is seen, row by row, and which row keeps a statement from running.
-use Rattle.std.proofs.Common.{◌≡◌, ◌∙◌, refl, sym, ap, subst, ℤ, Bool, true, false, cond, not, ◌||◌, T, List, [], ◌∷◌, ◌⊎◌, inl, inr}
+use Rattle.std.proofs.Common.{◌≡◌, ◌∙◌, refl, sym, ap, subst, ℤ, Bool, true, false, cond, not, T, List, [], ◌∷◌}
 use Rattle.std.specs.Prelude.{Option, Some, None, option_map, option_and_then, unwrap_or}
-use Rattle.std.specs.List.{cons_option, list_any}
-use Rattle.std.specs.Ordering.{is_lt, ordering_reverse}
-use Rattle.std.specs.declared.cmp.Ordering.TheVariants.{Less}
+use Rattle.std.specs.List.{cons_option}
+use Rattle.std.specs.Ordering.{is_lt}
 use Rattle.std.proofs.lemmas.Bool.{true≢false}
 use Rattle.std.specs.FinMap.{FinMap, find, is_sorted, get, entries, entries_sorted, get-entries, from_sorted, get-from_sorted}
 use Rattle.std.specs.FinMap.Entries.{below_all}
-use Rattle.lab_table.specs.Row.{Row, row_cmp, row_eq, rows_total}
+use Rattle.lab_table.specs.Row.{Row, row_cmp, row_eq}
 use Rattle.lab_table.specs.Table.{State, Rows}
 use Rattle.lab_table.specs.Statement.{where_holds, listed, written, fails, overflows, applied, in_range}
 use Rattle.lab_table.specs.Predicate.{Predicate}
 use Rattle.lab_table.specs.declared.statement.Expr.{Expr}
 use Rattle.lab_table.specs.declared.statement.Statement.{Statement}
 use Rattle.lab_table.specs.declared.statement.Statement.TheVariants.{Select, Update, Insert, Delete}
-use Rattle.lab_table.proofs.Maps.{same_row, row_eq_self, find_below}
+use Rattle.lab_table.proofs.Maps.{same_row, find_below}
 use Rattle.lab_table.proofs.Tests.{both, joined}
-use Rattle.lab_table.proofs.Orderings.{is_less}
 use Rattle.lab_history.specs.VersionName.{View, state_value, new_states}
 use Rattle.lab_history.specs.declared.operation.VersionName.{VersionName}
 use Rattle.lab_history.specs.declared.operation.State.{State as Left}
 use Rattle.lab_history.specs.declared.operation.State.TheVariants.{Present}
 use Rattle.lab_engine.specs.Log.{Version}
-use Rattle.lab_engine.specs.Rules.{in_view, IsBelow, IsUpdate}
+use Rattle.lab_engine.specs.Rules.{in_view}
 use Rattle.lab_engine.specs.Sight.{Listed, version_in}
-use Rattle.lab_engine.specs.EachRow.{with_row, each_row, value_rewritten, rewritten, first_failing}
-use Rattle.lab_engine.specs.Effect.{IsEffectFault}
-use Rattle.lab_engine.specs.declared.effect.EffectFault.TheVariants.{OutOfRange}
-use Rattle.lab_engine.proofs.Locks.{none_some, some_same}
-use Rattle.lab_engine.proofs.Holding.{absent, none_of_any, behind}
+use Rattle.lab_engine.specs.EachRow.{with_row, each_row, value_rewritten, rewritten}
+use Rattle.lab_engine.proofs.Holding.{absent}
 
 module _ {A B : Type 0} (f : Row → A → Option B) where
   below_each : (x : Row) (es : List (Row × A)) → T (below_all row_cmp x es) → T (below_all row_cmp x (each_row f es))
@@ -197,101 +192,3 @@ update_made s expr pred m es items is of_map made = states_made s (subst Rewrite
 pub delete_made : (s : Statement) (pred : Option Predicate) (m : Listed) (es : List (Row × Version)) (items : List (Row × Left)) → s ≡ Delete pred
     → es ≡ entries m → items ≡ each_row (λ row (v : Version). rewritten s row v.state) es → AreWritten s m items
 delete_made s pred m es items is of_map made = states_made s (subst Rewrites (sym is) (delete_rewrites pred)) m es items of_map made
-
--- where none fails, a test of all finds none
-none_failing : (s : Statement) (es : List (Row × Version)) → first_failing s es ≡ None → list_any (λ e. fails s e.0 e.1.state) es ≡ false
-none_failing s [] h = refl
-none_failing s (e ∷ es) h =
-    elim (fails s e.0 e.1.state) as (λ b. cond b (Some e.0) (first_failing s es) ≡ None → (b || list_any (λ e. fails s e.0 e.1.state) es) ≡ false) [
-      | true ↦ λ is. none_some _ (sym is)
-      | false ↦ λ is. none_failing s es is
-    ] h
-
--- a row that is found behind a row that is below all comes after that
-after_found : (x : Row) (es : List (Row × Version)) (q : Row) (v : Version) → T (below_all row_cmp x es) → find row_cmp q es ≡ Some v → row_cmp x q ≡ Less
-after_found x [] q v below h = none_some _ h
-after_found x (e ∷ es) q v below h =
-    let parts = both (is_lt (row_cmp x e.0)) (below_all row_cmp x es) below in
-    elim (row_eq q e.0) as (λ t. row_eq q e.0 ≡ t → cond t (Some e.1) (find row_cmp q es) ≡ Some v → row_cmp x q ≡ Less) [
-      | true ↦ λ t is. ap (row_cmp x) (same_row q e.0 t) ∙ is_less (row_cmp x e.0) parts.0
-      | false ↦ λ t is. after_found x es q v parts.1 is
-    ] refl h
-
--- two rows aren't each below the other
-not_both_ways : {P : Type 0} (a b : Row) → row_cmp a b ≡ Less → row_cmp b a ≡ Less → P
-not_both_ways a b p q = absurd (subst (λ r. T (is_lt r)) (sym p ∙ rows_total.antisymm a b ∙ ap ordering_reverse q) tt)
-
--- a row fails, and none below it
-record IsFirst (s : Statement) (at : Row → Option Version) (row : Row) : Type 0 where
-  version : Version
-  found : at row ≡ Some version
-  fails_there : fails s row version.state ≡ true
-  before : (other : Row) (u : Version) → IsBelow other row → at other ≡ Some u → fails s other u.state ≡ false
-
-first_is : (s : Statement) (es : List (Row × Version)) (row : Row) → T (is_sorted row_cmp es) → first_failing s es ≡ Some row → IsFirst s (λ q. find row_cmp q es) row
-first_is s [] row h first = none_some _ first
-first_is s (e ∷ es) row h first = at (first_is s es row parts.1) (fails s e.0 e.1.state) refl first
-  where
-    parts : T (below_all row_cmp e.0 es) × T (is_sorted row_cmp es)
-    parts = both (below_all row_cmp e.0 es) (is_sorted row_cmp es) h
-
-    -- what is found is the first entry's, or behind it
-    found_either : (q : Row) (u : Version) → find row_cmp q (e ∷ es) ≡ Some u → ((q ≡ e.0) × (e.1 ≡ u)) ⊎ (find row_cmp q es ≡ Some u)
-    found_either q u is = elim (row_eq q e.0) as (λ t. row_eq q e.0 ≡ t → cond t (Some e.1) (find row_cmp q es) ≡ Some u → ((q ≡ e.0) × (e.1 ≡ u)) ⊎ (find row_cmp q es ≡ Some u)) [
-      | true ↦ λ t own. inl (same_row q e.0 t, some_same e.1 u own)
-      | false ↦ λ t rest. inr rest
-    ] refl is
-
-    at : (first_failing s es ≡ Some row → IsFirst s (λ q. find row_cmp q es) row) → (b : Bool) → fails s e.0 e.1.state ≡ b
-        → cond b (Some e.0) (first_failing s es) ≡ Some row → IsFirst s (λ q. find row_cmp q (e ∷ es)) row
-    at later true f is = subst (IsFirst s (λ q. find row_cmp q (e ∷ es))) (some_same e.0 row is) (record {
-      version = e.1;
-      found = ap (λ t. cond t (Some e.1) (find row_cmp e.0 es)) (row_eq_self e.0);
-      fails_there = f;
-      before = λ other u below is. elim (found_either other u is) [
-        | inl own ↦ not_both_ways e.0 e.0 (subst (λ k. row_cmp k e.0 ≡ Less) own.0 below) (subst (λ k. row_cmp k e.0 ≡ Less) own.0 below)
-        | inr rest ↦ not_both_ways other e.0 below (after_found e.0 es other u parts.0 rest)
-      ];
-    })
-    at later false f is =
-        let rest = later is in
-        record {
-          version = rest.version;
-          found = behind e es row rest.version parts.0 rest.found;
-          fails_there = rest.fails_there;
-          before = λ other u below is. elim (found_either other u is) [
-            | inl own ↦ subst (λ k. fails s k u.state ≡ false) (sym own.0) (subst (λ (k : Version). fails s e.0 k.state ≡ false) own.1 f)
-            | inr there ↦ rest.before other u below there
-          ];
-        }
-
-module _ (s : Statement) (m : Listed) (es : List (Row × Version)) (of_map : es ≡ entries m) (nothing : (q : Row) → fails s q None ≡ false) where
-  -- where no row that is seen fails, none does
-  runs_all : first_failing s es ≡ None → (q : Row) → fails s q (version_in m q).state ≡ false
-  runs_all none q = at (get m q) refl
-    where
-      at : (o : Option Version) → get m q ≡ o → fails s q (unwrap_or o absent).state ≡ false
-      at None is = nothing q
-      at (Some v) is = none_of_any (λ e. fails s e.0 e.1.state) m (none_failing s (entries m) (ap (first_failing s) (sym of_map) ∙ none)) q v is
-
-  -- the first row that fails
-  fails_first : (row : Row) → first_failing s es ≡ Some row → (fails s row (version_in m row).state ≡ true) × ((other : Row) → IsBelow other row → fails s other (version_in m other).state ≡ false)
-  fails_first row first =
-      let f = first_is s (entries m) row (entries_sorted m) (ap (first_failing s) (sym of_map) ∙ first) in
-      (ap (λ o. fails s row (unwrap_or o absent).state) (get-entries m row ∙ f.found) ∙ f.fails_there, λ other below. at f other below (get m other) refl)
-    where
-      at : IsFirst s (λ q. find row_cmp q (entries m)) row → (other : Row) → IsBelow other row → (o : Option Version) → get m other ≡ o → fails s other (unwrap_or o absent).state ≡ false
-      at f other below None is = nothing other
-      at f other below (Some u) is = f.before other u below (sym (get-entries m other) ∙ is)
-
--- an update runs where no row that is seen fails
-pub update_runs : (s : Statement) (expr : Expr) (pred : Option Predicate) (m : Listed) (es : List (Row × Version)) → s ≡ Update expr pred → es ≡ entries m
-    → first_failing s es ≡ None → (q : Row) → fails s q (version_in m q).state ≡ false
-update_runs s expr pred m es is of_map none = runs_all s m es of_map (λ q. ap (λ k. fails k q None) is) none
-
--- else the first such row is named
-pub update_fails : (s : Statement) (expr : Expr) (pred : Option Predicate) (m : Listed) (es : List (Row × Version)) (row : Row) → s ≡ Update expr pred → es ≡ entries m
-    → first_failing s es ≡ Some row → IsEffectFault (version_in m) s (OutOfRange row)
-update_fails s expr pred m es row is of_map first =
-    let f = fails_first s m es of_map (λ q. ap (λ k. fails k q None) is) row first in
-    (subst IsUpdate (sym is) tt, f.0, f.1)

@@ -15,7 +15,8 @@ use Rattle.lab_engine.specs.Log.{Past, past_of, active}
 use Rattle.lab_engine.specs.Rules.{IsLegal}
 use Rattle.lab_engine.specs.Gathered.{number_of, number_at, AreActive, recorded, txns_after, gathered_by, installing, IsShort, IsWithin, installed_over, installs_by, numbers_of, Gathers}
 use Rattle.lab_engine.proofs.Runs.{past_of-push}
-use Rattle.lab_engine.proofs.GatheredLogs.{legal_front, txns_go, within, few_ops, installed_goes, installers_go}
+use Rattle.lab_engine.proofs.GatheredLogs.{legal_front, within, few_ops, installed_goes, installers_go}
+use Rattle.lab_engine.proofs.TxnsAfterEvents.{txns_go}
 
 -- nothing is told before the first event
 pub nothing_gathered : (gathered : Gathering) → AreActive [] gathered.active.items → gathered.txns.items ≡ [] → gathered.committed ≡ empty → gathered.installs.items ≡ [] → Gathers [] gathered
@@ -35,14 +36,16 @@ pub front_legal : (level : Level) (setup : Table) (log : List LogEvent) (i : ℕ
     → IsLegal level setup (event ∷ past_of (take i log))
 front_legal level setup log i event legal few is = subst (λ past. IsLegal level setup past) (front_more log i event few is) (legal_front level setup log (i + 1) legal)
 
-module _ (level : Level) (setup : Table) (past : Past) (event : LogEvent) (old : Gathering) (tells : Gathers past old) (legal : IsLegal level setup (event ∷ past)) (low : 1 ≤ event.session) (high : event.session ≤ 9)
+module _ (level : Level) (setup : Table) (past : Past) (event : LogEvent) (old : Gathering) (tells : Gathers past old) (legal : IsLegal level setup (event ∷ past)) (low : 1 ≤ event.session)
+    (high : event.session ≤ 9)
     (place : ℕ) (there : place ≡ event.session - 1) where
   by_is : number_at old.active.items place ≡ number_of (active past event.session)
   by_is = ap (number_at old.active.items) there ∙ tells.active.kept event.session low high
 
   -- who commits has few operations
   pub is_short : length past < 100000 → IsShort (installing event.outcome (gathered_by old.txns.items (number_at old.active.items place)))
-  is_short room = subst (λ by. IsShort (installing event.outcome (gathered_by old.txns.items by))) (sym by_is) (at event.outcome (gathered_by old.txns.items (number_of (active past event.session))) refl)
+  is_short room =
+      subst (λ by. IsShort (installing event.outcome (gathered_by old.txns.items by))) (sym by_is) (at event.outcome (gathered_by old.txns.items (number_of (active past event.session))) refl)
     where
       short : (w : Option GatheredTxn) → gathered_by old.txns.items (number_of (active past event.session)) ≡ w → IsShort w
       short None is = tt
@@ -63,7 +66,8 @@ module _ (level : Level) (setup : Table) (past : Past) (event : LogEvent) (old :
   pub gathers_next : (new : Gathering) → AreActive (event ∷ past) new.active.items
       → each recorded new.txns.items ≡ txns_after event.command event.outcome (number_at old.active.items place) (each recorded old.txns.items)
       → ((row : Row) → get new.committed row ≡ installed_over (installing event.outcome (gathered_by old.txns.items (number_at old.active.items place))) row (get old.committed row))
-      → ((row : Row) → numbers_of row new.installs.items ≡ numbers_of row old.installs.items ++ installs_by (installing event.outcome (gathered_by old.txns.items (number_at old.active.items place))) row)
+      → ((row : Row) → numbers_of row new.installs.items ≡ numbers_of row old.installs.items
+      ++ installs_by (installing event.outcome (gathered_by old.txns.items (number_at old.active.items place))) row)
       → Gathers (event ∷ past) new
   gathers_next new are txns over more = record {
     active = are;
@@ -81,10 +85,12 @@ module _ (level : Level) (setup : Table) (past : Past) (event : LogEvent) (old :
   -- so it is where the versions are installed first, then the transactions go on, then the sessions
   pub gathers_by : (installed added new : Gathering) → installed.active ≡ old.active → installed.txns ≡ old.txns
       → ((row : Row) → get installed.committed row ≡ installed_over (installing event.outcome (gathered_by old.txns.items (number_at old.active.items place))) row (get old.committed row))
-      → ((row : Row) → numbers_of row installed.installs.items ≡ numbers_of row old.installs.items ++ installs_by (installing event.outcome (gathered_by old.txns.items (number_at old.active.items place))) row)
+      → ((row : Row) → numbers_of row installed.installs.items ≡ numbers_of row old.installs.items
+      ++ installs_by (installing event.outcome (gathered_by old.txns.items (number_at old.active.items place))) row)
       → added.active ≡ installed.active → each recorded added.txns.items ≡ txns_after event.command event.outcome (number_at installed.active.items place) (each recorded installed.txns.items)
       → added.committed ≡ installed.committed → added.installs ≡ installed.installs
-      → (AreActive past added.active.items → AreActive (event ∷ past) new.active.items) → new.txns ≡ added.txns → new.committed ≡ added.committed → new.installs ≡ added.installs → Gathers (event ∷ past) new
+      → (AreActive past added.active.items → AreActive (event ∷ past) new.active.items) → new.txns ≡ added.txns → new.committed ≡ added.committed → new.installs ≡ added.installs
+      → Gathers (event ∷ past) new
   gathers_by installed added new same_active same_txns over more also_active gone also_committed also_installs kept new_txns new_committed new_installs =
       gathers_next new
       (kept (subst (λ l. AreActive past l) (sym (λ i. ((also_active ∙ same_active) i).items)) tells.active))
@@ -104,5 +110,6 @@ pub front_few : (log : List LogEvent) (i : ℕ) → i < length log → length lo
 front_few log i few most = let counted = length-reverse (take i log) ∙ length-take-le i log (omega (arith, few)) in omega (arith, counted, few, most)
 
 -- so is what is gathered of the events so far with the next one
-pub front_gathered : (log : List LogEvent) (i : ℕ) (event : LogEvent) (gathered : Gathering) → i < length log → event ≡ get_or log i event → Gathers (event ∷ past_of (take i log)) gathered → Gathers (past_of (take (i + 1) log)) gathered
+pub front_gathered : (log : List LogEvent) (i : ℕ) (event : LogEvent) (gathered : Gathering) → i < length log → event ≡ get_or log i event → Gathers (event ∷ past_of (take i log)) gathered
+    → Gathers (past_of (take (i + 1) log)) gathered
 front_gathered log i event gathered few is tells = subst (λ past. Gathers past gathered) (sym (front_more log i event few is)) tells

@@ -89,17 +89,21 @@ group_found row before x (y ∷ ys) up = split (group_found row (before ++ x.1 �
     put_together true = ap Some (append_assoc before (x.1 ∷ []) (map (λ (k : Row × ℕ). k.1) own))
     put_together false = refl
 
-    first : (b : Bool) (rest : Installs) → cond b (Some ([] ++ map (λ (k : Row × ℕ). k.1) (cond b (y ∷ rest) rest))) (if_any (map (λ (k : Row × ℕ). k.1) (cond b (y ∷ rest) rest))) ≡ if_any (map (λ (k : Row × ℕ). k.1) (cond b (y ∷ rest) rest))
+    first : (b : Bool) (rest : Installs) → cond b (Some ([] ++ map (λ (k : Row × ℕ). k.1) (cond b (y ∷ rest) rest))) (if_any (map (λ (k : Row × ℕ). k.1) (cond b (y ∷ rest) rest))) ≡ if_any
+        (map (λ (k : Row × ℕ). k.1) (cond b (y ∷ rest) rest))
     first true rest = refl
     first false rest = refl
 
-    ends : (find row_cmp row (groups_from [] (y ∷ ys)) ≡ cond (row_eq row y.0) (Some ([] ++ numbers_of row (y ∷ ys))) (if_any (numbers_of row (y ∷ ys)))) → (x.0 == y.0) ≡ false → (b : Bool) → row_eq row x.0 ≡ b → cond b (Some (before ++ x.1 ∷ [])) (find row_cmp row (groups_from [] (y ∷ ys))) ≡ whole b
+    ends : (find row_cmp row (groups_from [] (y ∷ ys)) ≡ cond (row_eq row y.0) (Some ([] ++ numbers_of row (y ∷ ys))) (if_any (numbers_of row (y ∷ ys)))) → (x.0 == y.0) ≡ false → (b : Bool)
+        → row_eq row x.0 ≡ b → cond b (Some (before ++ x.1 ∷ [])) (find row_cmp row (groups_from [] (y ∷ ys))) ≡ whole b
     ends next f true t =
         let less : row_cmp row y.0 ≡ Less = ap (λ k. row_cmp k y.0) (same_row row x.0 t) ∙ above x.0 y.0 up.0.0 f in
         ap (λ l. Some (before ++ x.1 ∷ l)) (sym (none_of row y.0 (y ∷ ys) less (ap is_lt (tied_itself rows_total y.0), up.1.0)))
     ends next f false t = next ∙ first (row_eq row y.0) (filter (λ (k : Row × ℕ). row_eq row k.0) ys)
 
-    split : (find row_cmp row (groups_from (before ++ x.1 ∷ []) (y ∷ ys)) ≡ cond (row_eq row y.0) (Some ((before ++ x.1 ∷ []) ++ numbers_of row (y ∷ ys))) (if_any (numbers_of row (y ∷ ys)))) → (find row_cmp row (groups_from [] (y ∷ ys)) ≡ cond (row_eq row y.0) (Some ([] ++ numbers_of row (y ∷ ys))) (if_any (numbers_of row (y ∷ ys)))) → (b : Bool) → (x.0 == y.0) ≡ b → find row_cmp row (cond b (groups_from (before ++ x.1 ∷ []) (y ∷ ys)) ((x.0, before ++ x.1 ∷ []) ∷ groups_from [] (y ∷ ys))) ≡ whole (row_eq row x.0)
+    split : (find row_cmp row (groups_from (before ++ x.1 ∷ []) (y ∷ ys)) ≡ cond (row_eq row y.0) (Some ((before ++ x.1 ∷ []) ++ numbers_of row (y ∷ ys))) (if_any (numbers_of row (y ∷ ys))))
+        → (find row_cmp row (groups_from [] (y ∷ ys)) ≡ cond (row_eq row y.0) (Some ([] ++ numbers_of row (y ∷ ys))) (if_any (numbers_of row (y ∷ ys)))) → (b : Bool) → (x.0 == y.0) ≡ b
+        → find row_cmp row (cond b (groups_from (before ++ x.1 ∷ []) (y ∷ ys)) ((x.0, before ++ x.1 ∷ []) ∷ groups_from [] (y ∷ ys))) ≡ whole (row_eq row x.0)
     split again next true t =
         let same : x.0 ≡ y.0 = same_row x.0 y.0 (sym (rows_tested x.0 y.0) ∙ t) in
         again
@@ -112,7 +116,8 @@ group_above : (r : Row) (before : List ℕ) (x : Row × ℕ) (xs : Installs) →
 group_above r before x [] up less = joined (is_lt (row_cmp r x.0)) true (subst (λ o. T (is_lt o)) (sym less) tt) tt
 group_above r before x (y ∷ ys) up less = split (group_above r (before ++ x.1 ∷ []) y ys up.1) (group_above r [] y ys up.1) (x.0 == y.0) refl
   where
-    split : (row_cmp r y.0 ≡ Less → T (below_all row_cmp r (groups_from (before ++ x.1 ∷ []) (y ∷ ys)))) → (row_cmp r y.0 ≡ Less → T (below_all row_cmp r (groups_from [] (y ∷ ys)))) → (b : Bool) → (x.0 == y.0) ≡ b → T (below_all row_cmp r (cond b (groups_from (before ++ x.1 ∷ []) (y ∷ ys)) ((x.0, before ++ x.1 ∷ []) ∷ groups_from [] (y ∷ ys))))
+    split : (row_cmp r y.0 ≡ Less → T (below_all row_cmp r (groups_from (before ++ x.1 ∷ []) (y ∷ ys)))) → (row_cmp r y.0 ≡ Less → T (below_all row_cmp r (groups_from [] (y ∷ ys)))) → (b : Bool)
+        → (x.0 == y.0) ≡ b → T (below_all row_cmp r (cond b (groups_from (before ++ x.1 ∷ []) (y ∷ ys)) ((x.0, before ++ x.1 ∷ []) ∷ groups_from [] (y ∷ ys))))
     split again next true t =
         let same : x.0 ≡ y.0 = same_row x.0 y.0 (sym (rows_tested x.0 y.0) ∙ t) in
         again (ap (row_cmp r) (sym same) ∙ less)
@@ -124,7 +129,8 @@ group_sorted : (before : List ℕ) (x : Row × ℕ) (xs : Installs) → Rising (
 group_sorted before x [] up = tt
 group_sorted before x (y ∷ ys) up = split (group_sorted (before ++ x.1 ∷ []) y ys up.1) (group_sorted [] y ys up.1) (x.0 == y.0) refl
   where
-    split : T (is_sorted row_cmp (groups_from (before ++ x.1 ∷ []) (y ∷ ys))) → T (is_sorted row_cmp (groups_from [] (y ∷ ys))) → (b : Bool) → (x.0 == y.0) ≡ b → T (is_sorted row_cmp (cond b (groups_from (before ++ x.1 ∷ []) (y ∷ ys)) ((x.0, before ++ x.1 ∷ []) ∷ groups_from [] (y ∷ ys))))
+    split : T (is_sorted row_cmp (groups_from (before ++ x.1 ∷ []) (y ∷ ys))) → T (is_sorted row_cmp (groups_from [] (y ∷ ys))) → (b : Bool) → (x.0 == y.0) ≡ b
+        → T (is_sorted row_cmp (cond b (groups_from (before ++ x.1 ∷ []) (y ∷ ys)) ((x.0, before ++ x.1 ∷ []) ∷ groups_from [] (y ∷ ys))))
     split again next true t = again
     split again next false f =
         joined (below_all row_cmp x.0 (groups_from [] (y ∷ ys))) (is_sorted row_cmp (groups_from [] (y ∷ ys)))
@@ -139,7 +145,8 @@ found : (row : Row) (is : Installs) → Rising is → find row_cmp row (groups_f
 found row [] up = refl
 found row (x ∷ xs) up = group_found row [] x xs up ∙ at (row_eq row x.0) (filter (λ (k : Row × ℕ). row_eq row k.0) xs)
   where
-    at : (b : Bool) (rest : Installs) → cond b (Some ([] ++ map (λ (k : Row × ℕ). k.1) (cond b (x ∷ rest) rest))) (if_any (map (λ (k : Row × ℕ). k.1) (cond b (x ∷ rest) rest))) ≡ if_any (map (λ (k : Row × ℕ). k.1) (cond b (x ∷ rest) rest))
+    at : (b : Bool) (rest : Installs) → cond b (Some ([] ++ map (λ (k : Row × ℕ). k.1) (cond b (x ∷ rest) rest))) (if_any (map (λ (k : Row × ℕ). k.1) (cond b (x ∷ rest) rest))) ≡ if_any
+        (map (λ (k : Row × ℕ). k.1) (cond b (x ∷ rest) rest))
     at true rest = refl
     at false rest = refl
 
@@ -153,7 +160,8 @@ kept row old new stable =
 
     at : (k : Row) (r : Ordering) → row_cmp row k ≡ r → is_eq (row_cmp row k) ≡ (not (is_lt (row_cmp row k)) && not (is_lt (row_cmp k row)))
     at k Less p = ap is_eq p ∙ sym (ap (λ r. not (is_lt r) && not (is_lt (row_cmp k row))) p)
-    at k Equal p = ap is_eq p ∙ sym (ap (λ r. not (is_lt r) && not (is_lt (row_cmp k row))) p ∙ ap (λ r. not (is_lt r)) (ap (λ m. row_cmp m row) (sym (rows_apart row k p)) ∙ tied_itself rows_total row))
+    at k Equal p =
+        ap is_eq p ∙ sym (ap (λ r. not (is_lt r) && not (is_lt (row_cmp k row))) p ∙ ap (λ r. not (is_lt r)) (ap (λ m. row_cmp m row) (sym (rows_apart row k p)) ∙ tied_itself rows_total row))
     at k Greater p = ap is_eq p ∙ sym (ap (λ r. not (is_lt r) && not (is_lt (row_cmp k row))) p ∙ ap (λ r. not (is_lt r)) (turned row k p))
 
     same_tests : (is : Installs) → filter (λ (k : Row × ℕ). row_eq row k.0) is ≡ filter tie is

@@ -19,7 +19,7 @@ use Rattle.lab_engine.specs.Log.{Past, Version, Txn, version_by, has_read}
 use Rattle.lab_engine.specs.Rules.{HoldsWrite}
 use Rattle.lab_engine.specs.Sight.{Listed, version_in, IsSight}
 use Rattle.lab_engine.specs.Pending.{writes_over}
-use Rattle.lab_engine.proofs.Locks.{none_some, some_same}
+use Rattle.lab_engine.proofs.LockSteps.{none_some, some_same}
 
 -- the version of a row that is absent from the start
 abbrev pub absent : Version
@@ -71,7 +71,8 @@ any-read [] row state = refl
 any-read (op ∷ ops) row state = ap (λ b. matches op.statement row state || b) (any-read ops row state)
 
 -- in whichever order they stand
-pub any_read : (statements : List Statement) (ops : List Op) (row : Row) (state : State) → statements ≡ reverse (map (λ op. op.statement) ops) → list_any (λ s. matches s row state) statements ≡ has_read ops row state
+pub any_read : (statements : List Statement) (ops : List Op) (row : Row) (state : State) → statements ≡ reverse (map (λ op. op.statement) ops)
+    → list_any (λ s. matches s row state) statements ≡ has_read ops row state
 any_read statements ops row state same =
     ap (list_any (λ s. matches s row state)) same
     ∙ sym (list_any-IsPermutation (λ s. matches s row state) (map (λ op. op.statement) ops) (reverse (map (λ op. op.statement) ops)) (IsPermutation-reverse (map (λ op. op.statement) ops)))

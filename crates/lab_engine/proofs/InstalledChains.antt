@@ -1,6 +1,6 @@
 -- Chains of installed versions: what a commit puts onto them, and what they say of the versions at a begin.
 use Rattle.std.proofs.Common.{◌≡◌, ℕ, ◌≤◌, ◌<◌, refl, sym, ap, subst, ◌∙◌, arith, Bool, true, false, cond, T, List, [], ◌∷◌, ◌++◌, length, length-append, reverse, append_assoc}
-use Rattle.std.specs.Prelude.{Option, Some, None, is_some, option_map, option_and_then, unwrap_or}
+use Rattle.std.specs.Prelude.{Option, Some, None, is_some, option_map, unwrap_or}
 use Rattle.std.specs.Ordering.{is_eq}
 use Rattle.std.specs.Option.{option_or}
 use Rattle.std.proofs.lemmas.Bool.{lt-ltb, le-ltb}
@@ -18,7 +18,7 @@ use Rattle.lab_engine.specs.Log.{Past, Version, Txn, active, commits, commits_af
 use Rattle.lab_engine.specs.Laws.{Began}
 use Rattle.lab_engine.specs.Chains.{longer, chain_after, chain, added, version_before, first_since}
 use Rattle.lab_engine.specs.Sight.{Listed as Versions}
-use Rattle.lab_engine.proofs.Locks.{none_some}
+use Rattle.lab_engine.proofs.LockSteps.{none_some}
 use Rattle.lab_engine.proofs.Begins.{begins_hold}
 
 -- ---- a commit's versions
@@ -28,15 +28,18 @@ either_way : (a b : Row) → is_eq (row_cmp a b) ≡ row_eq b a
 either_way a b = ap is_eq (rows_total.antisymm a b) ∙ eq_reversed (row_cmp b a)
 
 -- a chain that is put in the place of the row's own, and has one version more
-pub put_chain : {A : Type 0} (items : A → List Installed) (row : Row) (x : Installed) (old new : Row → Option A) (v : A) (before : List Installed) → unwrap_or (option_map items (old row)) [] ≡ before → items v ≡ before ++ x ∷ []
+pub put_chain : {A : Type 0} (items : A → List Installed) (row : Row) (x : Installed) (old new : Row → Option A) (v : A) (before : List Installed)
+    → unwrap_or (option_map items (old row)) [] ≡ before → items v ≡ before ++ x ∷ []
     → ((q : Row) → new q ≡ cond (is_eq (row_cmp row q)) (Some v) (old q)) → (other : Row)
-    → reverse (unwrap_or (option_map items (new other)) []) ≡ cond (row_eq other row) (x ∷ reverse (unwrap_or (option_map items (old other)) [])) (reverse (unwrap_or (option_map items (old other)) []))
+    → reverse (unwrap_or (option_map items (new other)) []) ≡ cond (row_eq other row) (x ∷ reverse (unwrap_or (option_map items (old other)) []))
+    (reverse (unwrap_or (option_map items (old other)) []))
 put_chain {A} items row x old new v before was has updates other = at (row_eq other row) refl where
   now : (b : Bool) → row_eq other row ≡ b → new other ≡ cond b (Some v) (old other)
   now b is = updates other ∙ ap (λ t. cond t (Some v) (old other)) (either_way row other ∙ is)
 
   at : (b : Bool) → row_eq other row ≡ b
-      → reverse (unwrap_or (option_map items (new other)) []) ≡ cond (row_eq other row) (x ∷ reverse (unwrap_or (option_map items (old other)) [])) (reverse (unwrap_or (option_map items (old other)) []))
+      → reverse (unwrap_or (option_map items (new other)) []) ≡ cond (row_eq other row) (x ∷ reverse (unwrap_or (option_map items (old other)) []))
+      (reverse (unwrap_or (option_map items (old other)) []))
   at true is =
       ap (λ (o : Option A). reverse (unwrap_or (option_map items o) [])) (now true is) ∙ ap reverse has ∙ reverse-append before (x ∷ [])
       ∙ ap (λ l. x ∷ reverse l) (sym was) ∙ ap (λ r. x ∷ reverse (unwrap_or (option_map items (old r)) [])) (sym (same_row other row is))
@@ -61,7 +64,8 @@ module _ (by place : ℕ) (row : Row) where
     parts : T (below_all row_cmp e.0 es) × T (is_sorted row_cmp es)
     parts = both (below_all row_cmp e.0 es) (is_sorted row_cmp es) h
 
-    at : (T (is_sorted row_cmp es) → added by place es row c ≡ longer by place (find row_cmp row es) c) → (b : Bool) → row_eq row e.0 ≡ b → added by place (e ∷ es) row c ≡ longer by place (cond (row_eq row e.0) (Some e.1) (find row_cmp row es)) c
+    at : (T (is_sorted row_cmp es) → added by place es row c ≡ longer by place (find row_cmp row es) c) → (b : Bool) → row_eq row e.0 ≡ b
+        → added by place (e ∷ es) row c ≡ longer by place (cond (row_eq row e.0) (Some e.1) (find row_cmp row es)) c
     at rest true is =
         ap (λ b. added by place es row (cond b (record { version = e.1; by = by; place = place } ∷ c) c)) is
         ∙ added_none es (record { version = e.1; by = by; place = place } ∷ c) (find_below row es (subst (λ x. T (below_all row_cmp x es)) (sym (same_row row e.0 is)) parts.0))
@@ -178,30 +182,3 @@ pub since_begin : (past : Past) (session : ℕ) (txn : Txn) (row : Row) → acti
 since_begin past session txn row is =
     let b : Began past txn = begins_hold past session txn is in
     subst (λ (p : Past). SinceThen row p txn.before) (append_assoc b.since (b.event ∷ []) txn.before ∙ sym b.past_is) (since_then row txn.before (b.since ++ b.event ∷ []))
-
--- ---- the rows that have a chain
-
-module _ (row : Row) where
-  none_more : (outcome : Outcome) (act : Option Txn) (place : ℕ) (c : List Installed) (done : List Txn) → (last_installed done row ≡ None → c ≡ [])
-      → last_installed (commits_after outcome act done) row ≡ None → chain_after outcome act place row c ≡ []
-  none_more (Begun number) act place c done none h = none h
-  none_more (Listed view rows writes) act place c done none h = none h
-  none_more Committed None place c done none h = none h
-  none_more Committed (Some t) place c done none h = at (version_by t row) h where
-    at : (v : Option Version) → option_or v (last_installed done row) ≡ None → longer t.no place v c ≡ []
-    at None h = none h
-    at (Some v) h = none_some _ (sym h)
-  none_more Aborted act place c done none h = none h
-  none_more (Waits on) act place c done none h = none h
-  none_more (Refused fault) act place c done none h = none h
-
-  -- a row that was never installed has no chain
-  no_chain : (past : Past) → last_installed (commits past) row ≡ None → chain past row ≡ []
-  no_chain [] h = refl
-  no_chain (event ∷ past) h = none_more event.outcome (active past event.session) (length past) (chain past row) (commits past) (no_chain past) h
-
-  -- so its version before a place is that of a row that was
-  pub before_listed : (n : ℕ) (past : Past) (installed : Option Version) (kept : List Installed) → installed ≡ last_installed (commits past) row → kept ≡ chain past row
-      → option_and_then (λ (v : Version). version_before n kept) installed ≡ version_before n (chain past row)
-  before_listed n past None kept is same = ap (version_before n) (sym (no_chain past (sym is)))
-  before_listed n past (Some v) kept is same = ap (version_before n) same

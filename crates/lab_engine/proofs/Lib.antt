@@ -1,4 +1,5 @@
 pub mod Locks
+pub mod LockSteps
 pub mod Commits
 pub mod Numbers
 pub mod Records
@@ -6,13 +7,18 @@ pub mod Runs
 pub mod Order
 pub mod Begins
 pub mod Describing
+pub mod EventBounds
 pub mod Holding
 pub mod InstalledChains
+pub mod ChainedRows
 pub mod Answering
 pub mod Merging
+pub mod VersionLists
 pub mod States
 pub mod Effects
+pub mod FailingRows
 pub mod Walks
+pub mod Unreached
 mod ShortestWalks
 pub mod Rising
 pub mod Waiting
@@ -20,6 +26,8 @@ pub mod Circles
 pub mod Retrying
 pub mod Crosses
 pub mod GatheredLogs
+pub mod TxnsAfterEvents
+pub mod GatheredNumbers
 mod Gatherings
 mod Installing
 mod Grouping

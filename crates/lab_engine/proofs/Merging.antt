@@ -1,5 +1,5 @@
 -- Sorted lists of rows with their versions, two of which are merged.
-use Rattle.std.proofs.Common.{◌≡◌, ℕ, zero, suc, ◌+◌, ℤ, true, false, cond, T, List, [], ◌∷◌, ◌++◌, map, take, drop, Option, Some, None, refl, sym, ap, ◌∙◌, subst, ◌==◌, option_map, append_assoc, one-add}
+use Rattle.std.proofs.Common.{◌≡◌, ℕ, zero, suc, ◌+◌, true, false, cond, T, [], ◌∷◌, ◌++◌, take, drop, Option, Some, refl, sym, ap, ◌∙◌, subst, ◌==◌, append_assoc, one-add}
 use Rattle.std.specs.Bool.{⊤}
 use Rattle.std.specs.Option.{option_or}
 use Rattle.std.specs.List.{prefix_len}
@@ -9,70 +9,15 @@ use Rattle.std.specs.declared.cmp.Ordering.TheVariants.{Less, Equal, Greater}
 use Rattle.std.specs.FinMap.{find, is_sorted, get, from_sorted, insert, put, entries, entries_sorted, get-entries, get-from_sorted, get-insert}
 use Rattle.std.specs.FinMap.Entries.{below_all, by_order, is_sorted-put, find-put}
 use Rattle.lab_table.specs.Row.{Row, row_cmp, row_eq, rows_total, rows_apart}
-use Rattle.lab_table.specs.Table.{Table, State, Writes}
-use Rattle.lab_history.specs.VersionName.{new_states}
-use Rattle.lab_history.specs.declared.operation.State.{State as Written}
-use Rattle.lab_history.specs.declared.operation.VersionName.{VersionName}
-use Rattle.lab_history.specs.declared.operation.VersionName.TheVariants.{Initial}
-use Rattle.lab_table.proofs.Maps.{find_below, find-map, same_row}
+use Rattle.lab_table.proofs.Maps.{find_below, same_row}
 use Rattle.lab_table.proofs.Putting.{is_own}
 use Rattle.lab_table.proofs.Tests.{both}
 use Rattle.lab_table.proofs.Orderings.{is_less, turned, turned_back}
-use Rattle.lab_table.proofs.SortedRows.{lower, sorted-map}
+use Rattle.lab_table.proofs.SortedRows.{lower}
 use Rattle.lab_engine.specs.Log.{Version}
-use Rattle.lab_engine.specs.Sight.{Listed, comes_after, listed_version}
-use Rattle.lab_engine.specs.Merging.{initial_entry, written_entry, written_version, merged, without_row, insert_each}
-
--- rows with their versions
-abbrev pub Entries : Type 0
-Entries = List (Row × Version)
-
--- the initial version of a row's value
-initial : ℤ → Version
-initial value = record { name = Initial; state = Some value }
-
-listed_as : (o : State) → option_map initial o ≡ listed_version o
-unfolding initial
-listed_as None = refl
-listed_as (Some value) = refl
-
--- the initial versions of a table's rows are in order
-pub initial_sorted : (es : List (Row × ℤ)) (made : Entries) → T (is_sorted row_cmp es) → made ≡ map initial_entry es → T (is_sorted row_cmp made)
-unfolding initial
-initial_sorted es made h is = subst (λ l. T (is_sorted row_cmp l)) (sym is) (sorted-map (λ (e : Row × ℤ). initial e.1) es h)
-
--- they are what the table lists
-pub initial_found : (table : Table) (made : Entries) (row : Row) → T (is_sorted row_cmp made) → made ≡ map initial_entry (entries table) → get (from_sorted {R = row_cmp} made) row ≡ listed_version (get table row)
-unfolding initial
-initial_found table made row h is =
-    get-from_sorted row_cmp made row h ∙ ap (find row_cmp row) is ∙ find-map initial row (entries table)
-    ∙ ap (option_map initial) (sym (get-entries table row)) ∙ listed_as (get table row)
-
--- the version of this name, in a state
-named : VersionName → State → Version
-named name state = record { name = name; state = state }
-
-written_as : (name : VersionName) (o : Option State) → option_map (named name) o ≡ written_version name o
-unfolding named
-written_as name None = refl
-written_as name (Some state) = refl
-
--- written rows with their versions, by their new states
-written_states : (name : VersionName) (writes : List (Row × Written)) → map (written_entry name) writes ≡ map (λ (e : Row × State). (e.0, named name e.1)) (new_states writes)
-unfolding named
-written_states name [] = refl
-written_states name (e ∷ es) = ap (λ l. written_entry name e ∷ l) (written_states name es)
-
--- written rows with their versions are in order
-pub written_sorted : (name : VersionName) (writes : List (Row × Written)) (made : Entries) → T (is_sorted row_cmp (new_states writes)) → made ≡ map (written_entry name) writes → T (is_sorted row_cmp made)
-written_sorted name writes made h is = subst (λ l. T (is_sorted row_cmp l)) (sym (is ∙ written_states name writes)) (sorted-map (λ (e : Row × State). named name e.1) (new_states writes) h)
-
--- they are what was written
-pub written_found : (name : VersionName) (all : Writes) (writes : List (Row × Written)) (made : Entries) (row : Row) → new_states writes ≡ entries all → T (is_sorted row_cmp made)
-    → made ≡ map (written_entry name) writes → get (from_sorted {R = row_cmp} made) row ≡ written_version name (get all row)
-written_found name all writes made row states h is =
-    get-from_sorted row_cmp made row h ∙ ap (find row_cmp row) (is ∙ written_states name writes) ∙ find-map (named name) row (new_states writes)
-    ∙ ap (option_map (named name)) (ap (find row_cmp row) states ∙ sym (get-entries all row)) ∙ written_as name (get all row)
+use Rattle.lab_engine.specs.Sight.{Listed, comes_after}
+use Rattle.lab_engine.specs.Merging.{merged, without_row, insert_each}
+use Rattle.lab_engine.proofs.VersionLists.{Entries}
 
 -- a version before those that come after the row, in the place of the row's own if it is there
 split : (row : Row) (v : Version) (es : Entries) → take (prefix_len (comes_after row) es) es ++ (row, v) ∷ without_row row (drop (prefix_len (comes_after row) es) es) ≡ put row_cmp row v es
@@ -166,7 +111,8 @@ merged_sorted below above made is =
     subst (λ l. T (is_sorted row_cmp l)) (sym (is ∙ merged_put (entries below) (entries above) (entries_sorted above))) (each_sorted (entries below) (entries above) (entries_sorted below))
 
 -- a row is found as the second has it, else as the first has it
-pub merged_found : (below above : Listed) (made : Entries) (row : Row) → made ≡ merged (entries below) (entries above) → get (from_sorted {R = row_cmp} made) row ≡ option_or (get above row) (get below row)
+pub merged_found : (below above : Listed) (made : Entries) (row : Row) → made ≡ merged (entries below) (entries above)
+    → get (from_sorted {R = row_cmp} made) row ≡ option_or (get above row) (get below row)
 merged_found below above made row is =
     get-from_sorted row_cmp made row (merged_sorted below above made is)
     ∙ ap (find row_cmp row) (is ∙ merged_put (entries below) (entries above) (entries_sorted above)) ∙ each_found row (entries below) (entries above) (entries_sorted above)

@@ -120,6 +120,8 @@ pub those_step : (P : ℕ → Type 0) (states : List SessionState) (i : ℕ) (st
     → AreThose P (sessions_of (take i states)) old → (P state.session × (new ≡ old ++ state.session ∷ [])) ⊎ ((P state.session → ⊥) × (new ≡ old))
     → AreThose P (sessions_of (take (i + 1) states)) new
 those_step P states i state old new lt is h (inl p) =
-    subst (λ xs. AreThose P xs new) (sym (sessions_more states i state lt is)) (subst (AreThose P (sessions_of (take i states) ++ state.session ∷ [])) (sym p.1) (those_more P (sessions_of (take i states)) old state.session h p.0))
+    subst (λ xs. AreThose P xs new) (sym (sessions_more states i state lt is)) (subst (AreThose P (sessions_of (take i states) ++ state.session ∷ [])) (sym p.1)
+    (those_more P (sessions_of (take i states)) old state.session h p.0))
 those_step P states i state old new lt is h (inr p) =
-    subst (λ xs. AreThose P xs new) (sym (sessions_more states i state lt is)) (subst (AreThose P (sessions_of (take i states) ++ state.session ∷ [])) (sym p.1) (those_same P (sessions_of (take i states)) old state.session h p.0))
+    subst (λ xs. AreThose P xs new) (sym (sessions_more states i state lt is)) (subst (AreThose P (sessions_of (take i states) ++ state.session ∷ [])) (sym p.1)
+    (those_same P (sessions_of (take i states)) old state.session h p.0))

@@ -7,7 +7,7 @@ use Rattle.lab_engine.specs.declared.event.LogEvent.{LogEvent}
 use Rattle.lab_engine.specs.declared.situation.SessionState.{SessionState}
 use Rattle.lab_engine.specs.Log.{Past, active, active_after, waiting, waiting_after}
 use Rattle.lab_engine.specs.Situation.{DescribesSession, DescribesAll, Agree, HasRoom, all_sessions}
-use Rattle.lab_engine.proofs.Describing.{has_room}
+use Rattle.lab_engine.proofs.EventBounds.{has_room}
 
 -- after an event of another session what is kept of a session still agrees
 other_session : (past : Past) (event : LogEvent) (state : SessionState) → event.session ≢ state.session → DescribesSession past state → DescribesSession (event ∷ past) state
@@ -60,13 +60,15 @@ session_one n zero (state ∷ states) d rise few = omega (arith, rise.0)
 session_one n (suc k) (state ∷ states) d rise few = let rest = session_one (suc n) k states d rise.1 (omega arith) in omega (arith, rest)
 
 -- the sessions of a list with one state replaced
-sessions_one : (k : ℕ) (states : List SessionState) (new d : SessionState) → k < length states → new.session ≡ (get_or states k d).session → map (λ state. state.session) (set states k new) ≡ map (λ state. state.session) states
+sessions_one : (k : ℕ) (states : List SessionState) (new d : SessionState) → k < length states → new.session ≡ (get_or states k d).session
+    → map (λ state. state.session) (set states k new) ≡ map (λ state. state.session) states
 sessions_one k [] new d few same = refl
 sessions_one zero (state ∷ states) new d few same = ap (λ n. n ∷ map (λ state. state.session) states) same
 sessions_one (suc k) (state ∷ states) new d few same = ap (λ l. state.session ∷ l) (sessions_one k states new d (omega arith) same)
 
 -- a session's state stands at its number, counted from 1
-module _ (states : List SessionState) (n k : ℕ) (state : SessionState) (sessions : map (λ state. state.session) states ≡ all_sessions) (low : 1 ≤ n) (high : n ≤ 9) (place : k ≡ n - 1) (is : state ≡ get_or states k state) where
+module _ (states : List SessionState) (n k : ℕ) (state : SessionState) (sessions : map (λ state. state.session) states ≡ all_sessions) (low : 1 ≤ n) (high : n ≤ 9) (place : k ≡ n - 1)
+    (is : state ≡ get_or states k state) where
   there : k < length states
   there = let same = sym (length-map states (λ state. state.session)) ∙ ap length sessions in omega (arith, same, place, low, high)
 

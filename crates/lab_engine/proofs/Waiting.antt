@@ -18,7 +18,7 @@ use Rattle.lab_engine.specs.Log.{Past, Txn, active, waiting}
 use Rattle.lab_engine.specs.Rules.{BlockedBy, MayAsk}
 use Rattle.lab_engine.specs.Situation.{all_sessions, Agree, IsRunning, Describes, DescribesSession, DescribesAll}
 use Rattle.lab_engine.specs.WaitsFor.{waits_for, AreBlockers, WaitsOn, AreWaits}
-use Rattle.lab_engine.proofs.Locks.{none_some, some_same}
+use Rattle.lab_engine.proofs.LockSteps.{none_some, some_same}
 use Rattle.lab_engine.proofs.Rising.{AreThose, those_hold, those_all, those_increase, sessions_of, is_among, among}
 
 -- each state of a situation is described
@@ -88,7 +88,8 @@ contains_any (y ∷ xs) x (zero, lt, is) = ap (λ b. b || list_any (λ k. k == x
 contains_any (y ∷ xs) x (suc k, lt, is) = or_right _ _ (contains_any xs x (k, omega arith, is))
 
 -- a graph with one more of who waits for whom
-pub waits_more : (waits : List Wait) (wait : Wait) (session other : ℕ) → waits_for (waits ++ wait ∷ []) session other ≡ (waits_for waits session other || (wait.session == session && list_any (λ o. o == other) wait.on))
+pub waits_more : (waits : List Wait) (wait : Wait) (session other : ℕ)
+    → waits_for (waits ++ wait ∷ []) session other ≡ (waits_for waits session other || (wait.session == session && list_any (λ o. o == other) wait.on))
 waits_more waits wait session other =
     list_any-append (λ (w : Wait). w.session == session && list_any (λ o. o == other) w.on) waits (wait ∷ [])
     ∙ ap (λ b. waits_for waits session other || b) (or-false (wait.session == session && list_any (λ o. o == other) wait.on))
@@ -134,7 +135,8 @@ waits_step level setup past states i state waits new on lt is h own step session
     ]
 
 -- a session that waits has a state
-pub waiter_there : (past : Past) (situation : Situation) (session : ℕ) (s : Statement) → Describes past situation → waiting past session ≡ Some s → Contains (sessions_of situation.sessions.items) session
+pub waiter_there : (past : Past) (situation : Situation) (session : ℕ) (s : Statement) → Describes past situation → waiting past session ≡ Some s
+    → Contains (sessions_of situation.sessions.items) session
 waiter_there past situation session s d is = subst (λ xs. Contains xs session) (sym d.sessions) (d.waiting_is session (some_is (waiting past session) s is))
 
 -- once all are passed, the graph has all
@@ -161,7 +163,8 @@ AreWaitsWith level setup past session s waits =
     × ((waiter other : ℕ) → waiter ≢ session → IsTrue (waits_for waits waiter other) ↔ WaitsOn level setup past waiter other)
 
 -- the graph with a session's blockers of what it asks for
-pub waits_with : (level : Level) (setup : Table) (past : Past) (session : ℕ) (s : Statement) (waits : List Wait) (wait : Wait) → wait.session ≡ session → AreWaits level setup past waits → MayAsk past session s
+pub waits_with : (level : Level) (setup : Table) (past : Past) (session : ℕ) (s : Statement) (waits : List Wait) (wait : Wait) → wait.session ≡ session → AreWaits level setup past waits
+    → MayAsk past session s
     → AreBlockers level setup past session s wait.on → AreWaitsWith level setup past session s (waits ++ wait ∷ [])
 waits_with level setup past session s waits wait own h may are = ((λ other. (to other, from other)), (λ waiter other apart. (others waiter other apart, back waiter other)))
   where

@@ -25,13 +25,15 @@ operations_behind before t =
 module _ (before : List Txn) (index : ℕ) (t : Txn) where
   pub repeated : list_any (λ m. m.no == t.no) before ≡ true → txn_checked before index t ≡ Err (fault.RepeatedTxn t.no)
   repeated is =
-      ap (λ b. refused_if b (fault.RepeatedTxn t.no) >>= λ _. refused_if (nat_lt 10000 (length (operations before) + length t.ops)) (fault.OverLimit limit.Operations) >>= λ _. ops_checked index t.no 0 t.ops) is
+      ap (λ b. refused_if b (fault.RepeatedTxn t.no) >>= λ _. refused_if (nat_lt 10000 (length (operations before) + length t.ops))
+      (fault.OverLimit limit.Operations) >>= λ _. ops_checked index t.no 0 t.ops) is
 
   -- its number is new: its operations decide
   fresh : list_any (λ m. m.no == t.no) before ≡ false
       → txn_checked before index t ≡ (refused_if (nat_lt 10000 (length (operations before) + length t.ops)) (fault.OverLimit limit.Operations) >>= λ _. ops_checked index t.no 0 t.ops)
   fresh isnt =
-      ap (λ b. refused_if b (fault.RepeatedTxn t.no) >>= λ _. refused_if (nat_lt 10000 (length (operations before) + length t.ops)) (fault.OverLimit limit.Operations) >>= λ _. ops_checked index t.no 0 t.ops) isnt
+      ap (λ b. refused_if b (fault.RepeatedTxn t.no) >>= λ _. refused_if (nat_lt 10000 (length (operations before) + length t.ops))
+      (fault.OverLimit limit.Operations) >>= λ _. ops_checked index t.no 0 t.ops) isnt
 
   pub too_many : list_any (λ m. m.no == t.no) before ≡ false → 10000 < length (operations before) + length t.ops → txn_checked before index t ≡ Err (fault.OverLimit limit.Operations)
   too_many isnt many =

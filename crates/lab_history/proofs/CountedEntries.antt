@@ -38,7 +38,8 @@ counted_then more total n m then_more =
 
 op_total : (total : ℕ) (op : Op) → op_counted total op ≡ counted total (op_entries op)
 op_total total op =
-    counted_then (λ more. option_and_then (λ most. counted most (length (entries op.writes))) (counted more (length (entries op.rows)))) total (length (entries op.view)) (length (entries op.rows) + length (entries op.writes))
+    counted_then (λ more. option_and_then (λ most. counted most (length (entries op.writes))) (counted more (length (entries op.rows)))) total (length (entries op.view))
+    (length (entries op.rows) + length (entries op.writes))
     (λ _. counted_then (λ most. counted most (length (entries op.writes))) (total + length (entries op.view)) (length (entries op.rows)) (length (entries op.writes)) (λ _. refl))
     ∙ ap (counted total) (omega arith)
 
@@ -86,7 +87,8 @@ many_entries ts is =
     ] refl
 
 -- an operation's count, where the first two of its lists were counted
-pub counts_met : (total : ℕ) (op : Op) (more most : ℕ) → Some more ≡ counted total (length (entries op.view)) → Some most ≡ counted more (length (entries op.rows)) → counted most (length (entries op.writes)) ≡ op_counted total op
+pub counts_met : (total : ℕ) (op : Op) (more most : ℕ) → Some more ≡ counted total (length (entries op.view)) → Some most ≡ counted more (length (entries op.rows))
+    → counted most (length (entries op.writes)) ≡ op_counted total op
 counts_met total op more most view rows =
     ap (option_and_then (λ n. counted n (length (entries op.writes)))) rows
     ∙ ap (option_and_then (λ m. option_and_then (λ n. counted n (length (entries op.writes))) (counted m (length (entries op.rows))))) view

@@ -48,7 +48,8 @@ above_inserted : (x k : Row) (xs : List Row) → row_cmp x k ≡ Less → AllByR
 above_inserted x k [] e all = (e, tt)
 above_inserted x k (z ∷ zs) e all = by (row_cmp k z) (above_inserted x k zs e all.1)
   where
-    by : (r : Ordering) → AllByRecursion (λ y. row_cmp x y ≡ Less) (insert_key row_cmp zs k) → AllByRecursion (λ y. row_cmp x y ≡ Less) (match_ordering r (k ∷ z ∷ zs) (z ∷ zs) (z ∷ insert_key row_cmp zs k))
+    by : (r : Ordering) → AllByRecursion (λ y. row_cmp x y ≡ Less) (insert_key row_cmp zs k)
+        → AllByRecursion (λ y. row_cmp x y ≡ Less) (match_ordering r (k ∷ z ∷ zs) (z ∷ zs) (z ∷ insert_key row_cmp zs k))
     by Less h = (e, all)
     by Equal h = all
     by Greater h = (all.0, h)
@@ -85,7 +86,8 @@ any_added q seen [] = none (list_any (row_eq q) seen)
     none : (a : Bool) → a ≡ (a || false)
     none true = refl
     none false = refl
-any_added q seen (row ∷ rows) = any_added q (insert_key row_cmp seen row) rows ∙ ap (λ b. b || list_any (row_eq q) rows) (any_inserted q row seen) ∙ joined (row_eq q row) (list_any (row_eq q) seen) (list_any (row_eq q) rows)
+any_added q seen (row ∷ rows) =
+    any_added q (insert_key row_cmp seen row) rows ∙ ap (λ b. b || list_any (row_eq q) rows) (any_inserted q row seen) ∙ joined (row_eq q row) (list_any (row_eq q) seen) (list_any (row_eq q) rows)
 
 sorted_added : (seen rows : List Row) → IsStrictlySortedBy row_cmp seen → IsStrictlySortedBy row_cmp (rows_added seen rows)
 sorted_added seen [] s = s
@@ -153,7 +155,8 @@ length_rows_in h = ap length (all_added h) ∙ length_added (named_rows h)
         txns_added (with_rows [] (entries h.initial)) h.txns ∙ ap (λ s. rows_added s (flat_map op_rows (operations h.txns))) (list_added [] (entries h.initial))
         ∙ added_both [] (keys h.initial) (flat_map op_rows (operations h.txns))
 
-    before_end : (h : History) → with_rows (with_txns (with_rows [] (entries h.initial)) h.txns) (entries h.installed) ≡ rows_added [] (keys h.initial ++ flat_map op_rows (operations h.txns) ++ keys h.installed)
+    before_end : (h : History) → with_rows (with_txns (with_rows [] (entries h.initial)) h.txns) (entries h.installed) ≡ rows_added []
+        (keys h.initial ++ flat_map op_rows (operations h.txns) ++ keys h.installed)
     before_end h =
         list_added (with_txns (with_rows [] (entries h.initial)) h.txns) (entries h.installed) ∙ ap (λ s. rows_added s (keys h.installed)) (before_txns h)
         ∙ added_both [] (keys h.initial ++ flat_map op_rows (operations h.txns)) (keys h.installed)

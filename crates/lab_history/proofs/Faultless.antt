@@ -1,19 +1,17 @@
 -- No fault is true of a file: each value of it fits at its place, and it keeps the limits.
-use Rattle.std.proofs.Common.{◌≡◌, ℕ, zero, suc, ◌+◌, ◌≤◌, ◌<◌, ◌==◌, Bool, true, false, List, [], ◌∷◌, map, length, Option, Some, None, is_some, option_and_then, slice_get, codes, refl, sym, ap, subst, ◌∙◌, arith, eq-eqb, length-append}
-use Rattle.std.specs.Prelude.{sum, nat_lt, if◌then◌else◌}
-use Rattle.std.specs.List.{list_any}
-use Rattle.std.proofs.lemmas.Bool.{or_parts}
-use Rattle.serde_json.specs.Data.{Data, array, Items, no_items, item}
+use Rattle.std.proofs.Common.{◌≡◌, ℕ, ◌≤◌, true, map, Some, is_some, option_and_then, slice_get, codes, refl, sym, ap, subst, ◌∙◌, arith}
+use Rattle.std.specs.Prelude.{sum, nat_lt}
+use Rattle.serde_json.specs.Data.{Data, array}
 use Rattle.serde_json.specs.Find.{as_array, as_object, as_str, as_number, as_u64, at}
 use Rattle.lab_script.specs.Script.{SpellsStatement}
 use Rattle.lab_history.specs.Entries.{txn_in_number, value_in, written_in}
 use Rattle.lab_history.specs.FaultOf.{all_ops, IsWrong, IsRepeated, IsBadStatement, IsUnsorted, IsOverLimit, IsTrueFault}
 use Rattle.lab_history.specs.PlaceShape.{fits, parts_of}
 use Rattle.lab_history.specs.ValueAt.{txn_at, operation_at, list_at, value_at}
-use Rattle.lab_history.specs.FileOf.{AreEach, IsFileOf, IsOperation, IsTransaction, outcome_text}
+use Rattle.lab_history.specs.FileOf.{IsFileOf, IsOperation, IsTransaction}
 use Rattle.lab_history.specs.Format.{at_key, has_keys, txn_keys, op_keys, outcome_named, count}
 use Rattle.lab_history.specs.History.{History}
-use Rattle.lab_history.specs.HistoryRules.{AllDistinct, operations, named_rows, distinct_rows, op_entries}
+use Rattle.lab_history.specs.HistoryRules.{operations, named_rows, distinct_rows, op_entries}
 use Rattle.lab_history.specs.declared.fault.FileFault.{FileFault}
 use Rattle.lab_history.specs.declared.fault.FileFault.TheVariants as fault
 use Rattle.lab_history.specs.declared.fault.Limit.{Limit}
@@ -24,52 +22,13 @@ use Rattle.lab_history.specs.declared.path.ListPlace.TheVariants as list
 use Rattle.lab_history.specs.declared.path.Path.{Path}
 use Rattle.lab_history.specs.declared.path.Path.TheVariants as path
 use Rattle.lab_history.specs.declared.transaction.Txn.{Txn}
-use Rattle.lab_history.specs.declared.transaction.Outcome.{Outcome}
-use Rattle.lab_history.specs.declared.transaction.Outcome.TheVariants.{Committed, Aborted}
 use Rattle.lab_history.proofs.Steps.{both_some}
 use Rattle.lab_history.proofs.OperationsRead.{each_count}
-use Rattle.lab_history.proofs.Standing.{numbers}
-use Rattle.lab_history.proofs.FaultsOfTransactions.{read_number, read_count}
+use Rattle.lab_history.proofs.FaultsOfTransactions.{read_number}
 use Rattle.lab_history.proofs.FileIsRead.{parts_of_file}
 use Rattle.lab_history.proofs.GoodLists.{each_at, IsGood, good_pairs, good_view, good_installed, installer_fits}
 use Rattle.lab_table.proofs.Tests.{mapped_some}
-
-outcome_fits : (outcome : Outcome) → is_some (outcome_named (outcome_text outcome)) ≡ true
-outcome_fits Committed = refl
-outcome_fits Aborted = refl
-
--- a number that none of some has isn't that of one of them
-none_at : (n : ℕ) (ts : List Txn) (j : ℕ) (b : Txn) → list_any (λ m. m == n) (numbers ts) ≡ false → slice_get ts j ≡ Some b → b.no ≡ n → ⊥
-none_at n [] j b none e same = absurd cc
-none_at n (t ∷ ts) zero b none e same =
-    let here : t ≡ b = cc in
-    let tested = eq-eqb t.no n (ap (λ (u : Txn). u.no) here ∙ same) in
-    let other = (or_parts (t.no == n) _ none).0 in absurd cc
-none_at n (t ∷ ts) (suc j) b none e same = none_at n ts j b (or_parts (t.no == n) _ none).1 e same
-
--- where numbers are distinct, two places have two of them
-distinct_at : (ts : List Txn) (i j : ℕ) (a b : Txn) → AllDistinct (numbers ts) → i < j → slice_get ts i ≡ Some a → slice_get ts j ≡ Some b → a.no ≡ b.no → ⊥
-distinct_at [] i j a b all below e f same = absurd cc
-distinct_at (t ∷ ts) i zero a b all below e f same = absurd (omega (arith, below))
-distinct_at (t ∷ ts) zero (suc j) a b all below e f same =
-    let here : t ≡ a = cc in none_at t.no ts j b all.0 f (sym same ∙ ap (λ (u : Txn). u.no) (sym here))
-distinct_at (t ∷ ts) (suc i) (suc j) a b all below e f same = distinct_at ts i j a b all.1 (omega (arith, below)) e f same
-
--- all operations that transactions list
-each_lists : (ds : Items) (txns : List Txn) → AreEach IsTransaction ds txns → all_ops ds ≡ length (operations txns)
-each_lists no_items [] each = refl
-each_lists no_items (txn ∷ txns) each = absurd each
-each_lists (item t ds) [] each = absurd each
-each_lists (item t ds) (txn ∷ txns) each =
-    let own = read_count t txn each.0 in
-    let rest = each_lists ds txns each.1 in
-    let both : length (operations (txn ∷ txns)) ≡ length txn.ops + length (operations txns) = length-append txn.ops _ in
-    omega (arith, own, rest, both)
-
--- what is found under a condition
-under : (b : Bool) (r : Option Data) (v : Data) → (if b then r else None) ≡ Some v → r ≡ Some v
-under true r v e = e
-under false r v e = absurd cc
+use Rattle.lab_history.proofs.ListedPlaces.{outcome_fits, distinct_at, each_lists, under}
 
 module _ (d : Data) (h : History) (file : IsFileOf d h) where
   transactions_at : at_key (codes "transactions") d ≡ array file.transactions_are.0

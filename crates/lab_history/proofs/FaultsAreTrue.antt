@@ -17,7 +17,8 @@ use Rattle.lab_history.specs.declared.fault.Limit.TheVariants as limit
 use Rattle.lab_history.specs.declared.path.ListPlace.TheVariants as list
 use Rattle.lab_history.specs.declared.path.Path.TheVariants as path
 use Rattle.lab_history.proofs.Steps.{either_err, required_ok, required_err, refused_err}
-use Rattle.lab_history.proofs.FaultsOfLists.{is_wrong, pairs_fault, installed_fault}
+use Rattle.lab_history.proofs.FaultsOfLists.{pairs_fault, installed_fault}
+use Rattle.lab_history.proofs.ListWalks.{is_wrong}
 use Rattle.lab_history.proofs.FaultsOfOperations.{none_when, keyed_err}
 use Rattle.lab_history.proofs.FaultsOfTransactions.{txns_fault}
 

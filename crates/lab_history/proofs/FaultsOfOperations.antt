@@ -16,7 +16,8 @@ use Rattle.lab_history.specs.declared.path.ListPlace.TheVariants as list
 use Rattle.lab_history.specs.declared.path.Path.{Path}
 use Rattle.lab_history.specs.declared.path.Path.TheVariants as path
 use Rattle.lab_history.proofs.Steps.{either_err, required_ok, required_err}
-use Rattle.lab_history.proofs.FaultsOfLists.{is_wrong, Tail, tail_head, tail_rest, pairs_fault, view_fault}
+use Rattle.lab_history.proofs.FaultsOfLists.{pairs_fault, view_fault}
+use Rattle.lab_history.proofs.ListWalks.{is_wrong, Tail, tail_head, tail_rest}
 
 -- what isn't found failed the test
 pub none_when : {A : Type 0} (b : Bool) (x : A) → (if b then Some x else None) ≡ None → b ≡ false

@@ -21,7 +21,7 @@ use Rattle.lab_history.proofs.JsonShapes.{array_of}
 use Rattle.lab_history.proofs.OperationsRead.{each_count}
 use Rattle.lab_history.proofs.TransactionsRead.{txn_read}
 use Rattle.lab_history.proofs.Standing.{operations_push}
-use Rattle.lab_history.proofs.FaultsOfLists.{is_wrong, Tail, tail_all, tail_head, tail_rest}
+use Rattle.lab_history.proofs.ListWalks.{is_wrong, Tail, tail_all, tail_head, tail_rest}
 use Rattle.lab_history.proofs.FaultsOfOperations.{keyed_err, op_fault, ops_err}
 
 -- the numbers of transactions that were read stand before a place

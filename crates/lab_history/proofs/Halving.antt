@@ -114,10 +114,12 @@ module _ {K V : Type 0} {cmp : K → K → Ordering} (total : IsTotalOrder cmp) 
       at Greater p = ap (cond (is_eq (cmp e.0 key)) (Some e.1)) (beyond e.0 p es (λ k d lt. up 0 (suc k) d (omega arith) (omega arith)))
 
   -- nothing stands at the key's place
-  pub found_nothing : (es : List (K × V)) (i : ℕ) → IsSortedByKey (λ e. e.0) cmp es → i ≤ length es → IsPartitionPoint (λ e. below e ≡ true) (λ e. below e ≡ false) es i → length es ≤ i → value_at cmp es key ≡ None
+  pub found_nothing : (es : List (K × V)) (i : ℕ) → IsSortedByKey (λ e. e.0) cmp es → i ≤ length es → IsPartitionPoint (λ e. below e ≡ true) (λ e. below e ≡ false) es i → length es ≤ i
+      → value_at cmp es key ≡ None
   found_nothing es i up le point past = there es i le (rises es up) point ∙ ap value_if (slice_get_past es i past)
 
   -- an entry stands at the key's place, and is tested for being the key's
-  pub found_entry : (es : List (K × V)) (i : ℕ) (e : K × V) → IsSortedByKey (λ e. e.0) cmp es → i ≤ length es → IsPartitionPoint (λ e. below e ≡ true) (λ e. below e ≡ false) es i → i < length es → e ≡ slice_index_or es i e
+  pub found_entry : (es : List (K × V)) (i : ℕ) (e : K × V) → IsSortedByKey (λ e. e.0) cmp es → i ≤ length es → IsPartitionPoint (λ e. below e ≡ true) (λ e. below e ≡ false) es i → i < length es
+      → e ≡ slice_index_or es i e
       → value_at cmp es key ≡ cond (is_eq (cmp e.0 key)) (Some e.1) None
   found_entry es i e up le point lt is = there es i le (rises es up) point ∙ ap value_if (slice_get_read es (length es) i e refl lt is)

@@ -1,102 +1,27 @@
 -- Parts have no fault exactly where they keep what a history keeps.
-use Rattle.std.proofs.Common.{◌≡◌, ◌≤◌, ℕ, ◌+◌, ◌==◌, Bool, true, false, not, List, [], ◌∷◌, ◌++◌, length, map, sum, Result, Ok, Err, refl, sym, ap, ◌∙◌, arith}
-use Rattle.std.specs.Prelude.{⊤, nat_le, nat_lt}
+use Rattle.std.proofs.Common.{◌≡◌, ◌≤◌, ℕ, ◌+◌, ◌==◌, true, false, not, List, [], ◌∷◌, ◌++◌, length, map, sum, Result, Ok, Err, refl, sym, ◌∙◌, arith}
+use Rattle.std.specs.Prelude.{⊤, nat_lt}
 use Rattle.std.specs.List.{list_any, list_all}
 use Rattle.std.specs.FinMap as finite
-use Rattle.std.proofs.lemmas.Bool.{leb-true, le-leb, ltb-false, le-ltb, and_parts, or_parts, or_from, eqb-false, ne_eqb, not-false, and_from}
+use Rattle.std.proofs.lemmas.Bool.{ltb-false, le-ltb, and_parts, or_parts, or_from, eqb-false, ne_eqb, not-false, and_from}
 use Rattle.std.proofs.lemmas.List.{length-append}
 use Rattle.std.proofs.lemmas.List.Folds.{list_any-append}
 use Rattle.lab_table.specs.Row.{Row}
-use Rattle.lab_table.specs.declared.statement.Statement.{Statement}
-use Rattle.lab_script.specs.Depth.{statement_depth}
-use Rattle.lab_script.specs.Printed.{printed_statement}
-use Rattle.lab_script.specs.Limits.{StatementPrints}
 use Rattle.lab_history.specs.Faults.{◌>>=◌, refused_if}
 use Rattle.lab_history.specs.History.{History}
-use Rattle.lab_history.specs.HistoryRules.{AllDistinct, operations, named_rows, distinct_rows, op_entries, is_listed, OpKeeps, OpsKeep, has_installer, Keeps}
+use Rattle.lab_history.specs.HistoryRules.{AllDistinct, operations, named_rows, distinct_rows, op_entries, OpsKeep, has_installer, Keeps}
 use Rattle.lab_history.specs.WithinLimits.{within_limits}
-use Rattle.lab_history.specs.FirstPartsFault.{statement_prints, listed_from, op_checked, ops_checked, txn_checked, txns_checked, installed_checked, checked}
+use Rattle.lab_history.specs.FirstPartsFault.{ops_checked, txn_checked, txns_checked, installed_checked, checked}
 use Rattle.lab_history.specs.declared.fault.FileFault.{FileFault}
 use Rattle.lab_history.specs.declared.fault.FileFault.TheVariants as fault
 use Rattle.lab_history.specs.declared.fault.Limit.TheVariants as limit
-use Rattle.lab_history.specs.declared.operation.Op.{Op}
-use Rattle.lab_history.specs.declared.operation.VersionName.{VersionName}
-use Rattle.lab_history.specs.declared.path.ListPlace.{ListPlace}
 use Rattle.lab_history.specs.declared.path.ListPlace.TheVariants as list
 use Rattle.lab_history.specs.declared.path.Path.TheVariants as path
 use Rattle.lab_history.specs.declared.transaction.Txn.{Txn}
 use Rattle.lab_history.proofs.CheckedTxns.{operations_behind, operations_decide}
 use Rattle.lab_history.proofs.LimitsKept.{limits_kept}
 use Rattle.lab_history.proofs.KeptOperations.{ops_joined, ops_parted}
-
--- ---- no fault in either of two
-
-pub both_pass : {B : Type 0} (r : Result ⊤ FileFault) (f : ⊤ → Result B FileFault) (y : B) → (r >>= f) ≡ Ok y → (r ≡ Ok tt) × (f tt ≡ Ok y)
-both_pass (Ok x) f y e = (refl, e)
-both_pass (Err x) f y e = absurd cc
-
-pub passed_then : {B : Type 0} (r : Result ⊤ FileFault) (f : ⊤ → Result B FileFault) → r ≡ Ok tt → (r >>= f) ≡ f tt
-passed_then r f e = ap (λ s. s >>= f) e
-
-pub not_refused : (b : Bool) (e : FileFault) → refused_if b e ≡ Ok tt → b ≡ false
-not_refused true e h = absurd cc
-not_refused false e h = refl
-
-pub refused_not : (b : Bool) (e : FileFault) → b ≡ false → refused_if b e ≡ Ok tt
-refused_not b e h = ap (λ c. refused_if c e) h
-
-not_true : (b : Bool) → b ≡ true → not b ≡ false
-not_true b h = ap not h
-
--- ---- operations
-
-pub prints_true : (s : Statement) → statement_prints s ≡ true → StatementPrints s
-prints_true s h =
-    let parts : (nat_le (statement_depth s) 16 ≡ true) × (nat_le (length (printed_statement s)) 1000 ≡ true) = and_parts (nat_le (statement_depth s) 16) (nat_le (length (printed_statement s)) 1000) h in
-    record { shallow = leb-true (statement_depth s) 16 parts.0; short = leb-true (length (printed_statement s)) 1000 parts.1 }
-
-pub true_prints : (s : Statement) → StatementPrints s → statement_prints s ≡ true
-true_prints s p = and_from (nat_le (statement_depth s) 16) (nat_le (length (printed_statement s)) 1000) (le-leb (statement_depth s) 16 p.shallow) (le-leb (length (printed_statement s)) 1000 p.short)
-
-listed_passes : (place : ListPlace) (index : ℕ) (es : List (Row × VersionName)) → listed_from place index es ≡ Ok tt → list_all is_listed (map (λ e. e.1) es) ≡ true
-listed_passes place index [] h = refl
-listed_passes place index (e ∷ es) h =
-    let wrong : FileFault = fault.WrongFormat (path.Member place index) in
-    let parts = both_pass (refused_if (not (is_listed e.1)) wrong) (λ _. listed_from place (index + 1) es) tt h in
-    and_from (is_listed e.1) (list_all is_listed (map (λ e. e.1) es)) (not-false (is_listed e.1) (not_refused (not (is_listed e.1)) wrong parts.0)) (listed_passes place (index + 1) es parts.1)
-
-passes_listed : (place : ListPlace) (index : ℕ) (es : List (Row × VersionName)) → list_all is_listed (map (λ e. e.1) es) ≡ true → listed_from place index es ≡ Ok tt
-passes_listed place index [] h = refl
-passes_listed place index (e ∷ es) h =
-    let wrong : FileFault = fault.WrongFormat (path.Member place index) in
-    let parts = and_parts (is_listed e.1) (list_all is_listed (map (λ e. e.1) es)) h in
-    passed_then (refused_if (not (is_listed e.1)) wrong) (λ _. listed_from place (index + 1) es) (refused_not (not (is_listed e.1)) wrong (not_true (is_listed e.1) parts.0)) ∙ passes_listed place (index + 1) es parts.1
-
-op_passes : (txn by index : ℕ) (op : Op) → op_checked txn by index op ≡ Ok tt → OpKeeps op
-op_passes txn by index op h =
-    let bad : FileFault = fault.BadStatement by (index + 1) in
-    let parts = both_pass (refused_if (not (statement_prints op.statement)) bad) (λ _. listed_from (list.View txn index) 0 (finite.entries op.view)) tt h in
-    record {
-      prints = prints_true op.statement (not-false (statement_prints op.statement) (not_refused (not (statement_prints op.statement)) bad parts.0));
-      listed = listed_passes (list.View txn index) 0 (finite.entries op.view) parts.1;
-    }
-
-passes_op : (txn by index : ℕ) (op : Op) → OpKeeps op → op_checked txn by index op ≡ Ok tt
-passes_op txn by index op k =
-    let bad : FileFault = fault.BadStatement by (index + 1) in
-    passed_then (refused_if (not (statement_prints op.statement)) bad) (λ _. listed_from (list.View txn index) 0 (finite.entries op.view))
-    (refused_not (not (statement_prints op.statement)) bad (not_true (statement_prints op.statement) (true_prints op.statement k.prints)))
-    ∙ passes_listed (list.View txn index) 0 (finite.entries op.view) k.listed
-
-ops_pass : (txn by index : ℕ) (ops : List Op) → ops_checked txn by index ops ≡ Ok tt → OpsKeep ops
-ops_pass txn by index [] h = tt
-ops_pass txn by index (op ∷ ops) h =
-    let parts = both_pass (op_checked txn by index op) (λ _. ops_checked txn by (index + 1) ops) tt h in
-    (op_passes txn by index op parts.0, ops_pass txn by (index + 1) ops parts.1)
-
-pass_ops : (txn by index : ℕ) (ops : List Op) → OpsKeep ops → ops_checked txn by index ops ≡ Ok tt
-pass_ops txn by index [] k = refl
-pass_ops txn by index (op ∷ ops) k = passed_then (op_checked txn by index op) (λ _. ops_checked txn by (index + 1) ops) (passes_op txn by index op k.0) ∙ pass_ops txn by (index + 1) ops k.1
+use Rattle.lab_history.proofs.PassedOps.{both_pass, passed_then, not_refused, refused_not, not_true, ops_pass, pass_ops}
 
 -- ---- numbers
 
@@ -181,14 +106,16 @@ installed_pass index [] h = refl
 installed_pass index (e ∷ es) h =
     let wrong : FileFault = fault.WrongFormat (path.Member list.Installed index) in
     let parts = both_pass (refused_if (not (has_installer e.1)) wrong) (λ _. installed_checked (index + 1) es) tt h in
-    and_from (has_installer e.1) (list_all has_installer (map (λ e. e.1) es)) (not-false (has_installer e.1) (not_refused (not (has_installer e.1)) wrong parts.0)) (installed_pass (index + 1) es parts.1)
+    and_from (has_installer e.1) (list_all has_installer (map (λ e. e.1) es)) (not-false (has_installer e.1) (not_refused (not (has_installer e.1)) wrong parts.0))
+    (installed_pass (index + 1) es parts.1)
 
 pass_installed : (index : ℕ) (es : List (Row × List ℕ)) → list_all has_installer (map (λ e. e.1) es) ≡ true → installed_checked index es ≡ Ok tt
 pass_installed index [] h = refl
 pass_installed index (e ∷ es) h =
     let wrong : FileFault = fault.WrongFormat (path.Member list.Installed index) in
     let parts = and_parts (has_installer e.1) (list_all has_installer (map (λ e. e.1) es)) h in
-    passed_then (refused_if (not (has_installer e.1)) wrong) (λ _. installed_checked (index + 1) es) (refused_not (not (has_installer e.1)) wrong (not_true (has_installer e.1) parts.0)) ∙ pass_installed (index + 1) es parts.1
+    passed_then (refused_if (not (has_installer e.1)) wrong) (λ _. installed_checked (index + 1) es) (refused_not (not (has_installer e.1)) wrong (not_true (has_installer e.1) parts.0))
+    ∙ pass_installed (index + 1) es parts.1
 
 -- ---- the whole
 
@@ -201,7 +128,8 @@ limits_pass h w =
 
 pub checked_keeps : (h : History) → checked h ≡ Ok tt → Keeps h
 checked_keeps h c =
-    let few = both_pass (refused_if (nat_lt 1000 (length h.txns)) (fault.OverLimit limit.Transactions)) (λ _. txns_checked [] 0 h.txns >>= λ _. installed_checked 0 (finite.entries h.installed) >>= λ _. within_limits h) tt c in
+    let few = both_pass (refused_if (nat_lt 1000 (length h.txns)) (fault.OverLimit limit.Transactions))
+    (λ _. txns_checked [] 0 h.txns >>= λ _. installed_checked 0 (finite.entries h.installed) >>= λ _. within_limits h) tt c in
     let ran = both_pass (txns_checked [] 0 h.txns) (λ _. installed_checked 0 (finite.entries h.installed) >>= λ _. within_limits h) tt few.1 in
     let rest = both_pass (installed_checked 0 (finite.entries h.installed)) (λ _. within_limits h) tt ran.1 in
     let txns : TxnsKeep [] h.txns = txns_pass [] 0 h.txns (omega arith) ran.0 in
@@ -218,7 +146,8 @@ checked_keeps h c =
 
 pub keeps_checked : (h : History) → Keeps h → checked h ≡ Ok tt
 keeps_checked h k =
-    passed_then (refused_if (nat_lt 1000 (length h.txns)) (fault.OverLimit limit.Transactions)) (λ _. txns_checked [] 0 h.txns >>= λ _. installed_checked 0 (finite.entries h.installed) >>= λ _. within_limits h)
+    passed_then (refused_if (nat_lt 1000 (length h.txns)) (fault.OverLimit limit.Transactions)) (λ _. txns_checked [] 0 h.txns >>= λ _. installed_checked 0
+    (finite.entries h.installed) >>= λ _. within_limits h)
     (refused_not (nat_lt 1000 (length h.txns)) (fault.OverLimit limit.Transactions) (le-ltb 1000 (length h.txns) k.transactions))
     ∙ passed_then (txns_checked [] 0 h.txns) (λ _. installed_checked 0 (finite.entries h.installed) >>= λ _. within_limits h)
     (pass_txns [] 0 h.txns (record { fresh = none_fresh h.txns; distinct = k.distinct; few = omega (arith, k.few_operations); ops = k.operations_keep }))

@@ -97,7 +97,8 @@ module _ (n : ℕ) (row : Row) where
   last_found (t ∷ ts) h =
       value_at-reverse txn_row_cmp (n, row) (written_from t.no 0 t.ops) (written ts) ∙ at (last_found ts h.1) (t.no == n) refl
     where
-      at : last_at (written ts) ≡ last_write (ops_in (find_txn ts n)) row → (b : Bool) → (t.no == n) ≡ b → option_or (last_at (written ts)) (last_at (written_from t.no 0 t.ops)) ≡ last_write (ops_in (cond b (Some t) (find_txn ts n))) row
+      at : last_at (written ts) ≡ last_write (ops_in (find_txn ts n)) row → (b : Bool) → (t.no == n) ≡ b
+          → option_or (last_at (written ts)) (last_at (written_from t.no 0 t.ops)) ≡ last_write (ops_in (cond b (Some t) (find_txn ts n))) row
       at rest true own =
           let same : t.no ≡ n = eqb-true t.no n own in
           ap (λ o. option_or o (last_at (written_from t.no 0 t.ops))) (none_found ts (subst (λ m. list_any (λ k. k == m) (map (λ t. t.no) ts) ≡ false) same h.0))

@@ -16,11 +16,13 @@ pub mod ReadKeeps
 pub mod FileIsRead
 pub mod ReadIsFile
 pub mod FaultsOfLists
+pub mod ListWalks
 pub mod FaultsOfOperations
 pub mod FaultsOfTransactions
 pub mod FaultsAreTrue
 pub mod GoodLists
 pub mod Faultless
+pub mod ListedPlaces
 pub mod Halving
 pub mod FirstValues
 pub mod LastWrites
@@ -32,7 +34,9 @@ pub mod CountedRows
 pub mod LimitsKept
 pub mod CheckedTxns
 pub mod KeptParts
+pub mod PassedOps
 pub mod PartsFaults
+pub mod OpsFaults
 pub mod Appended
 pub mod WrittenLists
 pub mod WrittenViews

@@ -13,7 +13,9 @@ use Rattle.lab_history.proofs.CountedEntries.{few_entries, many_entries}
 
 -- there are few ids: the entries decide
 few_ids : (h : History) → distinct_rows (named_rows h) ≤ 1000 → within_limits h ≡ refused_if (nat_lt 200000 (sum (map op_entries (operations h.txns)))) (fault.OverLimit limit.Entries)
-few_ids h few = ap (λ b. refused_if b (fault.OverLimit limit.Ids) >>= λ _. refused_if (nat_lt 200000 (sum (map op_entries (operations h.txns)))) (fault.OverLimit limit.Entries)) (le-ltb 1000 (distinct_rows (named_rows h)) few)
+few_ids h few =
+    ap (λ b. refused_if b (fault.OverLimit limit.Ids) >>= λ _. refused_if (nat_lt 200000 (sum (map op_entries (operations h.txns)))) (fault.OverLimit limit.Entries))
+    (le-ltb 1000 (distinct_rows (named_rows h)) few)
 
 pub limits_kept : (h : History) → distinct_rows (named_rows h) ≤ 1000 → sum (map op_entries (operations h.txns)) ≤ 200000 → within_limits h ≡ Ok tt
 limits_kept h ids entries = few_ids h ids ∙ ap (λ b. refused_if b (fault.OverLimit limit.Entries)) (le-ltb 200000 (sum (map op_entries (operations h.txns))) entries)

@@ -21,7 +21,8 @@ new_states_sorted (e ∷ es) = ap (λ b. b && is_sorted row_cmp (new_states es))
 -- a row's new state is its state
 pub find_states : (row : Row) (es : List (Row × State)) → option_map state_value (find row_cmp row es) ≡ find row_cmp row (new_states es)
 find_states row [] = refl
-find_states row (e ∷ es) = elim (is_eq (row_cmp row e.0)) as (λ t. option_map state_value (cond t (Some e.1) (find row_cmp row es)) ≡ cond t (Some (state_value e.1)) (find row_cmp row (new_states es))) [
-  | true ↦ refl
-  | false ↦ find_states row es
-]
+find_states row (e ∷ es) =
+    elim (is_eq (row_cmp row e.0)) as (λ t. option_map state_value (cond t (Some e.1) (find row_cmp row es)) ≡ cond t (Some (state_value e.1)) (find row_cmp row (new_states es))) [
+      | true ↦ refl
+      | false ↦ find_states row es
+    ]

@@ -61,7 +61,13 @@ module _ (txn by index : ℕ) where
   -- and one that is, is read
   pub op_is_read : (d : Data) (op : Op) → IsOperation d op → op_in txn by index d ≡ Ok op
   op_is_read d op is =
-      let made : Op = record { statement = op.statement; view = finite.from_sorted (finite.entries op.view); rows = finite.from_sorted (finite.entries op.rows); writes = finite.from_sorted (finite.entries op.writes) } in
+      let made : Op = record {
+        statement = op.statement;
+        view = finite.from_sorted (finite.entries op.view);
+        rows = finite.from_sorted (finite.entries op.rows);
+        writes = finite.from_sorted
+            (finite.entries op.writes);
+      } in
       let again : made ≡ op = λ i. record { statement = op.statement; view = map_again op.view i; rows = map_again op.rows i; writes = map_again op.writes i } in
       ap (op_in txn by index) is.4
       ∙ step_on _ (ap (spelled_in by (index + 1)) (spells_in is.3 op.statement is.5))

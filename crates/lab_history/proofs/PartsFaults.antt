@@ -1,6 +1,6 @@
 -- The first fault of parts is true of them.
-use Rattle.std.proofs.Common.{◌≡◌, ◌≤◌, ◌⊎◌, inl, inr, ℕ, zero, suc, ◌+◌, ◌==◌, Bool, true, false, not, List, [], ◌∷◌, ◌++◌, length, map, sum, Some, Result, Ok, Err, refl, sym, ap, ◌∙◌, arith, subst, append_assoc}
-use Rattle.std.specs.Prelude.{⊤, nat_lt, slice_get}
+use Rattle.std.proofs.Common.{◌≡◌, ◌≤◌, inl, inr, ℕ, zero, suc, ◌+◌, ◌==◌, Bool, true, false, not, List, [], ◌∷◌, ◌++◌, length, map, sum, Some, Err, refl, sym, ap, ◌∙◌, arith, subst, append_assoc}
+use Rattle.std.specs.Prelude.{nat_lt, slice_get}
 use Rattle.std.specs.List.{list_any}
 use Rattle.std.specs.FinMap as finite
 use Rattle.std.proofs.lemmas.Bool.{ltb-true, eqb-true, or_cases, not-true}
@@ -10,96 +10,17 @@ use Rattle.std.proofs.lemmas.Option.{slice_get_within}
 use Rattle.lab_table.specs.Row.{Row}
 use Rattle.lab_history.specs.Faults.{◌>>=◌, refused_if}
 use Rattle.lab_history.specs.History.{History}
-use Rattle.lab_history.specs.HistoryRules.{operations, named_rows, distinct_rows, op_entries, is_listed, has_installer}
+use Rattle.lab_history.specs.HistoryRules.{operations, named_rows, distinct_rows, op_entries, has_installer}
 use Rattle.lab_history.specs.WithinLimits.{within_limits}
-use Rattle.lab_history.specs.FirstPartsFault.{statement_prints, listed_from, op_checked, ops_checked, txn_checked, txns_checked, installed_checked, checked}
-use Rattle.lab_history.specs.PartsFault.{IsOpFault, unprintable, unlisted, IsPartsFault, many_transactions, repeated, many_operations, of_operation, no_installer, many_ids, many_entries}
+use Rattle.lab_history.specs.FirstPartsFault.{ops_checked, txn_checked, txns_checked, installed_checked, checked}
+use Rattle.lab_history.specs.PartsFault.{IsOpFault, IsPartsFault, many_transactions, repeated, many_operations, of_operation, no_installer, many_ids, many_entries}
 use Rattle.lab_history.specs.declared.fault.FileFault.{FileFault}
 use Rattle.lab_history.specs.declared.fault.FileFault.TheVariants as fault
 use Rattle.lab_history.specs.declared.fault.Limit.TheVariants as limit
-use Rattle.lab_history.specs.declared.operation.Op.{Op}
-use Rattle.lab_history.specs.declared.operation.VersionName.{VersionName}
-use Rattle.lab_history.specs.declared.path.ListPlace.{ListPlace}
 use Rattle.lab_history.specs.declared.path.ListPlace.TheVariants as list
 use Rattle.lab_history.specs.declared.path.Path.TheVariants as path
 use Rattle.lab_history.specs.declared.transaction.Txn.{Txn}
-use Rattle.lab_history.proofs.KeptParts.{true_prints}
-
--- ---- the fault of two
-
-pub fault_in : {B : Type 0} → FileFault → Result B FileFault → FileFault
-fault_in else_fault (Ok x) = else_fault
-fault_in else_fault (Err e) = e
-
-pub same_fault : {B : Type 0} (r : Result B FileFault) (e f : FileFault) → r ≡ Err e → r ≡ Err f → e ≡ f
-unfolding fault_in
-same_fault r e f h g = sym (ap (fault_in e) h) ∙ ap (fault_in e) g
-
-first_or_second : {B : Type 0} (r : Result ⊤ FileFault) (then : ⊤ → Result B FileFault) (f : FileFault) → (r >>= then) ≡ Err f → (r ≡ Err f) ⊎ (then tt ≡ Err f)
-first_or_second (Ok x) then f h = inr h
-first_or_second {B} (Err e) then f h = inl (ap (λ x. Err x) (same_fault {B = B} (Err e) e f refl h))
-
-refused_for : (b : Bool) (e f : FileFault) → refused_if b e ≡ Err f → (b ≡ true) × (e ≡ f)
-refused_for true e f h = (refl, same_fault {B = ⊤} (Err e) e f refl h)
-refused_for false e f h = absurd cc
-
-true_or_false : (b : Bool) → b ≡ true → b ≡ false → ⊥
-true_or_false true h g = absurd cc
-true_or_false false h g = absurd cc
-
--- ---- operations
-
--- a member of a view that a file can't hold
-record IsUnlisted (place : ListPlace) (index : ℕ) (es : List (Row × VersionName)) (f : FileFault) : Type 0 where
-  k : ℕ
-  entry : Row × VersionName
-  stands : slice_get es k ≡ Some entry
-  isnt : is_listed entry.1 ≡ false
-  is : fault.WrongFormat (path.Member place (index + k)) ≡ f
-
-listed_fault : (place : ListPlace) (index : ℕ) (es : List (Row × VersionName)) (f : FileFault) → listed_from place index es ≡ Err f → IsUnlisted place index es f
-listed_fault place index [] f h = absurd cc
-listed_fault place index (e ∷ es) f h =
-    let wrong : ℕ → FileFault = λ n. fault.WrongFormat (path.Member place n) in
-    elim (first_or_second (refused_if (not (is_listed e.1)) (wrong index)) (λ _. listed_from place (index + 1) es) f h) [
-      | inl here ↦
-          let refused : (not (is_listed e.1) ≡ true) × (wrong index ≡ f) = refused_for (not (is_listed e.1)) (wrong index) f here in
-          record { k = 0; entry = e; stands = refl; isnt = not-true (is_listed e.1) refused.0; is = ap wrong (omega arith) ∙ refused.1 }
-      | inr later ↦
-          let rest : IsUnlisted place (index + 1) es f = listed_fault place (index + 1) es f later in
-          record { k = suc rest.k; entry = rest.entry; stands = rest.stands; isnt = rest.isnt; is = ap wrong (omega arith) ∙ rest.is }
-    ]
-
-op_fault : (txn by index : ℕ) (op : Op) (f : FileFault) → op_checked txn by index op ≡ Err f → IsOpFault txn by index op f
-op_fault txn by index op f h =
-    let bad : FileFault = fault.BadStatement by (index + 1) in
-    let place : ListPlace = list.View txn index in
-    let es : List (Row × VersionName) = finite.entries op.view in
-    elim (first_or_second (refused_if (not (statement_prints op.statement)) bad) (λ _. listed_from place 0 es) f h) [
-      | inl here ↦
-          let refused : (not (statement_prints op.statement) ≡ true) × (bad ≡ f) = refused_for (not (statement_prints op.statement)) bad f here in
-          subst (IsOpFault txn by index op) refused.1 (unprintable (λ p. true_or_false (statement_prints op.statement) (true_prints op.statement p) (not-true (statement_prints op.statement) refused.0)))
-      | inr later ↦
-          let rest : IsUnlisted place 0 es f = listed_fault place 0 es f later in
-          subst (IsOpFault txn by index op) (ap (λ n. fault.WrongFormat (path.Member place n)) (omega arith) ∙ rest.is) (unlisted rest.k rest.entry rest.stands rest.isnt)
-    ]
-
--- an operation of a list with a fault
-record IsOpsFault (txn by index : ℕ) (ops : List Op) (f : FileFault) : Type 0 where
-  j : ℕ
-  op : Op
-  stands : slice_get ops j ≡ Some op
-  is : IsOpFault txn by (index + j) op f
-
-ops_fault : (txn by index : ℕ) (ops : List Op) (f : FileFault) → ops_checked txn by index ops ≡ Err f → IsOpsFault txn by index ops f
-ops_fault txn by index [] f h = absurd cc
-ops_fault txn by index (op ∷ ops) f h =
-    elim (first_or_second (op_checked txn by index op) (λ _. ops_checked txn by (index + 1) ops) f h) [
-      | inl here ↦ record { j = 0; op = op; stands = refl; is = subst (λ n. IsOpFault txn by n op f) (omega arith) (op_fault txn by index op f here) }
-      | inr later ↦
-          let rest : IsOpsFault txn by (index + 1) ops f = ops_fault txn by (index + 1) ops f later in
-          record { j = suc rest.j; op = rest.op; stands = rest.stands; is = subst (λ n. IsOpFault txn by n rest.op f) (omega arith) rest.is }
-    ]
+use Rattle.lab_history.proofs.OpsFaults.{first_or_second, refused_for, IsOpsFault, ops_fault}
 
 -- ---- transactions
 
@@ -142,7 +63,8 @@ module _ (h : History) (f : FileFault) where
             let refused : (again ≡ true) × (fault.RepeatedTxn t.no ≡ f) = refused_for again (fault.RepeatedTxn t.no) f first in
             let old : HasNumber t.no before = some_has t.no before refused.0 in
             subst (IsPartsFault h) refused.1
-            (repeated old.i (length before) old.txn t (slice_get_within before old.i old.txn old.stands) (ap (λ l. slice_get l old.i) all ∙ in_front before (t ∷ ts) old.i old.txn old.stands) here old.is)
+            (repeated old.i (length before) old.txn t (slice_get_within before old.i old.txn old.stands)
+            (ap (λ l. slice_get l old.i) all ∙ in_front before (t ∷ ts) old.i old.txn old.stands) here old.is)
         | inr second ↦ elim (first_or_second (refused_if many (fault.OverLimit limit.Operations)) (λ _. ops_checked (length before) t.no 0 t.ops) f second) [
           | inl over ↦
               let refused : (many ≡ true) × (fault.OverLimit limit.Operations ≡ f) = refused_for many (fault.OverLimit limit.Operations) f over in
@@ -214,7 +136,8 @@ rest_fault h f e =
 
 pub fault_true : (h : History) (f : FileFault) → checked h ≡ Err f → IsPartsFault h f
 fault_true h f e =
-    elim (first_or_second (refused_if (nat_lt 1000 (length h.txns)) (fault.OverLimit limit.Transactions)) (λ _. txns_checked [] 0 h.txns >>= λ _. installed_checked 0 (finite.entries h.installed) >>= λ _. within_limits h) f e) [
+    elim (first_or_second (refused_if (nat_lt 1000 (length h.txns)) (fault.OverLimit limit.Transactions))
+    (λ _. txns_checked [] 0 h.txns >>= λ _. installed_checked 0 (finite.entries h.installed) >>= λ _. within_limits h) f e) [
       | inl here ↦
           let refused : (nat_lt 1000 (length h.txns) ≡ true) × (fault.OverLimit limit.Transactions ≡ f) = refused_for (nat_lt 1000 (length h.txns)) (fault.OverLimit limit.Transactions) f here in
           subst (IsPartsFault h) refused.1 (many_transactions (ltb-true 1000 (length h.txns) refused.0))

@@ -32,7 +32,8 @@ list_whole tree whole (x ∷ xs) = rw (whole x) (list_whole tree whole xs)
 map_whole : {X : Type 0} (tree : X → Data) → ((x : X) → has_float (tree x) ≡ false) → (m : FinMap row_cmp X) → has_float (map_tree tree m) ≡ false
 map_whole tree whole m = list_whole (pair_tree tree) (λ e. rw (whole e.1) refl) (finite.entries m)
 
-one_whole : (row : Row) (v : VersionName) (es : List (Row × VersionName)) → items_have_float (items_of (seen_trees es)) ≡ false → items_have_float (items_of (version_trees row v ++ seen_trees es)) ≡ false
+one_whole : (row : Row) (v : VersionName) (es : List (Row × VersionName)) → items_have_float (items_of (seen_trees es)) ≡ false
+    → items_have_float (items_of (version_trees row v ++ seen_trees es)) ≡ false
 one_whole row Initial es rest = rest
 one_whole row (Of txn op) es rest = rest
 

@@ -70,9 +70,12 @@ module _ (place : ListPlace) where
   states_from : (index : ℕ) (before : Option Row) (ds : Items) → entries_from written place index before ds ≡ (entries_from stated place index before ds >>= λ es. Ok (new_states es))
   states_from index before no_items = refl
   states_from index before (item d ds) =
-      ap (λ r. r >>= λ e. if follows before e.0 then (entries_from written place (index + 1) (Some e.0) ds >>= λ es. Ok (e ∷ es)) else Err (fault.Unsorted (path.List place))) (pair_seen place index (as_array d))
-      ∙ elim (stated index d) as (λ r. ((r >>= λ e. Ok (seen e)) >>= λ e. if follows before e.0 then (entries_from written place (index + 1) (Some e.0) ds >>= λ es. Ok (e ∷ es)) else Err (fault.Unsorted (path.List place)))
-      ≡ ((r >>= λ e. if follows before e.0 then (entries_from stated place (index + 1) (Some e.0) ds >>= λ es. Ok (e ∷ es)) else Err (fault.Unsorted (path.List place))) >>= λ es. Ok (new_states es))) [
+      ap (λ r. r >>= λ e. if follows before e.0 then (entries_from written place (index + 1) (Some e.0) ds >>= λ es. Ok (e ∷ es)) else Err (fault.Unsorted (path.List place)))
+      (pair_seen place index (as_array d))
+      ∙ elim (stated index d) as (λ r. ((r >>= λ e. Ok (seen e)) >>= λ e. if follows before e.0 then (entries_from written place (index + 1) (Some e.0) ds >>= λ es. Ok (e ∷ es)) else Err
+      (fault.Unsorted (path.List place)))
+      ≡ ((r >>= λ e. if follows before e.0 then (entries_from stated place (index + 1) (Some e.0) ds >>= λ es. Ok (e ∷ es)) else Err (fault.Unsorted (path.List place))) >>= λ es. Ok
+      (new_states es))) [
         | Ok e ↦
             ap (λ rest. if follows before e.0 then (rest >>= λ es. Ok (seen e ∷ es)) else Err (fault.Unsorted (path.List place))) (states_from (index + 1) (Some e.0) ds)
             ∙ seen_more (follows before e.0) e (entries_from stated place (index + 1) (Some e.0) ds)
@@ -97,6 +100,7 @@ gives_more f g (Err refusal.NoMemory) read given = tt
 gives_more f g (Err (refusal.Fault fault)) read given = ap (λ r. r >>= λ y. Ok (g y)) given
 
 -- a result whose rows rise, seen as new states
-pub rises_seen : {X : Type 0} (items : X → List (Row × State)) (result : Result X Refusal) → IfOk result (λ x. T (is_sorted row_cmp (items x))) → IfOk result (λ x. T (is_sorted row_cmp (new_states (items x))))
+pub rises_seen : {X : Type 0} (items : X → List (Row × State)) (result : Result X Refusal) → IfOk result (λ x. T (is_sorted row_cmp (items x)))
+    → IfOk result (λ x. T (is_sorted row_cmp (new_states (items x))))
 rises_seen items (Ok x) h = subst T (sym (new_states_sorted (items x))) h
 rises_seen items (Err e) h = tt

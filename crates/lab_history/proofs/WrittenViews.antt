@@ -51,7 +51,8 @@ one_seen values new v xs i e txn op lt here is seen stands pushed h =
     })
 
 -- all versions
-pub all_seen : (values : List Value) (m : FinMap row_cmp VersionName) (xs : List (Row × VersionName)) (i : ℕ) → xs ≡ finite.entries m → length xs ≤ i → Seen values (take i xs) → Seen values (finite.entries m)
+pub all_seen : (values : List Value) (m : FinMap row_cmp VersionName) (xs : List (Row × VersionName)) (i : ℕ) → xs ≡ finite.entries m → length xs ≤ i → Seen values (take i xs)
+    → Seen values (finite.entries m)
 all_seen values m xs i is le h = subst (Seen values) (take_all i xs le ∙ is) h
 
 -- the list is of the format

@@ -18,7 +18,8 @@ use Rattle.lab_history.specs.declared.transaction.Txn.{Txn}
 -- of an operation at these places: its statement doesn't print, or its view lists a version that a file can't hold
 pub data IsOpFault (txn by index : ℕ) (op : Op) : FileFault → Type 0 where
   unprintable : (StatementPrints op.statement → ⊥) → IsOpFault txn by index op (fault.BadStatement by (index + 1))
-  unlisted : (k : ℕ) (e : Row × VersionName) → slice_get (finite.entries op.view) k ≡ Some e → is_listed e.1 ≡ false → IsOpFault txn by index op (fault.WrongFormat (path.Member (list.View txn index) k))
+  unlisted : (k : ℕ) (e : Row × VersionName) → slice_get (finite.entries op.view) k ≡ Some e → is_listed e.1 ≡ false
+      → IsOpFault txn by index op (fault.WrongFormat (path.Member (list.View txn index) k))
 
 -- what a fault names is so; no other faults are any of parts
 pub data IsPartsFault (h : History) : FileFault → Type 0 where

@@ -59,7 +59,8 @@ module _ (n : ℕ) (output : TranscriptView) (table : Table) (inside : ℕ → B
 
   with : (b : Bool) → (is_begin line.command && not (inside line.session)) ≡ b
       → output_on n output table ((cond b (transaction_of line.session later ∷ []) []) ++ transactions (inside_after inside line.session line.command) later) ≡ total
-  with b is = sym (ap (λ (x : Bool). output_on n output table ((cond x (transaction_of line.session later ∷ []) []) ++ transactions (inside_after inside line.session line.command) later)) is) ∙ next_is
+  with b is =
+      sym (ap (λ (x : Bool). output_on n output table ((cond x (transaction_of line.session later ∷ []) []) ++ transactions (inside_after inside line.session line.command) later)) is) ∙ next_is
 
   -- a line that begins a transaction, which has been told
   pub transaction_line : (after : ℕ → Bool) → after ≡ inside_after inside line.session line.command → (is_begin line.command && not (inside line.session)) ≡ true
@@ -83,5 +84,6 @@ module _ (n : ℕ) (output : TranscriptView) (table : Table) (inside : ℕ → B
       ∙ with false is
 
 -- where no line is left, no further limit is broken
-pub no_line : (n : ℕ) (output : TranscriptView) (table : Table) (inside : ℕ → Bool) (rest : List Line) (total : TranscriptView) → output_by n output table inside rest ≡ total → rest ≡ [] → output.unprintable ≡ total.unprintable
+pub no_line : (n : ℕ) (output : TranscriptView) (table : Table) (inside : ℕ → Bool) (rest : List Line) (total : TranscriptView) → output_by n output table inside rest ≡ total → rest ≡ []
+    → output.unprintable ≡ total.unprintable
 no_line n output table inside rest total so_far none = ap (λ (lines : List Line). (output_by n output table inside lines).unprintable) (sym none) ∙ ap (λ (t : TranscriptView). t.unprintable) so_far

@@ -106,7 +106,8 @@ pub data IsStatement : List Token → Statement → Type 0 where
   update : {es ts : List Token} {e : Expr} {p : Option Predicate} → IsExpr es e → IsWhere ts p
       → IsStatement (words (word.Update ∷ word.Test ∷ word.Set ∷ word.Value ∷ []) ++ token.Equal ∷ es ++ ts) (statement.Update e p)
   insert : {rs : List Token} {id : Row} {value : ℤ} → IsRow rs id value
-      → IsStatement (words (word.Insert ∷ word.Into ∷ word.Test ∷ []) ++ token.Open ∷ token.Word word.Id ∷ token.Comma ∷ token.Word word.Value ∷ token.Close ∷ token.Word word.Values ∷ rs) (statement.Insert id value)
+      → IsStatement (words (word.Insert ∷ word.Into ∷ word.Test ∷ []) ++ token.Open ∷ token.Word word.Id ∷ token.Comma ∷ token.Word word.Value ∷ token.Close ∷ token.Word word.Values ∷ rs)
+      (statement.Insert id value)
   delete : {ts : List Token} {p : Option Predicate} → IsWhere ts p
       → IsStatement (words (word.Delete ∷ word.From ∷ word.Test ∷ []) ++ ts) (statement.Delete p)
 

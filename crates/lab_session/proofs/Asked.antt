@@ -13,7 +13,7 @@ use Rattle.lab_engine.specs.declared.event.Outcome.TheVariants.{Begun, Rows as L
 use Rattle.lab_engine.specs.Log.{Past, Txn, asked, active, active_after, waiting, waiting_after}
 use Rattle.lab_engine.specs.Rules.{Asks, Permitted}
 use Rattle.lab_engine.specs.Recording.{is_answer}
-use Rattle.lab_engine.proofs.Locks.{none_some, some_same}
+use Rattle.lab_engine.proofs.LockSteps.{none_some, some_same}
 
 -- how a command that isn't refused as Busy goes: it is answered, or its statement waits
 abbrev pub Goes : Command → Bool → Option Statement → Bool → Type 0

@@ -7,7 +7,7 @@ use borrow.Author.Tests.{ltb-true, ltb-false}
 use Rattle.lab_table.specs.declared.statement.Command.{Command}
 use Rattle.lab_engine.specs.Log.{Past, waiting}
 use Rattle.lab_engine.specs.Recording.{Line, given, lines_by, next_line}
-use Rattle.lab_engine.proofs.Locks.{none_some, some_same}
+use Rattle.lab_engine.proofs.LockSteps.{none_some, some_same}
 use Rattle.lab_session.specs.Play.{commands_of}
 use Rattle.lab_session.proofs.Playing.{next_rests, lines_more}
 

@@ -18,7 +18,7 @@ use Rattle.lab_engine.specs.Rules.{IsBelow, MayCommit, Conflicts}
 use Rattle.lab_engine.specs.Chains.{chain, chain_in, first_since}
 use Rattle.lab_engine.specs.Sight.{IsFirstConflict}
 use Rattle.lab_engine.specs.Situation.{Describes, IsRunning, running_of}
-use Rattle.lab_engine.proofs.Locks.{none_some, some_same}
+use Rattle.lab_engine.proofs.LockSteps.{none_some, some_same}
 use Rattle.lab_engine.proofs.Describing.{running_txn}
 use Rattle.lab_engine.proofs.InstalledChains.{SinceThen, since_begin, last_no}
 use Rattle.lab_versions.specs.Conflict.{first_taken}
@@ -113,10 +113,13 @@ abbrev taken_in : Situation → RunningTxn → Row → Option ℕ
 taken_in situation running row = first_since running.before (chain_in situation.chains row)
 
 -- what is found answers whether the transaction may commit
-pub found_answers : (past : Past) (session : ℕ) (txn : Txn) (situation : Situation) (running : RunningTxn) (found : Option Conflict) → Describes past situation → active past session ≡ Some txn → IsRunning txn running
-    → found ≡ first_taken (λ row. first_since running.before (chain_in situation.chains row)) (entries running.last) → MatchOption found (MayCommit Snapshot past txn) (IsFirstConflict Snapshot past txn)
+pub found_answers : (past : Past) (session : ℕ) (txn : Txn) (situation : Situation) (running : RunningTxn) (found : Option Conflict) → Describes past situation → active past session ≡ Some txn
+    → IsRunning txn running
+    → found ≡ first_taken (λ row. first_since running.before (chain_in situation.chains row)) (entries running.last)
+    → MatchOption found (MayCommit Snapshot past txn) (IsFirstConflict Snapshot past txn)
 found_answers past session txn situation running found d is running_is found_is =
-    at found (subst (λ (o : Option Conflict). IsLeast (taken_in situation running) (entries running.last) o) (sym found_is) (least (taken_in situation running) (entries running.last) (entries_sorted running.last))) where
+    at found (subst (λ (o : Option Conflict). IsLeast (taken_in situation running) (entries running.last) o) (sym found_is)
+    (least (taken_in situation running) (entries running.last) (entries_sorted running.last))) where
       taken_is : (row : Row) → taken_in situation running row ≡ first_since (length txn.before) (chain past row)
       taken_is row = ap (λ n. first_since n (chain_in situation.chains row)) running_is.before ∙ ap (first_since (length txn.before)) (d.chains row)
 

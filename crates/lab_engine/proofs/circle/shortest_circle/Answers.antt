@@ -7,7 +7,8 @@ use Rattle.lab_engine.specs.declared.circle.WaitEdge.{WaitEdge}
 use Rattle.lab_engine.specs.declared.waits.Wait.{Wait}
 use Rattle.lab_engine.specs.WaitsFor.{IsRound, waits_for}
 use Rattle.lab_engine.specs.WaitEdges.{is_reached, trail, IsNewWaitEdge}
-use Rattle.lab_engine.proofs.Walks.{trail_round, no_walk, fewer_missing, missing}
+use Rattle.lab_engine.proofs.Walks.{trail_round, no_walk}
+use Rattle.lab_engine.proofs.Unreached.{fewer_missing, missing}
 use Rattle.lab_engine.proofs.ShortestWalks.{nobody_new, search_goes_on, found_shortest, IsSearched}
 use Rattle.lab_engine.proofs.circle.shortest_circle.Goals as goal
 
@@ -30,7 +31,8 @@ returns-in-Some-clause-shortest c = λ rest walk.
 held : (waits : List Wait) (goal : ℕ) (shown edges : List WaitEdge) (layer : List WaitEdge) → shown ≡ edges
     → ((session other : ℕ) → IsTrue (waits_for waits session other) → IsTrue (is_reached shown goal other) → IsTrue (is_reached (layer ++ shown) goal session))
     → (session other : ℕ) → IsTrue (waits_for waits session other) → IsTrue (is_reached edges goal other) → IsTrue (is_reached (layer ++ edges) goal session)
-held waits goal shown edges layer same all = subst (λ hs. (session other : ℕ) → IsTrue (waits_for waits session other) → IsTrue (is_reached hs goal other) → IsTrue (is_reached (layer ++ hs) goal session)) same all
+held waits goal shown edges layer same all =
+    subst (λ hs. (session other : ℕ) → IsTrue (waits_for waits session other) → IsTrue (is_reached hs goal other) → IsTrue (is_reached (layer ++ hs) goal session)) same all
 
 pub returns-then-is_empty-clause-none : goal.returns-then-is_empty-clause-none
 returns-then-is_empty-clause-none c = λ none rest.

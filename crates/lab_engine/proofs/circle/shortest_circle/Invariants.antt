@@ -1,6 +1,6 @@
 use Rattle.std.proofs.Common.{ℕ}
 use Rattle.lab_engine.proofs.ShortestWalks.{IsSearched}
-use Rattle.lab_engine.proofs.Walks.{missing}
+use Rattle.lab_engine.proofs.Unreached.{missing}
 use Rattle.lab_engine.proofs.circle.shortest_circle.Given as goal
 
 -- some turns of the search are done

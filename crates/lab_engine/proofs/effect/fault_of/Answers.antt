@@ -4,7 +4,7 @@ use Rattle.lab_table.specs.Row.{Row}
 use Rattle.lab_table.specs.Statement.{fails}
 use Rattle.lab_engine.specs.Sight.{version_in}
 use Rattle.lab_engine.specs.Effect.{IsEffectFault}
-use Rattle.lab_engine.proofs.Effects.{update_runs, update_fails}
+use Rattle.lab_engine.proofs.FailingRows.{update_runs, update_fails}
 use Rattle.lab_engine.proofs.effect.fault_of.Goals as goal
 
 pub returns-in_err-id-in-Update-clause-fault : goal.returns-in_err-id-in-Update-clause-fault

@@ -14,7 +14,8 @@ abbrev initially : State → Version
 initially state = record { name = Initial; state = state }
 
 -- the own version, else the installed one, else as the setup has the row
-first_of : (own installed : Option Version) (state : State) → unwrap_or (option_or own (option_or installed (listed_version state))) (initially None) ≡ unwrap_or own (unwrap_or installed (initially state))
+first_of : (own installed : Option Version) (state : State) → unwrap_or (option_or own (option_or installed (listed_version state))) (initially None) ≡ unwrap_or own
+    (unwrap_or installed (initially state))
 first_of (Some v) installed state = refl
 first_of None (Some v) state = refl
 first_of None None (Some value) = refl

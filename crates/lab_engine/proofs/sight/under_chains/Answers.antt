@@ -3,7 +3,8 @@ use Rattle.std.proofs.Common.{◌∙◌, ap}
 use Rattle.std.proofs.lemmas.Result.{IfOk-weaker}
 use Rattle.std.specs.FinMap.{get}
 use Rattle.lab_engine.specs.Chains.{chain, chain_in, version_before}
-use Rattle.lab_engine.proofs.InstalledChains.{before_listed, since_begin}
+use Rattle.lab_engine.proofs.InstalledChains.{since_begin}
+use Rattle.lab_engine.proofs.ChainedRows.{before_listed}
 use Rattle.lab_engine.proofs.sight.under_chains.Goals as goal
 
 pub returns : goal.returns

@@ -15,7 +15,8 @@ loop-state-preserved g c = λ past d.
     stands_at c.args.situation.now.sessions.items c.deref-state-items.result.now c.loop-state.state-index c.state-item.result c.deref-state-items.ensures.value c.loop-state-test.true c.state-item.is in
     let described : DescribesSession past c.state-item.result = described_at past c.args.situation.now c.loop-state.state-index c.state-item.result d at in
     let wait : Wait = record { session = c.state-item.result.session; on = c.in_ok-on.on } in
-    let step : (session other : ℕ) → waits_for c.if-not-is_empty.waits.items session other ≡ (waits_for c.loop-state.waits.items session other || (c.state-item.result.session == session && list_any (λ o. o == other) c.in_ok-on.on)) =
+    let step : (session other : ℕ) → waits_for c.if-not-is_empty.waits.items session other ≡ (waits_for c.loop-state.waits.items session other ||
+    (c.state-item.result.session == session && list_any (λ o. o == other) c.in_ok-on.on)) =
     λ session other. elim c.if-not-is_empty.branch [
       | then-not-is_empty+in_ok-push w ↦
           waits_pushed c.loop-state.waits.items c.if-not-is_empty.waits.items wait

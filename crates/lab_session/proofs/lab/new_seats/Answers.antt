@@ -1,5 +1,5 @@
 use Rattle.std.proofs.Common.{arith}
-use Rattle.lab_engine.proofs.GatheredLogs.{each_next}
+use Rattle.lab_engine.proofs.GatheredNumbers.{each_next}
 use Rattle.lab_session.specs.Seats.{new_seat}
 use Rattle.lab_session.proofs.lab.new_seats.Goals as goal
 

@@ -7,4 +7,5 @@ use Rattle.lab_table.proofs.by_row.place_of.Goals as goal
 pub returns-clause-value : goal.returns-clause-value
 returns-clause-value g c =
     point_is (comes_after c.args.row) c.args.entries.now c.partition_point.result c.partition_point.ensures.bound
-    (IsPartitionPoint-from_clause (comes_after c.args.row) c.args.entries.now c.partition_point.result c.partition_point.ensures.partitioned (parted c.args.row c.args.entries.now c.requires) (λ a r f' called. (search rules, search rules)))
+    (IsPartitionPoint-from_clause (comes_after c.args.row) c.args.entries.now c.partition_point.result c.partition_point.ensures.partitioned (parted c.args.row c.args.entries.now c.requires)
+    (λ a r f' called. (search rules, search rules)))

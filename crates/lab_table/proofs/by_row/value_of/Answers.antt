@@ -11,10 +11,12 @@ returns-in_err-entry g c =
 
 pub returns-then-eq : goal.returns-then-eq
 returns-then-eq g c =
-    sym (found_entry c.args.row c.args.entries.now c.place_of.result c.in_ok-entry.entry.now c.eq.result c.requires c.place_of.ensures.value (ltb-true _ _ (sym c.in_ok-entry.ensures.lookup.0)) c.in_ok-entry.ensures.lookup.1 c.eq.ensures
+    sym (found_entry c.args.row c.args.entries.now c.place_of.result c.in_ok-entry.entry.now c.eq.result c.requires c.place_of.ensures.value
+    (ltb-true _ _ (sym c.in_ok-entry.ensures.lookup.0)) c.in_ok-entry.ensures.lookup.1 c.eq.ensures
     ∙ ap (λ b. cond b (Some c.in_ok-entry.entry.now.1) None) c.if-eq.true)
 
 pub returns-else-eq : goal.returns-else-eq
 returns-else-eq g c =
-    sym (found_entry c.args.row c.args.entries.now c.place_of.result c.in_ok-entry.entry.now c.eq.result c.requires c.place_of.ensures.value (ltb-true _ _ (sym c.in_ok-entry.ensures.lookup.0)) c.in_ok-entry.ensures.lookup.1 c.eq.ensures
+    sym (found_entry c.args.row c.args.entries.now c.place_of.result c.in_ok-entry.entry.now c.eq.result c.requires c.place_of.ensures.value
+    (ltb-true _ _ (sym c.in_ok-entry.ensures.lookup.0)) c.in_ok-entry.ensures.lookup.1 c.eq.ensures
     ∙ ap (λ b. cond b (Some c.in_ok-entry.entry.now.1) None) c.if-eq.false)

@@ -16,5 +16,6 @@ pub returns : goal.returns
 returns c = λ other.
     put_chain (λ kept. kept.items) c.args.row (record { version = record { name = c.args.name; state = c.args.state }; by = c.args.by; place = c.args.place })
     (get row_cmp c.args.self.now.rows) (get row_cmp c.insert.new.self) c.push-2.new.self []
-    (ap (λ o. unwrap_or (option_map (λ kept. kept.items) o) []) (sym c.in_default.ensures.value)) (c.in_ok-push-2.ensures.items ∙ ap (λ l. l ++ record { version = record { name = c.args.name; state = c.args.state }; by = c.args.by; place = c.args.place } ∷ []) c.new-chain.ensures.items)
+    (ap (λ o. unwrap_or (option_map (λ kept. kept.items) o) []) (sym c.in_default.ensures.value)) (c.in_ok-push-2.ensures.items
+    ∙ ap (λ l. l ++ record { version = record { name = c.args.name; state = c.args.state }; by = c.args.by; place = c.args.place } ∷ []) c.new-chain.ensures.items)
     (λ q. c.in_ok-insert.ensures.updates.0 q ∙ ap (λ m. cond (is_eq (row_cmp c.args.row q)) (Some c.push-2.new.self) (get row_cmp m q)) c.get_mut.follows.holds-at-none) other

@@ -2,7 +2,8 @@ use Rattle.std.proofs.Common.{sym, ap, subst, refl, ◌∙◌, arith}
 use Rattle.lab_engine.specs.Log.{active, commits}
 use Rattle.lab_engine.specs.Chains.{chain_in, chain_after}
 use Rattle.lab_engine.specs.Situation.{Agree, running_of}
-use Rattle.lab_engine.proofs.Describing.{begun_at_most, running_agrees, goes_on}
+use Rattle.lab_engine.proofs.Describing.{running_agrees, goes_on}
+use Rattle.lab_engine.proofs.EventBounds.{begun_at_most}
 use Rattle.lab_engine.proofs.situation.Situation.take_in.Goals as goal
 
 pub begun_next-self-requires : goal.begun_next-self-requires
@@ -19,6 +20,7 @@ returns c = λ past is.
     (subst (λ l. Agree (active past c.args.event.now.session) (running_of l c.args.event.now.session)) (sym c.deref.ensures.value) (running_agrees past c.args.self.now is c.args.event.now.session))
     is.committed)
     (λ row. c.in_ok-lengthen.ensures (active past c.args.event.now.session)
-    (subst (λ l. Agree (active past c.args.event.now.session) (running_of l c.args.event.now.session)) (sym c.deref-2.ensures.value) (running_agrees past c.args.self.now is c.args.event.now.session)) row
+    (subst (λ l. Agree (active past c.args.event.now.session) (running_of l c.args.event.now.session)) (sym c.deref-2.ensures.value)
+    (running_agrees past c.args.self.now is c.args.event.now.session)) row
     ∙ ap (λ n. chain_after c.args.event.now.outcome (active past c.args.event.now.session) n row (chain_in c.args.self.now.chains row)) is.events)
     c.begun_next-self.ensures refl

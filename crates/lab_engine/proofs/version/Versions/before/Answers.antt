@@ -15,5 +15,6 @@ from_rising-requires c =
 pub returns : goal.returns
 returns c = λ row.
     ap (λ m. get m row) c.from_rising.ensures
-    ∙ ap (λ l. get (from_sorted {R = row_cmp} l) row) (c.in_ok-entries_before.ensures ∙ ap (each_row (λ row (v : Version). version_before c.args.place (chain_in c.args.chains.now row))) c.entries.ensures)
+    ∙ ap (λ l. get (from_sorted {R = row_cmp} l) row) (c.in_ok-entries_before.ensures
+    ∙ ap (each_row (λ row (v : Version). version_before c.args.place (chain_in c.args.chains.now row))) c.entries.ensures)
     ∙ get_each (λ row (v : Version). version_before c.args.place (chain_in c.args.chains.now row)) c.args.self.now row

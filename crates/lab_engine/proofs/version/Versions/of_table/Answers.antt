@@ -1,7 +1,7 @@
 use Rattle.std.proofs.Common.{◌∙◌, ap, map}
 use Rattle.std.specs.FinMap.{entries, entries_sorted, get}
 use Rattle.lab_engine.specs.Merging.{initial_entry}
-use Rattle.lab_engine.proofs.Merging.{initial_sorted, initial_found}
+use Rattle.lab_engine.proofs.VersionLists.{initial_sorted, initial_found}
 use Rattle.lab_engine.proofs.version.Versions.of_table.Goals as goal
 
 pub from_rising-requires : goal.from_rising-requires
@@ -12,5 +12,6 @@ from_rising-requires c =
 pub returns : goal.returns
 returns c = λ row.
     ap (λ m. get m row) c.from_rising.ensures
-    ∙ initial_found c.args.table.now c.in_ok-initial_entries.field-0.items row (initial_sorted (entries c.args.table.now) c.in_ok-initial_entries.field-0.items (entries_sorted c.args.table.now) (c.in_ok-initial_entries.ensures ∙ ap (map initial_entry) c.rows.ensures))
+    ∙ initial_found c.args.table.now c.in_ok-initial_entries.field-0.items row (initial_sorted (entries c.args.table.now) c.in_ok-initial_entries.field-0.items (entries_sorted c.args.table.now)
+    (c.in_ok-initial_entries.ensures ∙ ap (map initial_entry) c.rows.ensures))
     (c.in_ok-initial_entries.ensures ∙ ap (map initial_entry) c.rows.ensures)

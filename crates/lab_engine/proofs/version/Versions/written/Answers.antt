@@ -1,7 +1,7 @@
 use Rattle.std.proofs.Common.{subst, sym, ap, ◌∙◌, T}
 use Rattle.std.specs.FinMap.{is_sorted, entries_sorted, get}
 use Rattle.lab_table.specs.Row.{row_cmp}
-use Rattle.lab_engine.proofs.Merging.{written_sorted, written_found}
+use Rattle.lab_engine.proofs.VersionLists.{written_sorted, written_found}
 use Rattle.lab_engine.proofs.version.Versions.written.Goals as goal
 
 pub from_rising-requires : goal.from_rising-requires
@@ -13,5 +13,6 @@ pub returns : goal.returns
 returns c = λ row.
     ap (λ m. get m row) c.from_rising.ensures
     ∙ written_found c.args.name c.args.writes.now c.entries.result.now c.in_ok-written_entries.field-0.items row c.entries.ensures
-    (written_sorted c.args.name c.entries.result.now c.in_ok-written_entries.field-0.items (subst (λ l. T (is_sorted row_cmp l)) (sym c.entries.ensures) (entries_sorted c.args.writes.now)) c.in_ok-written_entries.ensures)
+    (written_sorted c.args.name c.entries.result.now c.in_ok-written_entries.field-0.items (subst (λ l. T (is_sorted row_cmp l)) (sym c.entries.ensures)
+    (entries_sorted c.args.writes.now)) c.in_ok-written_entries.ensures)
     c.in_ok-written_entries.ensures

@@ -13,4 +13,6 @@ pub returns-in-Err-Fault-clause-only : goal.returns-in-Err-Fault-clause-only
 returns-in-Err-Fault-clause-only c = λ _. fault_breaks c.args.parts c.in-Err-Fault.fault (subst (λ s. Refuses s (checked c.args.parts)) c.in-Err-Fault.field-0-is c.in-Err-Fault.ensures)
 
 pub returns-in-Err-Fault-clause-truth : goal.returns-in-Err-Fault-clause-truth
-returns-in-Err-Fault-clause-truth c = λ _. subst (IsPartsFault c.args.parts) (sym c.in-Err-Fault.fault-is) (fault_true c.args.parts c.in-Err-Fault.fault (subst (λ s. Refuses s (checked c.args.parts)) c.in-Err-Fault.field-0-is c.in-Err-Fault.ensures))
+returns-in-Err-Fault-clause-truth c =
+    λ _. subst (IsPartsFault c.args.parts) (sym c.in-Err-Fault.fault-is) (fault_true c.args.parts c.in-Err-Fault.fault
+    (subst (λ s. Refuses s (checked c.args.parts)) c.in-Err-Fault.field-0-is c.in-Err-Fault.ensures))

@@ -11,7 +11,8 @@ returns-then-holds_write-clause-yes c past asker txn describes sight running blo
     let s = c.args.statement.now in
     let holder = c.args.holder.now in
     elim c.if-holds_match.branch [
-      | then-holds_match w ↦ inl (holds_match c.args.setup.now past c.args.situation.now.committed describes.committed s txn holder.last running.last (sym c.holds_match.ensures ∙ w.if-holds_match.true))
+      | then-holds_match w ↦ inl (holds_match c.args.setup.now past c.args.situation.now.committed describes.committed s txn holder.last running.last
+          (sym c.holds_match.ensures ∙ w.if-holds_match.true))
       | else-holds_match w ↦ inr (inl (holds_write Locking c.args.setup.now past asker c.args.seen.now sight s txn holder.last running.last (sym w.holds_write.ensures ∙ sym w.value-is ∙ blocked)))
     ]
 
@@ -28,7 +29,8 @@ returns-else-holds_write-clause-never c past asker txn describes sight running f
       | else-holds_match w ↦ λ blocks. elim blocks [
         | inl match ↦ holds_no_match c.args.setup.now past c.args.situation.now.committed describes.committed s txn holder.last running.last (sym c.holds_match.ensures ∙ w.if-holds_match.false) match
         | inr other ↦ elim other [
-          | inl write ↦ holds_no_write Locking c.args.setup.now past asker c.args.seen.now sight s txn holder.last running.last (sym w.holds_write.ensures ∙ sym w.value-is ∙ c.if-holds_write.false) write
+          | inl write ↦ holds_no_write Locking c.args.setup.now past asker c.args.seen.now sight s txn holder.last running.last
+              (sym w.holds_write.ensures ∙ sym w.value-is ∙ c.if-holds_write.false) write
           | inr read ↦ has_not_been_read Locking c.args.setup.now past asker c.args.seen.now sight _ txn running.statements s (sym c.has_read.ensures ∙ free) read
         ]
       ]

@@ -2,7 +2,7 @@ use Rattle.std.proofs.Common.{◌≡◌, ◌≢◌, ◌+◌, ◌++◌, ◌∷◌
 use Rattle.std.specs.Prelude.{Some, slice_get}
 use Rattle.std.proofs.lemmas.Bool.{both_ways}
 use Rattle.lab_engine.specs.Recording.{is_answer}
-use Rattle.lab_engine.proofs.Locks.{none_some, some_same}
+use Rattle.lab_engine.proofs.LockSteps.{none_some, some_same}
 use Rattle.lab_session.specs.declared.seat.Call.{Call}
 use Rattle.lab_session.specs.Seats.{call_at, DifferFirst}
 use Rattle.lab_session.specs.Compared.{Says}

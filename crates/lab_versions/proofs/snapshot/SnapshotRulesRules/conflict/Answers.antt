@@ -1,5 +1,5 @@
 use Rattle.std.proofs.Common.{sym, ◌∙◌}
-use Rattle.lab_engine.proofs.Locks.{none_some}
+use Rattle.lab_engine.proofs.LockSteps.{none_some}
 use Rattle.lab_engine.proofs.Describing.{running_none}
 use Rattle.lab_versions.proofs.Conflicts.{found_answers, the_running}
 use Rattle.lab_versions.proofs.snapshot.SnapshotRulesRules.conflict.Goals as goal

@@ -1,0 +1,78 @@
+-- Nothing that a log tells is more than its events are.
+use Rattle.std.proofs.Common.{◌≡◌, ℕ, suc, ◌≤◌, ◌<◌, true, false, cond, [], ◌∷◌, map, length, Option, Some, None, ap, subst, ◌∙◌, arith, option_map, ◌==◌}
+use Rattle.std.specs.Prelude.{⊤}
+use Rattle.std.proofs.lemmas.List.{length-map, length-reverse}
+use Rattle.lab_table.specs.Table.{Rows, Writes}
+use Rattle.lab_table.specs.declared.statement.Command.{Command}
+use Rattle.lab_table.specs.declared.statement.Command.TheVariants.{Begin, Commit, Abort, Run}
+use Rattle.lab_history.specs.VersionName.{View}
+use Rattle.lab_engine.specs.declared.event.Outcome.{Outcome}
+use Rattle.lab_engine.specs.declared.event.Outcome.TheVariants.{Begun, Rows as Listed, Committed, Aborted, Waits, Refused}
+use Rattle.lab_engine.specs.declared.situation.RunningTxn.{RunningTxn}
+use Rattle.lab_engine.specs.declared.situation.SessionState.{SessionState}
+use Rattle.lab_engine.specs.Log.{Past, Txn, active, active_after, ops_after, is_fatal, begun, begun_after}
+use Rattle.lab_engine.specs.Situation.{DescribesSession, Agree, IsRunning, HasRoom}
+
+-- an active transaction, if any, has run at most so many operations
+abbrev AtMost : ℕ → Option Txn → Type 0
+AtMost n None = ⊤
+AtMost n (Some txn) = length txn.ops ≤ n
+
+more : (n : ℕ) (txn : Option Txn) → AtMost n txn → AtMost (suc n) txn
+more n None h = tt
+more n (Some txn) h = omega arith
+
+ran_one : (command : Command) (view : View) (rows : Rows) (writes : Writes) (n : ℕ) (txn : Option Txn) → AtMost n txn
+    → AtMost (suc n) (option_map (λ t. record { no = t.no; ops = ops_after command view rows writes t.ops; before = t.before }) txn)
+ran_one command view rows writes n None h = tt
+ran_one Begin view rows writes n (Some txn) h = omega arith
+ran_one Commit view rows writes n (Some txn) h = omega arith
+ran_one Abort view rows writes n (Some txn) h = omega arith
+ran_one (Run s) view rows writes n (Some txn) h = omega arith
+
+after_one : (command : Command) (outcome : Outcome) (past : Past) (n : ℕ) (txn : Option Txn) → AtMost n txn → AtMost (suc n) (active_after command outcome past txn)
+after_one command (Begun number) past n txn h = omega arith
+after_one command (Listed view rows writes) past n txn h = ran_one command view rows writes n txn h
+after_one command Committed past n txn h = tt
+after_one command Aborted past n txn h = tt
+after_one command (Waits on) past n txn h = more n txn h
+after_one command (Refused fault) past n txn h = elim (is_fatal fault) as (λ b. AtMost (suc n) (cond b None txn)) [ true ↦ tt | false ↦ more n txn h ]
+
+at_most : (past : Past) (session : ℕ) → AtMost (length past) (active past session)
+at_most [] session = tt
+at_most (event ∷ past) session =
+    elim (event.session == session) as (λ b. AtMost (suc (length past)) (cond b (active_after event.command event.outcome past (active past session)) (active past session))) [
+      | true ↦ after_one event.command event.outcome past (length past) (active past session) (at_most past session)
+      | false ↦ more (length past) (active past session) (at_most past session)
+    ]
+
+-- an active transaction has run at most as many operations as there were events
+pub ops_at_most : (past : Past) (session : ℕ) (txn : Txn) → active past session ≡ Some txn → length txn.ops ≤ length past
+ops_at_most past session txn is = subst (λ t. AtMost (length past) t) is (at_most past session)
+
+begun_more : (outcome : Outcome) (b n : ℕ) → b ≤ n → begun_after outcome b ≤ suc n
+begun_more (Begun number) b n h = omega arith
+begun_more (Listed view rows writes) b n h = omega arith
+begun_more Committed b n h = omega arith
+begun_more Aborted b n h = omega arith
+begun_more (Waits on) b n h = omega arith
+begun_more (Refused fault) b n h = omega arith
+
+-- at most as many transactions have begun as there were events
+pub begun_at_most : (past : Past) → begun past ≤ length past
+begun_at_most [] = omega arith
+begun_at_most (event ∷ past) = begun_more event.outcome (begun past) (length past) (begun_at_most past)
+
+-- as many statements are kept of a transaction as it ran operations
+pub statements_length : (txn : Txn) (running : RunningTxn) → IsRunning txn running → length running.statements.items ≡ length txn.ops
+statements_length txn running is =
+    ap length is.statements ∙ length-reverse (map (λ op. op.statement) txn.ops) ∙ length-map txn.ops (λ op. op.statement)
+
+room : (n : ℕ) (txn : Option Txn) (running : Option RunningTxn) → Agree txn running → AtMost n txn → n < 100000 → HasRoom running
+room n txn None agree most few = tt
+room n None (Some running) agree most few = absurd agree
+room n (Some txn) (Some running) agree most few = let same = statements_length txn running agree in omega (arith, same, most, few)
+
+-- what is kept of a session has room for one more statement
+pub has_room : (past : Past) (state : SessionState) → DescribesSession past state → length past < 100000 → HasRoom state.running
+has_room past state is few = room (length past) (active past state.session) state.running is.running (at_most past state.session) few

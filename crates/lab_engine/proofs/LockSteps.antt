@@ -1,0 +1,81 @@
+-- What an event of one session does to locks.
+use Rattle.std.specs.Option.{option_or}
+use Rattle.std.proofs.Common.{◌≡◌, ◌≢◌, ℕ, refl, sym, ap, subst, ◌∙◌, cond, List, [], ◌∷◌, ◌⊎◌, inl, inr}
+use Rattle.std.specs.Prelude.{◌==◌, Option, Some, None, unwrap_or}
+use Rattle.std.proofs.lemmas.Bool.Decides.{eqb_tells}
+use Rattle.lab_table.specs.Row.{Row}
+use Rattle.lab_table.specs.Table.{Table}
+use Rattle.lab_engine.specs.Log.{Past, Version, Txn, version_by, last_installed, initial_version}
+use Rattle.lab_engine.specs.Laws.{KeepsOff, AllKeepOff}
+
+-- an active transaction after an event: that of the event's session, or of another one, which stays
+pub split : (e s : ℕ) (x y : Option Txn) (t : Txn) → cond (e == s) x y ≡ Some t → ((e ≡ s) × (x ≡ Some t)) ⊎ ((e ≢ s) × (y ≡ Some t))
+split e s x y t h = elim (eqb_tells e s) [
+  | inl p ↦ inl (p.1, subst (λ b. cond b x y ≡ Some t) p.0 h)
+  | inr p ↦ inr (p.1, subst (λ b. cond b x y ≡ Some t) p.0 h)
+]
+
+-- what an event of one session has to show of it and the others
+pub step : (e : ℕ) (after : Option Txn → Option Txn) (act : ℕ → Option Txn) (installed : Row → Version)
+    → ((z : ℕ) (t u : Txn) (row : Row) (v : Version) → e ≢ z → after (act e) ≡ Some t → act z ≡ Some u → version_by t row ≡ Some v → KeepsOff (installed row) v row u)
+    → ((s : ℕ) (t u : Txn) (row : Row) (v : Version) → e ≢ s → act s ≡ Some t → after (act e) ≡ Some u → version_by t row ≡ Some v → KeepsOff (installed row) v row u)
+    → ((s z : ℕ) (t u : Txn) (row : Row) (v : Version) → s ≢ z → e ≢ s → e ≢ z → act s ≡ Some t → act z ≡ Some u → version_by t row ≡ Some v → KeepsOff (installed row) v row u)
+    → AllKeepOff (λ s. cond (e == s) (after (act s)) (act s)) installed
+step e after act installed own_first own_second neither s z t u row v apart is_t is_u pending =
+    elim (split e s _ _ t is_t) [
+      | inl p ↦ elim (split e z _ _ u is_u) [
+        | inl q ↦ absurd (apart (sym p.0 ∙ q.0))
+        | inr q ↦ own_first z t u row v q.0 (subst (λ k. after (act k) ≡ Some t) (sym p.0) p.1) q.1 pending
+      ]
+      | inr p ↦ elim (split e z _ _ u is_u) [
+        | inl q ↦ own_second s t u row v p.0 p.1 (subst (λ k. after (act k) ≡ Some u) (sym q.0) q.1) pending
+        | inr q ↦ neither s z t u row v apart p.0 q.0 p.1 q.1 pending
+      ]
+    ]
+
+-- an event that leaves the transactions as they are
+pub unchanged : (e : ℕ) (act : ℕ → Option Txn) (installed : Row → Version) → AllKeepOff act installed → AllKeepOff (λ s. cond (e == s) (act s) (act s)) installed
+unchanged e act installed all = step e (λ t. t) act installed
+    (λ z t u row v apart is_t is_u pending. all e z t u row v apart is_t is_u pending)
+    (λ s t u row v apart is_t is_u pending. all s e t u row v (λ same. apart (sym same)) is_t is_u pending)
+    (λ s z t u row v apart _ _ is_t is_u pending. all s z t u row v apart is_t is_u pending)
+
+pub none_some : {A : Type 0} {x : A} (P : Type 0) → ◌≡◌ {A = Option A} None (Some x) → P
+none_some P h = cc
+
+pub some_same : {A : Type 0} (x y : A) → ◌≡◌ {A = Option A} (Some x) (Some y) → x ≡ y
+some_same x y h = cc
+
+-- an event that ends the transaction of its session
+pub ended : (e : ℕ) (act : ℕ → Option Txn) (installed : Row → Version) → AllKeepOff act installed → AllKeepOff (λ s. cond (e == s) None (act s)) installed
+ended e act installed all = step e (λ t. None) act installed
+    (λ z t u row v apart is_t is_u pending. none_some _ is_t)
+    (λ s t u row v apart is_t is_u pending. none_some _ is_u)
+    (λ s z t u row v apart _ _ is_t is_u pending. all s z t u row v apart is_t is_u pending)
+
+-- an event that begins a transaction
+pub begins : (e n : ℕ) (past : Past) (act : ℕ → Option Txn) (installed : Row → Version) → AllKeepOff act installed
+    → AllKeepOff (λ s. cond (e == s) (Some (record { no = n; ops = []; before = past })) (act s)) installed
+begins e n past act installed all = step e (λ t. Some (record { no = n; ops = []; before = past })) act installed
+    (λ z t u row v apart is_t is_u pending. let h : version_by (record { no = n; ops = []; before = past }) row ≡ Some v = cc in none_some _ h)
+    (λ s t u row v apart is_t is_u pending.
+    let new : Txn = record { no = n; ops = []; before = past } in
+    let h : new ≡ u = cc in
+    subst (λ k. KeepsOff (installed row) v row k) h (record { unwritten = refl; unread = refl; unread_pending = refl }))
+    (λ s z t u row v apart _ _ is_t is_u pending. all s z t u row v apart is_t is_u pending)
+
+-- the committed version of a row after a commit of a transaction that didn't write it
+commit_elsewhere : (setup : Table) (txns : List Txn) (t : Txn) (row : Row) → version_by t row ≡ None
+    → unwrap_or (last_installed (t ∷ txns) row) (initial_version setup row) ≡ unwrap_or (last_installed txns row) (initial_version setup row)
+commit_elsewhere setup txns t row h = ap (λ w. unwrap_or (option_or w (last_installed txns row)) (initial_version setup row)) h
+
+-- an event that commits a transaction
+pub commits_one : (setup : Table) (e : ℕ) (txns : List Txn) (act : ℕ → Option Txn) (t : Txn) → act e ≡ Some t
+    → AllKeepOff act (λ row. unwrap_or (last_installed txns row) (initial_version setup row))
+    → AllKeepOff (λ s. cond (e == s) None (act s)) (λ row. unwrap_or (last_installed (t ∷ txns) row) (initial_version setup row))
+commits_one setup e txns act t is_own all = step e (λ _. None) act _
+    (λ z t' u row v apart is_t is_u pending. none_some _ is_t)
+    (λ s t' u row v apart is_t is_u pending. none_some _ is_u)
+    (λ s z t' u row v apart from_s from_z is_t is_u pending.
+    let away : version_by t row ≡ None = (all s e t' t row v (λ same. from_s (sym same)) is_t is_own pending).unwritten in
+    subst (λ c. KeepsOff c v row u) (sym (commit_elsewhere setup txns t row away)) (all s z t' u row v apart is_t is_u pending))
