@@ -12,7 +12,8 @@ use Rattle.lab_engine.proofs.waits.all_waits.Goals.{then-not-is_empty+in_ok-push
 pub loop-state-preserved : goal.loop-state-preserved
 loop-state-preserved g c = λ past d.
     let at : StandsAt c.args.situation.now.sessions.items c.loop-state.state-index c.state-item.result =
-    stands_at c.args.situation.now.sessions.items c.deref-state-items.result.now c.loop-state.state-index c.state-item.result c.deref-state-items.ensures.value c.loop-state-test.true c.state-item.is in
+    stands_at c.args.situation.now.sessions.items c.deref-state-items.result.now c.loop-state.state-index c.state-item.result c.deref-state-items.ensures.value c.loop-state-test.true
+    c.state-item.is in
     let described : DescribesSession past c.state-item.result = described_at past c.args.situation.now c.loop-state.state-index c.state-item.result d at in
     let wait : Wait = record { session = c.state-item.result.session; on = c.in_ok-on.on } in
     let step : (session other : ℕ) → waits_for c.if-not-is_empty.waits.items session other ≡ (waits_for c.loop-state.waits.items session other ||

@@ -10,7 +10,8 @@ use Rattle.lab_engine.proofs.waits.blockers.Goals.{then-is_blocked_by+in_ok-push
 pub loop-state-preserved : goal.loop-state-preserved
 loop-state-preserved g c = λ past txn d is_active sight.
     let at : StandsAt c.args.situation.now.sessions.items c.loop-state.state-index c.state-item.result =
-    stands_at c.args.situation.now.sessions.items c.deref-state-items.result.now c.loop-state.state-index c.state-item.result c.deref-state-items.ensures.value c.loop-state-test.true c.state-item.is in
+    stands_at c.args.situation.now.sessions.items c.deref-state-items.result.now c.loop-state.state-index c.state-item.result c.deref-state-items.ensures.value c.loop-state-test.true
+    c.state-item.is in
     let described : DescribesSession past c.state-item.result = described_at past c.args.situation.now c.loop-state.state-index c.state-item.result d at in
     those_step (BlockedBy g.R.Rules.kind c.args.setup.now past c.args.session c.args.statement.now) c.args.situation.now.sessions.items c.loop-state.state-index c.state-item.result
     c.loop-state.on.items c.if-is_blocked_by.on.items at.lt at.is (c.loop-state.invariant past txn d is_active sight)

@@ -10,7 +10,8 @@ use Rattle.lab_engine.proofs.waits.retryable.Goals as goal
 pub returns-then-branch : goal.returns-then-branch
 returns-then-branch g c = λ past d.
     let at : StandsAt c.args.situation.now.sessions.items c.loop-state.state-index c.state-item.result =
-    stands_at c.args.situation.now.sessions.items c.deref-state-items.result.now c.loop-state.state-index c.state-item.result c.deref-state-items.ensures.value c.loop-state-test.true c.state-item.is in
+    stands_at c.args.situation.now.sessions.items c.deref-state-items.result.now c.loop-state.state-index c.state-item.result c.deref-state-items.ensures.value c.loop-state-test.true
+    c.state-item.is in
     let described : DescribesSession past c.state-item.result = described_at past c.args.situation.now c.loop-state.state-index c.state-item.result d at in
     let released : IsSome c.state-item.result.waits × IsReleased c.in_ok-waits.waits.items c.state-item.result.session =
     subst (λ waits. IsSome c.state-item.result.waits × IsReleased waits c.state-item.result.session) c.deref.ensures.value (c.in_ok-is_released.ensures.0 c.if-branch.true) in
