@@ -2,7 +2,7 @@
 use Rattle.std.proofs.Common.{◌≡◌, ◌≢◌, ℕ, Option, Some, None, inl, inr, List, [], ◌∷◌, length, ◌<◌, ◌≤◌, sym, ap, subst, ◌∙◌, arith}
 use Rattle.std.proofs.lemmas.List.{length-reverse}
 use Rattle.std.proofs.Common.{refl}
-use Rattle.std.specs.Prelude.{MatchOption, Result, Ok, Err, IfOk, Contains, true, false, ◌==◌}
+use Rattle.std.specs.Prelude.{MatchOption, Result, IfOk, Contains, true, false, ◌==◌}
 use Rattle.std.specs.declared.alloc.AllocError.{AllocError}
 use Rattle.lab_table.specs.Table.{Table, Rows, Writes}
 use Rattle.lab_table.specs.Statement.{listed, written, fails}
@@ -24,6 +24,7 @@ use Rattle.lab_engine.specs.Log.{Past, Version, Txn, past_of, active, waiting, a
 use Rattle.lab_engine.specs.Rules.{Gives, MayAsk, Asks, IsFree, IsCircle, IsEffect, MayCommit, in_view}
 use Rattle.lab_engine.specs.Answer.{MayGive, Answers}
 use Rattle.lab_engine.proofs.EventBounds.{begun_at_most}
+use Rattle.lab_engine.proofs.Waiting.{if_ok}
 
 -- a command that runs no statement is given at rest
 at_rest : (past : Past) (session : ℕ) (command : Command) → asked command ≡ None → MayGive past session command → waiting past session ≡ None
@@ -56,11 +57,6 @@ begun_below log n is room =
 -- what a search for a circle found
 abbrev Searched : Level → Table → Past → ℕ → Statement → Option (List ℕ) → Type 0
 Searched level setup past session s found = MatchOption found ((circle : List ℕ) → ¬ IsCircle level setup past session s circle) (IsCircle level setup past session s)
-
--- what holds of each Ok that another thing holds of
-if_ok : {X E : Type 0} (P Q : X → Type 0) (r : Result X E) → ((x : X) → P x → Q x) → IfOk r P → IfOk r Q
-if_ok P Q (Ok x) more p = more x p
-if_ok P Q (Err e) more p = tt
 
 module _ (level : Level) (setup : Table) (past : Past) (session : ℕ) (s : Statement) (txn : Txn) (asks : Asks past session (Run s) s txn) where
   module _ (free : IsFree level setup past session s) (versions : Seen) (sight : IsSight level setup past txn versions) where

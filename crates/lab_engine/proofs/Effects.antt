@@ -12,7 +12,7 @@ use Rattle.lab_table.specs.Statement.{where_holds, listed, written, fails, overf
 use Rattle.lab_table.specs.Predicate.{Predicate}
 use Rattle.lab_table.specs.declared.statement.Expr.{Expr}
 use Rattle.lab_table.specs.declared.statement.Statement.{Statement}
-use Rattle.lab_table.specs.declared.statement.Statement.TheVariants.{Select, Update, Insert, Delete}
+use Rattle.lab_table.specs.declared.statement.Statement.TheVariants.{Update, Delete}
 use Rattle.lab_table.proofs.Maps.{same_row, find_below}
 use Rattle.lab_table.proofs.Tests.{both, joined}
 use Rattle.lab_history.specs.VersionName.{View, state_value, new_states}
@@ -24,6 +24,7 @@ use Rattle.lab_engine.specs.Rules.{in_view}
 use Rattle.lab_engine.specs.Sight.{Listed, version_in}
 use Rattle.lab_engine.specs.EachRow.{with_row, each_row, value_rewritten, rewritten}
 use Rattle.lab_engine.proofs.Holding.{absent}
+use Rattle.lab_table.proofs.Statements.{absent_unlisted}
 
 module _ {A B : Type 0} (f : Row → A → Option B) where
   below_each : (x : Row) (es : List (Row × A)) → T (below_all row_cmp x es) → T (below_all row_cmp x (each_row f es))
@@ -92,16 +93,9 @@ named : (o : Option Version) → option_and_then (λ (v : Version). in_view v.na
 named None = refl
 named (Some v) = refl
 
--- an absent row isn't listed
-unlisted : (s : Statement) (q : Row) → listed s q None ≡ None
-unlisted (Select pred) q = refl
-unlisted (Update expr pred) q = refl
-unlisted (Insert id new) q = refl
-unlisted (Delete pred) q = refl
-
 -- what is listed is listed of what is seen
 listed_is : (s : Statement) (q : Row) (o : Option Version) → option_and_then (λ (v : Version). listed s q v.state) o ≡ listed s q (unwrap_or o absent).state
-listed_is s q None = sym (unlisted s q)
+listed_is s q None = sym (absent_unlisted s q)
 listed_is s q (Some v) = refl
 
 -- a list that is made of each row of a map is sorted

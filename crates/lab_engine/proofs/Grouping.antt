@@ -12,17 +12,13 @@ use Rattle.std.specs.FinMap.Entries.{below_all}
 use Rattle.lab_table.specs.Row.{Row, row_cmp, row_eq, rows_total, rows_apart, rows_tested}
 use Rattle.lab_table.proofs.Maps.{same_row}
 use Rattle.lab_table.proofs.Orderings.{turned}
-use Rattle.lab_table.proofs.Tests.{joined}
+use Rattle.lab_table.proofs.Tests.{joined, true_and_false}
 use Rattle.lab_engine.specs.Recording.{if_any}
 use Rattle.lab_engine.specs.Gathered.{numbers_of, groups_from}
 
 -- rows each with who installed it
 abbrev Installs : Type 0
 Installs = List (Row × ℕ)
-
-apart : (P : Type 0) (b : Bool) → b ≡ true → b ≡ false → P
-apart P true t f = absurd (subst T f tt)
-apart P false t f = absurd (subst T (sym t) tt)
 
 -- ---- sorted installs
 
@@ -52,8 +48,8 @@ above : (x y : Row) → is_lt (row_cmp y x) ≡ false → (x == y) ≡ false →
 above x y high other = at (row_cmp y x) refl
   where
     at : (r : Ordering) → row_cmp y x ≡ r → row_cmp x y ≡ Less
-    at Less p = apart _ (is_lt (row_cmp y x)) (ap is_lt p) high
-    at Equal p = apart _ (x == y) (rows_tested x y ∙ (Equal-is (row_cmp x y)).1 (ap (row_cmp x) (rows_apart y x p) ∙ tied_itself rows_total x)) other
+    at Less p = true_and_false _ (is_lt (row_cmp y x)) (ap is_lt p) high
+    at Equal p = true_and_false _ (x == y) (rows_tested x y ∙ (Equal-is (row_cmp x y)).1 (ap (row_cmp x) (rows_apart y x p) ∙ tied_itself rows_total x)) other
     at Greater p = turned y x p
 
 -- a row below those that aren't below another one isn't among them
@@ -64,7 +60,7 @@ none_of row y (i ∷ is) less h =
     ap (λ b. map (λ (k : Row × ℕ). k.1) (cond b (i ∷ rest) rest)) (other (row_eq row i.0) refl) ∙ none_of row y is less h.1
   where
     other : (b : Bool) → row_eq row i.0 ≡ b → row_eq row i.0 ≡ false
-    other true t = apart _ (is_lt (row_cmp i.0 y)) (ap (λ k. is_lt (row_cmp k y)) (sym (same_row row i.0 t)) ∙ ap is_lt less) h.0
+    other true t = true_and_false _ (is_lt (row_cmp i.0 y)) (ap (λ k. is_lt (row_cmp k y)) (sym (same_row row i.0 t)) ∙ ap is_lt less) h.0
     other false f = f
 
 -- ---- groups

@@ -3,8 +3,7 @@ use Rattle.std.proofs.Common.{◌≡◌, ◌≤◌, ◌<◌, ℕ, ◌+◌, ◌==
 use Rattle.std.specs.Prelude.{⊤, nat_lt}
 use Rattle.std.specs.List.{list_any}
 use Rattle.std.proofs.lemmas.Bool.{true≢false, lt-ltb, le-ltb}
-use Rattle.std.proofs.lemmas.Grind.{flat_map-append}
-use Rattle.std.proofs.lemmas.List.{at_drop_more, take_more, length-append, append-nil}
+use Rattle.std.proofs.lemmas.List.{at_drop_more, take_more}
 use Rattle.std.specs.Result.{IsErrAnd}
 use Rattle.lab_history.specs.Faults.{◌>>=◌, refused_if, Refuses, Gives}
 use Rattle.lab_history.specs.declared.refusal.Refusal.{Refusal}
@@ -15,12 +14,7 @@ use Rattle.lab_history.specs.declared.transaction.Txn.{Txn}
 use Rattle.lab_history.specs.declared.fault.FileFault.{FileFault}
 use Rattle.lab_history.specs.declared.fault.FileFault.TheVariants as fault
 use Rattle.lab_history.specs.declared.fault.Limit.TheVariants as limit
-
--- operations behind others, counted
-pub operations_behind : (before : List Txn) (t : Txn) → length (operations (before ++ t ∷ [])) ≡ length (operations before) + length t.ops
-operations_behind before t =
-    ap length (flat_map-append (λ (m : Txn). m.ops) before (t ∷ []) ∙ ap (λ ops. operations before ++ ops) (append-nil t.ops))
-    ∙ length-append (operations before) t.ops
+use Rattle.lab_history.proofs.Standing.{operations_push}
 
 module _ (before : List Txn) (index : ℕ) (t : Txn) where
   pub repeated : list_any (λ m. m.no == t.no) before ≡ true → txn_checked before index t ≡ Err (fault.RepeatedTxn t.no)
@@ -51,7 +45,7 @@ module _ (ts : List Txn) (i : ℕ) (t : Txn) (below : i < length ts) (here : t �
   taken_here = take_more ts i t below ∙ ap (λ m. take i ts ++ m ∷ []) (sym here)
 
   pub operations_here : length (operations (take (i + 1) ts)) ≡ length (operations (take i ts)) + length t.ops
-  operations_here = ap (λ l. length (operations l)) taken_here ∙ operations_behind (take i ts) t
+  operations_here = ap (λ l. length (operations l)) taken_here ∙ operations_push (take i ts) t
 
   walk_here : txns_checked (take i ts) i (drop i ts) ≡ (txn_checked (take i ts) i t >>= λ _. txns_checked (take i ts ++ t ∷ []) (i + 1) (drop (i + 1) ts))
   walk_here = at_drop_more (λ l. txns_checked (take i ts) i l) ts i t below ∙ ap (λ m. txns_checked (take i ts) i (m ∷ drop (i + 1) ts)) (sym here)

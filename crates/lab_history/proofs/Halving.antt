@@ -1,5 +1,5 @@
 -- The first entry of a key in a list that is sorted by keys.
-use Rattle.std.proofs.Common.{◌≡◌, ℕ, zero, suc, ◌≤◌, ◌<◌, Bool, true, false, cond, not, ◌&&◌, T, List, [], ◌∷◌, length, Option, Some, None, refl, sym, ap, ◌∙◌, subst, arith}
+use Rattle.std.proofs.Common.{◌≡◌, ℕ, zero, suc, ◌≤◌, ◌<◌, Bool, true, false, cond, not, ◌&&◌, List, [], ◌∷◌, length, Option, Some, None, refl, sym, ap, ◌∙◌, arith}
 use Rattle.std.proofs.lemmas.Map.Entries.{lookup-filter-keys}
 use Rattle.std.proofs.lemmas.List.Sorted.{ranks_by, sorted_far}
 use Rattle.std.proofs.lemmas.Option.{slice_get_past, slice_get_read}
@@ -11,16 +11,12 @@ use Rattle.std.specs.Ordering.{is_eq, is_lt, ordering_reverse}
 use Rattle.std.specs.declared.cmp.Ordering.{Ordering}
 use Rattle.std.specs.declared.cmp.Ordering.TheVariants.{Less, Equal, Greater}
 use Rattle.lab_history.specs.Keyed.{value_at}
-
--- no test is both true and false
-apart : {A : Type 0} (b : Bool) → b ≡ true → b ≡ false → A
-apart true t f = absurd (subst T f tt)
-apart false t f = absurd (subst T (sym t) tt)
+use Rattle.lab_table.proofs.Tests.{true_and_false}
 
 -- what is less is not equal
 less_apart : (r : Ordering) → is_lt r ≡ true → is_eq r ≡ false
 less_apart Less h = refl
-less_apart Equal h = apart false h refl
+less_apart Equal h = true_and_false _ false h refl
 less_apart Greater h = refl
 
 module _ {K : Type 0} {cmp : K → K → Ordering} (total : IsTotalOrder cmp) (key : K) where
@@ -42,9 +38,9 @@ module _ {K : Type 0} {cmp : K → K → Ordering} (total : IsTotalOrder cmp) (k
       at : (r : Ordering) → cmp a b ≡ r → (s : Ordering) → cmp b key ≡ s → is_lt s ≡ true → is_lt (cmp a key) ≡ true
       at Less p Less q t = ap is_lt (total.trans a b key p q)
       at Equal p s q t = ap is_lt (total.congr a b key p ∙ q) ∙ t
-      at Greater p s q t = apart (is_lt (cmp b a)) (ap is_lt (total.antisymm b a ∙ ap ordering_reverse p)) rise
-      at Less p Equal q t = apart false t refl
-      at Less p Greater q t = apart false t refl
+      at Greater p s q t = true_and_false _ (is_lt (cmp b a)) (ap is_lt (total.antisymm b a ∙ ap ordering_reverse p)) rise
+      at Less p Equal q t = true_and_false _ false t refl
+      at Less p Greater q t = true_and_false _ false t refl
 
   -- what stands behind a key above is not the key
   passed : (a b : K) → cmp a key ≡ Greater → is_lt (cmp b a) ≡ false → is_eq (cmp b key) ≡ false
@@ -52,7 +48,7 @@ module _ {K : Type 0} {cmp : K → K → Ordering} (total : IsTotalOrder cmp) (k
     where
       at : (r : Ordering) → cmp b key ≡ r → is_eq r ≡ false
       at Less p = refl
-      at Equal p = apart (is_lt (cmp b a)) (ap is_lt (total.congr b key a p ∙ total.antisymm key a ∙ ap ordering_reverse above)) rise
+      at Equal p = true_and_false _ (is_lt (cmp b a)) (ap is_lt (total.congr b key a p ∙ total.antisymm key a ∙ ap ordering_reverse above)) rise
       at Greater p = refl
 
 module _ {K V : Type 0} {cmp : K → K → Ordering} (total : IsTotalOrder cmp) (key : K) where
@@ -109,7 +105,7 @@ module _ {K V : Type 0} {cmp : K → K → Ordering} (total : IsTotalOrder cmp) 
   there (e ∷ es) zero le up point = at (cmp e.0 key) refl
     where
       at : (r : Ordering) → cmp e.0 key ≡ r → cond (is_eq (cmp e.0 key)) (Some e.1) (value_at cmp es key) ≡ cond (is_eq (cmp e.0 key)) (Some e.1) None
-      at Less p = apart (is_lt (cmp e.0 key)) (ap is_lt p) (point.1 0 e (omega arith) (omega arith))
+      at Less p = true_and_false _ (is_lt (cmp e.0 key)) (ap is_lt p) (point.1 0 e (omega arith) (omega arith))
       at Equal p = ap (λ r. cond (is_eq r) (Some e.1) (value_at cmp es key)) p ∙ sym (ap (λ r. cond (is_eq r) (Some e.1) None) p)
       at Greater p = ap (cond (is_eq (cmp e.0 key)) (Some e.1)) (beyond e.0 p es (λ k d lt. up 0 (suc k) d (omega arith) (omega arith)))
 

@@ -3,7 +3,7 @@ use Rattle.std.proofs.Common.{◌≡◌, ◌≤◌, ℕ, ◌+◌, ◌==◌, true
 use Rattle.std.specs.Prelude.{⊤, nat_lt}
 use Rattle.std.specs.List.{list_any, list_all}
 use Rattle.std.specs.FinMap as finite
-use Rattle.std.proofs.lemmas.Bool.{ltb-false, le-ltb, and_parts, or_parts, or_from, eqb-false, ne_eqb, not-false, and_from}
+use Rattle.std.proofs.lemmas.Bool.{ltb-false, le-ltb, and_parts, or_parts, or_from, not-false, and_from}
 use Rattle.std.proofs.lemmas.List.{length-append}
 use Rattle.std.proofs.lemmas.List.Folds.{list_any-append}
 use Rattle.lab_table.specs.Row.{Row}
@@ -18,10 +18,12 @@ use Rattle.lab_history.specs.declared.fault.Limit.TheVariants as limit
 use Rattle.lab_history.specs.declared.path.ListPlace.TheVariants as list
 use Rattle.lab_history.specs.declared.path.Path.TheVariants as path
 use Rattle.lab_history.specs.declared.transaction.Txn.{Txn}
-use Rattle.lab_history.proofs.CheckedTxns.{operations_behind, operations_decide}
+use Rattle.lab_history.proofs.CheckedTxns.{operations_decide}
 use Rattle.lab_history.proofs.LimitsKept.{limits_kept}
 use Rattle.lab_history.proofs.KeptOperations.{ops_joined, ops_parted}
-use Rattle.lab_history.proofs.PassedOps.{both_pass, passed_then, not_refused, refused_not, not_true, ops_pass, pass_ops}
+use Rattle.lab_history.proofs.PassedOps.{both_pass, passed_then, not_refused, not_true, ops_pass, pass_ops}
+use Rattle.lab_history.proofs.Standing.{unlike, operations_push}
+use Rattle.lab_history.proofs.Steps.{refused_is}
 
 -- ---- numbers
 
@@ -29,9 +31,6 @@ use Rattle.lab_history.proofs.PassedOps.{both_pass, passed_then, not_refused, re
 abbrev AreFresh : List Txn → List Txn → Type 0
 AreFresh before [] = Unit {0}
 AreFresh before (t ∷ ts) = (list_any (λ m. m.no == t.no) before ≡ false) × AreFresh before ts
-
-apart_back : (a b : ℕ) → (a == b) ≡ false → (b == a) ≡ false
-apart_back a b h = ne_eqb b a (λ e. eqb-false a b h (sym e))
 
 -- a number that comes later is fresh behind it too
 fresh_parted : (before : List Txn) (t : Txn) (ts : List Txn) → AreFresh (before ++ t ∷ []) ts → AreFresh before ts × (list_any (λ m. m == t.no) (map (λ m. m.no) ts) ≡ false)
@@ -41,14 +40,14 @@ fresh_parted before t (u ∷ us) f =
     let here : (list_any (λ m. m.no == u.no) before ≡ false) × (list_any (λ m. m.no == u.no) (t ∷ []) ≡ false) =
     or_parts (list_any (λ m. m.no == u.no) before) (list_any (λ m. m.no == u.no) (t ∷ [])) (sym (list_any-append (λ m. m.no == u.no) before (t ∷ [])) ∙ f.0) in
     let apart : ((t.no == u.no) ≡ false) × (false ≡ false) = or_parts (t.no == u.no) false here.1 in
-    ((here.0, rest.0), or_from (u.no == t.no) (list_any (λ m. m == t.no) (map (λ m. m.no) us)) (apart_back t.no u.no apart.0) rest.1)
+    ((here.0, rest.0), or_from (u.no == t.no) (list_any (λ m. m == t.no) (map (λ m. m.no) us)) (unlike t.no u.no apart.0) rest.1)
 
 fresh_joined : (before : List Txn) (t : Txn) (ts : List Txn) → AreFresh before ts → list_any (λ m. m == t.no) (map (λ m. m.no) ts) ≡ false → AreFresh (before ++ t ∷ []) ts
 fresh_joined before t [] f h = tt
 fresh_joined before t (u ∷ us) f h =
     let apart : ((u.no == t.no) ≡ false) × (list_any (λ m. m == t.no) (map (λ m. m.no) us) ≡ false) = or_parts (u.no == t.no) (list_any (λ m. m == t.no) (map (λ m. m.no) us)) h in (
       list_any-append (λ m. m.no == u.no) before (t ∷ [])
-          ∙ or_from (list_any (λ m. m.no == u.no) before) (list_any (λ m. m.no == u.no) (t ∷ [])) f.0 (or_from (t.no == u.no) false (apart_back u.no t.no apart.0) refl),
+          ∙ or_from (list_any (λ m. m.no == u.no) before) (list_any (λ m. m.no == u.no) (t ∷ [])) f.0 (or_from (t.no == u.no) false (unlike u.no t.no apart.0) refl),
       fresh_joined before t us f.1 apart.1,
     )
 
@@ -77,12 +76,12 @@ txns_pass before index (t ∷ ts) few h =
     let count = both_pass (refused_if (nat_lt 10000 (length (operations before) + length t.ops)) (fault.OverLimit limit.Operations)) (λ _. ops_checked index t.no 0 t.ops) tt number.1 in
     let within : length (operations before) + length t.ops ≤ 10000 =
     ltb-false 10000 (length (operations before) + length t.ops) (not_refused (nat_lt 10000 (length (operations before) + length t.ops)) (fault.OverLimit limit.Operations) count.0) in
-    let rest : TxnsKeep (before ++ t ∷ []) ts = txns_pass (before ++ t ∷ []) (index + 1) ts (omega (arith, within, operations_behind before t)) parts.1 in
+    let rest : TxnsKeep (before ++ t ∷ []) ts = txns_pass (before ++ t ∷ []) (index + 1) ts (omega (arith, within, operations_push before t)) parts.1 in
     let old : AreFresh before ts × (list_any (λ m. m == t.no) (map (λ m. m.no) ts) ≡ false) = fresh_parted before t ts rest.fresh in
     record {
       fresh = (not_refused (list_any (λ m. m.no == t.no) before) (fault.RepeatedTxn t.no) number.0, old.0);
       distinct = (old.1, rest.distinct);
-      few = omega (arith, rest.few, operations_behind before t, counted_behind t ts);
+      few = omega (arith, rest.few, operations_push before t, counted_behind t ts);
       ops = ops_joined t.ops (operations ts) (ops_pass index t.no 0 t.ops count.1) rest.ops;
     }
 
@@ -95,7 +94,7 @@ pass_txns before index (t ∷ ts) k =
     ∙ pass_txns (before ++ t ∷ []) (index + 1) ts (record {
       fresh = fresh_joined before t ts k.fresh.1 k.distinct.0;
       distinct = k.distinct.1;
-      few = omega (arith, k.few, operations_behind before t, counted_behind t ts);
+      few = omega (arith, k.few, operations_push before t, counted_behind t ts);
       ops = ops.1;
     })
 
@@ -114,7 +113,7 @@ pass_installed index [] h = refl
 pass_installed index (e ∷ es) h =
     let wrong : FileFault = fault.WrongFormat (path.Member list.Installed index) in
     let parts = and_parts (has_installer e.1) (list_all has_installer (map (λ e. e.1) es)) h in
-    passed_then (refused_if (not (has_installer e.1)) wrong) (λ _. installed_checked (index + 1) es) (refused_not (not (has_installer e.1)) wrong (not_true (has_installer e.1) parts.0))
+    passed_then (refused_if (not (has_installer e.1)) wrong) (λ _. installed_checked (index + 1) es) (refused_is wrong (not_true (has_installer e.1) parts.0))
     ∙ pass_installed (index + 1) es parts.1
 
 -- ---- the whole
@@ -148,7 +147,7 @@ pub keeps_checked : (h : History) → Keeps h → checked h ≡ Ok tt
 keeps_checked h k =
     passed_then (refused_if (nat_lt 1000 (length h.txns)) (fault.OverLimit limit.Transactions)) (λ _. txns_checked [] 0 h.txns >>= λ _. installed_checked 0
     (finite.entries h.installed) >>= λ _. within_limits h)
-    (refused_not (nat_lt 1000 (length h.txns)) (fault.OverLimit limit.Transactions) (le-ltb 1000 (length h.txns) k.transactions))
+    (refused_is (fault.OverLimit limit.Transactions) (le-ltb 1000 (length h.txns) k.transactions))
     ∙ passed_then (txns_checked [] 0 h.txns) (λ _. installed_checked 0 (finite.entries h.installed) >>= λ _. within_limits h)
     (pass_txns [] 0 h.txns (record { fresh = none_fresh h.txns; distinct = k.distinct; few = omega (arith, k.few_operations); ops = k.operations_keep }))
     ∙ passed_then (installed_checked 0 (finite.entries h.installed)) (λ _. within_limits h) (pass_installed 0 (finite.entries h.installed) k.installers)

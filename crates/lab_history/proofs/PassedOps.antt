@@ -19,6 +19,7 @@ use Rattle.lab_history.specs.declared.operation.VersionName.{VersionName}
 use Rattle.lab_history.specs.declared.path.ListPlace.{ListPlace}
 use Rattle.lab_history.specs.declared.path.ListPlace.TheVariants as list
 use Rattle.lab_history.specs.declared.path.Path.TheVariants as path
+use Rattle.lab_history.proofs.Steps.{refused_is}
 
 -- ---- no fault in either of two
 
@@ -32,9 +33,6 @@ passed_then r f e = ap (λ s. s >>= f) e
 pub not_refused : (b : Bool) (e : FileFault) → refused_if b e ≡ Ok tt → b ≡ false
 not_refused true e h = absurd cc
 not_refused false e h = refl
-
-pub refused_not : (b : Bool) (e : FileFault) → b ≡ false → refused_if b e ≡ Ok tt
-refused_not b e h = ap (λ c. refused_if c e) h
 
 pub not_true : (b : Bool) → b ≡ true → not b ≡ false
 not_true b h = ap not h
@@ -62,7 +60,7 @@ passes_listed place index [] h = refl
 passes_listed place index (e ∷ es) h =
     let wrong : FileFault = fault.WrongFormat (path.Member place index) in
     let parts = and_parts (is_listed e.1) (list_all is_listed (map (λ e. e.1) es)) h in
-    passed_then (refused_if (not (is_listed e.1)) wrong) (λ _. listed_from place (index + 1) es) (refused_not (not (is_listed e.1)) wrong (not_true (is_listed e.1) parts.0))
+    passed_then (refused_if (not (is_listed e.1)) wrong) (λ _. listed_from place (index + 1) es) (refused_is wrong (not_true (is_listed e.1) parts.0))
     ∙ passes_listed place (index + 1) es parts.1
 
 op_passes : (txn by index : ℕ) (op : Op) → op_checked txn by index op ≡ Ok tt → OpKeeps op
@@ -78,7 +76,7 @@ passes_op : (txn by index : ℕ) (op : Op) → OpKeeps op → op_checked txn by 
 passes_op txn by index op k =
     let bad : FileFault = fault.BadStatement by (index + 1) in
     passed_then (refused_if (not (statement_prints op.statement)) bad) (λ _. listed_from (list.View txn index) 0 (finite.entries op.view))
-    (refused_not (not (statement_prints op.statement)) bad (not_true (statement_prints op.statement) (true_prints op.statement k.prints)))
+    (refused_is bad (not_true (statement_prints op.statement) (true_prints op.statement k.prints)))
     ∙ passes_listed (list.View txn index) 0 (finite.entries op.view) k.listed
 
 pub ops_pass : (txn by index : ℕ) (ops : List Op) → ops_checked txn by index ops ≡ Ok tt → OpsKeep ops

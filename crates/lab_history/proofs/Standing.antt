@@ -12,7 +12,7 @@ abbrev pub numbers : List Txn → List ℕ
 numbers txns = map (λ t. t.no) txns
 
 -- the test of a number against others is the same from either side
-unlike : (m n : ℕ) → (m == n) ≡ false → (n == m) ≡ false
+pub unlike : (m n : ℕ) → (m == n) ≡ false → (n == m) ≡ false
 unlike m n e = ne_eqb n m (λ same. let again = eq-eqb m n (sym same) in absurd cc)
 
 -- how many operations there are with one transaction more

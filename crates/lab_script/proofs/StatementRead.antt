@@ -1,5 +1,5 @@
 -- The statement that a text spells is what reading the text gives.
-use Rattle.std.proofs.Common.{◌≡◌, ℕ, Bool, true, false, cond, List, length, Option, Some, None, ◌≢◌, refl, sym, ap, ◌∙◌, arith}
+use Rattle.std.proofs.Common.{◌≡◌, ℕ, Bool, true, cond, List, length, Option, Some, None, ◌≢◌, refl, sym, ap, ◌∙◌, arith}
 use Rattle.std.specs.Prelude.{◌&&◌, nat_le}
 use Rattle.std.specs.List.{list_all}
 use Rattle.std.proofs.lemmas.Bool.{eqb-true, eq-eqb, le-leb, leb-true, and_parts}
@@ -18,15 +18,11 @@ use Rattle.lab_script.proofs.TokenNumbers.{some_is}
 use Rattle.lab_script.proofs.ReadStatements.{whole_again, whole_takes}
 use Rattle.lab_script.proofs.StatementText.{all_code}
 use Rattle.lab_script.proofs.PrintedStatements.{statement_spells}
+use Rattle.lab_table.proofs.Tests.{under_condition}
 
 -- three conditions that hold, at once
 all_true : (a b c : Bool) → a ≡ true → b ≡ true → c ≡ true → (a && (b && c)) ≡ true
 all_true a b c e f g = rw (e, f, g) refl
-
--- what is found under a condition
-found_under : {A : Type 0} (b : Bool) (r : Option A) (y : A) → cond b r None ≡ Some y → (b ≡ true) × (r ≡ Some y)
-found_under true r y e = (refl, e)
-found_under false r y e = absurd cc
 
 -- where nothing can be found, nothing is
 nothing_found : {A : Type 0} (r : Option A) → ((y : A) → r ≡ Some y → ⊥) → r ≡ None
@@ -49,7 +45,7 @@ spells_in text s h =
 pub in_spells : (text : List ℕ) (s : Statement) → statement_in text ≡ Some s → SpellsStatement text s
 unfolding statement_in
 in_spells text s read =
-    let found = found_under (is_code_alone text) (whole_statement_at (tokens text)) s read in
+    let found = under_condition (is_code_alone text) (whole_statement_at (tokens text)) s read in
     let short = and_parts (nat_le (length text) 4000) _ found.0 in
     let code = and_parts (list_all is_code_byte text) _ short.1 in
     let len : length (code_of text) ≡ length text = eqb-true _ _ code.1 in

@@ -14,7 +14,7 @@ use Rattle.lab_engine.proofs.Runs.{past_of-push}
 use Rattle.lab_session.specs.Play.{commands_of, commands_called, IsPlayed}
 use Rattle.lab_session.proofs.Unblocked.{none_waits}
 use Rattle.lab_session.proofs.NextLines.{next_none}
-use Rattle.lab_session.proofs.Stages.{called, StageOf, same_split, stages}
+use Rattle.lab_session.proofs.Stages.{called, Stage, rests, holds, ended, StageOf, same_split, stages}
 
 -- the commands of calls after one event more
 called_more : (session : ℕ) (log : List LogEvent) (event : LogEvent)

@@ -1,5 +1,5 @@
 -- Tests that pass, and values that are there.
-use Rattle.std.proofs.Common.{◌≡◌, Bool, true, false, ◌&&◌, T, List, [], ◌∷◌, ◌++◌, length, Option, Some, None, IsSome, option_map, refl}
+use Rattle.std.proofs.Common.{◌≡◌, Bool, true, false, cond, ◌&&◌, T, List, [], ◌∷◌, ◌++◌, length, Option, Some, None, IsSome, option_map, refl, sym, subst}
 use Rattle.std.specs.Prelude.{slice_get}
 use Rattle.std.proofs.lemmas.Option.{same_Some, none-some}
 
@@ -23,6 +23,16 @@ some_of (Some x) h = (x, refl)
 pub some_is : {A : Type 0} (o : Option A) (x : A) → o ≡ Some x → IsSome o
 some_is None x h = absurd (none-some x h)
 some_is (Some y) x h = refl
+
+-- what is there under a condition
+pub under_condition : {A : Type 0} (b : Bool) (o : Option A) (x : A) → cond b o None ≡ Some x → (b ≡ true) × (o ≡ Some x)
+under_condition true o x e = (refl, e)
+under_condition false o x e = absurd (none-some x e)
+
+-- no condition is both true and false
+pub true_and_false : (P : Type 0) (b : Bool) → b ≡ true → b ≡ false → P
+true_and_false P true t f = absurd (subst T f tt)
+true_and_false P false t f = absurd (subst T (sym t) tt)
 
 -- what something was made of
 pub mapped_some : {A B : Type 0} (f : A → B) (o : Option A) (y : B) → option_map f o ≡ Some y → (x : A) × (o ≡ Some x) × (f x ≡ y)
