@@ -20,10 +20,11 @@ use Rattle.lab_engine.specs.declared.event.LogEvent.{LogEvent}
 use Rattle.lab_engine.specs.Log.{Past, Txn, active, active_after, waiting, waiting_after}
 use Rattle.lab_engine.specs.Rules.{Asks, Permitted, IsLegal}
 use Rattle.lab_engine.specs.Recording.{Line, given, lines_by, next_line, FollowsScript, AllFollowScript}
-use Rattle.lab_engine.proofs.LockSteps.{none_some, some_same}
+use Rattle.lab_engine.proofs.LockSteps.{none_some}
 use Rattle.lab_session.specs.LogText.{AllPrint, SomeEvent}
 use Rattle.lab_session.specs.Play.{given_lines, IsLegalPlay}
 use Rattle.lab_commands.proofs.ScriptsPrint.{not_deep, not_long}
+use Rattle.std.proofs.lemmas.Option.{same_Some}
 
 -- ---- what waits
 
@@ -33,7 +34,7 @@ module _ (s : Statement) (before : Option Statement) (keeps : before ≡ Some s 
   asked_prints Begin prints is = none_some _ is
   asked_prints Commit prints is = none_some _ is
   asked_prints Abort prints is = none_some _ is
-  asked_prints (Run t) prints is = subst StatementPrints (some_same t s is) prints
+  asked_prints (Run t) prints is = subst StatementPrints (same_Some t s is) prints
 
   after_prints : (command : Command) (outcome : Outcome) → CommandPrints command → waiting_after command outcome before ≡ Some s → StatementPrints s
   after_prints command (Begun n) prints is = none_some _ is
@@ -132,7 +133,7 @@ line_prints past passed (first ∷ lines) line all is =
     by : (next_line past ((first.session, first.command) ∷ passed) (given_lines lines) ≡ Some line → CommandPrints line.1) → (b : Bool)
         → cond b (next_line past ((first.session, first.command) ∷ passed) (given_lines lines)) (Some (first.session, first.command)) ≡ Some line → CommandPrints line.1
     by later true is = later is
-    by later false is = subst (λ (l : Line). CommandPrints l.1) (some_same (first.session, first.command) line is) all.0
+    by later false is = subst (λ (l : Line). CommandPrints l.1) (same_Some (first.session, first.command) line is) all.0
 
 -- the commands of a legal log that follows a script so far
 all_print : (level : Level) (setup : Table) (lines : List ScriptLine) (past : Past) → LinesPrint lines → IsLegal level setup past → AllFollowScript level setup (given_lines lines) past → AllPrint past

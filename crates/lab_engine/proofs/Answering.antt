@@ -24,7 +24,7 @@ use Rattle.lab_engine.specs.Log.{Past, Version, Txn, past_of, active, waiting, a
 use Rattle.lab_engine.specs.Rules.{Gives, MayAsk, Asks, IsFree, IsCircle, IsEffect, MayCommit, in_view}
 use Rattle.lab_engine.specs.Answer.{MayGive, Answers}
 use Rattle.lab_engine.proofs.EventBounds.{begun_at_most}
-use Rattle.lab_engine.proofs.Waiting.{if_ok}
+use Rattle.std.proofs.lemmas.Result.{IfOk-weaker}
 
 -- a command that runs no statement is given at rest
 at_rest : (past : Past) (session : ℕ) (command : Command) → asked command ≡ None → MayGive past session command → waiting past session ≡ None
@@ -98,7 +98,7 @@ module _ (level : Level) (setup : Table) (past : Past) (session : ℕ) (s : Stat
     result_answers (Refused fault) f = refusal_answers fault f
 
     pub unblocked_answers : (r : Result Outcome AllocError) → IfOk r (IsResultOn (version_in versions) s) → IfOk r (Answers level setup past session (Run s))
-    unblocked_answers r f = if_ok (IsResultOn (version_in versions) s) (Answers level setup past session (Run s)) r result_answers f
+    unblocked_answers r f = IfOk-weaker r (IsResultOn (version_in versions) s) (Answers level setup past session (Run s)) result_answers f
 
   module _ (on : List ℕ) (blockers : AreBlockers level setup past session s on) where
     -- where nobody blocks it the statement is free

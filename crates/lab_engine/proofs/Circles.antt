@@ -11,8 +11,8 @@ use Rattle.lab_engine.specs.Rules.{BlockedBy, IsChain, IsCircle, MayAsk}
 use Rattle.lab_engine.specs.Recording.{IsRetryable}
 use Rattle.lab_engine.specs.WaitsFor.{waits_for, IsWalk, IsRound, WaitsOn, AreWaits}
 use Rattle.lab_engine.specs.Released.{IsReleased}
-use Rattle.lab_engine.proofs.LockSteps.{some_same}
 use Rattle.lab_engine.proofs.Waiting.{asked_is, AreWaitsWith}
+use Rattle.std.proofs.lemmas.Option.{same_Some}
 
 -- a walk begins with a step
 first_step : (waits : List Wait) (session : ℕ) (rest : List ℕ) (goal : ℕ) → IsWalk waits session rest goal → (other : ℕ) × IsTrue (waits_for waits session other)
@@ -33,7 +33,7 @@ chain_of level setup past waits goal (next ∷ rest) waiter asked on own (first,
       held.0,
       held.1,
       chain_of level setup past waits goal rest next held.0 (λ k c. on k (suc c.0, omega arith, c.2))
-          (λ other w. let o : WaitsOn level setup past next other = on next here other w in subst (λ t. BlockedBy level setup past next t other) (some_same o.0 held.0 (sym o.1 ∙ held.1)) o.2) walk,
+          (λ other w. let o : WaitsOn level setup past next other = on next here other w in subst (λ t. BlockedBy level setup past next t other) (same_Some o.0 held.0 (sym o.1 ∙ held.1)) o.2) walk,
     )
 
 -- a chain is a walk where the graph has whom each on it waits for
@@ -88,7 +88,7 @@ released_retryable level setup past waits session s h is (inr (rest, walk)) = (
     (
       refl,
       chain_of level setup past waits session rest session s (λ next c other. (h next other).0)
-          (λ other w. let held = (h session other).0 w in subst (λ t. BlockedBy level setup past session t other) (some_same held.0 s (sym held.1 ∙ is)) held.2) walk,
+          (λ other w. let held = (h session other).0 w in subst (λ t. BlockedBy level setup past session t other) (same_Some held.0 s (sym held.1 ∙ is)) held.2) walk,
     ),
   ),
 )
@@ -99,7 +99,7 @@ pub retryable_released : (level : Level) (setup : Table) (past : Past) (waits : 
 retryable_released level setup past waits session h (s, is, inl free) = inl nobody
   where
     at : (other : ℕ) (b : Bool) → waits_for waits session other ≡ b → b ≡ false
-    at other true q = let held = (h session other).0 q in absurd (free other (subst (λ t. BlockedBy level setup past session t other) (some_same held.0 s (sym held.1 ∙ is)) held.2))
+    at other true q = let held = (h session other).0 q in absurd (free other (subst (λ t. BlockedBy level setup past session t other) (same_Some held.0 s (sym held.1 ∙ is)) held.2))
     at other false q = refl
 
     nobody : (other : ℕ) → waits_for waits session other ≡ false

@@ -16,9 +16,9 @@ use Rattle.lab_engine.specs.declared.situation.RunningTxn.{RunningTxn}
 use Rattle.lab_engine.specs.declared.situation.SessionState.{SessionState}
 use Rattle.lab_engine.specs.declared.situation.Situation.{Situation}
 use Rattle.lab_engine.specs.Log.{Past, Txn, active, active_after, ops_after, asked, waiting, waiting_after, begun_after, commits, last_installed}
-use Rattle.lab_engine.proofs.LockSteps.{some_same}
 use Rattle.lab_engine.specs.Chains.{chain_in, chain_after}
 use Rattle.lab_engine.specs.Situation.{Describes, DescribesAll, Agree, IsRunning, all_sessions, running_of, waiting_of, grown}
+use Rattle.std.proofs.lemmas.Option.{same_Some}
 
 -- a transaction that begins
 pub begins_running : (past : Past) (number before : ℕ) (running : RunningTxn) → running.number ≡ number → running.before ≡ length past → running.statements.items ≡ [] → running.last ≡ empty
@@ -36,7 +36,7 @@ pub ops_run : (command : Command) (s : Statement) (view : View) (rows : Rows) (w
 ops_run Begin s view rows writes txn h = cc
 ops_run Commit s view rows writes txn h = cc
 ops_run Abort s view rows writes txn h = cc
-ops_run (Run t) s view rows writes txn h = ap (λ o. grown txn (record { statement = o; view = view; rows = rows; writes = writes })) (sym (some_same t s h))
+ops_run (Run t) s view rows writes txn h = ap (λ o. grown txn (record { statement = o; view = view; rows = rows; writes = writes })) (sym (same_Some t s h))
 
 -- a transaction that runs a statement
 pub runs_agree : (command : Command) (s : Statement) (view : View) (rows : Rows) (writes : Writes) (txn : Option Txn) (before : Option RunningTxn) (old new : RunningTxn) → asked command ≡ Some s

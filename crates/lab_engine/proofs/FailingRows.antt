@@ -21,8 +21,9 @@ use Rattle.lab_engine.specs.Sight.{Listed, version_in}
 use Rattle.lab_engine.specs.EachRow.{first_failing}
 use Rattle.lab_engine.specs.Effect.{IsEffectFault}
 use Rattle.lab_engine.specs.declared.effect.EffectFault.TheVariants.{OutOfRange}
-use Rattle.lab_engine.proofs.LockSteps.{none_some, some_same}
+use Rattle.lab_engine.proofs.LockSteps.{none_some}
 use Rattle.lab_engine.proofs.Holding.{absent, none_of_any, behind}
+use Rattle.std.proofs.lemmas.Option.{same_Some}
 
 -- where none fails, a test of all finds none
 none_failing : (s : Statement) (es : List (Row × Version)) → first_failing s es ≡ None → list_any (λ e. fails s e.0 e.1.state) es ≡ false
@@ -64,13 +65,13 @@ first_is s (e ∷ es) row h first = at (first_is s es row parts.1) (fails s e.0 
     -- what is found is the first entry's, or behind it
     found_either : (q : Row) (u : Version) → find row_cmp q (e ∷ es) ≡ Some u → ((q ≡ e.0) × (e.1 ≡ u)) ⊎ (find row_cmp q es ≡ Some u)
     found_either q u is = elim (row_eq q e.0) as (λ t. row_eq q e.0 ≡ t → cond t (Some e.1) (find row_cmp q es) ≡ Some u → ((q ≡ e.0) × (e.1 ≡ u)) ⊎ (find row_cmp q es ≡ Some u)) [
-      | true ↦ λ t own. inl (same_row q e.0 t, some_same e.1 u own)
+      | true ↦ λ t own. inl (same_row q e.0 t, same_Some e.1 u own)
       | false ↦ λ t rest. inr rest
     ] refl is
 
     at : (first_failing s es ≡ Some row → IsFirst s (λ q. find row_cmp q es) row) → (b : Bool) → fails s e.0 e.1.state ≡ b
         → cond b (Some e.0) (first_failing s es) ≡ Some row → IsFirst s (λ q. find row_cmp q (e ∷ es)) row
-    at later true f is = subst (IsFirst s (λ q. find row_cmp q (e ∷ es))) (some_same e.0 row is) (record {
+    at later true f is = subst (IsFirst s (λ q. find row_cmp q (e ∷ es))) (same_Some e.0 row is) (record {
       version = e.1;
       found = ap (λ t. cond t (Some e.1) (find row_cmp e.0 es)) (row_eq_self e.0);
       fails_there = f;

@@ -19,11 +19,12 @@ use Rattle.lab_engine.specs.Log.{Past, past_of, Txn, Version, is_fatal, active, 
 use Rattle.lab_engine.specs.Rules.{IsLegal}
 use Rattle.lab_engine.specs.Recording.{recorded_txn, recorded_txns}
 use Rattle.lab_engine.specs.Gathered.{number_of, number_after, number_at, AreActive, recorded, IsWithin, gathered_by, installing, version_told, installed_over, installs_by}
-use Rattle.lab_engine.proofs.LockSteps.{none_some, some_same}
+use Rattle.lab_engine.proofs.LockSteps.{none_some}
 use Rattle.lab_engine.proofs.EventBounds.{ops_at_most}
 use Rattle.lab_engine.proofs.Numbers.{numbers_hold}
 use Rattle.lab_engine.proofs.Records.{records_hold}
 use Rattle.lab_engine.proofs.GatheredNumbers.{at_number, recorded_length}
+use Rattle.std.proofs.lemmas.Option.{same_Some}
 
 -- ---- a legal log is legal so far
 
@@ -99,7 +100,7 @@ module _ (level : Level) (setup : Table) (past : Past) (legal : IsLegal level se
           → (u : GatheredTxn) × (slice_get txns (t.no - 1) ≡ Some u) × (u.number ≡ t.no) × (u.ops.items ≡ reverse t.ops)
       here None at same = none_some _ same
       here (Some u) at same =
-          let alike : recorded u ≡ recorded_txn past t.no = some_same _ _ same in
+          let alike : recorded u ≡ recorded_txn past t.no = same_Some _ _ same in
           (u, at, ap (λ (r : Recorded). r.no) alike, ap (λ (r : Recorded). r.ops) alike ∙ (records_hold level setup past legal).recorded_as session t is)
 
   -- so is that of each session
@@ -116,7 +117,7 @@ module _ (level : Level) (setup : Table) (past : Past) (legal : IsLegal level se
     here None is at = none_some _ at
     here (Some t) is at =
         let own = gathered session t is in
-        let same : own.0 ≡ u = some_same own.0 u (sym own.1 ∙ at) in
+        let same : own.0 ≡ u = same_Some own.0 u (sym own.1 ∙ at) in
         let many = ap (λ (k : GatheredTxn). length k.ops.items) (sym same) ∙ ap length own.3 ∙ length-reverse t.ops in
         let most = ops_at_most past session t is in
         omega (arith, many, most, room)

@@ -19,7 +19,8 @@ use Rattle.lab_engine.specs.Log.{Past, Version, Txn, version_by, has_read}
 use Rattle.lab_engine.specs.Rules.{HoldsWrite}
 use Rattle.lab_engine.specs.Sight.{Listed, version_in, IsSight}
 use Rattle.lab_engine.specs.Pending.{writes_over}
-use Rattle.lab_engine.proofs.LockSteps.{none_some, some_same}
+use Rattle.lab_engine.proofs.LockSteps.{none_some}
+use Rattle.std.proofs.lemmas.Option.{same_Some}
 
 -- the version of a row that is absent from the start
 abbrev pub absent : Version
@@ -51,7 +52,7 @@ none_in p [] any row v h = none_some _ h
 none_in {A} p (e ∷ es) any row v h =
     let parts = or_parts (p e) (list_any p es) any in
     elim (row_eq row e.0) as (λ b. row_eq row e.0 ≡ b → cond b (Some e.1) (find row_cmp row es) ≡ Some v → p (row, v) ≡ false) [
-      | true ↦ λ t is. ap p (λ i. (same_row row e.0 t i, sym (some_same e.1 v is) i)) ∙ parts.0
+      | true ↦ λ t is. ap p (λ i. (same_row row e.0 t i, sym (same_Some e.1 v is) i)) ∙ parts.0
       | false ↦ λ t is. none_in p es parts.1 row v is
     ] refl h
 

@@ -43,9 +43,6 @@ unchanged e act installed all = step e (λ t. t) act installed
 pub none_some : {A : Type 0} {x : A} (P : Type 0) → ◌≡◌ {A = Option A} None (Some x) → P
 none_some P h = cc
 
-pub some_same : {A : Type 0} (x y : A) → ◌≡◌ {A = Option A} (Some x) (Some y) → x ≡ y
-some_same x y h = cc
-
 -- an event that ends the transaction of its session
 pub ended : (e : ℕ) (act : ℕ → Option Txn) (installed : Row → Version) → AllKeepOff act installed → AllKeepOff (λ s. cond (e == s) None (act s)) installed
 ended e act installed all = step e (λ t. None) act installed

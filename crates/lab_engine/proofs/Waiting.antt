@@ -1,6 +1,6 @@
 -- Which sessions wait for which after a log.
 use Rattle.std.proofs.Common.{◌≡◌, ◌≢◌, ℕ, zero, suc, ◌+◌, ◌≤◌, ◌<◌, refl, sym, ap, subst, ◌∙◌, arith, false, ◌||◌, ◌&&◌, List, [], ◌∷◌, ◌++◌, ◌⊎◌, inl, inr, length, take, get_or}
-use Rattle.std.specs.Prelude.{◌==◌, ◌↔◌, IsTrue, Option, Some, None, Result, Ok, Err, IfOk, Contains}
+use Rattle.std.specs.Prelude.{◌==◌, ◌↔◌, IsTrue, Option, Some, None, Contains}
 use Rattle.std.specs.List.{list_any}
 use Rattle.std.proofs.lemmas.Bool.{eq-eqb, eqb-true, both_ways, or_cases, and_parts, and_from, and_right, or_right, or_left}
 use Rattle.std.proofs.lemmas.List.{take_all}
@@ -18,8 +18,9 @@ use Rattle.lab_engine.specs.Log.{Past, Txn, active, waiting}
 use Rattle.lab_engine.specs.Rules.{BlockedBy, MayAsk}
 use Rattle.lab_engine.specs.Situation.{all_sessions, Agree, IsRunning, Describes, DescribesSession, DescribesAll}
 use Rattle.lab_engine.specs.WaitsFor.{waits_for, AreBlockers, WaitsOn, AreWaits}
-use Rattle.lab_engine.proofs.LockSteps.{none_some, some_same}
+use Rattle.lab_engine.proofs.LockSteps.{none_some}
 use Rattle.lab_engine.proofs.Rising.{AreThose, those_hold, those_all, those_increase, sessions_of, is_among, among}
+use Rattle.std.proofs.lemmas.Option.{same_Some}
 
 -- each state of a situation is described
 described_each : (past : Past) (states : List SessionState) (i : ℕ) (state : SessionState) → DescribesAll past states → i < length states → state ≡ get_or states i state → DescribesSession past state
@@ -48,11 +49,6 @@ running_txn past session running h = at (active past session) refl h
     at None is h = absurd h
     at (Some txn) is h = (txn, is, h)
 
--- what holds of each value holds of the one that there is
-pub if_ok : {A E : Type 0} (P Q : A → Type 0) (r : Result A E) → ((x : A) → P x → Q x) → IfOk r P → IfOk r Q
-if_ok P Q (Ok x) f h = f x h
-if_ok P Q (Err e) f h = tt
-
 -- once all are passed, those that block are the blockers
 pub blockers_all : (level : Level) (setup : Table) (past : Past) (situation : Situation) (session : ℕ) (s : Statement) (passed : ℕ) (on : List ℕ) → Describes past situation
     → length situation.sessions.items ≤ passed → AreThose (BlockedBy level setup past session s) (sessions_of (take passed situation.sessions.items)) on → AreBlockers level setup past session s on
@@ -71,7 +67,7 @@ blockers_all level setup past situation session s passed on d all h =
 pub waits_on_blockers : (level : Level) (setup : Table) (past : Past) (session : ℕ) (s : Statement) (on : List ℕ) → waiting past session ≡ Some s → AreBlockers level setup past session s on
     → (other : ℕ) → Contains on other ↔ WaitsOn level setup past session other
 waits_on_blockers level setup past session s on is are other =
-    ((λ c. (s, is, (are.are other).0 c)), (λ w. (are.are other).1 (subst (λ t. BlockedBy level setup past session t other) (some_same w.0 s (sym w.1 ∙ is)) w.2)))
+    ((λ c. (s, is, (are.are other).0 c)), (λ w. (are.are other).1 (subst (λ t. BlockedBy level setup past session t other) (same_Some w.0 s (sym w.1 ∙ is)) w.2)))
 
 -- an element passes its own test
 any_contains : (xs : List ℕ) (x : ℕ) → IsTrue (list_any (λ k. k == x) xs) → Contains xs x
@@ -154,7 +150,7 @@ waits_all level setup past situation passed waits d all h session other = (
 -- a statement that a session may ask for is the one that it waits with
 pub asked_is : (past : Past) (session : ℕ) (s held : Statement) → MayAsk past session s → waiting past session ≡ Some held → held ≡ s
 asked_is past session s held (inl none) is = none_some _ (sym none ∙ is)
-asked_is past session s held (inr some) is = some_same held s (sym is ∙ some)
+asked_is past session s held (inr some) is = same_Some held s (sym is ∙ some)
 
 -- the graph has who waits for whom after a log, but of one session it has the blockers of this statement
 abbrev pub AreWaitsWith : Level → Table → Past → ℕ → Statement → List Wait → Type 0

@@ -1,5 +1,5 @@
 -- How a command goes that a session asks for.
-use Rattle.std.proofs.Common.{◌≡◌, ◌≢◌, ℕ, refl, sym, ap, subst, ◌∙◌, Bool, true, false, [], ◌⊎◌, inl, inr}
+use Rattle.std.proofs.Common.{◌≡◌, ◌≢◌, ℕ, refl, sym, ap, subst, ◌∙◌, Bool, true, false, ◌⊎◌, inl, inr}
 use Rattle.std.specs.Prelude.{IsSome, Option, Some, None, is_some}
 use Rattle.std.proofs.lemmas.Bool.{both_ways}
 use Rattle.lab_table.specs.Table.{Table}
@@ -13,7 +13,8 @@ use Rattle.lab_engine.specs.declared.event.Outcome.TheVariants.{Begun, Rows as L
 use Rattle.lab_engine.specs.Log.{Past, Txn, asked, active, active_after, waiting, waiting_after}
 use Rattle.lab_engine.specs.Rules.{Asks, Permitted}
 use Rattle.lab_engine.specs.Recording.{is_answer}
-use Rattle.lab_engine.proofs.LockSteps.{none_some, some_same}
+use Rattle.lab_engine.proofs.LockSteps.{none_some}
+use Rattle.std.proofs.lemmas.Option.{same_Some}
 
 -- how a command that isn't refused as Busy goes: it is answered, or its statement waits
 abbrev pub Goes : Command → Bool → Option Statement → Bool → Type 0
@@ -46,7 +47,7 @@ module _ (level : Level) (setup : Table) (past : Past) (session : ℕ) (command 
     where
       by_may : ((waiting past session ≡ None) ⊎ (waiting past session ≡ Some t)) → command ≡ Run s
       by_may (inl none) = none_some _ (sym none ∙ is)
-      by_may (inr same) = asks.command_is ∙ ap Run (some_same t s (sym same ∙ is))
+      by_may (inr same) = asks.command_is ∙ ap Run (same_Some t s (sym same ∙ is))
 
   -- the command of a retry is the statement that waits
   pub retried : (outcome : Outcome) (s : Statement) → waiting past session ≡ Some s → is_some (active past session) ≡ true → Permitted level setup past session command outcome

@@ -7,9 +7,10 @@ use borrow.Author.Tests.{ltb-true, ltb-false}
 use Rattle.lab_table.specs.declared.statement.Command.{Command}
 use Rattle.lab_engine.specs.Log.{Past, waiting}
 use Rattle.lab_engine.specs.Recording.{Line, given, lines_by, next_line}
-use Rattle.lab_engine.proofs.LockSteps.{none_some, some_same}
+use Rattle.lab_engine.proofs.LockSteps.{none_some}
 use Rattle.lab_session.specs.Play.{commands_of}
 use Rattle.lab_session.proofs.Playing.{next_rests, lines_more}
+use Rattle.std.proofs.lemmas.Option.{same_Some}
 
 -- the next line of a session is the first of its commands that it hasn't given
 abbrev pub NextOf : Past → List Line → List Line → Line → Type 0
@@ -62,7 +63,7 @@ next_splits past passed (first ∷ lines) line h few =
       | inr p ↦ other (rec h) p.0
     ]
     at rec false q h =
-        let same : first ≡ line = some_same first line h in
+        let same : first ≡ line = same_Some first line h in
         let parts = or_parts (is_some (waiting past first.0)) (nat_lt (lines_by first.0 passed) (given past first.0)) q in
         let most : given past first.0 ≤ lines_by first.0 passed = ltb-false (lines_by first.0 passed) (given past first.0) parts.1 in
         let most_line : given past line.0 ≤ lines_by line.0 passed = subst (λ (l : Line). given past l.0 ≤ lines_by l.0 passed) same most in (

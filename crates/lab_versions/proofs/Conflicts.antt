@@ -18,10 +18,11 @@ use Rattle.lab_engine.specs.Rules.{IsBelow, MayCommit, Conflicts}
 use Rattle.lab_engine.specs.Chains.{chain, chain_in, first_since}
 use Rattle.lab_engine.specs.Sight.{IsFirstConflict}
 use Rattle.lab_engine.specs.Situation.{Describes, IsRunning, running_of}
-use Rattle.lab_engine.proofs.LockSteps.{none_some, some_same}
+use Rattle.lab_engine.proofs.LockSteps.{none_some}
 use Rattle.lab_engine.proofs.Describing.{running_txn}
 use Rattle.lab_engine.proofs.InstalledChains.{SinceThen, since_begin, last_no}
 use Rattle.lab_versions.specs.Conflict.{first_taken}
+use Rattle.std.proofs.lemmas.Option.{same_Some}
 
 -- a row stands in a list of versions
 abbrev Has : Row → List (Row × Version) → Type 0
@@ -78,7 +79,7 @@ none_newer (t ∷ ts) h = none_some _ (sym h)
 -- the last of a list, which has this number, and those before it
 last_of : (newer : List Txn) (by : ℕ) → last_no newer ≡ Some by → (first : Txn) × (more : List Txn) × (first.no ≡ by) × (newer ≡ more ++ first ∷ [])
 last_of [] by h = none_some _ h
-last_of (t ∷ ts) by h = at (last_no ts) refl (λ n is. last_of ts n is) (some_same (unwrap_or (last_no ts) t.no) by h) where
+last_of (t ∷ ts) by h = at (last_no ts) refl (λ n is. last_of ts n is) (same_Some (unwrap_or (last_no ts) t.no) by h) where
   at : (o : Option ℕ) → last_no ts ≡ o → ((n : ℕ) → last_no ts ≡ Some n → (first : Txn) × (more : List Txn) × (first.no ≡ n) × (ts ≡ more ++ first ∷ [])) → unwrap_or (last_no ts) t.no ≡ by
       → (first : Txn) × (more : List Txn) × (first.no ≡ by) × (t ∷ ts ≡ more ++ first ∷ [])
   at None is behind same = (t, [], sym (ap (λ o. unwrap_or o t.no) is) ∙ same, ap (λ (l : List Txn). t ∷ l) (none_newer ts is))
@@ -148,4 +149,4 @@ pub the_running : (past : Past) (situation : Situation) (session : ℕ) (running
     → running_of situation.sessions.items session ≡ Some running → active past session ≡ Some txn → IsRunning txn running
 the_running past situation session running txn describes kept is =
     let t = running_txn _ _ describes session running kept in
-    subst (λ (k : Txn). IsRunning k running) (some_same t.0 txn (sym t.1 ∙ is)) t.2
+    subst (λ (k : Txn). IsRunning k running) (same_Some t.0 txn (sym t.1 ∙ is)) t.2

@@ -4,8 +4,9 @@ use Rattle.lab_engine.specs.Log.{Txn, active, waiting}
 use Rattle.lab_engine.specs.Situation.{Agree, IsRunning}
 use Rattle.lab_engine.specs.Sight.{IsSight}
 use Rattle.lab_engine.specs.WaitsFor.{AreBlockers, WaitsOn}
-use Rattle.lab_engine.proofs.Waiting.{running_txn, if_ok, waits_on_blockers}
+use Rattle.lab_engine.proofs.Waiting.{running_txn, waits_on_blockers}
 use Rattle.lab_engine.proofs.waits.waits_on.Goals as goal
+use Rattle.std.proofs.lemmas.Result.{IfOk-weaker}
 
 pub returns : goal.returns
 returns g c = λ past d described.
@@ -15,7 +16,7 @@ returns g c = λ past d described.
     sym described.waits ∙ c.in-Some.is in
     let sight : IsSight g.R.Rules.kind c.args.setup.now past txn.0 c.in_ok-seen.seen =
     subst (λ level. IsSight level c.args.setup.now past txn.0 c.in_ok-seen.seen) c.level.ensures (c.in_ok-seen.ensures past c.args.state.now.session txn.0 d txn.1 txn.2) in
-    if_ok (AreBlockers g.R.Rules.kind c.args.setup.now past c.args.state.now.session c.in-Some.statement)
+    IfOk-weaker c.blockers.result (AreBlockers g.R.Rules.kind c.args.setup.now past c.args.state.now.session c.in-Some.statement)
     (λ on. (other : ℕ) → Contains on other ↔ WaitsOn g.R.Rules.kind c.args.setup.now past c.args.state.now.session other)
-    c.blockers.result (λ on. waits_on_blockers g.R.Rules.kind c.args.setup.now past c.args.state.now.session c.in-Some.statement on waits)
+    (λ on. waits_on_blockers g.R.Rules.kind c.args.setup.now past c.args.state.now.session c.in-Some.statement on waits)
     (c.blockers.ensures past txn.0 d txn.1 sight)

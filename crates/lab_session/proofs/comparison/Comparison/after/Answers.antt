@@ -2,13 +2,14 @@ use Rattle.std.proofs.Common.{◌≡◌, ◌≢◌, ◌+◌, ◌++◌, ◌∷◌
 use Rattle.std.specs.Prelude.{Some, slice_get}
 use Rattle.std.proofs.lemmas.Bool.{both_ways}
 use Rattle.lab_engine.specs.Recording.{is_answer}
-use Rattle.lab_engine.proofs.LockSteps.{none_some, some_same}
+use Rattle.lab_engine.proofs.LockSteps.{none_some}
 use Rattle.lab_session.specs.declared.seat.Call.{Call}
 use Rattle.lab_session.specs.Seats.{call_at, DifferFirst}
 use Rattle.lab_session.specs.Compared.{Says}
 use Rattle.lab_session.proofs.Comparing.{get_none, get_some, differ_there}
 use Rattle.lab_session.proofs.comparison.Comparison.after.Goals as goal
 use Rattle.lab_session.proofs.comparison.Comparison.after.Goals.{then-met-calls-via-then-met-calls, then-met-calls-via-else-met-calls+then-not-is_call_at}
+use Rattle.std.proofs.lemmas.Option.{same_Some}
 
 pub returns-then-met-calls : goal.returns-then-met-calls
 returns-then-met-calls c = λ seats session all rest says.
@@ -22,6 +23,6 @@ returns-then-met-calls c = λ seats session all rest says.
       | then-met-calls-via-then-met-calls w ↦ λ same. none_some _ (sym (get_none calls met w.if-met-calls.true) ∙ same)
       | then-met-calls-via-else-met-calls+then-not-is_call_at w ↦ λ same.
           both_ways _ w.if-not-is_call_at.true
-          (w.is_call_at.ensures.1 (some_same _ _ (sym (get_some calls met w.index-calls-met.result (omega arith) w.index-calls-met.is) ∙ same)))
+          (w.is_call_at.ensures.1 (same_Some _ _ (sym (get_some calls met w.index-calls-met.result (omega arith) w.index-calls-met.is) ∙ same)))
     ] in
     (h.0, h.1, h.2, subst (λ (l : List Call). DifferFirst l all (met + 1)) (sym h.3) (differ_there calls all (call ∷ rest) met h.4 next apart))
