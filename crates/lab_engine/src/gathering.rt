@@ -83,8 +83,10 @@ impl Gathering {
         requires short { plain.IsShort (plain.installing event.now.outcome (plain.gathered_by self.old.txns.items (plain.number_at self.old.active.items place))) }
         ensures active { self.new.active ≡ self.old.active }
         ensures txns { self.new.txns ≡ self.old.txns }
-        ensures committed { OnOk result ((row : Row) → map.get self.new.committed row ≡ plain.installed_over (plain.installing event.now.outcome (plain.gathered_by self.old.txns.items (plain.number_at self.old.active.items place))) row (map.get self.old.committed row)) }
-        ensures installs { OnOk result ((row : Row) → plain.numbers_of row self.new.installs.items ≡ plain.numbers_of row self.old.installs.items ++ plain.installs_by (plain.installing event.now.outcome (plain.gathered_by self.old.txns.items (plain.number_at self.old.active.items place))) row) }
+        ensures committed { OnOk result ((row : Row) → map.get self.new.committed row
+            ≡ plain.installed_over (plain.installing event.now.outcome (plain.gathered_by self.old.txns.items (plain.number_at self.old.active.items place))) row (map.get self.old.committed row)) }
+        ensures installs { OnOk result ((row : Row) → plain.numbers_of row self.new.installs.items
+            ≡ plain.numbers_of row self.old.installs.items ++ plain.installs_by (plain.installing event.now.outcome (plain.gathered_by self.old.txns.items (plain.number_at self.old.active.items place))) row) }
     {
         let by = self.active[place];
         let txn = installing(&self.txns, &event.outcome, by);
@@ -96,7 +98,8 @@ impl Gathering {
         requires place { place < length self.old.active.items }
         requires within { IsWithin (plain.number_at self.old.active.items place) (length self.old.txns.items) }
         ensures active { self.new.active ≡ self.old.active }
-        ensures txns { OnOk result (list.map plain.recorded self.new.txns.items ≡ plain.txns_after event.now.command event.now.outcome (plain.number_at self.old.active.items place) (list.map plain.recorded self.old.txns.items)) }
+        ensures txns { OnOk result (list.map plain.recorded self.new.txns.items
+            ≡ plain.txns_after event.now.command event.now.outcome (plain.number_at self.old.active.items place) (list.map plain.recorded self.old.txns.items)) }
         ensures committed { self.new.committed ≡ self.old.committed }
         ensures installs { self.new.installs ≡ self.old.installs }
     {

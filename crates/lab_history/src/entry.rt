@@ -14,6 +14,7 @@ ghost use Rattle.lab_history.specs.WrittenState.{state_in};
 ghost use Rattle.lab_history.specs.declared.fault.FileFault.{FileFault};
 ghost use Rattle.lab_history.specs.declared.fault.FileFault.TheVariants as fault;
 ghost use Rattle.lab_history.specs.declared.refusal.Refusal.TheVariants as refusal;
+ghost use Rattle.lab_history.specs.declared.path.Path.TheVariants as path;
 ghost use Rattle.lab_history.specs.declared.path.ListPlace.{ListPlace};
 
 use crate::fault::FileFault;
@@ -88,6 +89,13 @@ pub fn required<X>(found: Option<X>, path: Path) -> Result<X, Refusal>
     found.ok_or(wrong(path))
 }
 
+/// The place of a part of a member, which is counted from 0.
+fn part(list: ListPlace, index: usize, part: usize) -> Path
+    ensures { result ≡ path.Part list index part }
+{
+    Path::Part { list, index, part }
+}
+
 /// The parts of a member that has two.
 #[tactic(auto, using(crate::proofs::Members::no_pair))]
 fn pair<'a>(place: ListPlace, index: usize, json: &'a Json) -> Result<(&'a Json, &'a Json), Refusal>
@@ -134,11 +142,7 @@ fn numbers_of(alloc: Global, index: usize, numbers: &[Json]) -> Result<Vec<TxnNo
 fn installers_of(alloc: Global, index: usize, json: &Json) -> Result<Installers, Refusal>
     ensures { Gives (λ installers. installers) result (spec_installers_of index (as_array (view json.now))) }
 {
-    let path = Path::Part {
-        list: ListPlace::Installed,
-        index,
-        part: 1,
-    };
+    let path = part(ListPlace::Installed, index, 1);
     let numbers = required(json.as_array(), path)?;
     if numbers.is_empty() {
         return Err(wrong(path));
@@ -174,22 +178,8 @@ impl Entry for Value {
         json: &Json,
     ) -> Result<(RowId, Value), Refusal> {
         let (id, value) = pair(place, index, json)?;
-        let id = required(
-            id_of(id),
-            Path::Part {
-                list: place,
-                index,
-                part: 0,
-            },
-        )?;
-        let value = required(
-            value_of(value),
-            Path::Part {
-                list: place,
-                index,
-                part: 1,
-            },
-        )?;
+        let id = required(id_of(id), part(place, index, 0))?;
+        let value = required(value_of(value), part(place, index, 1))?;
         Ok((id, value))
     }
 }
@@ -209,22 +199,8 @@ impl Entry for State {
         json: &Json,
     ) -> Result<(RowId, State), Refusal> {
         let (id, state) = pair(place, index, json)?;
-        let id = required(
-            id_of(id),
-            Path::Part {
-                list: place,
-                index,
-                part: 0,
-            },
-        )?;
-        let state = required(
-            written_of(state),
-            Path::Part {
-                list: place,
-                index,
-                part: 1,
-            },
-        )?;
+        let id = required(id_of(id), part(place, index, 0))?;
+        let state = required(written_of(state), part(place, index, 1))?;
         Ok((id, state))
     }
 }
@@ -243,30 +219,9 @@ impl Entry for VersionName {
         json: &Json,
     ) -> Result<(RowId, VersionName), Refusal> {
         let (id, txn, op) = triple(place, index, json)?;
-        let id = required(
-            id_of(id),
-            Path::Part {
-                list: place,
-                index,
-                part: 0,
-            },
-        )?;
-        let txn = required(
-            txn_of(txn),
-            Path::Part {
-                list: place,
-                index,
-                part: 1,
-            },
-        )?;
-        let op = required(
-            op_of(op),
-            Path::Part {
-                list: place,
-                index,
-                part: 2,
-            },
-        )?;
+        let id = required(id_of(id), part(place, index, 0))?;
+        let txn = required(txn_of(txn), part(place, index, 1))?;
+        let op = required(op_of(op), part(place, index, 2))?;
         Ok((id, VersionName::Of { txn, op }))
     }
 }
@@ -285,14 +240,7 @@ impl Entry for Installers {
         json: &Json,
     ) -> Result<(RowId, Installers), Refusal> {
         let (id, installers) = pair(ListPlace::Installed, index, json)?;
-        let id = required(
-            id_of(id),
-            Path::Part {
-                list: ListPlace::Installed,
-                index,
-                part: 0,
-            },
-        )?;
+        let id = required(id_of(id), part(ListPlace::Installed, index, 0))?;
         let installers = installers_of(alloc, index, installers)?;
         Ok((id, installers))
     }

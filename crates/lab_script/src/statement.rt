@@ -21,7 +21,8 @@ impl Parser<'_> {
     pub fn whole_statement(&mut self, alloc: Global) -> Result<Statement, Refusal>
         ensures gives { Gives (λ x. x) result (whole_statement_at self.old) }
         // A statement that is over its limit at its end is told before what stands behind it.
-        ensures long { (s : Spelled) (end behind : List Shown) → (statement_at self.old ≡ Some (s, end)) → (ended_at end ≡ Some behind) → max_statement_bytes < length (printed_statement s) → RefusesTooLong result }
+        ensures long { (s : Spelled) (end behind : List Shown) → (statement_at self.old ≡ Some (s, end)) → (ended_at end ≡ Some behind)
+            → max_statement_bytes < length (printed_statement s) → RefusesTooLong result }
     {
         let statement = self.statement(alloc)?;
         self.ended()?;
