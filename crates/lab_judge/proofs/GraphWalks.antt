@@ -3,7 +3,7 @@ use Rattle.std.proofs.Common.{◌≡◌, ℕ, ◌≤◌, ◌==◌, Bool, true, f
 use Rattle.std.specs.Prelude.{Contains, IsTrue, not}
 use Rattle.std.proofs.lemmas.Bool.{eq-eqb}
 use Rattle.lab_order.specs.Arrows.{Arrows, has_arrow}
-use Rattle.lab_order.specs.Order.{IsOrder}
+use Rattle.lab_order.specs.Order.{position, IsOrder}
 use Rattle.lab_order.specs.Order.{position as rank}
 use Rattle.lab_order.specs.Path.{Leads, IsPath}
 use Rattle.lab_history.specs.History.{History}
@@ -13,7 +13,6 @@ use Rattle.lab_judge.specs.Allowed.{allows}
 use Rattle.lab_judge.specs.Graphs.{joins, IsGraphOf, LeadsAlong, last_of, count_others}
 use Rattle.lab_judge.specs.Openings.{HasEdgesOf, IsClosedOf, LeadsBack}
 use Rattle.lab_judge.specs.Phenomena.{IsWalk}
-use Rattle.lab_judge.specs.Places.{position}
 use Rattle.lab_judge.specs.declared.allowed.Allowed.{Allowed}
 use Rattle.lab_judge.proofs.ClosedWalks.{times_are, Through, none_forbidden}
 use Rattle.lab_judge.proofs.Joined.{passes_some, along_path, path_ends, read}

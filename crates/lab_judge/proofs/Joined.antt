@@ -9,7 +9,7 @@ use Rattle.std.proofs.lemmas.Option.{get_or_from_slice_get}
 use Rattle.std.proofs.lemmas.List.{take_all, length_push}
 use Rattle.std.proofs.Math.Seq.{drop-cons}
 use Rattle.lab_order.specs.Arrows.{Arrows}
-use Rattle.lab_order.specs.Order.{IsTrail, IsCircle}
+use Rattle.lab_order.specs.Order.{position, IsTrail, IsCircle}
 use Rattle.lab_order.specs.Path.{Leads}
 use Rattle.lab_history.specs.History.{History}
 use Rattle.lab_deps.specs.Edges.{IsEdge}
@@ -17,7 +17,6 @@ use Rattle.lab_deps.specs.declared.edge.Edge.{Edge}
 use Rattle.lab_judge.specs.Allowed.{allows}
 use Rattle.lab_judge.specs.Graphs.{HasEnds, joins, IsGraphOf, LeadsAlong, last_of, count_others}
 use Rattle.lab_judge.specs.Phenomena.{IsWalk, IsClosedWalk}
-use Rattle.lab_judge.specs.Places.{position}
 use Rattle.lab_judge.specs.declared.allowed.Allowed.{Allowed}
 use Rattle.lab_judge.proofs.Numbers.{stands}
 

@@ -7,12 +7,12 @@ use Rattle.std.proofs.lemmas.List.Elements.{All-head, All-tail}
 use Rattle.std.proofs.lemmas.Option.{slice_get-get_or, get_or_from_slice_get}
 use Rattle.lab_order.specs.Arrows.{Arrows, nodes_of}
 use Rattle.lab_order.specs.Order as order
+use Rattle.lab_order.specs.Order.{position}
 use Rattle.lab_history.specs.History.{History}
 use Rattle.lab_history.specs.Version.{outcome_of}
 use Rattle.lab_deps.specs.Soundness.{has_committed}
 use Rattle.lab_deps.proofs.Places.{times, times_count, at_times}
 use Rattle.lab_judge.specs.Runs.{HoldsEachOnce}
-use Rattle.lab_judge.specs.Places.{position}
 use Rattle.lab_judge.proofs.Lists.{one_place}
 use Rattle.lab_judge.proofs.Orders.{at_position}
 use Rattle.lab_judge.proofs.Numbers.{contains_it, stands, position_within}
@@ -57,7 +57,7 @@ module _ (h : History) (nodes : List ℕ) (once : HoldsEachOnce h nodes) where
             other false q = refl
 
     -- the place of a number among the numbers of nodes is that of its node among them
-    pub same_place : (ns : List ℕ) → All (λ a. a < length nodes) ns → position (map (slice_index nodes) ns) n ≡ order.position ns (position nodes n)
+    pub same_place : (ns : List ℕ) → All (λ a. a < length nodes) ns → position (map (slice_index nodes) ns) n ≡ position ns (position nodes n)
     same_place [] all = refl
     same_place (a ∷ ns) all =
         ap (λ b. cond b 0 (suc (position (map (slice_index nodes) ns) n))) (same_test a (All-head (λ a. a < length nodes) a ns all))

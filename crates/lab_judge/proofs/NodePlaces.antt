@@ -8,24 +8,15 @@ use Rattle.std.proofs.lemmas.Option.{slice_get-get_or, get_or_from_slice_get}
 use Rattle.lab_order.specs.Arrows.{Arrows, nodes_of}
 use Rattle.lab_order.specs.Order as order
 use Rattle.lab_order.proofs.Writes.{set_read}
-use Rattle.lab_judge.specs.Places.{position}
+use Rattle.lab_order.specs.Order.{position}
 use Rattle.lab_judge.proofs.Lists.{one_place}
 use Rattle.lab_judge.proofs.Numbers.{contains_it, stands, position_within}
 use Rattle.lab_deps.proofs.Places.{times, times_count}
 
--- the place of a node in an order, by its two spellings
-pub same_position : (ns : List ℕ) (n : ℕ) → order.position ns n ≡ position ns n
-same_position [] n = refl
-same_position (m ∷ ns) n = ap (λ k. cond (m == n) 0 (suc k)) (same_position ns n)
-
--- a node that stands in an order stands at its place
-pub stands_there : (ns : List ℕ) (n : ℕ) → Contains ns n → slice_get ns (order.position ns n) ≡ Some n
-stands_there ns n there = ap (slice_get ns) (same_position ns n) ∙ stands ns n there
-
 -- nodes with one place are one
-pub one_node : (ns : List ℕ) (a b : ℕ) → Contains ns a → Contains ns b → order.position ns a ≡ order.position ns b → a ≡ b
+pub one_node : (ns : List ℕ) (a b : ℕ) → Contains ns a → Contains ns b → position ns a ≡ position ns b → a ≡ b
 one_node ns a b ha hb same =
-    sym (get_or_from_slice_get ns (order.position ns a) a 0 (stands_there ns a ha)) ∙ ap (λ p. get_or ns p 0) same ∙ get_or_from_slice_get ns (order.position ns b) b 0 (stands_there ns b hb)
+    sym (get_or_from_slice_get ns (position ns a) a 0 (stands ns a ha)) ∙ ap (λ p. get_or ns p 0) same ∙ get_or_from_slice_get ns (position ns b) b 0 (stands ns b hb)
 
 -- how many of the numbers below a number stand in a list, counted as often as they do
 total : ℕ → List ℕ → ℕ
@@ -111,8 +102,8 @@ module _ (places ns : List ℕ) (count : ℕ) (size : length places ≡ count) (
 
 -- where each place has its node, each node has its place
 pub all_placed : (places ns : List ℕ) (i : ℕ) → length ns ≤ i → ((k : ℕ) → k < i → slice_index places (get_or ns k 0) ≡ k) → (node : ℕ) → Contains ns node
-    → slice_index places node ≡ order.position ns node
+    → slice_index places node ≡ position ns node
 all_placed places ns i past placed node there =
-    let p : ℕ = order.position ns node in
-    let lt : order.position ns node < length ns = subst (λ k. k < length ns) (sym (same_position ns node)) (position_within ns node there) in
-    ap (slice_index places) (sym (get_or_from_slice_get ns (order.position ns node) node 0 (stands_there ns node there))) ∙ placed (order.position ns node) (omega (arith, lt, past))
+    let p : ℕ = position ns node in
+    let lt : position ns node < length ns = position_within ns node there in
+    ap (slice_index places) (sym (get_or_from_slice_get ns (position ns node) node 0 (stands ns node there))) ∙ placed (position ns node) (omega (arith, lt, past))

@@ -10,7 +10,7 @@ use Rattle.std.proofs.lemmas.Cmp.{ranked}
 use Rattle.std.proofs.lemmas.List.Sorted.{searched}
 use Rattle.std.specs.declared.cmp.Ordering.TheVariants.{Equal}
 use Rattle.std.proofs.lemmas.Option.{slice_get-get_or, slice_get_within, get_or_from_slice_get}
-use Rattle.lab_judge.specs.Places.{position}
+use Rattle.lab_order.specs.Order.{position}
 use Rattle.lab_judge.proofs.Orders.{at_position}
 use Rattle.lab_deps.proofs.Places.{times, at_times, placed}
 

@@ -8,8 +8,8 @@ use Rattle.std.proofs.lemmas.List.Elements.{All-nil, All-cons, All-append, All-s
 use Rattle.lab_order.specs.Arrows.{Arrows}
 use Rattle.lab_order.specs.Path.{Reaches}
 use Rattle.lab_order.specs.Placing.{is_marked}
+use Rattle.lab_order.specs.Order.{position}
 use Rattle.lab_deps.specs.declared.edge.Edge.{Edge}
-use Rattle.lab_judge.specs.Places.{position}
 use Rattle.lab_judge.specs.Openings.{opens, IsOpening}
 use Rattle.lab_judge.specs.declared.findings.opening.Opening.{Opening}
 

@@ -7,13 +7,14 @@ use Rattle.std.proofs.lemmas.List.Elements.{All-cons, All-nil}
 use Rattle.std.proofs.lemmas.Option.{slice_get-get_or}
 use Rattle.lab_order.specs.Arrows.{Arrows, nodes_of, has_arrow, IsGraph}
 use Rattle.lab_order.specs.Order as order
+use Rattle.lab_order.specs.Order.{position}
 use Rattle.lab_history.specs.History.{History}
 use Rattle.lab_history.specs.Version.{IsCommitted}
 use Rattle.lab_deps.specs.Edges.{IsEdge}
 use Rattle.lab_deps.specs.declared.edge.Edge.{Edge}
 use Rattle.lab_deps.proofs.Places.{at_times}
 use Rattle.lab_judge.specs.Runs.{HoldsEachOnce}
-use Rattle.lab_judge.specs.Places.{position, is_anti, IsArrow, IsTrail, IsCircle}
+use Rattle.lab_judge.specs.Places.{is_anti, IsArrow, IsTrail, IsCircle}
 use Rattle.lab_judge.specs.PlaceGraphs.{start_node, commit_node, spans, leads, IsPlaceGraph, point_at}
 use Rattle.lab_judge.specs.declared.places.Point.{Point}
 use Rattle.lab_judge.specs.declared.places.Point.TheVariants.{Start, Commit}

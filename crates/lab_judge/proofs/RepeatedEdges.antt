@@ -6,11 +6,12 @@ use Rattle.std.proofs.lemmas.Bool.{false≢true, and_parts, eqb-true, eq-eqb}
 use Rattle.std.proofs.lemmas.List.Folds.{list_any_more}
 use Rattle.std.proofs.lemmas.Option.{same_Some}
 use Rattle.lab_order.specs.Arrows.{Arrows, nodes_of, has_arrow}
+use Rattle.lab_order.specs.Order.{position}
 use Rattle.lab_deps.specs.declared.edge.Edge.{Edge}
 use Rattle.lab_judge.specs.Allowed.{allows}
 use Rattle.lab_judge.specs.Graphs.{IsGraphOf, joins, repeats}
 use Rattle.lab_deps.specs.Edges.{differ}
-use Rattle.lab_judge.specs.Places.{position, is_anti}
+use Rattle.lab_judge.specs.Places.{is_anti}
 use Rattle.lab_judge.specs.PlaceGraphs.{start_node, commit_node, spans, leads, leads_alike}
 use Rattle.lab_judge.specs.declared.allowed.Allowed.{Allowed}
 

@@ -6,6 +6,7 @@ use Rattle.std.specs.List.{All, list_any}
 use Rattle.std.proofs.lemmas.Bool.{eq-eqb}
 use Rattle.lab_order.specs.Arrows.{Arrows}
 use Rattle.lab_order.specs.Order as order
+use Rattle.lab_order.specs.Order.{position}
 use Rattle.lab_history.specs.History.{History}
 use Rattle.lab_history.specs.Version.{IsCommitted}
 use Rattle.lab_deps.specs.Edges.{IsEdge}
@@ -13,7 +14,7 @@ use Rattle.lab_deps.specs.Soundness.{IsSound, has_committed}
 use Rattle.lab_deps.specs.declared.edge.Edge.{Edge}
 use Rattle.lab_deps.proofs.Places.{times, times_count}
 use Rattle.lab_judge.specs.Runs.{HoldsEachOnce, IsSerialRun}
-use Rattle.lab_judge.specs.Places.{position, IsForwardOrder}
+use Rattle.lab_judge.specs.Places.{IsForwardOrder}
 use Rattle.lab_judge.specs.Graphs.{HasEnds, joins, IsGraphOf}
 use Rattle.lab_judge.specs.Allowed.{allows}
 use Rattle.lab_judge.specs.declared.allowed.Allowed.TheVariants as allowed
@@ -55,9 +56,9 @@ module _ (h : History) (ns : List ℕ) (once : HoldsEachOnce h ns) (es : List Ed
   pub forward : IsForwardOrder h (map (slice_index ns) placed)
   forward e edge =
       let all : All (λ a. a < length ns) placed = subst (λ k. All (λ a. a < k) placed) is.size (nodes.within graph placed ordered.each_once) in
-      let from : position (map (slice_index ns) placed) e.from ≡ order.position placed (position ns e.from) = nodes.same_place h ns once e.from (is_node h ns once e.from edge.0) placed all in
-      let to : position (map (slice_index ns) placed) e.to ≡ order.position placed (position ns e.to) = nodes.same_place h ns once e.to (is_node h ns once e.to edge.1) placed all in
-      let less : order.position placed (position ns e.from) < order.position placed (position ns e.to)
+      let from : position (map (slice_index ns) placed) e.from ≡ position placed (position ns e.from) = nodes.same_place h ns once e.from (is_node h ns once e.from edge.0) placed all in
+      let to : position (map (slice_index ns) placed) e.to ≡ position placed (position ns e.to) = nodes.same_place h ns once e.to (is_node h ns once e.to edge.1) placed all in
+      let less : position placed (position ns e.from) < position placed (position ns e.to)
       = ordered.forward (position ns e.from) (position ns e.to) (is.arrows (position ns e.from) (position ns e.to) ∙ joined allowed.All ns es e ((exact e).1 edge) refl) in
       omega (arith, from, to, less)
 

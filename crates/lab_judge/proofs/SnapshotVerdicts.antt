@@ -4,6 +4,7 @@ use Rattle.std.specs.Prelude.{◌↔◌, Contains, count_by}
 use Rattle.std.proofs.lemmas.Bool.{eqb-true, cases_lt}
 use Rattle.lab_order.specs.Arrows.{Arrows}
 use Rattle.lab_order.specs.Order as order
+use Rattle.lab_order.specs.Order.{position}
 use Rattle.lab_history.specs.History.{History}
 use Rattle.lab_history.specs.Version.{IsCommitted}
 use Rattle.lab_deps.specs.Edges.{IsEdge}
@@ -11,7 +12,7 @@ use Rattle.lab_deps.specs.Soundness.{IsSound}
 use Rattle.lab_deps.specs.declared.edge.Edge.{Edge}
 use Rattle.lab_deps.proofs.Places.{times, times_count, times_here, times_more}
 use Rattle.lab_judge.specs.Runs.{HoldsEachOnce, Span, all_places, IsSnapshotRun}
-use Rattle.lab_judge.specs.Places.{position, IsArrow, start_of, commit_of, place_of_point, IsForwardPlacing}
+use Rattle.lab_judge.specs.Places.{IsArrow, start_of, commit_of, place_of_point, IsForwardPlacing}
 use Rattle.lab_judge.specs.PlaceGraphs.{start_node, commit_node, IsPlaceGraph, span_in}
 use Rattle.lab_judge.specs.declared.places.Point.{Point}
 use Rattle.lab_judge.specs.declared.places.Point.TheVariants.{Start, Commit}
@@ -62,7 +63,7 @@ ends h (Commit m) (Commit n) arrow = absurd arrow
 
 module _ (h : History) (ns : List ℕ) (once : HoldsEachOnce h ns) (es : List Edge) (exact : (e : Edge) → Contains es e ↔ IsEdge h e)
     (graph : Arrows) (is : IsPlaceGraph ns es graph) (placed : List ℕ) (ordered : order.IsOrder graph placed)
-    (places : List ℕ) (are : (node : ℕ) → Contains placed node → slice_index places node ≡ order.position placed node) where
+    (places : List ℕ) (are : (node : ℕ) → Contains placed node → slice_index places node ≡ position placed node) where
   -- the start and the commit of a node are in the order
   start_there : (n : ℕ) → Contains ns n → Contains placed (start_node (position ns n))
   start_there n there = let lt = position_within ns n there in in_order graph placed ordered.each_once (start_node (position ns n)) (omega (arith, lt, is.size))
@@ -71,7 +72,7 @@ module _ (h : History) (ns : List ℕ) (once : HoldsEachOnce h ns) (es : List Ed
   commit_there n there = let lt = position_within ns n there in in_order graph placed ordered.each_once (commit_node (position ns n)) (omega (arith, lt, is.size))
 
   -- the place of a point is that of its node
-  place_is : (p : Point) → IsOfCommitted h p → place_of_point (map (span_in ns places) ns) p ≡ order.position placed (node_of ns p)
+  place_is : (p : Point) → IsOfCommitted h p → place_of_point (map (span_in ns places) ns) p ≡ position placed (node_of ns p)
   place_is (Start n) c =
       let there : Contains ns n = is_node h ns once n c in
       start_is ns places ns n (contained ns n there) ∙ are (start_node (position ns n)) (start_there n there)
@@ -82,9 +83,9 @@ module _ (h : History) (ns : List ℕ) (once : HoldsEachOnce h ns) (es : List Ed
   pub forward : IsForwardPlacing h (map (span_in ns places) ns)
   forward p q arrow =
       let both : IsOfCommitted h p × IsOfCommitted h q = ends h p q arrow in
-      let from : place_of_point (map (span_in ns places) ns) p ≡ order.position placed (node_of ns p) = place_is p both.0 in
-      let to : place_of_point (map (span_in ns places) ns) q ≡ order.position placed (node_of ns q) = place_is q both.1 in
-      let less : order.position placed (node_of ns p) < order.position placed (node_of ns q) = ordered.forward (node_of ns p) (node_of ns q) (has_it h ns once es exact graph is p q arrow) in
+      let from : place_of_point (map (span_in ns places) ns) p ≡ position placed (node_of ns p) = place_is p both.0 in
+      let to : place_of_point (map (span_in ns places) ns) q ≡ position placed (node_of ns q) = place_is q both.1 in
+      let less : position placed (node_of ns p) < position placed (node_of ns q) = ordered.forward (node_of ns p) (node_of ns q) (has_it h ns once es exact graph is p q arrow) in
       omega (arith, from, to, less)
 
   pub each_once : HoldsEachOnce h (map (λ s. s.txn) (map (span_in ns places) ns))

@@ -2,9 +2,9 @@
 use Rattle.std.specs.Prelude.{◌≡◌, ℕ, ◌==◌, ◌&&◌, ◌||◌, nat_lt, Bool, false, not, Option, None, Some, List, [], ◌∷◌, length, Contains, IsTrue, ⊤}
 use Rattle.std.specs.List.{list_any, count_by}
 use Rattle.lab_order.specs.Arrows.{Arrows, nodes_of, has_arrow}
+use Rattle.lab_order.specs.Order.{position}
 use Rattle.lab_deps.specs.declared.edge.Edge.{Edge}
 use Rattle.lab_judge.specs.Allowed.{allows}
-use Rattle.lab_judge.specs.Places.{position}
 use Rattle.lab_judge.specs.declared.allowed.Allowed.{Allowed}
 
 -- both ends of a dependency are in the list

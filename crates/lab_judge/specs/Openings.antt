@@ -2,13 +2,14 @@
 use Rattle.std.specs.Prelude.{◌≡◌, ◌≤◌, ℕ, Bool, true, List, Contains}
 use Rattle.lab_order.specs.Arrows.{Arrows}
 use Rattle.lab_order.specs.Path.{Reaches}
+use Rattle.lab_order.specs.Order.{position}
 use Rattle.lab_history.specs.History.{History}
 use Rattle.lab_deps.specs.Edges.{IsEdge}
 use Rattle.lab_deps.specs.declared.edge.Edge.{Edge}
 use Rattle.lab_deps.specs.declared.edge.Kind.{Kind}
 use Rattle.lab_judge.specs.Allowed.{allows}
 use Rattle.lab_judge.specs.Graphs.{count_others}
-use Rattle.lab_judge.specs.Places.{position, is_anti}
+use Rattle.lab_judge.specs.Places.{is_anti}
 use Rattle.lab_judge.specs.Phenomena.{IsClosedWalk, is_item_anti, count_kind}
 use Rattle.lab_judge.specs.declared.allowed.Allowed.{Allowed}
 use Rattle.lab_judge.specs.declared.findings.opening.Opening.{Opening}

@@ -2,10 +2,11 @@
 use Rattle.std.specs.Prelude.{◌≡◌, ℕ, zero, suc, ◌+◌, ◌*◌, ◌/◌, ◌%◌, ◌==◌, ◌&&◌, ◌||◌, Bool, false, not, cond, Option, None, Some, List, length, slice_index}
 use Rattle.std.specs.List.{list_any}
 use Rattle.lab_order.specs.Arrows.{Arrows, nodes_of, has_arrow}
+use Rattle.lab_order.specs.Order.{position}
 use Rattle.lab_deps.specs.Edges.{differ}
 use Rattle.lab_deps.specs.declared.edge.Edge.{Edge}
 use Rattle.lab_judge.specs.Runs.{Span}
-use Rattle.lab_judge.specs.Places.{position, is_anti}
+use Rattle.lab_judge.specs.Places.{is_anti}
 use Rattle.lab_judge.specs.declared.places.Point.{Point}
 use Rattle.lab_judge.specs.declared.places.Point.TheVariants.{Start, Commit}
 

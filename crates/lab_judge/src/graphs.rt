@@ -2,7 +2,7 @@
 
 ghost use Rattle.std.specs.Prelude.{◌≡◌, Contains, IfOk};
 ghost use Rattle.std.specs.List.{All};
-ghost use Rattle.lab_judge.specs.Places.{position};
+ghost use Rattle.lab_order.specs.Order.{position};
 ghost use Rattle.lab_judge.specs.Graphs.{HasEnds, IsGraphOf, repeats};
 
 use crate::allowed::Allowed;

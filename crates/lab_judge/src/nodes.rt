@@ -4,8 +4,8 @@ ghost use Rattle.std.specs.Prelude.{◌≡◌, ◌<◌, ◌≤◌, ◌&&◌, ◌
 ghost use Rattle.std.specs.List.Sorted.{IsStrictlyIncreasing};
 ghost use Rattle.lab_history.specs.Version.{outcome_of};
 ghost use Rattle.lab_deps.specs.Soundness.{has_committed};
+ghost use Rattle.lab_order.specs.Order.{position};
 ghost use Rattle.lab_judge.specs.Runs.{HoldsEachOnce};
-ghost use Rattle.lab_judge.specs.Places.{position};
 
 use lab_history::{History, Outcome};
 use lab_order::NoMemory;

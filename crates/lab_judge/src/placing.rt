@@ -2,7 +2,7 @@
 
 ghost use Rattle.std.specs.Prelude.{◌≡◌, ◌↔◌, ◌<◌, ◌≤◌, ◌*◌, ◌^◌, ◌==◌, ℕ, length, map, slice_index, Contains, IfOk};
 ghost use Rattle.std.specs.List.{All, count_by};
-ghost use Rattle.lab_order.specs.Order as node_order;
+ghost use Rattle.lab_order.specs.Order.{position};
 ghost use Rattle.lab_deps.specs.Edges.{IsEdge};
 ghost use Rattle.lab_deps.specs.EdgeOrder.{IsInOrder};
 ghost use Rattle.lab_deps.specs.Soundness.{IsSound};
@@ -56,7 +56,7 @@ fn places_in(alloc: Global, count: u32, order: &[u32]) -> Result<Vec<u32>, NoMem
     requires once { (node : ℕ) → count_by (λ n. n == node) order.now ≤ 1 }
     requires few { length order.now < 2 ^ 32 }
     ensures count { IfOk result (λ places. length places.items ≡ count) }
-    ensures places { IfOk result (λ places. (node : ℕ) → Contains order.now node → slice_index places.items node ≡ node_order.position order.now node) }
+    ensures places { IfOk result (λ places. (node : ℕ) → Contains order.now node → slice_index places.items node ≡ position order.now node) }
 {
     let mut places = vec![in alloc; 0; count as usize]?;
     for (place, node) in order.iter().enumerate() {

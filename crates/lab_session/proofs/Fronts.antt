@@ -7,12 +7,13 @@ use Rattle.std.proofs.lemmas.List.{get_or-set_same, get_or-set_other}
 use Rattle.std.proofs.Math.ListN.{length-set}
 use Rattle.std.proofs.Math.Bool.{or-true}
 use Rattle.lab_script.specs.declared.script.Line.{Line as ScriptLine}
+use Rattle.lab_script.specs.Ranges.{SessionInRange}
 use Rattle.lab_engine.specs.declared.event.LogEvent.{LogEvent}
 use Rattle.lab_engine.specs.Log.{Past, past_of, waiting}
 use Rattle.lab_engine.specs.Recording.{Line, given, lines_by, next_line}
 use Rattle.lab_engine.proofs.Runs.{past_of-push}
 use Rattle.lab_session.specs.Play.{given_lines}
-use Rattle.lab_session.specs.UnderWay.{AreCounts, IsSession, IsBehind, IsCovered}
+use Rattle.lab_session.specs.UnderWay.{AreCounts, IsBehind, IsCovered}
 use Rattle.lab_session.specs.declared.scripted.Front.{Front}
 use Rattle.lab_session.proofs.Playing.{no_counts, drop_at, counts_more, counts_few, counts_same, lines_more}
 
@@ -32,7 +33,7 @@ nothing_covered past session few = omega (arith, no_counts session)
 
 -- one line more, which is its session's
 module _ (lines : List ScriptLine) (front : Front) (line : ScriptLine) (behind : IsBehind lines front) (lt : front.lines < length lines)
-    (is : line ≡ get_or lines front.lines line) (own : IsSession line.session) where
+    (is : line ≡ get_or lines front.lines line) (own : SessionInRange line.session) where
   abbrev more : List Line
   more = (line.session, line.command) ∷ behind.passed
 

@@ -7,6 +7,7 @@ use Rattle.lab_engine.specs.Log.{Past, past_of}
 use Rattle.lab_engine.specs.Recording.{Line, given, lines_by, next_line, AllFollowScript}
 use Rattle.lab_engine.specs.Journal.{EngineRun}
 use Rattle.lab_script.specs.declared.script.Line.{Line as ScriptLine}
+use Rattle.lab_script.specs.Ranges.{SessionInRange}
 use Rattle.lab_session.specs.Bench.{IsSoundRun}
 use Rattle.lab_session.specs.Play.{given_lines}
 use Rattle.lab_session.specs.declared.scripted.Front.{Front}
@@ -19,14 +20,10 @@ AreCounts of counts = (session : ℕ) → session < 10 → slice_index_or counts
 abbrev pub AreTests : (ℕ → Bool) → List Bool → Type 0
 AreTests of tests = (session : ℕ) → 1 ≤ session → session < 10 → slice_index_or tests session false ≡ of session
 
--- a number is a session's
-abbrev pub IsSession : ℕ → Type 0
-IsSession session = (1 ≤ session) × (session ≤ 9)
-
 -- each event is a session's
 abbrev pub AllOfSessions : Past → Type 0
 AllOfSessions [] = ⊤
-AllOfSessions (event ∷ past) = AllOfSessions past × IsSession event.session
+AllOfSessions (event ∷ past) = AllOfSessions past × SessionInRange event.session
 
 -- a log has one more event, of this session and command
 abbrev pub HasMore : List LogEvent → List LogEvent → ℕ → Command → Type 0

@@ -2,7 +2,7 @@
 use Rattle.std.proofs.Common.{◌≡◌, ℤ, Bool, true, false, cond, T, List, [], ◌∷◌, map, Some, refl, sym, ap, ◌∙◌}
 use Rattle.std.specs.Prelude.{filter, option_map}
 use Rattle.std.specs.Ordering.{is_lt}
-use Rattle.std.specs.FinMap.{find, is_sorted, get, from_entries, from_sorted, entries, get-from_entries, get-from_sorted, entries-from_sorted, entries_sorted}
+use Rattle.std.specs.FinMap.{find, is_sorted, from_entries, from_sorted, entries, get-from_entries, get-from_sorted, entries-from_sorted, entries_sorted}
 use Rattle.std.specs.FinMap.Entries.{below_all}
 use Rattle.lab_table.specs.Row.{Row, row_cmp, row_eq, rows_total}
 use Rattle.lab_table.specs.Table.{Table}

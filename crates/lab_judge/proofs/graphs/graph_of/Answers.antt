@@ -2,9 +2,9 @@ use Rattle.std.proofs.Common.{◌≡◌, ℕ, ◌+◌, ◌==◌, ◌&&◌, ◌||
 use Rattle.std.proofs.lemmas.Bool.{false≢true}
 use Rattle.std.proofs.lemmas.Option.{same_Some}
 use Rattle.lab_order.specs.Arrows.{Arrows, has_arrow}
+use Rattle.lab_order.specs.Order.{position}
 use Rattle.lab_deps.specs.declared.edge.Edge.{Edge}
 use Rattle.lab_judge.specs.Allowed.{allows}
-use Rattle.lab_judge.specs.Places.{position}
 use Rattle.lab_judge.proofs.RepeatedEdges.{is_last, repeated, has_own, with_other, with_known, with_next}
 use Rattle.lab_judge.specs.Graphs.{HasEnds, IsGraphOf}
 use Rattle.lab_judge.proofs.graphs.graph_of.Goals as goal

@@ -1,9 +1,9 @@
 use Rattle.std.proofs.Common.{◌≡◌, true, Some, take}
 use Rattle.lab_order.specs.Arrows.{has_arrow}
+use Rattle.lab_order.specs.Order.{position}
 use Rattle.lab_deps.specs.declared.edge.Edge.{Edge}
 use Rattle.lab_judge.specs.Allowed.{allows}
 use Rattle.lab_judge.specs.Graphs.{IsGraphOf}
-use Rattle.lab_judge.specs.Places.{position}
 use Rattle.lab_judge.proofs.graphs.graph_of.Given as goal
 
 -- the arrows of the dependencies so far, among them that of the last one

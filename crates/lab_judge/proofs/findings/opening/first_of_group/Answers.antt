@@ -4,9 +4,9 @@ use Rattle.std.proofs.lemmas.List.{take_all}
 use Rattle.std.proofs.lemmas.List.Elements.{All-more, All-same}
 use Rattle.lab_order.specs.Path.{Reaches}
 use Rattle.lab_order.specs.Placing.{is_marked}
+use Rattle.lab_order.specs.Order.{position}
 use Rattle.lab_deps.specs.declared.edge.Edge.{Edge}
 use Rattle.lab_judge.specs.Graphs.{HasEnds}
-use Rattle.lab_judge.specs.Places.{position}
 use Rattle.lab_judge.specs.Openings.{IsOpening}
 use Rattle.lab_judge.proofs.Openings.{other_kind, unmarked, mark_read}
 use Rattle.lab_judge.proofs.findings.opening.first_of_group.Goals as goal

@@ -1,6 +1,6 @@
 use Rattle.std.proofs.Common.{◌≡◌, ◌+◌, refl, sym, ap, subst, ◌∙◌, arith}
 use Rattle.std.specs.Prelude.{slice_index_or}
-use Rattle.lab_session.specs.UnderWay.{IsSession}
+use Rattle.lab_script.specs.Ranges.{SessionInRange}
 use Rattle.lab_session.proofs.Fronts.{front_more, covered_more}
 use Rattle.lab_session.proofs.scripted.Front.advance.Goals as goal
 
@@ -11,7 +11,7 @@ loop-place-preserved c =
     let line = c.index-lines-place.result in
     let before = c.loop-place.invariant in
     let number : c.from-session.result ≡ line.session = c.from-session.ensures ∙ c.number.ensures.value ∙ ap (λ l. l.session) (sym c.index-lines-place.is) in
-    let own : IsSession line.session = (omega (arith, number, c.from-session.ensures, c.number.ensures.low), omega (arith, number, c.from-session.ensures, c.number.ensures.high)) in
+    let own : SessionInRange line.session = (omega (arith, number, c.from-session.ensures, c.number.ensures.low), omega (arith, number, c.from-session.ensures, c.number.ensures.high)) in
     record {
       place = refl;
       behind = front_more c.args.lines.now front line before.behind (omega (arith, before.place, c.loop-place-test.true))
