@@ -40,7 +40,7 @@ not_listed (Insert id new) row value off = refl
 not_listed (Delete pred) row value off = ap (λ b. cond b (Some value) None) (no_where pred row off value)
 
 -- so a row that isn't listed though it matches isn't ruled out
-may_be_unlisted : (op : Op) (row : Row) (value : ℤ) → is_unlisted op row value ≡ true → may_match op.statement row ≡ true
+pub may_be_unlisted : (op : Op) (row : Row) (value : ℤ) → is_unlisted op row value ≡ true → may_match op.statement row ≡ true
 may_be_unlisted op row value unlisted =
     elim (may_match op.statement row) as (λ b. may_match op.statement row ≡ b → b ≡ true) [
       | true ↦ λ _. refl
@@ -52,7 +52,7 @@ module _ {A : Type 0} (test : Row → A → Bool) (row : Row) (only : (other : R
   abbrev chosen : Option A → Option Row
   chosen o = option_and_then (λ x. cond (test row x) (Some row) None) o
 
-  first_is : (es : List (Row × A)) → T (is_sorted row_cmp es) → first_value test es ≡ chosen (find row_cmp row es)
+  pub first_is : (es : List (Row × A)) → T (is_sorted row_cmp es) → first_value test es ≡ chosen (find row_cmp row es)
   first_is [] sorted = refl
   first_is (e ∷ es) sorted =
       let parts = both (below_all row_cmp e.0 es) (is_sorted row_cmp es) sorted in

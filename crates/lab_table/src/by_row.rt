@@ -1,6 +1,6 @@
 //! Values that are kept sorted by their rows.
 
-ghost use Rattle.std.specs.Prelude.{◌≡◌, T, ◌≤◌, length, IfOk, OnErr};
+ghost use Rattle.std.specs.Prelude.{◌≡◌, T, ◌≤◌, length, option_map, IfOk, OnErr};
 ghost use Rattle.std.specs.Option.{option_copied};
 ghost use Rattle.std.specs.List.{prefix_len};
 ghost use Rattle.std.specs.FinMap as map;
@@ -103,13 +103,36 @@ pub fn value_of<V>(entries: &[(RowId, V)], row: RowId) -> Option<&V>
     if row == entry.0 { Some(&entry.1) } else { None }
 }
 
+/// The entry of the row of this number in a list whose rows rise strictly. No row has a number that isn't from 1 to
+/// 999,999.
+pub fn entry_numbered<V>(entries: &[(RowId, V)], number: u32) -> Option<&(RowId, V)>
+    requires { T (map.is_sorted row_cmp entries.now) }
+    ensures { option_copied result ≡ option_map (λ value. (number, value)) (map.find row_cmp number entries.now) }
+{
+    let entry = entries.get(place_numbered(entries, number))?;
+    if number == entry.0.number() {
+        Some(entry)
+    } else {
+        None
+    }
+}
+
 /// How many entries stand before a row, of a list whose rows rise strictly.
 pub fn place_of<V>(entries: &[(RowId, V)], row: RowId) -> usize
     requires { T (map.is_sorted row_cmp entries.now) }
     ensures value { result ≡ prefix_len (comes_after row) entries.now }
     ensures bound { result ≤ length entries.now }
 {
-    entries.partition_point(|entry| row > entry.0)
+    place_numbered(entries, row.number())
+}
+
+/// The same of a row of this number.
+fn place_numbered<V>(entries: &[(RowId, V)], number: u32) -> usize
+    requires { T (map.is_sorted row_cmp entries.now) }
+    ensures value { result ≡ prefix_len (comes_after number) entries.now }
+    ensures bound { result ≤ length entries.now }
+{
+    entries.partition_point(|entry| number > entry.0.number())
 }
 
 fn stands_at<V>(entries: &[(RowId, V)], place: usize, row: RowId) -> bool

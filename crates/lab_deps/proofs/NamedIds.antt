@@ -1,0 +1,148 @@
+-- Rows of the initial table whose numbers a statement lists.
+use Rattle.std.proofs.Common.{◌≡◌, ◌≢◌, ℤ, nat_abs, Bool, true, false, ◌||◌, ◌&&◌, ◌<◌, cond, T, Option, Some, None, List, [], ◌∷◌, ◌++◌, refl, sym, ap, ◌∙◌, subst, arith}
+use Rattle.std.specs.Prelude.{nat_lt, nat_le, ◌==◌, option_and_then, option_map}
+use Rattle.std.specs.FinMap.{find, get, entries, entries_sorted, is_sorted, get-entries}
+use Rattle.std.specs.FinMap.Entries.{below_all}
+use Rattle.std.specs.Ordering.{int_eq, is_lt}
+use Rattle.std.specs.declared.cmp.Ordering.TheVariants.{Less, Equal, Greater}
+use Rattle.std.proofs.lemmas.Bool.{ltb-true, lt-leb, le-leb, and_parts, false_from_ne_true}
+use Rattle.std.proofs.lemmas.Bool.Decides.{Decides-int_eq}
+use Rattle.std.proofs.lemmas.List.Folds.{list_any-append}
+use Rattle.std.proofs.lemmas.Option.{none-some, same_Some}
+use Rattle.std.proofs.Math.Bool.{or-false, and-false}
+use Rattle.lab_table.specs.Row.{Row, row_cmp, id_of}
+use Rattle.lab_table.specs.NamedRow.{has_number}
+use Rattle.lab_table.specs.Table.{Table}
+use Rattle.lab_table.specs.Statement.{may_match}
+use Rattle.lab_table.proofs.Tests.{both}
+use Rattle.lab_history.specs.History.{History}
+use Rattle.lab_history.specs.declared.operation.Op.{Op}
+use Rattle.lab_deps.specs.Broken.{is_unlisted}
+use Rattle.lab_deps.specs.Passes.{first_value, is_unlisted_among, least}
+use Rattle.lab_deps.proofs.RuledOut.{may_be_unlisted, first_is}
+
+-- a row that compares as less is less
+less_than : (x y : Row) → T (is_lt (row_cmp x y)) → x < y
+less_than x y less = ltb-true x y (at (nat_lt x y) (x == y) less)
+  where
+    at : (a b : Bool) → T (is_lt (cond a Less (cond b Equal Greater))) → a ≡ true
+    at true b h = refl
+    at false true h = absurd h
+    at false false h = absurd h
+
+-- of a row and rows above it the row is the least
+least_first : (x : Row) (o : Option Row) → ((row : Row) → o ≡ Some row → x < row) → least (Some x) o ≡ Some x
+least_first x None below = refl
+least_first x (Some y) below = let less : x < y = below y refl in ap (λ t. cond t (Some x) (Some y)) (le-leb x y (omega (arith, less)))
+
+least_second : (x : Row) (o : Option Row) → ((row : Row) → o ≡ Some row → x < row) → least o (Some x) ≡ Some x
+least_second x None below = refl
+least_second x (Some y) below = ap (λ t. cond t (Some y) (Some x)) (lt-leb y x (below y refl))
+
+module _ {A : Type 0} where
+  -- tests that are alike find the same
+  same_first : (a b : Row → A → Bool) → ((row : Row) (x : A) → a row x ≡ b row x) → (es : List (Row × A)) → first_value a es ≡ first_value b es
+  same_first a b same [] = refl
+  same_first a b same (e ∷ es) = ap (λ t. cond t (Some e.0) (first_value a es)) (same e.0 e.1) ∙ ap (cond (b e.0 e.1) (Some e.0)) (same_first a b same es)
+
+  -- a test that nothing passes finds nothing
+  none_first : (test : Row → A → Bool) → ((row : Row) (x : A) → test row x ≡ false) → (es : List (Row × A)) → first_value test es ≡ None
+  none_first test never [] = refl
+  none_first test never (e ∷ es) = ap (λ t. cond t (Some e.0) (first_value test es)) (never e.0 e.1) ∙ none_first test never es
+
+  -- what is found among entries stands above what is below all of them
+  found_above : (test : Row → A → Bool) (x : Row) (es : List (Row × A)) → T (below_all row_cmp x es) → (row : Row) → first_value test es ≡ Some row → x < row
+  found_above test x [] below row e = absurd (none-some row e)
+  found_above test x (y ∷ es) below row e =
+      let parts = both (is_lt (row_cmp x y.0)) (below_all row_cmp x es) below in
+      elim (test y.0 y.1) as (λ b. cond b (Some y.0) (first_value test es) ≡ Some row → x < row) [
+        | true ↦ λ is. subst (λ r. x < r) (same_Some y.0 row is) (less_than x y.0 parts.0)
+        | false ↦ λ is. found_above test x es parts.1 row is
+      ] e
+
+  -- the first row that passes one of two tests is the lesser one of those that pass each
+  first_of_either : (a b : Row → A → Bool) (es : List (Row × A)) → T (is_sorted row_cmp es) → first_value (λ row x. a row x || b row x) es ≡ least (first_value a es) (first_value b es)
+  first_of_either a b [] sorted = refl
+  first_of_either a b (e ∷ es) sorted = at (a e.0 e.1) (b e.0 e.1) (first_of_either a b es parts.1)
+    where
+      parts : T (below_all row_cmp e.0 es) × T (is_sorted row_cmp es)
+      parts = both (below_all row_cmp e.0 es) (is_sorted row_cmp es) sorted
+
+      at : (s t : Bool) → first_value (λ row x. a row x || b row x) es ≡ least (first_value a es) (first_value b es)
+          → cond (s || t) (Some e.0) (first_value (λ row x. a row x || b row x) es) ≡ least (cond s (Some e.0) (first_value a es)) (cond t (Some e.0) (first_value b es))
+      at true true rest = sym (elim (nat_le e.0 e.0) as (λ t. cond t (Some e.0) (Some e.0) ≡ Some e.0) [ true ↦ refl | false ↦ refl ])
+      at true false rest = sym (least_first e.0 (first_value b es) (found_above b e.0 es parts.0))
+      at false true rest = sym (least_second e.0 (first_value a es) (found_above a e.0 es parts.0))
+      at false false rest = rest
+
+-- an entry's row, where it is unlisted
+abbrev entry_if : Op → Row × ℤ → Option Row
+entry_if op e = cond (is_unlisted op e.0 e.1) (Some e.0) None
+
+-- what is answered of a row's entry, where the table has one
+pub at_entry : (op : Op) (table : Table) (id : Row) (es : List (Row × ℤ)) → es ≡ entries table → (o : Option (Row × ℤ)) → o ≡ option_map (λ value. (id, value)) (find row_cmp id es)
+    → option_and_then (entry_if op) o ≡ option_and_then (λ value. cond (is_unlisted op id value) (Some id) None) (get table id)
+at_entry op table id es are o is =
+    ap (option_and_then (entry_if op))
+    (is ∙ ap (λ es. option_map (λ value. (id, value)) (find row_cmp id es)) are ∙ ap (option_map (λ value. (id, value))) (sym (get-entries table id)))
+    ∙ at (get table id)
+  where
+    at : (o : Option ℤ) → option_and_then (entry_if op) (option_map (λ value. (id, value)) o) ≡ option_and_then (λ value. cond (is_unlisted op id value) (Some id) None) o
+    at None = refl
+    at (Some value) = refl
+
+-- a number that a row has among one is its own
+own_number : (row : Row) (number : ℤ) → has_number (number ∷ []) row ≡ true → id_of row ≡ number
+own_number row number has = (Decides-int_eq (id_of row) number).0 (sym (or-false _) ∙ has)
+
+module _ (h : History) (op : Op) where
+  -- among no numbers none is found
+  pub none_among : first_value (is_unlisted_among op []) (entries h.initial) ≡ None
+  none_among = none_first (is_unlisted_among op []) (λ row value. and-false (is_unlisted op row value)) (entries h.initial)
+
+  -- one number more
+  pub one_more : (numbers : List ℤ) (number : ℤ) → first_value (is_unlisted_among op (numbers ++ number ∷ [])) (entries h.initial)
+      ≡ least (first_value (is_unlisted_among op numbers) (entries h.initial)) (first_value (is_unlisted_among op (number ∷ [])) (entries h.initial))
+  one_more numbers number =
+      same_first (is_unlisted_among op (numbers ++ number ∷ [])) (λ row value. is_unlisted_among op numbers row value || is_unlisted_among op (number ∷ []) row value)
+      (λ row value. ap (λ b. is_unlisted op row value && b) (list_any-append (int_eq (id_of row)) numbers (number ∷ [])) ∙ spread (is_unlisted op row value) (has_number numbers row) (has_number (number ∷ []) row))
+      (entries h.initial)
+      ∙ first_of_either (is_unlisted_among op numbers) (is_unlisted_among op (number ∷ [])) (entries h.initial) (entries_sorted h.initial)
+    where
+      spread : (a b c : Bool) → (a && (b || c)) ≡ ((a && b) || (a && c))
+      spread true b c = refl
+      spread false b c = refl
+
+  -- the row of one number
+  pub of_number : (number : ℤ) (id : Row) → id_of id ≡ number
+      → first_value (is_unlisted_among op (number ∷ [])) (entries h.initial) ≡ option_and_then (λ value. cond (is_unlisted op id value) (Some id) None) (get h.initial id)
+  of_number number id is =
+      first_is (is_unlisted_among op (number ∷ [])) id
+      (λ other value found. ap nat_abs (own_number other number (and_parts _ _ found).1 ∙ sym is)) (entries h.initial) (entries_sorted h.initial)
+      ∙ ap (λ o. option_and_then (λ value. cond (is_unlisted_among op (number ∷ []) id value) (Some id) None) o) (sym (get-entries h.initial id))
+      ∙ at (get h.initial id)
+    where
+      has : has_number (number ∷ []) id ≡ true
+      has = or-false _ ∙ (Decides-int_eq (id_of id) number).1 is
+
+      also : (a b : Bool) → b ≡ true → (a && b) ≡ a
+      also true b t = t
+      also false b t = refl
+
+      at : (o : Option ℤ) → option_and_then (λ value. cond (is_unlisted_among op (number ∷ []) id value) (Some id) None) o ≡ option_and_then (λ value. cond (is_unlisted op id value) (Some id) None) o
+      at None = refl
+      at (Some value) = ap (λ b. cond b (Some id) None) (also (is_unlisted op id value) _ has)
+
+  -- a number that no row has
+  pub of_no_row : (number : ℤ) → ((row : Row) → id_of row ≢ number) → first_value (is_unlisted_among op (number ∷ [])) (entries h.initial) ≡ None
+  of_no_row number never =
+      none_first (is_unlisted_among op (number ∷ [])) (λ row value. false_from_ne_true _ (λ found. never row (own_number row number (and_parts _ _ found).1))) (entries h.initial)
+
+  -- where a statement can match rows of some numbers alone, it is enough to look at these
+  pub among_all : (numbers : List ℤ) → ((row : Row) → may_match op.statement row ≡ true → has_number numbers row ≡ true)
+      → first_value (is_unlisted_among op numbers) (entries h.initial) ≡ first_value (is_unlisted op) (entries h.initial)
+  among_all numbers only = same_first (is_unlisted_among op numbers) (is_unlisted op) (λ row value. at row value (is_unlisted op row value) refl) (entries h.initial)
+    where
+      at : (row : Row) (value : ℤ) (b : Bool) → is_unlisted op row value ≡ b → (b && has_number numbers row) ≡ b
+      at row value true unlisted = only row (may_be_unlisted op row value unlisted)
+      at row value false unlisted = refl

@@ -1,0 +1,84 @@
+//! Rows of the initial table that an operation matches without listing them.
+//!
+//! Where the statement names the rows that it may match by their numbers, these alone are looked at.
+
+ghost use Rattle.std.specs.Prelude.{◌≡◌, ◌≢◌, cond, None, Some, IfSome, [], ◌∷◌, option_and_then};
+ghost use Rattle.std.specs.FinMap as map;
+ghost use Rattle.lab_table.specs.Row.{Row, id_of};
+ghost use Rattle.lab_deps.specs.Broken as test;
+ghost use Rattle.lab_deps.specs.Passes as pass;
+
+use crate::broken::is_unlisted;
+use crate::row::least;
+use lab_history::{History, Op};
+use lab_table::{RowId, Value, entry_numbered};
+
+/// The first row of the initial table that an operation's view lacks, and that matches without being listed so.
+pub fn unlisted_row(history: &History, op: &Op) -> Option<RowId>
+    ensures { result ≡ pass.first_value (test.is_unlisted op.now) (map.entries history.now.initial) }
+{
+    if let Some(row) = op.statement.named_row() {
+        return unlisted_at(history, op, row.number());
+    }
+    match op.statement.named_ids() {
+        None => first_unlisted(history, op),
+        Some(numbers) => unlisted_among(history, op, numbers),
+    }
+}
+
+/// The same, where all rows are looked at.
+fn first_unlisted(history: &History, op: &Op) -> Option<RowId>
+    ensures { result ≡ pass.first_value (test.is_unlisted op.now) (map.entries history.now.initial) }
+{
+    let entries = history.initial().rows();
+    for entry in entries {
+        if is_unlisted(op, entry.0, entry.1) {
+            return Some(entry.0);
+        }
+    }
+    None
+}
+
+/// The row of this number, where the initial table has it so.
+fn unlisted_at(history: &History, op: &Op, id: u32) -> Option<RowId>
+    ensures { result ≡ option_and_then (λ value. cond (test.is_unlisted op.now id value) (Some id) None) (map.get history.now.initial id) }
+{
+    match entry_numbered(history.initial().rows(), id) {
+        None => None,
+        Some(entry) => {
+            if is_unlisted(op, entry.0, entry.1) {
+                Some(entry.0)
+            } else {
+                None
+            }
+        }
+    }
+}
+
+/// The first of the rows with these numbers that is so.
+fn unlisted_among(history: &History, op: &Op, numbers: &[Value]) -> Option<RowId>
+    ensures { result ≡ pass.first_value (pass.is_unlisted_among op.now numbers.now) (map.entries history.now.initial) }
+{
+    let mut found = None;
+    for number in numbers {
+        found = least(found, unlisted_numbered(history, op, *number));
+    }
+    found
+}
+
+fn unlisted_numbered(history: &History, op: &Op, number: Value) -> Option<RowId>
+    ensures { result ≡ pass.first_value (pass.is_unlisted_among op.now (number ∷ [])) (map.entries history.now.initial) }
+{
+    match row_number(number) {
+        None => None,
+        Some(id) => unlisted_at(history, op, id),
+    }
+}
+
+/// The number as a row's, where it is none below 0.
+fn row_number(number: Value) -> Option<u32>
+    ensures some { IfSome result (λ id. id_of id ≡ number) }
+    ensures none { result ≡ None → (row : Row) → id_of row ≢ number }
+{
+    u32::try_from(number.number()).ok()
+}
