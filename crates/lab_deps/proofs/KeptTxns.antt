@@ -3,7 +3,7 @@ use Rattle.std.proofs.Common.{◌≡◌, ℕ, zero, suc, ◌<◌, ◌≤◌, ◌
 use Rattle.std.specs.Prelude.{slice_get}
 use Rattle.std.specs.List.{list_any}
 use Rattle.std.proofs.lemmas.Bool.{false≢true, eqb-true, eq-eqb, or_parts}
-use Rattle.std.proofs.lemmas.Option.{none-some, same_Some}
+use Rattle.std.proofs.lemmas.Option.{none-some, same_Some, slice_get_read}
 use Rattle.lab_history.specs.History.{History}
 use Rattle.lab_history.specs.HistoryRules.{AllDistinct, Keeps, operations}
 use Rattle.lab_history.specs.Version.{find_txn}
@@ -31,15 +31,10 @@ few_at [] i t g = absurd (none-some t g)
 few_at (u ∷ ts) zero t g = omega (arith, length-append u.ops (operations ts), ap (λ x. length x.ops) (same_Some u t g))
 few_at (u ∷ ts) (suc i) t g = omega (arith, length-append u.ops (operations ts), few_at ts i t g)
 
-at_place : (ts : List Txn) (i : ℕ) (t : Txn) → i < length ts → t ≡ get_or ts i t → slice_get ts i ≡ Some t
-at_place [] i t l e = absurd (omega (arith, l))
-at_place (u ∷ ts) zero t l e = ap Some (sym e)
-at_place (u ∷ ts) (suc i) t l e = at_place ts i t (omega (arith, l)) e
-
 -- the transaction at a place of these, which are the history's
 pub txn_at : (h : History) (ts : List Txn) (i : ℕ) (t : Txn) → Keeps h → ts ≡ h.txns → i < length ts → t ≡ get_or ts i t → IsTxnOf h t
 txn_at h ts i t keeps same l e =
-    let g : slice_get h.txns i ≡ Some t = ap (λ ts. slice_get ts i) (sym same) ∙ at_place ts i t l e in
+    let g : slice_get h.txns i ≡ Some t = ap (λ ts. slice_get ts i) (sym same) ∙ slice_get_read ts (length ts) i t refl l e in
     record { found = found_at h.txns i t keeps.distinct g; few = within (length t.ops) (length (operations h.txns)) (few_at h.txns i t g) keeps.few_operations }
   where
     within : (a b : ℕ) → a ≤ b → b ≤ 10000 → a ≤ 10000

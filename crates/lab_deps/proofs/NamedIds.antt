@@ -9,7 +9,7 @@ use Rattle.std.proofs.lemmas.Bool.{ltb-true, lt-leb, le-leb, and_parts, false_fr
 use Rattle.std.proofs.lemmas.Bool.Decides.{Decides-int_eq}
 use Rattle.std.proofs.lemmas.List.Folds.{list_any-append}
 use Rattle.std.proofs.lemmas.Option.{none-some, same_Some}
-use Rattle.std.proofs.Math.Bool.{or-false, and-false}
+use Rattle.std.proofs.Math.Bool.{or-false, and-false, and-or_distrib_left}
 use Rattle.lab_table.specs.Row.{Row, row_cmp, id_of}
 use Rattle.lab_table.specs.NamedRow.{has_number}
 use Rattle.lab_table.specs.Table.{Table}
@@ -105,13 +105,9 @@ module _ (h : History) (op : Op) where
       ≡ least (first_value (is_unlisted_among op numbers) (entries h.initial)) (first_value (is_unlisted_among op (number ∷ [])) (entries h.initial))
   one_more numbers number =
       same_first (is_unlisted_among op (numbers ++ number ∷ [])) (λ row value. is_unlisted_among op numbers row value || is_unlisted_among op (number ∷ []) row value)
-      (λ row value. ap (λ b. is_unlisted op row value && b) (list_any-append (int_eq (id_of row)) numbers (number ∷ [])) ∙ spread (is_unlisted op row value) (has_number numbers row) (has_number (number ∷ []) row))
+      (λ row value. ap (λ b. is_unlisted op row value && b) (list_any-append (int_eq (id_of row)) numbers (number ∷ [])) ∙ and-or_distrib_left (is_unlisted op row value) (has_number numbers row) (has_number (number ∷ []) row))
       (entries h.initial)
       ∙ first_of_either (is_unlisted_among op numbers) (is_unlisted_among op (number ∷ [])) (entries h.initial) (entries_sorted h.initial)
-    where
-      spread : (a b c : Bool) → (a && (b || c)) ≡ ((a && b) || (a && c))
-      spread true b c = refl
-      spread false b c = refl
 
   -- the row of one number
   pub of_number : (number : ℤ) (id : Row) → id_of id ≡ number

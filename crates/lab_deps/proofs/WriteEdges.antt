@@ -1,46 +1,29 @@
 -- The edges between neighbours in the rows' lists are the write-dependencies.
-use Rattle.std.proofs.Common.{◌≡◌, ◌≢◌, ℕ, suc, Bool, true, false, cond, List, [], refl, sym, ap, subst, arith}
+use Rattle.std.proofs.Common.{◌≡◌, ◌≢◌, ℕ, suc, List, [], refl, sym, ap, subst}
 use Rattle.std.specs.Prelude.{Contains, unwrap_or}
 use Rattle.std.specs.List.{flat_map}
 use Rattle.std.specs.FinMap as map
-use Rattle.std.proofs.lemmas.Bool.{and_parts}
 use Rattle.lab_table.specs.Row.{Row}
 use Rattle.lab_history.specs.History.{History}
-use Rattle.lab_history.specs.Version.{IsCommitted, outcome_of, writes_row, installers}
+use Rattle.lab_history.specs.Version.{installers}
 use Rattle.lab_deps.specs.Collected.{neighbours_at}
-use Rattle.lab_deps.specs.Edges.{InstallsAt, Depends, IsEdge}
-use Rattle.lab_deps.specs.Soundness.{Stands, has_committed, is_writer}
+use Rattle.lab_deps.specs.Edges.{Depends, IsEdge}
+use Rattle.lab_deps.specs.Soundness.{Stands}
 use Rattle.lab_deps.specs.declared.edge.Edge.{Edge}
 use Rattle.lab_deps.specs.declared.edge.Kind.TheVariants.{Write}
 use Rattle.lab_deps.specs.declared.fault.LocalFault.TheVariants.{InstallOrder}
-use Rattle.lab_deps.proofs.Found.{committed}
-use Rattle.lab_deps.proofs.Installers.{entry_found, found_entry, installed_entry}
+use Rattle.lab_deps.proofs.Installers.{entry_found, found_entry, installed_entry, installer_committed}
 use Rattle.lab_deps.proofs.Membership.{from_each, of_each}
 use Rattle.lab_deps.proofs.Neighbours.{IsNeighbour, neighbours_are, are_neighbours}
-use Rattle.lab_deps.proofs.Places.{times_count, at_times}
-
--- how often a number stands in a list that it stands in once or never
-abbrev one_if : Bool → ℕ
-one_if b = cond b 1 0
 
 module _ (h : History) (installed : (row : Row) → Stands h (InstallOrder row) → ⊥) where
-  -- each installer has committed
-  installer_committed : (row : Row) (p n : ℕ) → InstallsAt h row p n → IsCommitted h n
-  installer_committed row p n at =
-      elim (is_writer h row n) as (λ b. is_writer h row n ≡ b → IsCommitted h n) [
-        | true ↦ λ writer. committed (outcome_of h n) (and_parts (has_committed (outcome_of h n)) (writes_row h n row) writer).0
-        | false ↦ λ other.
-            let once : cond (is_writer h row n) 1 0 ≡ 0 = ap one_if other in
-            absurd (installed row (n, λ is. omega (arith, at_times (installers h row) p n at, times_count n (installers h row), is, once)))
-      ] refl
-
   -- an edge between neighbours is a write-dependency
   neighbour_is_edge : (row : Row) (e : Edge) → IsNeighbour row (installers h row) e → IsEdge h e × (e.kind ≡ Write)
   neighbour_is_edge row e r =
       subst (λ k. IsEdge h k × (k.kind ≡ Write)) r.is (
         (
-          installer_committed row r.place r.from r.from_is,
-          installer_committed row (suc r.place) r.to r.to_is,
+          installer_committed h installed row r.place r.from r.from_is,
+          installer_committed h installed row (suc r.place) r.to r.to_is,
           subst (λ (k : Edge). k.from ≢ k.to) (sym r.is) r.differ,
           (r.place, r.from_is, r.to_is),
         ),

@@ -19,6 +19,7 @@ use Rattle.lab_engine.specs.Log.{Past, Txn, active, active_after, ops_after, ask
 use Rattle.lab_engine.specs.Chains.{chain_in, chain_after}
 use Rattle.lab_engine.specs.Situation.{Describes, DescribesAll, Agree, IsRunning, all_sessions, running_of, waiting_of, grown}
 use Rattle.std.proofs.lemmas.Option.{same_Some}
+use Rattle.lab_table.proofs.Tests.{none_of}
 
 -- a transaction that begins
 pub begins_running : (past : Past) (number before : ℕ) (running : RunningTxn) → running.number ≡ number → running.before ≡ length past → running.statements.items ≡ [] → running.last ≡ empty
@@ -87,13 +88,9 @@ running_txn past situation is session running kept = kept_txn (active past sessi
 pub running_none : (past : Past) (situation : Situation) → Describes past situation → (session : ℕ) → running_of situation.sessions.items session ≡ None → active past session ≡ None
 running_none past situation is session kept = kept_none (active past session) (subst (λ r. Agree (active past session) r) kept (running_agrees past situation is session))
 
-no_wait : (held : Option Statement) → ¬ IsSome held → held ≡ None
-no_wait None h = refl
-no_wait (Some s) h = absurd (h refl)
-
 waits_in : (past : Past) (states : List SessionState) (session : ℕ) → DescribesAll past states → (IsSome (waiting past session) → Contains (map (λ state. state.session) states) session)
     → waiting_of states session ≡ waiting past session
-waits_in past [] session all there = sym (no_wait (waiting past session) (λ some. absurd (omega (arith, (there some).1))))
+waits_in past [] session all there = sym (none_of (waiting past session) (λ some. absurd (omega (arith, (there some).1))))
 waits_in past (state ∷ states) session all there = elim (eqb_tells state.session session) [
   | inl p ↦ ap (λ b. cond b state.waits (waiting_of states session)) p.0 ∙ all.0.waits ∙ ap (waiting past) p.1
   | inr p ↦ ap (λ b. cond b state.waits (waiting_of states session)) p.0

@@ -1,9 +1,8 @@
 -- Which waiting sessions are retryable.
-use Rattle.std.proofs.Common.{◌≡◌, ℕ, ◌+◌, ◌≤◌, ◌<◌, sym, ap, subst, ◌∙◌, ◌||◌, List, inl, inr, length, take, get_or}
+use Rattle.std.proofs.Common.{◌≡◌, ℕ, ◌+◌, ◌≤◌, ◌<◌, sym, ap, subst, ◌∙◌, List, inl, inr, length, take, get_or}
 use Rattle.std.specs.Prelude.{◌==◌, IsTrue, IsSome, is_some}
 use Rattle.std.proofs.lemmas.Bool.{eqb-true, or_cases}
 use Rattle.std.proofs.lemmas.List.{take_all}
-use Rattle.std.proofs.lemmas.List.Folds.{list_any_more}
 use Rattle.lab_table.specs.Table.{Table}
 use Rattle.lab_table.proofs.Tests.{some_of, some_is}
 use Rattle.lab_engine.specs.declared.event.Level.{Level}
@@ -16,7 +15,7 @@ use Rattle.lab_engine.specs.Situation.{Describes, DescribesSession}
 use Rattle.lab_engine.specs.WaitsFor.{AreWaits}
 use Rattle.lab_engine.specs.Released.{IsReleased}
 use Rattle.lab_engine.proofs.Circles.{released_retryable, retryable_released}
-use Rattle.lab_engine.proofs.Rising.{RiseFrom, sessions_rise, is_among, among, earlier}
+use Rattle.lab_engine.proofs.Rising.{RiseFrom, sessions_rise, is_among, among, earlier, among_more}
 use Rattle.lab_engine.proofs.Waiting.{waiter_there}
 
 -- a state waits where its session does
@@ -39,13 +38,10 @@ state_released level setup past waits state d h r = (state_waits past state d �
 pub none_step : (level : Level) (setup : Table) (past : Past) (states : List SessionState) (i : ℕ) (state : SessionState) → i < length states → state ≡ get_or states i state
     → ((session : ℕ) → IsTrue (is_among session (take i states)) → IsRetryable level setup past session → ⊥) → (IsRetryable level setup past state.session → ⊥)
     → (session : ℕ) → IsTrue (is_among session (take (i + 1) states)) → IsRetryable level setup past session → ⊥
-none_step level setup past states i state lt is none own session there r = elim (or_cases (is_among session (take i states)) (state.session == session) (sym more ∙ there)) [
+none_step level setup past states i state lt is none own session there r = elim (or_cases (is_among session (take i states)) (state.session == session) (sym (among_more session states i state lt is) ∙ there)) [
   | inl p ↦ none session p r
   | inr p ↦ own (subst (IsRetryable level setup past) (sym (eqb-true state.session session p)) r)
 ]
-  where
-    more : is_among session (take (i + 1) states) ≡ (is_among session (take i states) || (state.session == session))
-    more = list_any_more (λ (s : SessionState). s.session == session) states i state lt ∙ ap (λ (s : SessionState). is_among session (take i states) || (s.session == session)) (sym is)
 
 -- once all are passed, none is
 pub none_retryable : (level : Level) (setup : Table) (past : Past) (situation : Situation) (passed : ℕ) → Describes past situation → length situation.sessions.items ≤ passed

@@ -1,11 +1,13 @@
 -- Some of the sessions, by rising number.
 use Rattle.std.proofs.Common.{◌≡◌, ℕ, zero, suc, ◌+◌, ◌≤◌, ◌<◌, refl, sym, ap, subst, ◌∙◌, arith, Bool, true, ◌||◌, List, [], ◌∷◌, ◌++◌, ◌⊎◌, inl, inr, length, take, get_or}
-use Rattle.std.specs.Prelude.{◌==◌, ⊤, IsTrue, Contains, slice_index}
+use Rattle.std.specs.Prelude.{◌==◌, ⊤, Contains, slice_index}
 use Rattle.std.specs.Prelude as list
 use Rattle.std.specs.List.{list_any}
 use Rattle.std.specs.List.Sorted.{IsStrictlyIncreasing}
 use Rattle.std.proofs.lemmas.Bool.{eq-eqb, or_right}
 use Rattle.std.proofs.lemmas.List.{map_more}
+use Rattle.std.proofs.lemmas.List.Folds.{list_any_more}
+use Rattle.lab_table.proofs.Members.{no_member}
 use Rattle.lab_engine.specs.declared.situation.SessionState.{SessionState}
 use Rattle.lab_engine.specs.Situation.{all_sessions}
 
@@ -26,13 +28,9 @@ those_same P [] ys x h never = inr (never, h)
 those_same P (z ∷ xs) ys x (inl a) never = inl (a.0, (a.1.0, a.1.1, those_same P xs a.1.0 x a.1.2 never))
 those_same P (z ∷ xs) ys x (inr b) never = inr (b.0, those_same P xs ys x b.1 never)
 
--- nothing is in an empty list
-empty_lacks : (x : ℕ) → Contains [] x → ⊥
-empty_lacks x (k, lt, is) = omega arith
-
 -- each of them has it
 pub those_hold : (P : ℕ → Type 0) (xs ys : List ℕ) → AreThose P xs ys → (k : ℕ) → Contains ys k → P k
-those_hold P [] ys h k c = absurd (empty_lacks k (subst (λ l. Contains l k) h c))
+those_hold P [] ys h k c = absurd (no_member k (subst (λ l. Contains l k) h c))
 those_hold P (x ∷ xs) ys (inl a) k c = at (those_hold P xs a.1.0 a.1.2 k) (subst (λ l. Contains l k) a.1.1 c)
   where
     at : (Contains a.1.0 k → P k) → Contains (x ∷ a.1.0) k → P k
@@ -42,7 +40,7 @@ those_hold P (x ∷ xs) ys (inr b) k c = those_hold P xs ys b.1 k c
 
 -- each that has it is one of them
 pub those_all : (P : ℕ → Type 0) (xs ys : List ℕ) → AreThose P xs ys → (k : ℕ) → Contains xs k → P k → Contains ys k
-those_all P [] ys h k c p = absurd (empty_lacks k c)
+those_all P [] ys h k c p = absurd (no_member k c)
 those_all P (x ∷ xs) ys (inl a) k (zero, lt, is) p = subst (λ l. Contains l k) (sym a.1.1) (0, omega arith, is)
 those_all P (x ∷ xs) ys (inl a) k (suc i, lt, is) p =
     let c : Contains a.1.0 k = those_all P xs a.1.0 a.1.2 k (i, omega arith, is) p in
@@ -82,7 +80,7 @@ those_increase P ys h = rising 0 ys (those_rise P all_sessions ys 0 0 (omega ari
 
 -- each of the numbers is above the bound
 above : (low : ℕ) (xs : List ℕ) (k : ℕ) → RiseFrom low xs → Contains xs k → low < k
-above low [] k h c = absurd (empty_lacks k c)
+above low [] k h c = absurd (no_member k c)
 above low (x ∷ xs) k h (zero, lt, is) = omega (arith, h.0, is)
 above low (x ∷ xs) k h (suc i, lt, is) = omega (arith, h.0, above x xs k h.1 (i, omega arith, is))
 
@@ -99,9 +97,15 @@ pub sessions_more : (states : List SessionState) (i : ℕ) (state : SessionState
     → sessions_of (take (i + 1) states) ≡ sessions_of (take i states) ++ state.session ∷ []
 sessions_more states i state lt is = map_more (λ s. s.session) states i state lt ∙ ap (λ (s : SessionState). sessions_of (take i states) ++ s.session ∷ []) (sym is)
 
+-- a session is among one more of the states
+pub among_more : (session : ℕ) (states : List SessionState) (i : ℕ) (state : SessionState) → i < length states → state ≡ get_or states i state
+    → is_among session (take (i + 1) states) ≡ (is_among session (take i states) || (state.session == session))
+among_more session states i state lt is =
+    list_any_more (λ (s : SessionState). s.session == session) states i state lt ∙ ap (λ (s : SessionState). is_among session (take i states) || (s.session == session)) (sym is)
+
 -- a session has a state
 pub among : (states : List SessionState) (session : ℕ) → Contains (sessions_of states) session → is_among session states ≡ true
-among [] session c = absurd (empty_lacks session c)
+among [] session c = absurd (no_member session c)
 among (state ∷ states) session (zero, lt, is) = ap (λ b. b || is_among session states) (eq-eqb state.session session is)
 among (state ∷ states) session (suc k, lt, is) = or_right _ _ (among states session (k, omega arith, is))
 

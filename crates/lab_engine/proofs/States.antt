@@ -2,7 +2,7 @@
 use Rattle.std.proofs.Common.{◌≡◌, ◌≢◌, ℕ, zero, suc, ◌+◌, ◌-◌, ◌≤◌, ◌<◌, false, cond, List, [], ◌∷◌, ◌++◌, map, length, drop, set, get_or, None, refl, sym, ap, subst, ◌∙◌, arith, append_assoc, ◌==◌}
 use Rattle.std.specs.Prelude.{⊤}
 use Rattle.std.proofs.lemmas.Bool.{ne_eqb}
-use Rattle.std.proofs.lemmas.List.{length-map}
+use Rattle.std.proofs.lemmas.List.{length-map, map-append}
 use Rattle.lab_engine.specs.declared.event.LogEvent.{LogEvent}
 use Rattle.lab_engine.specs.declared.situation.SessionState.{SessionState}
 use Rattle.lab_engine.specs.Log.{Past, active, active_after, waiting, waiting_after}
@@ -89,10 +89,6 @@ module _ (states : List SessionState) (n k : ℕ) (state : SessionState) (sessio
       let there_is : n ≡ (get_or states k state).session = omega (arith, number, place, low) in
       let same : event.session ≡ state.session = sym own ∙ there_is ∙ ap (λ s. s.session) (sym is) in
       set_one past event 1 k states new rise (omega (arith, own, place, low)) all (go_on (subst (λ s. DescribesSession past s) (sym is) (describes_one past k states state there all)) same)
-
-map-append : {A B : Type 0} (f : A → B) (xs ys : List A) → map f (xs ++ ys) ≡ map f xs ++ map f ys
-map-append f [] ys = refl
-map-append f (x ∷ xs) ys = ap (λ l. f x ∷ l) (map-append f xs ys)
 
 -- the sessions from a number on
 session_next : (n : ℕ) → 1 ≤ n → n ≤ 9 → drop (n - 1) all_sessions ≡ n ∷ drop (n + 1 - 1) all_sessions

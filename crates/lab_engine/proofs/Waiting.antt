@@ -4,7 +4,7 @@ use Rattle.std.specs.Prelude.{◌==◌, ◌↔◌, IsTrue, Option, Some, None, C
 use Rattle.std.specs.List.{list_any}
 use Rattle.std.proofs.lemmas.Bool.{eq-eqb, eqb-true, both_ways, or_cases, and_parts, and_from, and_right, or_right, or_left}
 use Rattle.std.proofs.lemmas.List.{take_all}
-use Rattle.std.proofs.lemmas.List.Folds.{list_any-append, list_any_more}
+use Rattle.std.proofs.lemmas.List.Folds.{list_any-append}
 use Rattle.std.proofs.Math.Bool.{or-false}
 use Rattle.lab_table.specs.Table.{Table}
 use Rattle.lab_table.specs.declared.statement.Statement.{Statement}
@@ -19,7 +19,7 @@ use Rattle.lab_engine.specs.Rules.{BlockedBy, MayAsk}
 use Rattle.lab_engine.specs.Situation.{all_sessions, Agree, IsRunning, Describes, DescribesSession, DescribesAll}
 use Rattle.lab_engine.specs.WaitsFor.{waits_for, AreBlockers, WaitsOn, AreWaits}
 use Rattle.lab_engine.proofs.LockSteps.{none_some}
-use Rattle.lab_engine.proofs.Rising.{AreThose, those_hold, those_all, those_increase, sessions_of, is_among, among}
+use Rattle.lab_engine.proofs.Rising.{AreThose, those_hold, those_all, those_increase, sessions_of, is_among, among, among_more}
 use Rattle.std.proofs.lemmas.Option.{same_Some}
 
 -- each state of a situation is described
@@ -114,18 +114,15 @@ pub waits_step : (level : Level) (setup : Table) (past : Past) (states : List Se
     → AreWaitsOf level setup past (take (i + 1) states) new
 waits_step level setup past states i state waits new on lt is h own step session other = (to, from)
   where
-    there : is_among session (take (i + 1) states) ≡ (is_among session (take i states) || (state.session == session))
-    there = list_any_more (λ (s : SessionState). s.session == session) states i state lt ∙ ap (λ (s : SessionState). is_among session (take i states) || (s.session == session)) (sym is)
-
     to : IsTrue (waits_for new session other) → IsTrue (is_among session (take (i + 1) states)) × WaitsOn level setup past session other
     to w = elim (or_cases _ _ (sym (step session other) ∙ w)) [
-      | inl p ↦ let old = (h session other).0 p in (there ∙ or_left _ _ old.0, old.1)
+      | inl p ↦ let old = (h session other).0 p in (among_more session states i state lt is ∙ or_left _ _ old.0, old.1)
       | inr p ↦ let parts = and_parts _ _ p in
-          (there ∙ or_right _ _ parts.0, subst (λ k. WaitsOn level setup past k other) (eqb-true state.session session parts.0) ((own other).0 (any_contains on other parts.1)))
+          (among_more session states i state lt is ∙ or_right _ _ parts.0, subst (λ k. WaitsOn level setup past k other) (eqb-true state.session session parts.0) ((own other).0 (any_contains on other parts.1)))
     ]
 
     from : IsTrue (is_among session (take (i + 1) states)) × WaitsOn level setup past session other → IsTrue (waits_for new session other)
-    from w = step session other ∙ elim (or_cases _ _ (sym there ∙ w.0)) [
+    from w = step session other ∙ elim (or_cases _ _ (sym (among_more session states i state lt is) ∙ w.0)) [
       | inl p ↦ or_left _ _ ((h session other).1 (p, w.1))
       | inr p ↦ or_right _ _ (and_from _ _ p (contains_any on other ((own other).1 (subst (λ k. WaitsOn level setup past k other) (sym (eqb-true state.session session p)) w.1))))
     ]

@@ -5,6 +5,7 @@ use Rattle.std.specs.FinMap.{entries}
 use Rattle.std.proofs.lemmas.Bool.{leb-true, leb-false, le-leb, lt-leb}
 use Rattle.std.proofs.lemmas.List.{map-append}
 use Rattle.std.proofs.lemmas.List.Sums.{sum_by-cons, sum_by-append}
+use Rattle.std.proofs.lemmas.Option.{none-some}
 use Rattle.lab_table.specs.Row.{Row}
 use Rattle.lab_history.specs.VersionName.{new_states}
 use Rattle.lab_history.specs.declared.operation.State.{State}
@@ -65,16 +66,13 @@ txns_total total (t ∷ ts) h =
 all_total : (ts : List Txn) → txns_counted 0 ts ≡ counted 0 (sum (map op_entries (operations ts)))
 all_total ts = txns_total 0 ts (omega arith)
 
-no_some : {n : ℕ} → None ≡ Some n → ⊥
-no_some e = absurd cc
-
 -- a count comes where it is within the limit
 pub few_entries : (ts : List Txn) (n : ℕ) → txns_counted 0 ts ≡ Some n → sum (map op_entries (operations ts)) ≤ 200000
 few_entries ts n is =
     let all = sum (map op_entries (operations ts)) in
     elim (nat_le all 200000) as (λ b. nat_le all 200000 ≡ b → all ≤ 200000) [
       | true ↦ λ few. leb-true all 200000 few
-      | false ↦ λ many. absurd (no_some (sym (counted_no 0 all (omega (arith, leb-false all 200000 many))) ∙ sym (all_total ts) ∙ is))
+      | false ↦ λ many. absurd (none-some _ (sym (counted_no 0 all (omega (arith, leb-false all 200000 many))) ∙ sym (all_total ts) ∙ is))
     ] refl
 
 -- and only there
@@ -82,7 +80,7 @@ pub many_entries : (ts : List Txn) → txns_counted 0 ts ≡ None → 200000 < s
 many_entries ts is =
     let all = sum (map op_entries (operations ts)) in
     elim (nat_le all 200000) as (λ b. nat_le all 200000 ≡ b → 200000 < all) [
-      | true ↦ λ few. absurd (no_some (sym is ∙ all_total ts ∙ counted_yes 0 all (omega (arith, leb-true all 200000 few))))
+      | true ↦ λ few. absurd (none-some _ (sym is ∙ all_total ts ∙ counted_yes 0 all (omega (arith, leb-true all 200000 few))))
       | false ↦ λ many. leb-false all 200000 many
     ] refl
 

@@ -1,5 +1,5 @@
 -- A rising list of rows, to which the rows of lists were added, has each of them once.
-use Rattle.std.proofs.Common.{◌≡◌, ℕ, ◌+◌, Bool, true, false, cond, ◌||◌, List, [], ◌∷◌, ◌++◌, length, map, suc, refl, sym, ap, ◌∙◌, arith}
+use Rattle.std.proofs.Common.{◌≡◌, ◌+◌, Bool, true, false, cond, ◌||◌, List, [], ◌∷◌, ◌++◌, length, map, suc, refl, sym, ap, ◌∙◌, arith, one-add}
 use Rattle.std.specs.List.{list_any, AllByRecursion, flat_map}
 use Rattle.std.specs.List.Sorted.{IsStrictlySortedBy}
 use Rattle.std.specs.Ordering.{match_ordering, ordering_reverse}
@@ -12,6 +12,7 @@ use Rattle.std.proofs.lemmas.Cmp.{eq_by_cmp_equiv}
 use Rattle.std.proofs.lemmas.Map.Keys.{IsDistinct-from_sorted}
 use Rattle.std.proofs.lemmas.Map.Made.{length-from_keys}
 use Rattle.std.proofs.lemmas.Grind.{flat_map-append}
+use Rattle.std.proofs.Math.Bool.{or_self_left, or_assoc, or-false}
 use Rattle.lab_table.specs.Row.{Row, row_cmp, row_eq, rows_total, rows_apart}
 use Rattle.lab_history.specs.VersionName.{new_states}
 use Rattle.lab_history.specs.declared.operation.State.{State}
@@ -22,10 +23,6 @@ use Rattle.lab_history.specs.HistoryRules.{operations, op_rows, named_rows, dist
 use Rattle.lab_history.specs.RunningCounts.{with_rows, with_op, with_ops, with_txns}
 
 -- ---- one row more
-
-twice : (a b : Bool) → (a || b) ≡ (a || (a || b))
-twice true b = refl
-twice false b = refl
 
 swapped : (a b c : Bool) → (a || (b || c)) ≡ (b || (a || c))
 swapped true true c = refl
@@ -40,7 +37,7 @@ any_inserted q k (x ∷ xs) = by (row_cmp k x) refl (any_inserted q k xs)
     by : (r : Ordering) → row_cmp k x ≡ r → list_any (row_eq q) (insert_key row_cmp xs k) ≡ (row_eq q k || list_any (row_eq q) xs)
         → list_any (row_eq q) (match_ordering r (k ∷ x ∷ xs) (x ∷ xs) (x ∷ insert_key row_cmp xs k)) ≡ (row_eq q k || (row_eq q x || list_any (row_eq q) xs))
     by Less e h = refl
-    by Equal e h = twice (row_eq q x) (list_any (row_eq q) xs) ∙ ap (λ y. row_eq q y || (row_eq q x || list_any (row_eq q) xs)) (sym (rows_apart k x e))
+    by Equal e h = sym (or_self_left (row_eq q x) (list_any (row_eq q) xs)) ∙ ap (λ y. row_eq q y || (row_eq q x || list_any (row_eq q) xs)) (sym (rows_apart k x e))
     by Greater e h = ap (λ b. row_eq q x || b) h ∙ swapped (row_eq q x) (row_eq q k) (list_any (row_eq q) xs)
 
 -- a row below all others is below those and a row above it
@@ -75,19 +72,11 @@ abbrev rows_added : List Row → List Row → List Row
 rows_added seen [] = seen
 rows_added seen (row ∷ rows) = rows_added (insert_key row_cmp seen row) rows
 
-joined : (a b c : Bool) → ((a || b) || c) ≡ (b || (a || c))
-joined true true c = refl
-joined true false c = refl
-joined false b c = refl
-
 any_added : (q : Row) (seen rows : List Row) → list_any (row_eq q) (rows_added seen rows) ≡ (list_any (row_eq q) seen || list_any (row_eq q) rows)
-any_added q seen [] = none (list_any (row_eq q) seen)
-  where
-    none : (a : Bool) → a ≡ (a || false)
-    none true = refl
-    none false = refl
+any_added q seen [] = sym (or-false (list_any (row_eq q) seen))
 any_added q seen (row ∷ rows) =
-    any_added q (insert_key row_cmp seen row) rows ∙ ap (λ b. b || list_any (row_eq q) rows) (any_inserted q row seen) ∙ joined (row_eq q row) (list_any (row_eq q) seen) (list_any (row_eq q) rows)
+    any_added q (insert_key row_cmp seen row) rows ∙ ap (λ b. b || list_any (row_eq q) rows) (any_inserted q row seen) ∙ or_assoc (row_eq q row) (list_any (row_eq q) seen) (list_any (row_eq q) rows)
+    ∙ swapped (row_eq q row) (list_any (row_eq q) seen) (list_any (row_eq q) rows)
 
 sorted_added : (seen rows : List Row) → IsStrictlySortedBy row_cmp seen → IsStrictlySortedBy row_cmp (rows_added seen rows)
 sorted_added seen [] s = s
@@ -97,16 +86,13 @@ none_sorted : IsStrictlySortedBy row_cmp []
 unfolding IsStrictlySortedBy
 none_sorted = tt
 
-one_more : (n : ℕ) → suc n ≡ 1 + n
-one_more n = omega arith
-
 distinct_as : (rows : List Row) → distinct_count row_eq rows ≡ distinct_rows rows
 distinct_as [] = refl
 distinct_as (row ∷ rows) = by (list_any (row_eq row) rows) (distinct_as rows)
   where
     by : (b : Bool) → distinct_count row_eq rows ≡ distinct_rows rows → length (cond b (unique_keys row_eq rows) (row ∷ unique_keys row_eq rows)) ≡ cond b 0 1 + distinct_rows rows
     by true h = h ∙ omega arith
-    by false h = ap suc h ∙ one_more (distinct_rows rows)
+    by false h = ap suc h ∙ sym (one-add (distinct_rows rows))
 
 -- the rows that were added, counted
 length_added : (rows : List Row) → length (rows_added [] rows) ≡ distinct_rows rows

@@ -3,7 +3,7 @@ use Rattle.std.proofs.Common.{◌≡◌, ◌≤◌, ℕ, ◌+◌, ◌==◌, true
 use Rattle.std.specs.Prelude.{⊤, nat_lt}
 use Rattle.std.specs.List.{list_any, list_all}
 use Rattle.std.specs.FinMap as finite
-use Rattle.std.proofs.lemmas.Bool.{ltb-false, le-ltb, and_parts, or_parts, or_from, not-false, and_from}
+use Rattle.std.proofs.lemmas.Bool.{ltb-false, le-ltb, and_parts, or_parts, or_from, not-false, and_from, not_from_true}
 use Rattle.std.proofs.lemmas.List.{length-append}
 use Rattle.std.proofs.lemmas.List.Folds.{list_any-append}
 use Rattle.lab_table.specs.Row.{Row}
@@ -21,7 +21,7 @@ use Rattle.lab_history.specs.declared.transaction.Txn.{Txn}
 use Rattle.lab_history.proofs.CheckedTxns.{operations_decide}
 use Rattle.lab_history.proofs.LimitsKept.{limits_kept}
 use Rattle.lab_history.proofs.KeptOperations.{ops_joined, ops_parted}
-use Rattle.lab_history.proofs.PassedOps.{both_pass, passed_then, not_refused, not_true, ops_pass, pass_ops}
+use Rattle.lab_history.proofs.PassedOps.{both_pass, passed_then, not_refused, ops_pass, pass_ops}
 use Rattle.lab_history.proofs.Standing.{unlike, operations_push}
 use Rattle.lab_history.proofs.Steps.{refused_is}
 
@@ -113,7 +113,7 @@ pass_installed index [] h = refl
 pass_installed index (e ∷ es) h =
     let wrong : FileFault = fault.WrongFormat (path.Member list.Installed index) in
     let parts = and_parts (has_installer e.1) (list_all has_installer (map (λ e. e.1) es)) h in
-    passed_then (refused_if (not (has_installer e.1)) wrong) (λ _. installed_checked (index + 1) es) (refused_is wrong (not_true (has_installer e.1) parts.0))
+    passed_then (refused_if (not (has_installer e.1)) wrong) (λ _. installed_checked (index + 1) es) (refused_is wrong (not_from_true (has_installer e.1) parts.0))
     ∙ pass_installed (index + 1) es parts.1
 
 -- ---- the whole

@@ -2,7 +2,7 @@
 use Rattle.std.proofs.Common.{◌≡◌, ◌⊎◌, inl, inr, ℕ, suc, ◌+◌, Bool, true, false, not, List, [], ◌∷◌, Some, Result, Ok, Err, refl, sym, ap, ◌∙◌, arith, subst}
 use Rattle.std.specs.Prelude.{⊤, slice_get}
 use Rattle.std.specs.FinMap as finite
-use Rattle.std.proofs.lemmas.Bool.{not-true}
+use Rattle.std.proofs.lemmas.Bool.{not-true, both_ways}
 use Rattle.lab_table.specs.Row.{Row}
 use Rattle.lab_history.specs.Faults.{◌>>=◌, refused_if}
 use Rattle.lab_history.specs.HistoryRules.{is_listed}
@@ -35,10 +35,6 @@ pub refused_for : (b : Bool) (e f : FileFault) → refused_if b e ≡ Err f → 
 refused_for true e f h = (refl, same_fault {B = ⊤} (Err e) e f refl h)
 refused_for false e f h = absurd cc
 
-true_or_false : (b : Bool) → b ≡ true → b ≡ false → ⊥
-true_or_false true h g = absurd cc
-true_or_false false h g = absurd cc
-
 -- ---- operations
 
 -- a member of a view that a file can't hold
@@ -70,8 +66,8 @@ op_fault txn by index op f h =
     elim (first_or_second (refused_if (not (statement_prints op.statement)) bad) (λ _. listed_from place 0 es) f h) [
       | inl here ↦
           let refused : (not (statement_prints op.statement) ≡ true) × (bad ≡ f) = refused_for (not (statement_prints op.statement)) bad f here in
-          subst (IsOpFault txn by index op) refused.1 (unprintable (λ p. true_or_false (statement_prints op.statement) (true_prints op.statement p)
-          (not-true (statement_prints op.statement) refused.0)))
+          subst (IsOpFault txn by index op) refused.1 (unprintable (λ p. both_ways (statement_prints op.statement) (not-true (statement_prints op.statement) refused.0)
+          (true_prints op.statement p)))
       | inr later ↦
           let rest : IsUnlisted place 0 es f = listed_fault place 0 es f later in
           subst (IsOpFault txn by index op) (ap (λ n. fault.WrongFormat (path.Member place n)) (omega arith) ∙ rest.is) (unlisted rest.k rest.entry rest.stands rest.isnt)

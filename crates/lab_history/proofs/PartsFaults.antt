@@ -7,6 +7,7 @@ use Rattle.std.proofs.lemmas.Bool.{ltb-true, eqb-true, or_cases, not-true}
 use Rattle.std.proofs.lemmas.Grind.{flat_map-append}
 use Rattle.std.proofs.lemmas.List.{length-append}
 use Rattle.std.proofs.lemmas.Option.{slice_get_within}
+use Rattle.lab_table.proofs.Tests.{slice_get-middle}
 use Rattle.lab_table.specs.Row.{Row}
 use Rattle.lab_history.specs.Faults.{◌>>=◌, refused_if}
 use Rattle.lab_history.specs.History.{History}
@@ -44,10 +45,6 @@ in_front [] ys i t h = absurd cc
 in_front (x ∷ xs) ys zero t h = h
 in_front (x ∷ xs) ys (suc i) t h = in_front xs ys i t h
 
-behind : (xs : List Txn) (t : Txn) (ts : List Txn) → slice_get (xs ++ t ∷ ts) (length xs) ≡ Some t
-behind [] t ts = refl
-behind (x ∷ xs) t ts = behind xs t ts
-
 operations_of_all : (before : List Txn) (t : Txn) (ts : List Txn) → length (operations before) + length t.ops ≤ length (operations (before ++ t ∷ ts))
 operations_of_all before t ts =
     omega (arith, ap length (flat_map-append (λ (m : Txn). m.ops) before (t ∷ ts)), length-append (operations before) (operations (t ∷ ts)), length-append t.ops (operations ts))
@@ -57,7 +54,7 @@ module _ (h : History) (f : FileFault) where
   txn_fault before t ts all e =
       let again : Bool = list_any (λ m. m.no == t.no) before in
       let many : Bool = nat_lt 10000 (length (operations before) + length t.ops) in
-      let here : slice_get h.txns (length before) ≡ Some t = ap (λ l. slice_get l (length before)) all ∙ behind before t ts in
+      let here : slice_get h.txns (length before) ≡ Some t = ap (λ l. slice_get l (length before)) all ∙ slice_get-middle before t ts in
       elim (first_or_second (refused_if again (fault.RepeatedTxn t.no)) (λ _. refused_if many (fault.OverLimit limit.Operations) >>= λ _. ops_checked (length before) t.no 0 t.ops) f e) [
         | inl first ↦
             let refused : (again ≡ true) × (fault.RepeatedTxn t.no ≡ f) = refused_for again (fault.RepeatedTxn t.no) f first in

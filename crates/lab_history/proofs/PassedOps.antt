@@ -3,7 +3,7 @@ use Rattle.std.proofs.Common.{◌≡◌, ℕ, ◌+◌, Bool, true, false, not, L
 use Rattle.std.specs.Prelude.{⊤, nat_le}
 use Rattle.std.specs.List.{list_all}
 use Rattle.std.specs.FinMap as finite
-use Rattle.std.proofs.lemmas.Bool.{leb-true, le-leb, and_parts, not-false, and_from}
+use Rattle.std.proofs.lemmas.Bool.{leb-true, le-leb, and_parts, not-false, and_from, not_from_true}
 use Rattle.lab_table.specs.Row.{Row}
 use Rattle.lab_table.specs.declared.statement.Statement.{Statement}
 use Rattle.lab_script.specs.Depth.{statement_depth}
@@ -34,9 +34,6 @@ pub not_refused : (b : Bool) (e : FileFault) → refused_if b e ≡ Ok tt → b 
 not_refused true e h = absurd cc
 not_refused false e h = refl
 
-pub not_true : (b : Bool) → b ≡ true → not b ≡ false
-not_true b h = ap not h
-
 -- ---- operations
 
 pub prints_true : (s : Statement) → statement_prints s ≡ true → StatementPrints s
@@ -60,7 +57,7 @@ passes_listed place index [] h = refl
 passes_listed place index (e ∷ es) h =
     let wrong : FileFault = fault.WrongFormat (path.Member place index) in
     let parts = and_parts (is_listed e.1) (list_all is_listed (map (λ e. e.1) es)) h in
-    passed_then (refused_if (not (is_listed e.1)) wrong) (λ _. listed_from place (index + 1) es) (refused_is wrong (not_true (is_listed e.1) parts.0))
+    passed_then (refused_if (not (is_listed e.1)) wrong) (λ _. listed_from place (index + 1) es) (refused_is wrong (not_from_true (is_listed e.1) parts.0))
     ∙ passes_listed place (index + 1) es parts.1
 
 op_passes : (txn by index : ℕ) (op : Op) → op_checked txn by index op ≡ Ok tt → OpKeeps op
@@ -76,7 +73,7 @@ passes_op : (txn by index : ℕ) (op : Op) → OpKeeps op → op_checked txn by 
 passes_op txn by index op k =
     let bad : FileFault = fault.BadStatement by (index + 1) in
     passed_then (refused_if (not (statement_prints op.statement)) bad) (λ _. listed_from (list.View txn index) 0 (finite.entries op.view))
-    (refused_is bad (not_true (statement_prints op.statement) (true_prints op.statement k.prints)))
+    (refused_is bad (not_from_true (statement_prints op.statement) (true_prints op.statement k.prints)))
     ∙ passes_listed (list.View txn index) 0 (finite.entries op.view) k.listed
 
 pub ops_pass : (txn by index : ℕ) (ops : List Op) → ops_checked txn by index ops ≡ Ok tt → OpsKeep ops

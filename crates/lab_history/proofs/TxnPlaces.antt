@@ -1,5 +1,5 @@
 -- The places of transactions.
-use Rattle.std.proofs.Common.{◌≡◌, ℕ, suc, ◌+◌, Bool, true, false, cond, ◌==◌, List, [], ◌∷◌, Some, refl, ap, ◌∙◌, arith}
+use Rattle.std.proofs.Common.{◌≡◌, ℕ, suc, ◌+◌, Bool, true, false, cond, ◌==◌, List, [], ◌∷◌, Some, refl, ap, ◌∙◌, arith, zero-add}
 use Rattle.std.specs.Prelude.{slice_get, option_and_then}
 use Rattle.std.specs.Ordering.{nat_cmp}
 use Rattle.lab_history.specs.Index.{numbers_from}
@@ -24,7 +24,4 @@ module _ (n : ℕ) (all : List Txn) where
 
 -- each transaction is found by its number
 pub txn_found : (n : ℕ) (ts : List Txn) → option_and_then (λ place. slice_get ts place) (value_at nat_cmp (numbers_from 0 ts) n) ≡ find_txn ts n
-txn_found n ts = found_from n ts 0 ts (λ k at is. ap (slice_get ts) is ∙ ap (slice_get ts) (from_zero k))
-  where
-    from_zero : (k : ℕ) → 0 + k ≡ k
-    from_zero k = omega arith
+txn_found n ts = found_from n ts 0 ts (λ k at is. ap (slice_get ts) is ∙ ap (slice_get ts) (zero-add k))

@@ -14,7 +14,7 @@ use Rattle.lab_deps.specs.Soundness.{has_committed}
 use Rattle.lab_deps.proofs.Places.{times, times_count, at_times}
 use Rattle.lab_judge.specs.Runs.{HoldsEachOnce}
 use Rattle.lab_judge.proofs.Lists.{one_place}
-use Rattle.lab_judge.proofs.Orders.{at_position}
+use Rattle.lab_judge.proofs.Orders.{at_position, times_is, at_most}
 use Rattle.lab_judge.proofs.Numbers.{contains_it, stands, position_within}
 
 -- each node of an order is one of the graph
@@ -30,17 +30,11 @@ within graph ns once k d lt =
     at a false e some = absurd (omega arith)
 
 module _ (h : History) (nodes : List ℕ) (once : HoldsEachOnce h nodes) where
-  times_is : (n : ℕ) → times n nodes ≡ cond (has_committed (outcome_of h n)) 1 0
-  times_is n = times_count n nodes ∙ once n
-
-  pub at_most : (n : ℕ) → times n nodes ≤ 1
-  at_most n = elim (has_committed (outcome_of h n)) as (λ b. times n nodes ≡ cond b 1 0 → times n nodes ≤ 1) [ true ↦ λ e. omega (arith, e) | false ↦ λ e. omega (arith, e) ] (times_is n)
-
   -- the node of what a node has is that node
   back : (a : ℕ) → a < length nodes → position nodes (slice_index nodes a) ≡ a
   back a lt =
       let here : slice_get nodes a ≡ Some (slice_index nodes a) = slice_get-get_or nodes a 0 lt in
-      one_place nodes (position nodes (slice_index nodes a)) a (slice_index nodes a) (at_most (slice_index nodes a))
+      one_place nodes (position nodes (slice_index nodes a)) a (slice_index nodes a) (at_most h nodes once (slice_index nodes a))
       (at_position nodes (slice_index nodes a) (at_times nodes a (slice_index nodes a) here)) here
 
   module _ (n : ℕ) (there : Contains nodes n) where
@@ -84,7 +78,7 @@ module _ (h : History) (nodes : List ℕ) (once : HoldsEachOnce h nodes) where
 
   -- an order that has each node once has each committed transaction once
   pub each_once : (graph : Arrows) (ns : List ℕ) → nodes_of graph ≡ length nodes → order.HoldsEachOnce graph ns → HoldsEachOnce h (map (slice_index nodes) ns)
-  each_once graph ns size each n = sym (times_count n (map (slice_index nodes) ns)) ∙ at (has_committed (outcome_of h n)) (times_is n)
+  each_once graph ns size each n = sym (times_count n (map (slice_index nodes) ns)) ∙ at (has_committed (outcome_of h n)) (times_is h nodes once n)
     where
       all : All (λ a. a < length nodes) ns
       all = subst (λ k. All (λ a. a < k) ns) size (within graph ns each)

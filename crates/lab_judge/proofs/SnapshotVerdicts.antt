@@ -23,6 +23,7 @@ use Rattle.lab_judge.proofs.NodePlaces.{one_node, in_order}
 use Rattle.lab_judge.proofs.PlaceNodes.{node_of, has_it}
 use Rattle.lab_judge.proofs.SerialVerdicts.{is_node}
 use Rattle.lab_judge.proofs.Placings.{is_snapshot}
+use Rattle.lab_judge.proofs.Orders.{at_most}
 
 -- the transactions of spans are those that they were made of
 numbers_are : (ns places ms : List ℕ) → map (λ s. s.txn) (map (span_in ns places) ms) ≡ ms
@@ -183,7 +184,7 @@ module _ (h : History) (ns : List ℕ) (once : HoldsEachOnce h ns) (es : List Ed
       at rest false false es ec = rest
 
   pub apart : (x : ℕ) → count_by (λ p. p == x) (all_places (map (span_in ns places) ns)) ≤ 1
-  apart x = subst (λ k. k ≤ 1) (times_count x (all_places (map (span_in ns places) ns))) (distinct ns (orders.at_most h ns once) (contains_it ns) x)
+  apart x = subst (λ k. k ≤ 1) (times_count x (all_places (map (span_in ns places) ns))) (distinct ns (at_most h ns once) (contains_it ns) x)
 
   -- the spans rest on their law
   pub rests : IsSound h → (made : List Span) → made ≡ map (span_in ns places) ns

@@ -1,31 +1,27 @@
 -- Which closed walks are which phenomenon.
-use Rattle.std.proofs.Common.{◌≡◌, ℕ, ◌+◌, ◌≤◌, Bool, true, false, cond, List, [], ◌∷◌, refl, sym, ap, ◌∙◌, subst, arith}
+use Rattle.std.proofs.Common.{◌≡◌, ℕ, ◌+◌, ◌≤◌, true, cond, List, [], ◌∷◌, refl, sym, ap, ◌∙◌, subst, arith}
 use Rattle.std.specs.Prelude.{Contains, ◌↔◌, not}
 use Rattle.std.specs.List.{All}
 use Rattle.std.proofs.lemmas.Bool.{false≢true}
-use Rattle.std.proofs.lemmas.List.Elements.{All-weaker, All-contains_itself}
+use Rattle.std.proofs.Math.Bool.{not-not}
 use Rattle.lab_history.specs.History.{History}
-use Rattle.lab_history.specs.Version.{IsCommitted}
 use Rattle.lab_deps.specs.Edges.{IsEdge}
 use Rattle.lab_deps.specs.declared.edge.Edge.{Edge}
 use Rattle.lab_deps.specs.declared.edge.Kind.{Kind}
 use Rattle.lab_deps.specs.declared.edge.Kind.TheVariants.{Write, ItemRead, PredicateRead, ItemAnti, PredicateAnti}
 use Rattle.lab_judge.specs.Allowed.{allows}
-use Rattle.lab_judge.specs.Graphs.{HasEnds, count_others}
+use Rattle.lab_judge.specs.Graphs.{count_others}
 use Rattle.lab_judge.specs.Judgement.{FindsWalk}
 use Rattle.lab_judge.specs.Openings.{HasEdgesOf, IsClosedOf, IsOpenedWalk}
 use Rattle.lab_judge.specs.Phenomena.{is_write, count_kind, IsG0, IsG1c, IsGSingle, IsG2Item, IsG2}
 use Rattle.lab_judge.specs.Places.{is_anti}
-use Rattle.lab_judge.specs.Runs.{HoldsEachOnce}
 use Rattle.lab_judge.specs.declared.allowed.Allowed.{Allowed}
 use Rattle.lab_judge.specs.declared.allowed.Allowed.TheVariants as allowed
 use Rattle.lab_judge.specs.declared.findings.opening.Opening.TheVariants as opening
 use Rattle.lab_judge.specs.declared.report.Finding.{Finding}
 use Rattle.lab_judge.specs.declared.report.Finding.TheVariants.{Absent, Walk, At, NotJudged}
 use Rattle.lab_judge.proofs.ClosedWalks.{times, times_are}
-use Rattle.lab_judge.proofs.Numbers.{contains_it}
 use Rattle.lab_judge.proofs.OpenedWalks.{none_other}
-use Rattle.lab_judge.proofs.Orders.{committed_once}
 
 -- what is found of one kind of walk is found of another, where they are the same walks
 finds_same : (P Q : List Edge → Type 0) → ((es : List Edge) → P es → Q es) → ((es : List Edge) → Q es → P es) → (finding : Finding) → FindsWalk P finding → FindsWalk Q finding
@@ -34,16 +30,11 @@ finds_same P Q there back (Walk walk) found = there walk found
 finds_same P Q there back (At n k row) found = found
 finds_same P Q there back NotJudged found = found
 
--- what is twice denied
-twice : (b : Bool) → not (not b) ≡ b
-twice true = refl
-twice false = refl
-
 -- edges that aren't flow are anti-dependencies
 others_are_anti : (es : List Edge) → times (λ k. not (allows allowed.Flow k)) es ≡ times is_anti es
 others_are_anti [] = refl
 others_are_anti (e ∷ es) =
-    ap (λ b. cond b (1 + times (λ k. not (allows allowed.Flow k)) es) (times (λ k. not (allows allowed.Flow k)) es)) (twice (is_anti e.kind))
+    ap (λ b. cond b (1 + times (λ k. not (allows allowed.Flow k)) es) (times (λ k. not (allows allowed.Flow k)) es)) (not-not (is_anti e.kind))
     ∙ ap (λ n. cond (is_anti e.kind) (1 + n) n) (others_are_anti es)
 
 count_anti : (es : List Edge) → count_others allowed.Flow es ≡ count_kind is_anti es
@@ -96,10 +87,3 @@ module _ (h : History) where
   pub has_writes : (es : List Edge) → ((e : Edge) → Contains es e ↔ (IsEdge h e × (e.kind ≡ Write))) → HasEdgesOf h allowed.Writes es
   has_writes es exact = record { edges = λ e there. ((exact e).0 there).0; all = λ e edge kind. (exact e).1 (edge, only_write e.kind kind) }
 
-  -- the ends of edges are committed transactions
-  pub ends_there : (nodes : List ℕ) → HoldsEachOnce h nodes → (es : List Edge) → ((e : Edge) → Contains es e → IsEdge h e) → All (HasEnds nodes) es
-  ends_there nodes once es real =
-      All-weaker (Contains es) (HasEnds nodes) (λ e there. (committed_there e.from (real e there).0, committed_there e.to (real e there).1)) es (All-contains_itself es)
-    where
-      committed_there : (n : ℕ) → IsCommitted h n → Contains nodes n
-      committed_there n c = contains_it nodes n (omega (arith, committed_once h nodes once n c))

@@ -2,7 +2,7 @@
 use Rattle.std.proofs.Common.{◌≡◌, ◌⊎◌, inl, inr, ℕ, zero, suc, ◌+◌, ◌-◌, ◌<◌, refl, sym, ap, subst, ◌∙◌, arith, Bool, true, false, cond, not, ◌&&◌, ◌||◌, ◌≤◌, List, [], ◌∷◌, length, get_or, set, replicate}
 use Rattle.std.specs.Prelude.{◌==◌, nat_lt}
 use Rattle.std.specs.List.{count_by, list_any}
-use Rattle.std.proofs.lemmas.Bool.{eqb-true, eqb-false, eq-eqb, both_ways, cases_lt, lt-ltb}
+use Rattle.std.proofs.lemmas.Bool.{eqb-true, eqb-false, eq-eqb, both_ways, cases_lt, lt-ltb, or_left, or_right}
 use Rattle.std.proofs.lemmas.List.{get_or_past, get_or-replicate, length-replicate}
 use Rattle.std.proofs.lemmas.List.Sums.{sum_by-cons, sum_by-set}
 use Rattle.lab_order.specs.Placing.{is_marked}
@@ -21,18 +21,11 @@ counted test x xs = sum_by-cons (λ m. one_if (test m)) x xs
 pub none_counted : (marks : List Bool) (xs : List ℕ) → ((n : ℕ) → list_any (λ m. m == n) xs ≡ true → is_marked marks n ≡ true) → count_by (λ n. not (is_marked marks n)) xs ≡ 0
 none_counted marks [] all = refl
 none_counted marks (x ∷ xs) all =
-    let here : is_marked marks x ≡ true = all x (at (x == x) (eq-eqb x x refl)) in
-    let rest : count_by (λ n. not (is_marked marks n)) xs ≡ 0 = none_counted marks xs (λ n there. all n (behind (x == n) (list_any (λ m. m == n) xs) there)) in
+    let here : is_marked marks x ≡ true = all x (or_left (x == x) (list_any (λ m. m == x) xs) (eq-eqb x x refl)) in
+    let rest : count_by (λ n. not (is_marked marks n)) xs ≡ 0 = none_counted marks xs (λ n there. all n (or_right (x == n) (list_any (λ m. m == n) xs) there)) in
     let none : one_if (not (is_marked marks x)) ≡ 0 = ap (λ b. one_if (not b)) here in
     let e : count_by (λ n. not (is_marked marks n)) (x ∷ xs) ≡ one_if (not (is_marked marks x)) + count_by (λ n. not (is_marked marks n)) xs = counted (λ n. not (is_marked marks n)) x xs in
     omega arith
-  where
-    at : (b : Bool) → b ≡ true → (b || list_any (λ m. m == x) xs) ≡ true
-    at b q = ap (λ k. k || list_any (λ m. m == x) xs) q
-
-    behind : (a b : Bool) → b ≡ true → (a || b) ≡ true
-    behind true b q = refl
-    behind false b q = q
 
 -- and where nothing is counted, all are marked
 pub all_marked : (marks : List Bool) (xs : List ℕ) (n : ℕ) → count_by (λ m. not (is_marked marks m)) xs ≡ 0 → list_any (λ m. m == n) xs ≡ true → is_marked marks n ≡ true

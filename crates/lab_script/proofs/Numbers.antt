@@ -1,7 +1,7 @@
 -- A printed number is one token.
-use Rattle.std.proofs.Common.{◌≡◌, ℕ, zero, suc, ◌+◌, ◌-◌, ◌*◌, ◌/◌, ◌%◌, ◌^◌, ◌≤◌, ◌<◌, Bool, true, false, cond, List, [], ◌∷◌, ◌++◌, refl, sym, ap, ◌∙◌, arith, inl, inr}
+use Rattle.std.proofs.Common.{◌≡◌, ℕ, zero, suc, ◌+◌, ◌-◌, ◌*◌, ◌/◌, ◌%◌, ◌^◌, ◌≤◌, ◌<◌, true, false, cond, List, [], ◌∷◌, ◌++◌, refl, sym, ap, ◌∙◌, arith, inl, inr}
 use Rattle.std.specs.Prelude.{◌==◌}
-use Rattle.std.proofs.lemmas.Bool.{cases_Bool, eqb-true, eq-eqb}
+use Rattle.std.proofs.lemmas.Bool.{cases_Bool, eqb-true, eq-eqb, cond-true, cond-false}
 use Rattle.std.proofs.lemmas.Bool.Decides.{nat_tests}
 use Rattle.std.proofs.Math.Nat.{pow-succ'}
 use Rattle.std.specs.Fmt.{digits, digits_onto, digit_glyph, decimal}
@@ -10,7 +10,7 @@ use Rattle.lab_script.specs.declared.token.Token.TheVariants as token
 use Rattle.lab_script.specs.Token.{whole, is_letter, is_blank, tokens, tokens_from}
 use Rattle.lab_script.proofs.Tokens.{digits_begin, digit_goes_on}
 
-pub glyph_is : (d : ℕ) → d < 10 → digit_glyph false d ≡ 48 + d
+glyph_is : (d : ℕ) → d < 10 → digit_glyph false d ≡ 48 + d
 glyph_is d lt = grind (arith, nat_tests)
 
 one_digit : (d : ℕ) → d < 10 → is_ascii_digit (48 + d) ≡ true
@@ -34,19 +34,11 @@ first_digit d bs lt =
     ap (λ (b : ℕ). tokens (b ∷ bs)) (glyph_is d lt) ∙ digits_begin (48 + d) bs (no_blank d lt) (no_letter d lt) (one_digit d lt)
     ∙ ap (λ (b : ℕ). tokens_from (whole (token.Digits 0)) (b ∷ bs)) (sym (glyph_is d lt)) ∙ longer_number 0 d d bs lt (omega arith)
 
-pub chosen : {A : Type 0} (b : Bool) (x y : A) → b ≡ true → cond b x y ≡ x
-chosen true x y e = refl
-chosen false x y e = absurd cc
-
-other : {A : Type 0} (b : Bool) (x y : A) → b ≡ false → cond b x y ≡ y
-other false x y e = refl
-other true x y e = absurd cc
-
 last_digit : (k n : ℕ) (acc : List ℕ) → n / 10 ≡ 0 → tokens (digits_onto (suc k) 10 false n acc) ≡ tokens_from (whole (token.Digits n)) acc
 last_digit k n acc small =
     let is : (n / 10 == 0) ≡ true = eq-eqb (n / 10) 0 small in
     let same : n % 10 ≡ n = omega arith in
-    ap tokens (chosen (n / 10 == 0) (digit_glyph false (n % 10) ∷ acc) (digits_onto k 10 false (n / 10) (digit_glyph false (n % 10) ∷ acc)) is)
+    ap tokens (cond-true (n / 10 == 0) (digit_glyph false (n % 10) ∷ acc) (digits_onto k 10 false (n / 10) (digit_glyph false (n % 10) ∷ acc)) is)
     ∙ first_digit (n % 10) acc (omega arith) ∙ ap (λ (m : ℕ). tokens_from (whole (token.Digits m)) acc) same
 
 digits_are : (k n : ℕ) (acc : List ℕ) → n < 10 ^ suc k → tokens (digits_onto (suc k) 10 false n acc) ≡ tokens_from (whole (token.Digits n)) acc
@@ -58,7 +50,7 @@ digits_are (suc k) n acc lt =
           let below : n / 10 < 10 ^ suc k = omega (arith, pow-succ' 10 (suc k)) in
           let digit : n % 10 < 10 = omega arith in
           let value : n ≡ 10 * (n / 10) + n % 10 = omega arith in
-          ap tokens (other (n / 10 == 0) (digit_glyph false (n % 10) ∷ acc) (digits_onto (suc k) 10 false (n / 10) (digit_glyph false (n % 10) ∷ acc)) isnt)
+          ap tokens (cond-false (n / 10 == 0) (digit_glyph false (n % 10) ∷ acc) (digits_onto (suc k) 10 false (n / 10) (digit_glyph false (n % 10) ∷ acc)) isnt)
           ∙ digits_are k (n / 10) (digit_glyph false (n % 10) ∷ acc) below
           ∙ longer_number (n / 10) (n % 10) n acc digit value
     ]

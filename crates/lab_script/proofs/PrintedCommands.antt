@@ -1,9 +1,9 @@
 -- Printed commands and their lines.
-use Rattle.std.proofs.Common.{◌≡◌, ℕ, suc, ◌+◌, ◌-◌, ◌/◌, ◌%◌, ◌≤◌, ◌<◌, Bool, true, false, cond, List, [], ◌∷◌, ◌++◌, length, Some, None, refl, sym, ap, ◌∙◌, append_assoc, length-append, arith, subst}
-use Rattle.std.specs.Prelude.{◌==◌, ◌&&◌, codes, nat_le}
+use Rattle.std.proofs.Common.{◌≡◌, ℕ, ◌+◌, ◌-◌, ◌≤◌, Bool, true, cond, List, [], ◌∷◌, ◌++◌, length, Some, None, refl, sym, ap, ◌∙◌, append_assoc, length-append, arith, subst, decimal}
+use Rattle.std.specs.Prelude.{◌&&◌, codes, nat_le}
 use Rattle.std.specs.List.{list_all}
-use Rattle.std.specs.Fmt.{digits, digits_onto, digit_glyph, decimal}
-use Rattle.std.proofs.lemmas.Bool.{eq-eqb, le-leb}
+use Rattle.std.proofs.lemmas.Bool.{le-leb}
+use Rattle.std.proofs.lemmas.Fmt.{decimal_digit}
 use Rattle.lab_table.specs.declared.statement.Command.{Command}
 use Rattle.lab_table.specs.declared.statement.Command.TheVariants as command
 use Rattle.lab_script.specs.declared.token.Word.TheVariants as word
@@ -19,10 +19,9 @@ use Rattle.lab_script.specs.Printed.{printed_command}
 use Rattle.lab_script.specs.Script.{is_code_byte, code_of, remark_of, session_digit, session_of, IsFit, LineSpells, extended}
 use Rattle.lab_script.specs.Script as script
 use Rattle.lab_script.specs.Ranges.{CommandInRange, SessionInRange}
-use Rattle.lab_script.proofs.Numbers.{glyph_is, chosen}
 use Rattle.lab_script.proofs.PrintedText.{Plain, all_plain, append_plain, append_ascii, Reads, word_ends}
-use Rattle.lab_script.proofs.PrintedNumbers.{decimal_plain}
 use Rattle.lab_script.proofs.PrintedStatements.{statement_tokens, statement_reads, statement_fits, statement_plain}
+use Rattle.lab_script.proofs.PrintedNumbers.{decimal_plain}
 
 -- the tokens of a printed command
 abbrev pub command_tokens : Command → List Token
@@ -59,18 +58,6 @@ command_short command.Commit p = omega arith
 command_short command.Abort p = omega arith
 command_short (command.Run s) p = p.short
 
--- a number below ten is one digit
-one_onto : (k n : ℕ) → n < 10 → digits_onto (suc k) 10 false n [] ≡ (48 + n) ∷ []
-one_onto k n lt =
-    let small : n / 10 ≡ 0 = omega arith in
-    let same : n % 10 ≡ n = omega arith in
-    chosen (n / 10 == 0) (digit_glyph false (n % 10) ∷ []) (digits_onto k 10 false (n / 10) (digit_glyph false (n % 10) ∷ [])) (eq-eqb (n / 10) 0 small)
-    ∙ ap (λ (m : ℕ). digit_glyph false m ∷ []) same ∙ ap (λ (g : ℕ). g ∷ []) (glyph_is n lt)
-
-pub one_digit : (n : ℕ) → n < 10 → decimal n ≡ (48 + n) ∷ []
-unfolding digits
-one_digit n lt = one_onto 63 n lt
-
 -- what a line of the printed script holds before its newline
 abbrev pub line_text : Line → List ℕ
 line_text line = printed_command line.command ++ codes "; -- T" ++ decimal line.session
@@ -90,7 +77,7 @@ line_session : (line : Line) → SessionInRange line.session → session_of (rem
 line_session line r =
     ap (λ (t : List ℕ). session_of (remark_of t)) (append_assoc (printed_command line.command) (codes "; -- T") (decimal line.session))
     ∙ ap session_of ((command_plain line.command).remark (codes "; -- T" ++ decimal line.session))
-    ∙ ap session_digit (one_digit line.session (omega arith))
+    ∙ ap session_digit (decimal_digit line.session (omega arith))
     ∙ session_is line.session r.0 r.1
 
 -- the code is the command and a semicolon
@@ -112,7 +99,7 @@ line_fit number line r p le = record {
     length-append (printed_command line.command ++ codes "; -- T") (decimal line.session),
     length-append (printed_command line.command) (codes "; -- T"),
     command_short line.command p,
-    ap length (one_digit line.session (omega arith)),
+    ap length (decimal_digit line.session (omega arith)),
   );
   ascii = ap (list_all is_code_byte) (line_code line) ∙ (append_plain (printed_command line.command) (codes "; ") (command_plain line.command) (all_plain (codes "; ") refl)).ascii;
 }

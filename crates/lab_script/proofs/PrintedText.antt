@@ -6,6 +6,7 @@ use Rattle.std.specs.Char.{to_ascii_lowercase, is_ascii_digit}
 use Rattle.std.proofs.lemmas.List.{append-nil}
 use Rattle.std.proofs.lemmas.List.Folds.{list_all-append}
 use Rattle.std.proofs.lemmas.Bool.{not-true, and_from, and_parts}
+use Rattle.std.proofs.Math.Bool.{and-false}
 use Rattle.lab_script.specs.declared.token.Token.{Token}
 use Rattle.lab_script.specs.declared.token.Token.TheVariants as token
 use Rattle.lab_script.specs.Token.{letters, whole, is_letter, word_named, tokens, tokens_from, longer_token}
@@ -116,11 +117,7 @@ no_remark b (c ∷ rest) h = rw h refl
 
 -- no remark begins before a byte that is no dash
 no_remark_behind : (b c : ℕ) (rest : List ℕ) → (c == 45) ≡ false → begins_remark (b ∷ c ∷ rest) ≡ false
-no_remark_behind b c rest h = rw h (never (b == 45))
-  where
-    never : (v : Bool) → (v && false) ≡ false
-    never true = refl
-    never false = refl
+no_remark_behind b c rest h = rw h (and-false (b == 45))
 
 -- no text is code
 pub empty_plain : Plain []

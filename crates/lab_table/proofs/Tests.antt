@@ -19,6 +19,11 @@ pub some_of : {A : Type 0} (o : Option A) → IsSome o → (x : A) × (o ≡ Som
 some_of None h = absurd cc
 some_of (Some x) h = (x, refl)
 
+-- what isn't something is nothing
+pub none_of : {A : Type 0} (o : Option A) → ¬ IsSome o → o ≡ None
+none_of None h = refl
+none_of (Some x) h = absurd (h refl)
+
 -- something is there
 pub some_is : {A : Type 0} (o : Option A) (x : A) → o ≡ Some x → IsSome o
 some_is None x h = absurd (none-some x h)
