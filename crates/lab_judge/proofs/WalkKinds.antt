@@ -86,4 +86,3 @@ module _ (h : History) where
   -- the write-dependencies of a history hold those of that kind
   pub has_writes : (es : List Edge) → ((e : Edge) → Contains es e ↔ (IsEdge h e × (e.kind ≡ Write))) → HasEdgesOf h allowed.Writes es
   has_writes es exact = record { edges = λ e there. ((exact e).0 there).0; all = λ e edge kind. (exact e).1 (edge, only_write e.kind kind) }
-
