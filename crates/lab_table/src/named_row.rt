@@ -31,7 +31,7 @@ impl Statement {
     }
 
     /// Numbers such that no row of another number may match the statement, where the statement lists them: those of
-    /// `id in (3, 5)`, also as a part of an `and`. They are in the order of the list.
+    /// `id in (3, 5)`, also as a part of an `and`.
     pub fn named_ids(&self) -> Option<&[Value]>
         ensures named { StatementNamesIds self.now → result ≢ None }
         ensures only { IfSome result (λ numbers. (row : Row) → may_match self.now row ≡ true → has_number numbers.now row ≡ true) }
