@@ -9,7 +9,7 @@ const STATUSES: &str = "\
 Exit status:
   0  done
   2  the input was refused
-  3  a read or a write failed
+  3  a read, an open or a write failed
   4  there was no memory for it; nothing was written
   5  the command line was refused; nothing was written to standard output";
 
@@ -74,7 +74,8 @@ Judges the histories of files, as many at once as there are processors.
 
 Writes for each file, in the order given, a line `== FILE` and then what `judge` writes of it, or
 `file: unreadable` where it can't be opened or read. All files are read and judged before the first line
-is written. The exit status is the greatest that a file calls for.
+is written. The exit status is the greatest that a file calls for. `-` is a file of that name, and not
+standard input. Where a name isn't UTF-8, the whole command line is refused.
 
     hermitage_lab batch examples/g1a_aborted_read.json examples/serializable.json";
 

@@ -4,6 +4,7 @@ use Rattle.lab_engine.specs.declared.event.Level.{Level}
 use Rattle.lab_session.specs.Play.{given_lines, IsScriptedFault}
 use Rattle.lab_session.specs.PlayFaultText.{play_fault_text}
 use Rattle.lab_session.specs.declared.fault.PlayFault.{PlayFault}
+use Rattle.lab_session.specs.declared.fault.PlayFault.TheVariants.{NoMemory}
 use Rattle.lab_matrix.specs.Listings.{usual_setup, listing}
 use Rattle.lab_matrix.specs.Matrix.{AreCells}
 use Rattle.lab_matrix.specs.MatrixText.{matrix_text}
@@ -24,6 +25,7 @@ pub record IsUntabulated (text : List ℕ) (ending : Ending) : Type 0 where
   pub case : CaseName
   pub level : Level
   pub fault : PlayFault
+  pub told_why : fault ≢ NoMemory
   pub faulty : IsScriptedFault level usual_setup (given_lines (listing case)) fault
   pub text_is : text ≡ play_fault_text fault
   pub refused : ending ≡ Refused

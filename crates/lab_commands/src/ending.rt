@@ -36,7 +36,7 @@ impl From<AllocError> for RunFault {
     }
 }
 
-/// The exit status of a run: 0 done, 2 input refused, 3 a read or a write failed, 4 want of memory.
+/// The exit status of a run: 0 done, 2 input refused, 3 a read, an open or a write failed, 4 want of memory.
 pub fn status(run: Result<Ending, RunFault>) -> u8
     ensures { MatchResult run (λ ending. result ≡ ending_status ending) (λ fault. result ≡ fault_status fault) }
 {

@@ -1,7 +1,9 @@
-//! The subcommands of the program, each over a reader and a writer.
+//! The subcommands of the program.
 //!
-//! Each function reads its whole input before its first write, writes one text whole, and answers how the run ended: an
-//! [`Ending`] where the text was written, a [`RunFault`] where it wasn't. [`status`] is the exit status of either.
+//! [`serial`], [`run`], [`run_free`] and [`judge`] read from a reader, [`batch`] reads files by their names, and
+//! [`case`] and [`matrix`] read nothing. What is read is read before the first write, and one text is written whole.
+//! Where it was written the answer is an [`Ending`], of a batch the greatest exit status met, and where it wasn't a
+//! [`RunFault`]. [`status`] is the exit status of an ending or a fault.
 #![tactic(auto)]
 
 mod batching;

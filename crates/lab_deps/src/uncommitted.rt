@@ -1,18 +1,17 @@
 //! Reads of what was never committed.
 
-ghost use Rattle.std.specs.Prelude.{◌≡◌, ℕ, None, IfOk, IfSome, option_and_then};
+ghost use Rattle.std.specs.Prelude.{◌≡◌, ℕ, None, IfSome, option_and_then};
 ghost use Rattle.lab_table.specs.Row.{Row};
-ghost use Rattle.lab_deps.specs.Passes.{fault_in};
+ghost use Rattle.lab_deps.specs.Passes as pass;
 ghost use Rattle.lab_deps.specs.Soundness.{Stands};
 ghost use Rattle.lab_deps.specs.Uncommitted.{read_of};
 ghost use Rattle.lab_deps.specs.declared.fault.LocalFault.TheVariants as fault;
 
-use crate::fault::{LocalFault, Unsound};
+use crate::fault::LocalFault;
 use crate::kind::OpFault;
-use crate::passes::refuse_faults;
+use crate::passes::fault_in;
 use lab_history::History;
-use lab_table::{NoMemory, RowId, TxnNo};
-use std::alloc::{AllocError, Global};
+use lab_table::{RowId, TxnNo};
 
 /// An operation of a transaction, counted from 1, that sees a row.
 #[derive(Clone, Copy, Debug, PartialEq, Eq)]
@@ -23,33 +22,29 @@ pub struct Read {
 }
 
 /// The first operation of a committed transaction that sees a version of an aborted one, with its least such row; None
-/// where there is none. Transactions stand in the order of the file. NoMemory where a growth was refused.
-pub fn first_aborted_read(_alloc: Global, history: &History) -> Result<Option<Read>, NoMemory>
-    ensures found { IfOk result (λ found. IfSome found (λ read. Stands history.now (fault.AbortedRead read.txn read.op read.row))) }
-    ensures none { IfOk result (λ found. found ≡ None → (n k : ℕ) (row : Row) → ¬ Stands history.now (fault.AbortedRead n k row)) }
+/// where there is none. Transactions stand in the order of the file.
+pub fn first_aborted_read(history: &History) -> Option<Read>
+    ensures found { IfSome result (λ read. Stands history.now (fault.AbortedRead read.txn read.op read.row)) }
+    ensures none { result ≡ None → (n k : ℕ) (row : Row) → ¬ Stands history.now (fault.AbortedRead n k row) }
 {
     first_read(history, OpFault::AbortedRead)
 }
 
 /// The first operation of a committed transaction that sees another's version that isn't that one's last of the row,
-/// with its least such row; None where there is none. Transactions stand in the order of the file. NoMemory where a
-/// growth was refused.
-pub fn first_intermediate_read(_alloc: Global, history: &History) -> Result<Option<Read>, NoMemory>
-    ensures found { IfOk result (λ found. IfSome found (λ read. Stands history.now (fault.IntermediateRead read.txn read.op read.row))) }
-    ensures none { IfOk result (λ found. found ≡ None → (n k : ℕ) (row : Row) → ¬ Stands history.now (fault.IntermediateRead n k row)) }
+/// with its least such row; None where there is none. Transactions stand in the order of the file.
+pub fn first_intermediate_read(history: &History) -> Option<Read>
+    ensures found { IfSome result (λ read. Stands history.now (fault.IntermediateRead read.txn read.op read.row)) }
+    ensures none { result ≡ None → (n k : ℕ) (row : Row) → ¬ Stands history.now (fault.IntermediateRead n k row) }
 {
     first_read(history, OpFault::IntermediateRead)
 }
 
 /// The place of the first fault of this kind, where it is such a read.
-fn first_read(history: &History, kind: OpFault) -> Result<Option<Read>, NoMemory>
-    ensures { IfOk result (λ found. found ≡ option_and_then read_of (fault_in kind history.now)) }
+fn first_read(history: &History, kind: OpFault) -> Option<Read>
+    ensures { result ≡ option_and_then read_of (pass.fault_in kind history.now) }
 {
-    match refuse_faults(history, kind) {
-        Ok(()) => Ok(None),
-        Err(Unsound::NoMemory) => Err(AllocError),
-        Err(Unsound::Fault(fault)) => Ok(read_at(fault)),
-    }
+    let fault = fault_in(history, kind)?;
+    read_at(fault)
 }
 
 /// The place of a fault that is such a read.

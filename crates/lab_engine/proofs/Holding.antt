@@ -17,7 +17,7 @@ use Rattle.lab_history.specs.declared.operation.VersionName.TheVariants.{Initial
 use Rattle.lab_engine.specs.declared.event.Level.{Level}
 use Rattle.lab_engine.specs.Log.{Past, Version, Txn, version_by, has_read}
 use Rattle.lab_engine.specs.Rules.{HoldsWrite}
-use Rattle.lab_engine.specs.Sight.{Listed, version_in, IsSight}
+use Rattle.lab_engine.specs.Sight.{Listed, version_in, ShowsWritten}
 use Rattle.lab_engine.specs.Pending.{writes_over}
 use Rattle.lab_engine.proofs.LockSteps.{none_some}
 use Rattle.std.proofs.lemmas.Option.{same_Some}
@@ -79,13 +79,13 @@ any_read statements ops row state same =
     ∙ sym (list_any-IsPermutation (λ s. matches s row state) (map (λ op. op.statement) ops) (reverse (map (λ op. op.statement) ops)) (IsPermutation-reverse (map (λ op. op.statement) ops)))
     ∙ any-read ops row state
 
-module _ (level : Level) (setup : Table) (past : Past) (asker : Txn) (sees : Listed) (sight : IsSight level setup past asker sees)
-    (s : Statement) (holder : Txn) (pending : Listed) (last : (row : Row) → get pending row ≡ version_by holder row) where
+module _ (level : Level) (setup : Table) (past : Past) (asker : Txn) (sees : Listed)
+    (s : Statement) (sight : ShowsWritten level setup past asker s sees) (holder : Txn) (pending : Listed) (last : (row : Row) → get pending row ≡ version_by holder row) where
   -- the transaction has a pending write of a row that the statement would write
   pub holds_write : writes_over sees s pending ≡ true → HoldsWrite level setup past asker s holder
   holds_write any =
       let f = found_of_any (λ entry. would_write s entry.0 (version_in sees entry.0).state) pending any in
-      (f.0, ap is_some (sym (last f.0) ∙ f.2), ap (λ v. would_write s f.0 v.state) (sym (sight f.0)) ∙ f.3)
+      (f.0, ap is_some (sym (last f.0) ∙ f.2), sym (sight f.0).0 ∙ f.3)
 
   -- the transaction has none
   pub holds_no_write : writes_over sees s pending ≡ false → ¬ HoldsWrite level setup past asker s holder
@@ -94,5 +94,5 @@ module _ (level : Level) (setup : Table) (past : Past) (asker : Txn) (sees : Lis
     where
       at : (own : Option Version) → version_by holder row ≡ own → IsSome own → ⊥
       at None is some = absurd (true≢false (sym some))
-      at (Some v) is some = true≢false (sym writes ∙ ap (λ u. would_write s row u.state) (sym (sight row))
+      at (Some v) is some = true≢false (sym writes ∙ sym (sight row).0
           ∙ none_of_any (λ entry. would_write s entry.0 (version_in sees entry.0).state) pending any row v (last row ∙ is))

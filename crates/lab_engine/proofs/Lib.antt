@@ -9,6 +9,7 @@ pub mod Begins
 pub mod Describing
 pub mod EventBounds
 pub mod Holding
+pub mod Overwriting
 pub mod InstalledChains
 pub mod ChainedRows
 pub mod Answering
@@ -36,3 +37,6 @@ pub mod Recordings
 pub mod ListedVersions
 pub mod BrokenLimits
 pub mod LimitOrder
+pub mod DoneTransactions
+pub mod RecordedCommits
+pub mod RecordedViews

@@ -17,6 +17,7 @@ pub mod Merging
 pub mod EachRow
 pub mod WaitEdges
 pub mod Released
+pub mod RecordingLaws
 pub mod RecordedLog
 pub mod Gathered
 pub mod OverLimit

@@ -1,9 +1,11 @@
 -- What a transaction sees, as a map of versions has it.
-use Rattle.std.specs.Prelude.{◌≡◌, ℕ, Option, Some, None, unwrap_or}
+use Rattle.std.specs.Prelude.{◌≡◌, ℕ, Option, Some, None, unwrap_or, IsTrue}
 use Rattle.std.specs.FinMap as map
 use Rattle.std.specs.FinMap.{FinMap}
 use Rattle.lab_table.specs.Row.{Row, row_cmp}
 use Rattle.lab_table.specs.Table.{Table, State}
+use Rattle.lab_table.specs.Statement.{would_write}
+use Rattle.lab_table.specs.declared.statement.Statement.{Statement}
 pub use Rattle.lab_table.specs.Running.{comes_after}
 use Rattle.lab_history.specs.declared.operation.VersionName.TheVariants.{Initial}
 use Rattle.lab_engine.specs.declared.event.Level.{Level}
@@ -28,6 +30,12 @@ version_in versions row = unwrap_or (map.get versions row) (record { name = Init
 -- a map of versions is what a transaction sees
 abbrev pub IsSight : Level → Table → Past → Txn → Listed → Type 0
 IsSight level setup past txn versions = (row : Row) → version_in versions row ≡ seen level setup past txn row
+
+-- a map of versions has what a transaction sees of each row that a statement would write, and no other row that it would write
+abbrev pub ShowsWritten : Level → Table → Past → Txn → Statement → Listed → Type 0
+ShowsWritten level setup past txn s versions = (row : Row)
+    → (would_write s row (version_in versions row).state ≡ would_write s row (seen level setup past txn row).state)
+    × (IsTrue (would_write s row (seen level setup past txn row).state) → version_in versions row ≡ seen level setup past txn row)
 
 -- the least row at which a commit conflicts, and the first to install it; only at snapshot
 abbrev pub IsFirstConflict : Level → Past → Txn → Conflict → Type 0

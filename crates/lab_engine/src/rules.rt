@@ -5,7 +5,7 @@ ghost use Rattle.lab_engine.specs.declared.event.Level.{Level as Kind};
 ghost use Rattle.lab_engine.specs.Log.{Past, Txn, active};
 ghost use Rattle.lab_engine.specs.Rules.{Blocks, MayCommit};
 ghost use Rattle.lab_engine.specs.Situation.{Describes, IsRunning};
-ghost use Rattle.lab_engine.specs.Sight.{IsSight, IsFirstConflict};
+ghost use Rattle.lab_engine.specs.Sight.{ShowsWritten, IsFirstConflict};
 
 use crate::event::Level;
 use crate::situation::{RunningTxn, Situation};
@@ -31,8 +31,8 @@ pub trait Rules: Default {
     fn level(&self) -> Level
         ensures { result ≡ kind };
 
-    /// Whether a transaction of another session blocks a statement of one that sees these versions, after the events
-    /// of this situation.
+    /// Whether a transaction of another session blocks a statement of one that sees these versions of the rows that the
+    /// statement would write, after the events of this situation.
     fn blocks(
         &self,
         setup: &Table,
@@ -41,9 +41,9 @@ pub trait Rules: Default {
         statement: &Statement,
         holder: &RunningTxn,
     ) -> bool
-        ensures yes { (past : Past) (asker txn : Txn) → Describes past situation.now → IsSight kind setup.now past asker seen.now
+        ensures yes { (past : Past) (asker txn : Txn) → Describes past situation.now → ShowsWritten kind setup.now past asker statement.now seen.now
             → IsRunning txn holder.now → result ≡ true → Blocks kind setup.now past asker statement.now txn }
-        ensures never { (past : Past) (asker txn : Txn) → Describes past situation.now → IsSight kind setup.now past asker seen.now
+        ensures never { (past : Past) (asker txn : Txn) → Describes past situation.now → ShowsWritten kind setup.now past asker statement.now seen.now
             → IsRunning txn holder.now → result ≡ false → ¬ Blocks kind setup.now past asker statement.now txn };
 
     /// Why a session's active transaction may not commit after the events of this situation, if it may not; None where

@@ -14,20 +14,29 @@ use crate::version::Versions;
 use lab_table::{NoMemory, Table};
 use std::alloc::Global;
 
-/// These versions with those over them that had been installed at a begin with so many events before it.
+/// The versions of the table's rows, with these over them. NoMemory where a growth was refused.
+fn over_table(alloc: Global, setup: &Table, over: &Versions) -> Result<Versions, NoMemory>
+    ensures { IfOk result (λ made. (row : Row) → map.get made row ≡ option_or (map.get over.now row) (listed_version (map.get setup.now row))) }
+{
+    let mut made = Versions::of_table(alloc, setup)?;
+    made.overlay(alloc, over)?;
+    Ok(made)
+}
+
+/// The setup's versions with those over them that had been installed at a begin with so many events before it.
 fn under_chains(
     alloc: Global,
-    initial: &Versions,
+    setup: &Table,
     situation: &Situation,
     before: usize,
 ) -> Result<Versions, NoMemory>
     ensures { (past : Past) (session : ℕ) (txn : Txn) → Describes past situation.now → active past session ≡ Some txn → before ≡ length txn.before
-        → IfOk result (λ made. (row : Row) → map.get made row ≡ option_or (last_installed (commits txn.before) row) (map.get initial.now row)) }
+        → IfOk result (λ made. (row : Row) → map.get made row ≡ option_or (last_installed (commits txn.before) row) (listed_version (map.get setup.now row))) }
 {
     let installed = situation
         .committed
         .before(alloc, &situation.chains, before)?;
-    initial.overlaid_with(alloc, &installed)
+    over_table(alloc, setup, &installed)
 }
 
 /// The committed versions that an active transaction of this level sees, over the setup's.
@@ -41,11 +50,10 @@ fn committed_seen(
     ensures { (past : Past) (session : ℕ) (txn : Txn) → Describes past situation.now → active past session ≡ Some txn → IsRunning txn running.now
         → IfOk result (λ made. (row : Row) → map.get made row ≡ option_or (last_installed (commits (sight level past txn)) row) (listed_version (map.get setup.now row))) }
 {
-    let initial = Versions::of_table(alloc, setup)?;
     match level {
-        Level::Locking => initial.overlaid_with(alloc, &situation.committed),
-        Level::Committed => initial.overlaid_with(alloc, &situation.committed),
-        Level::Snapshot => under_chains(alloc, &initial, situation, running.before),
+        Level::Locking => over_table(alloc, setup, &situation.committed),
+        Level::Committed => over_table(alloc, setup, &situation.committed),
+        Level::Snapshot => under_chains(alloc, setup, situation, running.before),
     }
 }
 
@@ -60,6 +68,7 @@ pub fn seen_by(
 ) -> Result<Versions, NoMemory>
     ensures { (past : Past) (session : ℕ) (txn : Txn) → Describes past situation.now → active past session ≡ Some txn → IsRunning txn running.now → IfOk result (IsSight level setup.now past txn) }
 {
-    let committed = committed_seen(alloc, level, setup, situation, running)?;
-    committed.overlaid_with(alloc, &running.last)
+    let mut seen = committed_seen(alloc, level, setup, situation, running)?;
+    seen.overlay(alloc, &running.last)?;
+    Ok(seen)
 }

@@ -7,14 +7,14 @@ ghost use Rattle.std.specs.FinMap as map;
 ghost use Rattle.std.specs.Option.{option_or};
 ghost use Rattle.lab_table.specs.Row.{Row, row_cmp};
 ghost use Rattle.lab_engine.specs.Chains.{version_before, chain_in};
-ghost use Rattle.lab_engine.specs.EachRow.{with_row, each_row};
+ghost use Rattle.lab_engine.specs.EachRow.{with_row, each_row, overwritten_version};
 ghost use Rattle.lab_engine.specs.Sight.{listed_version, comes_after};
 ghost use Rattle.lab_history.specs.VersionName.{state_value};
 ghost use Rattle.lab_engine.specs.Merging.{initial_entry, written_entry, written_version, insert_each, merged, without_row};
 
 use crate::chain::Chains;
 use lab_history::{State, VersionName, Writes};
-use lab_table::{ByRow, NoMemory, RowId, Table, Value, place_of};
+use lab_table::{ByRow, NoMemory, RowId, Statement, Table, Value, place_of};
 use std::alloc::Global;
 use std::marker::Model;
 
@@ -96,6 +96,19 @@ impl Versions {
     {
         Ok(Versions {
             by_row: ByRow::from_rising(entries_before(alloc, self.entries(), chains, place)?),
+        })
+    }
+
+    /// Of these versions those that a statement would overwrite. NoMemory where a growth was refused.
+    pub(crate) fn overwritten_by(
+        &self,
+        alloc: Global,
+        statement: &Statement,
+    ) -> Result<Versions, NoMemory>
+        ensures { IfOk result (λ made. (row : Row) → map.get made row ≡ option_and_then (overwritten_version statement.now row) (map.get self.now row)) }
+    {
+        Ok(Versions {
+            by_row: ByRow::from_rising(entries_overwritten(alloc, statement, self.entries())?),
         })
     }
 
@@ -212,6 +225,29 @@ fn entries_before(
         .collect(alloc)
 }
 
+fn entry_overwritten(statement: &Statement, entry: &(RowId, Version)) -> Option<(RowId, Version)>
+    ensures { result ≡ with_row entry.now.0 (overwritten_version statement.now entry.now.0 entry.now.1) }
+{
+    if statement.would_write(entry.0, entry.1.state) {
+        Some((entry.0, entry.1))
+    } else {
+        None
+    }
+}
+
+fn entries_overwritten(
+    alloc: Global,
+    statement: &Statement,
+    entries: &[(RowId, Version)],
+) -> Result<Vec<(RowId, Version)>, NoMemory>
+    ensures { IfOk result (λ v. v.items ≡ each_row (overwritten_version statement.now) entries.now) }
+{
+    entries
+        .iter()
+        .filter_map(|entry| entry_overwritten(statement, entry))
+        .collect(alloc)
+}
+
 /// The entries behind the row's, of a list that has none before it.
 fn behind(entries: &[(RowId, Version)], row: RowId) -> &[(RowId, Version)]
     ensures { result.now ≡ without_row row entries.now }
@@ -231,7 +267,7 @@ fn merged_entries(
     requires { T (map.is_sorted row_cmp under.now) }
     ensures { IfOk result (λ v. v.items ≡ merged under.now over.now) }
 {
-    let mut entries = Vec::new(alloc);
+    let mut entries = Vec::with_capacity(alloc, under.len())?;
     let mut left = under;
     for entry in over {
         let (before, rest) = left.split_at(place_near(left, entry.0));

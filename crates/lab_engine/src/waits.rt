@@ -2,12 +2,14 @@
 
 ghost use Rattle.std.specs.Prelude.{◌≡◌, ◌==◌, ◌&&◌, not, ◌↔◌, Some, true, false, List, ℕ, length, IfOk, IsSome, IsTrue, MatchOption};
 ghost use Rattle.std.specs.List.{Contains, list_any};
+ghost use Rattle.lab_table.specs.Table.{Table as PlainTable};
 ghost use Rattle.lab_table.specs.declared.statement.Statement.{Statement as Asked};
+ghost use Rattle.lab_engine.specs.declared.event.Level.{Level as Kind};
 ghost use Rattle.lab_engine.specs.Log.{Past, Txn, active};
 ghost use Rattle.lab_engine.specs.Rules.{BlockedBy, IsCircle, MayAsk};
 ghost use Rattle.lab_engine.specs.Recording.{NoneRetryable, IsLeastRetryable};
 ghost use Rattle.lab_engine.specs.Situation.{Describes, DescribesSession};
-ghost use Rattle.lab_engine.specs.Sight.{IsSight};
+ghost use Rattle.lab_engine.specs.Sight.{IsSight, ShowsWritten};
 ghost use Rattle.lab_engine.specs.WaitsFor.{AreBlockers, AreWaits, WaitsOn};
 ghost use Rattle.lab_engine.specs.Released.{IsReleased};
 
@@ -27,7 +29,8 @@ pub struct Wait {
     pub on: Sessions,
 }
 
-/// Whether another session, which is in this state, blocks a statement of one that sees these versions.
+/// Whether another session, which is in this state, blocks a statement of one that sees these versions of the rows that
+/// the statement would write.
 fn is_blocked_by<R: Rules>(
     rules: &R,
     setup: &Table,
@@ -38,9 +41,9 @@ fn is_blocked_by<R: Rules>(
     state: &SessionState,
 ) -> bool
     ensures yes { (past : Past) (txn : Txn) → Describes past situation.now → DescribesSession past state.now → active past session ≡ Some txn
-        → IsSight R.kind setup.now past txn seen.now → result ≡ true → BlockedBy R.kind setup.now past session statement.now state.now.session }
+        → ShowsWritten R.kind setup.now past txn statement.now seen.now → result ≡ true → BlockedBy R.kind setup.now past session statement.now state.now.session }
     ensures never { (past : Past) (txn : Txn) → Describes past situation.now → DescribesSession past state.now → active past session ≡ Some txn
-        → IsSight R.kind setup.now past txn seen.now → result ≡ false → ¬ BlockedBy R.kind setup.now past session statement.now state.now.session }
+        → ShowsWritten R.kind setup.now past txn statement.now seen.now → result ≡ false → ¬ BlockedBy R.kind setup.now past session statement.now state.now.session }
 {
     if state.session == session {
         return false;
@@ -48,6 +51,18 @@ fn is_blocked_by<R: Rules>(
     match &state.running {
         None => false,
         Some(holder) => rules.blocks(setup, situation, seen, statement, holder),
+    }
+}
+
+/// Of these versions those that a statement would overwrite; a select overwrites none.
+/// NoMemory where a growth was refused.
+fn overwritten(alloc: Global, seen: &Versions, statement: &Statement) -> Result<Versions, NoMemory>
+    ensures { (level : Kind) (setup : PlainTable) (past : Past) (txn : Txn) → IsSight level setup past txn seen.now
+        → IfOk result (ShowsWritten level setup past txn statement.now) }
+{
+    match statement {
+        Statement::Select { .. } => Ok(Versions::new(alloc)),
+        _ => seen.overwritten_by(alloc, statement),
     }
 }
 
@@ -66,9 +81,10 @@ pub fn blockers<R: Rules>(
         → IsSight R.kind setup.now past txn seen.now
         → IfOk result (AreBlockers R.kind setup.now past session statement.now) }
 {
+    let shown = overwritten(alloc, seen, statement)?;
     let mut on = Vec::new(alloc);
     for state in &situation.sessions {
-        if is_blocked_by(rules, setup, situation, session, seen, statement, state) {
+        if is_blocked_by(rules, setup, situation, session, &shown, statement, state) {
             on.push(state.session)?;
         }
     }

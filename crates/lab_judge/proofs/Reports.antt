@@ -1,6 +1,7 @@
 -- Verdicts and findings as a judgement.
 use Rattle.std.proofs.Common.{List, refl}
 use Rattle.lab_history.specs.History.{History}
+use Rattle.lab_deps.specs.Refusal.{IsAnswer}
 use Rattle.lab_deps.specs.Soundness.{Stands, IsSound}
 use Rattle.lab_deps.specs.declared.fault.LocalFault.{LocalFault}
 use Rattle.lab_judge.specs.Judgement.{IsSerialVerdict, IsSnapshotVerdict, SameFault, Judges, JudgesAll, JudgesAtFault, RestsOnOrder, RestsOnPlaces, IsExactJudgement}
@@ -16,17 +17,17 @@ use Rattle.lab_judge.specs.declared.serial.Serial.TheVariants as serial
 no_fault : (h : History) → IsSound h → (s : Serial) (p : Places) → IsSerialVerdict h s → IsSnapshotVerdict h p → SameFault s p
 no_fault h sound (serial.Yes order) (places.Yes spans) s p = tt
 no_fault h sound (serial.Yes order) (places.NoCycle points) s p = tt
-no_fault h sound (serial.Yes order) (places.NoFault fault) s p = absurd (sound fault p)
+no_fault h sound (serial.Yes order) (places.NoFault fault) s p = absurd (sound fault p.0)
 no_fault h sound (serial.NoCycle walk) (places.Yes spans) s p = tt
 no_fault h sound (serial.NoCycle walk) (places.NoCycle points) s p = tt
-no_fault h sound (serial.NoCycle walk) (places.NoFault fault) s p = absurd (sound fault p)
-no_fault h sound (serial.NoFault fault) p s q = absurd (sound fault s)
+no_fault h sound (serial.NoCycle walk) (places.NoFault fault) s p = absurd (sound fault p.0)
+no_fault h sound (serial.NoFault fault) p s q = absurd (sound fault s.0)
 
 -- and everything is judged
 all_judged : (h : History) → IsSound h → (s : Serial) → IsSerialVerdict h s → (found : List Finding) (grade : Grade) → JudgesAll h found grade → Judges h s found grade
 all_judged h sound (serial.Yes order) s found grade judges = judges
 all_judged h sound (serial.NoCycle walk) s found grade judges = judges
-all_judged h sound (serial.NoFault fault) s found grade judges = absurd (sound fault s)
+all_judged h sound (serial.NoFault fault) s found grade judges = absurd (sound fault s.0)
 
 -- so they make a judgement
 pub of_sound : (h : History) → IsSound h → (report : Report) → IsSerialVerdict h report.serial → RestsOnOrder h report.serial → IsSnapshotVerdict h report.snapshot → RestsOnPlaces h report.snapshot
@@ -43,7 +44,7 @@ of_sound h sound report s order p placing judges = record {
 }
 
 -- a fault that stands makes one too
-pub of_fault : (h : History) (fault : LocalFault) → Stands h fault → (found : List Finding) (grade : Grade) → JudgesAtFault h fault found grade
+pub of_fault : (h : History) (fault : LocalFault) → IsAnswer h fault → (found : List Finding) (grade : Grade) → JudgesAtFault h fault found grade
     → IsExactJudgement h (record { serial = serial.NoFault fault; snapshot = places.NoFault fault; phenomena = found; level = grade })
 of_fault h fault stands found grade judges = record {
   judgement = record { serial = stands; snapshot = stands; fault = refl; found = judges };

@@ -1,5 +1,8 @@
--- Which verdicts say yes.
-use Rattle.std.specs.Prelude.{⊤}
+-- Which verdicts say yes, and what a snapshot yes denies.
+use Rattle.std.specs.Prelude.{List, ⊤}
+use Rattle.lab_history.specs.History.{History}
+use Rattle.lab_judge.specs.Places.{IsCircle}
+use Rattle.lab_judge.specs.declared.places.Point.{Point}
 use Rattle.lab_judge.specs.declared.serial.Serial.{Serial}
 use Rattle.lab_judge.specs.declared.serial.Serial.TheVariants as serial
 use Rattle.lab_judge.specs.declared.places.Places.{Places}
@@ -16,3 +19,7 @@ abbrev pub IsPlaced : Places → Type 0
 IsPlaced (places.Yes spans) = ⊤
 IsPlaced (places.NoFault fault) = ⊥
 IsPlaced (places.NoCycle points) = ⊥
+
+-- no points are a circle
+abbrev pub NoCircle : History → Type 0
+NoCircle h = (ps : List Point) → IsCircle h ps → ⊥

@@ -138,8 +138,8 @@ fn find_at_read(alloc: Global, history: &History) -> Result<Findings, NoMemory>
     ensures { IfOk result (λ found. JudgesReads history.now found.phenomena found.level) }
 {
     let g0 = find_listed_circle(alloc, history)?;
-    let g1a = find_aborted_read(alloc, history)?;
-    let g1b = find_intermediate_read(alloc, history)?;
+    let g1a = find_aborted_read(history);
+    let g1b = find_intermediate_read(history);
     let level = low_grade_of(&g0);
     Ok(Findings {
         phenomena: [

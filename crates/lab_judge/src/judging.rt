@@ -4,7 +4,9 @@ ghost use Rattle.std.specs.Prelude.{◌≡◌, ◌≢◌, ◌⊎◌, ◌↔◌, 
 ghost use Rattle.serde_json.specs.Data.{Data};
 ghost use Rattle.serde_json.specs.Read.{read as read_text};
 ghost use Rattle.lab_history.specs.FaultOf.{IsTrueFault};
+ghost use Rattle.lab_history.specs.FileRead.{IsTextOf};
 ghost use Rattle.lab_history.specs.Format.{history_in};
+ghost use Rattle.lab_history.specs.History.{History as Spells};
 ghost use Rattle.lab_history.specs.Limits.{max_file_bytes};
 ghost use Rattle.lab_history.specs.declared.fault.Limit.TheVariants.{Bytes};
 ghost use Rattle.lab_deps.specs.Edges.{IsEdge};
@@ -12,9 +14,12 @@ ghost use Rattle.lab_deps.specs.EdgeOrder.{IsInOrder};
 ghost use Rattle.lab_deps.specs.Refusal.{IsAnswer};
 ghost use Rattle.lab_deps.specs.Soundness.{IsSound};
 ghost use Rattle.lab_deps.specs.declared.edge.Edge.{Edge as Spelled};
+ghost use Rattle.lab_judge.specs.Phenomena.{IsClosedWalk, NoWalk};
 ghost use Rattle.lab_judge.specs.Runs.{HoldsEachOnce};
+ghost use Rattle.lab_judge.specs.Verdicts.{IsYes, IsPlaced, NoCircle};
 ghost use Rattle.lab_judge.specs.Judgement.{IsExactJudgement, IsSerialVerdict, IsSnapshotVerdict, SameFault, Judges, JudgesAll, RestsOnOrder};
 ghost use Rattle.lab_judge.specs.FileJudgement.{IsFileJudgement};
+ghost use Rattle.lab_judge.specs.Promises.{IsPromised};
 
 use crate::findings::{Findings, find_at_fault, find_in_sound, find_none};
 use crate::nodes::Nodes;
@@ -27,7 +32,7 @@ use lab_deps::{Edge, LocalFault, Sound, Unsound, check_local, edges};
 use lab_engine::Recording;
 use lab_history::{FileFault, History, read_history};
 use lab_order::NoMemory;
-use std::alloc::{AllocError, Global};
+use std::alloc::Global;
 
 /// Judges a history: whether it is serializable, whether it is a snapshot run, which phenomena it has, and which level
 /// it meets.
@@ -35,17 +40,20 @@ use std::alloc::{AllocError, Global};
 /// A serial yes carries an order in which the committed transactions, run whole one after another, list, write and leave
 /// what is recorded. A snapshot yes carries places of starts and commits at which each of them sees the committed state
 /// of its start and its own writes, and overlapping ones write different rows. A no carries a fault of the history, or,
-/// where it is sound, dependencies or arrows that lead back to where they begin. NoMemory where a growth was refused.
+/// where it is sound, dependencies or arrows that lead back to where they begin; it comes nowhere else. NoMemory where a
+/// growth was refused.
 pub fn judge(alloc: Global, history: &History) -> Result<Report, NoMemory>
     ensures exact { IfOk result (IsExactJudgement history.now) }
     ensures serial { IfOk result (λ report. IsSerialVerdict history.now report.serial) }
     ensures snapshot { IfOk result (λ report. IsSnapshotVerdict history.now report.snapshot) }
     ensures fault { IfOk result (λ report. SameFault report.serial report.snapshot) }
     ensures found { IfOk result (λ report. Judges history.now report.serial report.phenomena report.level) }
+    ensures yes { IfOk result (λ report. IsYes report.serial ↔ (IsSound history.now × NoWalk (IsClosedWalk history.now))) }
+    ensures placed { IfOk result (λ report. IsPlaced report.snapshot ↔ (IsSound history.now × NoCircle history.now)) }
 {
     match check_local(alloc, history) {
         Ok(sound) => judge_sound(alloc, history, &sound),
-        Err(Unsound::NoMemory) => Err(AllocError),
+        Err(Unsound::NoMemory) => unreachable!(),
         Err(Unsound::Fault(fault)) => judge_unsound(alloc, history, &fault),
     }
 }
@@ -53,6 +61,8 @@ pub fn judge(alloc: Global, history: &History) -> Result<Report, NoMemory>
 /// Judges the history of a file's bytes; refused as [`read_history`] refuses it.
 pub fn judge_bytes(alloc: Global, bytes: &[u8]) -> Result<Report, FileFault>
     ensures judged { IfOk result (IsFileJudgement bytes.now) }
+    ensures yes { (d : Data) (h : Spells) → IsTextOf bytes.now d → history_in d ≡ Ok h → IfOk result (λ report. IsYes report.serial ↔ (IsSound h × NoWalk (IsClosedWalk h))) }
+    ensures placed { (d : Data) (h : Spells) → IsTextOf bytes.now d → history_in d ≡ Ok h → IfOk result (λ report. IsPlaced report.snapshot ↔ (IsSound h × NoCircle h)) }
     ensures short { IfOk result (λ report. length bytes.now ≤ max_file_bytes) }
     ensures only { (d : Data) → length bytes.now ≤ max_file_bytes → IsUtf8 bytes.now → read_text bytes.now ≡ Some d
         → IfErr result (λ fault. (fault ≡ FileFault.NoMemory) ⊎ (history_in d ≡ Err fault)) }
@@ -69,12 +79,16 @@ pub fn judge_bytes(alloc: Global, bytes: &[u8]) -> Result<Report, FileFault>
     }
 }
 
-/// Judges the history of a recording. NoMemory where a growth was refused.
+/// Judges the history of a recording, which has what its level promises: at locking it is serializable, at committed it
+/// has no G0, G1a, G1b and G1c, at snapshot it is a snapshot run. NoMemory where a growth was refused.
 pub fn judge_recording(alloc: Global, recording: &Recording) -> Result<Report, NoMemory>
     ensures exact { IfOk result (IsExactJudgement recording.now.history) }
     ensures serial { IfOk result (λ report. IsSerialVerdict recording.now.history report.serial) }
     ensures snapshot { IfOk result (λ report. IsSnapshotVerdict recording.now.history report.snapshot) }
     ensures found { IfOk result (λ report. Judges recording.now.history report.serial report.phenomena report.level) }
+    ensures yes { IfOk result (λ report. IsYes report.serial ↔ (IsSound recording.now.history × NoWalk (IsClosedWalk recording.now.history))) }
+    ensures placed { IfOk result (λ report. IsPlaced report.snapshot ↔ (IsSound recording.now.history × NoCircle recording.now.history)) }
+    ensures promised { IfOk result (IsPromised recording.now.level) }
 {
     judge(alloc, recording.history())
 }

@@ -12,9 +12,9 @@ use Rattle.lab_table.proofs.Maps.{same_row}
 use Rattle.lab_engine.specs.declared.event.Level.{Level}
 use Rattle.lab_engine.specs.Log.{Past, Version, Txn, commits, version_by, last_installed, initial_version, committed_version, seen, has_read}
 use Rattle.lab_engine.specs.Rules.{HoldsMatch, HasRead}
-use Rattle.lab_engine.specs.Sight.{Listed, version_in, IsSight}
+use Rattle.lab_engine.specs.Sight.{Listed, version_in, ShowsWritten}
 use Rattle.lab_engine.proofs.Holding.{absent, found_of_any, none_of_any, any_read}
-use Rattle.lab_locking.specs.Blockers.{committed_state, matches_pending, row_was_read, listed_was_read, was_read}
+use Rattle.lab_locking.specs.Blockers.{committed_state, matches_pending, any_matches, row_was_read, listed_was_read, was_read}
 
 -- the committed state of a row is that of its committed version
 state_of : (setup : Table) (installed : Option Version) (row : Row) → committed_state setup installed row ≡ (unwrap_or installed (initial_version setup row)).state
@@ -38,7 +38,7 @@ module _ (setup : Table) (past : Past) (committed : Listed) (is : (row : Row) �
       true≢false (sym matched ∙ ap (λ state. matches s row state || matches s row v.state) (sym (state_is row))
       ∙ none_of_any (λ entry. matches s entry.0 (committed_state setup (get committed entry.0) entry.0) || matches s entry.0 entry.1.state) pending any row v (last row ∙ wrote))
 
-module _ (level : Level) (setup : Table) (past : Past) (asker : Txn) (sees : Listed) (sight : IsSight level setup past asker sees)
+module _ (level : Level) (setup : Table) (past : Past) (asker : Txn) (sees : Listed)
     (ran : List Statement) (holder : Txn) (ran_is : ran ≡ reverse (map (λ op. op.statement) holder.ops)) where
   -- a row that is seen in a state was read before or after
   read_at : (s : Statement) (row : Row) (state : State) → row_was_read ran s row state
@@ -46,37 +46,40 @@ module _ (level : Level) (setup : Table) (past : Past) (asker : Txn) (sees : Lis
   read_at s row state i = would_write s row state && (any_read ran holder.ops row state ran_is i || any_read ran holder.ops row (new_state s row state) ran_is i)
 
   -- a row whose state as seen was read
-  at_row : (s : Statement) (row : Row) → row_was_read ran s row (version_in sees row).state ≡ true → HasRead level setup past asker s holder
-  at_row s row read =
-      let parts = and_parts _ _ (sym (read_at s row (seen level setup past asker row).state) ∙ ap (λ v. row_was_read ran s row v.state) (sym (sight row)) ∙ read) in
+  at_row : (s : Statement) → ShowsWritten level setup past asker s sees → (row : Row) → row_was_read ran s row (version_in sees row).state ≡ true → HasRead level setup past asker s holder
+  at_row s shows row read =
+      let state = (version_in sees row).state in
+      let writes = (and_parts (would_write s row state) (any_matches ran row state || any_matches ran row (new_state s row state)) read).0 in
+      let same = (shows row).1 (sym (shows row).0 ∙ writes) in
+      let parts = and_parts _ _ (sym (read_at s row (seen level setup past asker row).state) ∙ ap (λ v. row_was_read ran s row v.state) (sym same) ∙ read) in
       (row, parts.0, parts.1)
 
   -- the test of a row at which a statement was read
-  read_row : (s : Statement) (row : Row) → IsTrue (would_write s row (seen level setup past asker row).state)
+  read_row : (s : Statement) → ShowsWritten level setup past asker s sees → (row : Row) → IsTrue (would_write s row (seen level setup past asker row).state)
       → IsTrue (has_read holder.ops row (seen level setup past asker row).state || has_read holder.ops row (new_state s row (seen level setup past asker row).state))
       → row_was_read ran s row (version_in sees row).state ≡ true
-  read_row s row writes read = ap (λ v. row_was_read ran s row v.state) (sight row) ∙ read_at s row (seen level setup past asker row).state ∙ and_from _ _ writes read
+  read_row s shows row writes read = ap (λ v. row_was_read ran s row v.state) ((shows row).1 writes) ∙ read_at s row (seen level setup past asker row).state ∙ and_from _ _ writes read
 
-  listed_read : (s : Statement) → listed_was_read ran s sees ≡ true → HasRead level setup past asker s holder
-  listed_read s any =
+  listed_read : (s : Statement) → ShowsWritten level setup past asker s sees → listed_was_read ran s sees ≡ true → HasRead level setup past asker s holder
+  listed_read s shows any =
       let f = found_of_any (λ entry. row_was_read ran s entry.0 entry.1.state) sees any in
-      at_row s f.0 (ap (λ o. row_was_read ran s f.0 (unwrap_or o absent).state) f.2 ∙ f.3)
+      at_row s shows f.0 (ap (λ o. row_was_read ran s f.0 (unwrap_or o absent).state) f.2 ∙ f.3)
 
   -- a statement that writes no absent row writes only rows that are listed
-  listed_unread : (s : Statement) → ((row : Row) → would_write s row None ≡ false) → listed_was_read ran s sees ≡ false → ¬ HasRead level setup past asker s holder
-  listed_unread s nothing any (row, writes, read) = at (get sees row) refl
+  listed_unread : (s : Statement) → ShowsWritten level setup past asker s sees → ((row : Row) → would_write s row None ≡ false) → listed_was_read ran s sees ≡ false → ¬ HasRead level setup past asker s holder
+  listed_unread s shows nothing any (row, writes, read) = at (get sees row) refl
     where
       at : (o : Option Version) → get sees row ≡ o → ⊥
-      at None is = true≢false (sym writes ∙ ap (λ v. would_write s row v.state) (sym (sight row)) ∙ ap (λ o. would_write s row (unwrap_or o absent).state) is ∙ nothing row)
-      at (Some v) is = true≢false (sym (read_row s row writes read) ∙ ap (λ o. row_was_read ran s row (unwrap_or o absent).state) is
+      at None is = true≢false (sym writes ∙ sym (shows row).0 ∙ ap (λ o. would_write s row (unwrap_or o absent).state) is ∙ nothing row)
+      at (Some v) is = true≢false (sym (read_row s shows row writes read) ∙ ap (λ o. row_was_read ran s row (unwrap_or o absent).state) is
           ∙ none_of_any (λ entry. row_was_read ran s entry.0 entry.1.state) sees any row v is)
 
   -- the transaction has run a statement that matches what the asker's would write
-  pub has_been_read : (s : Statement) → was_read ran s sees ≡ true → HasRead level setup past asker s holder
-  has_been_read (Select pred) any = absurd (true≢false (sym any))
-  has_been_read (Update expr pred) any = listed_read (Update expr pred) any
-  has_been_read (Insert id new) any = at_row (Insert id new) id any
-  has_been_read (Delete pred) any = listed_read (Delete pred) any
+  pub has_been_read : (s : Statement) → ShowsWritten level setup past asker s sees → was_read ran s sees ≡ true → HasRead level setup past asker s holder
+  has_been_read (Select pred) shows any = absurd (true≢false (sym any))
+  has_been_read (Update expr pred) shows any = listed_read (Update expr pred) shows any
+  has_been_read (Insert id new) shows any = at_row (Insert id new) shows id any
+  has_been_read (Delete pred) shows any = listed_read (Delete pred) shows any
 
   -- an insert writes its own row alone
   own_row : (id row : Row) (b : Bool) → row_eq row id ≡ b → (new : ℤ) → is_some (cond b (Some (Some new)) None) ≡ true → row ≡ id
@@ -84,10 +87,10 @@ module _ (level : Level) (setup : Table) (past : Past) (asker : Txn) (sees : Lis
   own_row id row false is new h = absurd (true≢false (sym h))
 
   -- the transaction has run none
-  pub has_not_been_read : (s : Statement) → was_read ran s sees ≡ false → ¬ HasRead level setup past asker s holder
-  has_not_been_read (Select pred) any = λ (row, writes, read). true≢false (sym writes)
-  has_not_been_read (Update expr pred) any = listed_unread (Update expr pred) (λ row. refl) any
-  has_not_been_read (Insert id new) any = λ (row, writes, read).
-      true≢false (sym (read_row (Insert id new) row writes read)
+  pub has_not_been_read : (s : Statement) → ShowsWritten level setup past asker s sees → was_read ran s sees ≡ false → ¬ HasRead level setup past asker s holder
+  has_not_been_read (Select pred) shows any = λ (row, writes, read). true≢false (sym writes)
+  has_not_been_read (Update expr pred) shows any = listed_unread (Update expr pred) shows (λ row. refl) any
+  has_not_been_read (Insert id new) shows any = λ (row, writes, read).
+      true≢false (sym (read_row (Insert id new) shows row writes read)
       ∙ ap (λ r. row_was_read ran (Insert id new) r (version_in sees r).state) (own_row id row (row_eq row id) refl new writes) ∙ any)
-  has_not_been_read (Delete pred) any = listed_unread (Delete pred) (λ row. refl) any
+  has_not_been_read (Delete pred) shows any = listed_unread (Delete pred) shows (λ row. refl) any

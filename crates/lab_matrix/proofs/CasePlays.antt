@@ -10,6 +10,7 @@ use Rattle.lab_engine.specs.Recording.{IsRecording}
 use Rattle.lab_session.specs.Play.{given_lines, IsLegalPlay, IsScriptedFault}
 use Rattle.lab_session.specs.declared.fault.PlayFault.{PlayFault}
 use Rattle.lab_judge.specs.Judgement.{IsExactJudgement}
+use Rattle.lab_judge.specs.Promises.{IsPromised}
 use Rattle.lab_judge.specs.declared.report.Report.{Report}
 use Rattle.lab_matrix.specs.Listings.{usual_setup, case_script, listing}
 use Rattle.lab_matrix.specs.Matrix.{IsCell, IsRow, AreCells}
@@ -30,14 +31,15 @@ module _ (case : CaseName) (at kind : Level) (opening : Table) (script : Script)
 
   -- a judgement of the recording of its play is the case's cell
   pub cell_is : (recording : RecordedLog) (report : Report) → recording.level ≡ kind → recording.setup ≡ opening → IsLegalPlay kind opening (given_lines script.lines) recording.log
-      → IsRecording opening (past_of recording.log) recording.history → IsExactJudgement recording.history report → IsCell case at report
-  cell_is recording report same on play history judged = record {
+      → IsRecording opening (past_of recording.log) recording.history → IsExactJudgement recording.history report → IsPromised recording.level report → IsCell case at report
+  cell_is recording report same on play history judged promised = record {
     recording = recording;
     level_is = same ∙ kind_is;
     setup_is = on ∙ on_usual;
     play = moved (λ k t s. IsLegalPlay k t (given_lines s.lines) recording.log) play;
     history = moved (λ k t s. IsRecording t (past_of recording.log) recording.history) history;
     judged = judged;
+    promised = subst (λ k. IsPromised k report) (same ∙ kind_is) promised;
   }
 
   -- a refusal of its play is one of the case's play

@@ -1,12 +1,14 @@
 -- What stands in the matrix: for each case and each level the judgement of a recording.
-use Rattle.std.specs.Prelude.{◌≡◌}
+use Rattle.std.specs.Prelude.{◌≡◌, ◌≢◌}
 use Rattle.lab_engine.specs.declared.event.Level.{Level}
 use Rattle.lab_engine.specs.declared.event.Level.TheVariants as level
 use Rattle.lab_engine.specs.RecordedLog.{RecordedLog}
 use Rattle.lab_engine.specs.Log.{past_of}
 use Rattle.lab_engine.specs.Recording.{IsRecording}
 use Rattle.lab_session.specs.Play.{given_lines, IsLegalPlay, IsScriptedFault}
+use Rattle.lab_session.specs.declared.fault.PlayFault.TheVariants as play_fault
 use Rattle.lab_judge.specs.Judgement.{IsExactJudgement}
+use Rattle.lab_judge.specs.Promises.{IsPromised}
 use Rattle.lab_judge.specs.declared.report.Report.{Report}
 use Rattle.lab_matrix.specs.Listings.{usual_setup, listing}
 use Rattle.lab_matrix.specs.declared.name.CaseName.{CaseName}
@@ -16,7 +18,7 @@ use Rattle.lab_matrix.specs.declared.cells.Matrix.{Matrix}
 use Rattle.lab_matrix.specs.declared.filling.MatrixFault.{MatrixFault}
 use Rattle.lab_matrix.specs.declared.filling.MatrixFault.TheVariants.{NoMemory, Play}
 
--- the report is the judgement of a recording at the level, with the setup of the cases, whose log is legal and follows the case's script to its end
+-- the report is the judgement of a recording at the level, with the setup of the cases, whose log is legal and follows the case's script to its end; and it says what the level promises
 pub record IsCell (case : CaseName) (level : Level) (report : Report) : Type 0 where
   pub recording : RecordedLog
   pub level_is : recording.level ≡ level
@@ -24,6 +26,7 @@ pub record IsCell (case : CaseName) (level : Level) (report : Report) : Type 0 w
   pub play : IsLegalPlay level usual_setup (given_lines (listing case)) recording.log
   pub history : IsRecording usual_setup (past_of recording.log) recording.history
   pub judged : IsExactJudgement recording.history report
+  pub promised : IsPromised level report
 
 -- the report of a row at a level
 abbrev pub report_at : Row → Level → Report
@@ -56,7 +59,7 @@ IsRow case row = (level : Level) → IsCell case level (report_at row level)
 abbrev pub AreCells : Matrix → Type 0
 AreCells matrix = (case : CaseName) (level : Level) → IsCell case level (cell_of matrix case level)
 
--- a refusal is true: the play of that case at that level has no recording
+-- a refusal is true: the play of that case at that level has no recording, and memory wasn't wanting for it
 abbrev pub IsMatrixFault : MatrixFault → Type 0
 IsMatrixFault NoMemory = Unit {0}
-IsMatrixFault (Play case level fault) = IsScriptedFault level usual_setup (given_lines (listing case)) fault
+IsMatrixFault (Play case level fault) = (fault ≢ play_fault.NoMemory) × IsScriptedFault level usual_setup (given_lines (listing case)) fault

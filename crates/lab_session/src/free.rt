@@ -297,6 +297,7 @@ pub fn play_free<E: Engine + Drop + Send, G: Gate + Sync, R: Threads + Wait + Sy
 ) -> Result<Recording, PlayFault>
     requires { E.events engine ≡ [] }
     ensures sound { IfOk result IsSoundRecord }
+    ensures level { IfOk result (λ recording. (other : _) × (recording.level ≡ E.kind other)) }
     ensures played { IfOk result (λ recording. AllSessionsPlayed (given_lines script.now.lines) recording.log) }
     ensures fault { IfErr result (IsFreeFault (given_lines script.now.lines)) }
 {

@@ -1,16 +1,16 @@
 //! A bench that threads share, and the seats of its sessions.
 
-ghost use Rattle.std.specs.Prelude.{◌≡◌, ◌≢◌, ◌≤◌, ◌⊎◌, ℕ, None, Some, [], true, map, IfOk, IfErr, OnOk};
-ghost use Rattle.lab_engine.specs.Log.{past_of};
-ghost use Rattle.lab_engine.specs.Recording.{is_answer, numbers_from};
+ghost use Rattle.std.specs.Prelude.{◌≡◌, ◌≢◌, ◌≤◌, ℕ, None, Some, [], true, map, IsSome, IfOk, IfErr};
+ghost use Rattle.lab_engine.specs.Recording.{numbers_from};
 ghost use Rattle.lab_engine.specs.RecordedLog.{IsSoundRecord};
 ghost use Rattle.lab_session.specs.Seats.{new_seat, GrowsBy};
 ghost use Rattle.lab_session.specs.Closing.{AreClosed, IsLabCloseFault};
-ghost use Rattle.lab_session.specs.Waiting.{still_waits, handed_back, lab_fault_of, RestsOrHolds};
+ghost use Rattle.lab_session.specs.Waiting.{still_waits, handed_back, RestsOrHolds};
 
-use crate::bench::{Bench, BenchFault, Receipt};
+use crate::bench::Bench;
 use crate::fault::{CloseFault, LabFault};
-use crate::seat::{Call, Seat, is_answered};
+use crate::seat::Seat;
+use crate::turn::{Progress, asked, gone_on, retried};
 use lab_engine::{Engine, Recording};
 use lab_table::{Command, NoMemory, Session};
 use std::alloc::Global;
@@ -38,22 +38,6 @@ impl<E: Engine> Model for Lab<E> {
     ghost invariant = { λ l. l.sessions ≤ 9 };
 }
 
-/// What a command was answered, and whether it waited.
-#[derive(Drop)]
-struct Answer {
-    receipt: Receipt,
-    waited: bool,
-}
-
-fn lab_fault(fault: BenchFault, waiting: bool) -> LabFault
-    ensures { result ≡ lab_fault_of fault waiting }
-{
-    match fault {
-        BenchFault::NoMemory => LabFault::NoMemory { waiting },
-        BenchFault::Full => LabFault::Full { waiting },
-    }
-}
-
 /// Whether the command that was refused still waits.
 pub(crate) fn waits_on(fault: LabFault) -> bool
     ensures { result ≡ still_waits fault }
@@ -62,54 +46,6 @@ pub(crate) fn waits_on(fault: LabFault) -> bool
         LabFault::NoMemory { waiting } => waiting,
         LabFault::Full { waiting } => waiting,
         LabFault::NothingWaiting => false,
-    }
-}
-
-/// A seat that holds a command, in the place of one that it held.
-fn holding(seat: Seat, command: Command) -> Seat
-    ensures { result ≡ record { session = seat.session; calls = seat.calls; holds = Some command } }
-{
-    let Seat {
-        session,
-        calls,
-        holds: _,
-    } = seat;
-    let holds = Some(command);
-    Seat {
-        session,
-        calls,
-        holds,
-    }
-}
-
-/// A seat whose command was refused: it holds the command where that still waits.
-fn refused(seat: Seat, command: Command, fault: LabFault) -> Seat
-    ensures { result ≡ handed_back seat command fault }
-{
-    if !waits_on(fault) {
-        return seat;
-    }
-    holding(seat, command)
-}
-
-/// A seat that holds no command, where the one that it held waited and was answered.
-fn rested(seat: Seat, waited: bool) -> Seat
-    ensures session { result.session ≡ seat.session }
-    ensures calls { result.calls ≡ seat.calls }
-    ensures holds { RestsOrHolds seat.holds result.holds }
-{
-    if !waited {
-        return seat;
-    }
-    let Seat {
-        session,
-        calls,
-        holds: _,
-    } = seat;
-    Seat {
-        session,
-        calls,
-        holds: None,
     }
 }
 
@@ -146,88 +82,34 @@ impl<E: Engine + Drop> Lab<E> {
         Ok((lab, seats))
     }
 
-    /// Waits until the session's command may be retried, and retries it until it is answered.
+    /// Waits until the command that a seat holds may be retried, and is answered.
     fn waited<R: Wait>(
         &self,
         rt: &R,
         alloc: Global,
         bench: MutexGuard<'_, Bench<E>>,
-        session: Session,
-    ) -> Result<Receipt, BenchFault>
-        ensures { IfOk result (λ r. is_answer r.outcome ≡ true) }
+        seat: Seat,
+    ) -> Result<Seat, (Seat, LabFault)>
+        requires { IsSome seat.holds }
+        ensures answered { IfOk result (λ s. (command : _) × (r : _) × (seat.holds ≡ Some command) × GrowsBy seat s command r) }
+        ensures holds { IfOk result (λ s. s.holds ≡ None) }
+        ensures seat { IfErr result (λ e. e.0 ≡ seat) }
+        ensures waiting { IfErr result (λ e. still_waits e.1 ≡ true) }
     {
         let mut bench = bench;
+        let mut seat = seat;
         for _ in rt.forever() {
-            bench = self
-                .changed
-                .wait_while(rt, bench, |bench| bench.retryable() != Some(session));
-            if !bench.is_waiting(session) {
-                continue;
+            match retried(&mut bench, alloc, &mut seat) {
+                Ok(Some(change)) => {
+                    change.wake(&self.changed);
+                    return Ok(seat);
+                }
+                Ok(None) => {}
+                Err(fault) => return Err((seat, fault)),
             }
-            let receipt = bench.retry(alloc, session)?;
-            self.changed.notify_all();
-            if is_answered(&receipt.outcome) {
-                return Ok(receipt);
-            }
+            bench = self.changed.wait(rt, bench);
         }
         unreachable!()
-    }
-
-    /// Steps a command, and waits until it is answered.
-    fn asked<R: Wait>(
-        &self,
-        rt: &R,
-        alloc: Global,
-        bench: MutexGuard<'_, Bench<E>>,
-        session: Session,
-        command: &Command,
-    ) -> Result<Answer, LabFault>
-        ensures answered { IfOk result (λ a. is_answer a.receipt.outcome ≡ true) }
-        ensures fault { IfErr result (λ e. e ≢ LabFault.NothingWaiting) }
-    {
-        let mut bench = bench;
-        let receipt = match bench.step(alloc, session, command) {
-            Ok(receipt) => receipt,
-            Err(fault) => return Err(lab_fault(fault, false)),
-        };
-        self.changed.notify_all();
-        if is_answered(&receipt.outcome) {
-            return Ok(Answer {
-                receipt,
-                waited: false,
-            });
-        }
-        match self.waited(rt, alloc, bench, session) {
-            Ok(receipt) => Ok(Answer {
-                receipt,
-                waited: true,
-            }),
-            Err(fault) => Err(lab_fault(fault, true)),
-        }
-    }
-
-    /// Waits until the session's command is answered, or steps it where the session isn't waiting.
-    fn gone_on<R: Wait>(
-        &self,
-        rt: &R,
-        alloc: Global,
-        bench: MutexGuard<'_, Bench<E>>,
-        session: Session,
-        command: &Command,
-    ) -> Result<Receipt, LabFault>
-        ensures answered { IfOk result (λ r. is_answer r.outcome ≡ true) }
-        ensures fault { IfErr result (λ e. e ≢ LabFault.NothingWaiting) }
-    {
-        if !bench.is_waiting(session) {
-            return match self.asked(rt, alloc, bench, session, command) {
-                Ok(answer) => Ok(answer.receipt),
-                Err(fault) => Err(fault),
-            };
-        }
-        match self.waited(rt, alloc, bench, session) {
-            Ok(receipt) => Ok(receipt),
-            Err(fault) => Err(lab_fault(fault, true)),
-        }
     }
 
     /// Steps a command of a seat's session, and waits until it is answered. The seat's list then has it with its
@@ -249,19 +131,17 @@ impl<E: Engine + Drop> Lab<E> {
         ensures fault { IfErr result (λ e. e.1 ≢ LabFault.NothingWaiting) }
     {
         let mut seat = seat;
-        if seat.calls.try_reserve(1).is_err() {
-            return Err((seat, LabFault::NoMemory { waiting: false }));
-        }
-        let bench = self.bench.lock(rt);
-        match self.asked(rt, alloc, bench, seat.session, &command) {
-            Ok(answer) => {
-                let Answer { receipt, waited } = answer;
-                let Ok(()) = seat.calls.push(Call { command, receipt }) else {
-                    unreachable!()
-                };
-                Ok(rested(seat, waited))
+        let mut bench = self.bench.lock(rt);
+        match asked(&mut bench, alloc, &mut seat, command) {
+            Ok(progress) => {
+                let Progress { answered, change } = progress;
+                change.wake(&self.changed);
+                if answered {
+                    return Ok(seat);
+                }
+                self.waited(rt, alloc, bench, seat)
             }
-            Err(fault) => Err((refused(seat, command, fault), fault)),
+            Err(refused) => Err((seat, refused.1)),
         }
     }
 
@@ -281,23 +161,22 @@ impl<E: Engine + Drop> Lab<E> {
         ensures seat { IfErr result (λ e. e.0 ≡ seat) }
         ensures nothing { IfErr result (λ e. e.1 ≡ LabFault.NothingWaiting → seat.holds ≡ None) }
     {
-        let mut seat = seat;
-        let Some(command) = seat.holds.take() else {
+        if seat.holds.is_none() {
             return Err((seat, LabFault::NothingWaiting));
-        };
-        let bench = self.bench.lock(rt);
-        let waiting = bench.is_waiting(seat.session);
-        if seat.calls.try_reserve(1).is_err() {
-            return Err((holding(seat, command), LabFault::NoMemory { waiting }));
         }
-        match self.gone_on(rt, alloc, bench, seat.session, &command) {
-            Ok(receipt) => {
-                let Ok(()) = seat.calls.push(Call { command, receipt }) else {
-                    unreachable!()
-                };
-                Ok(seat)
+        let mut seat = seat;
+        let mut bench = self.bench.lock(rt);
+        match gone_on(&mut bench, alloc, &mut seat) {
+            Ok(Some(progress)) => {
+                let Progress { answered, change } = progress;
+                change.wake(&self.changed);
+                if answered {
+                    return Ok(seat);
+                }
+                self.waited(rt, alloc, bench, seat)
             }
-            Err(fault) => Err((holding(seat, command), fault)),
+            Ok(None) => self.waited(rt, alloc, bench, seat),
+            Err(fault) => Err((seat, fault)),
         }
     }
 
@@ -315,6 +194,7 @@ impl<E: Engine + Drop> Lab<E> {
     ) -> Result<Recording, (Lab<E>, Vec<Seat>, CloseFault)>
         ensures closed { IfOk result (λ recording. AreClosed self recording.log seats.items) }
         ensures sound { IfOk result IsSoundRecord }
+        ensures level { IfOk result (λ recording. (engine : _) × (recording.level ≡ E.kind engine)) }
         ensures lab { IfErr result (λ e. e.0 ≡ self) }
         ensures seats { IfErr result (λ e. e.1 ≡ seats) }
         ensures fault { IfErr result (λ e. IsLabCloseFault self seats.items e.2) }

@@ -1,21 +1,22 @@
-use Rattle.std.proofs.Common.{◌≡◌, ◌++◌, nat_eq, sym, ap, ◌∙◌, subst}
+use Rattle.std.proofs.Common.{◌≡◌, nat_eq, sym, ap, ◌∙◌, subst}
 use Rattle.std.specs.Prelude.{None, Some, OnOk}
 use Rattle.std.specs.Map.{lookup}
-use Rattle.std.proofs.lemmas.List.{append-nil}
 use Rattle.lab_deps.specs.EdgesByRow.{rows_of, found_at_row}
+use Rattle.lab_deps.specs.Sinks.{Grows}
 use Rattle.lab_deps.proofs.OpsOfOneRow.{found_there, found_nowhere}
+use Rattle.lab_deps.proofs.Sinking.{grows_none}
 use Rattle.lab_deps.proofs.collect.add_op.Goals as goal
 
 pub returns-in-None-get : goal.returns-in-None-get
-returns-in-None-get c =
+returns-in-None-get g c =
     let none : lookup (nat_eq c.in-Some.row) (rows_of c.args.history.now) ≡ None = ap (lookup (nat_eq c.in-Some.row)) (sym c.requires) ∙ sym c.in-None-get.ensures.value in
-    sym (append-nil c.args.edges.now.items) ∙ ap (λ es. c.args.edges.now.items ++ es) (sym (found_nowhere c.args.history.now c.args.txn c.args.op.now c.in-Some.row c.in-Some.ensures none))
+    subst (Grows g.S.EdgeSink.handed c.args.sink.now c.args.sink.now) (sym (found_nowhere c.args.history.now c.args.txn c.args.op.now c.in-Some.row c.in-Some.ensures none)) (grows_none g.S.EdgeSink.handed c.args.sink.now)
 
 pub returns-in-Some-get : goal.returns-in-Some-get
-returns-in-Some-get c =
+returns-in-Some-get g c =
     let h = c.args.history.now in
     let row = c.in-Some.row in
     let vs = c.in-Some-get.versions.now in
     let there : lookup (nat_eq row) (rows_of h) ≡ Some vs = ap (lookup (nat_eq row)) (sym c.requires) ∙ sym c.in-Some-get.ensures.value in
     let is = ap (λ vs. found_at_row h c.args.txn c.args.op.now (row, vs)) c.as_slice.ensures ∙ sym (found_there h c.args.txn c.args.op.now row c.in-Some.ensures vs there) in
-    subst (λ es. OnOk c.add_at_row.result (c.add_at_row.new.edges.items ≡ c.args.edges.now.items ++ es)) is c.add_at_row.ensures
+    subst (λ es. OnOk c.add_at_row.result (Grows g.S.EdgeSink.handed c.args.sink.now c.add_at_row.new.sink es)) is c.add_at_row.ensures

@@ -1,4 +1,4 @@
-use Rattle.std.proofs.Common.{◌≡◌, ◌+◌, ◌++◌, ◌∷◌, drop, sym, ap, ◌∙◌, subst, append_assoc}
+use Rattle.std.proofs.Common.{◌≡◌, ◌+◌, ◌++◌, ◌∷◌, [], drop, refl, sym, ap, ◌∙◌, subst, append_assoc}
 use Rattle.std.specs.List.{flat_map}
 use Rattle.std.proofs.lemmas.List.{append-nil, drop_all, drop_more}
 use Rattle.std.proofs.lemmas.Result.{IfOk-weaker}
@@ -16,7 +16,7 @@ loop-op-preserved c =
     drop_more c.args.ops.now c.loop-op.op-index c.op-item.result c.loop-op-test.true ∙ ap (λ op. op ∷ behind) (sym c.op-item.is) in
     let so_far = subst (λ ops. HasMembersOf (old ++ flat_map f ops) all) left c.loop-op.invariant in
     let tidy = c.without_doubles.new.edges.items in
-    let has = members_of tidy c.add_op.new.edges.items (old ++ f c.op-item.result) c.in_ok-most.ensures c.in_ok-add_op.ensures in
+    let has = members_of tidy c.add_op.new.sink.items (old ++ f c.op-item.result) c.in_ok-most.ensures (c.in_ok-add_op.ensures [] old refl) in
     members_through (tidy ++ flat_map f behind) ((old ++ f c.op-item.result) ++ flat_map f behind) all (joined_members tidy (old ++ f c.op-item.result) (flat_map f behind) has)
     (subst (λ es. HasMembersOf es all) (sym (append_assoc old (f c.op-item.result) (flat_map f behind))) so_far)
 

@@ -1,6 +1,5 @@
 use Rattle.std.proofs.Common.{sym, subst, ◌∙◌}
 use Rattle.std.specs.Prelude.{IfSome}
-use Rattle.std.proofs.lemmas.Result.{IfOk-weaker}
 use Rattle.lab_deps.specs.Soundness.{Stands}
 use Rattle.lab_deps.specs.declared.fault.LocalFault.TheVariants.{IntermediateRead}
 use Rattle.lab_deps.proofs.UncommittedReads.{intermediate_stands, none_intermediate}
@@ -8,8 +7,7 @@ use Rattle.lab_deps.proofs.uncommitted.first_intermediate_read.Goals as goal
 
 pub returns-clause-found : goal.returns-clause-found
 returns-clause-found c =
-    IfOk-weaker c.first_read.result _ _ (λ found is. subst (λ o. IfSome o (λ read. Stands c.args.history.now (IntermediateRead read.txn read.op read.row))) (sym is)
-    (intermediate_stands c.args.history.now)) c.first_read.ensures
+    subst (λ o. IfSome o (λ read. Stands c.args.history.now (IntermediateRead read.txn read.op read.row))) (sym c.first_read.ensures) (intermediate_stands c.args.history.now)
 
 pub returns-clause-none : goal.returns-clause-none
-returns-clause-none c = IfOk-weaker c.first_read.result _ _ (λ found is none. none_intermediate c.args.history.now (sym is ∙ none)) c.first_read.ensures
+returns-clause-none c = λ none. none_intermediate c.args.history.now (sym c.first_read.ensures ∙ none)

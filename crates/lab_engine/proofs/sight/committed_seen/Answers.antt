@@ -7,10 +7,9 @@ use Rattle.lab_engine.specs.Log.{commits, last_installed, sight}
 use Rattle.lab_engine.specs.Sight.{listed_version}
 use Rattle.lab_engine.proofs.sight.committed_seen.Goals as goal
 
-pub returns : goal.returns
-returns c = λ past session txn d is_active running.
+pub returns-in-Snapshot : goal.returns-in-Snapshot
+returns-in-Snapshot c = λ past session txn d is_active running.
     IfOk-weaker c.under_chains.result _ _
     (λ made is row.
-    is row ∙ ap (option_or (last_installed (commits txn.before) row)) (c.in_ok-initial.ensures row)
-    ∙ ap (λ (level : Level). option_or (last_installed (commits (sight level past txn)) row) (listed_version (get c.args.setup.now row))) (sym c.in-Snapshot.is))
+    is row ∙ ap (λ (level : Level). option_or (last_installed (commits (sight level past txn)) row) (listed_version (get c.args.setup.now row))) (sym c.in-Snapshot.is))
     (c.under_chains.ensures past session txn d is_active running.before)

@@ -13,15 +13,16 @@ loop-state-preserved g c = λ past txn d is_active sight.
     stands_at c.args.situation.now.sessions.items c.deref-state-items.result.now c.loop-state.state-index c.state-item.result c.deref-state-items.ensures.value c.loop-state-test.true
     c.state-item.is in
     let described : DescribesSession past c.state-item.result = described_at past c.args.situation.now c.loop-state.state-index c.state-item.result d at in
+    let shows = c.in_ok-shown.ensures g.R.Rules.kind c.args.setup.now past txn sight in
     those_step (BlockedBy g.R.Rules.kind c.args.setup.now past c.args.session c.args.statement.now) c.args.situation.now.sessions.items c.loop-state.state-index c.state-item.result
     c.loop-state.on.items c.if-is_blocked_by.on.items at.lt at.is (c.loop-state.invariant past txn d is_active sight)
     (elim c.if-is_blocked_by.branch [
       | then-is_blocked_by+in_ok-push w ↦ inl (
-        c.is_blocked_by.ensures.yes past txn d described is_active sight w.if-is_blocked_by.true,
+        c.is_blocked_by.ensures.yes past txn d described is_active shows w.if-is_blocked_by.true,
         ◌∙◌ {c = c.loop-state.on.items
             ++ c.state-item.result.session ∷ []} (ap (λ v. v.items) {y = w.push.new.self} w.on-is) w.in_ok-push.ensures.items,
       )
-      | else-is_blocked_by w ↦ inr (c.is_blocked_by.ensures.never past txn d described is_active sight w.if-is_blocked_by.false, ap (λ v. v.items) w.on-is)
+      | else-is_blocked_by w ↦ inr (c.is_blocked_by.ensures.never past txn d described is_active shows w.if-is_blocked_by.false, ap (λ v. v.items) w.on-is)
     ])
 
 pub returns : goal.returns

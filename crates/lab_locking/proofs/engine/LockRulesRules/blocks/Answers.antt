@@ -13,12 +13,12 @@ returns-then-holds_write-clause-yes c past asker txn describes sight running blo
     elim c.if-holds_match.branch [
       | then-holds_match w ↦ inl (holds_match c.args.setup.now past c.args.situation.now.committed describes.committed s txn holder.last running.last
           (sym c.holds_match.ensures ∙ w.if-holds_match.true))
-      | else-holds_match w ↦ inr (inl (holds_write Locking c.args.setup.now past asker c.args.seen.now sight s txn holder.last running.last (sym w.holds_write.ensures ∙ sym w.value-is ∙ blocked)))
+      | else-holds_match w ↦ inr (inl (holds_write Locking c.args.setup.now past asker c.args.seen.now s sight txn holder.last running.last (sym w.holds_write.ensures ∙ sym w.value-is ∙ blocked)))
     ]
 
 pub returns-else-holds_write-clause-yes : goal.returns-else-holds_write-clause-yes
 returns-else-holds_write-clause-yes c past asker txn describes sight running blocked =
-    inr (inr (has_been_read Locking c.args.setup.now past asker c.args.seen.now sight _ txn running.statements c.args.statement.now (sym c.has_read.ensures ∙ blocked)))
+    inr (inr (has_been_read Locking c.args.setup.now past asker c.args.seen.now _ txn running.statements c.args.statement.now sight (sym c.has_read.ensures ∙ blocked)))
 
 pub returns-else-holds_write-clause-never : goal.returns-else-holds_write-clause-never
 returns-else-holds_write-clause-never c past asker txn describes sight running free =
@@ -29,9 +29,9 @@ returns-else-holds_write-clause-never c past asker txn describes sight running f
       | else-holds_match w ↦ λ blocks. elim blocks [
         | inl match ↦ holds_no_match c.args.setup.now past c.args.situation.now.committed describes.committed s txn holder.last running.last (sym c.holds_match.ensures ∙ w.if-holds_match.false) match
         | inr other ↦ elim other [
-          | inl write ↦ holds_no_write Locking c.args.setup.now past asker c.args.seen.now sight s txn holder.last running.last
+          | inl write ↦ holds_no_write Locking c.args.setup.now past asker c.args.seen.now s sight txn holder.last running.last
               (sym w.holds_write.ensures ∙ sym w.value-is ∙ c.if-holds_write.false) write
-          | inr read ↦ has_not_been_read Locking c.args.setup.now past asker c.args.seen.now sight _ txn running.statements s (sym c.has_read.ensures ∙ free) read
+          | inr read ↦ has_not_been_read Locking c.args.setup.now past asker c.args.seen.now _ txn running.statements s sight (sym c.has_read.ensures ∙ free) read
         ]
       ]
     ]

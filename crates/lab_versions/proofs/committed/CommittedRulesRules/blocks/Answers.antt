@@ -5,8 +5,8 @@ use Rattle.lab_versions.proofs.committed.CommittedRulesRules.blocks.Goals as goa
 
 pub returns-clause-yes : goal.returns-clause-yes
 returns-clause-yes c past asker txn describes sight running blocked =
-    holds_write Committed c.args.setup.now past asker c.args.seen.now sight c.args.statement.now txn c.args.holder.now.last running.last (sym c.holds_write.ensures ∙ blocked)
+    holds_write Committed c.args.setup.now past asker c.args.seen.now c.args.statement.now sight txn c.args.holder.now.last running.last (sym c.holds_write.ensures ∙ blocked)
 
 pub returns-clause-never : goal.returns-clause-never
 returns-clause-never c past asker txn describes sight running free =
-    holds_no_write Committed c.args.setup.now past asker c.args.seen.now sight c.args.statement.now txn c.args.holder.now.last running.last (sym c.holds_write.ensures ∙ free)
+    holds_no_write Committed c.args.setup.now past asker c.args.seen.now c.args.statement.now sight txn c.args.holder.now.last running.last (sym c.holds_write.ensures ∙ free)

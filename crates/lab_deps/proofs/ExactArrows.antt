@@ -1,0 +1,78 @@
+-- The kinds that cells tell of are those of the edges of a history.
+use Rattle.std.proofs.Common.{◌≡◌, ◌≢◌, ◌↔◌, ◌+◌, ◌*◌, ◌==◌, ℕ, Bool, true, false, cond, List, [], length, get_or, replicate, refl, sym, ap, ◌∙◌, arith}
+use Rattle.std.specs.Prelude.{Contains}
+use Rattle.std.proofs.lemmas.Bool.{eqb-false, ne_eqb, false≢true}
+use Rattle.std.proofs.lemmas.List.{length-replicate}
+use Rattle.lab_table.specs.Row.{Row}
+use Rattle.lab_table.proofs.Members.{no_member}
+use Rattle.lab_history.specs.History.{History}
+use Rattle.lab_history.specs.Version.{IsCommitted}
+use Rattle.lab_history.specs.declared.transaction.Txn.{Txn}
+use Rattle.lab_deps.specs.Collected.{all_edges}
+use Rattle.lab_deps.specs.Edges.{IsEdge}
+use Rattle.lab_deps.specs.KindBits.{has_bit, place, cell_at, holds, edge_of, IsNumbering, Tells}
+use Rattle.lab_deps.specs.Soundness.{IsSound}
+use Rattle.lab_deps.specs.declared.edge.Kind.{Kind}
+use Rattle.lab_deps.specs.declared.edge.Kind.TheVariants.{Write, ItemRead, PredicateRead, ItemAnti, PredicateAnti}
+use Rattle.lab_deps.proofs.CollectedEdges.{collected_is_edge, edge_is_collected}
+use Rattle.lab_deps.proofs.Numbered.{zeros}
+use Rattle.lab_deps.proofs.Readers.{committed_txn}
+
+pub no_bit : (k : Kind) → has_bit 0 k ≡ false
+no_bit Write = refl
+no_bit ItemRead = refl
+no_bit PredicateRead = refl
+no_bit ItemAnti = refl
+no_bit PredicateAnti = refl
+
+-- empty cells tell of no edges
+pub told_none : (ts : List Txn) (ps : List ℕ) (k w : ℕ) (cs : List ℕ) → IsNumbering ts ps k → w ≡ k + 1 → cs ≡ replicate (w * w) 0 → Tells ps w cs ps []
+told_none ts ps k w cs numbering wide empty = record {
+  same = refl;
+  square = ap length empty ∙ length-replicate (w * w) 0;
+  below = λ n. omega (arith, wide, numbering.few n);
+  apart = numbering.apart;
+  exact = λ from to kind a b. (
+    λ has. absurd (false≢true (sym (no_bit kind) ∙ (ap (λ c. has_bit c kind) (sym (ap (λ xs. get_or xs (cell_at ps w from to) 0) empty ∙ zeros (w * w) (cell_at ps w from to))) ∙ has))),
+    λ (row, found). absurd (no_member (edge_of from to kind row) found),
+  );
+}
+
+-- what holds of two places with a bit
+module _ (p q : ℕ) (b : Bool) where
+  held : cond (p == 0) false (cond (q == 0) false b) ≡ true → (p ≢ 0) × (q ≢ 0) × (b ≡ true)
+  held is =
+      elim (p == 0) as (λ c. (p == 0) ≡ c → cond c false (cond (q == 0) false b) ≡ true → (p ≢ 0) × (q ≢ 0) × (b ≡ true)) [
+        | true ↦ λ _ no. absurd (false≢true no)
+        | false ↦ λ some.
+            elim (q == 0) as (λ c. (q == 0) ≡ c → cond c false b ≡ true → (p ≢ 0) × (q ≢ 0) × (b ≡ true)) [
+              | true ↦ λ _ no. absurd (false≢true no)
+              | false ↦ λ there has. (eqb-false p 0 some, eqb-false q 0 there, has)
+            ] refl
+      ] refl is
+
+  hold : p ≢ 0 → q ≢ 0 → b ≡ true → cond (p == 0) false (cond (q == 0) false b) ≡ true
+  hold some there has =
+      ap (λ c. cond c false (cond (q == 0) false b)) (ne_eqb p 0 some) ∙ (ap (λ c. cond c false b) (ne_eqb q 0 there) ∙ has)
+
+pub exact_of : (h : History) → IsSound h → (ps : List ℕ) (w : ℕ) (cs made : List ℕ) → Tells ps w cs made (all_edges h) → ((t : Txn) → Contains h.txns t → place made t.no ≢ 0)
+    → (from to : ℕ) (kind : Kind) → (holds ps w cs from to kind ≡ true) ↔ ((row : Row) × IsEdge h (edge_of from to kind row))
+exact_of h sound ps w cs made told placed from to kind = (forth, back)
+  where
+    forth : holds ps w cs from to kind ≡ true → (row : Row) × IsEdge h (edge_of from to kind row)
+    forth is =
+        let parts = held (place ps from) (place ps to) (has_bit (get_or cs (cell_at ps w from to) 0) kind) is in
+        let found = (told.exact from to kind parts.0 parts.1).0 parts.2 in
+        (found.0, collected_is_edge h sound (edge_of from to kind found.0) found.1)
+
+    has_place : (n : ℕ) → IsCommitted h n → place ps n ≢ 0
+    has_place n committed none =
+        let one = committed_txn h n committed in
+        placed one.txn one.is_there (ap (place made) one.number_is ∙ (ap (λ xs. place xs n) (sym told.same) ∙ none))
+
+    back : (row : Row) × IsEdge h (edge_of from to kind row) → holds ps w cs from to kind ≡ true
+    back (row, edge) =
+        let a = has_place from edge.0 in
+        let b = has_place to edge.1 in
+        hold (place ps from) (place ps to) (has_bit (get_or cs (cell_at ps w from to) 0) kind) a b
+        ((told.exact from to kind a b).1 (row, edge_is_collected h (edge_of from to kind row) edge))

@@ -1,0 +1,125 @@
+-- Cells that tell which kinds of edges there are.
+use Rattle.std.proofs.Common.{◌≡◌, ◌≢◌, ◌⊎◌, ◌<◌, ◌==◌, ℕ, true, List, [], ◌∷◌, ◌++◌, length, get_or, set, refl, sym, ap, ◌∙◌, subst, inl, inr}
+use Rattle.std.specs.Prelude.{Contains, bit_and, bit_or}
+use Rattle.std.proofs.lemmas.Bool.{cases_eq, eq-eqb}
+use Rattle.std.proofs.lemmas.List.{get_or-set_same, get_or-set_other, length-set}
+use Rattle.std.proofs.lemmas.List.Elements.{Contains-append_left, Contains-append_right, Contains-append_cases}
+use Rattle.std.proofs.lemmas.Nat.{and_or_self, and_or_apart, mul-add-lt, same_from_place}
+use Rattle.lab_table.specs.Row.{Row}
+use Rattle.lab_table.proofs.Members.{first_member, only_member}
+use Rattle.lab_deps.specs.KindBits.{bit, has_bit, place, cell_at, edge_of, Tells}
+use Rattle.lab_deps.specs.declared.edge.Edge.{Edge}
+use Rattle.lab_deps.specs.declared.edge.Kind.{Kind}
+use Rattle.lab_deps.specs.declared.edge.Kind.TheVariants.{Write, ItemRead, PredicateRead, ItemAnti, PredicateAnti}
+
+-- two kinds are one, or share no bit
+pub kinds_apart : (a b : Kind) → (a ≡ b) ⊎ (bit_and (bit a) (bit b) ≡ 0)
+kinds_apart Write Write = inl refl
+kinds_apart Write ItemRead = inr refl
+kinds_apart Write PredicateRead = inr refl
+kinds_apart Write ItemAnti = inr refl
+kinds_apart Write PredicateAnti = inr refl
+kinds_apart ItemRead Write = inr refl
+kinds_apart ItemRead ItemRead = inl refl
+kinds_apart ItemRead PredicateRead = inr refl
+kinds_apart ItemRead ItemAnti = inr refl
+kinds_apart ItemRead PredicateAnti = inr refl
+kinds_apart PredicateRead Write = inr refl
+kinds_apart PredicateRead ItemRead = inr refl
+kinds_apart PredicateRead PredicateRead = inl refl
+kinds_apart PredicateRead ItemAnti = inr refl
+kinds_apart PredicateRead PredicateAnti = inr refl
+kinds_apart ItemAnti Write = inr refl
+kinds_apart ItemAnti ItemRead = inr refl
+kinds_apart ItemAnti PredicateRead = inr refl
+kinds_apart ItemAnti ItemAnti = inl refl
+kinds_apart ItemAnti PredicateAnti = inr refl
+kinds_apart PredicateAnti Write = inr refl
+kinds_apart PredicateAnti ItemRead = inr refl
+kinds_apart PredicateAnti PredicateRead = inr refl
+kinds_apart PredicateAnti ItemAnti = inr refl
+kinds_apart PredicateAnti PredicateAnti = inl refl
+
+pub bit_set : (c : ℕ) (k : Kind) → has_bit (bit_or c (bit k)) k ≡ true
+bit_set c k = eq-eqb (bit_and (bit_or c (bit k)) (bit k)) (bit k) (and_or_self (bit k) c)
+
+pub bit_other : (c : ℕ) (k j : Kind) → bit_and (bit k) (bit j) ≡ 0 → has_bit (bit_or c (bit k)) j ≡ has_bit c j
+bit_other c k j off = ap (λ x. x == bit j) (and_or_apart (bit j) c (bit k) off)
+
+bit_kept : (c : ℕ) (k j : Kind) → has_bit c j ≡ true → has_bit (bit_or c (bit k)) j ≡ true
+bit_kept c k j has =
+    elim (kinds_apart k j) [
+      | inl same ↦ subst (λ i. has_bit (bit_or c (bit k)) i ≡ true) same (bit_set c k)
+      | inr off ↦ bit_other c k j off ∙ has
+    ]
+
+module _ (ps : List ℕ) (w : ℕ) (cs made : List ℕ) (es : List Edge) (t : Tells ps w cs made es) (e : Edge) where
+  abbrev at : ℕ
+  at = cell_at ps w e.from e.to
+
+  abbrev next : List ℕ
+  next = set cs at (bit_or (get_or cs at 0) (bit e.kind))
+
+  within : at < length cs
+  within = subst (λ n. at < n) (sym t.square) (mul-add-lt (place ps e.from) w (place ps e.to) w (t.below e.from) (t.below e.to))
+
+  here : get_or next at 0 ≡ bit_or (get_or cs at 0) (bit e.kind)
+  here = get_or-set_same cs at (bit_or (get_or cs at 0) (bit e.kind)) 0 within
+
+  there : (k : ℕ) → k ≢ at → get_or next k 0 ≡ get_or cs k 0
+  there k other = get_or-set_other cs at k (bit_or (get_or cs at 0) (bit e.kind)) 0 other
+
+  kept : (k : ℕ) (kind : Kind) → has_bit (get_or cs k 0) kind ≡ true → has_bit (get_or next k 0) kind ≡ true
+  kept k kind has =
+      elim (cases_eq k at) [
+        | inl same ↦ subst (λ i. has_bit (get_or next i 0) kind ≡ true) (sym same)
+            (ap (λ c. has_bit c kind) here ∙ bit_kept (get_or cs at 0) e.kind kind (subst (λ i. has_bit (get_or cs i 0) kind ≡ true) same has))
+        | inr other ↦ ap (λ c. has_bit c kind) (there k other) ∙ has
+      ]
+
+  set_here : has_bit (get_or next at 0) e.kind ≡ true
+  set_here = ap (λ c. has_bit c e.kind) here ∙ bit_set (get_or cs at 0) e.kind
+
+  abbrev Among : List Edge → ℕ → ℕ → Kind → Type 0
+  Among fs from to kind = (row : Row) × Contains fs (edge_of from to kind row)
+
+  more : (from to : ℕ) (kind : Kind) → Among es from to kind → Among (es ++ e ∷ []) from to kind
+  more from to kind (row, found) = (row, Contains-append_left es (e ∷ []) (edge_of from to kind row) found)
+
+  last_is : (from to : ℕ) (kind : Kind) → from ≡ e.from → to ≡ e.to → e.kind ≡ kind → Among (es ++ e ∷ []) from to kind
+  last_is from to kind a b c =
+      let is : e ≡ edge_of from to kind e.row =
+      ap (λ f. edge_of f e.to e.kind e.row) (sym a) ∙ (ap (λ t. edge_of from t e.kind e.row) (sym b) ∙ ap (λ k. edge_of from to k e.row) c) in
+      (e.row, subst (Contains (es ++ e ∷ [])) is (Contains-append_right es (e ∷ []) e (first_member e [])))
+
+  was_told : (from to : ℕ) (kind : Kind) → place ps from ≢ 0 → place ps to ≢ 0 → has_bit (get_or next (cell_at ps w from to) 0) kind ≡ true → Among (es ++ e ∷ []) from to kind
+  was_told from to kind a b has =
+      elim (cases_eq (cell_at ps w from to) at) [
+        | inl same ↦
+            let places = same_from_place (place ps from) (place ps to) (place ps e.from) (place ps e.to) w (t.below to) (t.below e.to) same in
+            let has_here : has_bit (bit_or (get_or cs at 0) (bit e.kind)) kind ≡ true =
+            sym (ap (λ c. has_bit c kind) here) ∙ subst (λ i. has_bit (get_or next i 0) kind ≡ true) same has in
+            elim (kinds_apart e.kind kind) [
+              | inl is ↦ last_is from to kind (t.apart from e.from places.0 a) (t.apart to e.to places.1 b) is
+              | inr off ↦ more from to kind ((t.exact from to kind a b).0
+                  (subst (λ i. has_bit (get_or cs i 0) kind ≡ true) (sym same) (sym (bit_other (get_or cs at 0) e.kind kind off) ∙ has_here)))
+            ]
+        | inr other ↦ more from to kind ((t.exact from to kind a b).0 (sym (ap (λ c. has_bit c kind) (there (cell_at ps w from to) other)) ∙ has))
+      ]
+
+  is_told : (from to : ℕ) (kind : Kind) → place ps from ≢ 0 → place ps to ≢ 0 → Among (es ++ e ∷ []) from to kind → has_bit (get_or next (cell_at ps w from to) 0) kind ≡ true
+  is_told from to kind a b (row, found) =
+      elim (Contains-append_cases es (e ∷ []) (edge_of from to kind row) found) [
+        | inl before ↦ kept (cell_at ps w from to) kind ((t.exact from to kind a b).1 (row, before))
+        | inr now ↦ subst (λ (f : Edge). has_bit (get_or next (cell_at ps w f.from f.to) 0) f.kind ≡ true) (only_member e (edge_of from to kind row) now) set_here
+      ]
+
+  -- an edge's bit is set
+  pub told_next : Tells ps w next made (es ++ e ∷ [])
+  told_next = record {
+    same = t.same;
+    square = length-set cs at (bit_or (get_or cs at 0) (bit e.kind)) ∙ t.square;
+    below = t.below;
+    apart = t.apart;
+    exact = λ from to kind a b. (was_told from to kind a b, is_told from to kind a b);
+  }

@@ -1,0 +1,66 @@
+-- An exact judgement of the recording of a legal log says what its level promises.
+use Rattle.std.proofs.Common.{ℕ, List}
+use Rattle.lab_table.specs.Table.{Table}
+use Rattle.lab_table.specs.Row.{Row}
+use Rattle.lab_history.specs.History.{History}
+use Rattle.lab_engine.specs.declared.event.Level.{Level}
+use Rattle.lab_engine.specs.declared.event.Level.TheVariants.{Locking, Snapshot, Committed as ReadCommitted}
+use Rattle.lab_engine.specs.Recording.{IsLegalRecording}
+use Rattle.lab_engine.specs.RecordedLog.{RecordedLog, IsSoundRecord}
+use Rattle.lab_engine.specs.Log.{Past, past_of}
+use Rattle.lab_deps.specs.declared.edge.Edge.{Edge}
+use Rattle.lab_deps.specs.declared.fault.LocalFault.TheVariants.{AbortedRead, IntermediateRead}
+use Rattle.lab_deps.specs.Soundness.{IsSound}
+use Rattle.lab_deps.specs.declared.fault.LocalFault.{LocalFault}
+use Rattle.lab_judge.specs.Phenomena.{NoWalk, IsG0, NoG1}
+use Rattle.lab_judge.specs.declared.report.Finding.{Finding}
+use Rattle.lab_judge.specs.declared.report.Finding.TheVariants.{Absent, Walk, At, NotJudged}
+use Rattle.lab_judge.specs.Findings as found
+use Rattle.lab_judge.specs.declared.report.Report.{Report}
+use Rattle.lab_judge.specs.declared.report.Grade.{Grade}
+use Rattle.lab_judge.specs.Judgement.{FindsWalk, FindsFault, JudgesAll, Judges, IsSerialVerdict, IsExactJudgement}
+use Rattle.lab_judge.specs.declared.serial.Serial.{Serial}
+use Rattle.lab_judge.specs.declared.serial.Serial.TheVariants as serial
+use Rattle.lab_judge.specs.Promises.{IsAbsent, IsPromised}
+use Rattle.lab_judge.proofs.SoundRecordings.{is_sound}
+use Rattle.lab_judge.proofs.ExactJudgements.{yes_exactly, placed_exactly}
+use Rattle.lab_judge.proofs.KeptPromises.{no_g0, no_g1, no_walk, no_circle}
+
+absent_walk : (is_one : List Edge → Type 0) → NoWalk is_one → (found : Finding) → FindsWalk is_one found → IsAbsent found
+absent_walk is_one none Absent finds = tt
+absent_walk is_one none (Walk walk) finds = none walk finds
+absent_walk is_one none (At n k row) finds = finds
+absent_walk is_one none NotJudged finds = finds
+
+absent_fault : (h : History) → IsSound h → (fault : ℕ → ℕ → Row → LocalFault) (found : Finding) → FindsFault h fault found → IsAbsent found
+absent_fault h sound fault Absent finds = tt
+absent_fault h sound fault (Walk walk) finds = finds
+absent_fault h sound fault (At n k row) finds = sound (fault n k row) finds
+absent_fault h sound fault NotJudged finds = finds
+
+absent_all : (h : History) → IsSound h → NoWalk (IsG0 h) → NoG1 h → (p : List Finding) (grade : Grade) → JudgesAll h p grade
+    → IsAbsent (found.g0 p) × IsAbsent (found.g1a p) × IsAbsent (found.g1b p) × IsAbsent (found.g1c p)
+absent_all h sound none none_read p grade judges = (
+  absent_walk _ none (found.g0 p) judges.0,
+  absent_fault h sound AbortedRead (found.g1a p) judges.1,
+  absent_fault h sound IntermediateRead (found.g1b p) judges.2,
+  absent_walk _ none_read.2 (found.g1c p) judges.3,
+)
+
+-- what is found beside any verdict on a sound history is found in a sound history
+judges_all : (h : History) → IsSound h → (verdict : Serial) → IsSerialVerdict h verdict → (p : List Finding) (grade : Grade) → Judges h verdict p grade → JudgesAll h p grade
+judges_all h sound (serial.Yes order) is_true p grade judges = judges
+judges_all h sound (serial.NoCycle walk) is_true p grade judges = judges
+judges_all h sound (serial.NoFault fault) is_true p grade judges = absurd (sound fault is_true.0)
+
+-- an exact judgement of a recording says what the level promises
+pub promised : (level : Level) (setup : Table) (past : Past) (h : History) (report : Report) → IsLegalRecording level setup past h → IsExactJudgement h report → IsPromised level report
+promised Locking setup past h report recorded exact = (yes_exactly h report (is_sound recorded) exact).1 (no_walk recorded)
+promised ReadCommitted setup past h report recorded exact =
+    let sound = is_sound recorded in
+    absent_all h sound (no_g0 recorded) (no_g1 recorded) report.phenomena report.level (judges_all h sound report.serial exact.judgement.serial report.phenomena report.level exact.judgement.found)
+promised Snapshot setup past h report recorded exact = (placed_exactly h report (is_sound recorded) exact).1 (no_circle recorded)
+
+-- so with a recording as contracts see it
+pub recording_promised : (r : RecordedLog) (report : Report) → IsSoundRecord r → IsExactJudgement r.history report → IsPromised r.level report
+recording_promised r report sound exact = promised r.level r.setup (past_of r.log) r.history report sound exact

@@ -1,0 +1,48 @@
+use Rattle.std.proofs.Common.{rules, ◌≡◌, true, false, refl, subst, Some}
+use Rattle.std.proofs.lemmas.Bool.{both_ways}
+use Rattle.std.specs.Prelude.{IsSome}
+use Rattle.lab_engine.specs.Log.{past_of, waiting}
+use Rattle.lab_engine.specs.Recording.{is_answer}
+use Rattle.lab_session.specs.Seats.{Seated, GrowsBy}
+use Rattle.lab_session.specs.Turns.{IsAsked}
+use Rattle.lab_session.proofs.Turning.{grown, unanswered_waits}
+use Rattle.lab_session.proofs.turn.asked.Goals as goal
+
+pub returns-then-not-is_answered-clause-asked : goal.returns-then-not-is_answered-clause-asked
+returns-then-not-is_answered-clause-asked g c =
+    let inside : Seated = record { session = c.seat.inside.session; calls = c.seat.inside.calls.items; holds = c.seat.inside.holds } in
+    let after : Seated = record { session = c.seat.inside.session; calls = c.try_reserve.new.self.items; holds = Some c.args.command } in
+    let answer : is_answer c.in-Ok.receipt.outcome ≡ false = search rules in
+    subst (λ s. IsAsked c.args.bench.now c.step.new.self s after c.args.command false) c.seat.view_is (record {
+      receipt = c.in-Ok.receipt;
+      step = c.in-Ok.ensures.step;
+      place = c.in-Ok.ensures.place;
+      answer = answer;
+      listed = λ is. absurd (both_ways false refl is);
+      kept = λ is. absurd (both_ways false refl is);
+      held = λ is. search rules;
+    })
+
+pub returns-clause-asked : goal.returns-clause-asked
+returns-clause-asked g c =
+    let inside : Seated = record { session = c.seat.inside.session; calls = c.seat.inside.calls.items; holds = c.seat.inside.holds } in
+    let after : Seated = record { session = c.seat.inside.session; calls = c.push.new.self.items; holds = c.seat.inside.holds } in
+    let answer : is_answer c.in-Ok.receipt.outcome ≡ true = search rules in
+    let grows : GrowsBy inside after c.args.command c.in-Ok.receipt =
+    grown inside c.args.command c.in-Ok.receipt c.try_reserve.new.self.items c.push.new.self.items c.seat.inside.holds c.try_reserve.ensures.items c.in-Ok-push.ensures.items answer in
+    subst (λ s. IsAsked c.args.bench.now c.step.new.self s after c.args.command true) c.seat.view_is (record {
+      receipt = c.in-Ok.receipt;
+      step = c.in-Ok.ensures.step;
+      place = c.in-Ok.ensures.place;
+      answer = answer;
+      listed = λ is. grows;
+      kept = λ is. refl;
+      held = λ is. absurd (both_ways true is refl);
+    })
+
+pub returns-then-not-is_answered-clause-waits : goal.returns-then-not-is_answered-clause-waits
+returns-then-not-is_answered-clause-waits g c =
+    let run = c.args.bench.now in
+    let answer : is_answer c.in-Ok.receipt.outcome ≡ false = search rules in
+    subst (λ (s : Seated). false ≡ false → IsSome (waiting (past_of c.step.new.self.log) s.session)) c.seat.view_is
+    (λ is. unanswered_waits run.level run.setup run.log c.step.new.self.log c.seat.inside.session c.args.command c.in-Ok.receipt.outcome c.in-Ok.ensures.step answer)

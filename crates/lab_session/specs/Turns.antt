@@ -1,0 +1,38 @@
+-- What a turn under the lock of a lab does to the log and to a seat.
+use Rattle.std.specs.Prelude.{◌≡◌, Bool, true, false, Some, None, length}
+use Rattle.lab_table.specs.declared.statement.Command.{Command}
+use Rattle.lab_engine.specs.Engine.{IsStep, IsRetry}
+use Rattle.lab_engine.specs.Journal.{EngineRun}
+use Rattle.lab_engine.specs.Log.{past_of}
+use Rattle.lab_engine.specs.Recording.{is_answer, IsLeastRetryable}
+use Rattle.lab_session.specs.declared.bench.Receipt.{Receipt}
+use Rattle.lab_session.specs.Seats.{Seated, GrowsBy}
+
+-- a seat that holds a command, in the place of one that it held
+abbrev pub holding : Seated → Command → Seated
+holding seat command = record { session = seat.session; calls = seat.calls; holds = Some command }
+
+-- a seat that holds no command
+abbrev pub resting : Seated → Seated
+resting seat = record { session = seat.session; calls = seat.calls; holds = None }
+
+-- a command of a seat's session was stepped: the log has one event more, that of the command; answered, the seat's list has it with that event's receipt, else the seat holds it
+pub record IsAsked (old new : EngineRun) (seat after : Seated) (command : Command) (answered : Bool) : Type 0 where
+  pub receipt : Receipt
+  pub step : IsStep old.level old.setup old.log new.log seat.session command receipt.outcome
+  pub place : receipt.place ≡ length new.log
+  pub answer : is_answer receipt.outcome ≡ answered
+  pub listed : answered ≡ true → GrowsBy seat after command receipt
+  pub kept : answered ≡ true → after.holds ≡ seat.holds
+  pub held : answered ≡ false → after ≡ holding seat command
+
+-- the command of a seat's session was retried, as is due: the log has one event more, which answers the statement that waits; the seat's list has the command that it held with that event's receipt
+pub record IsRetried (old new : EngineRun) (seat after : Seated) : Type 0 where
+  pub due : IsLeastRetryable old.level old.setup (past_of old.log) seat.session
+  pub receipt : Receipt
+  pub retry : IsRetry old.level old.setup old.log new.log seat.session receipt.outcome
+  pub place : receipt.place ≡ length new.log
+  pub command : Command
+  pub held : seat.holds ≡ Some command
+  pub listed : GrowsBy seat after command receipt
+  pub rests : after.holds ≡ None

@@ -1,0 +1,154 @@
+//! What is done under the lock of a lab: each function here is lent the bench for one turn.
+
+ghost use Rattle.std.specs.Prelude.{◌≡◌, ◌≢◌, None, Some, true, false, length, IsSome, IfOk, IfErr, OnErr, IfSome, IfNone, Err};
+ghost use Rattle.lab_engine.specs.Limits.{max_events};
+ghost use Rattle.lab_engine.specs.Log.{past_of, waiting};
+ghost use Rattle.lab_engine.specs.Recording.{IsLeastRetryable};
+ghost use Rattle.lab_session.specs.Waiting.{still_waits, lab_fault_of};
+ghost use Rattle.lab_session.specs.Turns.{resting, IsAsked, IsRetried};
+
+use crate::bench::{Bench, BenchFault};
+use crate::change::Change;
+use crate::fault::LabFault;
+use crate::seat::{Call, Seat, is_answered};
+use lab_engine::Engine;
+use lab_table::Command;
+use std::alloc::Global;
+
+/// What came of a command that was stepped.
+pub(crate) struct Progress {
+    /// Whether it was answered. Else it waits, and the seat holds it.
+    pub(crate) answered: bool,
+    pub(crate) change: Change,
+}
+
+fn lab_fault(fault: BenchFault, waiting: bool) -> LabFault
+    ensures { result ≡ lab_fault_of fault waiting }
+{
+    match fault {
+        BenchFault::NoMemory => LabFault::NoMemory { waiting },
+        BenchFault::Full => LabFault::Full { waiting },
+    }
+}
+
+/// Steps a command of a seat's session. Answered, it stands in the seat's list with its receipt; else it waits, and the
+/// seat holds it. Refused, it isn't waiting, and is handed back; nothing has changed then.
+pub(crate) fn asked<E: Engine>(
+    bench: &mut Bench<E>,
+    alloc: Global,
+    seat: &mut Seat,
+    command: Command,
+) -> Result<Progress, (Command, LabFault)>
+    ensures asked { IfOk result (λ progress. IsAsked bench.old bench.new seat.old seat.new command progress.answered) }
+    ensures waits { IfOk result (λ progress. progress.answered ≡ false → IsSome (waiting (past_of bench.new.log) seat.old.session)) }
+    ensures level { bench.new.level ≡ bench.old.level }
+    ensures setup { bench.new.setup ≡ bench.old.setup }
+    ensures log { OnErr result (bench.new.log ≡ bench.old.log) }
+    ensures seat { OnErr result (seat.new ≡ seat.old) }
+    ensures command { IfErr result (λ e. e.0 ≡ command) }
+    ensures waiting { IfErr result (λ e. still_waits e.1 ≡ false) }
+    ensures fault { IfErr result (λ e. e.1 ≢ LabFault.NothingWaiting) }
+    ensures full { IfErr result (λ e. e.1 ≡ LabFault.Full false → length bench.old.log ≡ max_events) }
+{
+    if seat.calls.try_reserve(1).is_err() {
+        return Err((command, LabFault::NoMemory { waiting: false }));
+    }
+    let receipt = match bench.step(alloc, seat.session, &command) {
+        Ok(receipt) => receipt,
+        Err(fault) => return Err((command, lab_fault(fault, false))),
+    };
+    let change = Change::new();
+    if !is_answered(&receipt.outcome) {
+        seat.holds = Some(command);
+        return Ok(Progress {
+            answered: false,
+            change,
+        });
+    }
+    let Ok(()) = seat.calls.push(Call { command, receipt }) else {
+        unreachable!()
+    };
+    Ok(Progress {
+        answered: true,
+        change,
+    })
+}
+
+/// Steps the command that a seat holds, as [`asked`] does; answered, the seat holds none. None where the session waits,
+/// and then nothing is done.
+pub(crate) fn gone_on<E: Engine>(
+    bench: &mut Bench<E>,
+    alloc: Global,
+    seat: &mut Seat,
+) -> Result<Option<Progress>, LabFault>
+    requires { IsSome seat.old.holds }
+    ensures asked { IfOk result (λ done. IfSome done (λ progress. (command : _) × (seat.old.holds ≡ Some command)
+        × IsAsked bench.old bench.new (resting seat.old) seat.new command progress.answered)) }
+    ensures rests { IfOk result (λ done. IfSome done (λ progress. waiting (past_of bench.old.log) seat.old.session ≡ None)) }
+    ensures waits { IfOk result (λ done. IfNone done (IsSome (waiting (past_of bench.old.log) seat.old.session))) }
+    ensures same_log { IfOk result (λ done. IfNone done (bench.new.log ≡ bench.old.log)) }
+    ensures same_seat { IfOk result (λ done. IfNone done (seat.new ≡ seat.old)) }
+    ensures level { bench.new.level ≡ bench.old.level }
+    ensures setup { bench.new.setup ≡ bench.old.setup }
+    ensures log { OnErr result (bench.new.log ≡ bench.old.log) }
+    ensures seat { OnErr result (seat.new ≡ seat.old) }
+    ensures waiting { IfErr result (λ e. still_waits e ≡ false) }
+    ensures fault { IfErr result (λ e. e ≢ LabFault.NothingWaiting) }
+    ensures full { result ≡ Err (LabFault.Full false) → length bench.old.log ≡ max_events }
+{
+    if bench.is_waiting(seat.session) {
+        return Ok(None);
+    }
+    let Some(command) = seat.holds.take() else {
+        unreachable!()
+    };
+    match asked(bench, alloc, seat, command) {
+        Ok(progress) => Ok(Some(progress)),
+        Err(refused) => {
+            let (command, fault) = refused;
+            seat.holds = Some(command);
+            Err(fault)
+        }
+    }
+}
+
+/// Retries the command of a seat's session where it is the one to be retried. It is answered then: the command that the
+/// seat held stands in its list with the receipt, and the seat holds none. None where another is to be retried or
+/// nobody, and then nothing is done. Refused, the command waits on, and nothing has changed.
+pub(crate) fn retried<E: Engine>(
+    bench: &mut Bench<E>,
+    alloc: Global,
+    seat: &mut Seat,
+) -> Result<Option<Change>, LabFault>
+    requires { IsSome seat.old.holds }
+    ensures retried { IfOk result (λ done. IfSome done (λ change. IsRetried bench.old bench.new seat.old seat.new)) }
+    ensures not_due { IfOk result (λ done. IfNone done (¬ IsLeastRetryable bench.old.level bench.old.setup (past_of bench.old.log) seat.old.session)) }
+    ensures same_log { IfOk result (λ done. IfNone done (bench.new.log ≡ bench.old.log)) }
+    ensures same_seat { IfOk result (λ done. IfNone done (seat.new ≡ seat.old)) }
+    ensures level { bench.new.level ≡ bench.old.level }
+    ensures setup { bench.new.setup ≡ bench.old.setup }
+    ensures log { OnErr result (bench.new.log ≡ bench.old.log) }
+    ensures seat { OnErr result (seat.new ≡ seat.old) }
+    ensures waiting { IfErr result (λ e. still_waits e ≡ true) }
+    ensures waits { OnErr result (IsSome (waiting (past_of bench.new.log) seat.old.session)) }
+    ensures full { result ≡ Err (LabFault.Full true) → length bench.old.log ≡ max_events }
+{
+    if bench.retryable() != Some(seat.session) {
+        return Ok(None);
+    }
+    if seat.calls.try_reserve(1).is_err() {
+        return Err(LabFault::NoMemory { waiting: true });
+    }
+    let receipt = match bench.retry(alloc, seat.session) {
+        Ok(receipt) => receipt,
+        Err(fault) => return Err(lab_fault(fault, true)),
+    };
+    let change = Change::new();
+    let Some(command) = seat.holds.take() else {
+        unreachable!()
+    };
+    let Ok(()) = seat.calls.push(Call { command, receipt }) else {
+        unreachable!()
+    };
+    Ok(Some(change))
+}
