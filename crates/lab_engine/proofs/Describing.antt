@@ -15,21 +15,28 @@ use Rattle.lab_engine.specs.declared.event.LogEvent.{LogEvent}
 use Rattle.lab_engine.specs.declared.situation.RunningTxn.{RunningTxn}
 use Rattle.lab_engine.specs.declared.situation.SessionState.{SessionState}
 use Rattle.lab_engine.specs.declared.situation.Situation.{Situation}
-use Rattle.lab_engine.specs.Log.{Past, Txn, active, active_after, ops_after, asked, waiting, waiting_after, begun_after, commits, last_installed}
+use Rattle.lab_engine.specs.Log.{Past, Txn, active, active_after, ops_after, asked, waiting, waiting_after, begun_after, commits, commits_after, last_installed}
+use Rattle.lab_engine.specs.Sight.{Listed}
+use Rattle.lab_engine.specs.declared.event.Outcome.TheVariants.{Begun}
 use Rattle.lab_engine.specs.Chains.{chain_in, chain_after}
-use Rattle.lab_engine.specs.Situation.{Describes, DescribesAll, Agree, IsRunning, all_sessions, running_of, waiting_of, grown}
+use Rattle.lab_engine.specs.Situation.{Describes, DescribesAll, Agree, AreInstalled, IsRunning, all_sessions, running_of, waiting_of, grown}
 use Rattle.std.proofs.lemmas.Option.{same_Some}
 use Rattle.lab_table.proofs.Tests.{none_of}
 
 -- a transaction that begins
 pub begins_running : (past : Past) (number before : ℕ) (running : RunningTxn) → running.number ≡ number → running.before ≡ length past → running.statements.items ≡ [] → running.last ≡ empty
-    → IsRunning (record { no = number; ops = []; before = past }) running
-begins_running past number before running is_number is_before none last_is = record {
+    → AreInstalled past running.installed → IsRunning (record { no = number; ops = []; before = past }) running
+begins_running past number before running is_number is_before none last_is installed = record {
   number = is_number;
   before = is_before;
+  installed = installed;
   statements = none;
   last = λ row. ap (λ m. map.get m row) last_is ∙ get-empty row_cmp row;
 }
+
+-- a begin installs nothing
+pub installed_at_begin : (past : Past) (event : LogEvent) (number : ℕ) (versions : Listed) → event.outcome ≡ Begun number → AreInstalled (event ∷ past) versions → AreInstalled past versions
+installed_at_begin past event number versions is are row = are row ∙ ap (λ o. last_installed (commits_after o (active past event.session) (commits past)) row) is
 
 -- an operation of a statement is one more where the command runs it
 pub ops_run : (command : Command) (s : Statement) (view : View) (rows : Rows) (writes : Writes) (txn : Txn) → asked command ≡ Some s

@@ -2,7 +2,6 @@
 use Rattle.std.proofs.Common.{◌≡◌, ℕ, ◌≤◌, ◌<◌, refl, sym, ap, subst, ◌∙◌, arith, Bool, true, false, cond, T, List, [], ◌∷◌, ◌++◌, length, length-append, reverse, append_assoc}
 use Rattle.std.specs.Prelude.{Option, Some, None, is_some, option_map, unwrap_or}
 use Rattle.std.specs.Ordering.{is_eq}
-use Rattle.std.specs.Option.{option_or}
 use Rattle.std.proofs.lemmas.Bool.{lt-ltb, le-ltb}
 use Rattle.std.proofs.lemmas.List.{reverse-append}
 use Rattle.std.specs.FinMap.{find, is_sorted, get, entries, entries_sorted, get-entries}
@@ -14,9 +13,9 @@ use Rattle.lab_table.proofs.Orderings.{eq_reversed}
 use Rattle.lab_engine.specs.declared.chain.Installed.{Installed}
 use Rattle.lab_engine.specs.declared.event.Outcome.{Outcome}
 use Rattle.lab_engine.specs.declared.event.Outcome.TheVariants.{Begun, Rows as Listed, Committed, Aborted, Waits, Refused}
-use Rattle.lab_engine.specs.Log.{Past, Version, Txn, active, commits, commits_after, version_by, writers, last_installed}
+use Rattle.lab_engine.specs.Log.{Past, Version, Txn, active, commits, commits_after, version_by, writers}
 use Rattle.lab_engine.specs.Laws.{Began}
-use Rattle.lab_engine.specs.Chains.{longer, chain_after, chain, added, version_before, first_since}
+use Rattle.lab_engine.specs.Chains.{longer, chain_after, chain, added, first_since}
 use Rattle.lab_engine.specs.Sight.{Listed as Versions}
 use Rattle.lab_engine.proofs.LockSteps.{none_some}
 use Rattle.lab_engine.proofs.Begins.{begins_hold}
@@ -84,26 +83,6 @@ added_map by place row last es c is =
 -- ---- what a chain says
 
 module _ (row : Row) where
-  -- a chain is passed at a place behind all of its own
-  step_before : (n : ℕ) (outcome : Outcome) (act : Option Txn) (place : ℕ) (c : List Installed) (done : List Txn) → place < n → version_before n c ≡ last_installed done row
-      → version_before n (chain_after outcome act place row c) ≡ last_installed (commits_after outcome act done) row
-  step_before n (Begun number) act place c done below is = is
-  step_before n (Listed view rows writes) act place c done below is = is
-  step_before n Committed None place c done below is = is
-  step_before n Committed (Some t) place c done below is = at (version_by t row) where
-    at : (v : Option Version) → version_before n (longer t.no place v c) ≡ option_or v (last_installed done row)
-    at None = is
-    at (Some v) = ap (λ b. cond b (Some v) (version_before n c)) (lt-ltb place n below)
-  step_before n Aborted act place c done below is = is
-  step_before n (Waits on) act place c done below is = is
-  step_before n (Refused fault) act place c done below is = is
-
-  -- what is installed at the end of a past is the newest of the chain
-  all_before : (n : ℕ) (past : Past) → length past ≤ n → version_before n (chain past row) ≡ last_installed (commits past) row
-  all_before n [] within = refl
-  all_before n (event ∷ past) within =
-      step_before n event.outcome (active past event.session) (length past) (chain past row) (commits past) (omega (arith, within)) (all_before n past (omega (arith, within)))
-
   none_from : (n : ℕ) (outcome : Outcome) (act : Option Txn) (place : ℕ) (c : List Installed) → place < n → first_since n c ≡ None → first_since n (chain_after outcome act place row c) ≡ None
   none_from n (Begun number) act place c below is = is
   none_from n (Listed view rows writes) act place c below is = is
@@ -127,55 +106,48 @@ abbrev pub last_no : List Txn → Option ℕ
 last_no [] = None
 last_no (t ∷ ts) = Some (unwrap_or (last_no ts) t.no)
 
--- a row's chain after a past says what was installed at an earlier moment, and who has installed the row since
+-- a row's chain after a past says who has installed the row since an earlier moment
 pub record SinceThen (row : Row) (past before : Past) : Type 0 where
-  pub then : version_before (length before) (chain past row) ≡ last_installed (commits before) row
   pub newer : List Txn
   pub writers_are : writers row (commits past) ≡ newer ++ writers row (commits before)
   pub first_is : first_since (length before) (chain past row) ≡ last_no newer
 
 module _ (row : Row) (before : Past) where
   one_more : (outcome : Outcome) (act : Option Txn) (past : Past) → length before ≤ length past → (s : SinceThen row past before)
-      → (version_before (length before) (chain_after outcome act (length past) row (chain past row)) ≡ last_installed (commits before) row)
-      × (newer : List Txn) × (writers row (commits_after outcome act (commits past)) ≡ newer ++ writers row (commits before))
+      → (newer : List Txn) × (writers row (commits_after outcome act (commits past)) ≡ newer ++ writers row (commits before))
       × (first_since (length before) (chain_after outcome act (length past) row (chain past row)) ≡ last_no newer)
-  one_more (Begun number) act past later s = (s.then, s.newer, s.writers_are, s.first_is)
-  one_more (Listed view rows writes) act past later s = (s.then, s.newer, s.writers_are, s.first_is)
-  one_more Committed None past later s = (s.then, s.newer, s.writers_are, s.first_is)
+  one_more (Begun number) act past later s = (s.newer, s.writers_are, s.first_is)
+  one_more (Listed view rows writes) act past later s = (s.newer, s.writers_are, s.first_is)
+  one_more Committed None past later s = (s.newer, s.writers_are, s.first_is)
   one_more Committed (Some t) past later s = at (version_by t row) refl where
     at : (v : Option Version) → version_by t row ≡ v
-        → (version_before (length before) (longer t.no (length past) (version_by t row) (chain past row)) ≡ last_installed (commits before) row)
-        × (newer : List Txn) × (cond (is_some (version_by t row)) (t ∷ writers row (commits past)) (writers row (commits past)) ≡ newer ++ writers row (commits before))
+        → (newer : List Txn) × (cond (is_some (version_by t row)) (t ∷ writers row (commits past)) (writers row (commits past)) ≡ newer ++ writers row (commits before))
         × (first_since (length before) (longer t.no (length past) (version_by t row) (chain past row)) ≡ last_no newer)
     at None is = (
-      ap (λ o. version_before (length before) (longer t.no (length past) o (chain past row))) is ∙ s.then,
       s.newer,
       ap (λ (o : Option Version). cond (is_some o) (t ∷ writers row (commits past)) (writers row (commits past))) is ∙ s.writers_are,
       ap (λ o. first_since (length before) (longer t.no (length past) o (chain past row))) is ∙ s.first_is,
     )
     at (Some v) is = (
-      ap (λ o. version_before (length before) (longer t.no (length past) o (chain past row))) is
-          ∙ ap (λ b. cond b (Some v) (version_before (length before) (chain past row))) (le-ltb (length past) (length before) later) ∙ s.then,
       t ∷ s.newer,
       ap (λ (o : Option Version). cond (is_some o) (t ∷ writers row (commits past)) (writers row (commits past))) is ∙ ap (λ (l : List Txn). t ∷ l) s.writers_are,
       ap (λ o. first_since (length before) (longer t.no (length past) o (chain past row))) is
           ∙ ap (λ b. cond b None (Some (unwrap_or (first_since (length before) (chain past row)) t.no))) (le-ltb (length past) (length before) later)
           ∙ ap (λ o. Some (unwrap_or o t.no)) s.first_is,
     )
-  one_more Aborted act past later s = (s.then, s.newer, s.writers_are, s.first_is)
-  one_more (Waits on) act past later s = (s.then, s.newer, s.writers_are, s.first_is)
-  one_more (Refused fault) act past later s = (s.then, s.newer, s.writers_are, s.first_is)
+  one_more Aborted act past later s = (s.newer, s.writers_are, s.first_is)
+  one_more (Waits on) act past later s = (s.newer, s.writers_are, s.first_is)
+  one_more (Refused fault) act past later s = (s.newer, s.writers_are, s.first_is)
 
   since_then : (since : Past) → SinceThen row (since ++ before) before
   since_then [] = record {
-    then = all_before row (length before) before (omega arith);
     newer = [];
     writers_are = refl;
     first_is = none_since row (length before) before (omega arith);
   }
   since_then (event ∷ since) =
       let more = one_more event.outcome (active (since ++ before) event.session) (since ++ before) (let both = length-append since before in omega (arith, both)) (since_then since) in
-      record { then = more.0; newer = more.1; writers_are = more.2; first_is = more.3 }
+      record { newer = more.0; writers_are = more.1; first_is = more.2 }
 
 -- so does it of an active transaction's begin
 pub since_begin : (past : Past) (session : ℕ) (txn : Txn) (row : Row) → active past session ≡ Some txn → SinceThen row past txn.before

@@ -9,9 +9,9 @@ pub mod Begins
 pub mod Describing
 pub mod EventBounds
 pub mod Holding
+pub mod Narrowing
 pub mod Overwriting
 pub mod InstalledChains
-pub mod ChainedRows
 pub mod Answering
 pub mod Merging
 pub mod VersionLists

@@ -1,12 +1,13 @@
 -- Versions of the rows that a statement would write, of those that are seen.
 use Rattle.std.proofs.Common.{◌≡◌, ◌∙◌, refl, sym, ap, Bool, true, false, cond}
 use Rattle.std.specs.Prelude.{Option, Some, None, unwrap_or, option_and_then, IsTrue}
-use Rattle.std.proofs.lemmas.Bool.{true≢false}
-use Rattle.std.specs.FinMap.{get}
-use Rattle.lab_table.specs.Row.{Row}
+use Rattle.std.proofs.lemmas.Bool.{true≢false, false≢true}
+use Rattle.std.specs.FinMap.{get, insert, empty, get-insert, get-empty}
+use Rattle.lab_table.specs.Row.{Row, row_cmp, row_eq, rows_total}
+use Rattle.lab_table.proofs.Maps.{same_row, row_eq_self}
 use Rattle.lab_table.specs.Table.{Table, State}
 use Rattle.lab_table.specs.Predicate.{Predicate}
-use Rattle.lab_table.specs.Statement.{would_write}
+use Rattle.lab_table.specs.Statement.{would_write, may_match}
 use Rattle.lab_table.specs.declared.statement.Statement.{Statement}
 use Rattle.lab_table.specs.declared.statement.Statement.TheVariants.{Select, Update, Insert, Delete}
 use Rattle.lab_engine.specs.declared.event.Level.{Level}
@@ -14,6 +15,7 @@ use Rattle.lab_engine.specs.Log.{Past, Version, Txn, seen}
 use Rattle.lab_engine.specs.Sight.{Listed, version_in, IsSight, ShowsWritten}
 use Rattle.lab_engine.specs.EachRow.{overwritten_version}
 use Rattle.lab_engine.proofs.Holding.{absent}
+use Rattle.lab_engine.proofs.Narrowing.{not_written, others_off}
 
 -- a row that isn't written in some state isn't written where it is absent
 absent_unwritten : (s : Statement) (row : Row) (state : State) → would_write s row state ≡ false → would_write s row None ≡ false
@@ -54,3 +56,25 @@ pub shows_none : (level : Level) (setup : Table) (past : Past) (txn : Txn) (s : 
 shows_none level setup past txn s pred shown is row =
     let seen_not : would_write s row (seen level setup past txn row).state ≡ false = no_write s pred is row (seen level setup past txn row).state in
     (no_write s pred is row (version_in shown row).state ∙ sym seen_not, λ h. absurd (true≢false (sym h ∙ seen_not)))
+
+-- the one row that a statement may match, as it is seen
+pub shows_only : (level : Level) (setup : Table) (past : Past) (txn : Txn) (s : Statement) (row : Row) (version : Version) (shown : Listed)
+    → ((other : Row) → may_match s other ≡ true → other ≡ row) → version ≡ seen level setup past txn row → shown ≡ insert empty row version
+    → ShowsWritten level setup past txn s shown
+shows_only level setup past txn s row version shown only version_is is q = at (row_eq q row) refl
+  where
+    found : get shown q ≡ cond (row_eq q row) (Some version) None
+    found =
+        ap (λ m. get m q) is ∙ get-insert rows_total empty row version q ∙ ap (λ (o : Option Version). cond (row_eq q row) (Some version) o) (get-empty row_cmp q)
+
+    at : (own : Bool) → row_eq q row ≡ own
+        → (would_write s q (version_in shown q).state ≡ would_write s q (seen level setup past txn q).state)
+        × (IsTrue (would_write s q (seen level setup past txn q).state) → version_in shown q ≡ seen level setup past txn q)
+    at true own =
+        let there : version_in shown q ≡ seen level setup past txn q =
+        ap (λ o. unwrap_or o absent) (found ∙ ap (λ b. cond b (Some version) None) own) ∙ version_is ∙ ap (seen level setup past txn) (sym (same_row q row own)) in
+        (ap (λ v. would_write s q v.state) there, λ _. there)
+    at false apart =
+        let off : (state : State) → would_write s q state ≡ false =
+        not_written s q (others_off s row only q (λ same. false≢true (sym apart ∙ ap (λ k. row_eq k row) same ∙ row_eq_self row))) in
+        (off (version_in shown q).state ∙ sym (off (seen level setup past txn q).state), λ h. absurd (true≢false (sym h ∙ off (seen level setup past txn q).state)))

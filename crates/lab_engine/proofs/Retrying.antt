@@ -38,10 +38,11 @@ state_released level setup past waits state d h r = (state_waits past state d �
 pub none_step : (level : Level) (setup : Table) (past : Past) (states : List SessionState) (i : ℕ) (state : SessionState) → i < length states → state ≡ get_or states i state
     → ((session : ℕ) → IsTrue (is_among session (take i states)) → IsRetryable level setup past session → ⊥) → (IsRetryable level setup past state.session → ⊥)
     → (session : ℕ) → IsTrue (is_among session (take (i + 1) states)) → IsRetryable level setup past session → ⊥
-none_step level setup past states i state lt is none own session there r = elim (or_cases (is_among session (take i states)) (state.session == session) (sym (among_more session states i state lt is) ∙ there)) [
-  | inl p ↦ none session p r
-  | inr p ↦ own (subst (IsRetryable level setup past) (sym (eqb-true state.session session p)) r)
-]
+none_step level setup past states i state lt is none own session there r = elim (or_cases (is_among session (take i states)) (state.session == session)
+    (sym (among_more session states i state lt is) ∙ there)) [
+      | inl p ↦ none session p r
+      | inr p ↦ own (subst (IsRetryable level setup past) (sym (eqb-true state.session session p)) r)
+    ]
 
 -- once all are passed, none is
 pub none_retryable : (level : Level) (setup : Table) (past : Past) (situation : Situation) (passed : ℕ) → Describes past situation → length situation.sessions.items ≤ passed

@@ -117,8 +117,11 @@ waits_step level setup past states i state waits new on lt is h own step session
     to : IsTrue (waits_for new session other) → IsTrue (is_among session (take (i + 1) states)) × WaitsOn level setup past session other
     to w = elim (or_cases _ _ (sym (step session other) ∙ w)) [
       | inl p ↦ let old = (h session other).0 p in (among_more session states i state lt is ∙ or_left _ _ old.0, old.1)
-      | inr p ↦ let parts = and_parts _ _ p in
-          (among_more session states i state lt is ∙ or_right _ _ parts.0, subst (λ k. WaitsOn level setup past k other) (eqb-true state.session session parts.0) ((own other).0 (any_contains on other parts.1)))
+      | inr p ↦ let parts = and_parts _ _ p in (
+        among_more session states i state lt is ∙ or_right _ _ parts.0,
+        subst (λ k. WaitsOn level setup past k other) (eqb-true state.session session parts.0)
+            ((own other).0 (any_contains on other parts.1)),
+      )
     ]
 
     from : IsTrue (is_among session (take (i + 1) states)) × WaitsOn level setup past session other → IsTrue (waits_for new session other)

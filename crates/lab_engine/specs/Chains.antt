@@ -37,11 +37,6 @@ abbrev pub added : ℕ → ℕ → List (Row × Version) → Row → List Instal
 added by place [] row chain = chain
 added by place (e ∷ es) row chain = added by place es row (cond (row_eq row e.0) (record { version = e.1; by = by; place = place } ∷ chain) chain)
 
--- the newest version that was installed before a place
-abbrev pub version_before : ℕ → List Installed → Option Version
-version_before place [] = None
-version_before place (i ∷ older) = cond (nat_lt i.place place) (Some i.version) (version_before place older)
-
 -- who was the first to install a version from a place on
 abbrev pub first_since : ℕ → List Installed → Option ℕ
 first_since place [] = None

@@ -15,6 +15,7 @@ pub mod Journal
 pub mod LogQuery
 pub mod Merging
 pub mod EachRow
+pub mod Candidates
 pub mod WaitEdges
 pub mod Released
 pub mod RecordingLaws

@@ -10,16 +10,22 @@ use Rattle.lab_engine.specs.declared.situation.SessionState.{SessionState}
 use Rattle.lab_engine.specs.declared.situation.Situation.{Situation}
 use Rattle.lab_engine.specs.Chains.{chain_in, chain}
 use Rattle.lab_engine.specs.Limits.{max_events}
+use Rattle.lab_engine.specs.Sight.{Listed}
 use Rattle.lab_engine.specs.Log.{Past, Txn, active, waiting, commits, begun, version_by, last_installed}
 
 -- the statements that a running transaction has run, in order
 abbrev pub statements_of : RunningTxn → List Statement
 statements_of running = running.statements.items
 
+-- versions are the last installed ones of each row after a log
+abbrev pub AreInstalled : Past → Listed → Type 0
+AreInstalled past versions = (row : Row) → map.get versions row ≡ last_installed (commits past) row
+
 -- what is kept of an active transaction agrees with it
 pub record IsRunning (txn : Txn) (running : RunningTxn) : Type 0 where
   pub number : running.number ≡ txn.no
   pub before : running.before ≡ length txn.before
+  pub installed : AreInstalled txn.before running.installed
   pub statements : statements_of running ≡ reverse (list.map (λ op. op.statement) txn.ops)
   pub last : (row : Row) → map.get running.last row ≡ version_by txn row
 
@@ -69,7 +75,7 @@ pub record Describes (past : Past) (situation : Situation) : Type 0 where
   pub states : DescribesAll past situation.sessions.items
   pub active_is : (session : ℕ) → IsSome (active past session) → Contains all_sessions session
   pub waiting_is : (session : ℕ) → IsSome (waiting past session) → Contains all_sessions session
-  pub committed : (row : Row) → map.get situation.committed row ≡ last_installed (commits past) row
+  pub committed : AreInstalled past situation.committed
   pub chains : (row : Row) → chain_in situation.chains row ≡ chain past row
   pub begun : situation.begun ≡ begun past
   pub events : situation.events ≡ length past

@@ -18,7 +18,7 @@ ghost use Rattle.lab_engine.specs.Answer.{MayGive, Answers};
 use crate::effect::{EffectFault, effect_of};
 use crate::event::{EngineFault, LogEvent, Outcome};
 use crate::rules::Rules;
-use crate::sight::seen_by;
+use crate::sight::{seen_by, shown_to};
 use crate::situation::{RunningTxn, Situation};
 use crate::version::Versions;
 use crate::waits::{blockers, deadlock};
@@ -101,9 +101,10 @@ pub fn run_statement<R: Rules>(
     requires running { (txn : Txn) × (active (past_of log.now) session ≡ Some txn) × IsRunning txn running.now }
     ensures { IfOk result (Answers R.kind setup.now (past_of log.now) session (Run statement.now)) }
 {
-    let seen = seen_by(alloc, rules.level(), setup, situation, running)?;
-    let on = blockers(alloc, rules, setup, situation, session, &seen, statement)?;
+    let shown = shown_to(alloc, rules.level(), setup, situation, running, statement)?;
+    let on = blockers(alloc, rules, setup, situation, session, &shown, statement)?;
     if on.as_slice().is_empty() {
+        let seen = seen_by(alloc, rules.level(), setup, situation, running)?;
         return unblocked(alloc, statement, &seen);
     }
     match deadlock(alloc, rules, setup, situation, session, &on)? {

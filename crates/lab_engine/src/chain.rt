@@ -38,16 +38,6 @@ impl Chains {
         }
     }
 
-    /// The version of a row that was the last to be installed by a commit with fewer events before it than these.
-    pub fn version_before(&self, row: RowId, place: usize) -> Option<Version>
-        ensures { result ≡ plain.version_before place (chain_in self.now row) }
-    {
-        match self.rows.get(&row) {
-            Some(chain) => last_before(chain, place),
-            None => None,
-        }
-    }
-
     /// The transaction that was the first to install a row by a commit with at least so many events before it.
     pub fn first_since(&self, row: RowId, place: usize) -> Option<TxnNo>
         ensures { result ≡ plain.first_since place (chain_in self.now row) }
@@ -99,20 +89,6 @@ impl Chains {
         }
         Ok(())
     }
-}
-
-/// The version that was the last to be installed before a place, found from the newest on.
-fn last_before(chain: &[Installed], place: usize) -> Option<Version>
-    ensures { result ≡ plain.version_before place (reverse chain.now) }
-{
-    let mut left = chain;
-    while let Some((last, rest)) = left.split_last() {
-        if last.place < place {
-            return Some(last.version);
-        }
-        left = rest;
-    }
-    None
 }
 
 /// The transaction that was the first to install the row from a place on, found from the newest on.

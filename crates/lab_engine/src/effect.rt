@@ -13,6 +13,7 @@ ghost use Rattle.lab_engine.specs.EachRow as made;
 ghost use Rattle.lab_engine.specs.Effect.{IsEffectOn, IsEffectFault};
 ghost use Rattle.lab_engine.specs.declared.effect.EffectFault.TheVariants.{NoMemory};
 
+use crate::candidates::candidates;
 use crate::pending::version_seen;
 use crate::version::{Version, Versions};
 use lab_history::{Rows, State, VersionName, View, Writes};
@@ -97,11 +98,23 @@ fn values(
         .collect(alloc)
 }
 
+/// The same, where only the rows are looked at that the statement may match.
+fn listed_values(
+    alloc: Global,
+    statement: &Statement,
+    entries: &[(RowId, Version)],
+) -> Result<Vec<(RowId, Value)>, NoMemory>
+    requires { T (map.is_sorted row_cmp entries.now) }
+    ensures { IfOk result (λ v. v.items ≡ each_row (λ row version. listed statement.now row version.state) entries.now) }
+{
+    values(alloc, statement, candidates(statement, entries))
+}
+
 /// The rows that a statement lists.
 fn rows_of(alloc: Global, statement: &Statement, seen: &Versions) -> Result<Rows, NoMemory>
     ensures { IfOk result (λ rows. (row : Row) → map.get rows row ≡ listed statement.now row (version_in seen.now row).state) }
 {
-    Ok(Rows::new(values(alloc, statement, seen.entries())?))
+    Ok(Rows::new(listed_values(alloc, statement, seen.entries())?))
 }
 
 /// The new state of a row that a statement lists with this value, if it writes what it lists.
@@ -141,6 +154,18 @@ fn states(
         .collect(alloc)
 }
 
+/// The same, where only the rows are looked at that the statement may match.
+fn rewritten_states(
+    alloc: Global,
+    statement: &Statement,
+    entries: &[(RowId, Version)],
+) -> Result<Vec<(RowId, State)>, NoMemory>
+    requires { T (map.is_sorted row_cmp entries.now) }
+    ensures { IfOk result (λ v. v.items ≡ each_row (λ row version. rewritten statement.now row version.state) entries.now) }
+{
+    states(alloc, statement, candidates(statement, entries))
+}
+
 fn inserted(alloc: Global, id: RowId, value: Value) -> Result<Vec<(RowId, State)>, NoMemory>
     ensures { IfOk result (λ v. v.items ≡ (id, Present value) ∷ []) }
 {
@@ -162,9 +187,9 @@ fn written_states(
 {
     match statement {
         Statement::Select { .. } => Ok(Vec::new(alloc)),
-        Statement::Update { .. } => states(alloc, statement, seen.entries()),
+        Statement::Update { .. } => rewritten_states(alloc, statement, seen.entries()),
         Statement::Insert { id, value } => inserted(alloc, *id, *value),
-        Statement::Delete { .. } => states(alloc, statement, seen.entries()),
+        Statement::Delete { .. } => rewritten_states(alloc, statement, seen.entries()),
     }
 }
 
@@ -186,6 +211,14 @@ fn first_failing(statement: &Statement, entries: &[(RowId, Version)]) -> Option<
     None
 }
 
+/// The same, where only the rows are looked at that the statement may match.
+fn first_candidate_failing(statement: &Statement, entries: &[(RowId, Version)]) -> Option<RowId>
+    requires { T (map.is_sorted row_cmp entries.now) }
+    ensures { result ≡ made.first_failing statement.now entries.now }
+{
+    first_failing(statement, candidates(statement, entries))
+}
+
 /// Why a statement can't run on rows that are seen at these versions, if it can't.
 fn fault_of(statement: &Statement, seen: &Versions) -> Option<EffectFault>
     ensures fault { MatchOption result ((row : Row) → fails statement.now row (version_in seen.now row).state ≡ false)
@@ -195,7 +228,7 @@ fn fault_of(statement: &Statement, seen: &Versions) -> Option<EffectFault>
     match statement {
         Statement::Select { .. } => None,
         Statement::Update { .. } => {
-            let id = first_failing(statement, seen.entries())?;
+            let id = first_candidate_failing(statement, seen.entries())?;
             Some(EffectFault::OutOfRange { id })
         }
         Statement::Insert { id, .. } => {

@@ -86,7 +86,8 @@ impl Gathering {
         ensures committed { OnOk result ((row : Row) → map.get self.new.committed row
             ≡ plain.installed_over (plain.installing event.now.outcome (plain.gathered_by self.old.txns.items (plain.number_at self.old.active.items place))) row (map.get self.old.committed row)) }
         ensures installs { OnOk result ((row : Row) → plain.numbers_of row self.new.installs.items
-            ≡ plain.numbers_of row self.old.installs.items ++ plain.installs_by (plain.installing event.now.outcome (plain.gathered_by self.old.txns.items (plain.number_at self.old.active.items place))) row) }
+            ≡ plain.numbers_of row self.old.installs.items ++ plain.installs_by (plain.installing event.now.outcome
+            (plain.gathered_by self.old.txns.items (plain.number_at self.old.active.items place))) row) }
     {
         let by = self.active[place];
         let txn = installing(&self.txns, &event.outcome, by);

@@ -13,6 +13,7 @@
 #![tactic(auto)]
 
 mod answer;
+mod candidates;
 mod chain;
 mod circle;
 mod effect;

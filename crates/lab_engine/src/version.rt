@@ -6,15 +6,13 @@ ghost use Rattle.std.specs.List.{prefix_len};
 ghost use Rattle.std.specs.FinMap as map;
 ghost use Rattle.std.specs.Option.{option_or};
 ghost use Rattle.lab_table.specs.Row.{Row, row_cmp};
-ghost use Rattle.lab_engine.specs.Chains.{version_before, chain_in};
 ghost use Rattle.lab_engine.specs.EachRow.{with_row, each_row, overwritten_version};
 ghost use Rattle.lab_engine.specs.Sight.{listed_version, comes_after};
 ghost use Rattle.lab_history.specs.VersionName.{state_value};
 ghost use Rattle.lab_engine.specs.Merging.{initial_entry, written_entry, written_version, insert_each, merged, without_row};
 
-use crate::chain::Chains;
 use lab_history::{State, VersionName, Writes};
-use lab_table::{ByRow, NoMemory, RowId, Statement, Table, Value, place_of};
+use lab_table::{ByRow, NoMemory, RowId, Statement, Table, Value};
 use std::alloc::Global;
 use std::marker::Model;
 
@@ -75,6 +73,15 @@ impl Versions {
         })
     }
 
+    /// This version of a row, and no other. NoMemory where a growth was refused.
+    pub(crate) fn only(alloc: Global, row: RowId, version: Version) -> Result<Versions, NoMemory>
+        ensures { IfOk result (λ made. made ≡ map.insert map.empty row version) }
+    {
+        let mut made = Versions::new(alloc);
+        made.put(alloc, row, version)?;
+        Ok(made)
+    }
+
     /// The version of a row, or None where there is none of it.
     pub fn get(&self, row: RowId) -> Option<Version>
         ensures { result ≡ map.get self.now row }
@@ -89,13 +96,12 @@ impl Versions {
         self.by_row.entries()
     }
 
-    /// Of these rows the versions that were the last to be installed by commits with fewer events before them than these.
-    /// NoMemory where a growth was refused.
-    pub fn before(&self, alloc: Global, chains: &Chains, place: usize) -> Result<Versions, NoMemory>
-        ensures { IfOk result (λ made. (row : Row) → map.get made row ≡ option_and_then (λ _. version_before place (chain_in chains.now row)) (map.get self.now row)) }
+    /// A copy. NoMemory where a growth was refused.
+    pub fn copy(&self, alloc: Global) -> Result<Versions, NoMemory>
+        ensures { IfOk result (λ copy. copy ≡ self.now) }
     {
         Ok(Versions {
-            by_row: ByRow::from_rising(entries_before(alloc, self.entries(), chains, place)?),
+            by_row: self.by_row.copy(alloc)?,
         })
     }
 
@@ -204,27 +210,6 @@ fn written_entries(
         .collect(alloc)
 }
 
-fn entry_before(chains: &Chains, place: usize, entry: &(RowId, Version)) -> Option<(RowId, Version)>
-    ensures { result ≡ with_row entry.now.0 (version_before place (chain_in chains.now entry.now.0)) }
-{
-    let version = chains.version_before(entry.0, place)?;
-    Some((entry.0, version))
-}
-
-fn entries_before(
-    alloc: Global,
-    entries: &[(RowId, Version)],
-    chains: &Chains,
-    place: usize,
-) -> Result<Vec<(RowId, Version)>, NoMemory>
-    ensures { IfOk result (λ v. v.items ≡ each_row (λ row version. version_before place (chain_in chains.now row)) entries.now) }
-{
-    entries
-        .iter()
-        .filter_map(|entry| entry_before(chains, place, entry))
-        .collect(alloc)
-}
-
 fn entry_overwritten(statement: &Statement, entry: &(RowId, Version)) -> Option<(RowId, Version)>
     ensures { result ≡ with_row entry.now.0 (overwritten_version statement.now entry.now.0 entry.now.1) }
 {
@@ -279,20 +264,10 @@ fn merged_entries(
     Ok(entries)
 }
 
-/// How many entries stand before a row, which is mostly none.
+/// How many entries stand before a row. They are mostly few, so they are counted.
 fn place_near(entries: &[(RowId, Version)], row: RowId) -> usize
-    requires { T (map.is_sorted row_cmp entries.now) }
     ensures value { result ≡ prefix_len (comes_after row) entries.now }
     ensures bound { result ≤ length entries.now }
 {
-    match entries.split_first() {
-        Some((first, _)) => {
-            if row > first.0 {
-                place_of(entries, row)
-            } else {
-                0
-            }
-        }
-        None => 0,
-    }
+    entries.iter().take_while(|entry| row > entry.0).count()
 }

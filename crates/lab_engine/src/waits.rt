@@ -2,21 +2,19 @@
 
 ghost use Rattle.std.specs.Prelude.{◌≡◌, ◌==◌, ◌&&◌, not, ◌↔◌, Some, true, false, List, ℕ, length, IfOk, IsSome, IsTrue, MatchOption};
 ghost use Rattle.std.specs.List.{Contains, list_any};
-ghost use Rattle.lab_table.specs.Table.{Table as PlainTable};
 ghost use Rattle.lab_table.specs.declared.statement.Statement.{Statement as Asked};
-ghost use Rattle.lab_engine.specs.declared.event.Level.{Level as Kind};
 ghost use Rattle.lab_engine.specs.Log.{Past, Txn, active};
 ghost use Rattle.lab_engine.specs.Rules.{BlockedBy, IsCircle, MayAsk};
 ghost use Rattle.lab_engine.specs.Recording.{NoneRetryable, IsLeastRetryable};
 ghost use Rattle.lab_engine.specs.Situation.{Describes, DescribesSession};
-ghost use Rattle.lab_engine.specs.Sight.{IsSight, ShowsWritten};
+ghost use Rattle.lab_engine.specs.Sight.{ShowsWritten};
 ghost use Rattle.lab_engine.specs.WaitsFor.{AreBlockers, AreWaits, WaitsOn};
 ghost use Rattle.lab_engine.specs.Released.{IsReleased};
 
 use crate::circle::shortest_circle;
 use crate::event::Sessions;
 use crate::rules::Rules;
-use crate::sight::seen_by;
+use crate::sight::shown_to;
 use crate::situation::{SessionState, Situation};
 use crate::version::Versions;
 use lab_table::{NoMemory, Session, Statement, Table};
@@ -54,20 +52,8 @@ fn is_blocked_by<R: Rules>(
     }
 }
 
-/// Of these versions those that a statement would overwrite; a select overwrites none.
-/// NoMemory where a growth was refused.
-fn overwritten(alloc: Global, seen: &Versions, statement: &Statement) -> Result<Versions, NoMemory>
-    ensures { (level : Kind) (setup : PlainTable) (past : Past) (txn : Txn) → IsSight level setup past txn seen.now
-        → IfOk result (ShowsWritten level setup past txn statement.now) }
-{
-    match statement {
-        Statement::Select { .. } => Ok(Versions::new(alloc)),
-        _ => seen.overwritten_by(alloc, statement),
-    }
-}
-
-/// The sessions that block a statement of a session that sees these versions, by rising number.
-/// NoMemory where a growth was refused.
+/// The sessions that block a statement of a session that sees these versions of the rows that the statement would write,
+/// by rising number. NoMemory where a growth was refused.
 pub fn blockers<R: Rules>(
     alloc: Global,
     rules: &R,
@@ -78,13 +64,12 @@ pub fn blockers<R: Rules>(
     statement: &Statement,
 ) -> Result<Sessions, NoMemory>
     ensures { (past : Past) (txn : Txn) → Describes past situation.now → active past session ≡ Some txn
-        → IsSight R.kind setup.now past txn seen.now
+        → ShowsWritten R.kind setup.now past txn statement.now seen.now
         → IfOk result (AreBlockers R.kind setup.now past session statement.now) }
 {
-    let shown = overwritten(alloc, seen, statement)?;
     let mut on = Vec::new(alloc);
     for state in &situation.sessions {
-        if is_blocked_by(rules, setup, situation, session, &shown, statement, state) {
+        if is_blocked_by(rules, setup, situation, session, seen, statement, state) {
             on.push(state.session)?;
         }
     }
@@ -109,7 +94,7 @@ fn waits_on<R: Rules>(
     let Some(running) = &state.running else {
         return Ok(Sessions::new(Vec::new(alloc)));
     };
-    let seen = seen_by(alloc, rules.level(), setup, situation, running)?;
+    let seen = shown_to(alloc, rules.level(), setup, situation, running, statement)?;
     blockers(
         alloc,
         rules,

@@ -66,7 +66,8 @@ module _ (level : Level) (setup : Table) (past : Past) (asker : Txn) (sees : Lis
       at_row s shows f.0 (ap (λ o. row_was_read ran s f.0 (unwrap_or o absent).state) f.2 ∙ f.3)
 
   -- a statement that writes no absent row writes only rows that are listed
-  listed_unread : (s : Statement) → ShowsWritten level setup past asker s sees → ((row : Row) → would_write s row None ≡ false) → listed_was_read ran s sees ≡ false → ¬ HasRead level setup past asker s holder
+  listed_unread : (s : Statement) → ShowsWritten level setup past asker s sees → ((row : Row) → would_write s row None ≡ false) → listed_was_read ran s sees ≡ false
+      → ¬ HasRead level setup past asker s holder
   listed_unread s shows nothing any (row, writes, read) = at (get sees row) refl
     where
       at : (o : Option Version) → get sees row ≡ o → ⊥

@@ -9,7 +9,8 @@ use Rattle.lab_engine.proofs.sight.committed_seen.Goals as goal
 
 pub returns-in-Snapshot : goal.returns-in-Snapshot
 returns-in-Snapshot c = λ past session txn d is_active running.
-    IfOk-weaker c.under_chains.result _ _
+    IfOk-weaker c.over_table-in-Snapshot.result _ _
     (λ made is row.
-    is row ∙ ap (λ (level : Level). option_or (last_installed (commits (sight level past txn)) row) (listed_version (get c.args.setup.now row))) (sym c.in-Snapshot.is))
-    (c.under_chains.ensures past session txn d is_active running.before)
+    is row ∙ ap (λ o. option_or o (listed_version (get c.args.setup.now row))) (running.installed row)
+    ∙ ap (λ (level : Level). option_or (last_installed (commits (sight level past txn)) row) (listed_version (get c.args.setup.now row))) (sym c.in-Snapshot.is))
+    c.over_table-in-Snapshot.ensures

@@ -4,5 +4,5 @@ use Rattle.lab_engine.specs.Situation.{Agree}
 use Rattle.lab_engine.proofs.situation.running_next.Goals as goal
 
 pub returns-in-Rows : goal.returns-in-Rows
-returns-in-Rows c = λ past txn agree before.
+returns-in-Rows c = λ past txn agree before are.
     subst (λ o. IfOk c.run_in.result (Agree (active_after c.args.event.now.command o past txn))) (sym c.in-Rows.is) (c.run_in.ensures txn c.in-Rows.view c.in-Rows.rows agree)

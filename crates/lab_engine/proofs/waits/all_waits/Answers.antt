@@ -16,17 +16,21 @@ loop-state-preserved g c = λ past d.
     c.state-item.is in
     let described : DescribesSession past c.state-item.result = described_at past c.args.situation.now c.loop-state.state-index c.state-item.result d at in
     let wait : Wait = record { session = c.state-item.result.session; on = c.in_ok-on.on } in
-    let step : (session other : ℕ) → waits_for c.if-not-is_empty.waits.items session other ≡ (waits_for c.loop-state.waits.items session other ||
+    let step : (session other : ℕ) → waits_for
+    c.if-not-is_empty.waits.items session other ≡ (waits_for c.loop-state.waits.items session other ||
     (c.state-item.result.session == session && list_any (λ o. o == other) c.in_ok-on.on)) =
     λ session other. elim c.if-not-is_empty.branch [
       | then-not-is_empty+in_ok-push w ↦
-          waits_pushed c.loop-state.waits.items c.if-not-is_empty.waits.items wait
+          waits_pushed c.loop-state.waits.items
+          c.if-not-is_empty.waits.items wait
           (◌∙◌ {c = c.loop-state.waits.items ++ wait ∷ []} (ap (λ v. v.items) {y = w.push.new.self} w.waits-is) w.in_ok-push.ensures.items) session other
       | else-not-is_empty w ↦
-          waits_kept c.loop-state.waits.items c.if-not-is_empty.waits.items c.state-item.result.session c.in_ok-on.on (ap (λ v. v.items) {y = c.loop-state.waits} w.waits-is)
+          waits_kept c.loop-state.waits.items
+          c.if-not-is_empty.waits.items c.state-item.result.session c.in_ok-on.on (ap (λ v. v.items) {y = c.loop-state.waits} w.waits-is)
           (sym (ap length c.as_slice.ensures) ∙ eqb-true (length c.as_slice.result.now) 0 (sym c.is_empty.ensures ∙ w.if-not-is_empty.false)) session other
     ] in
-    waits_step g.R.Rules.kind c.args.setup.now past c.args.situation.now.sessions.items c.loop-state.state-index c.state-item.result c.loop-state.waits.items c.if-not-is_empty.waits.items c.in_ok-on.on
+    waits_step g.R.Rules.kind c.args.setup.now past c.args.situation.now.sessions.items c.loop-state.state-index c.state-item.result c.loop-state.waits.items
+    c.if-not-is_empty.waits.items c.in_ok-on.on
     at.lt at.is (c.loop-state.invariant past d) (c.in_ok-on.ensures past d described) step
 
 pub returns : goal.returns

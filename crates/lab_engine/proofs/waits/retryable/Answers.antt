@@ -10,7 +10,8 @@ use Rattle.lab_engine.proofs.waits.retryable.Goals as goal
 pub returns-then-branch : goal.returns-then-branch
 returns-then-branch g c = λ past d.
     let at : StandsAt c.args.situation.now.sessions.items c.loop-state.state-index c.state-item.result =
-    stands_at c.args.situation.now.sessions.items c.deref-state-items.result.now c.loop-state.state-index c.state-item.result c.deref-state-items.ensures.value c.loop-state-test.true
+    stands_at c.args.situation.now.sessions.items c.deref-state-items.result.now c.loop-state.state-index c.state-item.result
+    c.deref-state-items.ensures.value c.loop-state-test.true
     c.state-item.is in
     let described : DescribesSession past c.state-item.result = described_at past c.args.situation.now c.loop-state.state-index c.state-item.result d at in
     let released : IsSome c.state-item.result.waits × IsReleased c.in_ok-waits.waits.items c.state-item.result.session =
@@ -21,7 +22,8 @@ returns-then-branch g c = λ past d.
 pub loop-state-preserved : goal.loop-state-preserved
 loop-state-preserved g c = λ past d.
     let at : StandsAt c.args.situation.now.sessions.items c.loop-state.state-index c.state-item.result =
-    stands_at c.args.situation.now.sessions.items c.deref-state-items.result.now c.loop-state.state-index c.state-item.result c.deref-state-items.ensures.value c.loop-state-test.true c.state-item.is in
+    stands_at c.args.situation.now.sessions.items c.deref-state-items.result.now c.loop-state.state-index c.state-item.result
+    c.deref-state-items.ensures.value c.loop-state-test.true c.state-item.is in
     let described : DescribesSession past c.state-item.result = described_at past c.args.situation.now c.loop-state.state-index c.state-item.result d at in
     none_step g.R.Rules.kind c.args.setup.now past c.args.situation.now.sessions.items c.loop-state.state-index c.state-item.result at.lt at.is (c.loop-state.invariant past d)
     (λ r. both_ways _ c.if-branch.false (c.in_ok-is_released.ensures.1 (subst (λ waits. IsSome c.state-item.result.waits × IsReleased waits c.state-item.result.session) (sym c.deref.ensures.value)
@@ -30,4 +32,5 @@ loop-state-preserved g c = λ past d.
 pub returns : goal.returns
 returns g c = λ past d.
     none_retryable g.R.Rules.kind c.args.setup.now past c.args.situation.now c.loop-state.state-index d
-    (subst (λ xs. length xs ≤ c.loop-state.state-index) c.deref-state-items.ensures.value c.loop-state-test.false) (c.loop-state.invariant past d)
+    (subst (λ xs. length xs ≤ c.loop-state.state-index)
+    c.deref-state-items.ensures.value c.loop-state-test.false) (c.loop-state.invariant past d)

@@ -1,0 +1,15 @@
+use Rattle.std.proofs.Common.{◌≡◌, true, refl, subst, inl, inr}
+use Rattle.std.specs.Prelude.{IfSome}
+use Rattle.lab_table.specs.Row.{Row}
+use Rattle.lab_table.specs.Statement.{may_match}
+use Rattle.lab_engine.proofs.candidates.candidates.Goals as goal
+
+pub returns-in-None : goal.returns-in-None
+returns-in-None c = inl refl
+
+pub returns-in-Some : goal.returns-in-Some
+returns-in-Some c = inr (
+  c.in-Some.row,
+  subst (λ o. IfSome o (λ row. (other : Row) → may_match c.args.statement.now other ≡ true → other ≡ row)) c.in-Some.is c.named_row.ensures.only,
+  c.own_entry.ensures,
+)

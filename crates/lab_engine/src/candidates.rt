@@ -1,0 +1,45 @@
+//! Which versions a statement has to look at.
+
+ghost use Rattle.std.specs.Prelude.{◌≡◌, T};
+ghost use Rattle.std.specs.FinMap as map;
+ghost use Rattle.lab_table.specs.Row.{row_cmp};
+ghost use Rattle.lab_engine.specs.Candidates.{own_first, own_entries, AreCandidates};
+
+use crate::version::Version;
+use lab_table::{RowId, Statement, place_of};
+
+/// Of entries by rising row those whose rows a statement may match: where it names a row, at most that row's.
+pub fn candidates<'e>(
+    statement: &Statement,
+    entries: &'e [(RowId, Version)],
+) -> &'e [(RowId, Version)]
+    requires { T (map.is_sorted row_cmp entries.now) }
+    ensures { AreCandidates statement.now entries.now result.now }
+{
+    match statement.named_row() {
+        None => entries,
+        Some(row) => own_entry(entries, row),
+    }
+}
+
+/// The row's entry, of entries by rising row; nothing where it has none.
+fn own_entry(entries: &[(RowId, Version)], row: RowId) -> &[(RowId, Version)]
+    requires { T (map.is_sorted row_cmp entries.now) }
+    ensures { result.now ≡ own_entries row entries.now }
+{
+    let (_, rest) = entries.split_at(place_of(entries, row));
+    first_own(rest, row)
+}
+
+/// The first entry, where it is the row's; else nothing.
+fn first_own(entries: &[(RowId, Version)], row: RowId) -> &[(RowId, Version)]
+    ensures { result.now ≡ own_first row entries.now }
+{
+    match entries.split_first() {
+        Some((first, _)) => {
+            let (own, _) = entries.split_at(usize::from(row == first.0));
+            own
+        }
+        None => entries,
+    }
+}
