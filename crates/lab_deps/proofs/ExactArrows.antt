@@ -1,5 +1,5 @@
--- The kinds that cells tell of are those of the edges of a history.
-use Rattle.std.proofs.Common.{◌≡◌, ◌≢◌, ◌↔◌, ◌+◌, ◌*◌, ◌==◌, ℕ, Bool, true, false, cond, List, [], length, get_or, replicate, refl, sym, ap, ◌∙◌, arith}
+-- The kinds that cells tell of are those of some edges of a history.
+use Rattle.std.proofs.Common.{◌≡◌, ◌≢◌, ◌↔◌, ◌+◌, ◌*◌, ◌==◌, ℕ, true, false, cond, List, [], length, get_or, replicate, refl, sym, ap, ◌∙◌, arith}
 use Rattle.std.specs.Prelude.{Contains}
 use Rattle.std.proofs.lemmas.Bool.{eqb-false, ne_eqb, false≢true}
 use Rattle.std.proofs.lemmas.List.{length-replicate}
@@ -8,13 +8,11 @@ use Rattle.lab_table.proofs.Members.{no_member}
 use Rattle.lab_history.specs.History.{History}
 use Rattle.lab_history.specs.Version.{IsCommitted}
 use Rattle.lab_history.specs.declared.transaction.Txn.{Txn}
-use Rattle.lab_deps.specs.Collected.{all_edges}
 use Rattle.lab_deps.specs.Edges.{IsEdge}
-use Rattle.lab_deps.specs.KindBits.{has_bit, place, cell_at, holds, edge_of, IsNumbering, Tells}
-use Rattle.lab_deps.specs.Soundness.{IsSound}
+use Rattle.lab_deps.specs.KindBits.{has_bit, place, cell_at, bits_of, edge_of, IsNumbering, Tells}
+use Rattle.lab_deps.specs.declared.edge.Edge.{Edge}
 use Rattle.lab_deps.specs.declared.edge.Kind.{Kind}
 use Rattle.lab_deps.specs.declared.edge.Kind.TheVariants.{Write, ItemRead, PredicateRead, ItemAnti, PredicateAnti}
-use Rattle.lab_deps.proofs.CollectedEdges.{collected_is_edge, edge_is_collected}
 use Rattle.lab_deps.proofs.Numbered.{zeros}
 use Rattle.lab_deps.proofs.Readers.{committed_txn}
 
@@ -38,41 +36,42 @@ told_none ts ps k w cs numbering wide empty = record {
   );
 }
 
--- what holds of two places with a bit
-module _ (p q : ℕ) (b : Bool) where
-  held : cond (p == 0) false (cond (q == 0) false b) ≡ true → (p ≢ 0) × (q ≢ 0) × (b ≡ true)
+-- what is so of two places whose cell has a bit
+module _ (p q cell : ℕ) (kind : Kind) where
+  held : has_bit (cond (p == 0) 0 (cond (q == 0) 0 cell)) kind ≡ true → (p ≢ 0) × (q ≢ 0) × (has_bit cell kind ≡ true)
   held is =
-      elim (p == 0) as (λ c. (p == 0) ≡ c → cond c false (cond (q == 0) false b) ≡ true → (p ≢ 0) × (q ≢ 0) × (b ≡ true)) [
-        | true ↦ λ _ no. absurd (false≢true no)
+      elim (p == 0) as (λ c. (p == 0) ≡ c → has_bit (cond c 0 (cond (q == 0) 0 cell)) kind ≡ true → (p ≢ 0) × (q ≢ 0) × (has_bit cell kind ≡ true)) [
+        | true ↦ λ _ none. absurd (false≢true (sym (no_bit kind) ∙ none))
         | false ↦ λ some.
-            elim (q == 0) as (λ c. (q == 0) ≡ c → cond c false b ≡ true → (p ≢ 0) × (q ≢ 0) × (b ≡ true)) [
-              | true ↦ λ _ no. absurd (false≢true no)
+            elim (q == 0) as (λ c. (q == 0) ≡ c → has_bit (cond c 0 cell) kind ≡ true → (p ≢ 0) × (q ≢ 0) × (has_bit cell kind ≡ true)) [
+              | true ↦ λ _ none. absurd (false≢true (sym (no_bit kind) ∙ none))
               | false ↦ λ there has. (eqb-false p 0 some, eqb-false q 0 there, has)
             ] refl
       ] refl is
 
-  hold : p ≢ 0 → q ≢ 0 → b ≡ true → cond (p == 0) false (cond (q == 0) false b) ≡ true
+  hold : p ≢ 0 → q ≢ 0 → has_bit cell kind ≡ true → has_bit (cond (p == 0) 0 (cond (q == 0) 0 cell)) kind ≡ true
   hold some there has =
-      ap (λ c. cond c false (cond (q == 0) false b)) (ne_eqb p 0 some) ∙ (ap (λ c. cond c false b) (ne_eqb q 0 there) ∙ has)
+      ap (λ c. has_bit (cond c 0 (cond (q == 0) 0 cell)) kind) (ne_eqb p 0 some) ∙ (ap (λ c. has_bit (cond c 0 cell) kind) (ne_eqb q 0 there) ∙ has)
 
-pub exact_of : (h : History) → IsSound h → (ps : List ℕ) (w : ℕ) (cs made : List ℕ) → Tells ps w cs made (all_edges h) → ((t : Txn) → Contains h.txns t → place made t.no ≢ 0)
-    → (from to : ℕ) (kind : Kind) → (holds ps w cs from to kind ≡ true) ↔ ((row : Row) × IsEdge h (edge_of from to kind row))
-exact_of h sound ps w cs made told placed from to kind = (forth, back)
-  where
-    forth : holds ps w cs from to kind ≡ true → (row : Row) × IsEdge h (edge_of from to kind row)
-    forth is =
-        let parts = held (place ps from) (place ps to) (has_bit (get_or cs (cell_at ps w from to) 0) kind) is in
-        let found = (told.exact from to kind parts.0 parts.1).0 parts.2 in
-        (found.0, collected_is_edge h sound (edge_of from to kind found.0) found.1)
+-- cells that tell of some edges of a history tell of them exactly
+module _ (h : History) (es : List Edge) (are_edges : (e : Edge) → Contains es e → IsEdge h e) where
+  pub exact_of : (ps : List ℕ) (w : ℕ) (cs made : List ℕ) → Tells ps w cs made es → ((t : Txn) → Contains h.txns t → place made t.no ≢ 0)
+      → (from to : ℕ) (kind : Kind) → (has_bit (bits_of ps w cs from to) kind ≡ true) ↔ ((row : Row) × Contains es (edge_of from to kind row))
+  exact_of ps w cs made told placed from to kind = (forth, back)
+    where
+      forth : has_bit (bits_of ps w cs from to) kind ≡ true → (row : Row) × Contains es (edge_of from to kind row)
+      forth is =
+          let parts = held (place ps from) (place ps to) (get_or cs (cell_at ps w from to) 0) kind is in
+          (told.exact from to kind parts.0 parts.1).0 parts.2
 
-    has_place : (n : ℕ) → IsCommitted h n → place ps n ≢ 0
-    has_place n committed none =
-        let one = committed_txn h n committed in
-        placed one.txn one.is_there (ap (place made) one.number_is ∙ (ap (λ xs. place xs n) (sym told.same) ∙ none))
+      has_place : (n : ℕ) → IsCommitted h n → place ps n ≢ 0
+      has_place n committed none =
+          let one = committed_txn h n committed in
+          placed one.txn one.is_there (ap (place made) one.number_is ∙ (ap (λ xs. place xs n) (sym told.same) ∙ none))
 
-    back : (row : Row) × IsEdge h (edge_of from to kind row) → holds ps w cs from to kind ≡ true
-    back (row, edge) =
-        let a = has_place from edge.0 in
-        let b = has_place to edge.1 in
-        hold (place ps from) (place ps to) (has_bit (get_or cs (cell_at ps w from to) 0) kind) a b
-        ((told.exact from to kind a b).1 (row, edge_is_collected h (edge_of from to kind row) edge))
+      back : (row : Row) × Contains es (edge_of from to kind row) → has_bit (bits_of ps w cs from to) kind ≡ true
+      back (row, there) =
+          let edge = are_edges (edge_of from to kind row) there in
+          let a = has_place from edge.0 in
+          let b = has_place to edge.1 in
+          hold (place ps from) (place ps to) (get_or cs (cell_at ps w from to) 0) kind a b ((told.exact from to kind a b).1 (row, there))

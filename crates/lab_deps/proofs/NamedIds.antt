@@ -105,7 +105,8 @@ module _ (h : History) (op : Op) where
       ≡ least (first_value (is_unlisted_among op numbers) (entries h.initial)) (first_value (is_unlisted_among op (number ∷ [])) (entries h.initial))
   one_more numbers number =
       same_first (is_unlisted_among op (numbers ++ number ∷ [])) (λ row value. is_unlisted_among op numbers row value || is_unlisted_among op (number ∷ []) row value)
-      (λ row value. ap (λ b. is_unlisted op row value && b) (list_any-append (int_eq (id_of row)) numbers (number ∷ [])) ∙ and-or_distrib_left (is_unlisted op row value) (has_number numbers row) (has_number (number ∷ []) row))
+      (λ row value. ap (λ b. is_unlisted op row value && b) (list_any-append (int_eq (id_of row)) numbers (number ∷ [])) ∙ and-or_distrib_left (is_unlisted op row value)
+      (has_number numbers row) (has_number (number ∷ []) row))
       (entries h.initial)
       ∙ first_of_either (is_unlisted_among op numbers) (is_unlisted_among op (number ∷ [])) (entries h.initial) (entries_sorted h.initial)
 

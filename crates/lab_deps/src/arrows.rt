@@ -3,18 +3,19 @@
 ghost use Rattle.std.specs.Prelude.{◌≡◌, ◌≢◌, ◌↔◌, ◌+◌, ◌*◌, ℕ, true, [], get_or, set, bit_or, Contains, IfOk};
 ghost use Rattle.lab_table.specs.Row.{Row};
 ghost use Rattle.lab_history.specs.declared.transaction.Txn.{Txn as Transaction};
-ghost use Rattle.lab_deps.specs.Edges.{IsEdge};
-ghost use Rattle.lab_deps.specs.KindBits.{bit, has_bit, place, holds, edge_of, Tells};
-ghost use Rattle.lab_deps.specs.Soundness.{IsSound};
+ghost use Rattle.lab_deps.specs.EdgesByRow.{rows_of};
+ghost use Rattle.lab_deps.specs.KindBits.{bit, has_bit, place, bits_of, edge_of, Tells};
+ghost use Rattle.lab_deps.specs.Scopes.{Allows, edges_in};
 ghost use Rattle.lab_deps.specs.declared.edge.Kind.{Kind as Way};
 
-use crate::collect::add_edges_of_txns;
 use crate::edge::{Edge, Kind};
+use crate::scope::{Scope, add_edges};
 use crate::sink::EdgeSink;
-use crate::sound::Sound;
 use crate::txn_places::places_of;
+use crate::versions::Versions;
+use indexmap::IndexMap;
 use lab_history::History;
-use lab_table::{NoMemory, TxnNo};
+use lab_table::{NoMemory, RowId, TxnNo};
 use std::alloc::Global;
 
 /// Which kinds of dependencies there are between each two transactions.
@@ -28,14 +29,20 @@ pub struct Arrows {
     cells: Vec<u8>,
 }
 
-/// Which kinds of dependencies there are between the committed transactions of a sound history. The third argument is
-/// what the check of this history answered. NoMemory where a growth was refused.
-pub fn arrows_of(alloc: Global, history: &History, _sound: &Sound) -> Result<Arrows, NoMemory>
-    requires { IsSound history.now }
-    ensures exact { IfOk result (λ arrows. (from to : ℕ) (kind : Way) → holds arrows.places.items arrows.width arrows.cells.items from to kind ≡ true ↔ ((row : Row) × IsEdge history.now (edge_of from to kind row))) }
+/// The kinds of those dependencies of a history that are meant. NoMemory where a growth was refused.
+pub fn arrows_of(
+    alloc: Global,
+    history: &History,
+    scope: Scope,
+    rows: &IndexMap<RowId, Versions>,
+) -> Result<Arrows, NoMemory>
+    requires allowed { Allows scope history.now }
+    requires versions { rows.now.entries ≡ rows_of history.now }
+    ensures { IfOk result (λ arrows. (from to : ℕ) (kind : Way) →
+        has_bit (bits_of arrows.places.items arrows.width arrows.cells.items from to) kind ≡ true ↔ ((row : Row) × Contains (edges_in scope history.now) (edge_of from to kind row))) }
 {
     let mut arrows = Arrows::none(alloc, history)?;
-    add_edges_of_txns(alloc, &mut arrows, history)?;
+    add_edges(&mut arrows, history, scope, rows)?;
     Ok(arrows)
 }
 
@@ -56,18 +63,18 @@ impl Arrows {
         })
     }
 
-    /// Whether a transaction depends on another in this way, at some row.
-    pub fn has(&self, from: TxnNo, to: TxnNo, kind: Kind) -> bool
-        ensures { result ≡ holds self.now.places.items self.now.width self.now.cells.items from to kind }
+    /// The bits of the kinds from one transaction to another.
+    pub fn bits(&self, from: TxnNo, to: TxnNo) -> u8
+        ensures { result ≡ bits_of self.now.places.items self.now.width self.now.cells.items from to }
     {
         let i = self.place(from);
         let j = self.place(to);
         if i == 0 {
-            false
+            0
         } else if j == 0 {
-            false
+            0
         } else {
-            has_bit(self.cell(self.at(i, j)), kind)
+            self.cell(self.at(i, j))
         }
     }
 

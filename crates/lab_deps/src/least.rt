@@ -1,55 +1,31 @@
 //! The least dependency of one transaction on another.
 
-ghost use Rattle.std.specs.Prelude.{◌≡◌, true, false, None, [], ◌∷◌, IfOk, IfSome};
-ghost use Rattle.std.specs.Ordering.{is_lt};
-ghost use Rattle.lab_deps.specs.Edges.{IsEdge};
-ghost use Rattle.lab_deps.specs.EdgeOrder.{edge_cmp};
-ghost use Rattle.lab_deps.specs.EdgesByRow.{found_of_two};
-ghost use Rattle.lab_deps.specs.KindBits.{has_bit};
+ghost use Rattle.std.specs.Prelude.{◌≡◌, [], ◌∷◌, IfOk};
+ghost use Rattle.lab_deps.specs.EdgesByRow.{rows_of};
 ghost use Rattle.lab_deps.specs.LeastEdge.{fits, comes_first, less_of, IsLeast};
-ghost use Rattle.lab_deps.specs.Soundness.{IsSound};
-ghost use Rattle.lab_deps.specs.declared.edge.Edge.{Edge as Spelled};
+ghost use Rattle.lab_deps.specs.Scopes.{found_between};
 
-use crate::collect::add_edges_of_two;
 use crate::edge::Edge;
 use crate::kinds::Kinds;
+use crate::scope::{Scope, add_edges_between};
 use crate::sink::EdgeSink;
-use crate::sound::Sound;
+use crate::versions::Versions;
+use indexmap::IndexMap;
 use lab_history::History;
-use lab_table::{NoMemory, TxnNo};
-use std::alloc::Global;
+use lab_table::{NoMemory, RowId, TxnNo};
 
-/// The least dependency of the second transaction on the first among those of these kinds, by kind and row; None where
-/// there is none. The third argument is what the check of this history answered. NoMemory where a growth was refused.
-pub fn least_edge(
-    alloc: Global,
+/// The least of the edges that are meant and fit, among those that are found for two transactions. NoMemory where a
+/// growth was refused.
+pub fn least_of_two(
     history: &History,
-    _sound: &Sound,
+    scope: Scope,
+    rows: &IndexMap<RowId, Versions>,
     from: TxnNo,
     to: TxnNo,
     kinds: Kinds,
 ) -> Result<Option<Edge>, NoMemory>
-    requires { IsSound history.now }
-    ensures edge { IfOk result (λ found. IfSome found (IsEdge history.now)) }
-    ensures from { IfOk result (λ found. IfSome found (λ e. e.from ≡ from)) }
-    ensures to { IfOk result (λ found. IfSome found (λ e. e.to ≡ to)) }
-    ensures kind { IfOk result (λ found. IfSome found (λ e. has_bit kinds.bits e.kind ≡ true)) }
-    ensures least { IfOk result (λ found. IfSome found (λ least.
-        (e : Spelled) → IsEdge history.now e → e.from ≡ from → e.to ≡ to → has_bit kinds.bits e.kind ≡ true → is_lt (edge_cmp e least) ≡ false)) }
-    ensures none { IfOk result (λ found. found ≡ None → (e : Spelled) → IsEdge history.now e → e.from ≡ from → e.to ≡ to → has_bit kinds.bits e.kind ≡ true → ⊥) }
-{
-    least_of_two(alloc, history, from, to, kinds)
-}
-
-/// The least of the edges that are found for two transactions and fit. NoMemory where a growth was refused.
-fn least_of_two(
-    alloc: Global,
-    history: &History,
-    from: TxnNo,
-    to: TxnNo,
-    kinds: Kinds,
-) -> Result<Option<Edge>, NoMemory>
-    ensures { IfOk result (IsLeast (fits from to kinds.bits) (found_of_two history.now from to)) }
+    requires { rows.now.entries ≡ rows_of history.now }
+    ensures { IfOk result (IsLeast (fits from to kinds.bits) (found_between scope history.now from to)) }
 {
     let mut least = Least {
         from,
@@ -57,7 +33,7 @@ fn least_of_two(
         kinds,
         found: None,
     };
-    add_edges_of_two(alloc, &mut least, history, from, to)?;
+    add_edges_between(&mut least, history, scope, rows, from, to)?;
     Ok(least.found)
 }
 

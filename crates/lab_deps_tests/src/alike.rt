@@ -1,6 +1,7 @@
 //! Histories that are written out, with their edges.
 
 use crate::pairs::edges_by_pairs;
+use crate::told::is_told;
 use lab_deps::{Edge, Kind, Unsound, check_local, edges};
 use lab_history::{History, read_history};
 use std::alloc::Global;
@@ -101,6 +102,7 @@ fn histories_with_their_edges(rt: HostRuntime) -> Result<(), Fail> {
             assert_eq!(rt; spelled(*edge), *due, "{text}");
         }
         assert_eq!(rt; found.paired.as_slice(), found.walked.as_slice(), "{text}");
+        assert!(rt; is_told(rt.alloc(), text.as_bytes())?, "{text}");
     }
     Ok(())
 }

@@ -1,5 +1,5 @@
 //! Tests of the dependencies between transactions: the walk along the versions of each row, beside a body that compares
-//! each operation with each installer.
+//! each operation with each installer, and what is told of each two transactions beside both.
 #![tactic(auto)]
 
 #[cfg(test)]
@@ -12,3 +12,5 @@ mod made;
 mod pairs;
 #[cfg(test)]
 mod plays;
+#[cfg(test)]
+mod told;

@@ -6,6 +6,7 @@
 //! others at any version that an earlier transaction installed.
 
 use crate::alike::edges_by_both;
+use crate::told::is_told;
 use lab_deps::Kind;
 use std::alloc::{AllocError, Global};
 use std::test::Fail;
@@ -135,6 +136,7 @@ fn histories_made_by_a_rule(rt: HostRuntime) -> Result<(), Fail> {
             "{text}"
         );
         assert_eq!(rt; found.paired.as_slice(), found.walked.as_slice(), "{text}");
+        assert!(rt; is_told(rt.alloc(), text.as_bytes())?, "{text}");
     }
     Ok(())
 }

@@ -1,9 +1,8 @@
 -- Runs of lists of operations, one behind the other.
-use Rattle.std.proofs.Common.{◌≡◌, ◌-◌, List, [], ◌∷◌, ◌++◌, refl}
+use Rattle.std.proofs.Common.{◌≡◌, List, [], ◌∷◌, ◌++◌, refl}
 use Rattle.lab_table.specs.Table.{Table, overwritten}
 use Rattle.lab_history.specs.declared.operation.Op.{Op}
 use Rattle.lab_judge.specs.Runs.{table_after, RunAsRecorded}
-use Rattle.lab_judge.proofs.Sound.{writes}
 
 -- ---- runs of lists of operations
 pub table_after-append : (a b : List Op) (t : Table) → table_after (a ++ b) t ≡ table_after b (table_after a t)

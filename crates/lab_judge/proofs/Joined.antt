@@ -14,8 +14,9 @@ use Rattle.lab_order.specs.Path.{Leads}
 use Rattle.lab_history.specs.History.{History}
 use Rattle.lab_deps.specs.Edges.{IsEdge}
 use Rattle.lab_deps.specs.declared.edge.Edge.{Edge}
+use Rattle.lab_deps.specs.declared.edge.Kind.{Kind}
 use Rattle.lab_judge.specs.Allowed.{allows}
-use Rattle.lab_judge.specs.Graphs.{HasEnds, joins, IsGraphOf, LeadsAlong, last_of, count_others}
+use Rattle.lab_judge.specs.Graphs.{HasEnds, ties, joins, IsGraphOf, LeadsAlong, last_of, count_others}
 use Rattle.lab_judge.specs.Phenomena.{IsWalk, IsClosedWalk}
 use Rattle.lab_judge.specs.declared.allowed.Allowed.{Allowed}
 use Rattle.lab_judge.proofs.Numbers.{stands}
@@ -39,20 +40,20 @@ passes_some test (y ∷ xs) x (suc k, lt, e) h = at (test y) (passes_some test x
     at true rest = refl
     at false rest = rest
 
--- a dependency of an allowed kind that leads from one node to another
-pub record Joining (allowed : Allowed) (nodes : List ℕ) (es : List Edge) (a b : ℕ) : Type 0 where
+-- a dependency of a kind that passes a test, and leads from one node to another
+pub record Tie (test : Kind → Bool) (nodes : List ℕ) (es : List Edge) (a b : ℕ) : Type 0 where
   pub edge : Edge
   pub is_one : Contains es edge
-  pub kind : allows allowed edge.kind ≡ true
+  pub kind : test edge.kind ≡ true
   pub from : slice_get nodes a ≡ Some edge.from
   pub to : slice_get nodes b ≡ Some edge.to
 
-pub joining : (allowed : Allowed) (nodes : List ℕ) (es : List Edge) → All (HasEnds nodes) es → (a b : ℕ) → list_any (joins allowed nodes a b) es ≡ true → Joining allowed nodes es a b
-joining allowed nodes es ends a b h =
-    let found : (e : Edge) × Contains es e × (joins allowed nodes a b e ≡ true) = some_passes (joins allowed nodes a b) es h in
+pub tie : (test : Kind → Bool) (nodes : List ℕ) (es : List Edge) → All (HasEnds nodes) es → (a b : ℕ) → list_any (ties test nodes a b) es ≡ true → Tie test nodes es a b
+tie test nodes es ends a b h =
+    let found : (e : Edge) × Contains es e × (ties test nodes a b e ≡ true) = some_passes (ties test nodes a b) es h in
     let e : Edge = found.0 in
     let has : HasEnds nodes e = All-contains (HasEnds nodes) es e ends found.1 in
-    let parts = and_parts (allows allowed e.kind) _ found.2 in
+    let parts = and_parts (test e.kind) _ found.2 in
     let places = and_parts (position nodes e.from == a) (position nodes e.to == b) parts.1 in
     record {
       edge = e;
@@ -75,9 +76,9 @@ last_step at i way lt =
     ap (last_of at) (drop-cons way i 0 lt ∙ ap (λ k. get_or way i 0 ∷ drop k way) one)
 
 -- the dependency that leads to the next node
-pub next_joining : (allowed : Allowed) (nodes : List ℕ) (es : List Edge) → All (HasEnds nodes) es → (at i : ℕ) (way : List ℕ) → i < length way
-    → LeadsAlong allowed nodes es at (drop i way) → Joining allowed nodes es at (get_or way i 0)
-next_joining allowed nodes es ends at i way lt leads = joining allowed nodes es ends at (get_or way i 0) (step allowed nodes es at i way lt leads).0
+pub next_tie : (allowed : Allowed) (nodes : List ℕ) (es : List Edge) → All (HasEnds nodes) es → (at i : ℕ) (way : List ℕ) → i < length way
+    → LeadsAlong allowed nodes es at (drop i way) → Tie (allows allowed) nodes es at (get_or way i 0)
+next_tie allowed nodes es ends at i way lt leads = tie (allows allowed) nodes es ends at (get_or way i 0) (step allowed nodes es at i way lt leads).0
 
 -- one dependency more of an allowed kind leaves none of other kinds
 pub no_others_more : (allowed : Allowed) (es new : List Edge) (e : Edge) → new ≡ es ++ e ∷ [] → count_others allowed es ≡ 0 → allows allowed e.kind ≡ true → count_others allowed new ≡ 0

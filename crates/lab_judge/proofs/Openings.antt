@@ -1,53 +1,74 @@
 -- Edges that open a walk that leads back, and those that don't.
-use Rattle.std.proofs.Common.{◌≡◌, ℕ, ◌+◌, ◌<◌, Bool, true, false, cond, List, [], ◌∷◌, take, drop, length, slice_index_or, ◌++◌, refl, sym, ap, ◌∙◌, subst, one-add}
-use Rattle.std.specs.Prelude.{Contains, IsTrue, ◌↔◌, ◌==◌}
-use Rattle.std.specs.List.{All, prefix_len}
-use Rattle.std.proofs.lemmas.Bool.{false≢true, eqb-true}
-use Rattle.std.proofs.lemmas.List.{take-append-drop, get_or_read}
-use Rattle.std.proofs.lemmas.List.Elements.{All-nil, All-cons, All-append, All-same, Contains-append_right}
+use Rattle.std.proofs.Common.{◌≡◌, ℕ, ◌<◌, ◌==◌, ◌&&◌, Bool, true, false, Some, List, length, slice_index_or, refl, sym, ap, ◌∙◌, subst}
+use Rattle.std.specs.Prelude.{Contains, IsTrue, ◌↔◌, slice_get}
+use Rattle.std.specs.List.{All, list_any}
+use Rattle.std.proofs.lemmas.Bool.{false≢true, and_from, eq-eqb}
+use Rattle.std.proofs.lemmas.List.{get_or_read}
+use Rattle.std.proofs.lemmas.List.Elements.{All-contains}
+use Rattle.std.proofs.lemmas.Option.{same_Some}
 use Rattle.lab_order.specs.Arrows.{Arrows}
 use Rattle.lab_order.specs.Path.{Reaches}
 use Rattle.lab_order.specs.Placing.{is_marked}
 use Rattle.lab_order.specs.Order.{position}
+use Rattle.lab_deps.specs.KindBits.{has_bit}
 use Rattle.lab_deps.specs.declared.edge.Edge.{Edge}
+use Rattle.lab_deps.specs.declared.edge.Kind.{Kind}
+use Rattle.lab_judge.specs.Graphs.{HasEnds, ties}
+use Rattle.lab_judge.specs.Joining.{any_below}
 use Rattle.lab_judge.specs.Openings.{opens, IsOpening}
 use Rattle.lab_judge.specs.declared.findings.opening.Opening.{Opening}
-
-module _ (opening : Opening) (graph : Arrows) (nodes : List ℕ) where
-  -- an edge of another kind opens no walk
-  pub other_kind : (e : Edge) → opens opening e.kind ≡ false → IsOpening opening graph nodes e → ⊥
-  other_kind e other opened = false≢true (sym other ∙ opened.0)
-
-  -- from the end of an edge that isn't marked no path leads back
-  pub unmarked : (marks : List Bool) (e : Edge) (from : ℕ) → e.from ≡ from → ((n : ℕ) → IsTrue (is_marked marks n) ↔ Reaches graph n (position nodes from))
-      → is_marked marks (position nodes e.to) ≡ false → IsOpening opening graph nodes e → ⊥
-  unmarked marks e from same exact none opened =
-      false≢true (sym none ∙ (exact (position nodes e.to)).1 (subst (λ n. Reaches graph (position nodes e.to) (position nodes n)) same opened.1))
+use Rattle.lab_judge.proofs.Joined.{Tie, tie, passes_some}
+use Rattle.lab_judge.proofs.Landings.{below_some}
+use Rattle.lab_judge.proofs.Numbers.{position_within}
 
 -- the mark of a node is what is read there
-pub mark_read : (marks : List Bool) (n p : ℕ) (b : Bool) → n ≡ p → n < length marks → b ≡ slice_index_or marks n b → is_marked marks p ≡ b
-mark_read marks n p b same lt is = ap (is_marked marks) (sym same) ∙ sym (get_or_read marks n b lt is false)
+pub mark_read : (marks : List Bool) (n : ℕ) (b : Bool) → n < length marks → b ≡ slice_index_or marks n b → is_marked marks n ≡ b
+mark_read marks n b lt is = sym (get_or_read marks n b lt is false)
 
--- what holds in both parts of a list holds in it
-pub in_parts : (P : Edge → Type 0) (n : ℕ) (es front rest : List Edge) → front ≡ take n es → rest ≡ drop n es → All P front → All P rest → All P es
-in_parts P n es front rest is_front is_rest a b =
-    All-same P es (front ++ rest) (sym (take-append-drop n es) ∙ (λ i. sym is_front i ++ sym is_rest i)) (All-append P front rest a b)
+-- an edge begins at a node
+pub within_nodes : (nodes : List ℕ) (es : List Edge) → All (HasEnds nodes) es → (e : Edge) → Contains es e → position nodes e.from < length nodes
+within_nodes nodes es ends e there = let has : HasEnds nodes e = All-contains (HasEnds nodes) es e ends there in position_within nodes e.from has.0
 
--- what is in the second part of a list is in it
-pub from_rest : (n : ℕ) (es rest : List Edge) (e : Edge) → rest ≡ drop n es → Contains rest e → Contains es e
-from_rest n es rest e is there = subst (λ l. Contains l e) (take-append-drop n es) (Contains-append_right (take n es) (drop n es) e (subst (λ l. Contains l e) is there))
+module _ (opening : Opening) (graph : Arrows) (nodes : List ℕ) (es : List Edge) (ends : All (HasEnds nodes) es) (bits : ℕ)
+    (told : (kind : Kind) → has_bit bits kind ≡ opens opening kind) (from : ℕ) where
+  -- an edge from a node that is of an opening kind
+  tied_by : (e : Edge) → Contains es e → position nodes e.from ≡ from → opens opening e.kind ≡ true → list_any (ties (has_bit bits) nodes from (position nodes e.to)) es ≡ true
+  tied_by e there at opened =
+      passes_some (ties (has_bit bits) nodes from (position nodes e.to)) es e there
+      (and_from (has_bit bits e.kind) (position nodes e.from == from && position nodes e.to == position nodes e.to) (told e.kind ∙ opened)
+      (and_from (position nodes e.from == from) (position nodes e.to == position nodes e.to) (eq-eqb (position nodes e.from) from at)
+      (eq-eqb (position nodes e.to) (position nodes e.to) refl)))
 
--- the edges at the front that are from a transaction are from it
-from_it_all : (from : ℕ) (es : List Edge) → All (λ e. e.from ≡ from) (take (prefix_len (λ e. e.from == from) es) es)
-from_it_all from [] = All-nil (λ e. e.from ≡ from)
-from_it_all from (e ∷ es) = at (from_it_all from es) (e.from == from) refl
-  where
-    at : All (λ e. e.from ≡ from) (take (prefix_len (λ e. e.from == from) es) es) → (b : Bool) → (e.from == from) ≡ b
-        → All (λ e. e.from ≡ from) (take (cond b (1 + prefix_len (λ e. e.from == from) es) 0) (e ∷ es))
-    at rest true same =
-        subst (λ n. All (λ e. e.from ≡ from) (take n (e ∷ es))) (sym (one-add (prefix_len (λ e. e.from == from) es)))
-        (All-cons (λ e. e.from ≡ from) e (take (prefix_len (λ e. e.from == from) es) es) (eqb-true e.from from same) rest)
-    at rest false same = All-nil (λ e. e.from ≡ from)
+  within : (e : Edge) → Contains es e → position nodes e.to < length nodes
+  within e there = let has : HasEnds nodes e = All-contains (HasEnds nodes) es e ends there in position_within nodes e.to has.1
 
-pub from_it : (from n : ℕ) (es front : List Edge) → n ≡ prefix_len (λ e. e.from == from) es → front ≡ take n es → All (λ e. e.from ≡ from) front
-from_it from n es front count is = All-same (λ e. e.from ≡ from) front (take (prefix_len (λ e. e.from == from) es) es) (is ∙ ap (λ k. take k es) count) (from_it_all from es)
+  -- where nothing depends on the node's transaction so, no edge from it opens a walk
+  pub none_tied : any_below (λ to. list_any (ties (has_bit bits) nodes from to) es) (length nodes) ≡ false
+      → (e : Edge) → Contains es e → position nodes e.from ≡ from → IsOpening opening graph nodes e → ⊥
+  none_tied none e there at opened =
+      false≢true (sym none ∙ below_some (λ to. list_any (ties (has_bit bits) nodes from to) es) (length nodes) (position nodes e.to) (within e there) (tied_by e there at opened.0))
+
+  module _ (marks : List Bool) (exact : (n : ℕ) → IsTrue (is_marked marks n) ↔ Reaches graph n from) where
+    -- nor where nothing does that is marked
+    pub none_marked : ((to : ℕ) → to < length nodes → is_marked marks to ≡ true → list_any (ties (has_bit bits) nodes from to) es ≡ false)
+        → (e : Edge) → Contains es e → position nodes e.from ≡ from → IsOpening opening graph nodes e → ⊥
+    none_marked none e there at opened =
+        let to = position nodes e.to in
+        let back : Reaches graph to from = subst (Reaches graph to) at opened.1 in
+        false≢true (sym (none to (within e there) ((exact to).1 back)) ∙ tied_by e there at opened.0)
+
+    -- one to a marked node does
+    pub marked_opens : (to : ℕ) → is_marked marks to ≡ true → (e : Edge) (n m : ℕ) → e.from ≡ n → position nodes n ≡ from → e.to ≡ m → position nodes m ≡ to
+        → has_bit bits e.kind ≡ true → IsOpening opening graph nodes e
+    marked_opens to marked e n m from_is from_at to_is to_at kind =
+        let back : Reaches graph to from = (exact to).0 marked in
+        let to_same : to ≡ position nodes e.to = sym (ap (position nodes) to_is ∙ to_at) in
+        let from_same : from ≡ position nodes e.from = sym (ap (position nodes) from_is ∙ from_at) in
+        (sym (told e.kind) ∙ kind, subst (λ k. Reaches graph k (position nodes e.from)) to_same (subst (Reaches graph to) from_same back))
+
+-- where two nodes are tied, there is such an edge
+pub surely : (test : Kind → Bool) (nodes : List ℕ) (es : List Edge) → All (HasEnds nodes) es → (from to n m : ℕ) → list_any (ties test nodes from to) es ≡ true
+    → slice_get nodes from ≡ Some n → slice_get nodes to ≡ Some m → ((e : Edge) → Contains es e → e.from ≡ n → e.to ≡ m → test e.kind ≡ true → ⊥) → ⊥
+surely test nodes es ends from to n m tied from_is to_is none =
+    let t : Tie test nodes es from to = tie test nodes es ends from to tied in
+    none t.edge t.is_one (same_Some t.edge.from n (sym t.from ∙ from_is)) (same_Some t.edge.to m (sym t.to ∙ to_is)) t.kind

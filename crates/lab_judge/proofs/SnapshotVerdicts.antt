@@ -18,7 +18,6 @@ use Rattle.lab_judge.specs.declared.places.Point.{Point}
 use Rattle.lab_judge.specs.declared.places.Point.TheVariants.{Start, Commit}
 use Rattle.lab_judge.proofs.Numbers.{contained, contains_it, stands, position_within}
 use Rattle.lab_judge.proofs.Joined.{read}
-use Rattle.lab_judge.proofs.NodeOrders as orders
 use Rattle.lab_judge.proofs.NodePlaces.{one_node, in_order}
 use Rattle.lab_judge.proofs.PlaceNodes.{node_of, has_it}
 use Rattle.lab_judge.proofs.SerialVerdicts.{is_node}

@@ -1,9 +1,10 @@
 -- Dependencies as the arrows of a graph, whose nodes are the places of transactions in a list.
-use Rattle.std.specs.Prelude.{◌≡◌, ℕ, ◌==◌, ◌&&◌, ◌||◌, nat_lt, Bool, false, not, Option, None, Some, List, [], ◌∷◌, length, Contains, IsTrue, ⊤}
+use Rattle.std.specs.Prelude.{◌≡◌, ℕ, ◌==◌, ◌&&◌, Bool, not, List, [], ◌∷◌, length, Contains, IsTrue, ⊤}
 use Rattle.std.specs.List.{list_any, count_by}
 use Rattle.lab_order.specs.Arrows.{Arrows, nodes_of, has_arrow}
 use Rattle.lab_order.specs.Order.{position}
 use Rattle.lab_deps.specs.declared.edge.Edge.{Edge}
+use Rattle.lab_deps.specs.declared.edge.Kind.{Kind}
 use Rattle.lab_judge.specs.Allowed.{allows}
 use Rattle.lab_judge.specs.declared.allowed.Allowed.{Allowed}
 
@@ -11,9 +12,13 @@ use Rattle.lab_judge.specs.declared.allowed.Allowed.{Allowed}
 abbrev pub HasEnds : List ℕ → Edge → Type 0
 HasEnds nodes e = Contains nodes e.from × Contains nodes e.to
 
+-- whether a dependency is of a kind that passes a test, and leads from one node to another
+abbrev pub ties : (Kind → Bool) → List ℕ → ℕ → ℕ → Edge → Bool
+ties test nodes a b e = test e.kind && (position nodes e.from == a && position nodes e.to == b)
+
 -- whether a dependency of an allowed kind leads from one node to another
 abbrev pub joins : Allowed → List ℕ → ℕ → ℕ → Edge → Bool
-joins allowed nodes a b e = allows allowed e.kind && (position nodes e.from == a && position nodes e.to == b)
+joins allowed nodes a b e = ties (allows allowed) nodes a b e
 
 -- the graph has an arrow exactly where a dependency of an allowed kind leads
 pub record IsGraphOf (allowed : Allowed) (nodes : List ℕ) (es : List Edge) (graph : Arrows) : Type 0 where
@@ -33,12 +38,3 @@ last_of from (n ∷ ns) = last_of n ns
 -- how many dependencies have a kind that isn't allowed
 abbrev pub count_others : Allowed → List Edge → ℕ
 count_others allowed es = count_by (λ e. not (allows allowed e.kind)) es
-
--- whether a dependency stands before those of the second transaction on the first
-abbrev pub stands_before : ℕ → ℕ → Edge → Bool
-stands_before from to e = nat_lt e.from from || (e.from == from && nat_lt e.to to)
-
--- whether the dependency before one is between the same transactions, and is allowed
-abbrev pub repeats : Allowed → Option Edge → Edge → Bool
-repeats allowed None e = false
-repeats allowed (Some other) e = allows allowed other.kind && (other.from == e.from) && (other.to == e.to)

@@ -1,9 +1,8 @@
 -- The graph of starts and commits: the p-th transaction from 0 starts at the node 2p and commits at the node 2p + 1.
-use Rattle.std.specs.Prelude.{◌≡◌, ℕ, zero, suc, ◌+◌, ◌*◌, ◌/◌, ◌%◌, ◌==◌, ◌&&◌, ◌||◌, Bool, false, not, cond, Option, None, Some, List, length, slice_index}
+use Rattle.std.specs.Prelude.{◌≡◌, ℕ, zero, suc, ◌+◌, ◌*◌, ◌/◌, ◌%◌, ◌==◌, ◌&&◌, ◌||◌, Bool, false, cond, List, length, slice_index}
 use Rattle.std.specs.List.{list_any}
 use Rattle.lab_order.specs.Arrows.{Arrows, nodes_of, has_arrow}
 use Rattle.lab_order.specs.Order.{position}
-use Rattle.lab_deps.specs.Edges.{differ}
 use Rattle.lab_deps.specs.declared.edge.Edge.{Edge}
 use Rattle.lab_judge.specs.Runs.{Span}
 use Rattle.lab_judge.specs.Places.{is_anti}
@@ -27,11 +26,6 @@ abbrev pub leads : List ℕ → ℕ → ℕ → Edge → Bool
 leads nodes a b e = cond (is_anti e.kind)
     (start_node (position nodes e.from) == a && commit_node (position nodes e.to) == b)
     (commit_node (position nodes e.from) == a && start_node (position nodes e.to) == b)
-
--- whether the dependency before one leads from the same node to the same
-abbrev pub leads_alike : Option Edge → Edge → Bool
-leads_alike None e = false
-leads_alike (Some other) e = other.from == e.from && other.to == e.to && not (differ (is_anti other.kind) (is_anti e.kind))
 
 -- the graph has an arrow exactly from the start to the commit of each, and where a dependency leads
 pub record IsPlaceGraph (nodes : List ℕ) (es : List Edge) (graph : Arrows) : Type 0 where

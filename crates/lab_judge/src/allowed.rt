@@ -1,9 +1,11 @@
 //! Kinds of dependency that are looked at.
 
 ghost use Rattle.std.specs.Prelude.{◌≡◌};
+ghost use Rattle.lab_deps.specs.KindBits.{has_bit};
+ghost use Rattle.lab_deps.specs.declared.edge.Kind.{Kind as Way};
 ghost use Rattle.lab_judge.specs.Allowed.{allows};
 
-use lab_deps::Kind;
+use lab_deps::{Kind, Kinds};
 
 /// Which dependencies a graph or a walk may be made of.
 #[derive(Clone, Copy)]
@@ -17,14 +19,16 @@ pub(crate) enum Allowed {
 }
 
 impl Allowed {
-    /// Whether it allows this kind.
-    pub(crate) fn allows(self, kind: Kind) -> bool
-        ensures { result ≡ allows self kind }
+    /// The kinds that it allows.
+    pub(crate) fn kinds(self) -> Kinds
+        ensures { (kind : Way) → has_bit result.bits kind ≡ allows self kind }
     {
+        let writes = Kinds::none().and(Kind::Write);
+        let flow = writes.and(Kind::ItemRead).and(Kind::PredicateRead);
         match self {
-            Allowed::All => true,
-            Allowed::Writes => matches!(kind, Kind::Write),
-            Allowed::Flow => matches!(kind, Kind::Write | Kind::ItemRead | Kind::PredicateRead),
+            Allowed::All => flow.and(Kind::ItemAnti).and(Kind::PredicateAnti),
+            Allowed::Writes => writes,
+            Allowed::Flow => flow,
         }
     }
 }

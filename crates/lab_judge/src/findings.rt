@@ -5,7 +5,6 @@ ghost use Rattle.std.specs.List.{All};
 ghost use Rattle.lab_history.specs.History.{History as Recorded};
 ghost use Rattle.lab_deps.specs.Soundness.{Stands, IsSound};
 ghost use Rattle.lab_deps.specs.Edges.{IsEdge};
-ghost use Rattle.lab_deps.specs.EdgeOrder.{IsInOrder};
 ghost use Rattle.lab_deps.specs.Refusal.{IsAnswer};
 ghost use Rattle.lab_deps.specs.declared.edge.Edge.{Edge as Spelled};
 ghost use Rattle.lab_deps.specs.declared.fault.LocalFault.TheVariants as fault;
@@ -26,10 +25,10 @@ use crate::nodes::Nodes;
 use crate::report::{Finding, Grade};
 use closed_walk::{find_circle, find_opened};
 use grade::{grade_of, low_grade_of};
-use lab_deps::{Edge, LocalFault, write_edges};
+use lab_deps::{Dependencies, LocalFault};
 use lab_history::History;
 use lab_order::NoMemory;
-use opening::Opening;
+pub(crate) use opening::Opening;
 use reads::{find_aborted_read, find_intermediate_read};
 use std::alloc::Global;
 
@@ -66,21 +65,19 @@ pub(crate) fn find_in_sound(
     alloc: Global,
     _history: &History,
     nodes: &Nodes,
-    edges: &[Edge],
+    edges: &Dependencies<'_>,
 ) -> Result<Findings, NoMemory>
     requires sound { IsSound _history.now }
     requires nodes { HoldsEachOnce _history.now nodes.now }
     requires edges { (e : Spelled) → Contains edges.now e ↔ IsEdge _history.now e }
-    requires order { IsInOrder edges.now }
     ensures { IfOk result (λ found. JudgesAll _history.now found.phenomena found.level) }
 {
     find_walks(alloc, nodes, edges)
 }
 
 /// What is found in any sound history that has these dependencies. NoMemory where a growth was refused.
-fn find_walks(alloc: Global, nodes: &Nodes, edges: &[Edge]) -> Result<Findings, NoMemory>
-    requires ends { All (HasEnds nodes.now) edges.now }
-    requires order { IsInOrder edges.now }
+fn find_walks(alloc: Global, nodes: &Nodes, edges: &Dependencies<'_>) -> Result<Findings, NoMemory>
+    requires { All (HasEnds nodes.now) edges.now }
     ensures { IfOk result (λ found. (h : Recorded) → IsSound h → ((e : Spelled) → Contains edges.now e ↔ IsEdge h e) → JudgesAll h found.phenomena found.level) }
 {
     let writes = graph_of(alloc, nodes, edges, Allowed::Writes)?;
@@ -161,7 +158,7 @@ fn find_listed_circle(alloc: Global, history: &History) -> Result<Finding, NoMem
     ensures { IfOk result (FindsWalk (IsG0 history.now)) }
 {
     let nodes = Nodes::of(alloc, history)?;
-    let edges = write_edges(alloc, history)?;
+    let edges = Dependencies::of_writes(alloc, history)?;
     let writes = graph_of(alloc, &nodes, &edges, Allowed::Writes)?;
     find_circle(alloc, &nodes, &edges, Allowed::Writes, &writes)
 }

@@ -10,7 +10,6 @@ ghost use Rattle.lab_history.specs.History.{History as Spells};
 ghost use Rattle.lab_history.specs.Limits.{max_file_bytes};
 ghost use Rattle.lab_history.specs.declared.fault.Limit.TheVariants.{Bytes};
 ghost use Rattle.lab_deps.specs.Edges.{IsEdge};
-ghost use Rattle.lab_deps.specs.EdgeOrder.{IsInOrder};
 ghost use Rattle.lab_deps.specs.Refusal.{IsAnswer};
 ghost use Rattle.lab_deps.specs.Soundness.{IsSound};
 ghost use Rattle.lab_deps.specs.declared.edge.Edge.{Edge as Spelled};
@@ -28,7 +27,7 @@ use crate::placing::snapshot_verdict;
 use crate::report::Report;
 use crate::serial::Serial;
 use crate::serializing::serial_verdict;
-use lab_deps::{Edge, LocalFault, Sound, Unsound, check_local, edges};
+use lab_deps::{Dependencies, LocalFault, Sound, Unsound, check_local};
 use lab_engine::Recording;
 use lab_history::{FileFault, History, read_history};
 use lab_order::NoMemory;
@@ -99,7 +98,7 @@ fn judge_sound(alloc: Global, history: &History, sound: &Sound) -> Result<Report
     ensures { IfOk result (IsExactJudgement history.now) }
 {
     let nodes = Nodes::of(alloc, history)?;
-    let edges = edges(alloc, history, sound)?;
+    let edges = Dependencies::of(alloc, history, sound)?;
     let serial = serial_verdict(alloc, history, &nodes, &edges)?;
     let snapshot = snapshot_verdict(alloc, history, &nodes, &edges)?;
     let found = find_beside(alloc, history, &nodes, &edges, &serial)?;
@@ -117,13 +116,12 @@ fn find_beside(
     alloc: Global,
     history: &History,
     nodes: &Nodes,
-    edges: &[Edge],
+    edges: &Dependencies<'_>,
     serial: &Serial,
 ) -> Result<Findings, NoMemory>
     requires sound { IsSound history.now }
     requires nodes { HoldsEachOnce history.now nodes.now }
     requires edges { (e : Spelled) → Contains edges.now e ↔ IsEdge history.now e }
-    requires order { IsInOrder edges.now }
     requires rests { RestsOnOrder history.now serial.now }
     ensures { IfOk result (λ found. JudgesAll history.now found.phenomena found.level) }
 {

@@ -4,7 +4,6 @@ ghost use Rattle.std.specs.Prelude.{◌≡◌, ◌↔◌, ◌<◌, ◌≤◌, �
 ghost use Rattle.std.specs.List.{All, count_by};
 ghost use Rattle.lab_order.specs.Order.{position};
 ghost use Rattle.lab_deps.specs.Edges.{IsEdge};
-ghost use Rattle.lab_deps.specs.EdgeOrder.{IsInOrder};
 ghost use Rattle.lab_deps.specs.Soundness.{IsSound};
 ghost use Rattle.lab_deps.specs.declared.edge.Edge.{Edge as Spelled};
 ghost use Rattle.lab_judge.specs.Runs.{HoldsEachOnce, spans_of};
@@ -14,7 +13,7 @@ ghost use Rattle.lab_judge.specs.PlaceGraphs.{point_at, span_in};
 use crate::nodes::Nodes;
 use crate::place_graph::place_graph;
 use crate::places::{Circle, Places, Point, Spans};
-use lab_deps::Edge;
+use lab_deps::Dependencies;
 use lab_history::History;
 use lab_order::{NoMemory, Ordered, order};
 use lab_table::TxnNo;
@@ -27,7 +26,7 @@ pub(crate) fn snapshot_verdict(
     alloc: Global,
     _history: &History,
     nodes: &Nodes,
-    edges: &[Edge],
+    edges: &Dependencies<'_>,
 ) -> Result<Places, NoMemory>
     requires sound { IsSound _history.now }
     requires nodes { HoldsEachOnce _history.now nodes.now }

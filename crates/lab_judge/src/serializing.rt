@@ -3,7 +3,6 @@
 ghost use Rattle.std.specs.Prelude.{◌≡◌, ◌↔◌, ◌<◌, length, map, slice_index, Contains, IfOk};
 ghost use Rattle.std.specs.List.{All};
 ghost use Rattle.lab_deps.specs.Edges.{IsEdge};
-ghost use Rattle.lab_deps.specs.EdgeOrder.{IsInOrder};
 ghost use Rattle.lab_deps.specs.Soundness.{IsSound};
 ghost use Rattle.lab_deps.specs.declared.edge.Edge.{Edge as Spelled};
 ghost use Rattle.lab_judge.specs.Runs.{HoldsEachOnce};
@@ -14,7 +13,7 @@ use crate::graphs::graph_of;
 use crate::nodes::Nodes;
 use crate::serial::{Order, Serial};
 use crate::walks::walk_round;
-use lab_deps::Edge;
+use lab_deps::Dependencies;
 use lab_history::History;
 use lab_order::{NoMemory, Ordered, order};
 use lab_table::TxnNo;
@@ -26,12 +25,11 @@ pub(crate) fn serial_verdict(
     alloc: Global,
     _history: &History,
     nodes: &Nodes,
-    edges: &[Edge],
+    edges: &Dependencies<'_>,
 ) -> Result<Serial, NoMemory>
     requires sound { IsSound _history.now }
     requires nodes { HoldsEachOnce _history.now nodes.now }
     requires exact { (e : Spelled) → Contains edges.now e ↔ IsEdge _history.now e }
-    requires order { IsInOrder edges.now }
     ensures verdict { IfOk result (IsSerialVerdict _history.now) }
     ensures rests { IfOk result (RestsOnOrder _history.now) }
 {

@@ -4,7 +4,6 @@ ghost use Rattle.std.specs.Prelude.{◌≡◌, ◌≤◌, ◌↔◌, Bool, Conta
 ghost use Rattle.std.specs.List.{All};
 ghost use Rattle.lab_history.specs.History.{History};
 ghost use Rattle.lab_deps.specs.Edges.{IsEdge};
-ghost use Rattle.lab_deps.specs.EdgeOrder.{IsInOrder};
 ghost use Rattle.lab_deps.specs.declared.edge.Edge.{Edge as Spelled};
 ghost use Rattle.lab_deps.specs.declared.edge.Kind.{Kind as Sort};
 ghost use Rattle.lab_judge.specs.Graphs.{HasEnds, IsGraphOf, count_others};
@@ -19,7 +18,7 @@ use crate::nodes::Nodes;
 use crate::report::Finding;
 use crate::serial::Walk;
 use crate::walks::{walk_along, walk_round};
-use lab_deps::Edge;
+use lab_deps::{Dependencies, Edge};
 use lab_order::{Graph, NoMemory, Ordered, order, path};
 use std::alloc::Global;
 
@@ -28,12 +27,11 @@ use std::alloc::Global;
 pub(crate) fn find_circle(
     alloc: Global,
     nodes: &Nodes,
-    edges: &[Edge],
+    edges: &Dependencies<'_>,
     allowed: Allowed,
     graph: &Graph,
 ) -> Result<Finding, NoMemory>
     requires ends { All (HasEnds nodes.now) edges.now }
-    requires order { IsInOrder edges.now }
     requires graph { IsGraphOf allowed nodes.now edges.now graph.now }
     ensures { IfOk result (λ finding. (h : History) → HasEdgesOf h allowed edges.now → FindsWalk (IsClosedOf h allowed) finding) }
 {
@@ -51,13 +49,12 @@ pub(crate) fn find_circle(
 pub(crate) fn find_opened(
     alloc: Global,
     nodes: &Nodes,
-    edges: &[Edge],
+    edges: &Dependencies<'_>,
     allowed: Allowed,
     graph: &Graph,
     opening: Opening,
 ) -> Result<Finding, NoMemory>
     requires ends { All (HasEnds nodes.now) edges.now }
-    requires order { IsInOrder edges.now }
     requires graph { IsGraphOf allowed nodes.now edges.now graph.now }
     ensures { IfOk result (λ finding. (h : History) → ((e : Spelled) → Contains edges.now e ↔ IsEdge h e) → FindsWalk (IsOpenedWalk h opening allowed) finding) }
 {
@@ -75,13 +72,12 @@ pub(crate) fn find_opened(
 fn closed_by(
     alloc: Global,
     nodes: &Nodes,
-    edges: &[Edge],
+    edges: &Dependencies<'_>,
     allowed: Allowed,
     graph: &Graph,
     edge: &Edge,
 ) -> Result<Vec<Edge>, NoMemory>
     requires ends { All (HasEnds nodes.now) edges.now }
-    requires order { IsInOrder edges.now }
     requires graph { IsGraphOf allowed nodes.now edges.now graph.now }
     requires edge { Contains edges.now edge.now }
     requires back { LeadsBack graph.now nodes.now edge.now }
@@ -99,13 +95,12 @@ fn closed_by(
 fn way_back(
     alloc: Global,
     nodes: &Nodes,
-    edges: &[Edge],
+    edges: &Dependencies<'_>,
     allowed: Allowed,
     graph: &Graph,
     edge: &Edge,
 ) -> Result<Vec<Edge>, NoMemory>
     requires ends { All (HasEnds nodes.now) edges.now }
-    requires order { IsInOrder edges.now }
     requires graph { IsGraphOf allowed nodes.now edges.now graph.now }
     requires edge { HasEnds nodes.now edge.now }
     requires back { LeadsBack graph.now nodes.now edge.now }

@@ -1,15 +1,21 @@
 //! Dependencies that open a walk, and from which a path leads back.
 
-ghost use Rattle.std.specs.Prelude.{◌≡◌, ◌≤◌, ◌==◌, Contains, None, IfOk, IfSome, length, true};
-ghost use Rattle.std.specs.List.{All, list_any, prefix_len};
+ghost use Rattle.std.specs.Prelude.{◌≡◌, ◌<◌, ℕ, true, false, Contains, None, IfOk, IfSome, length};
+ghost use Rattle.std.specs.List.{All, list_any};
 ghost use Rattle.lab_order.specs.Arrows.{nodes_of};
-ghost use Rattle.lab_judge.specs.Graphs.{HasEnds};
+ghost use Rattle.lab_order.specs.Order.{position};
+ghost use Rattle.lab_deps.specs.KindBits.{has_bit};
+ghost use Rattle.lab_deps.specs.declared.edge.Edge.{Edge as Spelled};
+ghost use Rattle.lab_deps.specs.declared.edge.Kind.{Kind as Way};
+ghost use Rattle.lab_order.specs.Placing.{is_marked};
+ghost use Rattle.lab_judge.specs.Graphs.{HasEnds, ties};
+ghost use Rattle.lab_judge.specs.Joining.{any_below};
 ghost use Rattle.lab_judge.specs.Openings.{opens, IsOpening};
 
+use crate::joining::are_tied;
 use crate::nodes::Nodes;
-use lab_deps::{Edge, Kind};
+use lab_deps::{Dependencies, Edge, Kind, Kinds};
 use lab_order::{Graph, NoMemory, reaching};
-use lab_table::TxnNo;
 use std::alloc::Global;
 
 /// The kinds that open a walk.
@@ -22,26 +28,25 @@ pub(crate) enum Opening {
 }
 
 impl Opening {
-    /// Whether a dependency of this kind opens a walk.
-    pub(crate) fn opens(self, kind: Kind) -> bool
-        ensures { result ≡ opens self kind }
+    /// The kinds that open a walk.
+    pub(crate) fn kinds(self) -> Kinds
+        ensures { (kind : Way) → has_bit result.bits kind ≡ opens self kind }
     {
+        let item = Kinds::none().and(Kind::ItemAnti);
         match self {
-            Opening::Anti => matches!(kind, Kind::ItemAnti | Kind::PredicateAnti),
-            Opening::ItemAnti => matches!(kind, Kind::ItemAnti),
+            Opening::Anti => item.and(Kind::PredicateAnti),
+            Opening::ItemAnti => item,
         }
     }
 }
 
-/// The first of these edges that opens a walk and from which a path of the graph leads back, or None. NoMemory where a
-/// growth was refused.
-///
-/// Edges from one transaction stand together, so the graph is searched once for each transaction that has one.
+/// The first dependency, by its ends, kind and row, that opens a walk and from which a path of the graph leads back, or
+/// None. NoMemory where a growth was refused.
 pub(crate) fn first_opening(
     alloc: Global,
     graph: &Graph,
     nodes: &Nodes,
-    edges: &[Edge],
+    edges: &Dependencies<'_>,
     opening: Opening,
 ) -> Result<Option<Edge>, NoMemory>
     requires nodes { nodes_of graph.now ≡ length nodes.now }
@@ -49,57 +54,74 @@ pub(crate) fn first_opening(
     ensures found { IfOk result (λ found. IfSome found (λ e. Contains edges.now e × IsOpening opening graph.now nodes.now e)) }
     ensures none { IfOk result (λ found. found ≡ None → All (λ e. ¬ IsOpening opening graph.now nodes.now e) edges.now) }
 {
-    let mut rest = edges;
-    'groups: while let Some(first) = rest.first() {
-        let (group, behind) = rest.split_at(how_many_from(rest, first.from));
-        if let Some(edge) = first_of_group(alloc, graph, nodes, group, first.from, opening)? {
+    for from in 0..nodes.len() {
+        if let Some(edge) = first_from(alloc, graph, nodes, edges, opening, from)? {
             return Ok(Some(edge));
         }
-        rest = behind;
     }
     Ok(None)
 }
 
-/// How many edges at the front are from this transaction.
-fn how_many_from(edges: &[Edge], from: TxnNo) -> usize
-    ensures count { result ≡ prefix_len (λ e. e.from == from) edges.now }
-    ensures bound { result ≤ length edges.now }
-{
-    edges.iter().take_while(|edge| edge.from == from).count()
-}
-
-/// The first of these edges from one transaction that opens a walk and from which a path leads back, or None. NoMemory
-/// where a growth was refused.
-fn first_of_group(
+/// The first of those from the transaction of a node, or None. NoMemory where a growth was refused.
+///
+/// The graph is searched only where there is one that opens a walk.
+fn first_from(
     alloc: Global,
     graph: &Graph,
     nodes: &Nodes,
-    group: &[Edge],
-    from: TxnNo,
+    edges: &Dependencies<'_>,
     opening: Opening,
+    from: u32,
 ) -> Result<Option<Edge>, NoMemory>
     requires nodes { nodes_of graph.now ≡ length nodes.now }
-    requires ends { All (HasEnds nodes.now) group.now }
-    requires from { All (λ e. e.from ≡ from) group.now }
-    requires reader { Contains nodes.now from }
-    ensures found { IfOk result (λ found. IfSome found (λ e. Contains group.now e × IsOpening opening graph.now nodes.now e)) }
-    ensures none { IfOk result (λ found. found ≡ None → All (λ e. ¬ IsOpening opening graph.now nodes.now e) group.now) }
+    requires ends { All (HasEnds nodes.now) edges.now }
+    requires from { from < length nodes.now }
+    ensures found { IfOk result (λ found. IfSome found (λ e. Contains edges.now e × IsOpening opening graph.now nodes.now e)) }
+    ensures none { IfOk result (λ found. found ≡ None → (e : Spelled) → Contains edges.now e → position nodes.now e.from ≡ from → ¬ IsOpening opening graph.now nodes.now e) }
 {
-    if !has_opening(group, opening) {
+    let kinds = opening.kinds();
+    if !has_tied(nodes, edges, kinds, from) {
         return Ok(None);
     }
-    let reach = reaching(alloc, graph, nodes.place(from))?;
-    for edge in group {
-        if opening.opens(edge.kind) && reach[nodes.place(edge.to) as usize] {
-            return Ok(Some(*edge));
-        }
+    let reach = reaching(alloc, graph, from)?;
+    match first_reaching(nodes, edges, kinds, from, &reach) {
+        None => Ok(None),
+        Some(to) => edges.least(nodes.number(from), nodes.number(to), kinds),
     }
-    Ok(None)
 }
 
-/// Whether one of these edges opens a walk.
-fn has_opening(edges: &[Edge], opening: Opening) -> bool
-    ensures { result ≡ list_any (λ e. opens opening e.kind) edges.now }
+/// Whether something depends on the transaction of a node in one of these ways.
+fn has_tied(nodes: &Nodes, edges: &Dependencies<'_>, kinds: Kinds, from: u32) -> bool
+    requires ends { All (HasEnds nodes.now) edges.now }
+    requires from { from < length nodes.now }
+    ensures { result ≡ any_below (λ to. list_any (ties (has_bit kinds.bits) nodes.now from to) edges.now) (length nodes.now) }
 {
-    edges.iter().any(|edge| opening.opens(edge.kind))
+    for to in 0..nodes.len() {
+        if are_tied(nodes, edges, kinds, from, to) {
+            return true;
+        }
+    }
+    false
+}
+
+/// The first marked node whose transaction depends on that of a node in one of these ways, or None.
+fn first_reaching(
+    nodes: &Nodes,
+    edges: &Dependencies<'_>,
+    kinds: Kinds,
+    from: u32,
+    reach: &[bool],
+) -> Option<u32>
+    requires ends { All (HasEnds nodes.now) edges.now }
+    requires from { from < length nodes.now }
+    requires marks { length reach.now ≡ length nodes.now }
+    ensures found { IfSome result (λ to. (to < length nodes.now) × (is_marked reach.now to ≡ true) × (list_any (ties (has_bit kinds.bits) nodes.now from to) edges.now ≡ true)) }
+    ensures none { result ≡ None → (to : ℕ) → to < length nodes.now → is_marked reach.now to ≡ true → list_any (ties (has_bit kinds.bits) nodes.now from to) edges.now ≡ false }
+{
+    for to in 0..nodes.len() {
+        if reach[to as usize] && are_tied(nodes, edges, kinds, from, to) {
+            return Some(to);
+        }
+    }
+    None
 }

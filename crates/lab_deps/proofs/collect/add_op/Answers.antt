@@ -10,7 +10,8 @@ use Rattle.lab_deps.proofs.collect.add_op.Goals as goal
 pub returns-in-None-get : goal.returns-in-None-get
 returns-in-None-get g c =
     let none : lookup (nat_eq c.in-Some.row) (rows_of c.args.history.now) ≡ None = ap (lookup (nat_eq c.in-Some.row)) (sym c.requires) ∙ sym c.in-None-get.ensures.value in
-    subst (Grows g.S.EdgeSink.handed c.args.sink.now c.args.sink.now) (sym (found_nowhere c.args.history.now c.args.txn c.args.op.now c.in-Some.row c.in-Some.ensures none)) (grows_none g.S.EdgeSink.handed c.args.sink.now)
+    subst (Grows g.S.EdgeSink.handed c.args.sink.now c.args.sink.now) (sym (found_nowhere c.args.history.now c.args.txn c.args.op.now c.in-Some.row c.in-Some.ensures none))
+    (grows_none g.S.EdgeSink.handed c.args.sink.now)
 
 pub returns-in-Some-get : goal.returns-in-Some-get
 returns-in-Some-get g c =
@@ -18,5 +19,5 @@ returns-in-Some-get g c =
     let row = c.in-Some.row in
     let vs = c.in-Some-get.versions.now in
     let there : lookup (nat_eq row) (rows_of h) ≡ Some vs = ap (lookup (nat_eq row)) (sym c.requires) ∙ sym c.in-Some-get.ensures.value in
-    let is = ap (λ vs. found_at_row h c.args.txn c.args.op.now (row, vs)) c.as_slice.ensures ∙ sym (found_there h c.args.txn c.args.op.now row c.in-Some.ensures vs there) in
+    let is = sym (found_there h c.args.txn c.args.op.now row c.in-Some.ensures vs there) in
     subst (λ es. OnOk c.add_at_row.result (Grows g.S.EdgeSink.handed c.args.sink.now c.add_at_row.new.sink es)) is c.add_at_row.ensures

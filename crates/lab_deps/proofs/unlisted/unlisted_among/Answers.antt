@@ -18,4 +18,5 @@ loop-number-preserved c =
     c.least-found.ensures
     ∙ ap (λ o. least o c.unlisted_numbered.result) c.loop-number.invariant
     ∙ ap (least (found (take i numbers))) c.unlisted_numbered.ensures
-    ∙ sym (ap found (take_more numbers i number c.loop-number-test.true ∙ ap (λ n. take i numbers ++ n ∷ []) (sym c.number-item.is)) ∙ one_more c.args.history.now c.args.op.now (take i numbers) number)
+    ∙ sym (ap found (take_more numbers i number c.loop-number-test.true ∙ ap (λ n. take i numbers ++ n ∷ []) (sym c.number-item.is)) ∙ one_more c.args.history.now c.args.op.now
+    (take i numbers) number)

@@ -1,31 +1,44 @@
-use Rattle.std.proofs.Common.{◌+◌, ◌∙◌, refl, sym, ap, length}
+use Rattle.std.proofs.Common.{◌≡◌, ◌+◌, ◌∙◌, true, sym, ap, subst, length}
+use Rattle.std.specs.Prelude.{Contains, IfSome}
 use Rattle.std.proofs.lemmas.Option.{slice_get_within, same_Some}
 use Rattle.std.proofs.lemmas.List.{length_push}
-use Rattle.lab_judge.proofs.Joined.{next_joining, step, last_step, one_more, read, no_others_more}
+use Rattle.lab_deps.specs.KindBits.{has_bit}
+use Rattle.lab_deps.specs.declared.edge.Edge.{Edge}
+use Rattle.lab_judge.proofs.Joined.{next_tie, step, last_step, one_more, read, no_others_more}
 use Rattle.lab_judge.proofs.walks.walk_along.Goals as goal
 
 pub number-requires : goal.number-requires
 number-requires c =
-    let leads = next_joining c.args.allowed c.args.nodes.now c.args.edges.now c.requires.ends c.loop-next.at c.loop-next.next-index c.args.way.now c.loop-next-test.true c.loop-next.invariant.rest in
+    let leads = next_tie c.args.allowed c.args.nodes.now c.args.edges.now c.requires.ends c.loop-next.at c.loop-next.next-index c.args.way.now c.loop-next-test.true c.loop-next.invariant.rest in
     slice_get_within _ _ _ leads.from
 
 pub number-requires-in-loop-next : goal.number-requires-in-loop-next
 number-requires-in-loop-next c =
-    let leads = next_joining c.args.allowed c.args.nodes.now c.args.edges.now c.requires.ends c.loop-next.at c.loop-next.next-index c.args.way.now c.loop-next-test.true c.loop-next.invariant.rest in
+    let leads = next_tie c.args.allowed c.args.nodes.now c.args.edges.now c.requires.ends c.loop-next.at c.loop-next.next-index c.args.way.now c.loop-next-test.true c.loop-next.invariant.rest in
     slice_get_within _ _ _ leads.to
 
 pub unreachable-requires : goal.unreachable-requires
 unreachable-requires c =
-    let leads = next_joining c.args.allowed c.args.nodes.now c.args.edges.now c.requires.ends c.loop-next.at c.loop-next.next-index c.args.way.now c.loop-next-test.true c.loop-next.invariant.rest in
-    c.in_default.ensures.none refl leads.edge leads.is_one (same_Some _ _ (sym leads.from ∙ c.number.ensures.number)) (same_Some _ _ (sym leads.to ∙ c.number-in-loop-next.ensures.number)) leads.kind
+    let leads = next_tie c.args.allowed c.args.nodes.now c.args.edges.now c.requires.ends c.loop-next.at c.loop-next.next-index c.args.way.now c.loop-next-test.true c.loop-next.invariant.rest in
+    c.in_ok-edge.ensures.none c.in_default.is leads.edge leads.is_one (same_Some _ _ (sym leads.from ∙ c.number.ensures.number)) (same_Some _ _ (sym leads.to ∙ c.number-in-loop-next.ensures.number))
+    (c.kinds-kinds.ensures leads.edge.kind ∙ leads.kind)
 
 pub loop-next-preserved : goal.loop-next-preserved
-loop-next-preserved c = record {
-  walk = λ h real.
-      one_more h _ c.loop-next.walk.items c.push.new.self.items _ c.in-Some.edge _ c.in_ok-push.ensures.items (c.loop-next.invariant.walk h real) (real c.in-Some.edge c.in-Some.ensures.found)
-      (c.in-Some.ensures.from ∙ sym (read c.args.nodes.now _ _ c.number.ensures.number)) (c.in-Some.ensures.to ∙ sym (read c.args.nodes.now _ _ c.number-in-loop-next.ensures.number));
-  others = no_others_more c.args.allowed c.loop-next.walk.items c.push.new.self.items c.in-Some.edge c.in_ok-push.ensures.items c.loop-next.invariant.others c.in-Some.ensures.kind;
-  size = ap length c.in_ok-push.ensures.items ∙ length_push c.loop-next.walk.items c.in-Some.edge ∙ ap (λ n. n + 1) c.loop-next.invariant.size;
-  rest = (step c.args.allowed c.args.nodes.now c.args.edges.now c.loop-next.at c.loop-next.next-index c.args.way.now c.loop-next-test.true c.loop-next.invariant.rest).1;
-  last = sym (last_step c.loop-next.at c.loop-next.next-index c.args.way.now c.loop-next-test.true) ∙ c.loop-next.invariant.last;
-}
+loop-next-preserved c =
+    let edge : Edge = c.in-Some.edge in
+    let found : Contains c.args.edges.now edge = subst (λ o. IfSome o (Contains c.args.edges.now)) c.in-Some.is c.in_ok-edge.ensures.found in
+    let from : edge.from ≡ c.number.result = subst (λ o. IfSome o (λ e. e.from ≡ c.number.result)) c.in-Some.is c.in_ok-edge.ensures.from in
+    let to : edge.to ≡ c.number-in-loop-next.result = subst (λ o. IfSome o (λ e. e.to ≡ c.number-in-loop-next.result)) c.in-Some.is c.in_ok-edge.ensures.to in
+    let kind : has_bit c.kinds-kinds.result.bits edge.kind ≡ true
+    = subst (λ o. IfSome o (λ e. has_bit c.kinds-kinds.result.bits e.kind ≡ true)) c.in-Some.is c.in_ok-edge.ensures.kind in
+    record {
+      walk = λ h real.
+          one_more h _ c.loop-next.walk.items c.push.new.self.items _ edge _ c.in_ok-push.ensures.items (c.loop-next.invariant.walk h real) (real edge found)
+          (from ∙ sym (read c.args.nodes.now _ _ c.number.ensures.number)) (to ∙ sym (read c.args.nodes.now _ _ c.number-in-loop-next.ensures.number));
+      others =
+          no_others_more c.args.allowed c.loop-next.walk.items c.push.new.self.items edge c.in_ok-push.ensures.items c.loop-next.invariant.others
+          (sym (c.kinds-kinds.ensures edge.kind) ∙ kind);
+      size = ap length c.in_ok-push.ensures.items ∙ length_push c.loop-next.walk.items edge ∙ ap (λ n. n + 1) c.loop-next.invariant.size;
+      rest = (step c.args.allowed c.args.nodes.now c.args.edges.now c.loop-next.at c.loop-next.next-index c.args.way.now c.loop-next-test.true c.loop-next.invariant.rest).1;
+      last = sym (last_step c.loop-next.at c.loop-next.next-index c.args.way.now c.loop-next-test.true) ∙ c.loop-next.invariant.last;
+    }

@@ -11,8 +11,8 @@ use Rattle.lab_judge.proofs.walks.walk_along.Given as goal
 abbrev pub invariant-loop-next : goal.invariant-loop-next
 invariant-loop-next l = record {
   walk : (h : History) → ((e : Edge) → Contains l.edges e → IsEdge h e) → IsWalk h (slice_index l.nodes l.from) l.walk.items (slice_index l.nodes l.at);
-  others : count_others l.allowed l.walk.items ≡ 0;
+  others : count_others l.fn.allowed l.walk.items ≡ 0;
   size : length l.walk.items ≡ l.next-index;
-  rest : LeadsAlong l.allowed l.nodes l.edges l.at (drop l.next-index l.way);
+  rest : LeadsAlong l.fn.allowed l.nodes l.edges l.at (drop l.next-index l.way);
   last : last_of l.at (drop l.next-index l.way) ≡ last_of l.from l.way;
 }

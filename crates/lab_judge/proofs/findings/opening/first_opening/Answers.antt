@@ -1,22 +1,14 @@
-use Rattle.std.proofs.lemmas.List.Elements.{All-same, All-drop}
-use Rattle.lab_judge.specs.Graphs.{HasEnds}
-use Rattle.lab_judge.specs.Openings.{IsOpening}
-use Rattle.lab_judge.proofs.Openings.{from_it, in_parts, from_rest}
+use Rattle.std.proofs.Common.{◌<◌, length, arith}
+use Rattle.std.specs.Prelude.{Contains}
+use Rattle.std.proofs.lemmas.List.Elements.{Contains-get_or}
+use Rattle.lab_order.specs.Order.{position}
+use Rattle.lab_judge.proofs.Openings.{within_nodes}
 use Rattle.lab_judge.proofs.findings.opening.first_opening.Goals as goal
 
-pub first_of_group-requires-clause-from : goal.first_of_group-requires-clause-from
-first_of_group-requires-clause-from c =
-    from_it c.in-Some.first.now.from c.how_many_from.result c.groups.rest.now c.split_at.result.0.now c.how_many_from.ensures.count c.split_at.ensures.front
-
-pub groups-preserved : goal.groups-preserved
-groups-preserved c = record {
-  ends = All-same (HasEnds c.args.nodes.now) c.split_at.result.1.now _ c.split_at.ensures.back (All-drop (HasEnds c.args.nodes.now) c.how_many_from.result c.groups.rest.now c.groups.invariant.ends);
-  some = λ e there. c.groups.invariant.some e (from_rest c.how_many_from.result c.groups.rest.now c.split_at.result.1.now e c.split_at.ensures.back there);
-  left = λ none.
-      c.groups.invariant.left
-      (
-      in_parts (λ e. IsOpening c.args.opening c.args.graph.now c.args.nodes.now e
-      → ⊥) c.how_many_from.result c.groups.rest.now c.split_at.result.0.now c.split_at.result.1.now c.split_at.ensures.front c.split_at.ensures.back
-      (c.in_ok-edge.ensures.none c.in_default-2.is) none
-      );
-}
+pub returns-clause-none : goal.returns-clause-none
+returns-clause-none c = λ _ k d lt.
+    let nodes = c.args.nodes.now in
+    let edges = c.args.edges.now in
+    let there : Contains edges _ = Contains-get_or edges k d lt in
+    let most : position nodes _ < length nodes = within_nodes nodes edges c.requires.ends _ there in
+    c.loop-from.invariant _ there (omega (arith, most, c.loop-from-test.false, c.len-from-end.ensures.count))

@@ -1,0 +1,57 @@
+//! Which dependencies of a history are meant.
+
+ghost use Rattle.std.specs.Prelude.{◌≡◌, OnOk};
+ghost use Rattle.lab_deps.specs.EdgesByRow.{rows_of};
+ghost use Rattle.lab_deps.specs.Scopes.{edges_in, found_between};
+ghost use Rattle.lab_deps.specs.Sinks.{Grows};
+
+use crate::collect::{add_edges_of_two, add_edges_of_txns};
+use crate::sink::EdgeSink;
+use crate::versions::Versions;
+use crate::writes::add_neighbours_of_rows;
+use indexmap::IndexMap;
+use lab_history::History;
+use lab_table::{NoMemory, RowId, TxnNo};
+
+/// Which dependencies are meant.
+#[derive(Clone, Copy)]
+pub enum Scope {
+    /// Those of every kind.
+    All,
+    /// Write-dependencies.
+    Writes,
+}
+
+/// Hands a sink the edges that are meant, some of them more than once; NoMemory where a growth was refused.
+pub fn add_edges<S: EdgeSink>(
+    sink: &mut S,
+    history: &History,
+    scope: Scope,
+    rows: &IndexMap<RowId, Versions>,
+) -> Result<(), NoMemory>
+    requires { rows.now.entries ≡ rows_of history.now }
+    ensures { OnOk result (Grows S.handed sink.old sink.new (edges_in scope history.now)) }
+{
+    match scope {
+        Scope::All => add_edges_of_txns(sink, history, rows),
+        Scope::Writes => add_neighbours_of_rows(sink, history),
+    }
+}
+
+/// Hands a sink those that may be between two transactions; NoMemory where a growth was refused.
+pub fn add_edges_between<S: EdgeSink>(
+    sink: &mut S,
+    history: &History,
+    scope: Scope,
+    rows: &IndexMap<RowId, Versions>,
+    from: TxnNo,
+    to: TxnNo,
+) -> Result<(), NoMemory>
+    requires { rows.now.entries ≡ rows_of history.now }
+    ensures { OnOk result (Grows S.handed sink.old sink.new (found_between scope history.now from to)) }
+{
+    match scope {
+        Scope::All => add_edges_of_two(sink, history, rows, from, to),
+        Scope::Writes => add_neighbours_of_rows(sink, history),
+    }
+}

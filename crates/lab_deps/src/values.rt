@@ -1,0 +1,155 @@
+//! The values of a row's versions, each once.
+
+ghost use Rattle.std.specs.Prelude.{◌≡◌, ℕ, true, Some, [], map, slice_get, IfOk};
+ghost use Rattle.lab_table.specs.Statement.{matches};
+ghost use Rattle.lab_deps.specs.EdgesByRow.{answers_of, AreValuesOf};
+
+use crate::effect::is_same;
+use crate::versions::Version;
+use indexmap::IndexMap;
+use lab_table::{NoMemory, RowId, Statement, Value};
+use std::alloc::Global;
+
+/// The values of the first of a row's versions, up to 256 values. A version has one byte here, so that a walk reads
+/// little.
+#[derive(Drop)]
+pub struct Values {
+    /// Each value, None for an absent row.
+    values: Vec<Option<Value>>,
+    /// For each of the versions the place of its value.
+    places: Vec<u8>,
+}
+
+impl Values {
+    /// The values of these versions; none where no value comes twice. NoMemory where a growth was refused.
+    pub fn of(alloc: Global, versions: &[Version]) -> Result<Values, NoMemory>
+        ensures { IfOk result (λ found. AreValuesOf found.values.items found.places.items versions.now) }
+    {
+        let found = Values::found(alloc, versions)?;
+        if found.values.len() < found.places.len() && found.fit(versions) {
+            Ok(found)
+        } else {
+            Ok(Values::none(alloc))
+        }
+    }
+
+    fn none(alloc: Global) -> Values
+        ensures { result.places.items ≡ [] }
+    {
+        Values {
+            values: Vec::new(alloc),
+            places: Vec::new(alloc),
+        }
+    }
+
+    fn found(alloc: Global, versions: &[Version]) -> Result<Values, NoMemory> {
+        let mut seen = IndexMap::new(alloc);
+        let mut found = Values::none(alloc);
+        for version in versions {
+            if !found.add(&mut seen, version.value)? {
+                return Ok(found);
+            }
+        }
+        Ok(found)
+    }
+
+    /// Adds a version of a value, and says whether there was a place for it.
+    fn add(
+        &mut self,
+        seen: &mut IndexMap<i64, u8>,
+        value: Option<Value>,
+    ) -> Result<bool, NoMemory> {
+        let key = match value {
+            None => i64::MIN,
+            Some(value) => value.number(),
+        };
+        if let Some(place) = seen.get(&key) {
+            self.places.push(*place)?;
+            return Ok(true);
+        }
+        let Ok(place) = u8::try_from(self.values.len()) else {
+            return Ok(false);
+        };
+        seen.insert(key, place)?;
+        self.values.push(value)?;
+        self.places.push(place)?;
+        Ok(true)
+    }
+
+    /// Whether these versions have these values.
+    fn fit(&self, versions: &[Version]) -> bool
+        ensures { result ≡ true → AreValuesOf self.now.values.items self.now.places.items versions.now }
+    {
+        for (place, version) in versions.iter().enumerate() {
+            if !self.fits_at(place, version) {
+                return false;
+            }
+        }
+        true
+    }
+
+    fn fits_at(&self, place: usize, version: &Version) -> bool
+        ensures { result ≡ true → (g : ℕ) → slice_get self.now.places.items place ≡ Some g → slice_get self.now.values.items g ≡ Some version.now.value }
+    {
+        match self.places.get(place) {
+            None => true,
+            Some(at) => match self.values.get(*at as usize) {
+                None => false,
+                Some(value) => is_same(*value, version.value),
+            },
+        }
+    }
+
+    /// Whether each of the versions matches a statement, which is asked once for each value. NoMemory where a growth was
+    /// refused.
+    pub fn answers(
+        &self,
+        alloc: Global,
+        statement: &Statement,
+        row: RowId,
+        versions: &[Version],
+    ) -> Result<Vec<bool>, NoMemory>
+        requires { AreValuesOf self.now.values.items self.now.places.items versions.now }
+        ensures { IfOk result (λ answers. answers.items ≡ answers_of statement.now row versions.now) }
+    {
+        let asked = self.asked(alloc, statement, row)?;
+        let mut answers = vec![in alloc; false; versions.len()]?;
+        for (place, version) in versions.iter().enumerate() {
+            answers[place] = self.answer(&asked, statement, row, place, version);
+        }
+        Ok(answers)
+    }
+
+    /// Whether a row of each value matches a statement.
+    fn asked(&self, alloc: Global, statement: &Statement, row: RowId) -> Result<Vec<bool>, NoMemory>
+        ensures { IfOk result (λ asked. asked.items ≡ map (matches statement.now row) self.now.values.items) }
+    {
+        let mut asked = Vec::with_capacity(alloc, self.values.len())?;
+        for value in &self.values {
+            asked.push(statement.matches(row, *value))?;
+        }
+        Ok(asked)
+    }
+
+    /// Whether the version at a place matches a statement.
+    fn answer(
+        &self,
+        asked: &[bool],
+        statement: &Statement,
+        row: RowId,
+        place: usize,
+        version: &Version,
+    ) -> bool
+        requires asked { asked.now ≡ map (matches statement.now row) self.now.values.items }
+        requires value { (g : ℕ) → slice_get self.now.places.items place ≡ Some g → slice_get self.now.values.items g ≡ Some version.now.value }
+        ensures { result ≡ matches statement.now row version.now.value }
+    {
+        match self.places.get(place) {
+            None => statement.matches(row, version.value),
+            Some(at) => match asked.get(*at as usize) {
+                None => statement.matches(row, version.value),
+                Some(answer) => *answer,
+            },
+        }
+    }
+}

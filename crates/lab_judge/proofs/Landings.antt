@@ -1,0 +1,78 @@
+-- The arrows of dependencies, two transactions after the other, are those of all dependencies.
+use Rattle.std.proofs.Common.{◌≡◌, ℕ, zero, suc, ◌<◌, ◌==◌, ◌&&◌, Bool, true, false, List, length, refl, sym, subst, arith, inl, inr}
+use Rattle.std.specs.Prelude.{Contains}
+use Rattle.std.specs.List.{list_any, All}
+use Rattle.std.proofs.lemmas.Bool.{false≢true, and_parts, and_from, or_cases, or_left, or_right, eqb-true, eq-eqb, cases_lt}
+use Rattle.std.proofs.lemmas.List.Elements.{All-contains}
+use Rattle.lab_order.specs.Order.{position}
+use Rattle.lab_deps.specs.declared.edge.Edge.{Edge}
+use Rattle.lab_deps.specs.declared.edge.Kind.{Kind}
+use Rattle.lab_judge.specs.Graphs.{HasEnds, ties}
+use Rattle.lab_judge.specs.Joining.{tail, head, lands, landing, any_below}
+use Rattle.lab_judge.specs.declared.joining.Joining.{Joining}
+use Rattle.lab_judge.proofs.Joined.{some_passes, passes_some}
+use Rattle.lab_judge.proofs.Numbers.{position_within}
+
+-- two tests that are true together are one
+pub same_truth : (x y : Bool) → (x ≡ true → y ≡ true) → (y ≡ true → x ≡ true) → x ≡ y
+same_truth true true f g = refl
+same_truth true false f g = sym (f refl)
+same_truth false true f g = g refl
+same_truth false false f g = refl
+
+-- a number that passes, where one below does
+pub some_below : (test : ℕ → Bool) (n : ℕ) → any_below test n ≡ true → (p : ℕ) × (p < n) × (test p ≡ true)
+some_below test zero h = absurd (false≢true h)
+some_below test (suc n) h = elim (or_cases (test n) (any_below test n) h) [
+  | inl here ↦ (n, omega arith, here)
+  | inr later ↦ let r : (p : ℕ) × (p < n) × (test p ≡ true) = some_below test n later in (r.0, omega (arith, r.1), r.2)
+]
+
+-- and one below that passes
+pub below_some : (test : ℕ → Bool) (n p : ℕ) → p < n → test p ≡ true → any_below test n ≡ true
+below_some test zero p lt h = absurd (omega (arith, lt))
+below_some test (suc n) p lt h = elim (cases_lt p n) [
+  | inl less ↦ or_right (test n) (any_below test n) (below_some test n p less h)
+  | inr least ↦ let same : p ≡ n = omega (arith, lt, least) in or_left (test n) (any_below test n) (subst (λ k. test k ≡ true) same h)
+]
+
+module _ (test : Kind → Bool) (joining : Joining) (nodes : List ℕ) (es : List Edge) (ends : All (HasEnds nodes) es) (a b : ℕ) where
+  -- whether an arrow of some two transactions leads from one node to the other
+  abbrev pub by_pairs : Bool
+  by_pairs = any_below (λ p. any_below (landing test joining nodes es a b p) (length nodes)) (length nodes)
+
+  from_pairs : by_pairs ≡ true → list_any (lands test joining nodes a b) es ≡ true
+  from_pairs h =
+      let first : (p : ℕ) × (p < length nodes) × (any_below (landing test joining nodes es a b p) (length nodes) ≡ true)
+      = some_below (λ p. any_below (landing test joining nodes es a b p) (length nodes)) (length nodes) h in
+      let p : ℕ = first.0 in
+      let second : (q : ℕ) × (q < length nodes) × (landing test joining nodes es a b p q ≡ true) = some_below (landing test joining nodes es a b p) (length nodes) first.2 in
+      let q : ℕ = second.0 in
+      let parts = and_parts (list_any (ties test nodes p q) es) (tail joining p == a && head joining q == b) second.2 in
+      let at = and_parts (tail joining p == a) (head joining q == b) parts.1 in
+      let found : (e : Edge) × Contains es e × (ties test nodes p q e ≡ true) = some_passes (ties test nodes p q) es parts.0 in
+      let e : Edge = found.0 in
+      let tied = and_parts (test e.kind) (position nodes e.from == p && position nodes e.to == q) found.2 in
+      let places = and_parts (position nodes e.from == p) (position nodes e.to == q) tied.1 in
+      passes_some (lands test joining nodes a b) es e found.1
+      (and_from (test e.kind) (tail joining (position nodes e.from) == a && head joining (position nodes e.to) == b) tied.0
+      (and_from (tail joining (position nodes e.from) == a) (head joining (position nodes e.to) == b)
+      (subst (λ k. (tail joining k == a) ≡ true) (sym (eqb-true (position nodes e.from) p places.0)) at.0)
+      (subst (λ k. (head joining k == b) ≡ true) (sym (eqb-true (position nodes e.to) q places.1)) at.1)))
+
+  to_pairs : list_any (lands test joining nodes a b) es ≡ true → by_pairs ≡ true
+  to_pairs h =
+      let found : (e : Edge) × Contains es e × (lands test joining nodes a b e ≡ true) = some_passes (lands test joining nodes a b) es h in
+      let e : Edge = found.0 in
+      let has : HasEnds nodes e = All-contains (HasEnds nodes) es e ends found.1 in
+      let p : ℕ = position nodes e.from in
+      let q : ℕ = position nodes e.to in
+      let parts = and_parts (test e.kind) (tail joining p == a && head joining q == b) found.2 in
+      let tied : list_any (ties test nodes p q) es ≡ true
+      = passes_some (ties test nodes p q) es e found.1 (and_from (test e.kind) (p == p && q == q) parts.0 (and_from (p == p) (q == q) (eq-eqb p p refl) (eq-eqb q q refl))) in
+      below_some (λ p. any_below (landing test joining nodes es a b p) (length nodes)) (length nodes) p (position_within nodes e.from has.0)
+      (below_some (landing test joining nodes es a b p) (length nodes) q (position_within nodes e.to has.1)
+      (and_from (list_any (ties test nodes p q) es) (tail joining p == a && head joining q == b) tied parts.1))
+
+  pub landed : by_pairs ≡ list_any (lands test joining nodes a b) es
+  landed = same_truth by_pairs (list_any (lands test joining nodes a b) es) from_pairs to_pairs

@@ -1,0 +1,41 @@
+-- Kinds between two transactions, and whether one depends on the other in one of some ways.
+use Rattle.std.proofs.Common.{◌≡◌, ℕ, ◌==◌, ◌&&◌, Bool, true, Some, List, sym, ◌∙◌, subst}
+use Rattle.std.specs.Prelude.{◌↔◌, Contains, slice_get}
+use Rattle.std.specs.List.{list_any, All}
+use Rattle.std.proofs.lemmas.Bool.{and_from, eq-eqb}
+use Rattle.std.proofs.lemmas.Option.{same_Some}
+use Rattle.lab_table.specs.Row.{Row}
+use Rattle.lab_order.specs.Order.{position}
+use Rattle.lab_deps.specs.KindBits.{has_bit, edge_of}
+use Rattle.lab_deps.specs.declared.edge.Edge.{Edge}
+use Rattle.lab_deps.specs.declared.edge.Kind.{Kind}
+use Rattle.lab_judge.specs.Graphs.{HasEnds, ties}
+use Rattle.lab_judge.proofs.Joined.{Tie, tie, passes_some}
+use Rattle.lab_judge.proofs.Landings.{same_truth}
+
+module _ (nodes : List ℕ) (es : List Edge) (ends : All (HasEnds nodes) es) (p q from to : ℕ)
+    (from_is : slice_get nodes p ≡ Some from) (to_is : slice_get nodes q ≡ Some to) where
+  -- a dependency between the two is one of their kinds
+  pub its_kind : (test : Kind → Bool) → Tie test nodes es p q → (kind : Kind) × (row : Row) × Contains es (edge_of from to kind row) × (test kind ≡ true)
+  its_kind test t =
+      let e : Edge = t.edge in
+      let from_same : e.from ≡ from = same_Some e.from from (sym t.from ∙ from_is) in
+      let to_same : e.to ≡ to = same_Some e.to to (sym t.to ∙ to_is) in
+      (e.kind, e.row, subst (λ n. Contains es (edge_of n to e.kind e.row)) from_same (subst (λ n. Contains es (edge_of e.from n e.kind e.row)) to_same t.is_one), t.kind)
+
+  -- where the kinds between the two are known, some are among these exactly where the two are tied so
+  pub tied : position nodes from ≡ p → position nodes to ≡ q → (between bits : ℕ)
+      → ((kind : Kind) → has_bit between kind ≡ true ↔ ((row : Row) × Contains es (edge_of from to kind row)))
+      → (result : Bool) → (result ≡ true ↔ ((kind : Kind) × (has_bit between kind ≡ true) × (has_bit bits kind ≡ true)))
+      → result ≡ list_any (ties (has_bit bits) nodes p q) es
+  tied from_at to_at between bits told result meets =
+      same_truth result (list_any (ties (has_bit bits) nodes p q) es)
+      (λ h.
+      let some : (kind : Kind) × (has_bit between kind ≡ true) × (has_bit bits kind ≡ true) = meets.0 h in
+      let at : (row : Row) × Contains es (edge_of from to some.0 row) = (told some.0).0 some.1 in
+      passes_some (ties (has_bit bits) nodes p q) es (edge_of from to some.0 at.0) at.1
+      (and_from (has_bit bits some.0) (position nodes from == p && position nodes to == q) some.2
+      (and_from (position nodes from == p) (position nodes to == q) (eq-eqb (position nodes from) p from_at) (eq-eqb (position nodes to) q to_at))))
+      (λ h.
+      let one : (kind : Kind) × (row : Row) × Contains es (edge_of from to kind row) × (has_bit bits kind ≡ true) = its_kind (has_bit bits) (tie (has_bit bits) nodes es ends p q h) in
+      meets.1 (one.0, (told one.0).1 (one.1, one.2), one.3))

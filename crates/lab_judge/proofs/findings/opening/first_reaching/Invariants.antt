@@ -1,0 +1,10 @@
+use Rattle.std.proofs.Common.{◌≡◌, ◌<◌, ℕ, true, false}
+use Rattle.std.specs.List.{list_any}
+use Rattle.lab_order.specs.Placing.{is_marked}
+use Rattle.lab_deps.specs.KindBits.{has_bit}
+use Rattle.lab_judge.specs.Graphs.{ties}
+use Rattle.lab_judge.proofs.findings.opening.first_reaching.Given as goal
+
+-- none so far is marked and depends on it
+abbrev pub invariant-loop-to : goal.invariant-loop-to
+invariant-loop-to l = (to : ℕ) → to < l.to → is_marked l.reach to ≡ true → list_any (ties (has_bit l.kinds.bits) l.nodes l.from to) l.edges ≡ false

@@ -1,0 +1,10 @@
+use Rattle.std.proofs.Common.{◌≡◌, false}
+use Rattle.std.specs.List.{list_any}
+use Rattle.lab_deps.specs.KindBits.{has_bit}
+use Rattle.lab_judge.specs.Graphs.{ties}
+use Rattle.lab_judge.specs.Joining.{any_below}
+use Rattle.lab_judge.proofs.findings.opening.has_tied.Given as goal
+
+-- none so far depends on it
+abbrev pub invariant-loop-to : goal.invariant-loop-to
+invariant-loop-to l = any_below (λ to. list_any (ties (has_bit l.kinds.bits) l.nodes l.from to) l.edges) l.to ≡ false

@@ -1,0 +1,12 @@
+use Rattle.std.proofs.Common.{◌≡◌, ◌||◌, ℕ}
+use Rattle.lab_order.specs.Arrows.{nodes_of, has_arrow}
+use Rattle.lab_deps.specs.KindBits.{has_bit}
+use Rattle.lab_judge.specs.Joining.{landing, any_below}
+use Rattle.lab_judge.proofs.joining.add_arrows_from.Given as goal
+
+-- the arrows to the transactions so far beside those that were there
+abbrev pub invariant-loop-to : goal.invariant-loop-to
+invariant-loop-to l = record {
+  size : nodes_of l.graph ≡ nodes_of l.initial.graph;
+  arrows : (a b : ℕ) → has_arrow l.graph a b ≡ (any_below (landing (has_bit l.kinds.bits) l.joining l.nodes l.edges a b l.from) l.to || has_arrow l.initial.graph a b);
+}

@@ -1,0 +1,114 @@
+//! Arrows of a graph for dependencies.
+
+ghost use Rattle.std.specs.Prelude.{◌≡◌, ◌<◌, ◌≤◌, ◌||◌, ℕ, length, IfOk};
+ghost use Rattle.std.specs.List.{All, list_any};
+ghost use Rattle.lab_order.specs.Arrows.{nodes_of, has_arrow};
+ghost use Rattle.lab_deps.specs.KindBits.{has_bit};
+ghost use Rattle.lab_judge.specs.Graphs.{HasEnds, ties};
+ghost use Rattle.lab_judge.specs.Joining.{tail, head, nodes_for, lands, landing, any_below};
+
+use crate::nodes::Nodes;
+use lab_deps::{Dependencies, Kinds};
+use lab_order::{Graph, NoMemory};
+use std::alloc::Global;
+
+/// Which nodes the arrow of a dependency joins.
+#[derive(Clone, Copy)]
+pub(crate) enum Joining {
+    /// From the transaction that is depended on to the one that depends on it.
+    Transactions,
+    /// From the start of the one to the commit of the other.
+    StartToCommit,
+    /// From the commit of the one to the start of the other.
+    CommitToStart,
+}
+
+impl Joining {
+    /// The node from which the arrow leads.
+    fn tail(self, from: u32) -> u32
+        requires { from ≤ 1000000 }
+        ensures { result ≡ tail self from }
+    {
+        match self {
+            Joining::Transactions => from,
+            Joining::StartToCommit => 2 * from,
+            Joining::CommitToStart => 2 * from + 1,
+        }
+    }
+
+    /// The node to which it leads.
+    fn head(self, to: u32) -> u32
+        requires { to ≤ 1000000 }
+        ensures { result ≡ head self to }
+    {
+        match self {
+            Joining::Transactions => to,
+            Joining::StartToCommit => 2 * to + 1,
+            Joining::CommitToStart => 2 * to,
+        }
+    }
+}
+
+/// Adds an arrow for each two transactions of which one depends on the other in one of these ways. NoMemory where a
+/// growth was refused.
+pub(crate) fn add_arrows(
+    alloc: Global,
+    graph: &mut Graph,
+    nodes: &Nodes,
+    edges: &Dependencies<'_>,
+    kinds: Kinds,
+    joining: Joining,
+) -> Result<(), NoMemory>
+    requires ends { All (HasEnds nodes.now) edges.now }
+    requires size { nodes_of graph.old ≡ nodes_for joining (length nodes.now) }
+    ensures nodes { nodes_of graph.new ≡ nodes_of graph.old }
+    ensures arrows { IfOk result (λ _. (a b : ℕ) → has_arrow graph.new a b ≡ (list_any (lands (has_bit kinds.bits) joining nodes.now a b) edges.now || has_arrow graph.old a b)) }
+{
+    for from in 0..nodes.len() {
+        add_arrows_from(alloc, graph, nodes, edges, kinds, joining, from)?;
+    }
+    Ok(())
+}
+
+/// Adds the arrows of what depends on the transaction of a node. NoMemory where a growth was refused.
+fn add_arrows_from(
+    alloc: Global,
+    graph: &mut Graph,
+    nodes: &Nodes,
+    edges: &Dependencies<'_>,
+    kinds: Kinds,
+    joining: Joining,
+    from: u32,
+) -> Result<(), NoMemory>
+    requires ends { All (HasEnds nodes.now) edges.now }
+    requires size { nodes_of graph.old ≡ nodes_for joining (length nodes.now) }
+    requires from { from < length nodes.now }
+    ensures nodes { nodes_of graph.new ≡ nodes_of graph.old }
+    ensures arrows { IfOk result (λ _. (a b : ℕ) → has_arrow graph.new a b
+        ≡ (any_below (landing (has_bit kinds.bits) joining nodes.now edges.now a b from) (length nodes.now) || has_arrow graph.old a b)) }
+{
+    for to in 0..nodes.len() {
+        if are_tied(nodes, edges, kinds, from, to) {
+            graph.add(alloc, joining.tail(from), joining.head(to))?;
+        }
+    }
+    Ok(())
+}
+
+/// Whether the transaction of the second node depends on that of the first in one of these ways.
+pub(crate) fn are_tied(
+    nodes: &Nodes,
+    edges: &Dependencies<'_>,
+    kinds: Kinds,
+    from: u32,
+    to: u32,
+) -> bool
+    requires ends { All (HasEnds nodes.now) edges.now }
+    requires from { from < length nodes.now }
+    requires to { to < length nodes.now }
+    ensures { result ≡ list_any (ties (has_bit kinds.bits) nodes.now from to) edges.now }
+{
+    edges
+        .kinds(nodes.number(from), nodes.number(to))
+        .meets(kinds)
+}
