@@ -4,21 +4,23 @@ use Rattle.serde_json.specs.Written.{compact_text}
 use Rattle.lab_script.specs.declared.script.Script.{Script}
 use Rattle.lab_script.specs.Printed.{newline}
 use Rattle.lab_script.specs.Script.{Spells}
+use Rattle.lab_script.specs.Limits.{IsDeep, IsLong}
 use Rattle.lab_history.specs.History.{History}
 use Rattle.lab_history.specs.Tree.{tree_of}
 use Rattle.lab_history.specs.declared.fault.FileFault.TheVariants.{OverLimit}
-use Rattle.lab_history.specs.declared.fault.Limit.TheVariants.{Bytes}
+use Rattle.lab_history.specs.declared.fault.Limit.TheVariants.{Bytes, Statement}
 use Rattle.lab_engine.specs.Log.{past_of}
 use Rattle.lab_engine.specs.Recording.{IsRecording}
 use Rattle.lab_engine.specs.RecordedLog.{RecordedLog, IsSoundRecord}
 use Rattle.lab_engine.specs.declared.event.Level.{Level}
 use Rattle.lab_history.specs.Limits.{max_file_bytes}
 use Rattle.lab_session.specs.Play.{given_lines, IsLegalPlay, IsScriptedFault}
-use Rattle.lab_session.specs.Free.{AllSessionsPlayed}
-use Rattle.lab_session.specs.LogText.{log_text}
+use Rattle.lab_session.specs.Free.{AllSessionsPlayed, IsFreeFault}
+use Rattle.lab_session.specs.LogText.{log_text, SomeEvent}
 use Rattle.lab_session.specs.PlayFaultText.{play_fault_text}
 use Rattle.lab_session.specs.declared.fault.PlayFault.{PlayFault}
 use Rattle.lab_session.specs.declared.fault.PlayFault.TheVariants.{NoMemory}
+use Rattle.lab_session.specs.declared.fault.PlayFault.TheVariants as play_fault
 use Rattle.lab_judge.specs.Judgement.{IsExactJudgement}
 use Rattle.lab_judge.specs.ReportText.{report_text}
 use Rattle.lab_judge.specs.FileFaultText.{file_fault_text}
@@ -38,15 +40,25 @@ pub record IsScriptedPlay (level : Level) (script : Script) (recording : Recorde
 abbrev pub IsScriptedRefusal : Level → Script → PlayFault → Type 0
 IsScriptedRefusal level script fault = IsScriptedFault level script.setup (given_lines script.lines) fault
 
--- a recording of a script that is played by one thread for each session: a legal log in which each session's calls are
--- its commands of the script in order, and then at most one abort
-pub record IsFreePlay (script : Script) (recording : RecordedLog) : Type 0 where
+-- a recording of a script that is played by one thread for each session, at a level: a legal log in which each session's
+-- calls are its commands of the script in order, and then at most one abort
+pub record IsFreePlay (level : Level) (script : Script) (recording : RecordedLog) : Type 0 where
+  pub at_level : recording.level ≡ level
+  pub on_setup : recording.setup ≡ script.setup
   pub sound : IsSoundRecord recording
   pub played : AllSessionsPlayed (given_lines script.lines) recording.log
 
--- nothing is said of why such a play was refused
-abbrev pub IsAnyRefusal : Script → PlayFault → Type 0
-IsAnyRefusal script fault = Unit {0}
+-- why nothing is told of a recording: its log has a statement that doesn't print; memory may be wanting at any time
+abbrev pub IsUntold : RecordedLog → PlayFault → Type 0
+IsUntold recording NoMemory = Unit {0}
+IsUntold recording (play_fault.OverLimit which) = (which ≡ Statement) × (SomeEvent IsDeep recording.log ⊎ SomeEvent IsLong recording.log)
+IsUntold recording (play_fault.Close fault) = ⊥
+IsUntold recording play_fault.NoThread = ⊥
+IsUntold recording play_fault.Full = ⊥
+
+-- why such a play has no recording, or nothing is told of the one that it has
+abbrev pub IsFreeRefusal : Level → Script → PlayFault → Type 0
+IsFreeRefusal level script fault = IsFreeFault (given_lines script.lines) fault ⊎ ((recording : RecordedLog) × IsFreePlay level script recording × IsUntold recording fault)
 
 -- the text of a history's file
 abbrev pub file_text : History → List ℕ

@@ -3,7 +3,7 @@
 ghost use Rattle.std.specs.Prelude.{◌≡◌, ◌⊎◌, List, ℕ, IfOk, IfErr, IfSome};
 ghost use Rattle.std.specs.Io.KnownBytes.{Appends, Keeps};
 ghost use Rattle.lab_engine.specs.RecordedLog.{RecordedLog};
-ghost use Rattle.lab_commands.specs.Playing.{IsFreePlay, IsAnyRefusal, IsRunAnswer, IsRecordingAnswer};
+ghost use Rattle.lab_commands.specs.Playing.{IsFreePlay, IsFreeRefusal, IsUntold, IsRunAnswer, IsRecordingAnswer};
 
 use crate::ending::{Ending, RunFault};
 use crate::input::read_input;
@@ -39,7 +39,8 @@ fn played<T: Threads + Wait + Sync>(
     script: &Script,
     level: Level,
 ) -> Result<Recording, PlayFault>
-    ensures { IfOk result (IsFreePlay script.now) }
+    ensures play { IfOk result (IsFreePlay level script.now) }
+    ensures fault { IfErr result (IsFreeRefusal level script.now) }
 {
     let setup = script.setup.copy(alloc)?;
     match level {
@@ -64,7 +65,8 @@ fn played<T: Threads + Wait + Sync>(
 /// What there is to tell of a recording: its history where that is asked for, else its log. A log of which a statement
 /// doesn't print is a play that is over that limit.
 fn answer_of(alloc: Global, recording: &Recording, history: bool) -> Result<Answer, PlayFault>
-    ensures { IfOk result (λ answer. IsRecordingAnswer history recording.now answer.text.items answer.ending) }
+    ensures tells { IfOk result (λ answer. IsRecordingAnswer history recording.now answer.text.items answer.ending) }
+    ensures fault { IfErr result (IsUntold recording.now) }
 {
     if history {
         return Ok(history_answer(alloc, recording)?);
@@ -86,7 +88,9 @@ fn play_answer<T: Threads + Wait + Sync>(
     level: Level,
     history: bool,
 ) -> Result<Answer, PlayFault>
-    ensures { IfOk result (λ answer. (recording : RecordedLog) × IsFreePlay script.now recording × IsRecordingAnswer history recording answer.text.items answer.ending) }
+    ensures tells { IfOk result (λ answer. (recording : RecordedLog) × IsFreePlay level script.now recording
+        × IsRecordingAnswer history recording answer.text.items answer.ending) }
+    ensures fault { IfErr result (IsFreeRefusal level script.now) }
 {
     let recording = played(rt, alloc, script, level)?;
     answer_of(alloc, &recording, history)
@@ -101,7 +105,7 @@ fn answer<T: Threads + Wait + Sync>(
     level: Level,
     history: bool,
 ) -> Result<Answer, NoMemory>
-    ensures { IfOk result (λ answer. IsRunAnswer IsFreePlay IsAnyRefusal history input.now answer.text.items answer.ending) }
+    ensures { IfOk result (λ answer. IsRunAnswer (IsFreePlay level) (IsFreeRefusal level) history input.now answer.text.items answer.ending) }
 {
     let script = match parse_script(alloc, input) {
         Ok(script) => script,
@@ -134,7 +138,7 @@ pub fn run_free<T: Threads + Wait + Sync, R: Read, W: Write>(
 ) -> Result<Ending, RunFault>
     ensures written { IfOk result (λ ending. IfSome (R.remaining reader.old) (λ input.
         (text : List ℕ) × Appends (W.contents writer.old) (W.contents writer.new) text
-        × IsRunAnswer IsFreePlay IsAnyRefusal history input text ending)) }
+        × IsRunAnswer (IsFreePlay level) (IsFreeRefusal level) history input text ending)) }
     ensures silent { IfErr result (λ fault. (fault ≡ RunFault.Unwritten) ⊎ Keeps (W.contents writer.old) (W.contents writer.new)) }
 {
     first_bytes_tell_a_script();

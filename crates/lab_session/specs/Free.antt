@@ -1,5 +1,5 @@
 -- What the threads of a free play hand on.
-use Rattle.std.specs.Prelude.{◌≡◌, ◌≢◌, ℕ, ◌≤◌, List, [], ◌∷◌, ◌++◌, Option, Some, None, map}
+use Rattle.std.specs.Prelude.{◌≡◌, ◌≢◌, ℕ, ◌≤◌, List, [], ◌∷◌, ◌++◌, Option, Some, None, IfSome, map}
 use Rattle.std.specs.List.{All}
 use Rattle.lab_table.specs.declared.statement.Command.{Command}
 use Rattle.lab_engine.specs.declared.event.LogEvent.{LogEvent}
@@ -11,7 +11,8 @@ use Rattle.lab_session.specs.declared.seat.Call.{Call}
 use Rattle.lab_session.specs.declared.fault.LabFault.{LabFault}
 use Rattle.lab_session.specs.declared.fault.LabFault.TheVariants.{NothingWaiting}
 use Rattle.lab_session.specs.Seats.{Seated}
-use Rattle.lab_session.specs.Bench.{IsSoundRun}
+use Rattle.lab_session.specs.Bench.{IsSoundRun, IsFull}
+use Rattle.lab_session.specs.Waiting.{TellsFull}
 use Rattle.lab_session.specs.declared.fault.PlayFault.{PlayFault}
 use Rattle.lab_session.specs.declared.fault.PlayFault.TheVariants.{NoMemory, OverLimit, Close, NoThread, Full}
 use Rattle.lab_session.specs.Play.{AreCommandsOf, IsPlayed}
@@ -33,9 +34,9 @@ pub record HasOneMore (old new : Seated) (command : Command) : Type 0 where
 abbrev pub IsUnused : Seated → Type 0
 IsUnused seat = seat.calls ≡ []
 
--- a fault that a thread may give back: it submits before it resumes
+-- a fault that a thread may give back: it submits before it resumes, and a log that is told to be full is
 abbrev pub IsRefusal : Option LabFault → Type 0
-IsRefusal fault = fault ≢ Some NothingWaiting
+IsRefusal fault = (fault ≢ Some NothingWaiting) × IfSome fault TellsFull
 
 -- a thread's seat has all that its session gives, where nothing was refused
 pub record IsEnded (lines : List Line) (seat : Seated) (fault : Option LabFault) : Type 0 where
@@ -50,18 +51,18 @@ AllPlayed lines seats = All (IsPlayedSeat lines) seats
 abbrev pub AllSessionsPlayed : List Line → List LogEvent → Type 0
 AllSessionsPlayed lines log = (session : ℕ) → 1 ≤ session → session ≤ 9 → IsPlayed session lines log
 
--- why the threads of a play stop: memory was wanting, a thread wasn't given, or the log was full
+-- why the threads of a play stop: memory was wanting, a thread wasn't given, or a legal log was full
 abbrev pub IsStop : PlayFault → Type 0
 IsStop NoMemory = Unit {0}
 IsStop (OverLimit which) = ⊥
 IsStop (Close fault) = ⊥
 IsStop NoThread = Unit {0}
-IsStop Full = Unit {0}
+IsStop Full = (run : EngineRun) × IsFull run
 
--- why a free play has no recording: the legal log of such a play breaks a limit; what a lock holds and which threads were given no definition says
+-- why a free play has no recording: the legal log of such a play breaks a limit, or a legal log is full; what seats of a lock's log say, and which threads were given, no definition says
 abbrev pub IsFreeFault : List Line → PlayFault → Type 0
 IsFreeFault lines NoMemory = Unit {0}
 IsFreeFault lines (OverLimit which) = (run : EngineRun) × IsSoundRun run × AllSessionsPlayed lines run.log × BreaksLimit run.setup (past_of run.log) which
 IsFreeFault lines (Close fault) = Unit {0}
 IsFreeFault lines NoThread = Unit {0}
-IsFreeFault lines Full = Unit {0}
+IsFreeFault lines Full = (run : EngineRun) × IsFull run

@@ -6,6 +6,8 @@ use Rattle.lab_session.specs.declared.bench.BenchFault.TheVariants as bench_faul
 use Rattle.lab_session.specs.declared.fault.LabFault.{LabFault}
 use Rattle.lab_session.specs.declared.fault.LabFault.TheVariants.{NoMemory, Full, NothingWaiting}
 use Rattle.lab_session.specs.Seats.{Seated}
+use Rattle.lab_session.specs.Bench.{IsFull}
+use Rattle.lab_engine.specs.Journal.{EngineRun}
 
 -- whether the command that was refused still waits
 abbrev pub still_waits : LabFault → Bool
@@ -25,3 +27,9 @@ RestsOrHolds held holds = (holds ≡ held) ⊎ (holds ≡ None)
 abbrev pub lab_fault_of : BenchFault → Bool → LabFault
 lab_fault_of bench_fault.NoMemory waiting = NoMemory waiting
 lab_fault_of bench_fault.Full waiting = Full waiting
+
+-- a refusal because the log is full comes of some legal log that is
+abbrev pub TellsFull : LabFault → Type 0
+TellsFull (NoMemory waiting) = Unit {0}
+TellsFull (Full waiting) = (run : EngineRun) × IsFull run
+TellsFull NothingWaiting = Unit {0}

@@ -3,16 +3,19 @@
 ghost use Rattle.std.specs.Prelude.{◌≡◌, ◌≢◌, ◌≤◌, ℕ, [], ◌++◌, map, None, false, OnOk, IfOk, IfErr, IfSome, IfNone};
 ghost use Rattle.std.specs.List.{All};
 ghost use Rattle.lab_engine.specs.RecordedLog.{IsSoundRecord};
+ghost use Rattle.lab_session.specs.Waiting.{TellsFull};
 ghost use Rattle.lab_session.specs.Play.{given_lines, commands_of};
 ghost use Rattle.lab_session.specs.Free.{IsUnused, HasOneMore, IsPlayedSeat, IsRefusal, IsEnded, AllPlayed, IsStop, AllSessionsPlayed, IsFreeFault};
 
 use crate::fault::{LabFault, PlayFault, refused_play, unclosed};
+use crate::kept::{Kept, Origin};
 use crate::lab::{Lab, waits_on};
 use crate::seat::Seat;
 use lab_engine::{Engine, Recording};
 use lab_script::{Line, Script};
 use lab_table::{Command, Session};
 use std::alloc::Global;
+use std::marker::Brand;
 use std::sync::Wait;
 use std::thread;
 use std::thread::{Promise, PromisedHandle, Scope, Threads};
@@ -60,6 +63,7 @@ fn give<E: Engine + Drop, R: Wait>(
 ) -> Result<Seat, (Seat, LabFault)>
     ensures more { IfOk result (λ given. HasOneMore seat given command.now) }
     ensures fault { IfErr result (λ e. e.1 ≢ LabFault.NothingWaiting) }
+    ensures full { IfErr result (λ e. TellsFull e.1) }
 {
     let Ok(command) = command.copy(alloc) else {
         return Err((seat, LabFault::NoMemory { waiting: false }));
@@ -79,6 +83,7 @@ fn give_lines<E: Engine + Drop, G: Gate, R: Wait>(
     requires { IsUnused seat }
     ensures played { IfOk result (IsPlayedSeat (given_lines lines.now)) }
     ensures fault { IfErr result (λ e. e.1 ≢ LabFault.NothingWaiting) }
+    ensures full { IfErr result (λ e. TellsFull e.1) }
 {
     let session = seat.session();
     let mut seat = seat;
@@ -251,6 +256,7 @@ fn first_fault(ended: &[Ended]) -> Option<LabFault>
     requires { All (λ e. IsRefusal e.fault) ended.now }
     ensures none { IfNone result (All (λ e. e.fault ≡ None) ended.now) }
     ensures some { IfSome result (λ fault. fault ≢ LabFault.NothingWaiting) }
+    ensures full { IfSome result TellsFull }
 {
     for one in ended {
         if let Some(fault) = one.fault {
@@ -279,6 +285,39 @@ fn seats_of(alloc: Global, all: AllEnded) -> Result<Vec<Seat>, PlayFault>
     Ok(seats)
 }
 
+/// As [`play_free`], of an engine with the level and the setup of an origin.
+fn play_from<O: Origin + Send, E: Engine + Drop + Send, G: Gate + Sync, R: Threads + Wait + Sync>(
+    rt: &R,
+    alloc: Global,
+    engine: E,
+    script: &Script,
+    gate: &G,
+) -> Result<Recording, PlayFault>
+    requires fresh { E.events engine ≡ [] }
+    requires level { E.kind engine ≡ O.level }
+    requires setup { E.opening engine ≡ O.setup }
+    ensures sound { IfOk result IsSoundRecord }
+    ensures level { IfOk result (λ recording. recording.level ≡ O.level) }
+    ensures setup { IfOk result (λ recording. recording.setup ≡ O.setup) }
+    ensures played { IfOk result (λ recording. AllSessionsPlayed (given_lines script.now.lines) recording.log) }
+    ensures fault { IfErr result (IsFreeFault (given_lines script.now.lines)) }
+{
+    let engine: Kept<E, O> = Kept::new(engine);
+    let (lab, seats) = Lab::start(alloc, engine, 9)?;
+    let all = match play_threads(rt, alloc, &lab, seats, script.lines.as_slice(), gate) {
+        Ok(all) => all,
+        Err(fault) => return Err(fault),
+    };
+    let seats = match seats_of(alloc, all) {
+        Ok(seats) => seats,
+        Err(fault) => return Err(fault),
+    };
+    match lab.close(alloc, seats) {
+        Ok(recording) => Ok(recording),
+        Err(refused) => Err(unclosed(refused.2)),
+    }
+}
+
 /// Plays a script by one thread for each session that has lines: each submits its session's lines in order, between
 /// `before` and `after` of the gate, and then aborts what it has active. It is for a fresh engine, and waits for its
 /// threads.
@@ -297,21 +336,10 @@ pub fn play_free<E: Engine + Drop + Send, G: Gate + Sync, R: Threads + Wait + Sy
 ) -> Result<Recording, PlayFault>
     requires { E.events engine ≡ [] }
     ensures sound { IfOk result IsSoundRecord }
-    ensures level { IfOk result (λ recording. (other : _) × (recording.level ≡ E.kind other)) }
+    ensures level { IfOk result (λ recording. recording.level ≡ E.kind engine) }
+    ensures setup { IfOk result (λ recording. recording.setup ≡ E.opening engine) }
     ensures played { IfOk result (λ recording. AllSessionsPlayed (given_lines script.now.lines) recording.log) }
     ensures fault { IfErr result (IsFreeFault (given_lines script.now.lines)) }
 {
-    let (lab, seats) = Lab::start(alloc, engine, 9)?;
-    let all = match play_threads(rt, alloc, &lab, seats, script.lines.as_slice(), gate) {
-        Ok(all) => all,
-        Err(fault) => return Err(fault),
-    };
-    let seats = match seats_of(alloc, all) {
-        Ok(seats) => seats,
-        Err(fault) => return Err(fault),
-    };
-    match lab.close(alloc, seats) {
-        Ok(recording) => Ok(recording),
-        Err(refused) => Err(unclosed(refused.2)),
-    }
+    play_from::<Brand, E, G, R>(rt, alloc, engine, script, gate)
 }

@@ -5,7 +5,7 @@ ghost use Rattle.lab_engine.specs.Recording.{numbers_from};
 ghost use Rattle.lab_engine.specs.RecordedLog.{IsSoundRecord};
 ghost use Rattle.lab_session.specs.Seats.{new_seat, GrowsBy};
 ghost use Rattle.lab_session.specs.Closing.{AreClosed, IsLabCloseFault};
-ghost use Rattle.lab_session.specs.Waiting.{still_waits, handed_back, RestsOrHolds};
+ghost use Rattle.lab_session.specs.Waiting.{still_waits, handed_back, RestsOrHolds, TellsFull};
 
 use crate::bench::Bench;
 use crate::fault::{CloseFault, LabFault};
@@ -95,6 +95,7 @@ impl<E: Engine + Drop> Lab<E> {
         ensures holds { IfOk result (λ s. s.holds ≡ None) }
         ensures seat { IfErr result (λ e. e.0 ≡ seat) }
         ensures waiting { IfErr result (λ e. still_waits e.1 ≡ true) }
+        ensures full { IfErr result (λ e. TellsFull e.1) }
     {
         let mut bench = bench;
         let mut seat = seat;
@@ -129,6 +130,7 @@ impl<E: Engine + Drop> Lab<E> {
         ensures holds { IfOk result (λ s. RestsOrHolds seat.holds s.holds) }
         ensures seat { IfErr result (λ e. e.0 ≡ handed_back seat command e.1) }
         ensures fault { IfErr result (λ e. e.1 ≢ LabFault.NothingWaiting) }
+        ensures full { IfErr result (λ e. TellsFull e.1) }
     {
         let mut seat = seat;
         let mut bench = self.bench.lock(rt);
@@ -160,6 +162,7 @@ impl<E: Engine + Drop> Lab<E> {
         ensures holds { IfOk result (λ s. s.holds ≡ None) }
         ensures seat { IfErr result (λ e. e.0 ≡ seat) }
         ensures nothing { IfErr result (λ e. e.1 ≡ LabFault.NothingWaiting → seat.holds ≡ None) }
+        ensures full { IfErr result (λ e. TellsFull e.1) }
     {
         if seat.holds.is_none() {
             return Err((seat, LabFault::NothingWaiting));
@@ -195,6 +198,7 @@ impl<E: Engine + Drop> Lab<E> {
         ensures closed { IfOk result (λ recording. AreClosed self recording.log seats.items) }
         ensures sound { IfOk result IsSoundRecord }
         ensures level { IfOk result (λ recording. (engine : _) × (recording.level ≡ E.kind engine)) }
+        ensures setup { IfOk result (λ recording. (engine : _) × (recording.setup ≡ E.opening engine)) }
         ensures lab { IfErr result (λ e. e.0 ≡ self) }
         ensures seats { IfErr result (λ e. e.1 ≡ seats) }
         ensures fault { IfErr result (λ e. IsLabCloseFault self seats.items e.2) }

@@ -4,7 +4,7 @@ ghost use Rattle.std.specs.Prelude.{◌≡◌, ◌≢◌, None, Some, true, fals
 ghost use Rattle.lab_engine.specs.Limits.{max_events};
 ghost use Rattle.lab_engine.specs.Log.{past_of, waiting};
 ghost use Rattle.lab_engine.specs.Recording.{IsLeastRetryable};
-ghost use Rattle.lab_session.specs.Waiting.{still_waits, lab_fault_of};
+ghost use Rattle.lab_session.specs.Waiting.{still_waits, lab_fault_of, TellsFull};
 ghost use Rattle.lab_session.specs.Turns.{resting, IsAsked, IsRetried};
 
 use crate::bench::{Bench, BenchFault};
@@ -49,6 +49,7 @@ pub(crate) fn asked<E: Engine>(
     ensures waiting { IfErr result (λ e. still_waits e.1 ≡ false) }
     ensures fault { IfErr result (λ e. e.1 ≢ LabFault.NothingWaiting) }
     ensures full { IfErr result (λ e. e.1 ≡ LabFault.Full false → length bench.old.log ≡ max_events) }
+    ensures told { IfErr result (λ e. TellsFull e.1) }
 {
     if seat.calls.try_reserve(1).is_err() {
         return Err((command, LabFault::NoMemory { waiting: false }));
@@ -95,6 +96,7 @@ pub(crate) fn gone_on<E: Engine>(
     ensures waiting { IfErr result (λ e. still_waits e ≡ false) }
     ensures fault { IfErr result (λ e. e ≢ LabFault.NothingWaiting) }
     ensures full { result ≡ Err (LabFault.Full false) → length bench.old.log ≡ max_events }
+    ensures told { IfErr result TellsFull }
 {
     if bench.is_waiting(seat.session) {
         return Ok(None);
@@ -132,6 +134,7 @@ pub(crate) fn retried<E: Engine>(
     ensures waiting { IfErr result (λ e. still_waits e ≡ true) }
     ensures waits { OnErr result (IsSome (waiting (past_of bench.new.log) seat.old.session)) }
     ensures full { result ≡ Err (LabFault.Full true) → length bench.old.log ≡ max_events }
+    ensures told { IfErr result TellsFull }
 {
     if bench.retryable() != Some(seat.session) {
         return Ok(None);

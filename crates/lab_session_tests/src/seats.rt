@@ -71,3 +71,17 @@ fn answers_of_another_engine_end_in_close(rt: HostRuntime) -> Result<(), Fail> {
     assert_eq!(rt; fault, CloseFault::SeatRepeated { session });
     Ok(())
 }
+
+/// The seat of the other lab has two calls, and nothing was asked of this one.
+#[test]
+fn a_call_that_an_empty_log_lacks_ends_in_close(rt: HostRuntime) -> Result<(), Fail> {
+    let alloc = rt.alloc();
+    let session = Session::new(1).ok_or("a session")?;
+    let (_other, foreign) = looked(&rt, alloc, 10).ok_or("another lab")?;
+    let engine = SnapshotEngine::new(alloc, table_of(alloc, 10).ok_or("a table")?);
+    let (lab, _own) = Lab::start(alloc, engine, 1)?;
+    let seats = vec![in alloc; foreign]?;
+    let (_lab, _seats, fault) = refusal(alloc, lab, seats).ok_or("a refusal")?;
+    assert_eq!(rt; fault, CloseFault::ReceiptDiffers { session, place: 1 });
+    Ok(())
+}

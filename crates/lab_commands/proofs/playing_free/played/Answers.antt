@@ -1,4 +1,6 @@
 use denote.Param.Send.{sendable}
+use Rattle.std.proofs.Common.{inl}
+use Rattle.std.proofs.lemmas.Result.{IfErr-weaker}
 use Rattle.lab_engine.proofs.Crosses.{journal}
 use Rattle.lab_commands.proofs.playing_free.played.Goals as goal
 
@@ -13,3 +15,12 @@ play_free-requires-in-Committed-send-E c κs = search (sendable, journal)
 -- src/playing_free.rt:54:28
 pub play_free-requires-in-Snapshot-send-E : goal.play_free-requires-in-Snapshot-send-E
 play_free-requires-in-Snapshot-send-E c κs = search (sendable, journal)
+
+pub returns-in-Locking-clause-fault : goal.returns-in-Locking-clause-fault
+returns-in-Locking-clause-fault g c = IfErr-weaker c.play_free.result _ _ (λ fault is. inl is) c.play_free.ensures.fault
+
+pub returns-in-Committed-clause-fault : goal.returns-in-Committed-clause-fault
+returns-in-Committed-clause-fault g c = IfErr-weaker c.play_free-in-Committed.result _ _ (λ fault is. inl is) c.play_free-in-Committed.ensures.fault
+
+pub returns-in-Snapshot-clause-fault : goal.returns-in-Snapshot-clause-fault
+returns-in-Snapshot-clause-fault g c = IfErr-weaker c.play_free-in-Snapshot.result _ _ (λ fault is. inl is) c.play_free-in-Snapshot.ensures.fault

@@ -1,6 +1,6 @@
 use Rattle.std.proofs.Common.{subst, ◌∙◌}
 use Rattle.std.specs.Io.KnownBytes.{Appends}
-use Rattle.lab_commands.specs.Playing.{IsRunAnswer, IsFreePlay, IsAnyRefusal}
+use Rattle.lab_commands.specs.Playing.{IsRunAnswer, IsFreePlay, IsFreeRefusal}
 use Rattle.lab_commands.proofs.Taken.{said_of_input}
 use Rattle.lab_commands.proofs.WholeScripts.{run_whole}
 use Rattle.lab_commands.proofs.playing_free.run_free.Goals as goal
@@ -9,7 +9,7 @@ pub returns-clause-written : goal.returns-clause-written
 returns-clause-written g c =
     let answer = c.in_ok-answer.answer in
     let law = c.first_bytes_tell_a_script.ensures in
-    said_of_input _ c.in_ok-input.input.items answer.text.items (Appends _ _) (λ input text. IsRunAnswer IsFreePlay IsAnyRefusal c.args.history input text answer.ending)
+    said_of_input _ c.in_ok-input.input.items answer.text.items (Appends _ _) (λ input text. IsRunAnswer (IsFreePlay c.args.level) (IsFreeRefusal c.args.level) c.args.history input text answer.ending)
     c.in_ok-input.ensures (subst (Appends _ _) c.as_slice-2.ensures.value c.in_ok-write_text.ensures.written)
-    (λ input is. run_whole law.spelled law.fault input answer.text.items answer.ending IsFreePlay IsAnyRefusal c.args.history
-    (subst (λ bytes. IsRunAnswer IsFreePlay IsAnyRefusal c.args.history bytes answer.text.items answer.ending) (c.as_slice.ensures.value ∙ is) c.in_ok-answer.ensures))
+    (λ input is. run_whole law.spelled law.fault input answer.text.items answer.ending (IsFreePlay c.args.level) (IsFreeRefusal c.args.level) c.args.history
+    (subst (λ bytes. IsRunAnswer (IsFreePlay c.args.level) (IsFreeRefusal c.args.level) c.args.history bytes answer.text.items answer.ending) (c.as_slice.ensures.value ∙ is) c.in_ok-answer.ensures))

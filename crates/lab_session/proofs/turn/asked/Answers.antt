@@ -1,10 +1,12 @@
-use Rattle.std.proofs.Common.{rules, ◌≡◌, true, false, refl, subst, Some}
+use Rattle.std.proofs.Common.{rules, ◌≡◌, true, false, refl, sym, subst, Some}
 use Rattle.std.proofs.lemmas.Bool.{both_ways}
 use Rattle.std.specs.Prelude.{IsSome}
 use Rattle.lab_engine.specs.Log.{past_of, waiting}
 use Rattle.lab_engine.specs.Recording.{is_answer}
 use Rattle.lab_session.specs.Seats.{Seated, GrowsBy}
 use Rattle.lab_session.specs.Turns.{IsAsked}
+use Rattle.lab_session.specs.Waiting.{TellsFull}
+use Rattle.lab_session.proofs.Filled.{tells_full}
 use Rattle.lab_session.proofs.Turning.{grown, unanswered_waits}
 use Rattle.lab_session.proofs.turn.asked.Goals as goal
 
@@ -46,3 +48,6 @@ returns-then-not-is_answered-clause-waits g c =
     let answer : is_answer c.in-Ok.receipt.outcome ≡ false = search rules in
     subst (λ (s : Seated). false ≡ false → IsSome (waiting (past_of c.step.new.self.log) s.session)) c.seat.view_is
     (λ is. unanswered_waits run.level run.setup run.log c.step.new.self.log c.seat.inside.session c.args.command c.in-Ok.receipt.outcome c.in-Ok.ensures.step answer)
+
+pub returns-in-Err-clause-told : goal.returns-in-Err-clause-told
+returns-in-Err-clause-told g c = subst TellsFull (sym c.lab_fault.ensures) (tells_full c.args.bench.now c.in-Err.fault false c.in-Err.ensures.filled)

@@ -1,9 +1,11 @@
-use Rattle.std.proofs.Common.{rules, ◌≡◌, ◌≢◌, true, subst, Some, None}
+use Rattle.std.proofs.Common.{rules, ◌≡◌, ◌≢◌, true, sym, subst, Some, None}
 use Rattle.std.specs.Prelude.{MatchOption}
 use Rattle.lab_engine.specs.Log.{past_of}
 use Rattle.lab_engine.specs.Recording.{is_answer, IsLeastRetryable, NoneRetryable}
 use Rattle.lab_session.specs.Seats.{Seated, GrowsBy}
 use Rattle.lab_session.specs.Turns.{IsRetried}
+use Rattle.lab_session.specs.Waiting.{TellsFull}
+use Rattle.lab_session.proofs.Filled.{tells_full}
 use Rattle.lab_session.proofs.Turning.{grown, not_least, retry_answers}
 use Rattle.lab_session.proofs.turn.retried.Goals as goal
 
@@ -37,3 +39,6 @@ returns-clause-retried g c =
       listed = grows;
       rests = rests;
     })
+
+pub returns-in-Err-clause-told : goal.returns-in-Err-clause-told
+returns-in-Err-clause-told g c = subst TellsFull (sym c.lab_fault.ensures) (tells_full c.args.bench.now c.in-Err.fault true c.in-Err.ensures.filled)
