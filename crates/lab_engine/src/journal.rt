@@ -222,7 +222,7 @@ impl<R: Rules> Engine for Journal<R> {
 
     ghost opening = { λ j. j.setup };
 
-    ghost kind = { λ j. j.level };
+    ghost kind = { λ _. R.kind };
 
     fn level(&self) -> Level {
         self.rules.level()

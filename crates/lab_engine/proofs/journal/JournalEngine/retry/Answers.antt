@@ -17,7 +17,7 @@ invariant_of-self-in_err-push g c = record {
 
 pub returns-clause-ok : goal.returns-clause-ok
 returns-clause-ok g c =
-    subst (λ (k : EngineRun). IsRetry k.level k.setup k.log c.push.new.self.items c.args.session c.in_ok-again.again.outcome) c.self.view_is
+    subst (λ (k : EngineRun). IsRetry g.R.Rules.kind k.setup k.log c.push.new.self.items c.args.session c.in_ok-again.again.outcome) c.self.view_is
     (subst (λ (new : List LogEvent). IsRetry g.R.Rules.kind c.self.inside.setup c.self.inside.log.items new c.args.session c.in_ok-again.again.outcome) (sym c.in_ok-push.ensures.items)
     (subst (λ (log : List LogEvent). IsRetry g.R.Rules.kind c.self.inside.setup log (log
     ++ c.in_ok-again.again.event ∷ []) c.args.session c.in_ok-again.again.outcome) c.deref-2.ensures.value c.in_ok-again.ensures.retry))

@@ -5,4 +5,4 @@ use Rattle.lab_engine.specs.Journal.{EngineRun}
 use Rattle.lab_engine.proofs.journal.JournalEngine.retryable.Goals as goal
 
 pub returns : goal.returns
-returns g c = subst (λ (k : EngineRun). IsRetryChoice k.level k.setup (past_of k.log) c.self.inside.retryable) c.self.view_is c.self.invariant.retryable
+returns g c = subst (λ (k : EngineRun). IsRetryChoice g.R.Rules.kind k.setup (past_of k.log) c.self.inside.retryable) c.self.view_is c.self.invariant.retryable
