@@ -123,7 +123,7 @@ fn resumed<E: Engine + Drop, R: Wait>(
     }
 }
 
-/// After a refusal: goes on once with what still waits, and aborts.
+/// After a refusal: nobody waits any longer, for the play is refused; goes on once with what still waits, and aborts.
 fn given_up<E: Engine + Drop, R: Wait>(
     rt: &R,
     alloc: Global,
@@ -131,6 +131,7 @@ fn given_up<E: Engine + Drop, R: Wait>(
     seat: Seat,
     fault: LabFault,
 ) -> Seat {
+    lab.give_up(rt);
     let seat = resumed(rt, alloc, lab, seat, fault);
     match lab.submit(rt, alloc, seat, Command::Abort) {
         Ok(answered) => answered,
@@ -323,8 +324,9 @@ fn play_from<O: Origin + Send, E: Engine + Drop + Send, G: Gate + Sync, R: Threa
 /// threads.
 ///
 /// A thread whose call is refused submits no further line. It goes on once with what still waits, submits one abort
-/// and ends; the play then answers the fault of the least session that has one: a growth was refused (1), or the log has
-/// 100,000 events (5). Else the lab is closed with all nine seats, and refused where that is: the recording would have
+/// and ends, and from then on no thread waits for another: one whose command can't be retried at once ends likewise, so
+/// that a play ends whichever growths are refused. The play then answers the fault of the least session that has one: a
+/// growth was refused (1), or the log has 100,000 events (5). Else the lab is closed with all nine seats, and refused where that is: the recording would have
 /// too much of something (2), or seats and log differ (3). `NoThread` (4) where a thread wasn't given; those that were
 /// end first. The engine is given up then.
 pub fn play_free<E: Engine + Drop + Send, G: Gate + Sync, R: Threads + Wait + Sync>(

@@ -10,11 +10,12 @@ ghost use Rattle.lab_session.specs.Waiting.{still_waits, handed_back, RestsOrHol
 use crate::bench::Bench;
 use crate::fault::{CloseFault, LabFault};
 use crate::seat::Seat;
-use crate::turn::{Progress, asked, gone_on, retried};
+use crate::turn::{Progress, asked, ended, gone_on, retried};
 use lab_engine::{Engine, Recording};
 use lab_table::{Command, NoMemory, Session};
 use std::alloc::Global;
 use std::marker::Model;
+use std::sync::atomic::{AtomicBool, Ordering};
 use std::sync::{Condvar, Mutex, MutexGuard, Wait};
 
 /// A bench under a lock, and how many sessions it has seats for. Contracts see that number, at most 9.
@@ -22,6 +23,8 @@ use std::sync::{Condvar, Mutex, MutexGuard, Wait};
 pub struct Lab<E: Engine> {
     bench: Mutex<Bench<E>>,
     changed: Condvar,
+    /// Set where a play is given up: a session that waits ends then.
+    given_up: AtomicBool,
     sessions: u8,
 }
 
@@ -77,12 +80,14 @@ impl<E: Engine + Drop> Lab<E> {
         let lab = Lab {
             bench: Mutex::new(Bench::new(engine)),
             changed: Condvar::new(),
+            given_up: AtomicBool::new(false),
             sessions,
         };
         Ok((lab, seats))
     }
 
-    /// Waits until the command that a seat holds may be retried, and is answered.
+    /// Waits until the command that a seat holds may be retried, and is answered. Where the play is given up before,
+    /// the command waits on, and the seat is handed back.
     fn waited<R: Wait>(
         &self,
         rt: &R,
@@ -105,7 +110,11 @@ impl<E: Engine + Drop> Lab<E> {
                     change.wake(&self.changed);
                     return Ok(seat);
                 }
-                Ok(None) => {}
+                Ok(None) => {
+                    if self.given_up.load(Ordering::SeqCst) {
+                        return Err((seat, ended(&bench)));
+                    }
+                }
                 Err(fault) => return Err((seat, fault)),
             }
             bench = self.changed.wait(rt, bench);
@@ -183,6 +192,15 @@ impl<E: Engine + Drop> Lab<E> {
         }
     }
 
+    /// Gives a play up: from now on no session waits for another. A refused session that keeps its transaction would
+    /// let them wait for ever. The flag is set under the lock, so that none falls asleep between its look and the call.
+    pub(crate) fn give_up<R: Wait>(&self, rt: &R) {
+        let bench = self.bench.lock(rt);
+        self.given_up.store(true, Ordering::SeqCst);
+        self.changed.notify_all();
+        drop(bench);
+    }
+
     /// Whether a session has an active transaction.
     pub(crate) fn is_active<R: Wait>(&self, rt: &R, session: Session) -> bool {
         self.bench.lock(rt).is_active(session)
@@ -206,6 +224,7 @@ impl<E: Engine + Drop> Lab<E> {
         let Lab {
             bench,
             changed,
+            given_up,
             sessions,
         } = self;
         let bench = bench.into_inner();
@@ -215,6 +234,7 @@ impl<E: Engine + Drop> Lab<E> {
                 let lab = Lab {
                     bench: Mutex::new(bench),
                     changed,
+                    given_up,
                     sessions,
                 };
                 Err((lab, seats, fault))

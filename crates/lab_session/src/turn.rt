@@ -155,3 +155,15 @@ pub(crate) fn retried<E: Engine>(
     };
     Ok(Some(change))
 }
+
+/// What a waiting session is told where a play is given up: that the log is full, or that memory was wanted.
+pub(crate) fn ended<E: Engine>(bench: &Bench<E>) -> LabFault
+    ensures waiting { still_waits result ≡ true }
+    ensures told { TellsFull result }
+{
+    if bench.is_full() {
+        LabFault::Full { waiting: true }
+    } else {
+        LabFault::NoMemory { waiting: true }
+    }
+}
