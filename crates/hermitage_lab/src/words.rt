@@ -1,6 +1,8 @@
 //! The words that the program takes.
 
 use clap::{Arg, ArgAction, Command};
+use lab_engine::Level;
+use lab_matrix::CaseName;
 use std::alloc::{AllocError, Global};
 
 const ABOUT: &str = "A laboratory for transaction isolation, whose answers are proved.";
@@ -9,8 +11,8 @@ const STATUSES: &str = "\
 Exit status:
   0  done
   2  the input was refused
-  3  a read, an open or a write failed
-  4  there was no memory for it; nothing was written
+  3  a read, an open or a write failed; standard error says which
+  4  there was no memory for it; nothing was written, and standard error says so
   5  the command line was refused; nothing was written to standard output";
 
 const SERIAL: &str = "Runs a script's transactions one after another";
@@ -102,8 +104,52 @@ pub static CASES: [&str; 10] = [
     "G0", "G1a", "G1b", "G1c", "OTV", "PMP", "P4", "G-single", "G2-item", "G2",
 ];
 
+static CASE_NAMES: [CaseName; 10] = [
+    CaseName::G0,
+    CaseName::G1a,
+    CaseName::G1b,
+    CaseName::G1c,
+    CaseName::Otv,
+    CaseName::Pmp,
+    CaseName::P4,
+    CaseName::GSingle,
+    CaseName::G2Item,
+    CaseName::G2,
+];
+
 /// The engines that the program has, as words.
 pub static ENGINES: [&str; 3] = ["locking", "committed", "snapshot"];
+
+static LEVELS: [Level; 3] = [Level::Locking, Level::Committed, Level::Snapshot];
+
+/// The word for the engine of a level.
+fn engine_name(level: Level) -> &'static str {
+    match level {
+        Level::Locking => "locking",
+        Level::Committed => "committed",
+        Level::Snapshot => "snapshot",
+    }
+}
+
+/// The level of the engine of this name; None where there is no such engine.
+pub fn level_of(engine: &str) -> Option<Level> {
+    for level in &LEVELS {
+        if engine_name(*level) == engine {
+            return Some(*level);
+        }
+    }
+    None
+}
+
+/// The case of this name; None where there is no such case.
+pub fn case_of(word: &str) -> Option<CaseName> {
+    for name in &CASE_NAMES {
+        if name.name() == word {
+            return Some(*name);
+        }
+    }
+    None
+}
 
 /// The words of `run`.
 fn run_words<'a>(alloc: Global) -> Result<Command<'a>, AllocError> {
