@@ -1,5 +1,6 @@
 //! Tests of the dependencies between transactions: the walk along the versions of each row, beside a body that compares
-//! each operation with each installer, and what is told of each two transactions beside both.
+//! each operation with each installer, and what is told of each two transactions beside both. And calls of the libraries
+//! up to the dependencies that are refused memory.
 #![tactic(auto)]
 
 #[cfg(test)]
@@ -12,5 +13,11 @@ mod made;
 mod pairs;
 #[cfg(test)]
 mod plays;
+#[cfg(test)]
+mod refusal;
+#[cfg(test)]
+mod refused;
+#[cfg(test)]
+mod refused_steps;
 #[cfg(test)]
 mod told;

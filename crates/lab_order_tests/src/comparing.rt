@@ -1,5 +1,8 @@
 //! Orders by counts and by scanning are the same.
 
+ghost use Rattle.std.specs.Prelude.{◌≡◌, IfOk};
+ghost use Rattle.lab_order.specs.Arrows.{nodes_of};
+
 use crate::scanning::scanning_order;
 use lab_order::{Graph, Ordered, order};
 use std::alloc::Global;
@@ -80,7 +83,9 @@ const CASES: [Case; 9] = [
 ];
 
 /// The graph of these nodes and arrows.
-fn graph_of(alloc: Global, nodes: u32, arrows: &[(u32, u32)]) -> Result<Graph, Fail> {
+pub fn graph_of(alloc: Global, nodes: u32, arrows: &[(u32, u32)]) -> Result<Graph, Fail>
+    ensures { IfOk result (λ graph. nodes_of graph ≡ nodes) }
+{
     let mut graph = Graph::new(alloc, nodes)?;
     for (from, to) in arrows {
         if *from >= nodes || *to >= nodes {
@@ -92,7 +97,7 @@ fn graph_of(alloc: Global, nodes: u32, arrows: &[(u32, u32)]) -> Result<Graph, F
 }
 
 /// Whether it is an order, and its nodes.
-fn parts(ordered: &Ordered) -> (bool, &[u32]) {
+pub fn parts(ordered: &Ordered) -> (bool, &[u32]) {
     match ordered {
         Ordered::Order(nodes) => (true, nodes.as_slice()),
         Ordered::Circle(nodes) => (false, nodes.as_slice()),

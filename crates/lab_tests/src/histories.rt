@@ -1,11 +1,12 @@
 //! Histories of parts, and what a history answers.
 
+use crate::alike::{alike_installed, alike_parts, alike_tables, alike_transactions};
 use crate::refusal::{refuse, was_refused};
 use lab_history::{
     FileFault, History, Installed, Installers, Limit, ListPlace, Op, Ops, Outcome, Parts, Path,
     Rows, State, Txn, Txns, VersionName, View, Writes, read_history,
 };
-use lab_table::{RowId, Statement, Table, TxnNo, Value};
+use lab_table::{Expr, RowId, Statement, Table, TxnNo, Value};
 use std::alloc::Global;
 use std::test::Fail;
 
@@ -17,8 +18,9 @@ fn txn_no(number: u32) -> Result<TxnNo, Fail> {
     Ok(TxnNo::new(number).ok_or("a transaction")?)
 }
 
-/// A transaction with one select, which saw row 1 as this operation of transaction 1 left it, or as it was initially.
+/// A transaction with one update, which saw row 1 as this operation of transaction 1 left it, or as it was initially.
 fn txn(alloc: Global, number: u32, op: Option<u32>) -> Result<Txn, Fail> {
+    let value = Value::new(i64::from(number)).ok_or("a value")?;
     let version = match op {
         None => VersionName::Initial,
         Some(op) => VersionName::Of {
@@ -26,18 +28,30 @@ fn txn(alloc: Global, number: u32, op: Option<u32>) -> Result<Txn, Fail> {
             op,
         },
     };
-    let Ok(view) = View::from_entries(vec![in alloc; (row(1)?, version)]?) else {
-        return Err(Fail::from("a view"));
+    let (Ok(view), Ok(rows), Ok(writes)) = (
+        View::from_entries(vec![in alloc; (row(1)?, version)]?),
+        Rows::from_entries(vec![in alloc; (row(1)?, value)]?),
+        Writes::from_entries(vec![in alloc; (row(2)?, State::Present(value))]?),
+    ) else {
+        return Err(Fail::from("a view, rows and writes"));
     };
     let op = Op {
-        statement: Statement::Select { pred: None },
+        statement: Statement::Update {
+            expr: Expr::Plus(value),
+            pred: None,
+        },
         view,
-        rows: Rows::new(Vec::new(alloc)),
-        writes: Writes::new(Vec::new(alloc)),
+        rows,
+        writes,
+    };
+    let outcome = if number % 2 == 0 {
+        Outcome::Aborted
+    } else {
+        Outcome::Committed
     };
     Ok(Txn {
         no: txn_no(number)?,
-        outcome: Outcome::Committed,
+        outcome,
         ops: Ops::new(vec![in alloc; op]?),
     })
 }
@@ -68,11 +82,13 @@ fn parts(alloc: Global, shape: Shape) -> Result<Parts, Fail> {
     let Ok(installed) = Installed::from_entries(vec![in alloc; (row(1)?, installers)]?) else {
         return Err(Fail::from("installers"));
     };
+    let mut end_table = Table::new(alloc);
+    end_table.add(alloc, row(2)?, Value::new(7).ok_or("a value")?)?;
     Ok(Parts {
         initial,
         txns: Txns::new(txns),
         installed,
-        end_table: Table::new(alloc),
+        end_table,
     })
 }
 
@@ -118,31 +134,44 @@ fn parts_that_are_no_history(rt: HostRuntime) -> Result<(), Fail> {
             op,
             installers,
         };
-        let parts = parts(rt.alloc(), shape)?;
-        let fault = match &History::from_parts(rt.alloc(), parts) {
+        let given = parts(rt.alloc(), shape)?;
+        let fault = match &History::from_parts(rt.alloc(), parts(rt.alloc(), shape)?) {
             Ok(_) => None,
-            Err(refused) => Some(refused.1),
+            Err((parts, fault)) => {
+                assert!(rt; alike_parts(rt.alloc(), parts, &given), "{shape:?}");
+                Some(*fault)
+            }
         };
         assert_eq!(rt; fault, expected, "{shape:?}");
     }
     Ok(())
 }
 
+/// Whether a history has these parts.
+fn has_parts(alloc: Global, history: &History, parts: &Parts) -> bool {
+    alike_tables(history.initial(), &parts.initial)
+        && alike_transactions(alloc, history.txns().as_slice(), parts.txns.as_slice())
+        && alike_installed(history.installed(), &parts.installed)
+        && alike_tables(history.end_table(), &parts.end_table)
+}
+
 #[test]
 fn parts_that_are_refused_memory_come_back(rt: HostRuntime) -> Result<(), Fail> {
+    let given = parts(rt.alloc(), USUAL)?;
     for growth in 1..1_000u16 {
         let parts = parts(rt.alloc(), USUAL)?;
         refuse(rt.alloc(), growth);
         let made = History::from_parts(rt.alloc(), parts);
         let refused = was_refused(rt.alloc());
         match &made {
-            Ok(history) => assert_eq!(rt; history.txns().as_slice().len(), 2usize),
+            Ok(history) => assert!(rt; has_parts(rt.alloc(), history, &given)),
             Err((parts, fault)) => {
                 assert!(rt; refused, "at growth {growth}");
                 assert_eq!(rt; *fault, FileFault::NoMemory);
-                assert_eq!(rt; parts.initial.rows().len(), 2usize);
-                assert_eq!(rt; parts.txns.as_slice().len(), 2usize);
-                assert_eq!(rt; parts.installed.entries().len(), 1usize);
+                assert!(rt;
+                    alike_parts(rt.alloc(), parts, &given),
+                    "at growth {growth}"
+                );
             }
         }
         if !refused {

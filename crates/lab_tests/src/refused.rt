@@ -1,8 +1,9 @@
 //! Calls with each of their growths refused in turn: they answer want of memory, and what they would change is as it
 //! was; or, where they could do without, they answer as ever.
 
+use crate::alike::alike_operations;
 use crate::refusal::{refuse, was_refused};
-use lab_history::{FileFault, History, Op, WriteFault, read_history, write_history};
+use lab_history::{FileFault, History, WriteFault, read_history, write_history};
 use lab_script::{
     PrintFault, ScriptFault, parse_script, parse_statement, print_script, print_script_fault,
     print_statement, print_transcript, run_serial,
@@ -44,6 +45,7 @@ fn a_table_that_is_refused_memory_is_as_before(rt: HostRuntime) -> Result<(), Fa
             .ok()
             .ok_or("a statement")?;
         let after = table(alloc, after)?;
+        let mut succeeded = false;
         for growth in 1..100u16 {
             let mut table = before.copy(alloc)?;
             refuse(alloc, growth);
@@ -57,9 +59,11 @@ fn a_table_that_is_refused_memory_is_as_before(rt: HostRuntime) -> Result<(), Fa
                 assert_eq!(rt; table.rows(), after.rows(), "{text}");
             }
             if !refused {
+                succeeded = true;
                 break;
             }
         }
+        assert!(rt; succeeded, "{text}");
     }
     Ok(())
 }
@@ -103,6 +107,7 @@ fn texts_that_are_refused_memory_are_not_made(rt: HostRuntime) -> Result<(), Fai
             "setup (1, 10), (2, 20);\nbegin; -- T1\nselect * from test where not (id = 1 and (id = 2 or id in (1, 2))); -- T1\ncommit; -- T1\ntxn 1 T1\nselect * from test where not (id = 1 and (id = 2 or id in (1, 2))) -> (2, 20)\ncommit\nend (1, 10), (2, 20)\n",
         ),
     ] {
+        let mut succeeded = false;
         for growth in 1..2_000u16 {
             refuse(alloc, growth);
             let made = if text.is_empty() {
@@ -121,9 +126,11 @@ fn texts_that_are_refused_memory_are_not_made(rt: HostRuntime) -> Result<(), Fai
                 }
             }
             if !refused {
+                succeeded = true;
                 break;
             }
         }
+        assert!(rt; succeeded, "{text}");
     }
     Ok(())
 }
@@ -170,42 +177,40 @@ fn written(alloc: Global, history: &History) -> Made {
     }
 }
 
-/// Whether two operations list the same.
-fn are_alike(a: &Op, b: &Op) -> bool {
-    a.view.entries() == b.view.entries()
-        && a.rows.entries() == b.rows.entries()
-        && a.writes.entries() == b.writes.entries()
-}
-
-/// Copies the first transaction's second operation, and looks whether it lists the same.
-fn copied_operation(alloc: Global, history: &History) -> Made {
+/// Copies the first transaction's second operation, and looks whether it is alike, for which there is memory again. And
+/// whether a growth was refused.
+fn copied_operation(alloc: Global, history: &History) -> (Made, bool) {
     let [first, ..] = history.txns().as_slice() else {
-        return Made::Wrong;
+        return (Made::Wrong, false);
     };
     let [_, second, ..] = first.ops.as_slice() else {
-        return Made::Wrong;
+        return (Made::Wrong, false);
     };
-    match second.copy(alloc) {
+    let copy = second.copy(alloc);
+    let refused = was_refused(alloc);
+    match copy {
         Ok(copy) => {
-            if are_alike(&copy, second) {
-                Made::Right
+            if alike_operations(alloc, &copy, second) {
+                (Made::Right, refused)
             } else {
-                Made::Wrong
+                (Made::Wrong, refused)
             }
         }
-        Err(_) => Made::NoMemory,
+        Err(_) => (Made::NoMemory, refused),
     }
 }
 
-/// One of the three calls.
-fn outcome(alloc: Global, history: &History, call: u8) -> Made {
-    if call == 0 {
-        read(alloc)
-    } else if call == 1 {
-        written(alloc, history)
-    } else {
-        copied_operation(alloc, history)
+/// One of the three calls, and whether a growth was refused.
+fn outcome(alloc: Global, history: &History, call: u8) -> (Made, bool) {
+    if call == 2 {
+        return copied_operation(alloc, history);
     }
+    let made = if call == 0 {
+        read(alloc)
+    } else {
+        written(alloc, history)
+    };
+    (made, was_refused(alloc))
 }
 
 #[test]
@@ -214,19 +219,21 @@ fn histories_that_are_refused_memory_are_not_made(rt: HostRuntime) -> Result<(),
         .ok()
         .ok_or("a history")?;
     for call in 0..3u8 {
+        let mut succeeded = false;
         for growth in 1..5_000u16 {
             refuse(rt.alloc(), growth);
-            let made = outcome(rt.alloc(), &whole, call);
-            let refused = was_refused(rt.alloc());
+            let (made, refused) = outcome(rt.alloc(), &whole, call);
             assert!(rt; made != Made::Wrong, "{call}, at growth {growth}");
             assert!(rt;
                 refused || made == Made::Right,
                 "{call}, at growth {growth}"
             );
             if !refused {
+                succeeded = true;
                 break;
             }
         }
+        assert!(rt; succeeded, "{call}");
     }
     Ok(())
 }
