@@ -23,7 +23,9 @@ fn writes_nothing_after_a_failed_read(rt: HostRuntime) -> Result<(), Fail> {
     for case in &CASES {
         let mut whole = Source::new(case.input, 10, 0, 0);
         let mut written = Sink::new(rt.alloc(), 9_000, 0);
-        let _ = given(rt.alloc(), case.subcommand, &mut whole, &mut written);
+        let run = given(rt.alloc(), case.subcommand, &mut whole, &mut written);
+        assert_eq!(rt; status(run), case.status);
+        assert!(rt; 1 < whole.calls && whole.calls < 1_000);
         for fails_at in 1..=whole.calls.min(1_000) {
             let mut reader = Source::new(case.input, 10, 0, fails_at);
             let mut writer = Sink::new(rt.alloc(), 9_000, 0);
@@ -44,7 +46,9 @@ fn tells_a_failed_write(rt: HostRuntime) -> Result<(), Fail> {
     for case in &CASES {
         let mut reader = Source::new(case.input, 9_000, 0, 0);
         let mut whole = Sink::new(rt.alloc(), 10, 0);
-        let _ = given(rt.alloc(), case.subcommand, &mut reader, &mut whole);
+        let run = given(rt.alloc(), case.subcommand, &mut reader, &mut whole);
+        assert_eq!(rt; status(run), case.status);
+        assert!(rt; 1 < whole.calls && whole.calls < 1_000);
         for fails_at in 1..=whole.calls.min(1_000) {
             let mut reader = Source::new(case.input, 9_000, 0, 0);
             let mut writer = Sink::new(rt.alloc(), 10, fails_at);
@@ -56,6 +60,13 @@ fn tells_a_failed_write(rt: HostRuntime) -> Result<(), Fail> {
                 "at call {fails_at}"
             );
         }
+        let mut reader = Source::new(case.input, 9_000, 0, 0);
+        let mut writer = Sink::new(rt.alloc(), 9_000, 0);
+        writer.flush_fails = true;
+        let run = given(rt.alloc(), case.subcommand, &mut reader, &mut writer);
+        assert_eq!(rt; run, Err(RunFault::Unwritten));
+        assert_eq!(rt; status(run), 3);
+        assert_eq!(rt; writer.text.as_slice(), case.text);
     }
     Ok(())
 }
@@ -108,6 +119,7 @@ fn was_refused(alloc: Global) -> bool {
 #[test]
 fn writes_nothing_where_memory_is_refused(rt: HostRuntime) -> Result<(), Fail> {
     for case in &CASES {
+        let mut succeeded = false;
         for growth in 1..5_000u16 {
             let mut reader = Source::new(case.input, 10, 0, 0);
             let mut writer = Sink::new(rt.alloc(), 9_000, 0);
@@ -117,6 +129,8 @@ fn writes_nothing_where_memory_is_refused(rt: HostRuntime) -> Result<(), Fail> {
             refuse(rt.alloc(), 0);
             if !refused {
                 assert_eq!(rt; status(run), case.status);
+                assert_eq!(rt; writer.text.as_slice(), case.text);
+                succeeded = true;
                 break;
             }
             // A growth that was refused may be tried again with a smaller size, and then all is written.
@@ -129,6 +143,7 @@ fn writes_nothing_where_memory_is_refused(rt: HostRuntime) -> Result<(), Fail> {
             };
             assert_eq!(rt; status(run), wanted, "at growth {growth}");
         }
+        assert!(rt; succeeded, "of {:?}", case.input);
     }
     Ok(())
 }

@@ -55,12 +55,13 @@ impl Read for Endless {
     }
 }
 
-/// A writer that takes so many bytes at a call; one call fails, where a flush is a call too.
+/// A writer that takes so many bytes at a call; one call fails, where a flush is a call too, or each flush alone does.
 #[derive(Drop)]
 pub struct Sink {
     pub text: Vec<u8>,
     step: usize,
     fails_at: u32,
+    pub flush_fails: bool,
     pub calls: u32,
 }
 
@@ -70,6 +71,7 @@ impl Sink {
             text: Vec::new(alloc),
             step,
             fails_at,
+            flush_fails: false,
             calls: 0,
         }
     }
@@ -92,6 +94,9 @@ impl Write for Sink {
     }
 
     fn flush(&mut self) -> IoResult<()> {
+        if self.flush_fails {
+            return Err(Error::from(ErrorKind::Other));
+        }
         self.call()
     }
 }
