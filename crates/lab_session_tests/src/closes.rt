@@ -2,8 +2,9 @@
 
 ghost use Rattle.std.specs.Prelude.{◌≡◌, []};
 
+use crate::listings::{LISTINGS, listing};
 use crate::plain_close::{is_answered, plain_fault};
-use lab_engine::{Engine, LogEvent};
+use lab_engine::{Engine, EngineFault, LogEvent, Outcome};
 use lab_locking::LockEngine;
 use lab_script::{Script, parse_script};
 use lab_session::{Bench, CloseFault, Lab, Seat};
@@ -220,21 +221,34 @@ fn hand_in(alloc: Global, seats: Vec<Seat>, spoil: Spoil, at: usize) -> Option<H
 struct Both {
     closed: Option<CloseFault>,
     plain: Option<CloseFault>,
+    /// Whether the log has a deadlock. A lab that waits for nobody doesn't come past it.
+    deadlocks: bool,
+}
+
+fn has_deadlock(log: &[LogEvent]) -> bool {
+    for event in log {
+        if let Outcome::Refused(EngineFault::Deadlock { .. }) = &event.outcome {
+            return true;
+        }
+    }
+    false
 }
 
 /// The bench of a script, closed with the seats of a lab of three sessions.
 fn end_by_both<R: Wait, E: Engine + Drop>(
     rt: &R,
     alloc: Global,
-    bench: Bench<E>,
-    engine: E,
-    shadow: E,
+    script: &Script,
+    engines: (E, E, E),
     spoil: Spoil,
     at: usize,
 ) -> Option<Both>
-    requires engine { E.events engine ≡ [] }
-    requires shadow { E.events shadow ≡ [] }
+    requires bench { E.events engines.0 ≡ [] }
+    requires engine { E.events engines.1 ≡ [] }
+    requires shadow { E.events engines.2 ≡ [] }
 {
+    let (of_bench, engine, shadow) = engines;
+    let bench = benched(alloc, of_bench, script)?;
     let recording = bench.close(alloc, 0, &[]).ok()?;
     let log = recording.log();
     let plan = plan(alloc, log.len(), spoil, at).ok()?;
@@ -243,6 +257,7 @@ fn end_by_both<R: Wait, E: Engine + Drop>(
     Some(Both {
         closed: bench.close(alloc, 3, &handed.seats).err(),
         plain: plain_fault(alloc, log, 3, &handed.owners, &handed.seats),
+        deadlocks: has_deadlock(log),
     })
 }
 
@@ -270,57 +285,43 @@ fn both_on<R: Wait>(
     let of_shadow = start(alloc, &script, &other, spoil)?;
     match number {
         0 => {
-            let bench = benched(alloc, LockEngine::new(alloc, of_bench), &script)?;
-            let engine = LockEngine::new(alloc, of_lab);
-            end_by_both(
-                rt,
-                alloc,
-                bench,
-                engine,
+            let engines = (
+                LockEngine::new(alloc, of_bench),
+                LockEngine::new(alloc, of_lab),
                 LockEngine::new(alloc, of_shadow),
-                spoil,
-                at,
-            )
+            );
+            end_by_both(rt, alloc, &script, engines, spoil, at)
         }
         1 => {
-            let bench = benched(alloc, CommittedEngine::new(alloc, of_bench), &script)?;
-            let engine = CommittedEngine::new(alloc, of_lab);
-            end_by_both(
-                rt,
-                alloc,
-                bench,
-                engine,
+            let engines = (
+                CommittedEngine::new(alloc, of_bench),
+                CommittedEngine::new(alloc, of_lab),
                 CommittedEngine::new(alloc, of_shadow),
-                spoil,
-                at,
-            )
+            );
+            end_by_both(rt, alloc, &script, engines, spoil, at)
         }
         _ => {
-            let bench = benched(alloc, SnapshotEngine::new(alloc, of_bench), &script)?;
-            let engine = SnapshotEngine::new(alloc, of_lab);
-            end_by_both(
-                rt,
-                alloc,
-                bench,
-                engine,
+            let engines = (
+                SnapshotEngine::new(alloc, of_bench),
+                SnapshotEngine::new(alloc, of_lab),
                 SnapshotEngine::new(alloc, of_shadow),
-                spoil,
-                at,
-            )
+            );
+            end_by_both(rt, alloc, &script, engines, spoil, at)
         }
     }
 }
 
-/// Whether both bodies answer alike at the end of each run of a script, and answer nothing where nothing is spoiled.
-fn are_alike<R: Wait>(rt: &R, alloc: Global, text: &[u8]) -> Option<bool> {
+/// Whether both bodies answer alike at the end of each run of a script; where nothing is spoiled, nothing but for a
+/// deadlock. What is spoiled stands at the events from an index on.
+fn are_alike<R: Wait>(rt: &R, alloc: Global, text: &[u8], from: usize, to: usize) -> Option<bool> {
     for number in 0..3u32 {
         for spoil in SPOILS {
-            for at in 0..12usize {
+            for at in from..to {
                 let both = both_on(rt, alloc, number, text, spoil, at)?;
                 if both.closed != both.plain {
                     return Some(false);
                 }
-                if matches!(spoil, Spoil::Nothing) && both.closed.is_some() {
+                if matches!(spoil, Spoil::Nothing) && both.closed.is_some() != both.deadlocks {
                     return Some(false);
                 }
             }
@@ -332,9 +333,16 @@ fn are_alike<R: Wait>(rt: &R, alloc: Global, text: &[u8]) -> Option<bool> {
 #[test]
 fn runs_end_as_by_a_plainer_body(rt: HostRuntime) -> Result<(), Fail> {
     let alloc = rt.alloc();
-    assert_eq!(rt; are_alike(&rt, alloc, PLAIN), Some(true));
-    assert_eq!(rt; are_alike(&rt, alloc, WAITING), Some(true));
-    assert_eq!(rt; are_alike(&rt, alloc, REFUSING), Some(true));
+    assert_eq!(rt; are_alike(&rt, alloc, PLAIN, 0, 12), Some(true));
+    assert_eq!(rt; are_alike(&rt, alloc, WAITING, 0, 12), Some(true));
+    assert_eq!(rt; are_alike(&rt, alloc, REFUSING, 0, 12), Some(true));
+    for number in 0..LISTINGS {
+        assert_eq!(rt;
+            are_alike(&rt, alloc, listing(number), 2, 5),
+            Some(true),
+            "{number}"
+        );
+    }
     Ok(())
 }
 

@@ -11,6 +11,8 @@ mod closes;
 #[cfg(test)]
 mod engines;
 #[cfg(test)]
+mod forced;
+#[cfg(test)]
 mod full;
 #[cfg(test)]
 mod goes_on;

@@ -20,7 +20,7 @@ use Rattle.lab_session_tests.specs.contracts.goes_on.RefusingEngine.TheImpl as i
 use Rattle.lab_session_tests.proofs.goes_on.a_command_whose_retry_had_no_memory_goes_on.Goals as goal
 
 refusing : IsSend Refusing.the_row
-refusing = declared_send Refusing.the_type (search (sendable, journal), (search sendable, (search (sendable, crosses) depth 40, tt)))
+refusing = declared_send Refusing.the_type (search (sendable, journal), (search sendable, (search sendable, (search (sendable, crosses) depth 40, tt))))
 
 inside : IsSend (Inside.the_row Refusing.the_row impl.ghosts)
 inside = declared_send (Inside.the_type Refusing.the_row impl.ghosts) (search (sendable, refusing), tt)
@@ -29,7 +29,7 @@ bench : IsSend (Bench.the_row Refusing.the_row impl.ghosts)
 bench = search (sendable, inside)
 
 lab_inside : IsSync (LabInside.the_row Refusing.the_row impl.ghosts)
-lab_inside = declared_sync (LabInside.the_type Refusing.the_row impl.ghosts) (search (sendable, crosses, bench) depth 40, (search (sendable, crosses) depth 40, (search sendable, tt)))
+lab_inside = declared_sync (LabInside.the_type Refusing.the_row impl.ghosts) (search (sendable, crosses, bench) depth 40, (search (sendable, crosses) depth 40, (search (sendable, crosses) depth 40, (search sendable, tt))))
 
 lab : IsSync (Lab.the_row Refusing.the_row impl.ghosts)
 lab = search (sendable, lab_inside)
@@ -49,6 +49,6 @@ seat_inside = declared_send SeatInside.the_type (search (sendable, session.the_s
 seat : IsSend Seat.the_row
 seat = search (sendable, seat_inside)
 
--- src/goes_on.rt:167:24
-pub join-done-requires-send-F : goal.join-done-requires-send-F
-join-done-requires-send-F g c κs within = search (sendable, crosses, lab, seat) depth 40 fits 20000
+-- src/goes_on.rt:185:26
+pub join-ours-requires-send-F : goal.join-ours-requires-send-F
+join-ours-requires-send-F g c κs within = search (sendable, crosses, lab, seat) depth 40 fits 20000

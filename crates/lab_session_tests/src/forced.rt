@@ -1,0 +1,308 @@
+//! Free plays whose order a gate forces: at each level the log is the one that the level's rules leave.
+
+ghost use Rattle.std.specs.Prelude.{◌≡◌, []};
+
+use lab_engine::{Engine, Level, LogEvent, Outcome, Recording};
+use lab_locking::LockEngine;
+use lab_script::{Script, parse_script};
+use lab_session::{Gate, PlayFault, play_free, print_log};
+use lab_table::{Command, NoMemory, Session, Table};
+use lab_versions::{CommittedEngine, SnapshotEngine};
+use std::alloc::{AllocError, Global};
+use std::sync::atomic::{AtomicBool, AtomicU32, Ordering};
+use std::sync::{Arc, Wait};
+use std::test::Fail;
+use std::thread::{Threads, yield_now};
+
+const MAX_TURNS: u32 = 20_000_000;
+
+/// What an engine did so far.
+struct Counts {
+    /// The events of its log.
+    events: AtomicU32,
+    /// The commands of sessions 1 and 2 that were answered, or refused.
+    ended: [AtomicU32; 2],
+}
+
+impl Drop for Counts {
+    fn drop(self) {
+        let Counts {
+            events: _,
+            ended: _,
+        } = self;
+    }
+}
+
+impl Counts {
+    /// The count of a session, of which there are two.
+    fn ended_of(&self, session: Session) -> &AtomicU32 {
+        if session.number() == 1 {
+            &self.ended[0]
+        } else {
+            &self.ended[1]
+        }
+    }
+
+    fn count(&self, session: Session, outcome: &Outcome) {
+        if !matches!(outcome, Outcome::Waits { .. }) {
+            self.ended_of(session).fetch_add(1, Ordering::SeqCst);
+        }
+        self.events.fetch_add(1, Ordering::SeqCst);
+    }
+}
+
+/// An engine that counts what it does. Where it is to refuse, its first retry has no memory.
+#[derive(Drop)]
+struct Counted<E: Engine> {
+    engine: E,
+    refuses: bool,
+    counts: Arc<Counts, Global>,
+}
+
+impl<E: Engine> Engine for Counted<E> {
+    ghost events = { λ c. E.events c.engine };
+
+    ghost opening = { λ c. E.opening c.engine };
+
+    ghost kind = { λ c. E.kind c.engine };
+
+    fn level(&self) -> Level {
+        self.engine.level()
+    }
+
+    fn setup(&self) -> &Table {
+        self.engine.setup()
+    }
+
+    fn log(&self) -> &[LogEvent] {
+        self.engine.log()
+    }
+
+    fn is_active(&self, session: Session) -> bool {
+        self.engine.is_active(session)
+    }
+
+    fn is_waiting(&self, session: Session) -> bool {
+        self.engine.is_waiting(session)
+    }
+
+    fn step(
+        &mut self,
+        alloc: Global,
+        session: Session,
+        command: &Command,
+    ) -> Result<Outcome, NoMemory> {
+        let outcome = self.engine.step(alloc, session, command)?;
+        self.counts.count(session, &outcome);
+        Ok(outcome)
+    }
+
+    fn retry(&mut self, alloc: Global, session: Session) -> Result<Outcome, NoMemory> {
+        if self.refuses {
+            self.refuses = false;
+            self.counts.ended_of(session).fetch_add(1, Ordering::SeqCst);
+            return Err(AllocError);
+        }
+        let outcome = self.engine.retry(alloc, session)?;
+        self.counts.count(session, &outcome);
+        Ok(outcome)
+    }
+
+    fn retryable(&self) -> Option<Session> {
+        self.engine.retryable()
+    }
+}
+
+/// Session 2 begins behind session 1's update. Session 1 commits once the log has so many events, and session 2 behind
+/// that.
+struct Forcing {
+    before_commit: u32,
+    counts: Arc<Counts, Global>,
+    /// The calls that came in their place: before the line's command is asked, or after it has ended.
+    in_place: AtomicU32,
+}
+
+impl Drop for Forcing {
+    fn drop(self) {
+        let Forcing {
+            before_commit: _,
+            counts: _,
+            in_place: _,
+        } = self;
+    }
+}
+
+impl Forcing {
+    fn new(alloc: Global, before_commit: u32) -> Result<Forcing, NoMemory> {
+        let counts = Counts {
+            events: AtomicU32::new(0),
+            ended: [AtomicU32::new(0), AtomicU32::new(0)],
+        };
+        Ok(Forcing {
+            before_commit,
+            counts: Arc::new(alloc, counts)?,
+            in_place: AtomicU32::new(0),
+        })
+    }
+
+    /// Counts the call where so many commands of the session have ended.
+    fn note(&self, session: Session, ended: usize) {
+        if self.counts.ended_of(session).load(Ordering::SeqCst) as usize == ended {
+            self.in_place.fetch_add(1, Ordering::SeqCst);
+        }
+    }
+}
+
+impl Gate for Forcing {
+    fn before(&self, session: Session, index: usize) {
+        self.note(session, index);
+        let events = match (session.number(), index) {
+            (2, 0) => 2,
+            (1, 2) => self.before_commit,
+            (2, 3) => self.before_commit.saturating_add(1),
+            _ => 0,
+        };
+        for _ in 0..MAX_TURNS {
+            if self.counts.events.load(Ordering::SeqCst) >= events {
+                return;
+            }
+            yield_now();
+        }
+    }
+
+    fn after(&self, session: Session, index: usize) {
+        self.note(session, index.saturating_add(1));
+    }
+}
+
+const SCRIPT: &[u8] = b"setup (1, 10);
+begin; -- T1
+update test set value = value + 1 where id = 1; -- T1
+commit; -- T1
+begin; -- T2
+select * from test where id = 1; -- T2
+update test set value = value + 2 where id = 1; -- T2
+commit; -- T2
+";
+
+/// At each level the events before session 1's commit, and the log. A pending update is in the way of a select and an
+/// update of its row at locking, of an update alone at committed, and of nothing at snapshot, where the second commit
+/// is refused in place of that.
+const ALL_DUE: [(Level, u32, &[u8]); 3] = [
+    (
+        Level::Locking,
+        4,
+        b"T1 begin: begun 1
+T1 update test set value = value + 1 where id = 1: rows (1, 10)
+T2 begin: begun 2
+T2 select * from test where id = 1: waits T1
+T1 commit: committed
+T2 select * from test where id = 1: rows (1, 11)
+T2 update test set value = value + 2 where id = 1: rows (1, 11)
+T2 commit: committed
+",
+    ),
+    (
+        Level::Committed,
+        5,
+        b"T1 begin: begun 1
+T1 update test set value = value + 1 where id = 1: rows (1, 10)
+T2 begin: begun 2
+T2 select * from test where id = 1: rows (1, 10)
+T2 update test set value = value + 2 where id = 1: waits T1
+T1 commit: committed
+T2 update test set value = value + 2 where id = 1: rows (1, 11)
+T2 commit: committed
+",
+    ),
+    (
+        Level::Snapshot,
+        5,
+        b"T1 begin: begun 1
+T1 update test set value = value + 1 where id = 1: rows (1, 10)
+T2 begin: begun 2
+T2 select * from test where id = 1: rows (1, 10)
+T2 update test set value = value + 2 where id = 1: rows (1, 10)
+T1 commit: committed
+T2 commit: refused WriteConflict row 1 by 1
+",
+    ),
+];
+
+/// A free play of the script on an engine that counts.
+fn play_counted<R: Threads + Wait + Sync, E: Engine + Drop + Send>(
+    rt: &R,
+    alloc: Global,
+    engine: E,
+    refuses: bool,
+    script: &Script,
+    gate: &Forcing,
+) -> Result<Recording, PlayFault>
+    requires { E.events engine ≡ [] }
+{
+    let engine = Counted {
+        engine,
+        refuses,
+        counts: Arc::try_clone(&gate.counts)?,
+    };
+    play_free(rt, alloc, engine, script, gate)
+}
+
+/// The same on the engine of a level.
+fn play_at<R: Threads + Wait + Sync>(
+    rt: &R,
+    alloc: Global,
+    level: Level,
+    refuses: bool,
+    gate: &Forcing,
+) -> Option<Result<Recording, PlayFault>> {
+    let script = parse_script(alloc, SCRIPT).ok()?;
+    let setup = script.setup.copy(alloc).ok()?;
+    Some(match level {
+        Level::Locking => {
+            let engine = LockEngine::new(alloc, setup);
+            play_counted(rt, alloc, engine, refuses, &script, gate)
+        }
+        Level::Committed => {
+            let engine = CommittedEngine::new(alloc, setup);
+            play_counted(rt, alloc, engine, refuses, &script, gate)
+        }
+        Level::Snapshot => {
+            let engine = SnapshotEngine::new(alloc, setup);
+            play_counted(rt, alloc, engine, refuses, &script, gate)
+        }
+    })
+}
+
+#[test]
+fn a_forced_play_has_the_log_of_its_level(rt: HostRuntime) -> Result<(), Fail> {
+    let alloc = rt.alloc();
+    for (level, before_commit, due) in ALL_DUE {
+        let gate = Forcing::new(alloc, before_commit)?;
+        let Some(played) = play_at(&rt, alloc, level, false, &gate) else {
+            return Err(Fail::from("a play"));
+        };
+        let recording = played.ok().ok_or("a recording")?;
+        let text = print_log(alloc, &recording).ok().ok_or("a text")?;
+        assert_eq!(rt; text.as_slice(), due);
+        assert_eq!(rt; recording.level(), level);
+        // Twice round each of the seven lines.
+        assert_eq!(rt; gate.in_place.load(Ordering::SeqCst), 14);
+    }
+    Ok(())
+}
+
+/// Session 2's select waits, and its retry has no memory.
+#[test]
+fn a_forced_play_without_memory_ends(rt: HostRuntime) -> Result<(), Fail> {
+    let gate = Forcing::new(rt.alloc(), 4)?;
+    let Some(played) = play_at(&rt, rt.alloc(), Level::Locking, true, &gate) else {
+        return Err(Fail::from("a play"));
+    };
+    assert_eq!(rt; played.err(), Some(PlayFault::NoMemory));
+    // Twice round each line of session 1, and round the first two of session 2.
+    assert_eq!(rt; gate.in_place.load(Ordering::SeqCst), 10);
+    // Five up to the commit; and then session 2 goes on once with its select, and aborts.
+    assert_eq!(rt; gate.counts.events.load(Ordering::SeqCst), 7);
+    Ok(())
+}
