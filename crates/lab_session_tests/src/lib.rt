@@ -29,4 +29,8 @@ mod plain_recording;
 #[cfg(test)]
 mod recordings;
 #[cfg(test)]
+mod refusal;
+#[cfg(test)]
+mod refused;
+#[cfg(test)]
 mod seats;
