@@ -31,6 +31,8 @@ pub mod TxnPlaces
 pub mod InstallerPlaces
 pub mod CountedEntries
 pub mod CountedRows
+mod RowsMet
+mod IdsWithin
 pub mod LimitsKept
 pub mod CheckedTxns
 pub mod KeptParts

@@ -1,5 +1,5 @@
 -- The limits on ids and entries, where the counts are known.
-use Rattle.std.proofs.Common.{◌≡◌, ◌≤◌, ℕ, map, sum, Some, None, Ok, Err, ap, ◌∙◌}
+use Rattle.std.proofs.Common.{◌≡◌, ◌≤◌, ◌<◌, ℕ, map, sum, Some, None, Ok, Err, ap, ◌∙◌}
 use Rattle.std.specs.Prelude.{nat_lt}
 use Rattle.std.proofs.lemmas.Bool.{lt-ltb, le-ltb}
 use Rattle.lab_history.specs.Faults.{◌>>=◌, refused_if}
@@ -25,3 +25,8 @@ entries_within h n ids is = limits_kept h ids (few_entries h.txns n is)
 
 pub entries_over : (h : History) → distinct_rows (named_rows h) ≤ 1000 → txns_counted 0 h.txns ≡ None → within_limits h ≡ Err (fault.OverLimit limit.Entries)
 entries_over h ids is = few_ids h ids ∙ ap (λ b. refused_if b (fault.OverLimit limit.Entries)) (lt-ltb 200000 (sum (map op_entries (operations h.txns))) (many_entries h.txns is))
+
+pub ids_over : (h : History) → 1000 < distinct_rows (named_rows h) → within_limits h ≡ Err (fault.OverLimit limit.Ids)
+ids_over h many =
+    ap (λ b. refused_if b (fault.OverLimit limit.Ids) >>= λ _. refused_if (nat_lt 200000 (sum (map op_entries (operations h.txns)))) (fault.OverLimit limit.Entries))
+    (lt-ltb 1000 (distinct_rows (named_rows h)) many)

@@ -17,6 +17,7 @@ mod checking;
 mod entry;
 mod fault;
 mod history;
+mod ids;
 mod index;
 mod keyed;
 mod laws;
