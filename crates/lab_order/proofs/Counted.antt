@@ -1,9 +1,12 @@
--- Counting in lists that are mapped or in another order.
-use Rattle.std.proofs.Common.{◌≡◌, ℕ, ◌+◌, refl, sym, ap, ◌∙◌, Bool, cond, List, [], ◌∷◌, map}
-use Rattle.std.specs.List.{count_by}
+-- Counting in lists that are mapped or in another order, and the least of one.
+use Rattle.std.proofs.Common.{◌≡◌, ℕ, ◌+◌, ◌≤◌, arith, refl, sym, ap, ◌∙◌, Bool, cond, List, [], ◌∷◌, map}
+use Rattle.std.specs.BinaryHeap.{IsUpperBound}
+use Rattle.std.specs.List.{All, count_by}
+use Rattle.std.specs.Ordering.{nat_cmp}
 use Rattle.std.specs.List.Sorted.{IsPermutation}
 use Rattle.std.proofs.lemmas.List.Sums.{sum_by-cons}
-use Rattle.std.proofs.lemmas.List.Sorted.{sum_by-IsPermutation}
+use Rattle.std.proofs.lemmas.List.Elements.{All-nil, All-cons}
+use Rattle.std.proofs.lemmas.List.Sorted.{sum_by-IsPermutation, le_from_greatest}
 
 module _ {X : Type 0} (f : X → ℕ) (test : ℕ → Bool) where
   -- counting after a map
@@ -25,3 +28,8 @@ module _ {X : Type 0} (f : X → ℕ) (test : ℕ → Bool) where
   count_one_fewer x xs ys h =
       count_map ys ∙ sym (sum_by-IsPermutation (λ y. cond (test (f y)) 1 0) ys (x ∷ xs) h) ∙ sym (count_map (x ∷ xs))
       ∙ sum_by-cons (λ n. cond (test n) 1 0) (f x) (map f xs)
+
+-- what comes first by the reversed order is the least
+pub least_of : {X : Type 0} (f : X → ℕ) (x : X) (ys : List X) → IsUpperBound (λ a b. nat_cmp (f b) (f a)) x ys → All (λ n. f x ≤ n) (map f ys)
+least_of f x [] h = All-nil (λ n. f x ≤ n)
+least_of f x (y ∷ ys) h = All-cons (λ n. f x ≤ n) (f y) (map f ys) (le_from_greatest (f y) (f x ∷ []) (h.0, tt) 0 0 (omega arith)) (least_of f x ys h.1)

@@ -1,7 +1,7 @@
 -- How many nodes of a list are marked, and how often a node stands in one.
 use Rattle.std.proofs.Common.{◌≡◌, ◌⊎◌, inl, inr, ℕ, zero, suc, ◌+◌, ◌-◌, ◌<◌, refl, sym, ap, subst, ◌∙◌, arith, Bool, true, false, cond, not, ◌&&◌, ◌||◌, ◌≤◌, List, [], ◌∷◌, length, get_or, set, replicate}
 use Rattle.std.specs.Prelude.{◌==◌, nat_lt}
-use Rattle.std.specs.List.{count_by, list_any}
+use Rattle.std.specs.List.{All, count_by, list_any}
 use Rattle.std.proofs.lemmas.Bool.{eqb-true, eqb-false, eq-eqb, both_ways, cases_lt, lt-ltb, or_left, or_right}
 use Rattle.std.proofs.lemmas.List.{get_or_past, get_or-replicate, length-replicate}
 use Rattle.std.proofs.lemmas.List.Sums.{sum_by-cons, sum_by-set}
@@ -128,3 +128,15 @@ becomes w v k is = at (w == 0) refl
         let l : one_if (w == 0) ≡ 0 = ap one_if q in
         let m : one_if (nat_lt 0 w && v == 0) ≡ one_if (v == 0) = ap (λ b. one_if (b && v == 0)) (lt-ltb 0 w (some (eqb-false w 0 q))) in
         omega arith
+
+-- what is less than all of a list isn't there
+pub none_below : (node k : ℕ) → k < node → (ns : List ℕ) → All (λ n. node ≤ n) ns → how_often ns k ≡ 0
+none_below node k less [] all = refl
+none_below node k less (n ∷ ns) all = counted (λ m. m == k) n ns ∙ at (none_below node k less ns (λ i d lt. all (suc i) d (omega arith))) (n == k) refl
+  where
+    at : how_often ns k ≡ 0 → (b : Bool) → (n == k) ≡ b → one_if b + how_often ns k ≡ 0
+    at rest true q =
+        let same : n ≡ k = eqb-true n k q in
+        let le : node ≤ n = all 0 n (omega arith) in
+        absurd (omega arith)
+    at rest false q = omega arith

@@ -8,7 +8,7 @@ use Rattle.lab_order.specs.Arrows.{Arrows, nodes_of, before}
 use Rattle.lab_order.specs.Placing.{is_marked, IsFree}
 use Rattle.lab_order.specs.Counts.{how_often, after, IsTransposed, waits_of}
 use Rattle.lab_order.proofs.Writes.{set_read}
-use Rattle.lab_order.proofs.MarkedCounts.{one_if, none_counted, all_marked, stands_counted, waits_less, all_counted, not_again, becomes}
+use Rattle.lab_order.proofs.MarkedCounts.{one_if, none_below, none_counted, all_marked, stands_counted, waits_less, all_counted, not_again, becomes}
 
 -- how many predecessors of a node aren't placed
 abbrev pub unplaced_before : Arrows → List Bool → ℕ → ℕ
@@ -37,13 +37,9 @@ counted_first graph placed waits free size bare counts frees = record {
 }
 
 module _ (graph : Arrows) (placed : List Bool) (waits free : List ℕ) (h : IsCounted graph placed waits free) where
-  -- where no node is due, none is free
-  pub none_free : free ≡ [] → (node : ℕ) → IsFree graph placed node → ⊥
-  none_free empty node is =
-      let a : how_often free node ≡ 0 = ap (λ ns. how_often ns node) empty in
-      let b : how_often free node ≡ one_if (is_due placed waits node) = h.listed node in
-      let c : one_if (is_due placed waits node) ≡ 1 = ap one_if due in
-      absurd (omega arith)
+  -- a free node is listed once
+  listed_free : (node : ℕ) → IsFree graph placed node → how_often free node ≡ 1
+  listed_free node is = h.listed node ∙ ap one_if due
     where
       none : waits_of waits node ≡ 0
       none = h.counts node ∙ none_counted placed (before graph node) is.ready
@@ -54,6 +50,20 @@ module _ (graph : Arrows) (placed : List Bool) (waits free : List ℕ) (h : IsCo
           let size : length waits ≡ nodes_of graph = h.size in
           ap (λ b. not b && (nat_lt node (length waits) && waits_of waits node == 0)) is.unplaced
           ∙ ap (λ b. b && waits_of waits node == 0) (lt-ltb node (length waits) (omega arith)) ∙ eq-eqb _ 0 none
+
+  -- where none is listed, none is free
+  pub none_free : free ≡ [] → (node : ℕ) → IsFree graph placed node → ⊥
+  none_free empty node is =
+      let a : how_often free node ≡ 0 = ap (λ ns. how_often ns node) empty in
+      let b : how_often free node ≡ 1 = listed_free node is in
+      absurd (omega arith)
+
+  -- and what is less than all that are listed isn't free
+  pub none_less : (node : ℕ) → All (λ n. node ≤ n) free → (k : ℕ) → k < node → IsFree graph placed k → ⊥
+  none_less node least k less is =
+      let a : how_often free k ≡ 0 = none_below node k less free least in
+      let b : how_often free k ≡ 1 = listed_free k is in
+      absurd (omega arith)
 
   module _ (node : ℕ) (rest : List ℕ) (popped : (test : ℕ → Bool) → count_by test free ≡ one_if (test node) + count_by test rest) where
     one_more : (n : ℕ) → how_often free n ≡ one_if (node == n) + how_often rest n

@@ -1,0 +1,29 @@
+//! The laws of the answers: of each kind there is one.
+
+ghost use Rattle.std.specs.Prelude.{◌≡◌, ℕ, List};
+ghost use Rattle.lab_order.specs.Arrows.{Arrows};
+ghost use Rattle.lab_order.specs.Back.{IsBackCircle};
+ghost use Rattle.lab_order.specs.Least.{NotAfter, IsLeast};
+ghost use Rattle.lab_order.specs.Order.{IsAnswered, AreSame};
+ghost use Rattle.lab_order.specs.Path.{IsShortestPath};
+ghost use Rattle.lab_order.specs.declared.ordering.Ordered.{Ordered};
+
+/// Two lists of which neither comes after the other are one. So of lists of one kind there is one least.
+pub fn least_unique()
+    ensures { (ns ms : List ℕ) → NotAfter ns ms → NotAfter ms ns → ns ≡ ms }
+{}
+
+/// From one node to another there is one least shortest path.
+pub fn least_path_unique()
+    ensures { (graph : Arrows) (from to : ℕ) (ns ms : List ℕ) → IsLeast (IsShortestPath graph from to) ns → IsLeast (IsShortestPath graph from to) ms → ns ≡ ms }
+{}
+
+/// A graph has one circle at most on the way back from its least stuck node.
+pub fn back_circle_unique()
+    ensures { (graph : Arrows) (ns ms : List ℕ) → IsBackCircle graph ns → IsBackCircle graph ms → ns ≡ ms }
+{}
+
+/// A graph has one answer: never an order and a circle, and no two orders or circles.
+pub fn answered_unique()
+    ensures { (graph : Arrows) (a b : Ordered) → IsAnswered graph a → IsAnswered graph b → AreSame a b }
+{}
