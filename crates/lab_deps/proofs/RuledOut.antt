@@ -33,7 +33,7 @@ no_match (Insert id new) row off (Some value) = off
 no_match (Delete pred) row off (Some value) = no_where pred row off value
 
 -- nor is it listed
-not_listed : (s : Statement) (row : Row) (value : ℤ) → may_match s row ≡ false → listed s row (Some value) ≡ None
+pub not_listed : (s : Statement) (row : Row) (value : ℤ) → may_match s row ≡ false → listed s row (Some value) ≡ None
 not_listed (Select pred) row value off = ap (λ b. cond b (Some value) None) (no_where pred row off value)
 not_listed (Update expr pred) row value off = ap (λ b. cond b (Some value) None) (no_where pred row off value)
 not_listed (Insert id new) row value off = refl

@@ -19,6 +19,11 @@ abbrev pub is_version : ℕ → ℕ → VersionName → Bool
 is_version n j Initial = false
 is_version n j (Of m l) = (m == n) && (l == j)
 
+-- whether a version is of this transaction
+abbrev pub is_of : ℕ → VersionName → Bool
+is_of n Initial = false
+is_of n (Of m j) = m == n
+
 -- whether a version is of this transaction, and the other isn't the same
 abbrev pub own_changes : ℕ → VersionName → VersionName → Bool
 own_changes n Initial v = false

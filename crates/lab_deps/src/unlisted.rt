@@ -9,9 +9,10 @@ ghost use Rattle.lab_deps.specs.Broken as test;
 ghost use Rattle.lab_deps.specs.Passes as pass;
 
 use crate::broken::is_unlisted;
+use crate::near::entry_within;
 use crate::row::least;
 use lab_history::{History, Op};
-use lab_table::{RowId, Value, entry_numbered};
+use lab_table::{RowId, Value};
 
 /// The first row of the initial table that an operation's view lacks, and that matches without being listed so.
 pub fn unlisted_row(history: &History, op: &Op) -> Option<RowId>
@@ -43,7 +44,7 @@ fn first_unlisted(history: &History, op: &Op) -> Option<RowId>
 fn unlisted_at(history: &History, op: &Op, id: u32) -> Option<RowId>
     ensures { result ≡ option_and_then (λ value. cond (test.is_unlisted op.now id value) (Some id) None) (map.get history.now.initial id) }
 {
-    match entry_numbered(history.initial().rows(), id) {
+    match entry_within(history.initial().rows(), id) {
         None => None,
         Some(entry) => {
             if is_unlisted(op, entry.0, entry.1) {

@@ -1,7 +1,7 @@
 use Rattle.std.proofs.Common.{◌≡◌, nat_eq, sym, ap, ◌∙◌, subst}
 use Rattle.std.specs.Prelude.{None, Some, OnOk}
 use Rattle.std.specs.Map.{lookup}
-use Rattle.lab_deps.specs.EdgesByRow.{rows_of, found_at_row}
+use Rattle.lab_deps.specs.EdgesByRow.{rows_of}
 use Rattle.lab_deps.specs.Sinks.{Grows}
 use Rattle.lab_deps.proofs.OpsOfOneRow.{found_there, found_nowhere}
 use Rattle.lab_deps.proofs.Sinking.{grows_none}

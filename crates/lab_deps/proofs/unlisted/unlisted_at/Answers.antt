@@ -4,8 +4,8 @@ use Rattle.lab_table.specs.Row.{row_cmp}
 use Rattle.lab_deps.proofs.NamedIds.{at_entry}
 use Rattle.lab_deps.proofs.unlisted.unlisted_at.Goals as goal
 
-pub entry_numbered-requires : goal.entry_numbered-requires
-entry_numbered-requires c = subst (λ es. T (is_sorted row_cmp es)) (sym (c.rows.ensures ∙ ap entries c.initial.ensures)) (entries_sorted c.args.history.now.initial)
+pub entry_within-requires : goal.entry_within-requires
+entry_within-requires c = subst (λ es. T (is_sorted row_cmp es)) (sym (c.rows.ensures ∙ ap entries c.initial.ensures)) (entries_sorted c.args.history.now.initial)
 
 pub returns-in-None : goal.returns-in-None
 returns-in-None c = at_entry c.args.op.now c.args.history.now.initial c.args.id c.rows.result.now (c.rows.ensures ∙ ap entries c.initial.ensures) None c.in-None.ensures

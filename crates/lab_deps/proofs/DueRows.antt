@@ -1,0 +1,103 @@
+-- Where an operation lists of each row what is due.
+use Rattle.std.proofs.Common.{◌≡◌, ℕ, ℤ, ◌==◌, Bool, true, false, not, ◌&&◌, cond, Option, Some, None, List, [], ◌∷◌, length, refl, sym, ap, ◌∙◌, subst, arith}
+use Rattle.std.specs.Prelude.{is_some, is_none}
+use Rattle.std.specs.FinMap.{get, find, entries, get-entries}
+use Rattle.std.proofs.lemmas.Bool.{false≢true, or_parts, eqb-true}
+use Rattle.lab_table.specs.Row.{Row, row_cmp}
+use Rattle.lab_table.specs.Table.{State}
+use Rattle.lab_table.specs.Statement.{listed, may_match, matches}
+use Rattle.lab_table.specs.declared.statement.Statement.{Statement}
+use Rattle.lab_table.specs.declared.statement.Statement.TheVariants.{Select, Update, Insert, Delete}
+use Rattle.lab_table.proofs.Statements.{absent_unlisted}
+use Rattle.lab_history.specs.History.{History}
+use Rattle.lab_table.specs.Predicate.{Predicate}
+use Rattle.lab_history.specs.Version.{viewed, viewed_state, new_state}
+use Rattle.lab_history.specs.VersionName.{new_states}
+use Rattle.lab_history.specs.declared.operation.State.{State as Stored}
+use Rattle.lab_history.specs.declared.operation.VersionName.{VersionName}
+use Rattle.lab_history.specs.declared.operation.Op.{Op}
+use Rattle.lab_deps.specs.Broken.{is_broken, breaks_at, same_state, state_of, write_differs, is_extra, is_unlisted}
+use Rattle.lab_deps.specs.EdgesByRow.{looks_at}
+use Rattle.lab_deps.specs.Passes.{least, first_value, seen_row}
+use Rattle.lab_deps.specs.declared.kind.OpFault.TheVariants as kind
+use Rattle.lab_deps.proofs.BrokenRows.{none_breaks}
+use Rattle.lab_deps.proofs.RuledOut.{not_listed}
+
+-- where none of three rows is found, none breaks
+pub rows_due : (h : History) (op : Op) → ((n k : ℕ) → seen_row kind.RowsDiffer h n k op ≡ None) → first_value (is_extra h op) (entries op.rows) ≡ None
+    → first_value (is_unlisted op) (entries h.initial) ≡ None → (n k : ℕ) (row : Row) → is_broken kind.RowsDiffer h n k op row ≡ false
+rows_due h op seen extra unlisted n k row =
+    none_breaks h n k op kind.RowsDiffer row
+    (ap (λ o. least o (least (first_value (is_extra h op) (entries op.rows)) (first_value (is_unlisted op) (entries h.initial)))) (seen n k)
+    ∙ ap (λ o. least o (first_value (is_unlisted op) (entries h.initial))) extra ∙ unlisted)
+
+never_listed : (s : Statement) (row : Row) → may_match s row ≡ false → (state : State) → listed s row state ≡ None
+never_listed s row off None = absent_unlisted s row
+never_listed s row off (Some value) = not_listed s row value off
+
+pub nothing_there : {A : Type 0} (o : Option A) → is_some o ≡ false → o ≡ None
+nothing_there None e = refl
+nothing_there (Some v) e = absurd (false≢true (sym e))
+
+-- where an operation has to look at one row alone, and lists of it what is due
+pub only_due : (h : History) (op : Op) (only : Row) → ((other : Row) → looks_at op other ≡ true → other ≡ only) → ((n k : ℕ) → is_broken kind.RowsDiffer h n k op only ≡ false)
+    → (n k : ℕ) (row : Row) → is_broken kind.RowsDiffer h n k op row ≡ false
+only_due h op only others at n k row =
+    elim (looks_at op row) as (λ b. looks_at op row ≡ b → is_broken kind.RowsDiffer h n k op row ≡ false) [
+      | true ↦ λ e. subst (λ r. is_broken kind.RowsDiffer h n k op r ≡ false) (sym (others row e)) (at n k)
+      | false ↦ λ e.
+          let parts = or_parts (may_match op.statement row) (is_some (get op.rows row)) e in
+          ap (λ o. not (same_state o (listed op.statement row (viewed_state h op row)))) (nothing_there (get op.rows row) parts.1)
+          ∙ ap (λ o. not (same_state None o)) (never_listed op.statement row parts.0 (viewed_state h op row))
+    ] refl
+
+-- a row that a statement doesn't match isn't unlisted
+pub unmatched_listed : (op : Op) (row : Row) (value : State) → matches op.statement row value ≡ false → listed op.statement row value ≡ None
+unmatched_listed op row None e = absent_unlisted op.statement row
+unmatched_listed op row (Some v) e = of_statement op.statement e
+  where
+    of_statement : (s : Statement) → matches s row (Some v) ≡ false → listed s row (Some v) ≡ None
+    of_statement (Select pred) e = ap (λ b. cond b (Some v) None) e
+    of_statement (Update expr pred) e = ap (λ b. cond b (Some v) None) e
+    of_statement (Insert id new) e = refl
+    of_statement (Delete pred) e = ap (λ b. cond b (Some v) None) e
+
+-- a row that is seen and listed as is due
+pub seen_due : (h : History) (op : Op) (n k : ℕ) (row : Row) (v : VersionName) (found due state : State) → found ≡ get op.rows row → due ≡ listed op.statement row state
+    → state ≡ state_of h row v → same_state found due ≡ true → breaks_at kind.RowsDiffer h n k op row v ≡ false
+seen_due h op n k row v found due state there is of same =
+    ap (λ o. not (same_state o (listed op.statement row (state_of h row v)))) (sym there)
+    ∙ (ap (λ d. not (same_state found d)) (sym (is ∙ ap (listed op.statement row) of)) ∙ ap not same)
+
+is_seen : (o : Option VersionName) → is_some o ≡ true → is_none o ≡ false
+is_seen None t = absurd (false≢true t)
+is_seen (Some v) t = refl
+
+none_and : (b : Bool) → (b && false) ≡ false
+none_and true = refl
+none_and false = refl
+
+-- a row that is seen isn't listed beyond what is seen, nor left out of it
+pub seen_not_extra : (h : History) (op : Op) (row : Row) (value : ℤ) (o : Option VersionName) → o ≡ get op.view row → is_some o ≡ true → is_extra h op row value ≡ false
+seen_not_extra h op row value o e t = ap (λ b. b && not (same_state (Some value) (listed op.statement row (get h.initial row)))) (ap is_none (sym e) ∙ is_seen o t)
+
+pub seen_not_unlisted : (op : Op) (row : Row) (value : ℤ) (o : Option VersionName) → o ≡ get op.view row → is_some o ≡ true → is_unlisted op row value ≡ false
+seen_not_unlisted op row value o e t =
+    ap (λ b. is_some (listed op.statement row (Some value)) && (b && not (same_state (get op.rows row) (listed op.statement row (Some value))))) (ap is_none (sym e) ∙ is_seen o t)
+    ∙ none_and (is_some (listed op.statement row (Some value)))
+
+-- nor is one that doesn't match
+pub unmatched_not_unlisted : (op : Op) (row : Row) (value : ℤ) → matches op.statement row (Some value) ≡ false → is_unlisted op row value ≡ false
+unmatched_not_unlisted op row value e =
+    ap (λ o. is_some o && (is_none (get op.view row) && not (same_state (get op.rows row) o))) (unmatched_listed op row (Some value) e)
+
+-- a select that writes nothing writes what is due
+pub select_due : (h : History) (op : Op) (pred : Option Predicate) (es : List (Row × Stored)) → op.statement ≡ Select pred → (length es == 0) ≡ true → new_states es ≡ entries op.writes → (row : Row)
+    → write_differs op.statement row (get op.rows row) (state_of h row (viewed op row)) (new_state op row) ≡ false
+select_due h op pred es is empty same row =
+    ap (λ s. write_differs s row (get op.rows row) (state_of h row (viewed op row)) (new_state op row)) is
+    ∙ ap is_some (get-entries op.writes row ∙ ap (find row_cmp row) (sym same ∙ none_written es empty))
+  where
+    none_written : (es : List (Row × Stored)) → (length es == 0) ≡ true → new_states es ≡ []
+    none_written [] t = refl
+    none_written (e ∷ es) t = let zero : length (e ∷ es) ≡ 0 = eqb-true (length (e ∷ es)) 0 t in absurd (omega arith)

@@ -1,0 +1,115 @@
+-- What is excluded where each version that an operation sees is one that it may see.
+use Rattle.std.proofs.Common.{◌≡◌, ℕ, ◌+◌, ◌==◌, Bool, true, false, not, ◌&&◌, ◌||◌, cond, Option, Some, None, refl, ap, ◌∙◌, arith}
+use Rattle.std.specs.Prelude.{nat_le, nat_lt, is_none, is_some, option_and_then, unwrap_or}
+use Rattle.std.specs.FinMap.{get, entries}
+use Rattle.std.proofs.lemmas.Bool.{false≢true, eqb-true, eq-eqb, and_parts, and_from, not-false}
+use Rattle.lab_table.specs.Row.{Row}
+use Rattle.lab_history.specs.History.{History}
+use Rattle.lab_history.specs.Version.{IsCommitted, ops_of, outcome_of, viewed, new_state, version_state, last_write, installers, place_in}
+use Rattle.lab_history.specs.declared.operation.Op.{Op}
+use Rattle.lab_history.specs.declared.operation.VersionName.{VersionName}
+use Rattle.lab_history.specs.declared.operation.VersionName.TheVariants.{Initial, Of}
+use Rattle.lab_history.proofs.Greatest.{last_is_greatest}
+use Rattle.lab_deps.specs.Soundness.{has_committed}
+use Rattle.lab_deps.specs.Broken.{is_dangling, has_aborted, is_aborted, is_other, is_intermediate, precedes, is_later, is_broken}
+use Rattle.lab_deps.specs.Passes.{is_at, first_value}
+use Rattle.lab_deps.specs.Fine.{is_last, is_own, is_clear, is_fine, is_unfine, IsCleanOp}
+use Rattle.lab_deps.specs.declared.kind.OpFault.TheVariants as kind
+use Rattle.lab_deps.proofs.Rows.{no_value_in_map}
+use Rattle.lab_deps.proofs.Found.{committed}
+
+-- no fault of what is seen stands
+abbrev IsRead : History → ℕ → ℕ → Row → VersionName → Type 0
+IsRead h n k row v = (is_dangling h n k row v ≡ false) × (is_aborted h v ≡ false) × (is_intermediate h n row v ≡ false) × (is_later h n row v ≡ false)
+
+is_there : {A : Type 0} (o : Option A) → is_some o ≡ true → is_none o ≡ false
+is_there None t = absurd (false≢true t)
+is_there (Some x) t = refl
+
+after : (j k : ℕ) → nat_lt j k ≡ true → nat_le k j ≡ false
+after j k t = grind arith
+
+and_false : (b : Bool) → (b && false) ≡ false
+and_false true = refl
+and_false false = refl
+
+at_is : (o : Option ℕ) (j : ℕ) → is_at o j ≡ true → o ≡ Some j
+at_is None j t = absurd (false≢true t)
+at_is (Some q) j t = ap Some (eqb-true q j t)
+
+not_true : (b : Bool) → not b ≡ true → b ≡ false
+not_true true t = absurd (false≢true t)
+not_true false t = refl
+
+module _ (h : History) (n k : ℕ) (row : Row) where
+  -- where a transaction's last write of a row has this number, there is such a version
+  last_there : (m j : ℕ) → last_write (ops_of h m) row ≡ Some j → is_some (version_state h row (Of m j)) ≡ true
+  last_there m j e =
+      let w = (last_is_greatest (ops_of h m) row j e).0 in
+      ap (λ o. is_some (option_and_then (λ op. new_state op row) o)) w.1 ∙ w.2
+
+  own_read : (m j : ℕ) → IsCommitted h n → (m == n) ≡ true → is_own h m j k row ≡ true → IsRead h n k row (Of m j)
+  own_read m j c e own =
+      let parts = and_parts (nat_lt j k) (is_some (version_state h row (Of m j))) own in
+      let none : is_none (version_state h row (Of m j)) ≡ false = is_there (version_state h row (Of m j)) parts.1 in (
+        ap (λ b. b || ((m == n) && nat_le k j)) none ∙ ap (λ b. (m == n) && b) (after j k parts.0) ∙ and_false (m == n),
+        ap has_aborted (ap (outcome_of h) (eqb-true m n e) ∙ c),
+        ap (λ b. not b && is_other (last_write (ops_of h m) row) j) e,
+        ap (λ b. not b && (has_committed (outcome_of h m) && precedes (place_in (installers h row) n) (place_in (installers h row) m))) e,
+      )
+
+  other_read : (m j : ℕ) → (m == n) ≡ false → (is_last h m j row && is_clear h n m row) ≡ true → IsRead h n k row (Of m j)
+  other_read m j e t =
+      let parts = and_parts (is_last h m j row) (is_clear h n m row) t in
+      let last = and_parts (has_committed (outcome_of h m)) (is_at (last_write (ops_of h m) row) j) parts.0 in
+      let number : last_write (ops_of h m) row ≡ Some j = at_is (last_write (ops_of h m) row) j last.1 in
+      let none : is_none (version_state h row (Of m j)) ≡ false = is_there (version_state h row (Of m j)) (last_there m j number) in (
+        ap (λ b. b || ((m == n) && nat_le k j)) none ∙ ap (λ b. b && nat_le k j) e,
+        ap has_aborted (committed (outcome_of h m) last.0),
+        ap (λ b. not b && is_other (last_write (ops_of h m) row) j) e ∙ ap (λ o. is_other o j) number ∙ ap not (eq-eqb j j refl),
+        ap (λ b. not (m == n) && (has_committed (outcome_of h m) && b)) (not_true (precedes (place_in (installers h row) n) (place_in (installers h row) m)) parts.1)
+            ∙ ap (λ b. not (m == n) && b) (and_false (has_committed (outcome_of h m))) ∙ and_false (not (m == n)),
+      )
+
+  fine_read : (v : VersionName) → IsCommitted h n → is_fine h n k row v ≡ true → IsRead h n k row v
+  fine_read Initial c t = (refl, refl, refl, refl)
+  fine_read (Of m j) c t =
+      elim (m == n) as (λ b. (m == n) ≡ b → cond b (is_own h m j k row) (is_last h m j row && is_clear h n m row) ≡ true → IsRead h n k row (Of m j)) [
+        | true ↦ λ e s. own_read m j c e s
+        | false ↦ λ e s. other_read m j e s
+      ] refl t
+
+  -- what may be seen may be seen by the next operation too
+  pub fine_next : (v : VersionName) → is_fine h n k row v ≡ true → is_fine h n (k + 1) row v ≡ true
+  fine_next Initial t = refl
+  fine_next (Of m j) t =
+      elim (m == n) as (λ b. cond b (is_own h m j k row) (is_last h m j row && is_clear h n m row) ≡ true → cond b (is_own h m j (k + 1) row) (is_last h m j row && is_clear h n m row) ≡ true) [
+        | true ↦ λ s.
+            let parts = and_parts (nat_lt j k) (is_some (version_state h row (Of m j))) s in
+            and_from (nat_lt j (k + 1)) (is_some (version_state h row (Of m j))) (later j k parts.0) parts.1
+        | false ↦ λ s. s
+      ] t
+    where
+      later : (j k : ℕ) → nat_lt j k ≡ true → nat_lt j (k + 1) ≡ true
+      later j k t = grind arith
+
+module _ (h : History) (n k : ℕ) (op : Op) (c : IsCommitted h n) (none : first_value (is_unfine h n k) (entries op.view) ≡ None) where
+  -- each version of the view may be seen
+  pub view_fine : (row : Row) (v : VersionName) → get op.view row ≡ Some v → is_fine h n k row v ≡ true
+  view_fine row v e = not-false (is_fine h n k row v) (no_value_in_map (is_unfine h n k) op.view row v none e)
+
+  seen_fine : (row : Row) (o : Option VersionName) → get op.view row ≡ o → is_fine h n k row (unwrap_or o Initial) ≡ true
+  seen_fine row None e = refl
+  seen_fine row (Some v) e = view_fine row v e
+
+  read : (row : Row) → IsRead h n k row (viewed op row)
+  read row = fine_read h n k row (viewed op row) c (seen_fine row (get op.view row) refl)
+
+  -- so no fault stands where also what is listed and written is due
+  pub clean_op : ((row : Row) → is_broken kind.RowsDiffer h n k op row ≡ false) → ((row : Row) → is_broken kind.WritesDiffer h n k op row ≡ false) → IsCleanOp h n k op
+  clean_op rows writes kind.Dangling row = (read row).0
+  clean_op rows writes kind.AbortedRead row = (read row).1
+  clean_op rows writes kind.IntermediateRead row = (read row).2
+  clean_op rows writes kind.LaterThanOwn row = (read row).3
+  clean_op rows writes kind.RowsDiffer row = rows row
+  clean_op rows writes kind.WritesDiffer row = writes row

@@ -1,0 +1,27 @@
+use Rattle.std.proofs.Common.{◌≡◌, T, ◌∙◌, false, not, sym, ap, subst}
+use Rattle.std.specs.FinMap.{find, entries_sorted, is_sorted, get-entries}
+use Rattle.lab_table.specs.Row.{row_cmp}
+use Rattle.lab_deps.specs.Broken.{is_unlisted}
+use Rattle.lab_deps.proofs.NearValues.{passed}
+use Rattle.lab_deps.proofs.DueRows.{seen_not_unlisted, unmatched_not_unlisted}
+use Rattle.lab_deps.proofs.due.lists_initial.Goals as goal
+use Rattle.lab_deps.proofs.due.lists_initial.Goals.{then-matches+else-is_none, else-is_none-via-then-is_none+else-is_unlisted, else-is_none-via-else-is_none, else-matches}
+
+pub value_near-found-requires : goal.value_near-found-requires
+value_near-found-requires c = subst (λ es. T (is_sorted row_cmp es)) (sym c.entries.ensures) (entries_sorted c.args.op.now.view)
+
+pub loop-entry-preserved : goal.loop-entry-preserved
+loop-entry-preserved c =
+    let op = c.args.op.now in
+    let e = c.entry-item.result in
+    let fails : is_unlisted op e.0 e.1 ≡ false =
+    elim c.if-matches.branch [
+      | then-matches+else-is_none w ↦
+          elim w.else-is_none.branch [
+            | else-is_none-via-then-is_none+else-is_unlisted v ↦ sym v.is_unlisted.ensures ∙ v.if-is_unlisted.false
+            | else-is_none-via-else-is_none v ↦
+                seen_not_unlisted op e.0 e.1 _ (w.value_near-found.ensures ∙ ap (find row_cmp e.0) w.entries.ensures ∙ sym (get-entries op.view e.0)) (w.is_none.ensures ∙ ap not v.if-is_none.false)
+          ]
+      | else-matches w ↦ unmatched_not_unlisted op e.0 e.1 (sym c.matches.ensures ∙ w.if-matches.false)
+    ] in
+    passed (is_unlisted op) c.rows-entries.result.now c.loop-entry.entry-index e _ c.loop-entry-test.true c.entry-item.is fails c.loop-entry.invariant

@@ -1,0 +1,56 @@
+//! Values of rows that are looked for first where they are likely to stand.
+
+ghost use Rattle.std.specs.Prelude.{◌≡◌, T, option_map};
+ghost use Rattle.std.specs.Option.{option_copied};
+ghost use Rattle.std.specs.List.{prefix_len};
+ghost use Rattle.std.specs.FinMap as map;
+ghost use Rattle.lab_table.specs.Row.{row_cmp};
+ghost use Rattle.lab_table.specs.Running.{comes_after};
+
+use lab_table::{RowId, entry_numbered, place_of};
+
+/// The value of a row in a list whose rows rise strictly, looked for at a place first; and a place at which the row
+/// stands, or would.
+pub fn value_near<V: Copy>(entries: &[(RowId, V)], near: usize, row: RowId) -> (Option<V>, usize)
+    requires { T (map.is_sorted row_cmp entries.now) }
+    ensures { result.0 ≡ map.find row_cmp row entries.now }
+{
+    let place = place_near(entries, near, row);
+    (value_at(entries, place, row), place)
+}
+
+/// How many entries stand before a row, which is looked for at a place first.
+fn place_near<V>(entries: &[(RowId, V)], near: usize, row: RowId) -> usize
+    requires { T (map.is_sorted row_cmp entries.now) }
+    ensures { result ≡ prefix_len (comes_after row) entries.now }
+{
+    if let Some(entry) = entries.get(near) {
+        if row == entry.0 {
+            return near;
+        }
+    }
+    place_of(entries, row)
+}
+
+/// The entry of the row of this number in a list whose rows rise strictly; one beyond the last isn't looked for.
+pub fn entry_within<V>(entries: &[(RowId, V)], number: u32) -> Option<&(RowId, V)>
+    requires { T (map.is_sorted row_cmp entries.now) }
+    ensures { option_copied result ≡ option_map (λ value. (number, value)) (map.find row_cmp number entries.now) }
+{
+    if let Some(last) = entries.last() {
+        if last.0.number() < number {
+            return None;
+        }
+    }
+    entry_numbered(entries, number)
+}
+
+/// The value of a row, where this is its place.
+fn value_at<V: Copy>(entries: &[(RowId, V)], place: usize, row: RowId) -> Option<V>
+    requires sorted { T (map.is_sorted row_cmp entries.now) }
+    requires place { place ≡ prefix_len (comes_after row) entries.now }
+    ensures { result ≡ map.find row_cmp row entries.now }
+{
+    let entry = entries.get(place)?;
+    if row == entry.0 { Some(entry.1) } else { None }
+}
