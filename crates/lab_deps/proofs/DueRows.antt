@@ -1,6 +1,6 @@
 -- Where an operation lists of each row what is due.
 use Rattle.std.proofs.Common.{◌≡◌, ℕ, ℤ, ◌==◌, Bool, true, false, not, ◌&&◌, cond, Option, Some, None, List, [], ◌∷◌, length, refl, sym, ap, ◌∙◌, subst, arith}
-use Rattle.std.specs.Prelude.{is_some, is_none}
+use Rattle.std.specs.Prelude.{is_some, is_none, option_map}
 use Rattle.std.specs.FinMap.{get, find, entries, get-entries}
 use Rattle.std.proofs.lemmas.Bool.{false≢true, or_parts, eqb-true}
 use Rattle.lab_table.specs.Row.{Row, row_cmp}
@@ -12,15 +12,18 @@ use Rattle.lab_table.proofs.Statements.{absent_unlisted}
 use Rattle.lab_history.specs.History.{History}
 use Rattle.lab_table.specs.Predicate.{Predicate}
 use Rattle.lab_history.specs.Version.{viewed, viewed_state, new_state}
-use Rattle.lab_history.specs.VersionName.{new_states}
+use Rattle.lab_history.specs.VersionName.{new_states, state_value}
 use Rattle.lab_history.specs.declared.operation.State.{State as Stored}
 use Rattle.lab_history.specs.declared.operation.VersionName.{VersionName}
 use Rattle.lab_history.specs.declared.operation.Op.{Op}
 use Rattle.lab_deps.specs.Broken.{is_broken, breaks_at, same_state, state_of, write_differs, is_extra, is_unlisted}
 use Rattle.lab_deps.specs.EdgesByRow.{looks_at}
-use Rattle.lab_deps.specs.Passes.{least, first_value, seen_row}
+use Rattle.lab_deps.specs.Passes.{least, first_entry, first_value, seen_row, own_row}
 use Rattle.lab_deps.specs.declared.kind.OpFault.TheVariants as kind
 use Rattle.lab_deps.proofs.BrokenRows.{none_breaks}
+use Rattle.lab_history.proofs.NewStates.{find_states}
+use Rattle.lab_table.proofs.Tests.{some_of}
+use Rattle.lab_deps.proofs.Rows.{none_in_map}
 use Rattle.lab_deps.proofs.RuledOut.{not_listed}
 
 -- where none of three rows is found, none breaks
@@ -101,3 +104,29 @@ select_due h op pred es is empty same row =
     none_written : (es : List (Row × Stored)) → (length es == 0) ≡ true → new_states es ≡ []
     none_written [] t = refl
     none_written (e ∷ es) t = let zero : length (e ∷ es) ≡ 0 = eqb-true (length (e ∷ es)) 0 t in absurd (omega arith)
+
+-- what an update or a delete writes to a row that it lists, found in how states are stored
+pub due_write : (h : History) (op : Op) (n k : ℕ) (row : Row) (value : ℤ) (found : Option Stored) (es : List (Row × Stored)) → get op.rows row ≡ Some value → found ≡ find row_cmp row es
+    → new_states es ≡ entries op.writes → ((r : Row) (state : State) → write_differs op.statement r (Some value) state (option_map state_value found) ≡ false)
+    → is_broken kind.WritesDiffer h n k op row ≡ false
+due_write h op n k row value found es listing there same due =
+    let seen = state_of h row (viewed op row) in
+    let written : new_state op row ≡ option_map state_value found =
+    get-entries op.writes row ∙ (ap (find row_cmp row) (sym same) ∙ (sym (find_states row es) ∙ ap (option_map state_value) (sym there))) in
+    ap (λ o. write_differs op.statement row o seen (new_state op row)) listing ∙ (ap (λ o. write_differs op.statement row (Some value) seen o) written ∙ due row seen)
+
+-- a row that is listed, where none that is listed breaks
+pub listed_due : (h : History) (op : Op) (n k : ℕ) (row : Row) (found : State) → first_entry (is_broken kind.WritesDiffer h n k op) (entries op.rows) ≡ None → found ≡ get op.rows row → is_some found ≡ true
+    → is_broken kind.WritesDiffer h n k op row ≡ false
+listed_due h op n k row found none there t =
+    let w = some_of found t in
+    none_in_map (is_broken kind.WritesDiffer h n k op) op.rows row w.0 none (sym there ∙ w.1)
+
+-- where none breaks of the rows that are listed, that are written, and that a statement adds, none does
+pub changed_due : (h : History) (n k : ℕ) (op : Op) → first_entry (is_broken kind.WritesDiffer h n k op) (entries op.rows) ≡ None
+    → first_entry (is_broken kind.WritesDiffer h n k op) (entries op.writes) ≡ None → own_row (is_broken kind.WritesDiffer h n k op) op.statement ≡ None
+    → (row : Row) → is_broken kind.WritesDiffer h n k op row ≡ false
+changed_due h n k op rows writes own row =
+    let test = is_broken kind.WritesDiffer h n k op in
+    none_breaks h n k op kind.WritesDiffer row
+    (ap (λ o. least o (least (first_entry test (entries op.writes)) (own_row test op.statement))) rows ∙ (ap (λ o. least o (own_row test op.statement)) writes ∙ own))

@@ -37,7 +37,7 @@ at_is : (o : Option ℕ) (j : ℕ) → is_at o j ≡ true → o ≡ Some j
 at_is None j t = absurd (false≢true t)
 at_is (Some q) j t = ap Some (eqb-true q j t)
 
-not_true : (b : Bool) → not b ≡ true → b ≡ false
+pub not_true : (b : Bool) → not b ≡ true → b ≡ false
 not_true true t = absurd (false≢true t)
 not_true false t = refl
 

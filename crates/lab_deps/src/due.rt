@@ -1,21 +1,23 @@
 //! Whether an operation lists and writes what is due.
 
-ghost use Rattle.std.specs.Prelude.{◌≡◌, ℕ, true, false, None};
+ghost use Rattle.std.specs.Prelude.{◌≡◌, ℕ, true, false, Some, None, option_map};
 ghost use Rattle.lab_table.specs.Row.{Row};
+ghost use Rattle.lab_table.specs.Table.{State as Left};
+ghost use Rattle.lab_history.specs.VersionName.{state_value};
 ghost use Rattle.std.specs.FinMap as map;
 ghost use Rattle.lab_deps.specs.Broken as test;
 ghost use Rattle.lab_deps.specs.Passes as pass;
 ghost use Rattle.lab_deps.specs.declared.kind.OpFault.TheVariants as kind;
 
 use crate::broken::{is_extra, is_unlisted, viewed};
-use crate::effect::{is_same, state_of};
+use crate::effect::{delete_differs, is_same, state_of, update_differs};
 use crate::kind::OpFault;
 use crate::near::value_near;
 use crate::passes::broken_row;
 use crate::relevant_rows::only_row;
 use crate::unlisted::unlisted_row;
-use lab_history::{History, Op};
-use lab_table::{RowId, Statement, TxnNo};
+use lab_history::{History, Op, State};
+use lab_table::{RowId, Statement, TxnNo, Value};
 
 /// Whether an operation is found to list of each row what is due.
 pub fn lists_due(history: &History, op: &Op) -> bool
@@ -114,8 +116,65 @@ pub fn writes_due(history: &History, txn: TxnNo, number: u32, op: &Op) -> bool
 {
     match &op.statement {
         Statement::Select { .. } => op.writes.entries().is_empty(),
-        Statement::Update { .. } | Statement::Insert { .. } | Statement::Delete { .. } => {
+        Statement::Insert { .. } => {
             broken_row(history, OpFault::WritesDiffer, txn, number, op).is_none()
         }
+        Statement::Update { .. } => changes_due(history, txn, number, op),
+        Statement::Delete { .. } => changes_due(history, txn, number, op),
     }
+}
+
+/// The same of an update or a delete.
+fn changes_due(history: &History, txn: TxnNo, number: u32, op: &Op) -> bool
+    requires { pass.own_row (test.is_broken kind.WritesDiffer history.now txn number op.now) op.now.statement ≡ None }
+    ensures { result ≡ true → (row : Row) → test.is_broken kind.WritesDiffer history.now txn number op.now row ≡ false }
+{
+    if !writes_listed(history, txn, number, op) {
+        return false;
+    }
+    writes_no_more(history, txn, number, op)
+}
+
+/// Whether an update or a delete is found to write of each row that it lists what is due.
+fn writes_listed(history: &History, txn: TxnNo, number: u32, op: &Op) -> bool
+    ensures { result ≡ true → pass.first_entry (test.is_broken kind.WritesDiffer history.now txn number op.now) (map.entries op.now.rows) ≡ None }
+{
+    let mut near = 0;
+    let entries = op.rows.entries();
+    for entry in entries {
+        let found = value_near(op.writes.entries(), near, entry.0);
+        near = found.1.wrapping_add(1);
+        if !is_due(&op.statement, entry.1, found.0) {
+            return false;
+        }
+    }
+    true
+}
+
+/// Whether what an update or a delete writes to a row that it lists with this value is due.
+fn is_due(statement: &Statement, value: Value, new: Option<State>) -> bool
+    ensures { result ≡ true → (row : Row) (state : Left) → test.write_differs statement.now row (Some value) state (option_map state_value new) ≡ false }
+{
+    match statement {
+        Statement::Select { .. } | Statement::Insert { .. } => false,
+        Statement::Update { expr, .. } => !update_differs(expr, Some(value), new),
+        Statement::Delete { .. } => !delete_differs(Some(value), new),
+    }
+}
+
+/// Whether an operation writes no row that it doesn't list.
+fn writes_no_more(history: &History, txn: TxnNo, number: u32, op: &Op) -> bool
+    requires { pass.first_entry (test.is_broken kind.WritesDiffer history.now txn number op.now) (map.entries op.now.rows) ≡ None }
+    ensures { result ≡ true → pass.first_entry (test.is_broken kind.WritesDiffer history.now txn number op.now) (map.entries op.now.writes) ≡ None }
+{
+    let mut near = 0;
+    let entries = op.writes.entries();
+    for entry in entries {
+        let found = value_near(op.rows.entries(), near, entry.0);
+        near = found.1.wrapping_add(1);
+        if found.0.is_none() {
+            return false;
+        }
+    }
+    true
 }
