@@ -29,7 +29,7 @@ fn alike_lists(alloc: Global, a: &[Op], b: &[Op]) -> bool {
     a.len() == b.len()
 }
 
-pub fn alike_transactions(alloc: Global, a: &[Txn], b: &[Txn]) -> bool {
+fn alike_transactions(alloc: Global, a: &[Txn], b: &[Txn]) -> bool {
     for (txn, other) in a.iter().zip(b) {
         if txn.no != other.no
             || txn.outcome != other.outcome
@@ -41,7 +41,7 @@ pub fn alike_transactions(alloc: Global, a: &[Txn], b: &[Txn]) -> bool {
     a.len() == b.len()
 }
 
-pub fn alike_installed(a: &Installed, b: &Installed) -> bool {
+fn alike_installed(a: &Installed, b: &Installed) -> bool {
     for (entry, other) in a.entries().iter().zip(b.entries()) {
         if entry.0 != other.0 || entry.1.as_slice() != other.1.as_slice() {
             return false;
@@ -50,7 +50,7 @@ pub fn alike_installed(a: &Installed, b: &Installed) -> bool {
     a.entries().len() == b.entries().len()
 }
 
-pub fn alike_tables(a: &Table, b: &Table) -> bool {
+fn alike_tables(a: &Table, b: &Table) -> bool {
     a.rows() == b.rows()
 }
 

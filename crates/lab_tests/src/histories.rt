@@ -1,10 +1,10 @@
-//! Histories of parts, and what a history answers.
+//! Histories of parts.
 
-use crate::alike::{alike_installed, alike_parts, alike_tables, alike_transactions};
+use crate::alike::alike_parts;
 use crate::refusal::{refuse, was_refused};
 use lab_history::{
     FileFault, History, Installed, Installers, Limit, ListPlace, Op, Ops, Outcome, Parts, Path,
-    Rows, State, Txn, Txns, VersionName, View, Writes, read_history,
+    Rows, State, Txn, Txns, VersionName, View, Writes,
 };
 use lab_table::{Expr, RowId, Statement, Table, TxnNo, Value};
 use std::alloc::Global;
@@ -147,14 +147,6 @@ fn parts_that_are_no_history(rt: HostRuntime) -> Result<(), Fail> {
     Ok(())
 }
 
-/// Whether a history has these parts.
-fn has_parts(alloc: Global, history: &History, parts: &Parts) -> bool {
-    alike_tables(history.initial(), &parts.initial)
-        && alike_transactions(alloc, history.txns().as_slice(), parts.txns.as_slice())
-        && alike_installed(history.installed(), &parts.installed)
-        && alike_tables(history.end_table(), &parts.end_table)
-}
-
 #[test]
 fn parts_that_are_refused_memory_come_back(rt: HostRuntime) -> Result<(), Fail> {
     let given = parts(rt.alloc(), USUAL)?;
@@ -163,75 +155,17 @@ fn parts_that_are_refused_memory_come_back(rt: HostRuntime) -> Result<(), Fail> 
         refuse(rt.alloc(), growth);
         let made = History::from_parts(rt.alloc(), parts);
         let refused = was_refused(rt.alloc());
-        match &made {
-            Ok(history) => assert!(rt; has_parts(rt.alloc(), history, &given)),
-            Err((parts, fault)) => {
-                assert!(rt; refused, "at growth {growth}");
-                assert_eq!(rt; *fault, FileFault::NoMemory);
-                assert!(rt;
-                    alike_parts(rt.alloc(), parts, &given),
-                    "at growth {growth}"
-                );
-            }
+        if let Err((parts, fault)) = &made {
+            assert!(rt; refused, "at growth {growth}");
+            assert_eq!(rt; *fault, FileFault::NoMemory);
+            assert!(rt;
+                alike_parts(rt.alloc(), parts, &given),
+                "at growth {growth}"
+            );
         }
         if !refused {
             return Ok(());
         }
     }
     Err(Fail::from("no end of growths"))
-}
-
-/// Row 3 is inserted and changed by transaction 1, and removed by transaction 2.
-const SHORT_LIFE: &[u8] =
-    br#"{"end":[[1,10]],"format":"hermitage-history","initial":[[1,10]],"installed":[[3,[1,2]]],"transactions":[{"no":1,"ops":[{"rows":[],"statement":"insert into test (id, value) values (3, 30)","view":[],"writes":[[3,30]]},{"rows":[[3,30]],"statement":"update test set value = 31 where id = 3","view":[[3,1,1]],"writes":[[3,31]]}],"outcome":"committed"},{"no":2,"ops":[{"rows":[[3,31]],"statement":"delete from test where id = 3","view":[[3,1,2]],"writes":[[3,null]]}],"outcome":"committed"}],"version":1}"#;
-
-/// Row 3 as an operation of a transaction left it.
-fn written(history: &History, no: u32, op: u32) -> Result<Option<State>, Fail> {
-    let id = row(3)?;
-    let txn = txn_no(no)?;
-    Ok(history.version_state(id, VersionName::Of { txn, op }))
-}
-
-/// A value; no row for -1, and no version for -2.
-fn state(number: i64) -> Option<State> {
-    if number == -2 {
-        None
-    } else if number == -1 {
-        Some(State::Absent)
-    } else {
-        Value::new(number).map(State::Present)
-    }
-}
-
-/// The last operation of a transaction that writes row 3, and the transaction's place among its installers; 0 for
-/// none.
-fn write_of(history: &History, no: u32) -> Result<(u32, usize), Fail> {
-    let last = history.last_write(txn_no(no)?, row(3)?);
-    let place = history.installer_place(row(3)?, txn_no(no)?);
-    Ok((last.unwrap_or(0), place.unwrap_or(0)))
-}
-
-fn short_life(alloc: Global) -> Result<History, Fail> {
-    Ok(read_history(alloc, SHORT_LIFE).ok().ok_or("a history")?)
-}
-
-#[test]
-fn versions(rt: HostRuntime) -> Result<(), Fail> {
-    let history = short_life(rt.alloc())?;
-    let initial = history.version_state(row(3)?, VersionName::Initial);
-    assert_eq!(rt; initial, state(-1));
-    for (no, op, value) in [(1, 1, 30), (1, 2, 31), (2, 1, -1), (2, 2, -2), (3, 1, -2)] {
-        let found = written(&history, no, op)?;
-        assert_eq!(rt; found, state(value), "{no} {op}");
-    }
-    Ok(())
-}
-
-#[test]
-fn last_writes_and_installers(rt: HostRuntime) -> Result<(), Fail> {
-    let history = short_life(rt.alloc())?;
-    for (no, last, place) in [(1, 2, 1), (2, 1, 2), (3, 0, 0)] {
-        assert_eq!(rt; write_of(&history, no)?, (last, place), "{no}");
-    }
-    Ok(())
 }
