@@ -1,6 +1,6 @@
-mod FileFaults
+pub mod FileFaults
 mod PlaysPrint
 mod Refusals
-mod Taken
+pub mod Taken
 mod WholeScripts
 mod ScriptsPrint

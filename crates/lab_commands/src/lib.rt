@@ -20,8 +20,10 @@ mod transcribing;
 
 pub use batching::batch;
 pub use ending::{Ending, RunFault, status};
+pub use input::read_input;
 pub use judging::judge;
 pub use listing::case;
+pub use output::{Answer, write_text};
 pub use playing::run;
 pub use playing_free::run_free;
 pub use tabulating::matrix;

@@ -91,7 +91,8 @@ pub fn put_fault(out: &mut Vec<u8>, fault: LocalFault) -> Result<(), NoMemory>
     }
 }
 
-fn kind_name(kind: Kind) -> &'static str
+/// A kind of dependency as it is printed: `ww`, `wr`, `wr-p`, `rw` or `rw-p`.
+pub fn kind_name(kind: Kind) -> &'static str
     ensures { result.now ≡ kind_name kind }
 {
     match kind {

@@ -29,7 +29,8 @@ pub fn print_report(alloc: Global, report: &Report) -> Result<Vec<u8>, NoMemory>
     Ok(text)
 }
 
-fn put_serial(out: &mut Vec<u8>, serial: &Serial) -> Result<(), NoMemory>
+/// Appends the line of a serial verdict with its newline.
+pub fn put_serial(out: &mut Vec<u8>, serial: &Serial) -> Result<(), NoMemory>
     ensures { OnOk result (out.new.items ≡ out.old.items ++ line_text (codes "serializable") (serial_text serial.now)) }
 {
     out.extend_from_slice(b"serializable: ")?;
@@ -71,7 +72,8 @@ fn put_places(out: &mut Vec<u8>, places: &Places) -> Result<(), NoMemory>
     out.extend_from_slice(b"\n")
 }
 
-fn put_finding(out: &mut Vec<u8>, about: &[u8], finding: &Finding) -> Result<(), NoMemory>
+/// Appends the line of what was found of a phenomenon of this name, with its newline.
+pub fn put_finding(out: &mut Vec<u8>, about: &[u8], finding: &Finding) -> Result<(), NoMemory>
     ensures { OnOk result (out.new.items ≡ out.old.items ++ line_text about.now (finding_text finding.now)) }
 {
     out.extend_from_slice(about)?;

@@ -1,0 +1,4 @@
+pub mod Operations
+pub mod FirstOps
+pub mod MadeArrows
+pub mod Escapes

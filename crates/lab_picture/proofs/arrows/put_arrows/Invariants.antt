@@ -1,0 +1,6 @@
+use Rattle.std.proofs.Common.{◌≡◌, ◌++◌, drop, flat_map}
+use Rattle.lab_picture.specs.Arrows.{arrow_text}
+use Rattle.lab_picture.proofs.arrows.put_arrows.Given as goal
+
+abbrev pub invariant-loop-arrow : goal.invariant-loop-arrow
+invariant-loop-arrow l = l.out.items ++ flat_map (arrow_text l.most l.columns) (drop l.arrow-index l.arrows) ≡ l.initial.out.items ++ flat_map (arrow_text l.most l.columns) l.arrows

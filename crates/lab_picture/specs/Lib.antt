@@ -1,0 +1,10 @@
+pub mod Asked
+pub mod Making
+pub mod ArrowLaws
+pub mod Sketch
+pub mod Text
+pub mod Layout
+pub mod Boxes
+pub mod Columns
+pub mod Arrows
+pub mod Svg

@@ -1,0 +1,148 @@
+-- The drawing of a verdict or of a finding.
+use Rattle.std.specs.Prelude.{ℕ, ◌+◌, ◌==◌, Bool, true, false, cond, Option, Some, None, option_map, is_some, List, [], ◌∷◌, ◌++◌, map, flat_map, codes}
+use Rattle.std.specs.List.{list_any}
+use Rattle.std.specs.Fmt.{decimal}
+use Rattle.lab_table.specs.Row.{Row}
+use Rattle.lab_history.specs.History.{History}
+use Rattle.lab_history.specs.Version.{ops_of, op_at, viewed, version_state, installers}
+use Rattle.lab_history.specs.declared.operation.VersionName.{VersionName}
+use Rattle.lab_history.specs.declared.operation.VersionName.TheVariants.{Initial, Of}
+use Rattle.lab_deps.specs.declared.edge.Edge.{Edge}
+use Rattle.lab_deps.specs.declared.fault.LocalFault.{LocalFault}
+use Rattle.lab_deps.specs.declared.fault.LocalFault.TheVariants as fault
+use Rattle.lab_judge.specs.ReportText.{line_text, serial_text, finding_text}
+use Rattle.lab_judge.specs.declared.report.Finding.{Finding}
+use Rattle.lab_judge.specs.declared.report.Finding.TheVariants as finding
+use Rattle.lab_judge.specs.declared.report.Report.{Report}
+use Rattle.lab_judge.specs.declared.serial.Serial.{Serial}
+use Rattle.lab_judge.specs.declared.serial.Serial.TheVariants as serial
+use Rattle.lab_picture.specs.declared.drawing.Spot.{Spot}
+use Rattle.lab_picture.specs.declared.drawing.Arrow.{Arrow}
+use Rattle.lab_picture.specs.declared.drawing.Tie.TheVariants.{Version}
+use Rattle.lab_picture.specs.declared.asked.Phenomenon.{Phenomenon}
+use Rattle.lab_picture.specs.Asked.{phenomenon_name, finding_of}
+use Rattle.lab_picture.specs.Making.{arrows_of}
+
+-- a drawing: transactions from left to right with all their operations, arrows between operations, the operation that a fault is at, the line of the report that is drawn, and a note
+pub record Sketch : Type 0 where
+  pub columns : List ℕ
+  pub arrows : List Arrow
+  pub marked : Option Spot
+  pub about : List ℕ
+  pub note : List ℕ
+
+-- columns with one for this transaction
+abbrev pub with_column : List ℕ → ℕ → List ℕ
+with_column ns n = cond (list_any (λ m. m == n) ns) ns (ns ++ n ∷ [])
+
+-- columns with one for each of these transactions, in the order in which they first come
+abbrev pub with_columns : List ℕ → List ℕ → List ℕ
+with_columns columns [] = columns
+with_columns columns (n ∷ ns) = with_columns (with_column columns n) ns
+
+-- no transaction is drawn
+abbrev pub blank : List ℕ → Sketch
+blank about = record { columns = []; arrows = []; marked = None; about = about; note = [] }
+
+-- an order: its transactions, from left to right
+abbrev pub of_order : List ℕ → List ℕ → Sketch
+of_order about order = record { columns = order; arrows = []; marked = None; about = about; note = [] }
+
+-- a walk: its transactions in their order, and an arrow for each dependency
+abbrev pub of_walk : History → List ℕ → List Edge → Sketch
+of_walk h about walk = record { columns = with_columns [] (map (λ e. e.from) walk); arrows = flat_map (arrows_of h) walk; marked = None; about = about; note = [] }
+
+-- the version of a row that an operation of a transaction sees
+abbrev pub seen_at : History → ℕ → ℕ → Row → Option VersionName
+seen_at h n k row = option_map (λ op. viewed op row) (op_at (ops_of h n) k)
+
+-- the operation that a version names, where it wrote one
+abbrev pub spot_of : ℕ → ℕ → Bool → Option Spot
+spot_of m j false = None
+spot_of m j true = Some (record { txn = m; op = j })
+
+-- the operation that wrote a version of a row, where it did
+abbrev pub written_by : History → Row → VersionName → Option Spot
+written_by h row Initial = None
+written_by h row (Of m j) = spot_of m j (is_some (version_state h row (Of m j)))
+
+-- the operation that wrote the version that is seen, where there is one
+abbrev pub writer_at : History → Row → Option VersionName → Option Spot
+writer_at h row None = None
+writer_at h row (Some version) = written_by h row version
+
+-- the name of an operation
+abbrev pub spot_text : ℕ → ℕ → List ℕ
+spot_text n k = codes "T" ++ decimal n ++ codes " op " ++ decimal k
+
+-- which version it is, and whether it is there
+abbrev pub version_text : VersionName → Bool → List ℕ
+version_text Initial written = codes "version seen: initial"
+version_text (Of m j) written = codes "version seen: " ++ spot_text m j ++ cond written [] (codes ", which isn't there")
+
+-- which version is seen, if one is
+abbrev pub version_note : Option VersionName → Bool → List ℕ
+version_note None written = []
+version_note (Some version) written = version_text version written
+
+-- the columns of a place: that of the operation that wrote the version, and that of the place
+abbrev pub place_columns : Option Spot → ℕ → List ℕ
+place_columns None n = n ∷ []
+place_columns (Some writer) n = with_column (writer.txn ∷ []) n
+
+-- the arrow from the operation that wrote the version to the one that sees it
+abbrev pub place_arrows : Option Spot → Spot → Row → List Arrow
+place_arrows None place row = []
+place_arrows (Some writer) place row = record { from = writer; to = place; tie = Version; row = row } ∷ []
+
+-- an operation, a row and the version of it that the operation sees
+abbrev pub of_place : History → List ℕ → ℕ → ℕ → Row → Sketch
+of_place h about n k row = record {
+  columns = place_columns (writer_at h row (seen_at h n k row)) n;
+  arrows = place_arrows (writer_at h row (seen_at h n k row)) (record { txn = n; op = k }) row;
+  marked = Some (record { txn = n; op = k });
+  about = about;
+  note = version_note (seen_at h n k row) (is_some (writer_at h row (seen_at h n k row)));
+}
+
+-- a row: the transactions that installed it
+abbrev pub of_row : History → List ℕ → Row → Sketch
+of_row h about row = record { columns = with_columns [] (installers h row); arrows = []; marked = None; about = about; note = [] }
+
+-- a fault: its place or its row
+abbrev pub of_fault : History → List ℕ → LocalFault → Sketch
+of_fault h about (fault.Dangling n k row) = of_place h about n k row
+of_fault h about (fault.AbortedRead n k row) = of_place h about n k row
+of_fault h about (fault.IntermediateRead n k row) = of_place h about n k row
+of_fault h about (fault.OwnWriteMissed n k row) = of_place h about n k row
+of_fault h about (fault.LaterThanOwn n k row) = of_place h about n k row
+of_fault h about (fault.RowsDiffer n k row) = of_place h about n k row
+of_fault h about (fault.WritesDiffer n k row) = of_place h about n k row
+of_fault h about (fault.InstallOrder row) = of_row h about row
+of_fault h about (fault.EndDiffers row) = of_row h about row
+
+-- a serial verdict, with this line
+abbrev pub of_verdict : History → List ℕ → Serial → Sketch
+of_verdict h about (serial.Yes order) = of_order about order
+of_verdict h about (serial.NoFault f) = of_fault h about f
+of_verdict h about (serial.NoCycle walk) = of_walk h about walk
+
+-- a serial verdict
+abbrev pub of_serial : History → Serial → Sketch
+of_serial h verdict = of_verdict h (line_text (codes "serializable") (serial_text verdict)) verdict
+
+-- what is found of a phenomenon, with this line
+abbrev pub of_found : History → List ℕ → Finding → Sketch
+of_found h about finding.Absent = blank about
+of_found h about finding.NotJudged = blank about
+of_found h about (finding.Walk walk) = of_walk h about walk
+of_found h about (finding.At n k row) = of_place h about n k row
+
+-- what is found of a phenomenon of this name
+abbrev pub of_finding : History → List ℕ → Finding → Sketch
+of_finding h name found = of_found h (line_text name (finding_text found)) found
+
+-- the drawing of a report: its serial verdict, or what it finds of a phenomenon
+abbrev pub drawing_of : History → Report → Option Phenomenon → Sketch
+drawing_of h report None = of_serial h report.serial
+drawing_of h report (Some phenomenon) = of_finding h (phenomenon_name phenomenon) (finding_of phenomenon report)

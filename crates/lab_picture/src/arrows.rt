@@ -1,0 +1,164 @@
+//! The arrows of a picture.
+
+ghost use Rattle.std.specs.Prelude.{◌≡◌, ◌++◌, ◌≤◌, ◌<◌, length, flat_map, IfOk, IfSome, OnOk};
+ghost use Rattle.lab_picture.specs.Arrows.{column_of, tie_name, is_dashed, label_of, label_text, straight_text, round_text, arrow_text};
+
+use crate::drawing::{Arrow, Tie};
+use crate::layout::{Corner, aside, entry_of, exit_of, is_next, lane};
+use crate::route::{put_round_path, put_straight_path, put_style};
+use crate::text::put_text;
+use lab_deps::Kind;
+use lab_judge::kind_name;
+use lab_script::put_id;
+use lab_table::{NoMemory, TxnNo};
+use std::alloc::Global;
+
+/// The column of a transaction, if it has one.
+fn column_of(columns: &[TxnNo], txn: TxnNo) -> Option<usize>
+    ensures value { result ≡ column_of 0 txn columns.now }
+    ensures within { IfSome result (λ column. column < length columns.now) }
+{
+    for (column, other) in columns.iter().enumerate() {
+        if *other == txn {
+            return Some(column);
+        }
+    }
+    None
+}
+
+/// The name of what ties two operations.
+fn tie_name(tie: Tie) -> &'static str
+    ensures { result.now ≡ tie_name tie }
+{
+    match tie {
+        Tie::Dependency(kind) => kind_name(kind),
+        Tie::Version => "sees",
+    }
+}
+
+/// Whether an arrow is dashed: that of an anti-dependency is.
+fn is_dashed(tie: Tie) -> bool
+    ensures { result ≡ is_dashed tie }
+{
+    match tie {
+        Tie::Dependency(Kind::ItemAnti | Kind::PredicateAnti) => true,
+        Tie::Dependency(Kind::Write | Kind::ItemRead | Kind::PredicateRead) => false,
+        Tie::Version => false,
+    }
+}
+
+/// What stands at an arrow. NoMemory where a growth was refused.
+fn label_of(alloc: Global, arrow: &Arrow) -> Result<Vec<u8>, NoMemory>
+    ensures { IfOk result (λ label. label.items ≡ label_of arrow.now) }
+{
+    let mut label = Vec::from_slice(alloc, tie_name(arrow.tie).as_bytes())?;
+    label.extend_from_slice(b"(")?;
+    put_id(&mut label, arrow.row)?;
+    label.extend_from_slice(b")")?;
+    Ok(label)
+}
+
+/// Appends a label in the middle of a place.
+#[tactic(auto, unfolding(crate::specs::Arrows::label_text))]
+fn put_label(
+    alloc: Global,
+    out: &mut Vec<u8>,
+    x: u64,
+    y: u64,
+    arrow: &Arrow,
+) -> Result<(), NoMemory>
+    ensures { OnOk result (out.new.items ≡ out.old.items ++ label_text x y arrow.now) }
+{
+    let label = label_of(alloc, arrow)?;
+    put_text(
+        out,
+        b" text-anchor=\"middle\" paint-order=\"stroke\" stroke=\"white\" stroke-width=\"4\"",
+        x,
+        y,
+        &label,
+    )
+}
+
+/// Appends an arrow from one column to the next.
+#[tactic(auto, unfolding(crate::specs::Arrows::straight_text))]
+fn put_straight(
+    alloc: Global,
+    out: &mut Vec<u8>,
+    arrow: &Arrow,
+    from: Corner,
+    to: Corner,
+) -> Result<(), NoMemory>
+    requires { (from.x ≤ 800) × (from.y ≤ 12000000000000) × (to.y ≤ 12000000000000) }
+    ensures { OnOk result (out.new.items ≡ out.old.items ++ straight_text arrow.now from to) }
+{
+    out.extend_from_slice(b"<path d=\"")?;
+    put_straight_path(out, from, to)?;
+    put_style(out, is_dashed(arrow.tie))?;
+    let y = (from.y + to.y) / 2;
+    put_label(alloc, out, from.x + 42, y.saturating_sub(5), arrow)
+}
+
+/// Appends an arrow that goes below the boxes.
+#[tactic(auto, unfolding(crate::specs::Arrows::round_text))]
+fn put_round(
+    alloc: Global,
+    out: &mut Vec<u8>,
+    arrow: &Arrow,
+    from: Corner,
+    lane: u64,
+    aside: u64,
+    to: Corner,
+) -> Result<(), NoMemory>
+    requires { (from.x ≤ 800) × (to.x ≤ 800) × (aside ≤ to.x) }
+    ensures { OnOk result (out.new.items ≡ out.old.items ++ round_text arrow.now from lane aside to) }
+{
+    out.extend_from_slice(b"<path d=\"")?;
+    put_round_path(out, from, lane, aside, to)?;
+    put_style(out, is_dashed(arrow.tie))?;
+    let x = (from.x + to.x) / 2;
+    put_label(alloc, out, x, lane.saturating_sub(4), arrow)
+}
+
+/// Appends an arrow, if both its transactions have a column.
+fn put_arrow(
+    alloc: Global,
+    out: &mut Vec<u8>,
+    most: u32,
+    columns: &[TxnNo],
+    arrow: &Arrow,
+) -> Result<(), NoMemory>
+    requires { length columns.now ≤ 40 }
+    ensures { OnOk result (out.new.items ≡ out.old.items ++ arrow_text most columns.now arrow.now) }
+{
+    let Some(from) = column_of(columns, arrow.from.txn) else {
+        return Ok(());
+    };
+    let Some(to) = column_of(columns, arrow.to.txn) else {
+        return Ok(());
+    };
+    let exit = exit_of(most, from, arrow.from.op);
+    let entry = entry_of(most, to, arrow.to.op);
+    if is_next(from, to) {
+        put_straight(alloc, out, arrow, exit, entry)
+    } else {
+        let lane = lane(most, from, to);
+        put_round(alloc, out, arrow, exit, lane, aside(from, to), entry)
+    }
+}
+
+/// Appends the arrows whose transactions have columns.
+pub fn put_arrows(
+    alloc: Global,
+    out: &mut Vec<u8>,
+    most: u32,
+    columns: &[TxnNo],
+    arrows: &[Arrow],
+) -> Result<(), NoMemory>
+    requires { length columns.now ≤ 40 }
+    ensures { OnOk result (out.new.items ≡ out.old.items ++ flat_map (arrow_text most columns.now) arrows.now) }
+{
+    for arrow in arrows {
+        put_arrow(alloc, out, most, columns, arrow)?;
+    }
+    Ok(())
+}

@@ -1,0 +1,53 @@
+//! Drawings.
+
+use lab_deps::Kind;
+use lab_table::{RowId, TxnNo};
+use std::marker::Model;
+
+/// An operation of a transaction, counted from 1.
+#[derive(Clone, Copy, Debug, PartialEq, Eq)]
+pub struct Spot {
+    pub txn: TxnNo,
+    pub op: u32,
+}
+
+/// Why an arrow leads from one operation to another.
+#[derive(Clone, Copy, Debug, PartialEq, Eq)]
+pub enum Tie {
+    /// A dependency of this kind.
+    Dependency(Kind),
+    /// The second sees what the first wrote.
+    Version,
+}
+
+/// An arrow from one operation to another, because of a row.
+#[derive(Clone, Copy, Debug, PartialEq, Eq)]
+pub struct Arrow {
+    pub from: Spot,
+    pub to: Spot,
+    pub tie: Tie,
+    pub row: RowId,
+}
+
+/// A drawing of some of a history's transactions.
+#[derive(Drop)]
+pub struct Drawing {
+    /// The transactions, from left to right.
+    pub columns: Vec<TxnNo>,
+    /// The arrows between their operations.
+    pub arrows: Vec<Arrow>,
+    /// The operation that a fault is at.
+    pub marked: Option<Spot>,
+    /// What is drawn: the line of the report.
+    pub about: Vec<u8>,
+    /// The version that a fault is about.
+    pub note: Vec<u8>,
+}
+
+impl Model for Drawing {
+    ghost use Rattle.lab_picture.specs.Sketch.{Sketch};
+
+    ghost Value = { Sketch };
+
+    ghost view = { λ d. record { columns = d.columns.items; arrows = d.arrows.items; marked = d.marked; about = d.about.items; note = d.note.items } };
+}

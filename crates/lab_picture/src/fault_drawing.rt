@@ -1,0 +1,205 @@
+//! The drawing of a fault.
+
+ghost use Rattle.std.specs.Prelude.{◌≡◌, ◌++◌, IfOk, OnOk};
+ghost use Rattle.lab_history.specs.Version.{installers};
+ghost use Rattle.lab_picture.specs.Sketch.{with_column, blank, of_place, of_row, of_fault, seen_at, written_by, writer_at, spot_text, version_text, version_note};
+
+use crate::drawing::{Arrow, Drawing, Spot, Tie};
+use crate::states::{ops_of, viewed};
+use crate::text::put_number;
+use lab_deps::LocalFault;
+use lab_history::{History, VersionName};
+use lab_table::{NoMemory, RowId, TxnNo};
+use std::alloc::Global;
+
+/// A drawing without columns.
+pub fn blank(alloc: Global, about: Vec<u8>) -> Drawing
+    ensures { result ≡ blank about.items }
+{
+    Drawing {
+        columns: Vec::new(alloc),
+        arrows: Vec::new(alloc),
+        marked: None,
+        about,
+        note: Vec::new(alloc),
+    }
+}
+
+/// Adds a column, if the transaction has none.
+pub fn add_column(columns: &mut Vec<TxnNo>, txn: TxnNo) -> Result<(), NoMemory>
+    ensures { OnOk result (columns.new.items ≡ with_column columns.old.items txn) }
+{
+    if !columns.contains(&txn) {
+        columns.push(txn)?;
+    }
+    Ok(())
+}
+
+/// The version of a row that an operation of a transaction sees, where there is such an operation.
+fn seen_at(history: &History, txn: TxnNo, op: u32, row: RowId) -> Option<VersionName>
+    ensures { result ≡ seen_at history.now txn op row }
+{
+    let found = ops_of(history, txn).get(op.checked_sub(1)? as usize)?;
+    Some(viewed(found, row))
+}
+
+/// The operation that wrote a version of a row, where it did.
+fn written_by(history: &History, row: RowId, version: VersionName) -> Option<Spot>
+    ensures { result ≡ written_by history.now row version }
+{
+    match version {
+        VersionName::Initial => None,
+        VersionName::Of { txn, op } => {
+            history.version_state(row, VersionName::Of { txn, op })?;
+            Some(Spot { txn, op })
+        }
+    }
+}
+
+/// The operation that wrote the version that is seen, where there is one.
+fn writer_at(history: &History, row: RowId, version: Option<VersionName>) -> Option<Spot>
+    ensures { result ≡ writer_at history.now row version }
+{
+    match version {
+        None => None,
+        Some(version) => written_by(history, row, version),
+    }
+}
+
+/// Appends the name of an operation.
+fn put_spot(out: &mut Vec<u8>, txn: TxnNo, op: u32) -> Result<(), NoMemory>
+    ensures { OnOk result (out.new.items ≡ out.old.items ++ spot_text txn op) }
+{
+    out.extend_from_slice(b"T")?;
+    put_number(out, u64::from(txn.number()))?;
+    out.extend_from_slice(b" op ")?;
+    put_number(out, u64::from(op))
+}
+
+/// Appends which version it is, and whether it is there.
+fn put_version(out: &mut Vec<u8>, version: VersionName, written: bool) -> Result<(), NoMemory>
+    ensures { OnOk result (out.new.items ≡ out.old.items ++ version_text version written) }
+{
+    match version {
+        VersionName::Initial => out.extend_from_slice(b"version seen: initial"),
+        VersionName::Of { txn, op } => {
+            out.extend_from_slice(b"version seen: ")?;
+            put_spot(out, txn, op)?;
+            if written {
+                Ok(())
+            } else {
+                out.extend_from_slice(b", which isn't there")
+            }
+        }
+    }
+}
+
+/// Appends which version is seen, if one is.
+fn put_note(out: &mut Vec<u8>, version: Option<VersionName>, written: bool) -> Result<(), NoMemory>
+    ensures { OnOk result (out.new.items ≡ out.old.items ++ version_note version written) }
+{
+    match version {
+        None => Ok(()),
+        Some(version) => put_version(out, version, written),
+    }
+}
+
+/// The drawing of a fault at an operation and a row: the operation, and the one that wrote the version that it sees.
+pub fn of_place(
+    alloc: Global,
+    history: &History,
+    about: Vec<u8>,
+    txn: TxnNo,
+    op: u32,
+    row: RowId,
+) -> Result<Drawing, NoMemory>
+    ensures { IfOk result (λ drawing. drawing ≡ of_place history.now about.items txn op row) }
+{
+    let version = seen_at(history, txn, op, row);
+    let mut note = Vec::new(alloc);
+    match writer_at(history, row, version) {
+        None => {
+            put_note(&mut note, version, false)?;
+            Ok(Drawing {
+                columns: Vec::from_slice(alloc, &[txn])?,
+                arrows: Vec::new(alloc),
+                marked: Some(Spot { txn, op }),
+                about,
+                note,
+            })
+        }
+        Some(from) => {
+            put_note(&mut note, version, true)?;
+            let mut columns = Vec::from_slice(alloc, &[from.txn])?;
+            add_column(&mut columns, txn)?;
+            let mut arrows = Vec::new(alloc);
+            arrows.push(Arrow {
+                from,
+                to: Spot { txn, op },
+                tie: Tie::Version,
+                row,
+            })?;
+            Ok(Drawing {
+                columns,
+                arrows,
+                marked: Some(Spot { txn, op }),
+                about,
+                note,
+            })
+        }
+    }
+}
+
+/// The drawing of a fault of a row: the transactions that installed it.
+fn of_row(alloc: Global, history: &History, about: Vec<u8>, row: RowId) -> Result<Drawing, NoMemory>
+    ensures { IfOk result (λ drawing. drawing ≡ of_row history.now about.items row) }
+{
+    let mut columns = Vec::new(alloc);
+    let installers = installers_of(history, row);
+    for txn in installers {
+        add_column(&mut columns, *txn)?;
+    }
+    Ok(Drawing {
+        columns,
+        arrows: Vec::new(alloc),
+        marked: None,
+        about,
+        note: Vec::new(alloc),
+    })
+}
+
+/// The transactions that installed a row, in order.
+fn installers_of(history: &History, row: RowId) -> &[TxnNo]
+    ensures { result.now ≡ installers history.now row }
+{
+    match history.installed().get(row) {
+        None => &[],
+        Some(found) => found.as_slice(),
+    }
+}
+
+/// The drawing of a history's fault.
+pub fn of_fault(
+    alloc: Global,
+    history: &History,
+    about: Vec<u8>,
+    fault: LocalFault,
+) -> Result<Drawing, NoMemory>
+    ensures { IfOk result (λ drawing. drawing ≡ of_fault history.now about.items fault) }
+{
+    match fault {
+        LocalFault::Dangling { txn, op, row } => of_place(alloc, history, about, txn, op, row),
+        LocalFault::AbortedRead { txn, op, row } => of_place(alloc, history, about, txn, op, row),
+        LocalFault::IntermediateRead { txn, op, row } => {
+            of_place(alloc, history, about, txn, op, row)
+        }
+        LocalFault::OwnWriteMissed { txn, op, row } => {
+            of_place(alloc, history, about, txn, op, row)
+        }
+        LocalFault::LaterThanOwn { txn, op, row } => of_place(alloc, history, about, txn, op, row),
+        LocalFault::RowsDiffer { txn, op, row } => of_place(alloc, history, about, txn, op, row),
+        LocalFault::WritesDiffer { txn, op, row } => of_place(alloc, history, about, txn, op, row),
+        LocalFault::InstallOrder { row } => of_row(alloc, history, about, row),
+        LocalFault::EndDiffers { row } => of_row(alloc, history, about, row),
+    }
+}

@@ -1,0 +1,29 @@
+//! Pictures of judgements.
+//!
+//! [`draw`] makes a [`Drawing`] of a history and a report on it: a column for each transaction that a verdict or a
+//! finding names, an arrow between two operations for each dependency of its walk, or the version that a fault names.
+//! [`print_drawing`] gives a drawing its text, in SVG.
+//!
+//! Which drawing is made is a definition over history and report (`drawing_of`), and so is its text (`svg_of`).
+#![tactic(auto)]
+
+mod arrows;
+mod asked;
+mod boxes;
+mod columns;
+mod drawing;
+mod fault_drawing;
+mod laws;
+mod layout;
+mod making;
+mod route;
+mod sketch;
+mod states;
+mod svg;
+mod text;
+
+pub use asked::Phenomenon;
+pub use drawing::{Arrow, Drawing, Spot, Tie};
+pub use laws::{an_escaped_text_has_no_markup, each_dependency_has_its_arrow};
+pub use sketch::draw;
+pub use svg::print_drawing;
