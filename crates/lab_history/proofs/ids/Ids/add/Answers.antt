@@ -25,6 +25,6 @@ returns c =
       | then-not-stands_at+in_ok-put w ↦ w.self-is ∙ ap keys w.in_ok-put.ensures.ok ∙ keys_insert seen row tt ∙ ap (λ (l : List Row). insert_key row_cmp l row) c.self.view_is
       | else-not-stands_at w ↦
           let there : is_row_at (entries seen) c.place_of-place.result row ≡ true =
-              ap (λ es. is_row_at es c.place_of-place.result row) (sym c.entries-3.ensures) ∙ sym c.stands_at-2.ensures ∙ w.if-not-stands_at.false in
+          ap (λ es. is_row_at es c.place_of-place.result row) (sym c.entries-3.ensures) ∙ sym c.stands_at-2.ensures ∙ w.if-not-stands_at.false in
           w.self-is ∙ sym c.self.view_is ∙ sym (keys_present seen row c.place_of-place.result there) ∙ ap (λ (l : List Row). insert_key row_cmp l row) c.self.view_is
     ]
