@@ -9,7 +9,7 @@ use crate::statement::Statement;
 
 impl Statement {
     ghost use Rattle.std.specs.Prelude.{◌≡◌};
-    ghost use Rattle.lab_table.specs.Statement.{matches, may_match, listed, would_write, new_state, fails};
+    ghost use Rattle.lab_table.specs.Statement.{matches, may_match, listed, rewritten, would_write, new_state, fails};
 
     /// Whether a row in this state, None where it is absent, matches the statement. An absent row matches none, and an
     /// insert matches the row that it adds.
@@ -49,6 +49,21 @@ impl Statement {
             Statement::Update { pred, .. } => selected_value(pred, id, value),
             Statement::Insert { .. } => None,
             Statement::Delete { pred } => selected_value(pred, id, value),
+        }
+    }
+
+    /// What the statement leaves of a row that it lists with this value: Some(None) where it removes the row. It is None
+    /// where it writes no row that it lists, or the result is out of range.
+    pub fn rewritten(&self, value: Value) -> Option<Option<Value>>
+        ensures { result ≡ rewritten self.now value }
+    {
+        match self {
+            Statement::Insert { .. } | Statement::Select { .. } => None,
+            Statement::Update { expr, .. } => {
+                let value = expr.apply(value)?;
+                Some(Some(value))
+            }
+            Statement::Delete { .. } => Some(None),
         }
     }
 
