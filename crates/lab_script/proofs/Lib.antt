@@ -44,3 +44,4 @@ pub mod PrintedCommands
 pub mod PrintedSetups
 pub mod PrintedScripts
 pub mod EachElement
+pub mod ReservedWords

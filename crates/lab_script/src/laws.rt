@@ -1,12 +1,16 @@
 //! Laws of the texts. The functions have nothing to do: their contracts are the laws.
 
-ghost use Rattle.std.specs.Prelude.{◌≡◌, ◌≤◌, ◌<◌, ◌↔◌, ℕ, List, length, take, Some};
+ghost use Rattle.std.specs.Prelude.{◌≡◌, ◌≢◌, ◌≤◌, ◌<◌, ◌↔◌, ◌||◌, ℕ, List, length, take, Some, IsTrue, codes};
+ghost use Rattle.std.specs.Str.{bytes_eq};
+ghost use Rattle.lab_table.specs.Words.{is_reserved};
 ghost use Rattle.lab_table.specs.declared.statement.Statement.{Statement};
 ghost use Rattle.lab_script.specs.declared.fault.ScriptFault.{ScriptFault};
 ghost use Rattle.lab_script.specs.declared.script.Script.{Script};
 ghost use Rattle.lab_script.specs.Fault.{IsFaultOf};
 ghost use Rattle.lab_script.specs.Limits.{max_script_bytes};
 ghost use Rattle.lab_script.specs.Script.{Spells, SpellsStatement};
+ghost use Rattle.lab_script.specs.Token.{word_named};
+ghost use Rattle.lab_script.specs.declared.token.Word.TheVariants as words;
 ghost use Rattle.lab_script.specs.StatementText.{statement_in};
 
 /// The statement that is read from a text is the one that the text spells by the grammar;
@@ -21,4 +25,9 @@ pub fn first_bytes_tell_a_script()
     ensures short { (text : List ℕ) (script : Script) → Spells text script → length text ≤ max_script_bytes }
     ensures spelled { (text : List ℕ) (n : ℕ) (script : Script) → max_script_bytes < n → Spells (take n text) script → Spells text script }
     ensures fault { (text : List ℕ) (n : ℕ) (fault : ScriptFault) → max_script_bytes < n → IsFaultOf (take n text) fault → IsFaultOf text fault }
+{}
+
+/// A text in lower case is a word of the grammar exactly where it is reserved, or the name of the table.
+pub fn words_are_reserved()
+    ensures { (text : List ℕ) → IsTrue (is_reserved text || bytes_eq text (codes "test")) ↔ (word_named text ≢ words.Other) }
 {}
