@@ -15,6 +15,7 @@
 
 mod checking;
 mod entry;
+mod equality;
 mod fault;
 mod history;
 mod ids;

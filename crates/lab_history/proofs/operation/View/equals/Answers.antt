@@ -1,0 +1,7 @@
+use Rattle.std.proofs.Common.{sym, ap, ◌∙◌}
+use Rattle.std.specs.FinMap.{entries, same_entries_map}
+use Rattle.lab_history.proofs.operation.View.equals.Goals as goal
+
+pub returns : goal.returns
+returns c =
+    (λ t. same_entries_map _ _ (sym c.entries.ensures ∙ c.same_versions.ensures.0 t ∙ c.entries-2.ensures), λ e. c.same_versions.ensures.1 (c.entries.ensures ∙ ap entries e ∙ sym c.entries-2.ensures))

@@ -1,0 +1,11 @@
+use Rattle.std.proofs.Common.{sym, ap, ◌∙◌}
+use Rattle.std.specs.FinMap.{entries, same_entries_map}
+use Rattle.lab_history.specs.VersionName.{new_states}
+use Rattle.lab_history.proofs.NewStates.{states_same}
+use Rattle.lab_history.proofs.operation.Writes.equals.Goals as goal
+
+pub returns : goal.returns
+returns c = (
+  λ t. same_entries_map _ _ (sym c.entries.ensures ∙ ap new_states (c.same_states.ensures.0 t) ∙ c.entries-2.ensures),
+  λ e. c.same_states.ensures.1 (states_same _ _ (c.entries.ensures ∙ ap entries e ∙ sym c.entries-2.ensures)),
+)
