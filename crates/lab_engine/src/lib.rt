@@ -18,6 +18,7 @@ mod chain;
 mod circle;
 mod effect;
 mod engine;
+mod equality;
 mod event;
 mod gathering;
 mod installs;
