@@ -1,5 +1,5 @@
 -- The calls of each session in a log that follows a script to its end.
-use Rattle.std.proofs.Common.{◌≡◌, ◌≢◌, ℕ, ◌+◌, ◌≤◌, refl, sym, ap, subst, ◌∙◌, arith, Bool, true, false, cond, ◌&&◌, List, [], ◌∷◌, ◌++◌, ◌⊎◌, inl, inr, length, map, reverse, append-nil, length-append}
+use Rattle.std.proofs.Common.{◌≡◌, ◌≢◌, ℕ, ◌≤◌, refl, sym, ap, subst, ◌∙◌, arith, Bool, true, false, cond, ◌&&◌, List, [], ◌∷◌, ◌++◌, ◌⊎◌, inl, inr, length, map, reverse, append-nil, length-append}
 use Rattle.std.specs.Prelude.{◌==◌, is_some}
 use Rattle.std.proofs.lemmas.List.{map-append, reverse-reverse}
 use Rattle.std.proofs.lemmas.List.Elements.{filter-append}
@@ -14,7 +14,7 @@ use Rattle.lab_engine.proofs.Runs.{past_of-push}
 use Rattle.lab_session.specs.Play.{commands_of, commands_called, IsPlayed}
 use Rattle.lab_session.proofs.Unblocked.{none_waits}
 use Rattle.lab_session.proofs.NextLines.{next_none}
-use Rattle.lab_session.proofs.Stages.{called, Stage, rests, holds, ended, StageOf, same_split, stages}
+use Rattle.lab_session.proofs.Stages.{called, rests, holds, ended, StageOf, same_split, stages}
 
 -- the commands of calls after one event more
 called_more : (session : ℕ) (log : List LogEvent) (event : LogEvent)

@@ -7,7 +7,6 @@ ghost use Rattle.lab_session.specs.Seats.{Seated, call_at, placed_calls};
 ghost use Rattle.lab_session.specs.Closing.{seats_of, AgreeOf, DifferAt};
 ghost use Rattle.lab_session.specs.Compared.{Fits, Says};
 
-use crate::same::{same_commands, same_outcomes};
 use crate::seat::{Call, SESSIONS, Seat, is_answered};
 use lab_engine::LogEvent;
 use lab_table::Session;
@@ -28,8 +27,8 @@ fn is_call_at(call: &Call, place: usize, event: &LogEvent) -> bool
     ensures { IsTrue result ↔ (call.now ≡ call_at place event.now) }
 {
     call.receipt.place == place
-        && same_commands(&call.command, &event.command)
-        && same_outcomes(&call.receipt.outcome, &event.outcome)
+        && call.command.equals(&event.command)
+        && call.receipt.outcome.equals(&event.outcome)
 }
 
 impl<'a> Comparison<'a> {
