@@ -1,22 +1,19 @@
 -- Where an operation lists of each row what is due.
-use Rattle.std.proofs.Common.{◌≡◌, ℕ, ℤ, ◌==◌, Bool, true, false, not, ◌&&◌, cond, Option, Some, None, List, [], ◌∷◌, length, refl, sym, ap, ◌∙◌, subst, arith}
+use Rattle.std.proofs.Common.{◌≡◌, ℕ, ℤ, ◌==◌, Bool, true, false, not, ◌&&◌, Option, Some, None, List, [], ◌∷◌, length, refl, sym, ap, ◌∙◌, subst, arith}
 use Rattle.std.specs.Prelude.{is_some, is_none, option_map}
 use Rattle.std.specs.FinMap.{get, find, entries, get-entries}
 use Rattle.std.proofs.lemmas.Bool.{false≢true, or_parts, eqb-true}
 use Rattle.lab_table.specs.Row.{Row, row_cmp}
 use Rattle.lab_table.specs.Table.{State}
-use Rattle.lab_table.specs.Statement.{listed, may_match, matches}
-use Rattle.lab_table.specs.declared.statement.Statement.{Statement}
-use Rattle.lab_table.specs.declared.statement.Statement.TheVariants.{Select, Update, Insert, Delete}
-use Rattle.lab_table.proofs.Statements.{absent_unlisted}
+use Rattle.lab_table.specs.Statement.{is_read_only, listed, may_match, matches}
+use Rattle.lab_table.proofs.OneRow.{not_listed, unmatched_listed, reader_inserts_none}
 use Rattle.lab_history.specs.History.{History}
-use Rattle.lab_table.specs.Predicate.{Predicate}
 use Rattle.lab_history.specs.Version.{viewed, viewed_state, new_state}
 use Rattle.lab_history.specs.VersionName.{new_states, state_value}
 use Rattle.lab_history.specs.declared.operation.State.{State as Stored}
 use Rattle.lab_history.specs.declared.operation.VersionName.{VersionName}
 use Rattle.lab_history.specs.declared.operation.Op.{Op}
-use Rattle.lab_deps.specs.Broken.{is_broken, breaks_at, same_state, state_of, write_differs, is_extra, is_unlisted}
+use Rattle.lab_deps.specs.Broken.{is_broken, breaks_at, same_state, state_of, choose, change_differs, insert_differs, write_differs, is_extra, is_unlisted}
 use Rattle.lab_deps.specs.EdgesByRow.{looks_at}
 use Rattle.lab_deps.specs.Passes.{least, first_entry, first_value, seen_row, own_row}
 use Rattle.lab_deps.specs.declared.kind.OpFault.TheVariants as kind
@@ -24,7 +21,6 @@ use Rattle.lab_deps.proofs.BrokenRows.{none_breaks}
 use Rattle.lab_history.proofs.NewStates.{find_states}
 use Rattle.lab_table.proofs.Tests.{some_of}
 use Rattle.lab_deps.proofs.Rows.{none_in_map}
-use Rattle.lab_deps.proofs.RuledOut.{not_listed}
 
 -- where none of three rows is found, none breaks
 pub rows_due : (h : History) (op : Op) → ((n k : ℕ) → seen_row kind.RowsDiffer h n k op ≡ None) → first_value (is_extra h op) (entries op.rows) ≡ None
@@ -33,10 +29,6 @@ rows_due h op seen extra unlisted n k row =
     none_breaks h n k op kind.RowsDiffer row
     (ap (λ o. least o (least (first_value (is_extra h op) (entries op.rows)) (first_value (is_unlisted op) (entries h.initial)))) (seen n k)
     ∙ ap (λ o. least o (first_value (is_unlisted op) (entries h.initial))) extra ∙ unlisted)
-
-never_listed : (s : Statement) (row : Row) → may_match s row ≡ false → (state : State) → listed s row state ≡ None
-never_listed s row off None = absent_unlisted s row
-never_listed s row off (Some value) = not_listed s row value off
 
 pub nothing_there : {A : Type 0} (o : Option A) → is_some o ≡ false → o ≡ None
 nothing_there None e = refl
@@ -51,19 +43,8 @@ only_due h op only others at n k row =
       | false ↦ λ e.
           let parts = or_parts (may_match op.statement row) (is_some (get op.rows row)) e in
           ap (λ o. not (same_state o (listed op.statement row (viewed_state h op row)))) (nothing_there (get op.rows row) parts.1)
-          ∙ ap (λ o. not (same_state None o)) (never_listed op.statement row parts.0 (viewed_state h op row))
+          ∙ ap (λ o. not (same_state None o)) (not_listed op.statement row parts.0 (viewed_state h op row))
     ] refl
-
--- a row that a statement doesn't match isn't unlisted
-pub unmatched_listed : (op : Op) (row : Row) (value : State) → matches op.statement row value ≡ false → listed op.statement row value ≡ None
-unmatched_listed op row None e = absent_unlisted op.statement row
-unmatched_listed op row (Some v) e = of_statement op.statement e
-  where
-    of_statement : (s : Statement) → matches s row (Some v) ≡ false → listed s row (Some v) ≡ None
-    of_statement (Select pred) e = ap (λ b. cond b (Some v) None) e
-    of_statement (Update expr pred) e = ap (λ b. cond b (Some v) None) e
-    of_statement (Insert id new) e = refl
-    of_statement (Delete pred) e = ap (λ b. cond b (Some v) None) e
 
 -- a row that is seen and listed as is due
 pub seen_due : (h : History) (op : Op) (n k : ℕ) (row : Row) (v : VersionName) (found due state : State) → found ≡ get op.rows row → due ≡ listed op.statement row state
@@ -92,13 +73,17 @@ seen_not_unlisted op row value o e t =
 -- nor is one that doesn't match
 pub unmatched_not_unlisted : (op : Op) (row : Row) (value : ℤ) → matches op.statement row (Some value) ≡ false → is_unlisted op row value ≡ false
 unmatched_not_unlisted op row value e =
-    ap (λ o. is_some o && (is_none (get op.view row) && not (same_state (get op.rows row) o))) (unmatched_listed op row (Some value) e)
+    ap (λ o. is_some o && (is_none (get op.view row) && not (same_state (get op.rows row) o))) (unmatched_listed op.statement row (Some value) e)
 
--- a select that writes nothing writes what is due
-pub select_due : (h : History) (op : Op) (pred : Option Predicate) (es : List (Row × Stored)) → op.statement ≡ Select pred → (length es == 0) ≡ true → new_states es ≡ entries op.writes → (row : Row)
+-- a statement that only lists, and writes nothing, writes what is due
+pub reader_due : (h : History) (op : Op) (es : List (Row × Stored)) → is_read_only op.statement ≡ true → (length es == 0) ≡ true → new_states es ≡ entries op.writes → (row : Row)
     → write_differs op.statement row (get op.rows row) (state_of h row (viewed op row)) (new_state op row) ≡ false
-select_due h op pred es is empty same row =
-    ap (λ s. write_differs s row (get op.rows row) (state_of h row (viewed op row)) (new_state op row)) is
+reader_due h op es reads empty same row =
+    let listing = get op.rows row in
+    let seen = state_of h row (viewed op row) in
+    let new = new_state op row in
+    ap (λ o. insert_differs o row seen new (choose (is_read_only op.statement) (is_some new) (change_differs op.statement listing new))) (reader_inserts_none op.statement reads)
+    ∙ ap (λ b. choose b (is_some new) (change_differs op.statement listing new)) reads
     ∙ ap is_some (get-entries op.writes row ∙ ap (find row_cmp row) (sym same ∙ none_written es empty))
   where
     none_written : (es : List (Row × Stored)) → (length es == 0) ≡ true → new_states es ≡ []

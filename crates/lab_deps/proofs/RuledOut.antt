@@ -6,45 +6,21 @@ use Rattle.std.specs.FinMap.Entries.{below_all}
 use Rattle.std.specs.Ordering.{is_eq}
 use Rattle.std.proofs.lemmas.Bool.{false≢true, and_parts}
 use Rattle.lab_table.specs.Row.{Row, row_cmp, row_eq}
-use Rattle.lab_table.specs.Table.{State}
-use Rattle.lab_table.specs.Predicate.{Predicate}
-use Rattle.lab_table.specs.Statement.{where_holds, where_may_hold, matches, may_match, listed}
+use Rattle.lab_table.specs.Statement.{may_match}
 use Rattle.lab_table.proofs.Maps.{find_below, same_row, row_eq_self}
-use Rattle.lab_table.proofs.MayHold.{ruled_out}
-use Rattle.lab_table.specs.declared.statement.Statement.{Statement}
-use Rattle.lab_table.specs.declared.statement.Statement.TheVariants.{Select, Update, Insert, Delete}
+use Rattle.lab_table.proofs.OneRow.{not_listed}
 use Rattle.lab_table.proofs.Tests.{both}
 use Rattle.lab_history.specs.History.{History}
 use Rattle.lab_history.specs.declared.operation.Op.{Op}
 use Rattle.lab_deps.specs.Broken.{is_unlisted}
 use Rattle.lab_deps.specs.Passes.{first_value}
 
--- what can't be true of a row isn't
-no_where : (pred : Option Predicate) (row : Row) → where_may_hold pred row ≡ false → (value : ℤ) → where_holds pred row value ≡ false
-no_where None row off value = absurd (false≢true (sym off))
-no_where (Some p) row off value = ruled_out p row value off
-
--- a row that can't match doesn't
-pub no_match : (s : Statement) (row : Row) → may_match s row ≡ false → (state : State) → matches s row state ≡ false
-no_match s row off None = refl
-no_match (Select pred) row off (Some value) = no_where pred row off value
-no_match (Update expr pred) row off (Some value) = no_where pred row off value
-no_match (Insert id new) row off (Some value) = off
-no_match (Delete pred) row off (Some value) = no_where pred row off value
-
--- nor is it listed
-pub not_listed : (s : Statement) (row : Row) (value : ℤ) → may_match s row ≡ false → listed s row (Some value) ≡ None
-not_listed (Select pred) row value off = ap (λ b. cond b (Some value) None) (no_where pred row off value)
-not_listed (Update expr pred) row value off = ap (λ b. cond b (Some value) None) (no_where pred row off value)
-not_listed (Insert id new) row value off = refl
-not_listed (Delete pred) row value off = ap (λ b. cond b (Some value) None) (no_where pred row off value)
-
--- so a row that isn't listed though it matches isn't ruled out
+-- a row that isn't listed though it matches isn't ruled out
 pub may_be_unlisted : (op : Op) (row : Row) (value : ℤ) → is_unlisted op row value ≡ true → may_match op.statement row ≡ true
 may_be_unlisted op row value unlisted =
     elim (may_match op.statement row) as (λ b. may_match op.statement row ≡ b → b ≡ true) [
       | true ↦ λ _. refl
-      | false ↦ λ off. absurd (false≢true (ap is_some (sym (not_listed op.statement row value off)) ∙ (and_parts _ _ unlisted).0))
+      | false ↦ λ off. absurd (false≢true (ap is_some (sym (not_listed op.statement row off (Some value))) ∙ (and_parts _ _ unlisted).0))
     ] refl
 
 module _ {A : Type 0} (test : Row → A → Bool) (row : Row) (only : (other : Row) (x : A) → test other x ≡ true → other ≡ row) where

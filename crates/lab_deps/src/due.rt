@@ -10,7 +10,7 @@ ghost use Rattle.lab_deps.specs.Passes as pass;
 ghost use Rattle.lab_deps.specs.declared.kind.OpFault.TheVariants as kind;
 
 use crate::broken::{is_extra, is_unlisted, viewed};
-use crate::effect::{delete_differs, is_same, state_of, update_differs};
+use crate::effect::{change_differs, is_same, state_of};
 use crate::kind::OpFault;
 use crate::near::value_near;
 use crate::passes::broken_row;
@@ -114,13 +114,12 @@ fn lists_initial(history: &History, op: &Op) -> bool
 pub fn writes_due(history: &History, txn: TxnNo, number: u32, op: &Op) -> bool
     ensures { result ≡ true → (row : Row) → test.is_broken kind.WritesDiffer history.now txn number op.now row ≡ false }
 {
-    match &op.statement {
-        Statement::Select { .. } => op.writes.entries().is_empty(),
-        Statement::Insert { .. } => {
-            broken_row(history, OpFault::WritesDiffer, txn, number, op).is_none()
-        }
-        Statement::Update { .. } => changes_due(history, txn, number, op),
-        Statement::Delete { .. } => changes_due(history, txn, number, op),
+    if op.statement.is_read_only() {
+        op.writes.entries().is_empty()
+    } else if op.statement.inserted().is_some() {
+        broken_row(history, OpFault::WritesDiffer, txn, number, op).is_none()
+    } else {
+        changes_due(history, txn, number, op)
     }
 }
 
@@ -155,11 +154,9 @@ fn writes_listed(history: &History, txn: TxnNo, number: u32, op: &Op) -> bool
 fn is_due(statement: &Statement, value: Value, new: Option<State>) -> bool
     ensures { result ≡ true → (row : Row) (state : Left) → test.write_differs statement.now row (Some value) state (option_map state_value new) ≡ false }
 {
-    match statement {
-        Statement::Select { .. } | Statement::Insert { .. } => false,
-        Statement::Update { expr, .. } => !update_differs(expr, Some(value), new),
-        Statement::Delete { .. } => !delete_differs(Some(value), new),
-    }
+    !statement.is_read_only()
+        && statement.inserted().is_none()
+        && !change_differs(statement, Some(value), new)
 }
 
 /// Whether an operation writes no row that it doesn't list.

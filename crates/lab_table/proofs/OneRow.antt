@@ -211,3 +211,10 @@ reader_inserts_none (Select pred) t = refl
 reader_inserts_none (Update expr pred) t = refl
 reader_inserts_none (Insert id new) t = absurd (false≢true t)
 reader_inserts_none (Delete pred) t = refl
+
+-- nor an update
+pub reader_updates_none : (s : Statement) → is_read_only s ≡ true → is_update s ≡ false
+reader_updates_none (Select pred) t = refl
+reader_updates_none (Update expr pred) t = absurd (false≢true t)
+reader_updates_none (Insert id new) t = refl
+reader_updates_none (Delete pred) t = refl
