@@ -1,6 +1,6 @@
 -- Rows of the initial table whose numbers a statement lists.
 use Rattle.std.proofs.Common.{◌≡◌, ◌≢◌, ℤ, nat_abs, Bool, true, false, ◌||◌, ◌&&◌, ◌<◌, cond, T, Option, Some, None, List, [], ◌∷◌, ◌++◌, refl, sym, ap, ◌∙◌, subst, arith}
-use Rattle.std.specs.Prelude.{nat_lt, nat_le, ◌==◌, option_and_then, option_map}
+use Rattle.std.specs.Prelude.{nat_lt, ◌==◌, option_and_then, option_map}
 use Rattle.std.specs.FinMap.{find, get, entries, entries_sorted, is_sorted, get-entries}
 use Rattle.std.specs.FinMap.Entries.{below_all}
 use Rattle.std.specs.Ordering.{int_eq, is_lt}
@@ -10,7 +10,7 @@ use Rattle.std.proofs.lemmas.Bool.Decides.{Decides-int_eq}
 use Rattle.std.proofs.lemmas.List.Folds.{list_any-append}
 use Rattle.std.proofs.lemmas.Option.{none-some, same_Some}
 use Rattle.std.proofs.Math.Bool.{or-false, and-false, and-or_distrib_left}
-use Rattle.lab_table.specs.Row.{Row, row_cmp, id_of}
+use Rattle.lab_table.specs.Row.{Row, row_cmp, id_of, row_le}
 use Rattle.lab_table.specs.NamedRow.{has_number}
 use Rattle.lab_table.specs.Table.{Table}
 use Rattle.lab_table.specs.Statement.{may_match}
@@ -70,7 +70,7 @@ module _ {A : Type 0} where
 
       at : (s t : Bool) → first_value (λ row x. a row x || b row x) es ≡ least (first_value a es) (first_value b es)
           → cond (s || t) (Some e.0) (first_value (λ row x. a row x || b row x) es) ≡ least (cond s (Some e.0) (first_value a es)) (cond t (Some e.0) (first_value b es))
-      at true true rest = sym (elim (nat_le e.0 e.0) as (λ t. cond t (Some e.0) (Some e.0) ≡ Some e.0) [ true ↦ refl | false ↦ refl ])
+      at true true rest = sym (elim (row_le e.0 e.0) as (λ t. cond t (Some e.0) (Some e.0) ≡ Some e.0) [ true ↦ refl | false ↦ refl ])
       at true false rest = sym (least_first e.0 (first_value b es) (found_above b e.0 es parts.0))
       at false true rest = sym (least_second e.0 (first_value a es) (found_above a e.0 es parts.0))
       at false false rest = rest

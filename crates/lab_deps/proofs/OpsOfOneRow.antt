@@ -1,18 +1,18 @@
 -- An operation that has to look at one row alone finds nothing at others.
-use Rattle.std.proofs.Common.{◌≡◌, ◌≢◌, ℕ, true, false, ◌==◌, ◌||◌, cond, T, Some, None, List, [], ◌∷◌, ◌++◌, refl, sym, ap, ◌∙◌, subst}
-use Rattle.std.specs.Prelude.{nat_eq, is_some}
+use Rattle.std.proofs.Common.{◌≡◌, ◌≢◌, ℕ, true, false, ◌||◌, cond, T, Some, None, List, [], ◌∷◌, ◌++◌, refl, sym, ap, ◌∙◌, subst}
+use Rattle.std.specs.Prelude.{is_some}
 use Rattle.std.specs.List.{flat_map, list_all}
 use Rattle.std.specs.FinMap as finite
 use Rattle.std.specs.FinMap.{find, get-entries, is_sorted}
 use Rattle.std.specs.FinMap.Entries.{below_all}
 use Rattle.std.specs.Map.{lookup}
 use Rattle.std.specs.Ordering.{is_eq}
-use Rattle.std.proofs.lemmas.Bool.{false≢true, and_parts, eqb-true, eq-eqb}
+use Rattle.std.proofs.lemmas.Bool.{false≢true, and_parts}
 use Rattle.std.proofs.lemmas.List.{append-nil}
 use Rattle.std.proofs.lemmas.Option.{none-some, same_Some}
-use Rattle.lab_table.specs.Row.{Row, row_cmp}
+use Rattle.lab_table.specs.Row.{Row, row_cmp, row_test}
 use Rattle.lab_table.specs.Statement.{may_match}
-use Rattle.lab_table.proofs.Maps.{same_row}
+use Rattle.lab_table.proofs.Maps.{same_row, tested_same, tests_itself}
 use Rattle.lab_table.proofs.Tests.{both}
 use Rattle.lab_history.specs.History.{History}
 use Rattle.lab_history.specs.declared.operation.Op.{Op}
@@ -22,17 +22,17 @@ use Rattle.lab_deps.specs.declared.versions.Version.{Version}
 use Rattle.lab_deps.proofs.NumberedRows.{other_row, rows_sorted}
 
 -- where all entries are at a row, another one has none
-pub only_listed : {A : Type 0} (row other : Row) (es : List (Row × A)) → list_all (λ e. e.0 == row) es ≡ true → is_some (find row_cmp other es) ≡ true → other ≡ row
+pub only_listed : {A : Type 0} (row other : Row) (es : List (Row × A)) → list_all (λ e. row_test e.0 row) es ≡ true → is_some (find row_cmp other es) ≡ true → other ≡ row
 only_listed row other [] all listed = absurd (false≢true listed)
 only_listed row other (e ∷ es) all listed =
-    let parts = and_parts (e.0 == row) (list_all (λ e. e.0 == row) es) all in
+    let parts = and_parts (row_test e.0 row) (list_all (λ e. row_test e.0 row) es) all in
     elim (is_eq (row_cmp other e.0)) as (λ b. is_eq (row_cmp other e.0) ≡ b → is_some (cond b (Some e.1) (find row_cmp other es)) ≡ true → other ≡ row) [
-      | true ↦ λ same _. same_row other e.0 same ∙ eqb-true e.0 row parts.0
+      | true ↦ λ same _. same_row other e.0 same ∙ tested_same e.0 row parts.0
       | false ↦ λ _ later. only_listed row other es parts.1 later
     ] refl listed
 
 -- an operation whose statement may match one row alone, and that lists no other, has to look at no other
-pub looks_only : (op : Op) (row : Row) → ((other : Row) → may_match op.statement other ≡ true → other ≡ row) → list_all (λ e. e.0 == row) (finite.entries op.rows) ≡ true
+pub looks_only : (op : Op) (row : Row) → ((other : Row) → may_match op.statement other ≡ true → other ≡ row) → list_all (λ e. row_test e.0 row) (finite.entries op.rows) ≡ true
     → (other : Row) → looks_at op other ≡ true → other ≡ row
 looks_only op row named listed other looks =
     elim (may_match op.statement other) as (λ b. may_match op.statement other ≡ b → (b || is_some (finite.get op.rows other)) ≡ true → other ≡ row) [
@@ -48,27 +48,24 @@ module _ (h : History) (n : ℕ) (op : Op) (row : Row) (only : (other : Row) →
         | false ↦ λ _. refl
       ] refl
 
-  apart_rows : (a : Row) → nat_eq row a ≡ false → a ≢ row
-  apart_rows a tested same = false≢true (sym tested ∙ ap (nat_eq row) same ∙ itself row)
-    where
-      itself : (a : ℕ) → nat_eq a a ≡ true
-      itself a = eq-eqb a a refl
+  apart_rows : (a : Row) → row_test row a ≡ false → a ≢ row
+  apart_rows a tested same = false≢true (sym tested ∙ ap (row_test row) same ∙ tests_itself row)
 
   none_above : (es : List (Row × List Version)) → T (below_all row_cmp row es) → flat_map (found_at_row h n op) es ≡ []
   none_above [] above = refl
   none_above (e ∷ es) above =
       let parts = both _ (below_all row_cmp row es) above in
-      ap (λ fs. fs ++ flat_map (found_at_row h n op) es) (nothing e (λ same. false≢true (sym (other_row row e.0 parts.0) ∙ eq-eqb e.0 row same))) ∙ none_above es parts.1
+      ap (λ fs. fs ++ flat_map (found_at_row h n op) es) (nothing e (λ same. false≢true (sym (other_row row e.0 parts.0) ∙ ap (λ r. row_test r row) same ∙ tests_itself row))) ∙ none_above es parts.1
 
   -- what is found at the row, where it is among the rows
-  at_its_row : (es : List (Row × List Version)) (vs : List Version) → T (is_sorted row_cmp es) → lookup (nat_eq row) es ≡ Some vs
+  at_its_row : (es : List (Row × List Version)) (vs : List Version) → T (is_sorted row_cmp es) → lookup (row_test row) es ≡ Some vs
       → flat_map (found_at_row h n op) es ≡ found_at_row h n op (row, vs)
   at_its_row [] vs sorted found = absurd (none-some vs found)
   at_its_row (e ∷ es) vs sorted found =
       let parts = both (below_all row_cmp e.0 es) (is_sorted row_cmp es) sorted in
-      elim (nat_eq row e.0) as (λ b. nat_eq row e.0 ≡ b → cond b (Some e.1) (lookup (nat_eq row) es) ≡ Some vs → flat_map (found_at_row h n op) (e ∷ es) ≡ found_at_row h n op (row, vs)) [
+      elim (row_test row e.0) as (λ b. row_test row e.0 ≡ b → cond b (Some e.1) (lookup (row_test row) es) ≡ Some vs → flat_map (found_at_row h n op) (e ∷ es) ≡ found_at_row h n op (row, vs)) [
         | true ↦ λ same is.
-            let here : row ≡ e.0 = eqb-true row e.0 same in
+            let here : row ≡ e.0 = tested_same row e.0 same in
             ap (λ fs. found_at_row h n op e ++ fs) (none_above es (subst (λ r. T (below_all row_cmp r es)) (sym here) parts.0))
             ∙ append-nil (found_at_row h n op e)
             ∙ (λ i. found_at_row h n op (sym here i, same_Some e.1 vs is i))
@@ -77,16 +74,16 @@ module _ (h : History) (n : ℕ) (op : Op) (row : Row) (only : (other : Row) →
       ] refl found
 
   -- and nothing, where it isn't
-  at_no_row : (es : List (Row × List Version)) → lookup (nat_eq row) es ≡ None → flat_map (found_at_row h n op) es ≡ []
+  at_no_row : (es : List (Row × List Version)) → lookup (row_test row) es ≡ None → flat_map (found_at_row h n op) es ≡ []
   at_no_row [] none = refl
   at_no_row (e ∷ es) none =
-      elim (nat_eq row e.0) as (λ b. nat_eq row e.0 ≡ b → cond b (Some e.1) (lookup (nat_eq row) es) ≡ None → flat_map (found_at_row h n op) (e ∷ es) ≡ []) [
+      elim (row_test row e.0) as (λ b. row_test row e.0 ≡ b → cond b (Some e.1) (lookup (row_test row) es) ≡ None → flat_map (found_at_row h n op) (e ∷ es) ≡ []) [
         | true ↦ λ _ is. absurd (none-some e.1 (sym is))
         | false ↦ λ other is. ap (λ fs. fs ++ flat_map (found_at_row h n op) es) (nothing e (apart_rows e.0 other)) ∙ at_no_row es is
       ] refl none
 
-  pub found_there : (vs : List Version) → lookup (nat_eq row) (rows_of h) ≡ Some vs → found_by h n op ≡ found_at_row h n op (row, vs)
+  pub found_there : (vs : List Version) → lookup (row_test row) (rows_of h) ≡ Some vs → found_by h n op ≡ found_at_row h n op (row, vs)
   found_there vs found = at_its_row (rows_of h) vs (rows_sorted h) found
 
-  pub found_nowhere : lookup (nat_eq row) (rows_of h) ≡ None → found_by h n op ≡ []
+  pub found_nowhere : lookup (row_test row) (rows_of h) ≡ None → found_by h n op ≡ []
   found_nowhere none = at_no_row (rows_of h) none

@@ -1,9 +1,9 @@
 //! Which rows an operation has to look at.
 
-ghost use Rattle.std.specs.Prelude.{◌≡◌, ◌==◌, true, IfSome};
+ghost use Rattle.std.specs.Prelude.{◌≡◌, true, IfSome};
 ghost use Rattle.std.specs.List.{list_all};
 ghost use Rattle.std.specs.FinMap as map;
-ghost use Rattle.lab_table.specs.Row.{Row};
+ghost use Rattle.lab_table.specs.Row.{Row, row_test};
 ghost use Rattle.lab_deps.specs.EdgesByRow.{looks_at};
 
 use lab_history::Op;
@@ -26,7 +26,7 @@ pub fn only_row(op: &Op) -> Option<RowId>
 
 /// Whether an operation lists no other row than this.
 fn lists_only(op: &Op, row: RowId) -> bool
-    ensures { result ≡ list_all (λ e. e.0 == row) (map.entries op.now.rows) }
+    ensures { result ≡ list_all (λ e. row_test e.0 row) (map.entries op.now.rows) }
 {
     op.rows.entries().iter().all(|entry| entry.0 == row)
 }

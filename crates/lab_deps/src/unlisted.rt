@@ -19,7 +19,7 @@ pub fn unlisted_row(history: &History, op: &Op) -> Option<RowId>
     ensures { result ≡ pass.first_value (test.is_unlisted op.now) (map.entries history.now.initial) }
 {
     if let Some(row) = op.statement.named_row() {
-        return unlisted_at(history, op, row.number());
+        return unlisted_itself(history, op, row);
     }
     match op.statement.named_ids() {
         None => first_unlisted(history, op),
@@ -38,6 +38,18 @@ fn first_unlisted(history: &History, op: &Op) -> Option<RowId>
         }
     }
     None
+}
+
+/// This row, where the initial table has it so.
+fn unlisted_itself(history: &History, op: &Op, row: RowId) -> Option<RowId>
+    ensures { result ≡ option_and_then (λ value. cond (test.is_unlisted op.now row value) (Some row) None) (map.get history.now.initial row) }
+{
+    let value = history.initial().get(row)?;
+    if is_unlisted(op, row, value) {
+        Some(row)
+    } else {
+        None
+    }
 }
 
 /// The row of this number, where the initial table has it so.

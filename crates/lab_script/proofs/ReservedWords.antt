@@ -18,15 +18,15 @@ abbrev Agrees : Word → Bool → Type 0
 Agrees word found = (found ≡ false → word ≡ words.Other) × (found ≡ true → is_other word ≡ false)
 
 -- one word of the grammar more
-one_more : (b : Bool) (word rest : Word) (found table : Bool) → is_other word ≡ false → Agrees rest (found || table) → Agrees (if b then word else rest) ((b || found) || table)
-one_more true word rest found table own agrees = (λ none. absurd (false≢true (sym none)), λ _. own)
-one_more false word rest found table own agrees = agrees
+one_more : (b : Bool) (word later : Word) (found table : Bool) → is_other word ≡ false → Agrees later (found || table) → Agrees (if b then word else later) ((b || found) || table)
+one_more true word later found table own agrees = (λ none. absurd (false≢true (sym none)), λ _. own)
+one_more false word later found table own agrees = agrees
 
 -- the name of the table, before words of the grammar
-before : (table : Bool) (rest : Word) (found : Bool) → Agrees rest (found || false) → Agrees (if table then words.Test else rest) (found || table)
-before true rest true agrees = (λ none. absurd (false≢true (sym none)), λ _. refl)
-before true rest false agrees = (λ none. absurd (false≢true (sym none)), λ _. refl)
-before false rest found agrees = agrees
+before : (table : Bool) (later : Word) (found : Bool) → Agrees later (found || false) → Agrees (if table then words.Test else later) (found || table)
+before true later true agrees = (λ none. absurd (false≢true (sym none)), λ _. refl)
+before true later false agrees = (λ none. absurd (false≢true (sym none)), λ _. refl)
+before false later found agrees = agrees
 
 -- no word is left
 none_left : Agrees words.Other (false || false)

@@ -1,6 +1,7 @@
-use Rattle.std.proofs.Common.{◌≡◌, nat_eq, sym, ap, ◌∙◌, subst}
+use Rattle.std.proofs.Common.{◌≡◌, sym, ap, ◌∙◌, subst}
 use Rattle.std.specs.Prelude.{None, Some, OnOk}
 use Rattle.std.specs.Map.{lookup}
+use Rattle.lab_table.specs.Row.{row_test}
 use Rattle.lab_deps.specs.EdgesByRow.{rows_of}
 use Rattle.lab_deps.specs.Sinks.{Grows}
 use Rattle.lab_deps.proofs.OpsOfOneRow.{found_there, found_nowhere}
@@ -9,7 +10,7 @@ use Rattle.lab_deps.proofs.collect.add_op.Goals as goal
 
 pub returns-in-None-get : goal.returns-in-None-get
 returns-in-None-get g c =
-    let none : lookup (nat_eq c.in-Some.row) (rows_of c.args.history.now) ≡ None = ap (lookup (nat_eq c.in-Some.row)) (sym c.requires) ∙ sym c.in-None-get.ensures.value in
+    let none : lookup (row_test c.in-Some.row) (rows_of c.args.history.now) ≡ None = ap (lookup (row_test c.in-Some.row)) (sym c.requires) ∙ sym c.in-None-get.ensures.value in
     subst (Grows g.S.EdgeSink.handed c.args.sink.now c.args.sink.now) (sym (found_nowhere c.args.history.now c.args.txn c.args.op.now c.in-Some.row c.in-Some.ensures none))
     (grows_none g.S.EdgeSink.handed c.args.sink.now)
 
@@ -18,6 +19,6 @@ returns-in-Some-get g c =
     let h = c.args.history.now in
     let row = c.in-Some.row in
     let vs = c.in-Some-get.versions.now in
-    let there : lookup (nat_eq row) (rows_of h) ≡ Some vs = ap (lookup (nat_eq row)) (sym c.requires) ∙ sym c.in-Some-get.ensures.value in
+    let there : lookup (row_test row) (rows_of h) ≡ Some vs = ap (lookup (row_test row)) (sym c.requires) ∙ sym c.in-Some-get.ensures.value in
     let is = sym (found_there h c.args.txn c.args.op.now row c.in-Some.ensures vs there) in
     subst (λ es. OnOk c.add_at_row.result (Grows g.S.EdgeSink.handed c.args.sink.now c.add_at_row.new.sink es)) is c.add_at_row.ensures
