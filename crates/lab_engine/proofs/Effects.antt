@@ -1,30 +1,27 @@
 -- What is made of each row that is seen, row by row, and which row keeps a statement from running.
-use Rattle.std.proofs.Common.{◌≡◌, ◌∙◌, refl, sym, ap, subst, ℤ, Bool, true, false, cond, not, T, List, [], ◌∷◌}
+use Rattle.std.proofs.Common.{◌≡◌, ◌∙◌, refl, sym, ap, subst, ℤ, true, false, cond, T, List, [], ◌∷◌}
 use Rattle.std.specs.Prelude.{Option, Some, None, option_map, option_and_then, unwrap_or}
 use Rattle.std.specs.List.{cons_option}
 use Rattle.std.specs.Ordering.{is_lt}
-use Rattle.std.proofs.lemmas.Bool.{true≢false}
 use Rattle.std.specs.FinMap.{FinMap, find, is_sorted, get, entries, entries_sorted, get-entries, from_sorted, get-from_sorted}
 use Rattle.std.specs.FinMap.Entries.{below_all}
 use Rattle.lab_table.specs.Row.{Row, row_cmp, row_eq}
 use Rattle.lab_table.specs.Table.{State, Rows}
-use Rattle.lab_table.specs.Statement.{where_holds, listed, written, fails, overflows, applied, in_range}
-use Rattle.lab_table.specs.Predicate.{Predicate}
-use Rattle.lab_table.specs.declared.statement.Expr.{Expr}
+use Rattle.lab_table.specs.Statement.{is_read_only, inserted, listed, written, fails}
+use Rattle.lab_table.specs.Statement as statement
 use Rattle.lab_table.specs.declared.statement.Statement.{Statement}
-use Rattle.lab_table.specs.declared.statement.Statement.TheVariants.{Update, Delete}
 use Rattle.lab_table.proofs.Maps.{same_row, find_below}
 use Rattle.lab_table.proofs.Tests.{both, joined}
 use Rattle.lab_history.specs.VersionName.{View, state_value, new_states}
 use Rattle.lab_history.specs.declared.operation.VersionName.{VersionName}
 use Rattle.lab_history.specs.declared.operation.State.{State as Left}
-use Rattle.lab_history.specs.declared.operation.State.TheVariants.{Present}
 use Rattle.lab_engine.specs.Log.{Version}
 use Rattle.lab_engine.specs.Rules.{in_view}
 use Rattle.lab_engine.specs.Sight.{Listed, version_in}
-use Rattle.lab_engine.specs.EachRow.{with_row, each_row, value_rewritten, rewritten}
+use Rattle.lab_engine.specs.EachRow.{with_row, each_row, stored, rewritten}
 use Rattle.lab_engine.proofs.Holding.{absent}
 use Rattle.lab_table.proofs.Statements.{absent_unlisted}
+use Rattle.lab_table.proofs.OneRow.{change_is}
 
 module _ {A B : Type 0} (f : Row → A → Option B) where
   below_each : (x : Row) (es : List (Row × A)) → T (below_all row_cmp x es) → T (below_all row_cmp x (each_row f es))
@@ -116,43 +113,28 @@ rows_made s m es items rows of_map made is q =
     ap (λ k. get k q) (is ∙ ap (λ k. from_sorted {R = row_cmp} k) (made ∙ ap (each_row (λ row (v : Version). listed s row v.state)) of_map))
     ∙ get_each (λ row (v : Version). listed s row v.state) m q ∙ listed_is s q (get m q)
 
--- a result in range is what is written
-fits_alike : (new : ℤ) (fits : Bool) → not fits ≡ false → option_map state_value (option_map (λ value. Present value) (cond fits (Some new) None)) ≡ Some (Some new)
-fits_alike new true h = refl
-fits_alike new false h = absurd (true≢false h)
+-- a state as histories have it is the state
+stored_is : (o : Option State) → option_map state_value (option_map stored o) ≡ o
+stored_is None = refl
+stored_is (Some None) = refl
+stored_is (Some (Some value)) = refl
 
-updated_alike : (expr : Expr) (pred : Option Predicate) (old : ℤ) (selected : Bool) → overflows expr (cond selected (Some old) None) ≡ false
-    → option_map state_value (option_and_then (value_rewritten (Update expr pred)) (cond selected (Some old) None)) ≡ option_map (λ old. Some (applied expr old)) (cond selected (Some old) None)
-updated_alike expr pred old true h = fits_alike (applied expr old) (in_range (applied expr old)) h
-updated_alike expr pred old false h = refl
-
--- the state of a row that was deleted
-abbrev gone : State
-gone = None
-
-deleted_alike : (pred : Option Predicate) (old : ℤ) (selected : Bool)
-    → option_map state_value (option_and_then (value_rewritten (Delete pred)) (cond selected (Some old) None)) ≡ option_map (λ (old : ℤ). gone) (cond selected (Some old) None)
-deleted_alike pred old true = refl
-deleted_alike pred old false = refl
+made_is : (f : ℤ → Option State) (o : State) → option_map state_value (option_and_then (λ old. option_map stored (f old)) o) ≡ option_and_then f o
+made_is f None = refl
+made_is f (Some old) = stored_is (f old)
 
 -- a statement rewrites a row as it writes it, and doesn't write an absent one
 record Rewrites (s : Statement) : Type 0 where
   as_written : (q : Row) (state : State) → fails s q state ≡ false → option_map state_value (rewritten s q state) ≡ written s q state
   absent_one : (q : Row) → written s q None ≡ None
 
-update_rewrites : (expr : Expr) (pred : Option Predicate) → Rewrites (Update expr pred)
-update_rewrites expr pred = record { as_written = alike; absent_one = λ q. refl }
-  where
-    alike : (q : Row) (state : State) → fails (Update expr pred) q state ≡ false → option_map state_value (rewritten (Update expr pred) q state) ≡ written (Update expr pred) q state
-    alike q None h = refl
-    alike q (Some old) h = updated_alike expr pred old (where_holds pred q old) h
-
-delete_rewrites : (pred : Option Predicate) → Rewrites (Delete pred)
-delete_rewrites pred = record { as_written = alike; absent_one = λ q. refl }
-  where
-    alike : (q : Row) (state : State) → fails (Delete pred) q state ≡ false → option_map state_value (rewritten (Delete pred) q state) ≡ written (Delete pred) q state
-    alike q None h = refl
-    alike q (Some old) h = deleted_alike pred old (where_holds pred q old)
+change_rewrites : (s : Statement) → is_read_only s ≡ false → inserted s ≡ None → Rewrites s
+change_rewrites s changes none =
+    let change = change_is s changes none in
+    record {
+      as_written = λ q state runs. made_is (statement.rewritten s) (listed s q state) ∙ sym (change.writes q state runs);
+      absent_one = λ q. change.writes_listed q None (absent_unlisted s q);
+    }
 
 rewrites_seen : (s : Statement) → Rewrites s → (q : Row) (o : Option Version) → fails s q (unwrap_or o absent).state ≡ false
     → option_and_then (λ (v : Version). option_map state_value (rewritten s q v.state)) o ≡ written s q (unwrap_or o absent).state
@@ -177,12 +159,7 @@ states_made s all m es items of_map made =
           ∙ rewrites_seen s all q (get m q) (runs q);
     }
 
--- what an update writes
-pub update_made : (s : Statement) (expr : Expr) (pred : Option Predicate) (m : Listed) (es : List (Row × Version)) (items : List (Row × Left)) → s ≡ Update expr pred
+-- what a statement writes that neither only lists nor adds a row
+pub change_made : (s : Statement) (m : Listed) (es : List (Row × Version)) (items : List (Row × Left)) → is_read_only s ≡ false → inserted s ≡ None
     → es ≡ entries m → items ≡ each_row (λ row (v : Version). rewritten s row v.state) es → AreWritten s m items
-update_made s expr pred m es items is of_map made = states_made s (subst Rewrites (sym is) (update_rewrites expr pred)) m es items of_map made
-
--- what a delete writes
-pub delete_made : (s : Statement) (pred : Option Predicate) (m : Listed) (es : List (Row × Version)) (items : List (Row × Left)) → s ≡ Delete pred
-    → es ≡ entries m → items ≡ each_row (λ row (v : Version). rewritten s row v.state) es → AreWritten s m items
-delete_made s pred m es items is of_map made = states_made s (subst Rewrites (sym is) (delete_rewrites pred)) m es items of_map made
+change_made s m es items changes none of_map made = states_made s (change_rewrites s changes none) m es items of_map made

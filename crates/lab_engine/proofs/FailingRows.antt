@@ -7,16 +7,14 @@ use Rattle.std.specs.declared.cmp.Ordering.TheVariants.{Less}
 use Rattle.std.specs.FinMap.{find, is_sorted, get, entries, entries_sorted, get-entries}
 use Rattle.std.specs.FinMap.Entries.{below_all}
 use Rattle.lab_table.specs.Row.{Row, row_cmp, row_eq, rows_total}
-use Rattle.lab_table.specs.Statement.{fails}
-use Rattle.lab_table.specs.Predicate.{Predicate}
-use Rattle.lab_table.specs.declared.statement.Expr.{Expr}
+use Rattle.lab_table.specs.Statement.{is_update, fails}
 use Rattle.lab_table.specs.declared.statement.Statement.{Statement}
-use Rattle.lab_table.specs.declared.statement.Statement.TheVariants.{Update}
 use Rattle.lab_table.proofs.Maps.{same_row, row_eq_self}
+use Rattle.lab_table.proofs.OneRow.{absent_runs}
 use Rattle.lab_table.proofs.Tests.{both}
 use Rattle.lab_table.proofs.Orderings.{is_less}
 use Rattle.lab_engine.specs.Log.{Version}
-use Rattle.lab_engine.specs.Rules.{IsBelow, IsUpdate}
+use Rattle.lab_engine.specs.Rules.{IsBelow}
 use Rattle.lab_engine.specs.Sight.{Listed, version_in}
 use Rattle.lab_engine.specs.EachRow.{first_failing}
 use Rattle.lab_engine.specs.Effect.{IsEffectFault}
@@ -111,14 +109,13 @@ module _ (s : Statement) (m : Listed) (es : List (Row × Version)) (of_map : es 
       at f other below None is = nothing other
       at f other below (Some u) is = f.before other u below (sym (get-entries m other) ∙ is)
 
--- an update runs where no row that is seen fails
-pub update_runs : (s : Statement) (expr : Expr) (pred : Option Predicate) (m : Listed) (es : List (Row × Version)) → s ≡ Update expr pred → es ≡ entries m
-    → first_failing s es ≡ None → (q : Row) → fails s q (version_in m q).state ≡ false
-update_runs s expr pred m es is of_map none = runs_all s m es of_map (λ q. ap (λ k. fails k q None) is) none
+-- a statement runs where no row that is seen fails
+pub update_runs : (s : Statement) (m : Listed) (es : List (Row × Version)) → es ≡ entries m → first_failing s es ≡ None → (q : Row) → fails s q (version_in m q).state ≡ false
+update_runs s m es of_map none = runs_all s m es of_map (absent_runs s) none
 
--- else the first such row is named
-pub update_fails : (s : Statement) (expr : Expr) (pred : Option Predicate) (m : Listed) (es : List (Row × Version)) (row : Row) → s ≡ Update expr pred → es ≡ entries m
+-- else, where it is an update, the first such row is named
+pub update_fails : (s : Statement) (m : Listed) (es : List (Row × Version)) (row : Row) → is_update s ≡ true → es ≡ entries m
     → first_failing s es ≡ Some row → IsEffectFault (version_in m) s (OutOfRange row)
-update_fails s expr pred m es row is of_map first =
-    let f = fails_first s m es of_map (λ q. ap (λ k. fails k q None) is) row first in
-    (subst IsUpdate (sym is) tt, f.0, f.1)
+update_fails s m es row updates of_map first =
+    let f = fails_first s m es of_map (absent_runs s) row first in
+    (updates, f.0, f.1)

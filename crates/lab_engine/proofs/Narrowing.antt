@@ -1,6 +1,6 @@
 -- Looking only at the versions of rows that a statement may match.
-use Rattle.std.proofs.Common.{◌≡◌, ◌∙◌, refl, sym, ap, subst, ℤ, true, false, cond, T, [], ◌∷◌, drop, one-add, inl, inr}
-use Rattle.std.specs.Prelude.{Option, Some, None, option_and_then, option_map, is_some, ◌+◌, ◌&&◌}
+use Rattle.std.proofs.Common.{◌≡◌, ◌∙◌, refl, sym, ap, subst, true, false, cond, T, [], ◌∷◌, drop, one-add, inl, inr}
+use Rattle.std.specs.Prelude.{Option, Some, None, option_and_then, ◌+◌}
 use Rattle.std.specs.List.{cons_option, prefix_len}
 use Rattle.std.specs.Ordering.{is_lt, is_eq, is_gt}
 use Rattle.std.specs.declared.cmp.Ordering.{Ordering}
@@ -9,13 +9,10 @@ use Rattle.std.proofs.lemmas.Bool.{false≢true}
 use Rattle.std.specs.FinMap.{is_sorted}
 use Rattle.std.specs.FinMap.Entries.{below_all}
 use Rattle.lab_table.specs.Row.{Row, row_cmp, row_eq, rows_apart}
-use Rattle.lab_table.specs.Table.{State}
-use Rattle.lab_table.specs.Predicate.{Predicate}
-use Rattle.lab_table.specs.Statement.{where_holds, where_may_hold, may_match, matched, listed, fails, overflows, would_write, applied}
+use Rattle.lab_table.specs.Statement.{may_match, listed, fails}
 use Rattle.lab_table.specs.declared.statement.Statement.{Statement}
-use Rattle.lab_table.specs.declared.statement.Statement.TheVariants.{Select, Update, Insert, Delete}
 use Rattle.lab_table.proofs.Maps.{row_eq_self}
-use Rattle.lab_table.proofs.MayHold.{ruled_out}
+use Rattle.lab_table.proofs.OneRow.{not_listed, not_failing}
 use Rattle.lab_table.proofs.Orderings.{is_less}
 use Rattle.lab_table.proofs.Putting.{is_own}
 use Rattle.lab_table.proofs.SortedRows.{lower}
@@ -51,40 +48,6 @@ own_there row (e ∷ es) h = at (own_there row es parts.1) (row_cmp row e.0) ref
     at rest Greater q = ap (λ n. own_first row (drop n (e ∷ es))) (one-add (prefix_len (comes_after row) es)) ∙ rest
 
 -- ---- rows that a statement rules out
-
--- the state of a row that was deleted
-abbrev gone : State
-gone = None
-
-no_where : (pred : Option Predicate) (row : Row) → where_may_hold pred row ≡ false → (value : ℤ) → where_holds pred row value ≡ false
-no_where None row off value = absurd (false≢true (sym off))
-no_where (Some p) row off value = ruled_out p row value off
-
-not_matched : (s : Statement) (row : Row) → may_match s row ≡ false → (state : State) → matched s row state ≡ None
-not_matched s row off None = refl
-not_matched (Select pred) row off (Some value) = ap (λ b. cond b (Some value) None) (no_where pred row off value)
-not_matched (Update expr pred) row off (Some value) = ap (λ b. cond b (Some value) None) (no_where pred row off value)
-not_matched (Insert id new) row off (Some value) = ap (λ b. cond b (Some value) None) off
-not_matched (Delete pred) row off (Some value) = ap (λ b. cond b (Some value) None) (no_where pred row off value)
-
-not_listed : (s : Statement) (row : Row) → may_match s row ≡ false → (state : State) → listed s row state ≡ None
-not_listed (Select pred) row off state = not_matched (Select pred) row off state
-not_listed (Update expr pred) row off state = not_matched (Update expr pred) row off state
-not_listed (Insert id new) row off state = refl
-not_listed (Delete pred) row off state = not_matched (Delete pred) row off state
-
-not_failing : (s : Statement) (row : Row) → may_match s row ≡ false → (state : State) → fails s row state ≡ false
-not_failing (Select pred) row off state = refl
-not_failing (Update expr pred) row off state = ap (overflows expr) (not_matched (Update expr pred) row off state)
-not_failing (Insert id new) row off state = ap (λ b. b && is_some state) off
-not_failing (Delete pred) row off state = refl
-
--- nor would it be written
-pub not_written : (s : Statement) (row : Row) → may_match s row ≡ false → (state : State) → would_write s row state ≡ false
-not_written (Select pred) row off state = refl
-not_written (Update expr pred) row off state = ap (λ o. is_some (option_map (λ old. Some (applied expr old)) o)) (not_matched (Update expr pred) row off state)
-not_written (Insert id new) row off state = ap (λ b. is_some (cond b (Some (Some new)) None)) off
-not_written (Delete pred) row off state = ap (λ (o : State). is_some (option_map (λ (old : ℤ). gone) o)) (not_matched (Delete pred) row off state)
 
 -- another row than the only one that may match doesn't
 pub others_off : (s : Statement) (row : Row) → ((other : Row) → may_match s other ≡ true → other ≡ row) → (other : Row) → ¬ (other ≡ row) → may_match s other ≡ false

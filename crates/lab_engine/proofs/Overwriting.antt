@@ -1,28 +1,20 @@
 -- Versions of the rows that a statement would write, of those that are seen.
 use Rattle.std.proofs.Common.{◌≡◌, ◌∙◌, refl, sym, ap, Bool, true, false, cond}
-use Rattle.std.specs.Prelude.{Option, Some, None, unwrap_or, option_and_then, IsTrue}
+use Rattle.std.specs.Prelude.{Option, Some, None, unwrap_or, option_and_then, is_some, IsTrue}
 use Rattle.std.proofs.lemmas.Bool.{true≢false, false≢true}
 use Rattle.std.specs.FinMap.{get, insert, empty, get-insert, get-empty}
 use Rattle.lab_table.specs.Row.{Row, row_cmp, row_eq, rows_total}
 use Rattle.lab_table.proofs.Maps.{same_row, row_eq_self}
 use Rattle.lab_table.specs.Table.{Table, State}
-use Rattle.lab_table.specs.Predicate.{Predicate}
-use Rattle.lab_table.specs.Statement.{would_write, may_match}
+use Rattle.lab_table.specs.Statement.{is_read_only, would_write, may_match}
 use Rattle.lab_table.specs.declared.statement.Statement.{Statement}
-use Rattle.lab_table.specs.declared.statement.Statement.TheVariants.{Select, Update, Insert, Delete}
 use Rattle.lab_engine.specs.declared.event.Level.{Level}
 use Rattle.lab_engine.specs.Log.{Past, Version, Txn, seen}
 use Rattle.lab_engine.specs.Sight.{Listed, version_in, IsSight, ShowsWritten}
 use Rattle.lab_engine.specs.EachRow.{overwritten_version}
 use Rattle.lab_engine.proofs.Holding.{absent}
-use Rattle.lab_engine.proofs.Narrowing.{not_written, others_off}
-
--- a row that isn't written in some state isn't written where it is absent
-absent_unwritten : (s : Statement) (row : Row) (state : State) → would_write s row state ≡ false → would_write s row None ≡ false
-absent_unwritten (Select pred) row state h = refl
-absent_unwritten (Update expr pred) row state h = refl
-absent_unwritten (Insert id new) row state h = h
-absent_unwritten (Delete pred) row state h = refl
+use Rattle.lab_table.proofs.OneRow.{absent_unwritten, not_written, reader_writes_none}
+use Rattle.lab_engine.proofs.Narrowing.{others_off}
 
 -- what stays of a row's version
 abbrev Stays : Statement → Row → Option Version → Version → Type 0
@@ -46,16 +38,16 @@ shows_written level setup past txn s sees shown sight is row =
       λ h. ap (λ o. unwrap_or o absent) (is row) ∙ kept.1 (ap (λ v. would_write s row v.state) (sight row) ∙ h) ∙ sight row,
     )
 
--- a select writes nothing
-no_write : (s : Statement) (pred : Option Predicate) → s ≡ Select pred → (row : Row) (state : State) → would_write s row state ≡ false
-no_write s pred is row state = ap (λ t. would_write t row state) is
+-- a statement that only lists writes nothing
+no_write : (s : Statement) → is_read_only s ≡ true → (row : Row) (state : State) → would_write s row state ≡ false
+no_write s reads row state = ap is_some (reader_writes_none s reads row state)
 
 -- so no version need be shown to it
-pub shows_none : (level : Level) (setup : Table) (past : Past) (txn : Txn) (s : Statement) (pred : Option Predicate) (shown : Listed) → s ≡ Select pred
+pub shows_none : (level : Level) (setup : Table) (past : Past) (txn : Txn) (s : Statement) (shown : Listed) → is_read_only s ≡ true
     → ShowsWritten level setup past txn s shown
-shows_none level setup past txn s pred shown is row =
-    let seen_not : would_write s row (seen level setup past txn row).state ≡ false = no_write s pred is row (seen level setup past txn row).state in
-    (no_write s pred is row (version_in shown row).state ∙ sym seen_not, λ h. absurd (true≢false (sym h ∙ seen_not)))
+shows_none level setup past txn s shown reads row =
+    let seen_not : would_write s row (seen level setup past txn row).state ≡ false = no_write s reads row (seen level setup past txn row).state in
+    (no_write s reads row (version_in shown row).state ∙ sym seen_not, λ h. absurd (true≢false (sym h ∙ seen_not)))
 
 -- the one row that a statement may match, as it is seen
 pub shows_only : (level : Level) (setup : Table) (past : Past) (txn : Txn) (s : Statement) (row : Row) (version : Version) (shown : Listed)

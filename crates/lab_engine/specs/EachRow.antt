@@ -3,9 +3,9 @@ use Rattle.std.specs.Prelude.{ℤ, cond, Option, Some, None, option_map, option_
 use Rattle.std.specs.List.{filter_map}
 use Rattle.lab_table.specs.Row.{Row}
 use Rattle.lab_table.specs.Table.{State}
-use Rattle.lab_table.specs.Statement.{apply, listed, fails, would_write}
+use Rattle.lab_table.specs.Statement.{listed, fails, would_write}
+use Rattle.lab_table.specs.Statement as statement
 use Rattle.lab_table.specs.declared.statement.Statement.{Statement}
-use Rattle.lab_table.specs.declared.statement.Statement.TheVariants.{Select, Update, Insert, Delete}
 use Rattle.lab_history.specs.declared.operation.State.{State as Left}
 use Rattle.lab_history.specs.declared.operation.State.TheVariants.{Absent, Present}
 use Rattle.lab_engine.specs.Log.{Version}
@@ -22,12 +22,14 @@ each_row f entries = filter_map (λ entry. with_row entry.0 (f entry.0 entry.1))
 abbrev pub overwritten_version : Statement → Row → Version → Option Version
 overwritten_version s row version = cond (would_write s row version.state) (Some version) None
 
+-- a state as histories have it
+abbrev pub stored : State → Left
+stored None = Absent
+stored (Some value) = Present value
+
 -- the state that a statement gives a row that it lists with this value; nothing where the result is out of range
 abbrev pub value_rewritten : Statement → ℤ → Option Left
-value_rewritten (Select pred) old = None
-value_rewritten (Update expr pred) old = option_map (λ value. Present value) (apply expr old)
-value_rewritten (Insert id new) old = None
-value_rewritten (Delete pred) old = Some Absent
+value_rewritten s old = option_map stored (statement.rewritten s old)
 
 -- the state that it gives a row that it sees in this state; what an insert writes isn't made of a row that is seen
 abbrev pub rewritten : Statement → Row → State → Option Left

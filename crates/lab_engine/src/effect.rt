@@ -122,14 +122,9 @@ fn rows_of(alloc: Global, statement: &Statement, seen: &Versions) -> Result<Rows
 fn rewritten_value(statement: &Statement, value: Value) -> Option<State>
     ensures { result ≡ made.value_rewritten statement.now value }
 {
-    match statement {
-        Statement::Select { .. } => None,
-        Statement::Update { expr, .. } => {
-            let value = expr.apply(value)?;
-            Some(State::Present(value))
-        }
-        Statement::Insert { .. } => None,
-        Statement::Delete { .. } => Some(State::Absent),
+    match statement.rewritten(value)? {
+        None => Some(State::Absent),
+        Some(value) => Some(State::Present(value)),
     }
 }
 
@@ -185,11 +180,15 @@ fn written_states(
     ensures found { ((row : Row) → fails statement.now row (version_in seen.now row).state ≡ false)
         → IfOk result (λ v. (row : Row) → map.find row_cmp row (new_states v.items) ≡ written statement.now row (version_in seen.now row).state) }
 {
-    match statement {
-        Statement::Select { .. } => Ok(Vec::new(alloc)),
-        Statement::Update { .. } => rewritten_states(alloc, statement, seen.entries()),
-        Statement::Insert { id, value } => inserted(alloc, *id, *value),
-        Statement::Delete { .. } => rewritten_states(alloc, statement, seen.entries()),
+    match statement.inserted() {
+        Some((id, value)) => inserted(alloc, id, value),
+        None => {
+            if statement.is_read_only() {
+                Ok(Vec::new(alloc))
+            } else {
+                rewritten_states(alloc, statement, seen.entries())
+            }
+        }
     }
 }
 
@@ -225,20 +224,21 @@ fn fault_of(statement: &Statement, seen: &Versions) -> Option<EffectFault>
         (IsEffectFault (version_in seen.now) statement.now) }
     ensures own { IfSome result (λ fault. fault ≢ NoMemory) }
 {
-    match statement {
-        Statement::Select { .. } => None,
-        Statement::Update { .. } => {
-            let id = first_candidate_failing(statement, seen.entries())?;
-            Some(EffectFault::OutOfRange { id })
-        }
-        Statement::Insert { id, .. } => {
-            if version_seen(seen, *id).state.is_some() {
-                Some(EffectFault::DuplicateKey { id: *id })
+    match statement.inserted() {
+        Some((id, _)) => {
+            if version_seen(seen, id).state.is_some() {
+                Some(EffectFault::DuplicateKey { id })
             } else {
                 None
             }
         }
-        Statement::Delete { .. } => None,
+        None => {
+            if !statement.is_update() {
+                return None;
+            }
+            let id = first_candidate_failing(statement, seen.entries())?;
+            Some(EffectFault::OutOfRange { id })
+        }
     }
 }
 

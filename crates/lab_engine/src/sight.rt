@@ -111,7 +111,7 @@ pub fn shown_to(
     ensures { (past : Past) (session : ℕ) (txn : Txn) → Describes past situation.now → active past session ≡ Some txn → IsRunning txn running.now
         → IfOk result (ShowsWritten level setup.now past txn statement.now) }
 {
-    if let Statement::Select { .. } = statement {
+    if statement.is_read_only() {
         return Ok(Versions::new(alloc));
     }
     match statement.named_row() {

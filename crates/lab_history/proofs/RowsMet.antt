@@ -1,6 +1,5 @@
 -- A row that is looked for in a rising list, and put there.
 use Rattle.std.proofs.Common.{◌≡◌, ℕ, zero, suc, true, false, T, List, [], ◌∷◌, length, map, refl, sym, ap, ◌∙◌, subst, arith}
-use Rattle.std.specs.Prelude.{◌==◌}
 use Rattle.std.specs.Ordering.{is_lt, match_ordering}
 use Rattle.std.specs.declared.cmp.Ordering.{Ordering}
 use Rattle.std.specs.declared.cmp.Ordering.TheVariants.{Less, Equal, Greater}
@@ -8,19 +7,15 @@ use Rattle.std.specs.BTreeSet.{insert_key}
 use Rattle.std.specs.FinMap.{FinMap, empty, entries, keys, insert, put, is_sorted, entries_sorted, entries-insert, len-entries, len-empty}
 use Rattle.std.specs.FinMap.Entries.{below_all, by_order}
 use Rattle.std.specs.Cmp.{tied_itself}
-use Rattle.lab_table.specs.Row.{Row, row_cmp, rows_total, rows_tested}
+use Rattle.lab_table.specs.Row.{Row, row_cmp, rows_total}
 use Rattle.lab_table.specs.Placed.{is_row_at}
-use Rattle.lab_table.proofs.Maps.{same_row}
+use Rattle.lab_table.proofs.Maps.{tested_same}
 use Rattle.lab_table.proofs.Orderings.{is_less, turned_back}
 use Rattle.lab_table.proofs.Tests.{both}
 
 -- nothing is both false and true
 never : (P : Type 0) → false ≡ true → P
 never P h = absurd (subst T (sym h) tt)
-
--- a row that tests as another is that row
-tested_same : (a b : Row) → (a == b) ≡ true → a ≡ b
-tested_same a b h = same_row a b (sym (rows_tested a b) ∙ h)
 
 -- no entry has a row
 nothing : {X : Type 0} (es : List X) → length es ≡ 0 → es ≡ []

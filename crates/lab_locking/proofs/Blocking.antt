@@ -1,20 +1,21 @@
 -- What the tests of pending writes and of statements that ran say of a transaction.
-use Rattle.std.proofs.Common.{◌≡◌, ◌∙◌, refl, sym, ap, Bool, true, false, cond, ◌&&◌, ◌||◌, List, map, reverse}
+use Rattle.std.proofs.Common.{◌≡◌, ◌∙◌, refl, sym, ap, Bool, true, false, cond, not, ◌&&◌, ◌||◌, List, map, reverse}
 use Rattle.std.specs.Prelude.{ℤ, Option, Some, None, is_some, unwrap_or, IsTrue}
 use Rattle.std.proofs.lemmas.Bool.{and_parts, and_from, true≢false}
 use Rattle.std.specs.FinMap.{get}
 use Rattle.lab_table.specs.Row.{Row, row_eq}
 use Rattle.lab_table.specs.Table.{Table, State}
-use Rattle.lab_table.specs.Statement.{matches, would_write, new_state}
+use Rattle.lab_table.specs.Statement.{is_read_only, inserted, matches, would_write, new_state}
 use Rattle.lab_table.specs.declared.statement.Statement.{Statement}
-use Rattle.lab_table.specs.declared.statement.Statement.TheVariants.{Select, Update, Insert, Delete}
 use Rattle.lab_table.proofs.Maps.{same_row}
+use Rattle.lab_table.proofs.OneRow.{reader_writes_none, insert_is, change_is}
+use Rattle.lab_table.proofs.Statements.{absent_unlisted}
 use Rattle.lab_engine.specs.declared.event.Level.{Level}
 use Rattle.lab_engine.specs.Log.{Past, Version, Txn, commits, version_by, last_installed, initial_version, committed_version, seen, has_read}
 use Rattle.lab_engine.specs.Rules.{HoldsMatch, HasRead}
 use Rattle.lab_engine.specs.Sight.{Listed, version_in, ShowsWritten}
 use Rattle.lab_engine.proofs.Holding.{absent, found_of_any, none_of_any, any_read}
-use Rattle.lab_locking.specs.Blockers.{committed_state, matches_pending, any_matches, row_was_read, listed_was_read, was_read}
+use Rattle.lab_locking.specs.Blockers.{committed_state, matches_pending, any_matches, row_was_read, listed_was_read, added_was_read, was_read}
 
 -- the committed state of a row is that of its committed version
 state_of : (setup : Table) (installed : Option Version) (row : Row) → committed_state setup installed row ≡ (unwrap_or installed (initial_version setup row)).state
@@ -77,10 +78,11 @@ module _ (level : Level) (setup : Table) (past : Past) (asker : Txn) (sees : Lis
 
   -- the transaction has run a statement that matches what the asker's would write
   pub has_been_read : (s : Statement) → ShowsWritten level setup past asker s sees → was_read ran s sees ≡ true → HasRead level setup past asker s holder
-  has_been_read (Select pred) shows any = absurd (true≢false (sym any))
-  has_been_read (Update expr pred) shows any = listed_read (Update expr pred) shows any
-  has_been_read (Insert id new) shows any = at_row (Insert id new) shows id any
-  has_been_read (Delete pred) shows any = listed_read (Delete pred) shows any
+  has_been_read s shows any = of (inserted s) any
+    where
+      of : (o : Option (Row × ℤ)) → added_was_read ran s sees o ≡ true → HasRead level setup past asker s holder
+      of None any = listed_read s shows (and_parts (not (is_read_only s)) (listed_was_read ran s sees) any).1
+      of (Some added) any = at_row s shows added.0 any
 
   -- an insert writes its own row alone
   own_row : (id row : Row) (b : Bool) → row_eq row id ≡ b → (new : ℤ) → is_some (cond b (Some (Some new)) None) ≡ true → row ≡ id
@@ -89,9 +91,17 @@ module _ (level : Level) (setup : Table) (past : Past) (asker : Txn) (sees : Lis
 
   -- the transaction has run none
   pub has_not_been_read : (s : Statement) → ShowsWritten level setup past asker s sees → was_read ran s sees ≡ false → ¬ HasRead level setup past asker s holder
-  has_not_been_read (Select pred) shows any = λ (row, writes, read). true≢false (sym writes)
-  has_not_been_read (Update expr pred) shows any = listed_unread (Update expr pred) shows (λ row. refl) any
-  has_not_been_read (Insert id new) shows any = λ (row, writes, read).
-      true≢false (sym (read_row (Insert id new) shows row writes read)
-      ∙ ap (λ r. row_was_read ran (Insert id new) r (version_in sees r).state) (own_row id row (row_eq row id) refl new writes) ∙ any)
-  has_not_been_read (Delete pred) shows any = listed_unread (Delete pred) shows (λ row. refl) any
+  has_not_been_read s shows any = of (inserted s) refl any
+    where
+      unlisted : (b : Bool) → is_read_only s ≡ b → inserted s ≡ None → (not b && listed_was_read ran s sees) ≡ false → ¬ HasRead level setup past asker s holder
+      unlisted true reads none any = λ (row, writes, read). true≢false (sym writes ∙ ap is_some (reader_writes_none s reads row (seen level setup past asker row).state))
+      unlisted false changes none any = listed_unread s shows (λ row. ap is_some ((change_is s changes none).writes_listed row None (absent_unlisted s row))) any
+
+      of : (o : Option (Row × ℤ)) → inserted s ≡ o → added_was_read ran s sees o ≡ false → ¬ HasRead level setup past asker s holder
+      of None is any = unlisted (is_read_only s) refl is any
+      of (Some added) is any = λ (row, writes, read).
+          let insert = insert_is s added.0 added.1 is in
+          true≢false (sym (read_row s shows row writes read)
+          ∙ ap (λ r. row_was_read ran s r (version_in sees r).state)
+          (own_row added.0 row (row_eq row added.0) refl added.1 (sym (ap is_some (insert.writes row (seen level setup past asker row).state)) ∙ writes))
+          ∙ any)

@@ -1,12 +1,11 @@
 -- When a transaction's writes and reads stand in a statement's way.
-use Rattle.std.specs.Prelude.{Bool, false, ◌||◌, ◌&&◌, Option, Some, None, List}
+use Rattle.std.specs.Prelude.{ℤ, Bool, not, ◌||◌, ◌&&◌, Option, Some, None, List}
 use Rattle.std.specs.List.{list_any}
 use Rattle.std.specs.FinMap as map
 use Rattle.lab_table.specs.Row.{Row}
 use Rattle.lab_table.specs.Table.{Table, State}
-use Rattle.lab_table.specs.Statement.{matches, would_write, new_state}
+use Rattle.lab_table.specs.Statement.{is_read_only, inserted, matches, would_write, new_state}
 use Rattle.lab_table.specs.declared.statement.Statement.{Statement}
-use Rattle.lab_table.specs.declared.statement.Statement.TheVariants.{Select, Update, Insert, Delete}
 use Rattle.lab_engine.specs.Log.{Version}
 use Rattle.lab_engine.specs.Sight.{Listed, version_in}
 
@@ -31,9 +30,11 @@ row_was_read ran s row state = would_write s row state && (any_matches ran row s
 abbrev pub listed_was_read : List Statement → Statement → Listed → Bool
 listed_was_read ran s seen = list_any (λ entry. row_was_read ran s entry.0 entry.1.state) (map.entries seen)
 
--- whether it holds of some row; a select writes none, and an insert may write a row that has no version
+-- whether it holds of the row that an insert adds, which may have no version, or of some row with a version; a statement that only lists writes none
+abbrev pub added_was_read : List Statement → Statement → Listed → Option (Row × ℤ) → Bool
+added_was_read ran s seen None = not (is_read_only s) && listed_was_read ran s seen
+added_was_read ran s seen (Some added) = row_was_read ran s added.0 (version_in seen added.0).state
+
+-- whether it holds of some row
 abbrev pub was_read : List Statement → Statement → Listed → Bool
-was_read ran (Select pred) seen = false
-was_read ran (Update expr pred) seen = listed_was_read ran (Update expr pred) seen
-was_read ran (Insert id new) seen = row_was_read ran (Insert id new) id (version_in seen id).state
-was_read ran (Delete pred) seen = listed_was_read ran (Delete pred) seen
+was_read ran s seen = added_was_read ran s seen (inserted s)

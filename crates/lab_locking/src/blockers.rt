@@ -58,13 +58,13 @@ fn listed_was_read(ran: &[Statement], statement: &Statement, seen: &Versions) ->
 pub fn has_read(seen: &Versions, statement: &Statement, holder: &RunningTxn) -> bool
     ensures { result ≡ spec.was_read (statements_of holder.now) statement.now seen.now }
 {
-    match statement {
-        Statement::Select { .. } => false,
-        Statement::Update { .. } => listed_was_read(&holder.statements, statement, seen),
-        Statement::Insert { id, .. } => {
-            let version = version_seen(seen, *id);
-            row_was_read(&holder.statements, statement, *id, &version)
+    match statement.inserted() {
+        Some((id, _)) => {
+            let version = version_seen(seen, id);
+            row_was_read(&holder.statements, statement, id, &version)
         }
-        Statement::Delete { .. } => listed_was_read(&holder.statements, statement, seen),
+        None => {
+            !statement.is_read_only() && listed_was_read(&holder.statements, statement, seen)
+        }
     }
 }

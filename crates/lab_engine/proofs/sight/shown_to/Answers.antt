@@ -1,4 +1,4 @@
-use Rattle.std.proofs.Common.{◌≡◌, true, subst}
+use Rattle.std.proofs.Common.{◌≡◌, ◌∙◌, sym, true, subst}
 use Rattle.std.specs.Prelude.{IfSome}
 use Rattle.std.proofs.lemmas.Result.{IfOk-weaker}
 use Rattle.lab_table.specs.Row.{Row}
@@ -6,8 +6,9 @@ use Rattle.lab_table.specs.Statement.{may_match}
 use Rattle.lab_engine.proofs.Overwriting.{shows_written, shows_none, shows_only}
 use Rattle.lab_engine.proofs.sight.shown_to.Goals as goal
 
-pub returns-in-Select : goal.returns-in-Select
-returns-in-Select c = λ past session txn d is_active running. shows_none c.args.level c.args.setup.now past txn c.args.statement.now c.in-Select.pred _ c.in-Select.is
+pub returns-then-is_read_only : goal.returns-then-is_read_only
+returns-then-is_read_only c = λ past session txn d is_active running.
+    shows_none c.args.level c.args.setup.now past txn c.args.statement.now _ (sym c.is_read_only.ensures ∙ c.if-is_read_only.true)
 
 pub returns-in-Some : goal.returns-in-Some
 returns-in-Some c = λ past session txn d is_active running.
