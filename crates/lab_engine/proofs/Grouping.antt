@@ -1,6 +1,6 @@
 -- Rows with who installed them, gathered from installs that are sorted by row.
 use Rattle.std.proofs.Common.{◌≡◌, ℕ, suc, ◌≤◌, ◌<◌, ◌++◌, arith, refl, sym, ap, subst, ◌∙◌, Bool, true, false, cond, ◌&&◌, not, T, List, [], ◌∷◌, map, length, append_assoc}
-use Rattle.std.specs.Prelude.{⊤, ◌==◌, Option, Some, None, filter, slice_index_or}
+use Rattle.std.specs.Prelude.{⊤, Option, Some, None, filter, slice_index_or}
 use Rattle.std.specs.List.Sorted.{IsSortedByKey, IsStableByKey}
 use Rattle.std.specs.Ordering.{is_eq, is_lt}
 use Rattle.std.specs.Cmp.{Equal-is, tied_itself}
@@ -9,7 +9,7 @@ use Rattle.std.specs.declared.cmp.Ordering.TheVariants.{Less, Equal, Greater}
 use Rattle.std.proofs.lemmas.List.Sorted.{ranks_by, sorted_far}
 use Rattle.std.specs.FinMap.{get, find, is_sorted, from_sorted, get-from_sorted}
 use Rattle.std.specs.FinMap.Entries.{below_all}
-use Rattle.lab_table.specs.Row.{Row, row_cmp, row_eq, rows_total, rows_apart, rows_tested}
+use Rattle.lab_table.specs.Row.{Row, row_cmp, row_eq, rows_total, rows_apart, rows_tested, row_test}
 use Rattle.lab_table.proofs.Maps.{same_row}
 use Rattle.lab_table.proofs.Orderings.{turned}
 use Rattle.lab_table.proofs.Tests.{joined, true_and_false}
@@ -44,12 +44,12 @@ rises : (is : Installs) → IsSortedByKey (λ e. e.0) row_cmp is → Rising is
 rises is up = rising is (λ i j d le few. sorted_far (λ (x y : Row × ℕ). is_lt (row_cmp x.0 y.0)) (ranks_by rows_total (λ (e : Row × ℕ). e.0)) is up i j d le few)
 
 -- a row that isn't below another and isn't that one is above it
-above : (x y : Row) → is_lt (row_cmp y x) ≡ false → (x == y) ≡ false → row_cmp x y ≡ Less
+above : (x y : Row) → is_lt (row_cmp y x) ≡ false → (row_test x y) ≡ false → row_cmp x y ≡ Less
 above x y high other = at (row_cmp y x) refl
   where
     at : (r : Ordering) → row_cmp y x ≡ r → row_cmp x y ≡ Less
     at Less p = true_and_false _ (is_lt (row_cmp y x)) (ap is_lt p) high
-    at Equal p = true_and_false _ (x == y) (rows_tested x y ∙ (Equal-is (row_cmp x y)).1 (ap (row_cmp x) (rows_apart y x p) ∙ tied_itself rows_total x)) other
+    at Equal p = true_and_false _ (row_test x y) (rows_tested x y ∙ (Equal-is (row_cmp x y)).1 (ap (row_cmp x) (rows_apart y x p) ∙ tied_itself rows_total x)) other
     at Greater p = turned y x p
 
 -- a row below those that aren't below another one isn't among them
@@ -73,7 +73,7 @@ group_found row before x [] up = at (row_eq row x.0)
     at : (b : Bool) → cond b (Some (before ++ x.1 ∷ [])) None ≡ cond b (Some (before ++ map (λ (k : Row × ℕ). k.1) (cond b (x ∷ []) []))) (if_any (map (λ (k : Row × ℕ). k.1) (cond b (x ∷ []) [])))
     at true = refl
     at false = refl
-group_found row before x (y ∷ ys) up = split (group_found row (before ++ x.1 ∷ []) y ys up.1) (group_found row [] y ys up.1) (x.0 == y.0) refl
+group_found row before x (y ∷ ys) up = split (group_found row (before ++ x.1 ∷ []) y ys up.1) (group_found row [] y ys up.1) (row_test x.0 y.0) refl
   where
     own : Installs
     own = filter (λ (k : Row × ℕ). row_eq row k.0) (y ∷ ys)
@@ -90,7 +90,7 @@ group_found row before x (y ∷ ys) up = split (group_found row (before ++ x.1 �
     first true rest = refl
     first false rest = refl
 
-    ends : (find row_cmp row (groups_from [] (y ∷ ys)) ≡ cond (row_eq row y.0) (Some ([] ++ numbers_of row (y ∷ ys))) (if_any (numbers_of row (y ∷ ys)))) → (x.0 == y.0) ≡ false → (b : Bool)
+    ends : (find row_cmp row (groups_from [] (y ∷ ys)) ≡ cond (row_eq row y.0) (Some ([] ++ numbers_of row (y ∷ ys))) (if_any (numbers_of row (y ∷ ys)))) → (row_test x.0 y.0) ≡ false → (b : Bool)
         → row_eq row x.0 ≡ b → cond b (Some (before ++ x.1 ∷ [])) (find row_cmp row (groups_from [] (y ∷ ys))) ≡ whole b
     ends next f true t =
         let less : row_cmp row y.0 ≡ Less = ap (λ k. row_cmp k y.0) (same_row row x.0 t) ∙ above x.0 y.0 up.0.0 f in
@@ -98,7 +98,7 @@ group_found row before x (y ∷ ys) up = split (group_found row (before ++ x.1 �
     ends next f false t = next ∙ first (row_eq row y.0) (filter (λ (k : Row × ℕ). row_eq row k.0) ys)
 
     split : (find row_cmp row (groups_from (before ++ x.1 ∷ []) (y ∷ ys)) ≡ cond (row_eq row y.0) (Some ((before ++ x.1 ∷ []) ++ numbers_of row (y ∷ ys))) (if_any (numbers_of row (y ∷ ys))))
-        → (find row_cmp row (groups_from [] (y ∷ ys)) ≡ cond (row_eq row y.0) (Some ([] ++ numbers_of row (y ∷ ys))) (if_any (numbers_of row (y ∷ ys)))) → (b : Bool) → (x.0 == y.0) ≡ b
+        → (find row_cmp row (groups_from [] (y ∷ ys)) ≡ cond (row_eq row y.0) (Some ([] ++ numbers_of row (y ∷ ys))) (if_any (numbers_of row (y ∷ ys)))) → (b : Bool) → (row_test x.0 y.0) ≡ b
         → find row_cmp row (cond b (groups_from (before ++ x.1 ∷ []) (y ∷ ys)) ((x.0, before ++ x.1 ∷ []) ∷ groups_from [] (y ∷ ys))) ≡ whole (row_eq row x.0)
     split again next true t =
         let same : x.0 ≡ y.0 = same_row x.0 y.0 (sym (rows_tested x.0 y.0) ∙ t) in
@@ -110,10 +110,10 @@ group_found row before x (y ∷ ys) up = split (group_found row (before ++ x.1 �
 -- what is below the first row is below that of each group
 group_above : (r : Row) (before : List ℕ) (x : Row × ℕ) (xs : Installs) → Rising (x ∷ xs) → row_cmp r x.0 ≡ Less → T (below_all row_cmp r (groups_from before (x ∷ xs)))
 group_above r before x [] up less = joined (is_lt (row_cmp r x.0)) true (subst (λ o. T (is_lt o)) (sym less) tt) tt
-group_above r before x (y ∷ ys) up less = split (group_above r (before ++ x.1 ∷ []) y ys up.1) (group_above r [] y ys up.1) (x.0 == y.0) refl
+group_above r before x (y ∷ ys) up less = split (group_above r (before ++ x.1 ∷ []) y ys up.1) (group_above r [] y ys up.1) (row_test x.0 y.0) refl
   where
     split : (row_cmp r y.0 ≡ Less → T (below_all row_cmp r (groups_from (before ++ x.1 ∷ []) (y ∷ ys)))) → (row_cmp r y.0 ≡ Less → T (below_all row_cmp r (groups_from [] (y ∷ ys)))) → (b : Bool)
-        → (x.0 == y.0) ≡ b → T (below_all row_cmp r (cond b (groups_from (before ++ x.1 ∷ []) (y ∷ ys)) ((x.0, before ++ x.1 ∷ []) ∷ groups_from [] (y ∷ ys))))
+        → (row_test x.0 y.0) ≡ b → T (below_all row_cmp r (cond b (groups_from (before ++ x.1 ∷ []) (y ∷ ys)) ((x.0, before ++ x.1 ∷ []) ∷ groups_from [] (y ∷ ys))))
     split again next true t =
         let same : x.0 ≡ y.0 = same_row x.0 y.0 (sym (rows_tested x.0 y.0) ∙ t) in
         again (ap (row_cmp r) (sym same) ∙ less)
@@ -123,9 +123,9 @@ group_above r before x (y ∷ ys) up less = split (group_above r (before ++ x.1 
 
 group_sorted : (before : List ℕ) (x : Row × ℕ) (xs : Installs) → Rising (x ∷ xs) → T (is_sorted row_cmp (groups_from before (x ∷ xs)))
 group_sorted before x [] up = tt
-group_sorted before x (y ∷ ys) up = split (group_sorted (before ++ x.1 ∷ []) y ys up.1) (group_sorted [] y ys up.1) (x.0 == y.0) refl
+group_sorted before x (y ∷ ys) up = split (group_sorted (before ++ x.1 ∷ []) y ys up.1) (group_sorted [] y ys up.1) (row_test x.0 y.0) refl
   where
-    split : T (is_sorted row_cmp (groups_from (before ++ x.1 ∷ []) (y ∷ ys))) → T (is_sorted row_cmp (groups_from [] (y ∷ ys))) → (b : Bool) → (x.0 == y.0) ≡ b
+    split : T (is_sorted row_cmp (groups_from (before ++ x.1 ∷ []) (y ∷ ys))) → T (is_sorted row_cmp (groups_from [] (y ∷ ys))) → (b : Bool) → (row_test x.0 y.0) ≡ b
         → T (is_sorted row_cmp (cond b (groups_from (before ++ x.1 ∷ []) (y ∷ ys)) ((x.0, before ++ x.1 ∷ []) ∷ groups_from [] (y ∷ ys))))
     split again next true t = again
     split again next false f =

@@ -1,5 +1,5 @@
 -- Sorted lists of rows with their versions, two of which are merged.
-use Rattle.std.proofs.Common.{◌≡◌, ℕ, zero, suc, ◌+◌, true, false, cond, T, [], ◌∷◌, ◌++◌, take, drop, Option, Some, refl, sym, ap, ◌∙◌, subst, ◌==◌, append_assoc, one-add}
+use Rattle.std.proofs.Common.{◌≡◌, ℕ, zero, suc, ◌+◌, true, false, cond, T, [], ◌∷◌, ◌++◌, take, drop, Option, Some, refl, sym, ap, ◌∙◌, subst, append_assoc, one-add}
 use Rattle.std.specs.Bool.{⊤}
 use Rattle.std.specs.Option.{option_or}
 use Rattle.std.specs.List.{prefix_len}
@@ -8,7 +8,7 @@ use Rattle.std.specs.declared.cmp.Ordering.{Ordering}
 use Rattle.std.specs.declared.cmp.Ordering.TheVariants.{Less, Equal, Greater}
 use Rattle.std.specs.FinMap.{find, is_sorted, get, from_sorted, insert, put, entries, entries_sorted, get-entries, get-from_sorted, get-insert}
 use Rattle.std.specs.FinMap.Entries.{below_all, by_order, is_sorted-put, find-put}
-use Rattle.lab_table.specs.Row.{Row, row_cmp, row_eq, rows_total, rows_apart}
+use Rattle.lab_table.specs.Row.{Row, row_cmp, row_eq, rows_total, rows_apart, row_test}
 use Rattle.lab_table.proofs.Maps.{find_below, same_row}
 use Rattle.lab_table.proofs.Putting.{is_own}
 use Rattle.lab_table.proofs.Tests.{both}
@@ -127,7 +127,7 @@ sorted-drop (suc n) (e ∷ es) h = sorted-drop n es (both (below_all row_cmp e.0
 sorted-without : (row : Row) (es : Entries) → T (is_sorted row_cmp es) → T (is_sorted row_cmp (without_row row es))
 sorted-without row [] h = h
 sorted-without row (e ∷ es) h =
-    elim (row == e.0) as (λ b. T (is_sorted row_cmp (cond b es (e ∷ es)))) [
+    elim (row_test row e.0) as (λ b. T (is_sorted row_cmp (cond b es (e ∷ es)))) [
       | true ↦ (both (below_all row_cmp e.0 es) (is_sorted row_cmp es) h).1
       | false ↦ h
     ]

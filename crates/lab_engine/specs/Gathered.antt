@@ -3,7 +3,7 @@ use Rattle.std.specs.Option.{option_or}
 use Rattle.std.specs.Prelude.{◌≡◌, ◌==◌, Bool, false, ℕ, zero, suc, ◌+◌, ◌-◌, ◌≤◌, ◌<◌, cond, Option, Some, None, is_some, option_map, List, [], ◌∷◌, ◌++◌, length, filter, reverse, slice_get, get_or, ⊤}
 use Rattle.std.specs.Prelude as list
 use Rattle.std.specs.FinMap as map
-use Rattle.lab_table.specs.Row.{Row, row_eq}
+use Rattle.lab_table.specs.Row.{Row, row_eq, row_test}
 use Rattle.lab_table.specs.declared.statement.Command.{Command}
 use Rattle.lab_history.specs.declared.operation.Op.{Op}
 use Rattle.lab_history.specs.declared.transaction.Txn.{Txn as Recorded}
@@ -119,7 +119,7 @@ numbers_of row installs = list.map (λ install. install.1) (filter (λ install. 
 -- whether the first of these installs is one of the row
 abbrev pub is_row_next : Row → List (Row × ℕ) → Bool
 is_row_next row [] = false
-is_row_next row (install ∷ installs) = row == install.0
+is_row_next row (install ∷ installs) = row_test row install.0
 
 -- rows each with who installed it, where those of one row stand side by side; of the first some stand before
 abbrev pub groups_from : List ℕ → List (Row × ℕ) → List (Row × List ℕ)

@@ -1,8 +1,8 @@
 -- Sorted lists of rows with their versions.
-use Rattle.std.specs.Prelude.{cond, ◌==◌, ℤ, Option, Some, None, List, [], ◌∷◌, ◌++◌, take, drop}
+use Rattle.std.specs.Prelude.{cond, ℤ, Option, Some, None, List, [], ◌∷◌, ◌++◌, take, drop}
 use Rattle.std.specs.List.{prefix_len}
 use Rattle.std.specs.FinMap as map
-use Rattle.lab_table.specs.Row.{Row}
+use Rattle.lab_table.specs.Row.{Row, row_test}
 use Rattle.lab_table.specs.Table.{State}
 use Rattle.lab_history.specs.VersionName.{state_value}
 use Rattle.lab_history.specs.declared.operation.State.{State as Written}
@@ -27,7 +27,7 @@ written_version name (Some state) = Some (record { name = name; state = state })
 -- a list without its first entry, if that is the row's
 abbrev pub without_row : Row → List (Row × Version) → List (Row × Version)
 without_row row [] = []
-without_row row (e ∷ es) = cond (row == e.0) es (e ∷ es)
+without_row row (e ∷ es) = cond (row_test row e.0) es (e ∷ es)
 
 -- two sorted lists merged; of a row that both have, the second's version stays
 abbrev pub merged : List (Row × Version) → List (Row × Version) → List (Row × Version)
