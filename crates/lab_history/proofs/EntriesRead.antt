@@ -6,7 +6,8 @@ use Rattle.serde_json.specs.Data.{Data, Items, no_items, item}
 use Rattle.serde_json.specs.Find.{as_array}
 use Rattle.lab_table.specs.Row.{Row, row_cmp}
 use Rattle.lab_history.specs.Faults.{required}
-use Rattle.lab_history.specs.Entries.{id_in, txn_in_number, op_in_number, value_in, written_in, pair_of, version_of, installers_from, installers_of, installed_of, values_in, writes_in, view_in, installed_in}
+use Rattle.lab_history.specs.Member.{id_in}
+use Rattle.lab_history.specs.Entries.{txn_in_number, op_in_number, value_in, written_in, pair_of, version_of, installers_from, installers_of, installed_of, values_in, writes_in, view_in, installed_in}
 use Rattle.lab_history.specs.FileOf.{AreEach, IsListOf, IsMapOf, IsPair, IsVersion, IsInstalled}
 use Rattle.lab_history.specs.declared.operation.VersionName.{VersionName}
 use Rattle.lab_history.specs.declared.operation.VersionName.TheVariants.{Of}

@@ -5,8 +5,9 @@ use Rattle.serde_json.specs.Data.{Data, Items, no_items, item}
 use Rattle.serde_json.specs.Find.{as_array, at, get_item}
 use Rattle.lab_table.specs.Row.{Row}
 use Rattle.lab_history.specs.Faults.{required}
-use Rattle.lab_history.specs.Entries.{entries_in, id_in, txn_in_number, op_in_number, pair_of, version_of, installers_from, installers_of, installed_of, view_in, installed_in}
-use Rattle.lab_history.specs.FaultOf.{row_of, IsTrueFault}
+use Rattle.lab_history.specs.Member.{id_in, row_of}
+use Rattle.lab_history.specs.Entries.{entries_in, txn_in_number, op_in_number, pair_of, version_of, installers_from, installers_of, installed_of, view_in, installed_in}
+use Rattle.lab_history.specs.FaultOf.{IsTrueFault}
 use Rattle.lab_history.specs.PlaceShape.{fits, parts_of, has_size, has_items, second_fits}
 use Rattle.lab_history.specs.ValueAt.{list_at, value_at}
 use Rattle.lab_history.specs.Format.{at_key}

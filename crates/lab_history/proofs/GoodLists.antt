@@ -5,8 +5,9 @@ use Rattle.std.specs.FinMap.{FinMap}
 use Rattle.serde_json.specs.Data.{Data, array, Items, no_items, item}
 use Rattle.serde_json.specs.Find.{as_array, at, get_item}
 use Rattle.lab_table.specs.Row.{Row, row_cmp}
-use Rattle.lab_history.specs.Entries.{id_in, txn_in_number, op_in_number}
-use Rattle.lab_history.specs.FaultOf.{row_of, FallsSomewhere}
+use Rattle.lab_history.specs.Member.{id_in, row_of}
+use Rattle.lab_history.specs.Entries.{txn_in_number, op_in_number}
+use Rattle.lab_history.specs.FaultOf.{FallsSomewhere}
 use Rattle.lab_history.specs.PlaceShape.{parts_of, has_size, has_items, second_fits, part_fits}
 use Rattle.lab_history.specs.FileOf.{AreEach, IsMapOf, IsPair, IsVersion, IsInstalled}
 use Rattle.lab_history.specs.declared.operation.VersionName.{VersionName}

@@ -5,7 +5,8 @@ use Rattle.serde_json.specs.Find.{as_array, at, get_item}
 use Rattle.lab_table.specs.Row.{Row, row_cmp}
 use Rattle.lab_history.specs.Faults.{required}
 use Rattle.lab_history.specs.Entries.{follows, entries_from, entries_in}
-use Rattle.lab_history.specs.FaultOf.{row_of, FallsSomewhere, IsTrueFault}
+use Rattle.lab_history.specs.Member.{row_of}
+use Rattle.lab_history.specs.FaultOf.{FallsSomewhere, IsTrueFault}
 use Rattle.lab_history.specs.PlaceShape.{fits}
 use Rattle.lab_history.specs.ValueAt.{list_at, value_at}
 use Rattle.lab_history.specs.declared.fault.FileFault.{FileFault}

@@ -6,7 +6,8 @@ use Rattle.serde_json.specs.Find.{as_array}
 use Rattle.lab_table.specs.Row.{Row, row_cmp}
 use Rattle.lab_history.specs.VersionName.{new_states, state_value}
 use Rattle.lab_history.specs.Faults.{◌>>=◌, required, Gives}
-use Rattle.lab_history.specs.Entries.{id_in, written_in, follows, pair_in, pair_of, entries_from, entries_in, writes_in}
+use Rattle.lab_history.specs.Member.{id_in, pair_in}
+use Rattle.lab_history.specs.Entries.{written_in, follows, pair_of, entries_from, entries_in, writes_in}
 use Rattle.lab_history.specs.WrittenState.{state_from, state_in}
 use Rattle.lab_history.specs.declared.fault.FileFault.{FileFault}
 use Rattle.lab_history.specs.declared.fault.FileFault.TheVariants as fault

@@ -1,11 +1,13 @@
 -- The numbers of a history file, and its lists whose members begin with a row.
-use Rattle.std.specs.Prelude.{ℕ, ◌+◌, ◌&&◌, nat_le, ℤ, int_le, pos, negsuc, Bool, true, List, [], ◌∷◌, Option, Some, None, option_and_then, Result, Ok, Err, if◌then◌else◌}
+use Rattle.std.specs.Prelude.{ℕ, ◌+◌, ◌&&◌, ℤ, int_le, pos, negsuc, Bool, true, List, [], ◌∷◌, Option, Some, None, option_and_then, Result, Ok, Err, if◌then◌else◌}
 use Rattle.std.specs.Ordering.{is_lt}
 use Rattle.serde_json.specs.Data.{Data, null, boolean, number, string, array, object, Items, no_items, item}
-use Rattle.serde_json.specs.Find.{as_number, as_u64, as_i64, as_array}
+use Rattle.serde_json.specs.Find.{as_number, as_i64, as_array}
 use Rattle.lab_table.specs.Row.{Row, row_cmp}
 use Rattle.lab_history.specs.Faults.{◌>>=◌, required}
 use Rattle.lab_history.specs.Limits.{max_operations}
+use Rattle.lab_history.specs.Whole.{whole_in}
+use Rattle.lab_history.specs.Member.{key_parts, key_in, pair_in, triple_in}
 use Rattle.lab_history.specs.declared.fault.FileFault.{FileFault}
 use Rattle.lab_history.specs.declared.fault.FileFault.TheVariants as fault
 use Rattle.lab_history.specs.declared.path.Path.TheVariants as path
@@ -16,14 +18,7 @@ use Rattle.lab_history.specs.declared.operation.VersionName.TheVariants.{Of}
 
 -- ---- numbers
 
--- a whole number from low to high
-abbrev pub whole_in : ℕ → ℕ → Data → Option ℕ
-whole_in low high d = option_and_then (λ n. if nat_le low n && nat_le n high then Some n else None) (option_and_then as_u64 (as_number d))
-
--- a row's id, a transaction's number, an operation's number
-abbrev pub id_in : Data → Option Row
-id_in d = whole_in 1 999999 d
-
+-- a transaction's number, an operation's number
 abbrev pub txn_in_number : Data → Option ℕ
 txn_in_number d = whole_in 1 1000000 d
 
@@ -62,39 +57,22 @@ entries_from read place index before (item d ds) =
 abbrev pub entries_in : {X : Type 0} → (ℕ → Data → Result (Row × X) FileFault) → ListPlace → Data → Result (List (Row × X)) FileFault
 entries_in read place d = required (path.List place) (as_array d) >>= entries_from read place 0 None
 
--- the parts of a member that has two
-abbrev pub pair_in : ListPlace → ℕ → Option Items → Result (Data × Data) FileFault
-pair_in place index None = Err (fault.WrongFormat (path.Member place index))
-pair_in place index (Some no_items) = Err (fault.WrongFormat (path.Member place index))
-pair_in place index (Some (item a no_items)) = Err (fault.WrongFormat (path.Member place index))
-pair_in place index (Some (item a (item b no_items))) = Ok (a, b)
-pair_in place index (Some (item a (item b (item c ds)))) = Err (fault.WrongFormat (path.Member place index))
-
--- the parts of a member that has three
-abbrev pub triple_in : ListPlace → ℕ → Option Items → Result (Data × Data × Data) FileFault
-triple_in place index None = Err (fault.WrongFormat (path.Member place index))
-triple_in place index (Some no_items) = Err (fault.WrongFormat (path.Member place index))
-triple_in place index (Some (item a no_items)) = Err (fault.WrongFormat (path.Member place index))
-triple_in place index (Some (item a (item b no_items))) = Err (fault.WrongFormat (path.Member place index))
-triple_in place index (Some (item a (item b (item c no_items)))) = Ok (a, b, c)
-triple_in place index (Some (item a (item b (item c (item d ds))))) = Err (fault.WrongFormat (path.Member place index))
-
--- [id, x]
+-- [key, x]
 abbrev pub pair_of : {X : Type 0} → (Data → Option X) → ListPlace → ℕ → Option Items → Result (Row × X) FileFault
 pair_of read place index parts =
     pair_in place index parts >>= λ pair.
-    required (path.Part place index 0) (id_in pair.0) >>= λ id.
-    required (path.Part place index 1) (read pair.1) >>= λ x.
-    Ok (id, x)
+    key_in place index pair.0 >>= λ row.
+    required (path.Part place index key_parts) (read pair.1) >>= λ x.
+    Ok (row, x)
 
--- [id, txn, op]
+-- [key, txn, op]
 abbrev pub version_of : ListPlace → ℕ → Option Items → Result (Row × VersionName) FileFault
 version_of place index parts =
     triple_in place index parts >>= λ triple.
-    required (path.Part place index 0) (id_in triple.0) >>= λ id.
-    required (path.Part place index 1) (txn_in_number triple.1) >>= λ txn.
-    required (path.Part place index 2) (op_in_number triple.2) >>= λ op.
-    Ok (id, Of txn op)
+    key_in place index triple.0 >>= λ row.
+    required (path.Part place index key_parts) (txn_in_number triple.1) >>= λ txn.
+    required (path.Part place index (key_parts + 1)) (op_in_number triple.2) >>= λ op.
+    Ok (row, Of txn op)
 
 -- the installers of a row, of which the first has this place
 abbrev pub installers_from : ℕ → ℕ → Items → Result (List ℕ) FileFault
@@ -106,17 +84,17 @@ installers_from index at (item d ds) =
 
 -- [txn, ..], with at least one
 abbrev pub installers_of : ℕ → Option Items → Result (List ℕ) FileFault
-installers_of index None = Err (fault.WrongFormat (path.Part list.Installed index 1))
-installers_of index (Some no_items) = Err (fault.WrongFormat (path.Part list.Installed index 1))
+installers_of index None = Err (fault.WrongFormat (path.Part list.Installed index key_parts))
+installers_of index (Some no_items) = Err (fault.WrongFormat (path.Part list.Installed index key_parts))
 installers_of index (Some (item d ds)) = installers_from index 0 (item d ds)
 
--- [id, [txn, ..]]
+-- [key, [txn, ..]]
 abbrev pub installed_of : ℕ → Option Items → Result (Row × List ℕ) FileFault
 installed_of index parts =
     pair_in list.Installed index parts >>= λ pair.
-    required (path.Part list.Installed index 0) (id_in pair.0) >>= λ id.
+    key_in list.Installed index pair.0 >>= λ row.
     installers_of index (as_array pair.1) >>= λ ns.
-    Ok (id, ns)
+    Ok (row, ns)
 
 -- the lists
 abbrev pub values_in : ListPlace → Data → Result (List (Row × ℤ)) FileFault

@@ -6,7 +6,8 @@ use Rattle.serde_json.specs.Find.{as_number, as_u64, as_array, as_str, at}
 use Rattle.lab_table.specs.Row.{Row, row_cmp}
 use Rattle.lab_table.specs.declared.statement.Statement.{Statement}
 use Rattle.lab_script.specs.Script.{SpellsStatement}
-use Rattle.lab_history.specs.Entries.{id_in, txn_in_number}
+use Rattle.lab_history.specs.Member.{row_of}
+use Rattle.lab_history.specs.Entries.{txn_in_number}
 use Rattle.lab_history.specs.PlaceShape.{fits}
 use Rattle.lab_history.specs.Format.{at_key, count, parts_in}
 use Rattle.lab_history.specs.History.{History}
@@ -37,10 +38,6 @@ IsRepeated d n = (i j : ℕ) × (i < j) × IsNumber d i n × IsNumber d j n
 abbrev pub IsBadStatement : Data → ℕ → ℕ → Type 0
 IsBadStatement d n number = (txn op : ℕ) × (o : Data) × (text : List ℕ) × IsNumber d txn n × (number ≡ op + 1) × (operation_at d txn op ≡ Some o)
     × (as_str (at_key (codes "statement") o) ≡ Some text) × ((s : Statement) → SpellsStatement text s → ⊥)
-
--- the row that a member of a list begins with
-abbrev pub row_of : Data → Option Row
-row_of m = option_and_then id_in (at 0 m)
 
 -- two neighbours of a list begin with rows of which the first isn't below the second
 abbrev pub FallsSomewhere : Data → Type 0

@@ -6,7 +6,8 @@ use Rattle.serde_json.specs.Data.{Data, string, array, object, Items, no_items, 
 use Rattle.serde_json.specs.Find.{as_number, as_u64}
 use Rattle.lab_table.specs.Row.{Row, row_cmp}
 use Rattle.lab_script.specs.Script.{SpellsStatement}
-use Rattle.lab_history.specs.Entries.{id_in, txn_in_number, op_in_number, value_in, written_in}
+use Rattle.lab_history.specs.Member.{Key, id_in, with_key}
+use Rattle.lab_history.specs.Entries.{txn_in_number, op_in_number, value_in, written_in}
 use Rattle.lab_history.specs.History.{History}
 use Rattle.lab_history.specs.HistoryRules.{Keeps}
 use Rattle.lab_history.specs.declared.operation.Op.{Op}
@@ -31,18 +32,18 @@ IsListOf Is d xs = (ds : Items) × (d ≡ array ds) × AreEach Is ds xs
 abbrev pub IsMapOf : {X : Type 0} → (Data → Row × X → Type 0) → Data → FinMap row_cmp X → Type 0
 IsMapOf Is d m = IsListOf Is d (finite.entries m)
 
--- [id, x]
+-- [key, x]
 abbrev pub IsPair : {X : Type 0} → (Data → Option X) → Data → Row × X → Type 0
-IsPair read d entry = (a b : Data) × (d ≡ array (item a (item b no_items))) × (id_in a ≡ Some entry.0) × (read b ≡ Some entry.1)
+IsPair read d entry = (key : Key) × (b : Data) × (d ≡ array (with_key key (item b no_items))) × (id_in key ≡ Some entry.0) × (read b ≡ Some entry.1)
 
--- [id, txn, op]
+-- [key, txn, op]
 abbrev pub IsVersion : Data → Row × VersionName → Type 0
-IsVersion d entry = (a b c : Data) × (txn op : ℕ) × (d ≡ array (item a (item b (item c no_items)))) × (id_in a ≡ Some entry.0)
+IsVersion d entry = (key : Key) × (b c : Data) × (txn op : ℕ) × (d ≡ array (with_key key (item b (item c no_items)))) × (id_in key ≡ Some entry.0)
     × (txn_in_number b ≡ Some txn) × (op_in_number c ≡ Some op) × (entry.1 ≡ Of txn op)
 
--- [id, [txn, ..]], with at least one
+-- [key, [txn, ..]], with at least one
 abbrev pub IsInstalled : Data → Row × List ℕ → Type 0
-IsInstalled d entry = (a b : Data) × (d ≡ array (item a (item b no_items))) × (id_in a ≡ Some entry.0)
+IsInstalled d entry = (key : Key) × (b : Data) × (d ≡ array (with_key key (item b no_items))) × (id_in key ≡ Some entry.0)
     × IsListOf (λ e n. txn_in_number e ≡ Some n) b entry.1 × (entry.1 ≢ [])
 
 -- {rows, statement, view, writes}; the statement is any text that the grammar has for it

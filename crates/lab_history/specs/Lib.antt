@@ -10,6 +10,8 @@ pub mod RunningCounts
 pub mod FirstPartsFault
 pub mod PartsFault
 pub mod WrittenState
+pub mod Whole
+pub mod Member
 pub mod Entries
 pub mod Format
 pub mod FileOf

@@ -1,9 +1,10 @@
 -- What may stand at a place of a history file, whatever stands in its own parts.
-use Rattle.std.specs.Prelude.{ℕ, zero, suc, ◌==◌, Bool, true, false, Option, Some, None, is_some, option_and_then, List, codes}
+use Rattle.std.specs.Prelude.{ℕ, zero, suc, ◌+◌, ◌==◌, Bool, true, false, Option, Some, None, is_some, option_and_then, List, codes}
 use Rattle.std.specs.Str.{bytes_eq}
 use Rattle.serde_json.specs.Data.{Data, Items, no_items, item}
 use Rattle.serde_json.specs.Find.{as_number, as_u64, as_array, as_object, as_str}
-use Rattle.lab_history.specs.Entries.{id_in, txn_in_number, op_in_number, value_in, written_in}
+use Rattle.lab_history.specs.Member.{key_parts, key_fits}
+use Rattle.lab_history.specs.Entries.{txn_in_number, op_in_number, value_in, written_in}
 use Rattle.lab_history.specs.Format.{has_keys, root_keys, txn_keys, op_keys, outcome_named, count}
 use Rattle.lab_history.specs.declared.path.ListPlace.{ListPlace}
 use Rattle.lab_history.specs.declared.path.ListPlace.TheVariants as list
@@ -12,12 +13,12 @@ use Rattle.lab_history.specs.declared.path.Path.TheVariants as path
 
 -- how many parts a member of a list has
 abbrev pub parts_of : ListPlace → ℕ
-parts_of list.Initial = 2
-parts_of list.End = 2
-parts_of list.Installed = 2
-parts_of (list.View txn op) = 3
-parts_of (list.Rows txn op) = 2
-parts_of (list.Writes txn op) = 2
+parts_of list.Initial = key_parts + 1
+parts_of list.End = key_parts + 1
+parts_of list.Installed = key_parts + 1
+parts_of (list.View txn op) = key_parts + 2
+parts_of (list.Rows txn op) = key_parts + 1
+parts_of (list.Writes txn op) = key_parts + 1
 
 -- whether there is a list of so many items
 abbrev pub has_size : ℕ → Option Items → Bool
@@ -39,9 +40,9 @@ second_fits (list.View txn op) v = is_some (txn_in_number v)
 second_fits (list.Rows txn op) v = is_some (value_in v)
 second_fits (list.Writes txn op) v = is_some (written_in v)
 
--- whether a value may be a part of a member: a row, what stands behind it, and of a version, which alone has a third part, its operation
+-- whether a value may be a part of a member: of a row's key, what stands behind that, and of a version, which alone has a further part, its operation
 abbrev pub part_fits : ListPlace → ℕ → Data → Bool
-part_fits place zero v = is_some (id_in v)
+part_fits place zero v = key_fits zero v
 part_fits place (suc zero) v = second_fits place v
 part_fits place (suc (suc part)) v = is_some (op_in_number v)
 

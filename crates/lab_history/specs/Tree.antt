@@ -7,6 +7,7 @@ use Rattle.serde_json.specs.Find.{of_integer}
 use Rattle.serde_json.specs.View.{items_of}
 use Rattle.lab_table.specs.Row.{Row, row_cmp}
 use Rattle.lab_script.specs.Printed.{printed_statement}
+use Rattle.lab_history.specs.Member.{key_tree, with_key}
 use Rattle.lab_history.specs.FileOf.{outcome_text}
 use Rattle.lab_history.specs.History.{History}
 use Rattle.lab_history.specs.declared.operation.Op.{Op}
@@ -15,10 +16,6 @@ use Rattle.lab_history.specs.declared.operation.VersionName.TheVariants.{Initial
 use Rattle.lab_history.specs.declared.transaction.Txn.{Txn}
 
 -- ---- numbers and lists
-
--- the number of a row
-abbrev pub id_tree : Row → Data
-id_tree row = number (unsigned row)
 
 -- the number of a transaction or of an operation
 abbrev pub natural_tree : ℕ → Data
@@ -37,9 +34,9 @@ written_tree (Some z) = value_tree z
 abbrev pub list_tree : {X : Type 0} → (X → Data) → List X → Data
 list_tree tree xs = array (items_of (map tree xs))
 
--- [id, x]
+-- [key, x]
 abbrev pub pair_tree : {X : Type 0} → (X → Data) → Row × X → Data
-pair_tree tree entry = array (item (id_tree entry.0) (item (tree entry.1) no_items))
+pair_tree tree entry = array (with_key (key_tree entry.0) (item (tree entry.1) no_items))
 
 -- a finite map as a list of pairs, by rising row
 abbrev pub map_tree : {X : Type 0} → (X → Data) → FinMap row_cmp X → Data
@@ -47,9 +44,9 @@ map_tree tree m = list_tree (pair_tree tree) (finite.entries m)
 
 -- ---- operations and transactions
 
--- [id, txn, op]
+-- [key, txn, op]
 abbrev pub version_tree : Row → ℕ → ℕ → Data
-version_tree row txn op = array (item (id_tree row) (item (natural_tree txn) (item (natural_tree op) no_items)))
+version_tree row txn op = array (with_key (key_tree row) (item (natural_tree txn) (item (natural_tree op) no_items)))
 
 -- an initial version isn't listed
 abbrev pub version_trees : Row → VersionName → List Data

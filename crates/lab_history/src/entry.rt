@@ -7,18 +7,18 @@ ghost use Rattle.serde_json.specs.Find.{as_array};
 ghost use Rattle.serde_json.specs.View.{view, items_view};
 ghost use Rattle.lab_table.specs.Row.{Row, row_cmp};
 ghost use Rattle.lab_history.specs.VersionName.{new_states};
-ghost use Rattle.lab_history.specs.Faults.{Gives, required as spec_required};
-ghost use Rattle.lab_history.specs.Entries.{id_in, txn_in_number, op_in_number, value_in, pair_in, triple_in, installers_from, entries_in, values_in, writes_in, view_in, installed_in};
+ghost use Rattle.lab_history.specs.Faults.{Gives};
+ghost use Rattle.lab_history.specs.Entries.{txn_in_number, op_in_number, value_in, installers_from, entries_in, values_in, writes_in, view_in, installed_in};
 ghost use Rattle.lab_history.specs.Entries.{installers_of as spec_installers_of};
 ghost use Rattle.lab_history.specs.WrittenState.{state_in};
 ghost use Rattle.lab_history.specs.declared.fault.FileFault.{FileFault};
 ghost use Rattle.lab_history.specs.declared.fault.FileFault.TheVariants as fault;
 ghost use Rattle.lab_history.specs.declared.refusal.Refusal.TheVariants as refusal;
-ghost use Rattle.lab_history.specs.declared.path.Path.TheVariants as path;
 ghost use Rattle.lab_history.specs.declared.path.ListPlace.{ListPlace};
 
 use crate::fault::FileFault;
 use crate::limits::MAX_OPERATIONS;
+use crate::member::{KEY_PARTS, key_of, pair, part, required, triple};
 use crate::operation::{State, VersionName};
 use crate::order::follows;
 use crate::path::{ListPlace, Path};
@@ -27,18 +27,6 @@ use crate::transaction::Installers;
 use lab_table::{RowId, TxnNo, Value};
 use serde_json::Value as Json;
 use std::alloc::Global;
-
-/// The id of a row.
-fn id_of(json: &Json) -> Option<RowId>
-    ensures { result ≡ id_in (view json.now) }
-{
-    let number = json.as_u64()?;
-    if 1 <= number && number <= 999_999 {
-        RowId::new(number as u32)
-    } else {
-        None
-    }
-}
 
 /// The number of a transaction.
 pub fn txn_of(json: &Json) -> Option<TxnNo>
@@ -82,50 +70,6 @@ fn written_of(json: &Json) -> Option<State>
     }
 }
 
-/// What has to be at a place.
-pub fn required<X>(found: Option<X>, path: Path) -> Result<X, Refusal>
-    ensures { Gives (λ x. x) result (spec_required path found) }
-{
-    found.ok_or(wrong(path))
-}
-
-/// The place of a part of a member, which is counted from 0.
-fn part(list: ListPlace, index: usize, part: usize) -> Path
-    ensures { result ≡ path.Part list index part }
-{
-    Path::Part { list, index, part }
-}
-
-/// The parts of a member that has two.
-#[tactic(auto, using(crate::proofs::Members::no_pair))]
-fn pair<'a>(place: ListPlace, index: usize, json: &'a Json) -> Result<(&'a Json, &'a Json), Refusal>
-    ensures { Gives (λ parts. (view parts.0.now, view parts.1.now)) result (pair_in place index (as_array (view json.now))) }
-{
-    let path = Path::Member { list: place, index };
-    let parts = required(json.as_array(), path)?;
-    let [first, second] = parts.as_slice() else {
-        return Err(wrong(path));
-    };
-    Ok((first, second))
-}
-
-/// The parts of a member that has three.
-#[tactic(auto, using(crate::proofs::Members::no_triple))]
-fn triple<'a>(
-    place: ListPlace,
-    index: usize,
-    json: &'a Json,
-) -> Result<(&'a Json, &'a Json, &'a Json), Refusal>
-    ensures { Gives (λ parts. (view parts.0.now, view parts.1.now, view parts.2.now)) result (triple_in place index (as_array (view json.now))) }
-{
-    let path = Path::Member { list: place, index };
-    let parts = required(json.as_array(), path)?;
-    let [first, second, third] = parts.as_slice() else {
-        return Err(wrong(path));
-    };
-    Ok((first, second, third))
-}
-
 /// The numbers of the transactions that installed a row.
 fn numbers_of(alloc: Global, index: usize, numbers: &[Json]) -> Result<Vec<TxnNo>, Refusal>
     ensures { Gives (λ found. found.items) result (installers_from index 0 (items_view numbers.now)) }
@@ -142,7 +86,7 @@ fn numbers_of(alloc: Global, index: usize, numbers: &[Json]) -> Result<Vec<TxnNo
 fn installers_of(alloc: Global, index: usize, json: &Json) -> Result<Installers, Refusal>
     ensures { Gives (λ installers. installers) result (spec_installers_of index (as_array (view json.now))) }
 {
-    let path = part(ListPlace::Installed, index, 1);
+    let path = part(ListPlace::Installed, index, KEY_PARTS);
     let numbers = required(json.as_array(), path)?;
     if numbers.is_empty() {
         return Err(wrong(path));
@@ -164,7 +108,7 @@ trait Entry: Sized + Drop {
         ensures { Gives (λ entry. entry) result (read place index (view json.now)) };
 }
 
-/// `[id, value]`.
+/// `[key, value]`.
 impl Entry for Value {
     ghost use Rattle.serde_json.specs.Find.{as_array};
     ghost use Rattle.lab_history.specs.Entries.{pair_of, value_in};
@@ -177,14 +121,14 @@ impl Entry for Value {
         index: usize,
         json: &Json,
     ) -> Result<(RowId, Value), Refusal> {
-        let (id, value) = pair(place, index, json)?;
-        let id = required(id_of(id), part(place, index, 0))?;
-        let value = required(value_of(value), part(place, index, 1))?;
-        Ok((id, value))
+        let (key, value) = pair(place, index, json)?;
+        let row = key_of(place, index, key)?;
+        let value = required(value_of(value), part(place, index, KEY_PARTS))?;
+        Ok((row, value))
     }
 }
 
-/// `[id, value]`, or `[id, null]`.
+/// `[key, value]`, or `[key, null]`.
 impl Entry for State {
     ghost use Rattle.serde_json.specs.Find.{as_array};
     ghost use Rattle.lab_history.specs.Entries.{pair_of};
@@ -198,14 +142,14 @@ impl Entry for State {
         index: usize,
         json: &Json,
     ) -> Result<(RowId, State), Refusal> {
-        let (id, state) = pair(place, index, json)?;
-        let id = required(id_of(id), part(place, index, 0))?;
-        let state = required(written_of(state), part(place, index, 1))?;
-        Ok((id, state))
+        let (key, state) = pair(place, index, json)?;
+        let row = key_of(place, index, key)?;
+        let state = required(written_of(state), part(place, index, KEY_PARTS))?;
+        Ok((row, state))
     }
 }
 
-/// `[id, txn, op]`.
+/// `[key, txn, op]`.
 impl Entry for VersionName {
     ghost use Rattle.serde_json.specs.Find.{as_array};
     ghost use Rattle.lab_history.specs.Entries.{version_of};
@@ -218,15 +162,15 @@ impl Entry for VersionName {
         index: usize,
         json: &Json,
     ) -> Result<(RowId, VersionName), Refusal> {
-        let (id, txn, op) = triple(place, index, json)?;
-        let id = required(id_of(id), part(place, index, 0))?;
-        let txn = required(txn_of(txn), part(place, index, 1))?;
-        let op = required(op_of(op), part(place, index, 2))?;
-        Ok((id, VersionName::Of { txn, op }))
+        let (key, txn, op) = triple(place, index, json)?;
+        let row = key_of(place, index, key)?;
+        let txn = required(txn_of(txn), part(place, index, KEY_PARTS))?;
+        let op = required(op_of(op), part(place, index, KEY_PARTS + 1))?;
+        Ok((row, VersionName::Of { txn, op }))
     }
 }
 
-/// `[id, [txn, ..]]`. Only one list has such members.
+/// `[key, [txn, ..]]`. Only one list has such members.
 impl Entry for Installers {
     ghost use Rattle.serde_json.specs.Find.{as_array};
     ghost use Rattle.lab_history.specs.Entries.{installed_of};
@@ -239,10 +183,10 @@ impl Entry for Installers {
         index: usize,
         json: &Json,
     ) -> Result<(RowId, Installers), Refusal> {
-        let (id, installers) = pair(ListPlace::Installed, index, json)?;
-        let id = required(id_of(id), part(ListPlace::Installed, index, 0))?;
+        let (key, installers) = pair(ListPlace::Installed, index, json)?;
+        let row = key_of(ListPlace::Installed, index, key)?;
         let installers = installers_of(alloc, index, installers)?;
-        Ok((id, installers))
+        Ok((row, installers))
     }
 }
 

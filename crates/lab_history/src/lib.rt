@@ -24,6 +24,7 @@ mod keyed;
 mod laws;
 mod limits;
 mod lookup;
+mod member;
 mod operation;
 mod order;
 mod parts;

@@ -3,6 +3,7 @@
 ghost use Rattle.std.specs.Prelude.{◌≡◌, ◌++◌, IfOk, OnOk};
 ghost use Rattle.lab_history.specs.PathText.{index_text, txn_text, op_text, list_text, path_text};
 
+use crate::member::KEY_PARTS;
 use crate::path::{ListPlace, Path};
 use itoa::Buffer;
 use lab_table::NoMemory;
@@ -47,7 +48,7 @@ fn put_path(out: &mut Vec<u8>, path: Path) -> Result<(), NoMemory>
         Path::Installer { index, place: at } => {
             out.extend_from_slice(b"/installed")?;
             put_index(out, index)?;
-            out.extend_from_slice(b"/1")?;
+            put_index(out, KEY_PARTS)?;
             put_index(out, at)
         }
         Path::Transactions => out.extend_from_slice(b"/transactions"),

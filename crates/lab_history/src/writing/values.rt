@@ -5,25 +5,19 @@ ghost use Rattle.std.specs.List.{list_all};
 ghost use Rattle.std.specs.FinMap as finite;
 ghost use Rattle.serde_json.specs.Data.{array, no_items, item};
 ghost use Rattle.serde_json.specs.View.{view};
-ghost use Rattle.lab_history.specs.Entries.{id_in, txn_in_number, value_in, written_in};
+ghost use Rattle.lab_history.specs.Entries.{txn_in_number, value_in, written_in};
 ghost use Rattle.lab_history.specs.FileOf.{IsListOf, IsMapOf, IsPair, IsVersion, IsInstalled};
 ghost use Rattle.lab_history.specs.HistoryRules.{is_listed, has_installer};
-ghost use Rattle.lab_history.specs.Tree.{id_tree, natural_tree, value_tree, written_tree, list_tree, pair_tree, map_tree, version_tree, view_tree};
+ghost use Rattle.lab_history.specs.Tree.{natural_tree, value_tree, written_tree, list_tree, pair_tree, map_tree, version_tree, view_tree};
 ghost use Rattle.lab_history.specs.VersionName.{state_value, new_states};
 ghost use Rattle.lab_history.specs.declared.operation.VersionName.TheVariants.{Of};
 
+use crate::member::key_json;
 use crate::operation::{State, VersionName, View};
 use crate::transaction::{Installed, Installers};
 use lab_table::{NoMemory, RowId, Table, TxnNo, Value};
 use serde_json::Value as Json;
 use std::alloc::Global;
-
-fn id_json(id: RowId) -> Json
-    ensures value { view result ≡ id_tree id }
-    ensures read { id_in (id_tree id) ≡ Some id }
-{
-    Json::from(id.number())
-}
 
 /// The number of a transaction.
 pub fn txn_number_json(no: TxnNo) -> Json
@@ -54,7 +48,7 @@ fn row_json(alloc: Global, row: &(RowId, Value)) -> Result<Json, NoMemory>
     ensures value { IfOk result (λ v. view v ≡ pair_tree value_tree row.now) }
     ensures file { OnOk result (IsPair value_in (pair_tree value_tree row.now) row.now) }
 {
-    let pair = vec![in alloc; id_json(row.0), value_json(row.1)]?;
+    let pair = vec![in alloc; key_json(row.0), value_json(row.1)]?;
     Ok(Json::Array(pair))
 }
 
@@ -82,7 +76,7 @@ fn write_json(alloc: Global, write: &(RowId, State)) -> Result<Json, NoMemory>
     ensures value { IfOk result (λ v. view v ≡ pair_tree written_tree (write.now.0, state_value write.now.1)) }
     ensures file { OnOk result (IsPair written_in (pair_tree written_tree (write.now.0, state_value write.now.1)) (write.now.0, state_value write.now.1)) }
 {
-    let pair = vec![in alloc; id_json(write.0), state_json(write.1)]?;
+    let pair = vec![in alloc; key_json(write.0), state_json(write.1)]?;
     Ok(Json::Array(pair))
 }
 
@@ -103,7 +97,7 @@ fn version_json(alloc: Global, id: RowId, txn: TxnNo, op: u32) -> Result<Json, N
     ensures value { IfOk result (λ v. view v ≡ version_tree id txn op) }
     ensures file { OnOk result (IsVersion (version_tree id txn op) (id, Of txn op)) }
 {
-    let version = vec![in alloc; id_json(id), txn_number_json(txn), Json::from(op)]?;
+    let version = vec![in alloc; key_json(id), txn_number_json(txn), Json::from(op)]?;
     Ok(Json::Array(version))
 }
 
@@ -142,7 +136,7 @@ fn installed_row_json(alloc: Global, row: &(RowId, Installers)) -> Result<Json, 
     ensures file { OnOk result (IsInstalled (pair_tree (list_tree natural_tree) row.now) row.now) }
 {
     let installers = installers_json(alloc, row.1.as_slice())?;
-    let pair = vec![in alloc; id_json(row.0), installers]?;
+    let pair = vec![in alloc; key_json(row.0), installers]?;
     Ok(Json::Array(pair))
 }
 
