@@ -1,5 +1,5 @@
 -- Reads of what was never committed: the place that a pass finds is one, and where it finds none there is none.
-use Rattle.std.proofs.Common.{◌≡◌, ℕ, Option, Some, None, refl, sym, ap, ◌∙◌, subst}
+use Rattle.std.proofs.Common.{◌≡◌, ℕ, Option, Some, None, inl, inr, refl, sym, ap, ◌∙◌, subst, arith}
 use Rattle.std.specs.Prelude.{option_and_then, IfSome}
 use Rattle.std.proofs.lemmas.Option.{none-some}
 use Rattle.lab_table.specs.Row.{Row}
@@ -7,11 +7,12 @@ use Rattle.lab_history.specs.History.{History}
 use Rattle.lab_deps.specs.Passes.{fault_in}
 use Rattle.lab_deps.specs.Soundness.{Stands}
 use Rattle.lab_deps.specs.Uncommitted.{read_of}
+use Rattle.lab_deps.specs.FaultOrder.{IsFirstRead}
 use Rattle.lab_deps.specs.declared.fault.LocalFault.{LocalFault}
 use Rattle.lab_deps.specs.declared.fault.LocalFault.TheVariants.{AbortedRead, IntermediateRead}
 use Rattle.lab_deps.specs.declared.kind.OpFault.TheVariants as kind
 use Rattle.lab_deps.proofs.BrokenStands.{decides_aborted_read, decides_intermediate}
-use Rattle.lab_deps.proofs.Found.{pass_finds, pass_finds_none}
+use Rattle.lab_deps.proofs.Found.{pass_finds, pass_finds_none, pass_finds_first}
 
 -- the place of a fault that is found, where the fault is made of that place
 made_of : (found : Option LocalFault) (made : ℕ → ℕ → Row → LocalFault) (P : ℕ → ℕ → Row → Type 0) → ((n k : ℕ) (row : Row) → read_of (made n k row) ≡ Some (record { txn = n; op = k; row = row }))
@@ -52,3 +53,36 @@ module _ (h : History) where
       let nothing : fault_in kind.IntermediateRead h ≡ None =
       no_fault (fault_in kind.IntermediateRead h) IntermediateRead (λ n k row. refl) (λ x e. let w = intermediate x e in (w.0, w.1, w.2, w.3)) none in
       pass_finds_none kind.IntermediateRead h nothing n k op row c ((decides_intermediate h n k op row).1 d)
+
+  -- no such read comes before the one that is found
+  pub aborted_first : IfSome (option_and_then read_of (fault_in kind.AbortedRead h)) (λ read. IsFirstRead h AbortedRead read.txn read.op read.row)
+  aborted_first = made_of (fault_in kind.AbortedRead h) AbortedRead (λ n k row. IsFirstRead h AbortedRead n k row) (λ n k row. refl) each
+    where
+      each : (x : LocalFault) → fault_in kind.AbortedRead h ≡ Some x → (n k : ℕ) × (row : Row) × (AbortedRead n k row ≡ x) × IsFirstRead h AbortedRead n k row
+      each x e =
+          let w = pass_finds_first kind.AbortedRead h x e in (
+            w.0,
+            w.1,
+            w.2,
+            w.3,
+            λ n k row stands before. elim before [
+              | inl less ↦ absurd (omega (arith, less))
+              | inr s ↦ w.4 n k stands.0 row s.1 stands.1 ((decides_aborted_read h n k stands.0 row).1 stands.2)
+            ],
+          )
+
+  pub intermediate_first : IfSome (option_and_then read_of (fault_in kind.IntermediateRead h)) (λ read. IsFirstRead h IntermediateRead read.txn read.op read.row)
+  intermediate_first = made_of (fault_in kind.IntermediateRead h) IntermediateRead (λ n k row. IsFirstRead h IntermediateRead n k row) (λ n k row. refl) each
+    where
+      each : (x : LocalFault) → fault_in kind.IntermediateRead h ≡ Some x → (n k : ℕ) × (row : Row) × (IntermediateRead n k row ≡ x) × IsFirstRead h IntermediateRead n k row
+      each x e =
+          let w = pass_finds_first kind.IntermediateRead h x e in (
+            w.0,
+            w.1,
+            w.2,
+            w.3,
+            λ n k row stands before. elim before [
+              | inl less ↦ absurd (omega (arith, less))
+              | inr s ↦ w.4 n k stands.0 row s.1 stands.1 ((decides_intermediate h n k stands.0 row).1 stands.2)
+            ],
+          )

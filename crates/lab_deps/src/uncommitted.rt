@@ -4,6 +4,7 @@ ghost use Rattle.std.specs.Prelude.{◌≡◌, ℕ, None, IfSome, option_and_the
 ghost use Rattle.lab_table.specs.Row.{Row};
 ghost use Rattle.lab_deps.specs.Passes as pass;
 ghost use Rattle.lab_deps.specs.Soundness.{Stands};
+ghost use Rattle.lab_deps.specs.FaultOrder.{IsFirstRead};
 ghost use Rattle.lab_deps.specs.Uncommitted.{read_of};
 ghost use Rattle.lab_deps.specs.declared.fault.LocalFault.TheVariants as fault;
 
@@ -25,6 +26,7 @@ pub struct Read {
 /// where there is none. Transactions stand in the order of the file.
 pub fn first_aborted_read(history: &History) -> Option<Read>
     ensures found { IfSome result (λ read. Stands history.now (fault.AbortedRead read.txn read.op read.row)) }
+    ensures first { IfSome result (λ read. IsFirstRead history.now fault.AbortedRead read.txn read.op read.row) }
     ensures none { result ≡ None → (n k : ℕ) (row : Row) → ¬ Stands history.now (fault.AbortedRead n k row) }
 {
     first_read(history, OpFault::AbortedRead)
@@ -34,6 +36,7 @@ pub fn first_aborted_read(history: &History) -> Option<Read>
 /// with its least such row; None where there is none. Transactions stand in the order of the file.
 pub fn first_intermediate_read(history: &History) -> Option<Read>
     ensures found { IfSome result (λ read. Stands history.now (fault.IntermediateRead read.txn read.op read.row)) }
+    ensures first { IfSome result (λ read. IsFirstRead history.now fault.IntermediateRead read.txn read.op read.row) }
     ensures none { result ≡ None → (n k : ℕ) (row : Row) → ¬ Stands history.now (fault.IntermediateRead n k row) }
 {
     first_read(history, OpFault::IntermediateRead)

@@ -35,7 +35,7 @@ absent_walk is_one none NotJudged finds = finds
 absent_fault : (h : History) → IsSound h → (fault : ℕ → ℕ → Row → LocalFault) (found : Finding) → FindsFault h fault found → IsAbsent found
 absent_fault h sound fault Absent finds = tt
 absent_fault h sound fault (Walk walk) finds = finds
-absent_fault h sound fault (At n k row) finds = sound (fault n k row) finds
+absent_fault h sound fault (At n k row) finds = sound (fault n k row) finds.0
 absent_fault h sound fault NotJudged finds = finds
 
 absent_all : (h : History) → IsSound h → NoWalk (IsG0 h) → NoG1 h → (p : List Finding) (grade : Grade) → JudgesAll h p grade

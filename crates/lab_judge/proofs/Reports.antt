@@ -1,7 +1,7 @@
 -- Verdicts and findings as a judgement.
 use Rattle.std.proofs.Common.{List, refl}
 use Rattle.lab_history.specs.History.{History}
-use Rattle.lab_deps.specs.Refusal.{IsAnswer}
+use Rattle.lab_deps.specs.FaultOrder.{IsFirst}
 use Rattle.lab_deps.specs.Soundness.{IsSound}
 use Rattle.lab_deps.specs.declared.fault.LocalFault.{LocalFault}
 use Rattle.lab_judge.specs.Judgement.{IsSerialVerdict, IsSnapshotVerdict, SameFault, Judges, JudgesAll, JudgesAtFault, RestsOnOrder, RestsOnPlaces, IsExactJudgement}
@@ -43,11 +43,11 @@ of_sound h sound report s order p placing judges = record {
   placing = placing;
 }
 
--- a fault that stands makes one too
-pub of_fault : (h : History) (fault : LocalFault) → IsAnswer h fault → (found : List Finding) (grade : Grade) → JudgesAtFault h fault found grade
+-- the first fault that stands makes one too
+pub of_fault : (h : History) (fault : LocalFault) → IsFirst h fault → (found : List Finding) (grade : Grade) → JudgesAtFault h fault found grade
     → IsExactJudgement h (record { serial = serial.NoFault fault; snapshot = places.NoFault fault; phenomena = found; level = grade })
-of_fault h fault stands found grade judges = record {
-  judgement = record { serial = stands; snapshot = stands; fault = refl; found = judges };
+of_fault h fault first found grade judges = record {
+  judgement = record { serial = first; snapshot = first; fault = refl; found = judges };
   order = tt;
   placing = tt;
 }

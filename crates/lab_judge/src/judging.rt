@@ -10,6 +10,7 @@ ghost use Rattle.lab_history.specs.History.{History as Spells};
 ghost use Rattle.lab_history.specs.Limits.{max_file_bytes};
 ghost use Rattle.lab_history.specs.declared.fault.Limit.TheVariants.{Bytes};
 ghost use Rattle.lab_deps.specs.Edges.{IsEdge};
+ghost use Rattle.lab_deps.specs.FaultOrder.{IsFirst};
 ghost use Rattle.lab_deps.specs.Refusal.{IsAnswer};
 ghost use Rattle.lab_deps.specs.Soundness.{IsSound};
 ghost use Rattle.lab_deps.specs.declared.edge.Edge.{Edge as Spelled};
@@ -38,8 +39,9 @@ use std::alloc::Global;
 ///
 /// A serial yes carries an order in which the committed transactions, run whole one after another, list, write and leave
 /// what is recorded. A snapshot yes carries places of starts and commits at which each of them sees the committed state
-/// of its start and its own writes, and overlapping ones write different rows. A no carries a fault of the history, or,
-/// where it is sound, dependencies or arrows that lead back to where they begin; it comes nowhere else. NoMemory where a
+/// of its start and its own writes, and overlapping ones write different rows. A no carries the first fault of the history,
+/// by the order of [`check_local`], or, where it is sound, dependencies or arrows that lead back to where they begin; it
+/// comes nowhere else. NoMemory where a
 /// growth was refused.
 pub fn judge(alloc: Global, history: &History) -> Result<Report, NoMemory>
     ensures exact { IfOk result (IsExactJudgement history.now) }
@@ -133,7 +135,8 @@ fn find_beside(
 
 /// The judgement of a history that isn't sound, where this fault was answered. NoMemory where a growth was refused.
 fn judge_unsound(alloc: Global, history: &History, fault: &LocalFault) -> Result<Report, NoMemory>
-    requires { IsAnswer history.now fault.now }
+    requires answer { IsAnswer history.now fault.now }
+    requires first { IsFirst history.now fault.now }
     ensures { IfOk result (IsExactJudgement history.now) }
 {
     let found = find_at_fault(alloc, history, *fault)?;

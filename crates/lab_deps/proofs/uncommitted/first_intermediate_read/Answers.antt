@@ -1,8 +1,9 @@
 use Rattle.std.proofs.Common.{sym, subst, ◌∙◌}
 use Rattle.std.specs.Prelude.{IfSome}
+use Rattle.lab_deps.specs.FaultOrder.{IsFirstRead}
 use Rattle.lab_deps.specs.Soundness.{Stands}
 use Rattle.lab_deps.specs.declared.fault.LocalFault.TheVariants.{IntermediateRead}
-use Rattle.lab_deps.proofs.UncommittedReads.{intermediate_stands, none_intermediate}
+use Rattle.lab_deps.proofs.UncommittedReads.{intermediate_stands, intermediate_first, none_intermediate}
 use Rattle.lab_deps.proofs.uncommitted.first_intermediate_read.Goals as goal
 
 pub returns-clause-found : goal.returns-clause-found
@@ -11,3 +12,7 @@ returns-clause-found c =
 
 pub returns-clause-none : goal.returns-clause-none
 returns-clause-none c = λ none. none_intermediate c.args.history.now (sym c.first_read.ensures ∙ none)
+
+pub returns-clause-first : goal.returns-clause-first
+returns-clause-first c =
+    subst (λ o. IfSome o (λ read. IsFirstRead c.args.history.now IntermediateRead read.txn read.op read.row)) (sym c.first_read.ensures) (intermediate_first c.args.history.now)
