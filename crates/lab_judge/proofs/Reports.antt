@@ -5,6 +5,7 @@ use Rattle.lab_deps.specs.FaultOrder.{IsFirst}
 use Rattle.lab_deps.specs.Soundness.{IsSound}
 use Rattle.lab_deps.specs.declared.fault.LocalFault.{LocalFault}
 use Rattle.lab_judge.specs.Judgement.{IsSerialVerdict, IsSnapshotVerdict, SameFault, Judges, JudgesAll, JudgesAtFault, RestsOnOrder, RestsOnPlaces, IsExactJudgement}
+use Rattle.lab_judge.specs.Verdicts.{IsLeastOrder}
 use Rattle.lab_judge.specs.declared.places.Places.{Places}
 use Rattle.lab_judge.specs.declared.places.Places.TheVariants as places
 use Rattle.lab_judge.specs.declared.report.Finding.{Finding}
@@ -30,9 +31,9 @@ all_judged h sound (serial.NoCycle walk) s found grade judges = judges
 all_judged h sound (serial.NoFault fault) s found grade judges = absurd (sound fault s.0)
 
 -- so they make a judgement
-pub of_sound : (h : History) → IsSound h → (report : Report) → IsSerialVerdict h report.serial → RestsOnOrder h report.serial → IsSnapshotVerdict h report.snapshot → RestsOnPlaces h report.snapshot
+pub of_sound : (h : History) → IsSound h → (report : Report) → IsSerialVerdict h report.serial → RestsOnOrder h report.serial → IsLeastOrder h report.serial → IsSnapshotVerdict h report.snapshot → RestsOnPlaces h report.snapshot
     → JudgesAll h report.phenomena report.level → IsExactJudgement h report
-of_sound h sound report s order p placing judges = record {
+of_sound h sound report s order least p placing judges = record {
   judgement = record {
     serial = s;
     snapshot = p;
@@ -40,6 +41,7 @@ of_sound h sound report s order p placing judges = record {
     found = all_judged h sound report.serial s report.phenomena report.level judges;
   };
   order = order;
+  least = least;
   placing = placing;
 }
 
@@ -49,5 +51,6 @@ pub of_fault : (h : History) (fault : LocalFault) → IsFirst h fault → (found
 of_fault h fault first found grade judges = record {
   judgement = record { serial = first; snapshot = first; fault = refl; found = judges };
   order = tt;
+  least = tt;
   placing = tt;
 }

@@ -16,7 +16,7 @@ ghost use Rattle.lab_deps.specs.Soundness.{IsSound};
 ghost use Rattle.lab_deps.specs.declared.edge.Edge.{Edge as Spelled};
 ghost use Rattle.lab_judge.specs.Phenomena.{IsClosedWalk, NoWalk};
 ghost use Rattle.lab_judge.specs.Runs.{HoldsEachOnce};
-ghost use Rattle.lab_judge.specs.Verdicts.{IsYes, IsPlaced, NoCircle};
+ghost use Rattle.lab_judge.specs.Verdicts.{IsLeastOrder, IsYes, IsPlaced, NoCircle};
 ghost use Rattle.lab_judge.specs.Judgement.{IsExactJudgement, IsSerialVerdict, IsSnapshotVerdict, SameFault, Judges, JudgesAll, RestsOnOrder};
 ghost use Rattle.lab_judge.specs.FileJudgement.{IsFileJudgement};
 ghost use Rattle.lab_judge.specs.Promises.{IsPromised};
@@ -51,6 +51,7 @@ pub fn judge(alloc: Global, history: &History) -> Result<Report, NoMemory>
     ensures found { IfOk result (λ report. Judges history.now report.serial report.phenomena report.level) }
     ensures yes { IfOk result (λ report. IsYes report.serial ↔ (IsSound history.now × NoWalk (IsClosedWalk history.now))) }
     ensures placed { IfOk result (λ report. IsPlaced report.snapshot ↔ (IsSound history.now × NoCircle history.now)) }
+    ensures least { IfOk result (λ report. IsLeastOrder history.now report.serial) }
 {
     match check_local(alloc, history) {
         Ok(sound) => judge_sound(alloc, history, &sound),

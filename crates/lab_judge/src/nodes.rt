@@ -35,7 +35,8 @@ impl Model for Nodes {
 impl Nodes {
     /// The committed transactions of a history. NoMemory where a growth was refused.
     pub(crate) fn of(alloc: Global, history: &History) -> Result<Nodes, NoMemory>
-        ensures { IfOk result (HoldsEachOnce history.now) }
+        ensures once { IfOk result (HoldsEachOnce history.now) }
+        ensures rising { IfOk result IsStrictlyIncreasing }
     {
         let mut numbers = committed(alloc, history)?;
         numbers.sort_unstable();

@@ -2,11 +2,13 @@
 
 ghost use Rattle.std.specs.Prelude.{◌≡◌, ◌↔◌, ◌<◌, length, map, slice_index, Contains, IfOk};
 ghost use Rattle.std.specs.List.{All};
+ghost use Rattle.std.specs.List.Sorted.{IsStrictlyIncreasing};
 ghost use Rattle.lab_deps.specs.Edges.{IsEdge};
 ghost use Rattle.lab_deps.specs.Soundness.{IsSound};
 ghost use Rattle.lab_deps.specs.declared.edge.Edge.{Edge as Spelled};
 ghost use Rattle.lab_judge.specs.Runs.{HoldsEachOnce};
 ghost use Rattle.lab_judge.specs.Judgement.{IsSerialVerdict, RestsOnOrder};
+ghost use Rattle.lab_judge.specs.Verdicts.{IsLeastOrder};
 
 use crate::allowed::Allowed;
 use crate::graphs::graph_of;
@@ -19,7 +21,7 @@ use lab_order::{NoMemory, Ordered, order};
 use lab_table::TxnNo;
 use std::alloc::Global;
 
-/// The serial verdict on a sound history with these committed transactions and these dependencies: an order of the
+/// The serial verdict on a sound history with these committed transactions and these dependencies: the least order of the
 /// transactions along which every dependency points forward, or a closed walk. NoMemory where a growth was refused.
 pub(crate) fn serial_verdict(
     alloc: Global,
@@ -29,9 +31,11 @@ pub(crate) fn serial_verdict(
 ) -> Result<Serial, NoMemory>
     requires sound { IsSound _history.now }
     requires nodes { HoldsEachOnce _history.now nodes.now }
+    requires rising { IsStrictlyIncreasing nodes.now }
     requires exact { (e : Spelled) → Contains edges.now e ↔ IsEdge _history.now e }
     ensures verdict { IfOk result (IsSerialVerdict _history.now) }
     ensures rests { IfOk result (RestsOnOrder _history.now) }
+    ensures least { IfOk result (IsLeastOrder _history.now) }
 {
     let graph = graph_of(alloc, nodes, edges, Allowed::All)?;
     match order(alloc, &graph)? {

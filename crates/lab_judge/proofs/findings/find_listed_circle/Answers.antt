@@ -5,11 +5,11 @@ use Rattle.lab_judge.proofs.SerialVerdicts.{all_have_ends}
 
 pub graph_of-requires : goal.graph_of-requires
 graph_of-requires c =
-    all_have_ends c.args.history.now c.in_ok-nodes.nodes c.in_ok-nodes.ensures c.in_ok-edges.edges (λ e there. ((c.in_ok-edges.ensures e).0 there).0)
+    all_have_ends c.args.history.now c.in_ok-nodes.nodes c.in_ok-nodes.ensures.once c.in_ok-edges.edges (λ e there. ((c.in_ok-edges.ensures e).0 there).0)
 
 pub find_circle-requires-clause-ends : goal.find_circle-requires-clause-ends
 find_circle-requires-clause-ends c =
-    all_have_ends c.args.history.now c.in_ok-nodes.nodes c.in_ok-nodes.ensures c.in_ok-edges.edges (λ e there. ((c.in_ok-edges.ensures e).0 there).0)
+    all_have_ends c.args.history.now c.in_ok-nodes.nodes c.in_ok-nodes.ensures.once c.in_ok-edges.edges (λ e there. ((c.in_ok-edges.ensures e).0 there).0)
 
 pub returns : goal.returns
 returns c =

@@ -1,6 +1,7 @@
 use Rattle.std.proofs.Common.{◌∙◌, ◌<◌, sym, ap, map, slice_index, subst, length}
 use Rattle.std.specs.List.{All}
-use Rattle.lab_order.specs.Order.{IsOrdered}
+use Rattle.lab_order.specs.Order.{IsOrdered, IsAnswered}
+use Rattle.lab_judge.proofs.LeastOrders.{least_numbers}
 use Rattle.lab_judge.proofs.NodeOrders.{within}
 use Rattle.lab_judge.proofs.SerialVerdicts.{all_have_ends, rests, runs}
 use Rattle.lab_judge.proofs.serializing.serial_verdict.Goals as goal
@@ -34,3 +35,9 @@ walk_round-requires-clause-circle c = (c.in_ok-graph.graph, c.in_ok-graph.ensure
 
 pub returns-clause-verdict : goal.returns-clause-verdict
 returns-clause-verdict c = (c.requires.sound, c.in_ok-walk-in-Circle.ensures.closed c.args._history.now (λ e there. (c.requires.exact e).0 there))
+
+pub returns-in-Order-clause-least : goal.returns-in-Order-clause-least
+returns-in-Order-clause-least c = λ other each ahead.
+    let answered = subst (IsAnswered c.in_ok-graph.graph) c.in-Order.is c.in_ok-order.ensures.least in
+    least_numbers c.args._history.now c.args.nodes.now c.requires.rising c.requires.nodes c.args.edges.now c.requires.exact c.in_ok-graph.graph c.in_ok-graph.ensures other each ahead
+    c.in-Order.order.items answered c.new.result (c.new.ensures ∙ c.in_ok-numbers-in-Order.ensures ∙ ap (map (slice_index c.args.nodes.now)) c.deref.ensures.value)

@@ -21,8 +21,11 @@ invariant_of-result c =
       c.how_many-count.ensures.few,
     )
 
-pub returns : goal.returns
-returns c =
+pub returns-clause-rising : goal.returns-clause-rising
+returns-clause-rising c = let is = dedup_is _ _ _ c.dedup.ensures.filtered in subst IsStrictlyIncreasing (sym is) (IsStrictlyIncreasing-dedup _ c.sort_unstable.ensures.sorted)
+
+pub returns-clause-once : goal.returns-clause-once
+returns-clause-once c =
     let is = dedup_is _ _ _ c.dedup.ensures.filtered in
     let moved = c.sort_unstable.ensures.permutation in
     each_once c.args.history.now c.dedup.new.self.items c.in_ok-numbers.numbers.items
