@@ -1,0 +1,243 @@
+//! Names of tables.
+
+ghost use Rattle.std.specs.Prelude.{◌≡◌, ◌≤◌, length, true, Some, is_some, codes, IsOk, IfOk, IfSome, refl};
+ghost use Rattle.std.specs.List.{prefix_len, list_all};
+ghost use Rattle.std.specs.Cmp.{partial_equiv_from_equiv};
+ghost use Rattle.std.specs.Cmp.Lexicographic.{nat_list_eq_equiv, nat_list_cmp_total, texts_po, texts_ties, bytes_decides};
+ghost use Rattle.std.specs.Str.{bytes_eq};
+ghost use Rattle.std.specs.Hash as fed;
+ghost use Rattle.std.specs.Hash.{same_Alike};
+ghost use Rattle.lab_table.specs.Words.{is_reserved};
+ghost use Rattle.lab_table.specs.Padded.{padded, is_nonzero};
+ghost use Rattle.lab_table.specs.TableName.{is_name_letter, is_table_name, in_lower_case, table_name_cmp, table_name_eq};
+
+use crate::memory::NoMemory;
+use std::alloc::Global;
+use std::cmp::Ordering;
+use std::hash::{Hash, Hasher};
+use std::marker::Model;
+
+/// The name of a table: 1 to 16 ASCII letters and `_`, in lower case, that aren't a word of scripts.
+/// Names are ordered by their bytes.
+#[derive(Clone, Copy, Debug)]
+pub struct TableName {
+    /// The name, and zeros behind it.
+    bytes: [u8; 16],
+}
+
+impl Model for TableName {
+    ghost use Rattle.std.specs.Prelude.{◌≡◌, ℕ, List, T};
+    ghost use Rattle.std.specs.Coded.{coded_list, coded_ℕ};
+    ghost use Rattle.lab_table.specs.Padded.{padded, unpadded};
+    ghost use Rattle.lab_table.specs.TableName.{is_table_name};
+
+    ghost Value = { List ℕ };
+
+    ghost coded = { coded_list coded_ℕ };
+
+    ghost view = { λ n. unpadded n.bytes };
+
+    ghost invariant = { λ n. (padded (unpadded n.bytes) ≡ n.bytes) × T (is_table_name (unpadded n.bytes)) };
+
+    ghost inverse = { λ text. record { bytes = padded text } };
+
+    ghost inverse_ok = { λ n h i. record { bytes = h.0 i } };
+}
+
+impl TableName {
+    /// The name that a text spells in either case, or None where it spells none. It takes no memory, so it is never
+    /// refused.
+    pub fn new(_alloc: Global, text: &[u8]) -> Result<Option<TableName>, NoMemory>
+        ensures ok { IsOk result }
+        ensures some { IfOk result (λ made. is_some made ≡ is_table_name (in_lower_case text.now)) }
+        ensures value { IfOk result (λ made. IfSome made (λ name. name ≡ in_lower_case text.now)) }
+    {
+        Ok(TableName::spelled(text))
+    }
+
+    fn spelled(text: &[u8]) -> Option<TableName>
+        ensures some { is_some result ≡ is_table_name (in_lower_case text.now) }
+        ensures value { IfSome result (λ name. name ≡ in_lower_case text.now) }
+    {
+        if text.len() > 16 {
+            return None;
+        }
+        let bytes = lowered(text);
+        if is_named(&bytes[..text.len()]) {
+            Some(TableName { bytes })
+        } else {
+            None
+        }
+    }
+
+    /// The table that a row without a name is in.
+    pub fn test() -> TableName
+        ensures { result ≡ codes "test" }
+    {
+        TableName {
+            bytes: *b"test\0\0\0\0\0\0\0\0\0\0\0\0",
+        }
+    }
+
+    /// The name's bytes, which are in lower case.
+    pub fn as_bytes(&self) -> &[u8]
+        ensures value { result.now ≡ self.now }
+        ensures name { is_table_name result.now ≡ true }
+    {
+        &self.bytes[..nonzero_len(&self.bytes)]
+    }
+
+    /// The same name.
+    pub fn copy(&self) -> TableName
+        ensures { result ≡ self.now }
+    {
+        *self
+    }
+}
+
+/// How many bytes stand before the first zero.
+fn nonzero_len(bytes: &[u8]) -> usize
+    ensures value { result ≡ prefix_len is_nonzero bytes.now }
+    ensures bound { result ≤ length bytes.now }
+{
+    bytes.iter().take_while(|byte| **byte != 0).count()
+}
+
+fn is_name_letter(byte: u8) -> bool
+    ensures { result ≡ is_name_letter byte }
+{
+    byte.is_ascii_lowercase() || byte == b'_'
+}
+
+fn has_letters(text: &[u8]) -> bool
+    ensures { result ≡ list_all is_name_letter text.now }
+{
+    text.iter().all(|byte| is_name_letter(*byte))
+}
+
+/// Whether a text is the name of a table, in lower case.
+fn is_named(text: &[u8]) -> bool
+    ensures { result ≡ is_table_name text.now }
+{
+    1 <= text.len() && text.len() <= 16 && has_letters(text) && !is_reserved(text)
+}
+
+/// A short text in lower case, with zeros behind it.
+fn lowered(text: &[u8]) -> [u8; 16]
+    requires { length text.now ≤ 16 }
+    ensures { result ≡ padded (in_lower_case text.now) }
+{
+    let mut bytes = [0; 16];
+    bytes[..text.len()].copy_from_slice(text);
+    bytes.make_ascii_lowercase();
+    bytes
+}
+
+fn is_word(text: &[u8], word: &[u8]) -> bool
+    ensures { result ≡ bytes_eq text.now word.now }
+{
+    text == word
+}
+
+/// Whether a text in lower case is a word of scripts that no table is named by.
+fn is_reserved(text: &[u8]) -> bool
+    ensures { result ≡ is_reserved text.now }
+{
+    if is_word(text, b"setup") {
+        true
+    } else if is_word(text, b"begin") {
+        true
+    } else if is_word(text, b"commit") {
+        true
+    } else if is_word(text, b"abort") {
+        true
+    } else if is_word(text, b"rollback") {
+        true
+    } else if is_word(text, b"set") {
+        true
+    } else if is_word(text, b"transaction") {
+        true
+    } else if is_word(text, b"isolation") {
+        true
+    } else if is_word(text, b"level") {
+        true
+    } else if is_word(text, b"select") {
+        true
+    } else if is_word(text, b"from") {
+        true
+    } else if is_word(text, b"where") {
+        true
+    } else if is_word(text, b"update") {
+        true
+    } else if is_word(text, b"value") {
+        true
+    } else if is_word(text, b"insert") {
+        true
+    } else if is_word(text, b"into") {
+        true
+    } else if is_word(text, b"id") {
+        true
+    } else if is_word(text, b"values") {
+        true
+    } else if is_word(text, b"delete") {
+        true
+    } else if is_word(text, b"and") {
+        true
+    } else if is_word(text, b"or") {
+        true
+    } else if is_word(text, b"not") {
+        true
+    } else if is_word(text, b"in") {
+        true
+    } else {
+        false
+    }
+}
+
+impl PartialEq for TableName {
+    ghost eq = { table_name_eq };
+
+    ghost laws = { partial_equiv_from_equiv nat_list_eq_equiv };
+
+    fn eq(&self, other: &TableName) -> bool {
+        self.bytes == other.bytes
+    }
+}
+
+impl Eq for TableName {
+    ghost laws = { nat_list_eq_equiv };
+}
+
+impl PartialOrd for TableName {
+    ghost partial_cmp = { λ a b. Some (table_name_cmp a b) };
+
+    ghost laws = { texts_po };
+
+    fn partial_cmp(&self, other: &TableName) -> Option<Ordering> {
+        Some(self.cmp(other))
+    }
+}
+
+impl Ord for TableName {
+    ghost cmp = { table_name_cmp };
+
+    ghost total = { nat_list_cmp_total };
+
+    ghost matches_partial_cmp = { λ a b. refl };
+
+    ghost matches_eq = { texts_ties };
+
+    fn cmp(&self, other: &TableName) -> Ordering {
+        self.bytes.cmp(&other.bytes)
+    }
+}
+
+impl Hash for TableName {
+    ghost hash_input = { fed.slice fed.u8 };
+
+    ghost respects_eq = { (same_Alike (fed.slice fed.u8) bytes_decides).fed };
+
+    fn hash<H: Hasher>(&self, state: &mut H) {
+        self.as_bytes().hash(state);
+    }
+}
