@@ -23,6 +23,7 @@ use Rattle.lab_engine.specs.declared.event.LogEvent.{LogEvent}
 use Rattle.lab_engine.specs.Log.{Past, Version, Txn, past_of, active, waiting, asked, begun}
 use Rattle.lab_engine.specs.Rules.{Gives, MayAsk, Asks, IsFree, IsCircle, IsEffect, MayCommit, in_view}
 use Rattle.lab_engine.specs.Answer.{MayGive, Answers}
+use Rattle.lab_engine.specs.LeastCircle.{IsLeastCircle}
 use Rattle.lab_engine.proofs.EventBounds.{begun_at_most}
 use Rattle.std.proofs.lemmas.Result.{IfOk-weaker}
 
@@ -56,7 +57,7 @@ begun_below log n is room =
 
 -- what a search for a circle found
 abbrev Searched : Level → Table → Past → ℕ → Statement → Option (List ℕ) → Type 0
-Searched level setup past session s found = MatchOption found ((circle : List ℕ) → ¬ IsCircle level setup past session s circle) (IsCircle level setup past session s)
+Searched level setup past session s found = MatchOption found ((circle : List ℕ) → ¬ IsCircle level setup past session s circle) (IsLeastCircle level setup past session s)
 
 module _ (level : Level) (setup : Table) (past : Past) (session : ℕ) (s : Statement) (txn : Txn) (asks : Asks past session (Run s) s txn) where
   module _ (free : IsFree level setup past session s) (versions : Seen) (sight : IsSight level setup past txn versions) where
@@ -70,7 +71,7 @@ module _ (level : Level) (setup : Table) (past : Past) (session : ℕ) (s : Stat
 
     refusal_answers : (fault : EngineFault) → IsRefusalOn (version_in versions) s fault → Answers level setup past session (Run s) (Refused fault)
     refusal_answers (DuplicateKey row) f =
-        ((s, txn, asks, free, f.0, ap (λ (v : Version). fails s row v.state) (sym (sight row)) ∙ f.1), λ eq. cc)
+        ((s, txn, asks, free, f.0, ap (λ (v : Version). fails s row v.state) (sym (sight row)) ∙ f.1), (λ eq. cc), λ t run circle eq. cc)
     refusal_answers (OutOfRange row) f = (
       (
         s,
@@ -81,7 +82,8 @@ module _ (level : Level) (setup : Table) (past : Past) (session : ℕ) (s : Stat
         ap (λ (v : Version). fails s row v.state) (sym (sight row)) ∙ f.1,
         λ other below. ap (λ (v : Version). fails s other v.state) (sym (sight other)) ∙ f.2 other below,
       ),
-      λ eq. cc,
+      (λ eq. cc),
+      λ t run circle eq. cc,
     )
     refusal_answers (Deadlock circle) f = absurd f
     refusal_answers (WriteConflict row by) f = absurd f
@@ -91,7 +93,7 @@ module _ (level : Level) (setup : Table) (past : Past) (session : ℕ) (s : Stat
 
     result_answers : (outcome : Outcome) → IsResultOn (version_in versions) s outcome → Answers level setup past session (Run s) outcome
     result_answers (Begun number) f = absurd f
-    result_answers (Listed view rows writes) f = ((s, txn, asks, free, effect view rows writes f), λ eq. cc)
+    result_answers (Listed view rows writes) f = ((s, txn, asks, free, effect view rows writes f), (λ eq. cc), λ t run circle eq. cc)
     result_answers Committed f = absurd f
     result_answers Aborted f = absurd f
     result_answers (Waits on) f = absurd f
@@ -110,12 +112,21 @@ module _ (level : Level) (setup : Table) (past : Past) (session : ℕ) (s : Stat
     -- it waits where no circle was found
     pub waits_answers : on ≢ [] → (found : Option (List ℕ)) → found ≡ None → Searched level setup past session s found → Answers level setup past session (Run s) (Waits on)
     waits_answers some found is searched =
-        ((s, txn, asks, blockers.rising, blockers.are, some, subst (Searched level setup past session s) is searched), λ eq. cc)
+        ((s, txn, asks, blockers.rising, blockers.are, some, subst (Searched level setup past session s) is searched), (λ eq. cc), λ t run circle eq. cc)
 
   -- it is refused where one was
   pub deadlock_answers : (circle : List ℕ) (found : Option (List ℕ)) → found ≡ Some circle → Searched level setup past session s found
       → Answers level setup past session (Run s) (Refused (Deadlock circle))
-  deadlock_answers circle found is searched = ((s, txn, asks, subst (Searched level setup past session s) is searched), λ eq. cc)
+  deadlock_answers circle found is searched = ((s, txn, asks, least.is_circle), (λ eq. cc), λ t run other eq. named t run other eq)
+    where
+      least : IsLeastCircle level setup past session s circle
+      least = subst (Searched level setup past session s) is searched
+
+      named : (t : Statement) → Run s ≡ Run t → (other : List ℕ) → Refused (Deadlock circle) ≡ Refused (Deadlock other) → IsLeastCircle level setup past session t other
+      named t run other eq =
+          let same : s ≡ t = cc in
+          let alike : circle ≡ other = cc in
+          subst (λ k. IsLeastCircle level setup past session k other) same (subst (IsLeastCircle level setup past session s) alike least)
 
 -- a session with an active transaction asks for a statement that it may ask for
 pub asking : {past : Past} {session : ℕ} (s : Statement) (txn : Txn) → MayAsk past session s → active past session ≡ Some txn → Asks past session (Run s) s txn

@@ -1,5 +1,5 @@
 -- Circles of sessions, each blocked by the next, as walks along the graph of who waits for whom.
-use Rattle.std.proofs.Common.{◌≡◌, ℕ, suc, refl, sym, subst, ◌∙◌, arith, Bool, true, false, List, [], ◌∷◌, inl, inr}
+use Rattle.std.proofs.Common.{◌≡◌, ℕ, suc, ◌+◌, ◌≤◌, refl, sym, subst, ◌∙◌, arith, Bool, true, false, List, [], ◌∷◌, inl, inr, length}
 use Rattle.std.specs.Prelude.{IsTrue, Option, Some, None, Result, Ok, Err, IfOk, IfSome, MatchOption, Contains}
 use Rattle.std.proofs.lemmas.Bool.{both_ways, cases_eq}
 use Rattle.lab_table.specs.Table.{Table}
@@ -11,6 +11,7 @@ use Rattle.lab_engine.specs.Rules.{BlockedBy, IsChain, IsCircle, MayAsk}
 use Rattle.lab_engine.specs.Recording.{IsRetryable}
 use Rattle.lab_engine.specs.WaitsFor.{waits_for, IsWalk, IsRound, WaitsOn, AreWaits}
 use Rattle.lab_engine.specs.Released.{IsReleased}
+use Rattle.lab_engine.specs.LeastCircle.{NotAfter, IsLeastCircle}
 use Rattle.lab_engine.proofs.Waiting.{asked_is, AreWaitsWith}
 use Rattle.std.proofs.lemmas.Option.{same_Some}
 
@@ -56,9 +57,8 @@ round_circle level setup past waits session s h (first ∷ rest) (own, walk, avo
 
 -- a circle is a walk of it
 circle_walk : (level : Level) (setup : Table) (past : Past) (waits : List Wait) (session : ℕ) (s : Statement) → AreWaitsWith level setup past session s waits → MayAsk past session s
-    → (circle : List ℕ) → IsCircle level setup past session s circle → (rest : List ℕ) × IsWalk waits session rest session
-circle_walk level setup past waits session s h may [] circle = absurd circle
-circle_walk level setup past waits session s h may (first ∷ rest) (own, chain) = (rest, walk_of level setup past waits session rest session s all (λ other. (h.0 other).1) chain)
+    → (first : ℕ) (rest : List ℕ) → IsCircle level setup past session s (first ∷ rest) → IsWalk waits session rest session
+circle_walk level setup past waits session s h may first rest (own, chain) = walk_of level setup past waits session rest session s all (λ other. (h.0 other).1) chain
   where
     all : (next : ℕ) (t : Statement) → waiting past next ≡ Some t → (other : ℕ) → BlockedBy level setup past next t other → IsTrue (waits_for waits next other)
     all next t is other b = elim (cases_eq next session) [
@@ -68,13 +68,41 @@ circle_walk level setup past waits session s h may (first ∷ rest) (own, chain)
       | inr apart ↦ (h.1 next other apart).1 (t, is, b)
     ]
 
+-- of the graph's walks from the session back to it none is shorter than a circle, and none of its length comes before it
+pub record IsLeastRound (waits : List Wait) (session : ℕ) (circle : List ℕ) : Type 0 where
+  pub round : IsRound waits session circle
+  pub shortest : (rest : List ℕ) → IsWalk waits session rest session → length circle ≤ 1 + length rest
+  pub least : (rest : List ℕ) → IsWalk waits session rest session → length circle ≡ 1 + length rest → NotAfter circle (session ∷ rest)
+
+-- such a circle is the least on which the session stands
+least_circle : (level : Level) (setup : Table) (past : Past) (waits : List Wait) (session : ℕ) (s : Statement) → AreWaitsWith level setup past session s waits → MayAsk past session s
+    → (circle : List ℕ) → IsLeastRound waits session circle → IsLeastCircle level setup past session s circle
+least_circle level setup past waits session s h may circle l = record { is_circle = round_circle level setup past waits session s h circle l.round; shortest = shortest; least = least }
+  where
+    shortest : (other : List ℕ) → IsCircle level setup past session s other → length circle ≤ length other
+    shortest [] c = absurd c
+    shortest (first ∷ rest) c = let le : length circle ≤ 1 + length rest = l.shortest rest (circle_walk level setup past waits session s h may first rest c) in omega (arith, le)
+
+    least : (other : List ℕ) → IsCircle level setup past session s other → length other ≡ length circle → NotAfter circle other
+    least [] c same = absurd c
+    least (first ∷ rest) c same = subst (λ k. NotAfter circle (k ∷ rest)) (sym c.0)
+        (l.least rest (circle_walk level setup past waits session s h may first rest c) (omega (arith, same)))
+
 -- what a search of the graph says of a deadlock
 pub deadlock_is : {E : Type 0} (level : Level) (setup : Table) (past : Past) (waits : List Wait) (session : ℕ) (s : Statement) → AreWaitsWith level setup past session s waits → MayAsk past session s
-    → (result : Result (Option (List ℕ)) E) → IfOk result (λ found. IfSome found (IsRound waits session)) → IfOk result (λ found. found ≡ None → (rest : List ℕ) → ¬ IsWalk waits session rest session)
-    → IfOk result (λ found. MatchOption found ((circle : List ℕ) → ¬ IsCircle level setup past session s circle) (IsCircle level setup past session s))
-deadlock_is level setup past waits session s h may (Ok (Some circle)) found none = round_circle level setup past waits session s h circle found
-deadlock_is level setup past waits session s h may (Ok None) found none = λ circle c. let w = circle_walk level setup past waits session s h may circle c in none refl w.0 w.1
-deadlock_is level setup past waits session s h may (Err e) found none = tt
+    → (result : Result (Option (List ℕ)) E) → IfOk result (λ found. IfSome found (IsRound waits session))
+    → IfOk result (λ found. IfSome found (λ circle. (rest : List ℕ) → IsWalk waits session rest session → length circle ≤ 1 + length rest))
+    → IfOk result (λ found. IfSome found (λ circle. (rest : List ℕ) → IsWalk waits session rest session → length circle ≡ 1 + length rest → NotAfter circle (session ∷ rest)))
+    → IfOk result (λ found. found ≡ None → (rest : List ℕ) → ¬ IsWalk waits session rest session)
+    → IfOk result (λ found. MatchOption found ((circle : List ℕ) → ¬ IsCircle level setup past session s circle) (IsLeastCircle level setup past session s))
+deadlock_is level setup past waits session s h may (Ok (Some circle)) found shortest least none =
+    least_circle level setup past waits session s h may circle (record { round = found; shortest = shortest; least = least })
+deadlock_is level setup past waits session s h may (Ok None) found shortest least none = nobody
+  where
+    nobody : (circle : List ℕ) → ¬ IsCircle level setup past session s circle
+    nobody [] c = c
+    nobody (first ∷ rest) c = none refl rest (circle_walk level setup past waits session s h may first rest c)
+deadlock_is level setup past waits session s h may (Err e) found shortest least none = tt
 
 -- a waiting session that is released is retryable
 pub released_retryable : (level : Level) (setup : Table) (past : Past) (waits : List Wait) (session : ℕ) (s : Statement) → AreWaits level setup past waits → waiting past session ≡ Some s

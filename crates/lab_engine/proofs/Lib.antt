@@ -21,6 +21,9 @@ pub mod FailingRows
 pub mod Walks
 pub mod Unreached
 mod ShortestWalks
+mod LeastWalks
+mod LeastCircles
+mod WaitLayers
 pub mod Rising
 pub mod Waiting
 pub mod Circles

@@ -17,7 +17,7 @@ pub record IsSearched (graph : List Wait) (goal : ℕ) (edges : List WaitEdge) (
   pub none : (rest : List ℕ) → IsWalk graph goal rest goal → turns ≤ length rest
 
 -- new hops aren't on the trail of one that was reached before
-trail_skips : (waits : List Wait) (goal : ℕ) (edges new : List WaitEdge) → All (IsNewWaitEdge waits edges goal) new → (session : ℕ) → IsTrue (is_reached edges goal session)
+pub trail_skips : (waits : List Wait) (goal : ℕ) (edges new : List WaitEdge) → All (IsNewWaitEdge waits edges goal) new → (session : ℕ) → IsTrue (is_reached edges goal session)
     → trail (new ++ edges) session ≡ trail edges session
 trail_skips waits goal edges [] all session there = refl
 trail_skips waits goal edges (edge ∷ new) all session there = at (trail_skips waits goal edges new (λ k d lt. all (suc k) d (omega arith)) session there) (edge.session == session) refl

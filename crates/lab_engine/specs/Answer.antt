@@ -12,15 +12,17 @@ use Rattle.lab_engine.specs.Log.{Past, waiting}
 use Rattle.lab_engine.specs.Rules.{Permitted}
 use Rattle.lab_engine.specs.Recording.{NoneRetryable, IsLeastRetryable}
 use Rattle.lab_engine.specs.Situation.{Describes}
+use Rattle.lab_engine.specs.LeastCircle.{NamesLeastOf}
 use Rattle.lab_engine.specs.declared.situation.Situation.{Situation}
 
 -- a session may give a command: it doesn't wait, or waits with that one
 abbrev pub MayGive : Past → ℕ → Command → Type 0
 MayGive past session command = (waiting past session ≡ None) ⊎ ((s : Statement) × (waiting past session ≡ Some s) × (command ≡ Run s))
 
--- an outcome is permitted, and isn't Busy
+-- an outcome is permitted, isn't Busy, and names the least circle where it names one
 abbrev pub Answers : Level → Table → Past → ℕ → Command → Outcome → Type 0
 Answers level setup past session command outcome = Permitted level setup past session command outcome × (outcome ≢ Refused Busy)
+    × NamesLeastOf level setup past session command outcome
 
 -- a session is the least retryable one, or there is none
 abbrev pub IsRetryChoice : Level → Table → Past → Option ℕ → Type 0

@@ -18,6 +18,7 @@ pub mod EachRow
 pub mod Candidates
 pub mod WaitEdges
 pub mod Released
+pub mod LeastCircle
 pub mod RecordingLaws
 pub mod RecordedLog
 pub mod Gathered

@@ -1,5 +1,5 @@
 -- Walks to a goal along the graph of who waits for whom, hop by hop.
-use Rattle.std.specs.Prelude.{◌≡◌, ◌==◌, ℕ, Bool, false, ◌||◌, cond, List, [], ◌∷◌, IsTrue, ⊤}
+use Rattle.std.specs.Prelude.{◌≡◌, ◌==◌, ◌≤◌, ◌⊎◌, ℕ, Bool, false, ◌||◌, cond, List, [], ◌∷◌, IsTrue, ⊤}
 use Rattle.std.specs.List.{list_any}
 use Rattle.lab_engine.specs.declared.circle.WaitEdge.{WaitEdge}
 use Rattle.lab_engine.specs.declared.waits.Wait.{Wait}
@@ -20,11 +20,16 @@ abbrev pub AreWaitEdges : List Wait → ℕ → List WaitEdge → Type 0
 AreWaitEdges waits goal [] = ⊤
 AreWaitEdges waits goal (edge ∷ edges) = IsWaitEdge waits edges goal edge × AreWaitEdges waits goal edges
 
--- a hop goes from a session that isn't reached to one that is, for which it waits
+-- a session is the goal, or none of those reached that another session waits for is less
+pub record IsLeastNext (graph : List Wait) (edges : List WaitEdge) (goal session next : ℕ) : Type 0 where
+  pub least : (other : ℕ) → IsTrue (waits_for graph session other) → IsTrue (is_reached edges goal other) → (next ≡ goal) ⊎ (next ≤ other)
+
+-- a hop goes from a session that isn't reached to one that is, the goal or the least for which it waits
 pub record IsNewWaitEdge (graph : List Wait) (edges : List WaitEdge) (goal : ℕ) (edge : WaitEdge) : Type 0 where
   pub new : is_reached edges goal edge.session ≡ false
   pub waits : IsTrue (waits_for graph edge.session edge.next)
   pub reached : IsTrue (is_reached edges goal edge.next)
+  pub least : IsLeastNext graph edges goal edge.session edge.next
 
 -- the sessions on the walk from one on
 abbrev pub trail : List WaitEdge → ℕ → List ℕ

@@ -7,7 +7,8 @@
 ghost use Rattle.std.specs.Prelude.{◌≡◌, ◌≤◌, ◌==◌, ◌+◌, ◌∷◌, ◌++◌, ◌⊎◌, [], true, false, None, Some, List, ℕ, length, IfOk, IfSome, IsTrue};
 ghost use Rattle.std.specs.List.{All, list_any};
 ghost use Rattle.lab_engine.specs.WaitsFor.{IsWalk, IsRound, waits_for};
-ghost use Rattle.lab_engine.specs.WaitEdges.{is_reached, trail, AreWaitEdges, IsNewWaitEdge};
+ghost use Rattle.lab_engine.specs.WaitEdges.{is_reached, trail, AreWaitEdges, IsLeastNext, IsNewWaitEdge};
+ghost use Rattle.lab_engine.specs.LeastCircle.{NotAfter};
 
 use crate::event::Sessions;
 use crate::waits::Wait;
@@ -44,7 +45,9 @@ fn has_reached(edges: &[WaitEdge], goal: Session, session: Session) -> bool
 
 /// The lesser of this session and the least so far.
 fn lesser(least: Option<Session>, session: Session) -> Session
-    ensures { (result ≡ session) ⊎ (least ≡ Some result) }
+    ensures one { (result ≡ session) ⊎ (least ≡ Some result) }
+    ensures below { result ≤ session }
+    ensures belows { IfSome least (λ other. result ≤ other) }
 {
     match least {
         Some(other) if other < session => other,
@@ -57,6 +60,7 @@ fn lesser(least: Option<Session>, session: Session) -> Session
 fn next_of(waits: &[Wait], edges: &[WaitEdge], goal: Session, session: Session) -> Option<Session>
     ensures waits { IfSome result (λ next. IsTrue (waits_for waits.now session next)) }
     ensures reached { IfSome result (λ next. IsTrue (is_reached edges.now goal next)) }
+    ensures least { IfSome result (IsLeastNext waits.now edges.now goal session) }
     ensures none { result ≡ None → (other : ℕ) → IsTrue (is_reached edges.now goal other) → waits_for waits.now session other ≡ false }
 {
     if is_waiting_for(waits, session, goal) {
@@ -118,9 +122,8 @@ fn circle_by(
     Ok(Sessions::new(circle))
 }
 
-/// A circle from this session on, than which none is shorter; or None where there is none. Of the shortest ones the
-/// least in its list is answered, which is tested and not part of the contract.
-/// NoMemory where a growth was refused.
+/// A circle from this session on, than which none is shorter, and of those of its length the least in its list; or None
+/// where there is none. NoMemory where a growth was refused.
 pub fn shortest_circle(
     alloc: Global,
     waits: &[Wait],
@@ -128,6 +131,7 @@ pub fn shortest_circle(
 ) -> Result<Option<Sessions>, NoMemory>
     ensures found { IfOk result (λ found. IfSome found (IsRound waits.now session)) }
     ensures shortest { IfOk result (λ found. IfSome found (λ circle. (rest : List ℕ) → IsWalk waits.now session rest session → length circle ≤ 1 + length rest)) }
+    ensures least { IfOk result (λ found. IfSome found (λ circle. (rest : List ℕ) → IsWalk waits.now session rest session → length circle ≡ 1 + length rest → NotAfter circle (session ∷ rest))) }
     ensures none { IfOk result (λ found. found ≡ None → (rest : List ℕ) → ¬ IsWalk waits.now session rest session) }
 {
     let mut edges = Vec::new(alloc);

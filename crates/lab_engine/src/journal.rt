@@ -9,6 +9,7 @@ ghost use Rattle.lab_engine.specs.Rules.{Permitted};
 ghost use Rattle.lab_engine.specs.Situation.{Describes};
 ghost use Rattle.lab_engine.specs.Answer.{Keeps};
 ghost use Rattle.lab_engine.specs.Engine.{IsStep, IsRetry};
+ghost use Rattle.lab_engine.specs.LeastCircle.{NamesLeastOf, NamesLeastOfWaiting};
 
 use crate::answer::answer_to;
 use crate::engine::Engine;
@@ -132,6 +133,7 @@ fn step_outcome<R: Rules>(
     requires room { length log.now < max_events }
     requires situation { Describes (past_of log.now) situation.now }
     ensures permitted { IfOk result (Permitted R.kind setup.now (past_of log.now) session command.now) }
+    ensures least { IfOk result (NamesLeastOf R.kind setup.now (past_of log.now) session command.now) }
     ensures busy { IfOk result (λ outcome. IsSome (waiting (past_of log.now) session) → outcome ≡ Refused Busy) }
 {
     if situation.is_waiting(session) {
@@ -154,6 +156,7 @@ fn step_event<R: Rules>(
     requires room { length log.now < max_events }
     requires situation { Describes (past_of log.now) situation }
     ensures step { IfOk result (λ n. IsStep R.kind setup.now log.now (log.now ++ n.event ∷ []) session command.now n.outcome) }
+    ensures least { IfOk result (λ n. NamesLeastOf R.kind setup.now (past_of log.now) session command.now n.outcome) }
     ensures keeps { IfOk result (λ n. Keeps R.kind setup.now (n.event ∷ past_of log.now) n.retryable (Some n.situation)) }
 {
     let outcome = step_outcome(alloc, rules, setup, log, &situation, session, command)?;
@@ -180,6 +183,7 @@ fn retry_event<R: Rules>(
     requires situation { Describes (past_of log.now) situation }
     requires waits { IsSome (waiting (past_of log.now) session) }
     ensures retry { IfOk result (λ n. IsRetry R.kind setup.now log.now (log.now ++ n.event ∷ []) session n.outcome) }
+    ensures least { IfOk result (λ n. NamesLeastOfWaiting R.kind setup.now (past_of log.now) session n.outcome) }
     ensures keeps { IfOk result (λ n. Keeps R.kind setup.now (n.event ∷ past_of log.now) n.retryable (Some n.situation)) }
 {
     let Some(statement) = situation.waiting(session) else {

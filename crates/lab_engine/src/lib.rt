@@ -13,6 +13,7 @@
 #![tactic(auto)]
 
 mod answer;
+mod answer_laws;
 mod candidates;
 mod chain;
 mod circle;
@@ -34,6 +35,7 @@ mod situation;
 mod version;
 mod waits;
 
+pub use answer_laws::least_circle_unique;
 pub use chain::{Chains, Installed};
 pub use engine::{Engine, MAX_EVENTS};
 pub use event::{EngineFault, Level, LogEvent, Outcome, Sessions};

@@ -10,6 +10,7 @@ ghost use Rattle.lab_engine.specs.Situation.{Describes, DescribesSession};
 ghost use Rattle.lab_engine.specs.Sight.{ShowsWritten};
 ghost use Rattle.lab_engine.specs.WaitsFor.{AreBlockers, AreWaits, WaitsOn};
 ghost use Rattle.lab_engine.specs.Released.{IsReleased};
+ghost use Rattle.lab_engine.specs.LeastCircle.{IsLeastCircle};
 
 use crate::circle::shortest_circle;
 use crate::event::Sessions;
@@ -130,8 +131,8 @@ pub fn all_waits<R: Rules>(
     Ok(waits)
 }
 
-/// The circle on which a session would stand that asks for a statement which these block; or None where there is none.
-/// NoMemory where a growth was refused.
+/// The least circle on which a session would stand that asks for a statement which these block; or None where there is
+/// none. NoMemory where a growth was refused.
 pub fn deadlock<R: Rules>(
     alloc: Global,
     rules: &R,
@@ -143,7 +144,7 @@ pub fn deadlock<R: Rules>(
     ensures { (past : Past) (s : Asked) → Describes past situation.now → MayAsk past session s
         → AreBlockers R.kind setup.now past session s on.now
         → IfOk result (λ found. MatchOption found ((circle : List ℕ) → ¬ IsCircle R.kind setup.now past session s circle)
-        (IsCircle R.kind setup.now past session s)) }
+        (IsLeastCircle R.kind setup.now past session s)) }
 {
     let mut waits = all_waits(alloc, rules, setup, situation)?;
     waits.push(Wait {

@@ -14,4 +14,5 @@ returns g c = λ past s d may are.
     subst (AreWaitsWith g.R.Rules.kind c.args.setup.now past c.args.session s) same
     (waits_with g.R.Rules.kind c.args.setup.now past c.args.session s c.in_ok-waits.waits.items wait refl (c.in_ok-waits.ensures past d) may
     (subst (AreBlockers g.R.Rules.kind c.args.setup.now past c.args.session s) (sym c.in_ok-copy.ensures) are)) in
-    deadlock_is g.R.Rules.kind c.args.setup.now past c.deref.result.now c.args.session s waits may c.shortest_circle.result c.shortest_circle.ensures.found c.shortest_circle.ensures.none
+    deadlock_is g.R.Rules.kind c.args.setup.now past c.deref.result.now c.args.session s waits may c.shortest_circle.result c.shortest_circle.ensures.found
+    c.shortest_circle.ensures.shortest c.shortest_circle.ensures.least c.shortest_circle.ensures.none
