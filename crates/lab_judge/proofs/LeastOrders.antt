@@ -85,7 +85,7 @@ module _ (ns : List ℕ) (up : IsStrictlyIncreasing ns) where
       ∙ ap (λ k. cond (m == n) 0 (suc k)) (position_again n there ms (All-tail (Contains ns) m ms all))
 
 -- a number beyond all that a list has comes never
-never : (n : ℕ) (ms : List ℕ) → All (λ a. a < n) ms → times n ms ≡ 0
+pub never : (n : ℕ) (ms : List ℕ) → All (λ a. a < n) ms → times n ms ≡ 0
 never n [] all = refl
 never n (m ∷ ms) all = at (never n ms (All-tail (λ a. a < n) m ms all)) (m == n) refl
   where

@@ -24,14 +24,14 @@ use Rattle.lab_judge.proofs.Joined.{some_passes, passes_some, read}
 use Rattle.lab_judge.proofs.SerialVerdicts.{is_node}
 
 -- the point at a start's node
-point_start : (ns : List ℕ) (p : ℕ) → point_at ns (start_node p) ≡ Start (slice_index ns p)
+pub point_start : (ns : List ℕ) (p : ℕ) → point_at ns (start_node p) ≡ Start (slice_index ns p)
 point_start ns p =
     let even : 2 * p % 2 ≡ 0 = omega arith in
     let half : 2 * p / 2 ≡ p = omega arith in
     ap (λ b. cond b (Start (slice_index ns (2 * p / 2))) (Commit (slice_index ns (2 * p / 2)))) (eq-eqb (2 * p % 2) 0 even) ∙ ap (λ k. Start (slice_index ns k)) half
 
 -- and at a commit's node
-point_commit : (ns : List ℕ) (p : ℕ) → point_at ns (commit_node p) ≡ Commit (slice_index ns p)
+pub point_commit : (ns : List ℕ) (p : ℕ) → point_at ns (commit_node p) ≡ Commit (slice_index ns p)
 point_commit ns p =
     let odd : (2 * p + 1) % 2 ≡ 1 = omega arith in
     let half : (2 * p + 1) / 2 ≡ p = omega arith in

@@ -13,6 +13,7 @@ use Rattle.lab_deps.specs.declared.edge.Edge.{Edge}
 use Rattle.lab_deps.proofs.Places.{times, times_count, times_here, times_more}
 use Rattle.lab_judge.specs.Runs.{HoldsEachOnce, Span, all_places, IsSnapshotRun}
 use Rattle.lab_judge.specs.Places.{IsArrow, start_of, commit_of, place_of_point, IsForwardPlacing}
+use Rattle.lab_judge.specs.LeastPlaces.{txn_of}
 use Rattle.lab_judge.specs.PlaceGraphs.{start_node, commit_node, IsPlaceGraph, span_in}
 use Rattle.lab_judge.specs.declared.places.Point.{Point}
 use Rattle.lab_judge.specs.declared.places.Point.TheVariants.{Start, Commit}
@@ -25,7 +26,7 @@ use Rattle.lab_judge.proofs.Placings.{is_snapshot}
 use Rattle.lab_judge.proofs.Orders.{at_most}
 
 -- the transactions of spans are those that they were made of
-numbers_are : (ns places ms : List ℕ) → map (λ s. s.txn) (map (span_in ns places) ms) ≡ ms
+pub numbers_are : (ns places ms : List ℕ) → map (λ s. s.txn) (map (span_in ns places) ms) ≡ ms
 numbers_are ns places [] = refl
 numbers_are ns places (m ∷ ms) = ap (λ l. m ∷ l) (numbers_are ns places ms)
 
@@ -50,11 +51,10 @@ commit_is ns places (m ∷ ms) n h = at (commit_is ns places ms n) (m == n) refl
     at rest false e h = rest h
 
 -- both ends of an arrow are of committed transactions
-abbrev IsOfCommitted : History → Point → Type 0
-IsOfCommitted h (Start n) = IsCommitted h n
-IsOfCommitted h (Commit n) = IsCommitted h n
+abbrev pub IsOfCommitted : History → Point → Type 0
+IsOfCommitted h p = IsCommitted h (txn_of p)
 
-ends : (h : History) (p q : Point) → IsArrow h p q → IsOfCommitted h p × IsOfCommitted h q
+pub ends : (h : History) (p q : Point) → IsArrow h p q → IsOfCommitted h p × IsOfCommitted h q
 ends h (Start m) (Commit n) (inl (c, same)) = (c, subst (IsCommitted h) same c)
 ends h (Start m) (Commit n) (inr (e, edge, from, to, kind)) = (subst (IsCommitted h) from edge.0, subst (IsCommitted h) to edge.1)
 ends h (Commit m) (Start n) (e, edge, from, to, kind) = (subst (IsCommitted h) from edge.0, subst (IsCommitted h) to edge.1)

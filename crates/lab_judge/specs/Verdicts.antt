@@ -44,9 +44,9 @@ AgreeOnOrder (serial.NoCycle walk) (serial.Yes other) = ⊥
 AgreeOnOrder (serial.NoCycle walk) (serial.NoFault fault) = ⊥
 AgreeOnOrder (serial.NoCycle walk) (serial.NoCycle other) = ⊤
 
--- both places, the same fault, or both a circle
+-- the same places, the same fault, or both a circle
 abbrev pub AgreeOnPlaces : Places → Places → Type 0
-AgreeOnPlaces (places.Yes one) (places.Yes other) = ⊤
+AgreeOnPlaces (places.Yes one) (places.Yes other) = one ≡ other
 AgreeOnPlaces (places.Yes one) (places.NoFault fault) = ⊥
 AgreeOnPlaces (places.Yes one) (places.NoCycle points) = ⊥
 AgreeOnPlaces (places.NoFault fault) (places.Yes other) = ⊥

@@ -2,12 +2,14 @@
 
 ghost use Rattle.std.specs.Prelude.{◌≡◌, ◌↔◌, ◌<◌, ◌≤◌, ◌*◌, ◌^◌, ◌==◌, ℕ, length, map, slice_index, Contains, IfOk};
 ghost use Rattle.std.specs.List.{All, count_by};
+ghost use Rattle.std.specs.List.Sorted.{IsStrictlyIncreasing};
 ghost use Rattle.lab_order.specs.Order.{position};
 ghost use Rattle.lab_deps.specs.Edges.{IsEdge};
 ghost use Rattle.lab_deps.specs.Soundness.{IsSound};
 ghost use Rattle.lab_deps.specs.declared.edge.Edge.{Edge as Spelled};
 ghost use Rattle.lab_judge.specs.Runs.{HoldsEachOnce, spans_of};
 ghost use Rattle.lab_judge.specs.Judgement.{IsSnapshotVerdict, RestsOnPlaces};
+ghost use Rattle.lab_judge.specs.LeastPlaces.{IsLeastPlacing};
 ghost use Rattle.lab_judge.specs.PlaceGraphs.{point_at, span_in};
 
 use crate::nodes::Nodes;
@@ -19,9 +21,9 @@ use lab_order::{NoMemory, Ordered, order};
 use lab_table::TxnNo;
 use std::alloc::Global;
 
-/// The snapshot verdict on a sound history with these committed transactions and these dependencies: places of their
-/// starts and commits along which every arrow points forward, by rising number, or a circle of arrows. NoMemory where a
-/// growth was refused.
+/// The snapshot verdict on a sound history with these committed transactions and these dependencies: by rising number,
+/// the places of their starts and commits in the least order along which every arrow points forward, or a circle of
+/// arrows. NoMemory where a growth was refused.
 pub(crate) fn snapshot_verdict(
     alloc: Global,
     _history: &History,
@@ -30,9 +32,11 @@ pub(crate) fn snapshot_verdict(
 ) -> Result<Places, NoMemory>
     requires sound { IsSound _history.now }
     requires nodes { HoldsEachOnce _history.now nodes.now }
+    requires rising { IsStrictlyIncreasing nodes.now }
     requires exact { (e : Spelled) → Contains edges.now e ↔ IsEdge _history.now e }
     ensures verdict { IfOk result (IsSnapshotVerdict _history.now) }
     ensures rests { IfOk result (RestsOnPlaces _history.now) }
+    ensures places { IfOk result (IsLeastPlacing _history.now) }
 {
     let graph = place_graph(alloc, nodes, edges)?;
     match order(alloc, &graph)? {

@@ -3,7 +3,8 @@ use Rattle.std.specs.List.{All, count_by}
 use Rattle.std.specs.Prelude.{◌==◌, ℕ, Contains, slice_index}
 use Rattle.lab_judge.specs.PlaceGraphs.{point_at, span_in}
 use Rattle.lab_judge.specs.Places.{IsCircle}
-use Rattle.lab_order.specs.Order.{IsOrdered, position}
+use Rattle.lab_order.specs.Order.{IsOrdered, IsAnswered, position}
+use Rattle.lab_judge.proofs.LeastPlaces.{least_placing}
 use Rattle.lab_judge.proofs.NodeOrders.{within}
 use Rattle.lab_judge.proofs.NodePlaces.{once_in, no_more}
 use Rattle.lab_judge.proofs.PlaceNodes.{circle_is, circle_within}
@@ -49,6 +50,14 @@ returns-in-Order-clause-rests c =
     let are = subst (λ l. (node : ℕ) → Contains l node → slice_index c.in_ok-places-in-Order.places.items node ≡ position l node) c.deref.ensures.value c.in_ok-places-in-Order.ensures.places in
     rests c.args._history.now c.args.nodes.now c.requires.nodes c.args.edges.now c.requires.exact c.in_ok-graph.graph c.in_ok-graph.ensures c.in-Order.order.items ordered
     c.in_ok-places-in-Order.places.items are c.requires.sound c.new.result
+    (c.new.ensures ∙ c.in_ok-spans-in-Order.ensures ∙ ap (λ l. map (span_in c.args.nodes.now l) c.args.nodes.now) c.deref-in-Order.ensures.value)
+
+pub returns-in-Order-clause-places : goal.returns-in-Order-clause-places
+returns-in-Order-clause-places c =
+    let answered = subst (IsAnswered c.in_ok-graph.graph) c.in-Order.is c.in_ok-order.ensures.least in
+    let are = subst (λ l. (node : ℕ) → Contains l node → slice_index c.in_ok-places-in-Order.places.items node ≡ position l node) c.deref.ensures.value c.in_ok-places-in-Order.ensures.places in
+    least_placing c.args._history.now c.args.nodes.now c.requires.rising c.requires.nodes c.args.edges.now c.requires.exact c.in_ok-graph.graph c.in_ok-order.ensures.graph c.in_ok-graph.ensures
+    c.in-Order.order.items answered c.in_ok-places-in-Order.places.items are c.new.result
     (c.new.ensures ∙ c.in_ok-spans-in-Order.ensures ∙ ap (λ l. map (span_in c.args.nodes.now l) c.args.nodes.now) c.deref-in-Order.ensures.value)
 
 pub points_of-requires : goal.points_of-requires
