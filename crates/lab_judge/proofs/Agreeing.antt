@@ -3,6 +3,7 @@ use Rattle.lab_history.specs.History.{History}
 use Rattle.lab_deps.proofs.FaultOrders.{one_first}
 use Rattle.lab_order.proofs.Least.{neither_after}
 use Rattle.lab_judge.specs.Judgement.{IsSerialVerdict, IsSnapshotVerdict, RestsOnOrder, RestsOnPlaces, IsExactJudgement}
+use Rattle.lab_judge.specs.BackPoints.{HasBackCircle}
 use Rattle.lab_judge.specs.LeastPlaces.{IsLeastPlacing}
 use Rattle.lab_judge.specs.Verdicts.{IsLeastOrder, AgreeOnOrder, AgreeOnPlaces}
 use Rattle.lab_judge.specs.declared.places.Places.{Places}
@@ -11,6 +12,7 @@ use Rattle.lab_judge.specs.declared.report.Report.{Report}
 use Rattle.lab_judge.specs.declared.serial.Serial.{Serial}
 use Rattle.lab_judge.specs.declared.serial.Serial.TheVariants as serial
 use Rattle.lab_judge.proofs.Excludes.{no_closed_walk, no_circle}
+use Rattle.lab_judge.proofs.OneBackCircle.{one_circle}
 use Rattle.lab_judge.proofs.OnePlacing.{one_least_placing}
 
 module _ (h : History) where
@@ -25,19 +27,19 @@ module _ (h : History) where
   orders (serial.NoCycle walk) (serial.NoFault fault) v w r q l m = v.0 fault w.0
   orders (serial.NoCycle walk) (serial.NoCycle other) v w r q l m = tt
 
-  placings : (s t : Places) → IsSnapshotVerdict h s → IsSnapshotVerdict h t → RestsOnPlaces h s → RestsOnPlaces h t → IsLeastPlacing h s → IsLeastPlacing h t → AgreeOnPlaces s t
-  placings (places.Yes one) (places.Yes other) v w r q l m = one_least_placing h one other r.1 q.1 l m
-  placings (places.Yes one) (places.NoFault fault) v w r q l m = r.0 fault w.0
-  placings (places.Yes one) (places.NoCycle points) v w r q l m = no_circle h one points r.3 w.1
-  placings (places.NoFault fault) (places.Yes other) v w r q l m = q.0 fault v.0
-  placings (places.NoFault fault) (places.NoFault same) v w r q l m = one_first h fault same v w
-  placings (places.NoFault fault) (places.NoCycle points) v w r q l m = w.0 fault v.0
-  placings (places.NoCycle points) (places.Yes other) v w r q l m = no_circle h other points q.3 v.1
-  placings (places.NoCycle points) (places.NoFault fault) v w r q l m = v.0 fault w.0
-  placings (places.NoCycle points) (places.NoCycle other) v w r q l m = tt
+  placings : (s t : Places) → IsSnapshotVerdict h s → IsSnapshotVerdict h t → RestsOnPlaces h s → RestsOnPlaces h t → IsLeastPlacing h s → IsLeastPlacing h t → HasBackCircle h s → HasBackCircle h t → AgreeOnPlaces s t
+  placings (places.Yes one) (places.Yes other) v w r q l m c d = one_least_placing h one other r.1 q.1 l m
+  placings (places.Yes one) (places.NoFault fault) v w r q l m c d = r.0 fault w.0
+  placings (places.Yes one) (places.NoCycle points) v w r q l m c d = no_circle h one points r.3 w.1
+  placings (places.NoFault fault) (places.Yes other) v w r q l m c d = q.0 fault v.0
+  placings (places.NoFault fault) (places.NoFault same) v w r q l m c d = one_first h fault same v w
+  placings (places.NoFault fault) (places.NoCycle points) v w r q l m c d = w.0 fault v.0
+  placings (places.NoCycle points) (places.Yes other) v w r q l m c d = no_circle h other points q.3 v.1
+  placings (places.NoCycle points) (places.NoFault fault) v w r q l m c d = v.0 fault w.0
+  placings (places.NoCycle points) (places.NoCycle other) v w r q l m c d = one_circle h points other c d
 
   pub serial_agrees : (one other : Report) → IsExactJudgement h one → IsExactJudgement h other → AgreeOnOrder one.serial other.serial
   serial_agrees one other a b = orders one.serial other.serial a.judgement.serial b.judgement.serial a.order b.order a.least b.least
 
   pub snapshot_agrees : (one other : Report) → IsExactJudgement h one → IsExactJudgement h other → AgreeOnPlaces one.snapshot other.snapshot
-  snapshot_agrees one other a b = placings one.snapshot other.snapshot a.judgement.snapshot b.judgement.snapshot a.placing b.placing a.places b.places
+  snapshot_agrees one other a b = placings one.snapshot other.snapshot a.judgement.snapshot b.judgement.snapshot a.placing b.placing a.places b.places a.circle b.circle

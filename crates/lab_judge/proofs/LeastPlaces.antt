@@ -32,7 +32,7 @@ use Rattle.lab_judge.proofs.PointNodes.{often, often_count, often_there, compare
 use Rattle.lab_judge.proofs.SnapshotVerdicts.{IsOfCommitted, ends, numbers_are}
 
 -- no arrow leads beyond the graph
-arrow_within : (graph : Arrows) → IsGraph graph → (a b : ℕ) → IsTrue (has_arrow graph a b) → (a < nodes_of graph) × (b < nodes_of graph)
+pub arrow_within : (graph : Arrows) → IsGraph graph → (a b : ℕ) → IsTrue (has_arrow graph a b) → (a < nodes_of graph) × (b < nodes_of graph)
 arrow_within graph g a b arrow = (g.within a b arrow, (elim (cases_lt b (nodes_of graph)) [ inl less ↦ less | inr past ↦ absurd (bare past) ]))
   where
     bare : nodes_of graph ≤ b → ⊥

@@ -5,6 +5,7 @@ use Rattle.lab_deps.specs.FaultOrder.{IsFirst}
 use Rattle.lab_deps.specs.Soundness.{IsSound}
 use Rattle.lab_deps.specs.declared.fault.LocalFault.{LocalFault}
 use Rattle.lab_judge.specs.Judgement.{IsSerialVerdict, IsSnapshotVerdict, SameFault, Judges, JudgesAll, JudgesAtFault, RestsOnOrder, RestsOnPlaces, IsExactJudgement}
+use Rattle.lab_judge.specs.BackPoints.{HasBackCircle}
 use Rattle.lab_judge.specs.LeastPlaces.{IsLeastPlacing}
 use Rattle.lab_judge.specs.Verdicts.{IsLeastOrder}
 use Rattle.lab_judge.specs.declared.places.Places.{Places}
@@ -33,8 +34,8 @@ all_judged h sound (serial.NoFault fault) s found grade judges = absurd (sound f
 
 -- so they make a judgement
 pub of_sound : (h : History) → IsSound h → (report : Report) → IsSerialVerdict h report.serial → RestsOnOrder h report.serial → IsLeastOrder h report.serial → IsSnapshotVerdict h report.snapshot → RestsOnPlaces h report.snapshot
-    → IsLeastPlacing h report.snapshot → JudgesAll h report.phenomena report.level → IsExactJudgement h report
-of_sound h sound report s order least p placing places judges = record {
+    → IsLeastPlacing h report.snapshot → HasBackCircle h report.snapshot → JudgesAll h report.phenomena report.level → IsExactJudgement h report
+of_sound h sound report s order least p placing places circle judges = record {
   judgement = record {
     serial = s;
     snapshot = p;
@@ -45,6 +46,7 @@ of_sound h sound report s order least p placing places judges = record {
   least = least;
   placing = placing;
   places = places;
+  circle = circle;
 }
 
 -- the first fault that stands makes one too
@@ -56,4 +58,5 @@ of_fault h fault first found grade judges = record {
   least = tt;
   placing = tt;
   places = tt;
+  circle = tt;
 }

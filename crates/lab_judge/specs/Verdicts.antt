@@ -44,7 +44,7 @@ AgreeOnOrder (serial.NoCycle walk) (serial.Yes other) = ⊥
 AgreeOnOrder (serial.NoCycle walk) (serial.NoFault fault) = ⊥
 AgreeOnOrder (serial.NoCycle walk) (serial.NoCycle other) = ⊤
 
--- the same places, the same fault, or both a circle
+-- the same places, the same fault, or the same circle
 abbrev pub AgreeOnPlaces : Places → Places → Type 0
 AgreeOnPlaces (places.Yes one) (places.Yes other) = one ≡ other
 AgreeOnPlaces (places.Yes one) (places.NoFault fault) = ⊥
@@ -54,4 +54,4 @@ AgreeOnPlaces (places.NoFault fault) (places.NoFault same) = fault ≡ same
 AgreeOnPlaces (places.NoFault fault) (places.NoCycle points) = ⊥
 AgreeOnPlaces (places.NoCycle points) (places.Yes other) = ⊥
 AgreeOnPlaces (places.NoCycle points) (places.NoFault fault) = ⊥
-AgreeOnPlaces (places.NoCycle points) (places.NoCycle other) = ⊤
+AgreeOnPlaces (places.NoCycle points) (places.NoCycle other) = points ≡ other

@@ -16,6 +16,7 @@ ghost use Rattle.lab_deps.specs.Soundness.{IsSound};
 ghost use Rattle.lab_deps.specs.declared.edge.Edge.{Edge as Spelled};
 ghost use Rattle.lab_judge.specs.Phenomena.{IsClosedWalk, NoWalk};
 ghost use Rattle.lab_judge.specs.Runs.{HoldsEachOnce};
+ghost use Rattle.lab_judge.specs.BackPoints.{HasBackCircle};
 ghost use Rattle.lab_judge.specs.LeastPlaces.{IsLeastPlacing};
 ghost use Rattle.lab_judge.specs.Verdicts.{IsLeastOrder, IsYes, IsPlaced, NoCircle};
 ghost use Rattle.lab_judge.specs.Judgement.{IsExactJudgement, IsSerialVerdict, IsSnapshotVerdict, SameFault, Judges, JudgesAll, RestsOnOrder};
@@ -54,6 +55,7 @@ pub fn judge(alloc: Global, history: &History) -> Result<Report, NoMemory>
     ensures placed { IfOk result (λ report. IsPlaced report.snapshot ↔ (IsSound history.now × NoCircle history.now)) }
     ensures least { IfOk result (λ report. IsLeastOrder history.now report.serial) }
     ensures places { IfOk result (λ report. IsLeastPlacing history.now report.snapshot) }
+    ensures circle { IfOk result (λ report. HasBackCircle history.now report.snapshot) }
 {
     match check_local(alloc, history) {
         Ok(sound) => judge_sound(alloc, history, &sound),

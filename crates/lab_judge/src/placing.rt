@@ -9,6 +9,7 @@ ghost use Rattle.lab_deps.specs.Soundness.{IsSound};
 ghost use Rattle.lab_deps.specs.declared.edge.Edge.{Edge as Spelled};
 ghost use Rattle.lab_judge.specs.Runs.{HoldsEachOnce, spans_of};
 ghost use Rattle.lab_judge.specs.Judgement.{IsSnapshotVerdict, RestsOnPlaces};
+ghost use Rattle.lab_judge.specs.BackPoints.{HasBackCircle};
 ghost use Rattle.lab_judge.specs.LeastPlaces.{IsLeastPlacing};
 ghost use Rattle.lab_judge.specs.PlaceGraphs.{point_at, span_in};
 
@@ -22,8 +23,8 @@ use lab_table::TxnNo;
 use std::alloc::Global;
 
 /// The snapshot verdict on a sound history with these committed transactions and these dependencies: by rising number,
-/// the places of their starts and commits in the least order along which every arrow points forward, or a circle of
-/// arrows. NoMemory where a growth was refused.
+/// the places of their starts and commits in the least order along which every arrow points forward, or the circle of
+/// arrows on the way back from the lowest that no order can place. NoMemory where a growth was refused.
 pub(crate) fn snapshot_verdict(
     alloc: Global,
     _history: &History,
@@ -37,6 +38,7 @@ pub(crate) fn snapshot_verdict(
     ensures verdict { IfOk result (IsSnapshotVerdict _history.now) }
     ensures rests { IfOk result (RestsOnPlaces _history.now) }
     ensures places { IfOk result (IsLeastPlacing _history.now) }
+    ensures circle { IfOk result (HasBackCircle _history.now) }
 {
     let graph = place_graph(alloc, nodes, edges)?;
     match order(alloc, &graph)? {

@@ -4,6 +4,7 @@ use Rattle.std.specs.Prelude.{◌==◌, ℕ, Contains, slice_index}
 use Rattle.lab_judge.specs.PlaceGraphs.{point_at, span_in}
 use Rattle.lab_judge.specs.Places.{IsCircle}
 use Rattle.lab_order.specs.Order.{IsOrdered, IsAnswered, position}
+use Rattle.lab_judge.proofs.BackPoints.{has_back_circle}
 use Rattle.lab_judge.proofs.LeastPlaces.{least_placing}
 use Rattle.lab_judge.proofs.NodeOrders.{within}
 use Rattle.lab_judge.proofs.NodePlaces.{once_in, no_more}
@@ -74,3 +75,11 @@ returns-clause-verdict c =
       subst (IsCircle c.args._history.now) (sym made) (circle_is c.args._history.now c.args.nodes.now c.requires.nodes c.args.edges.now c.requires.exact c.in_ok-graph.graph
           c.in_ok-graph.ensures c.in-Circle.circle.items circle),
     )
+
+pub returns-clause-circle : goal.returns-clause-circle
+returns-clause-circle c =
+    let circle = subst (IsOrdered c.in_ok-graph.graph) c.in-Circle.is c.in_ok-order.ensures.ordered in
+    let answered = subst (IsAnswered c.in_ok-graph.graph) c.in-Circle.is c.in_ok-order.ensures.least in
+    has_back_circle c.args._history.now c.args.nodes.now c.requires.rising c.requires.nodes c.args.edges.now c.requires.exact c.in_ok-graph.graph c.in_ok-order.ensures.graph c.in_ok-graph.ensures
+    c.in-Circle.circle.items (circle_within c.in_ok-graph.graph c.in_ok-order.ensures.graph c.in-Circle.circle.items circle) answered c.new-in-Circle.result
+    (c.new-in-Circle.ensures ∙ c.in_ok-points-in-Circle.ensures ∙ ap (map (point_at c.args.nodes.now)) c.deref-in-Circle.ensures.value)
