@@ -5,27 +5,30 @@ use Rattle.lab_order.proofs.Least.{neither_after}
 use Rattle.lab_judge.specs.Judgement.{IsSerialVerdict, IsSnapshotVerdict, RestsOnOrder, RestsOnPlaces, IsExactJudgement}
 use Rattle.lab_judge.specs.BackPoints.{HasBackCircle}
 use Rattle.lab_judge.specs.LeastPlaces.{IsLeastPlacing}
+use Rattle.lab_judge.specs.LeastWalks.{HasDueWalk}
 use Rattle.lab_judge.specs.Verdicts.{IsLeastOrder, AgreeOnOrder, AgreeOnPlaces}
 use Rattle.lab_judge.specs.declared.places.Places.{Places}
 use Rattle.lab_judge.specs.declared.places.Places.TheVariants as places
 use Rattle.lab_judge.specs.declared.report.Report.{Report}
 use Rattle.lab_judge.specs.declared.serial.Serial.{Serial}
 use Rattle.lab_judge.specs.declared.serial.Serial.TheVariants as serial
+use Rattle.lab_judge.specs.declared.allowed.Allowed.TheVariants as allowed
 use Rattle.lab_judge.proofs.Excludes.{no_closed_walk, no_circle}
 use Rattle.lab_judge.proofs.OneBackCircle.{one_circle}
 use Rattle.lab_judge.proofs.OnePlacing.{one_least_placing}
+use Rattle.lab_judge.proofs.OneWalk.{one_back_walk}
 
 module _ (h : History) where
-  orders : (s t : Serial) → IsSerialVerdict h s → IsSerialVerdict h t → RestsOnOrder h s → RestsOnOrder h t → IsLeastOrder h s → IsLeastOrder h t → AgreeOnOrder s t
-  orders (serial.Yes one) (serial.Yes other) v w r q l m = neither_after one other (l other q.1 q.2) (m one r.1 r.2)
-  orders (serial.Yes one) (serial.NoFault fault) v w r q l m = r.0 fault w.0
-  orders (serial.Yes one) (serial.NoCycle walk) v w r q l m = no_closed_walk h one walk r.2 w.1
-  orders (serial.NoFault fault) (serial.Yes other) v w r q l m = q.0 fault v.0
-  orders (serial.NoFault fault) (serial.NoFault same) v w r q l m = one_first h fault same v w
-  orders (serial.NoFault fault) (serial.NoCycle walk) v w r q l m = w.0 fault v.0
-  orders (serial.NoCycle walk) (serial.Yes other) v w r q l m = no_closed_walk h other walk q.2 v.1
-  orders (serial.NoCycle walk) (serial.NoFault fault) v w r q l m = v.0 fault w.0
-  orders (serial.NoCycle walk) (serial.NoCycle other) v w r q l m = tt
+  orders : (s t : Serial) → IsSerialVerdict h s → IsSerialVerdict h t → RestsOnOrder h s → RestsOnOrder h t → IsLeastOrder h s → IsLeastOrder h t → HasDueWalk h s → HasDueWalk h t → AgreeOnOrder s t
+  orders (serial.Yes one) (serial.Yes other) v w r q l m x y = neither_after one other (l other q.1 q.2) (m one r.1 r.2)
+  orders (serial.Yes one) (serial.NoFault fault) v w r q l m x y = r.0 fault w.0
+  orders (serial.Yes one) (serial.NoCycle walk) v w r q l m x y = no_closed_walk h one walk r.2 w.1
+  orders (serial.NoFault fault) (serial.Yes other) v w r q l m x y = q.0 fault v.0
+  orders (serial.NoFault fault) (serial.NoFault same) v w r q l m x y = one_first h fault same v w
+  orders (serial.NoFault fault) (serial.NoCycle walk) v w r q l m x y = w.0 fault v.0
+  orders (serial.NoCycle walk) (serial.Yes other) v w r q l m x y = no_closed_walk h other walk q.2 v.1
+  orders (serial.NoCycle walk) (serial.NoFault fault) v w r q l m x y = v.0 fault w.0
+  orders (serial.NoCycle walk) (serial.NoCycle other) v w r q l m x y = one_back_walk h allowed.All walk other x y
 
   placings : (s t : Places) → IsSnapshotVerdict h s → IsSnapshotVerdict h t → RestsOnPlaces h s → RestsOnPlaces h t → IsLeastPlacing h s → IsLeastPlacing h t → HasBackCircle h s → HasBackCircle h t → AgreeOnPlaces s t
   placings (places.Yes one) (places.Yes other) v w r q l m c d = one_least_placing h one other r.1 q.1 l m
@@ -39,7 +42,7 @@ module _ (h : History) where
   placings (places.NoCycle points) (places.NoCycle other) v w r q l m c d = one_circle h points other c d
 
   pub serial_agrees : (one other : Report) → IsExactJudgement h one → IsExactJudgement h other → AgreeOnOrder one.serial other.serial
-  serial_agrees one other a b = orders one.serial other.serial a.judgement.serial b.judgement.serial a.order b.order a.least b.least
+  serial_agrees one other a b = orders one.serial other.serial a.judgement.serial b.judgement.serial a.order b.order a.least b.least a.walks b.walks
 
   pub snapshot_agrees : (one other : Report) → IsExactJudgement h one → IsExactJudgement h other → AgreeOnPlaces one.snapshot other.snapshot
   snapshot_agrees one other a b = placings one.snapshot other.snapshot a.judgement.snapshot b.judgement.snapshot a.placing b.placing a.places b.places a.circle b.circle

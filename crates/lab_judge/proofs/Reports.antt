@@ -7,6 +7,7 @@ use Rattle.lab_deps.specs.declared.fault.LocalFault.{LocalFault}
 use Rattle.lab_judge.specs.Judgement.{IsSerialVerdict, IsSnapshotVerdict, SameFault, Judges, JudgesAll, JudgesAtFault, RestsOnOrder, RestsOnPlaces, IsExactJudgement}
 use Rattle.lab_judge.specs.BackPoints.{HasBackCircle}
 use Rattle.lab_judge.specs.LeastPlaces.{IsLeastPlacing}
+use Rattle.lab_judge.specs.LeastWalks.{HasDueWalk}
 use Rattle.lab_judge.specs.Verdicts.{IsLeastOrder}
 use Rattle.lab_judge.specs.declared.places.Places.{Places}
 use Rattle.lab_judge.specs.declared.places.Places.TheVariants as places
@@ -33,9 +34,10 @@ all_judged h sound (serial.NoCycle walk) s found grade judges = judges
 all_judged h sound (serial.NoFault fault) s found grade judges = absurd (sound fault s.0)
 
 -- so they make a judgement
-pub of_sound : (h : History) → IsSound h → (report : Report) → IsSerialVerdict h report.serial → RestsOnOrder h report.serial → IsLeastOrder h report.serial → IsSnapshotVerdict h report.snapshot → RestsOnPlaces h report.snapshot
-    → IsLeastPlacing h report.snapshot → HasBackCircle h report.snapshot → JudgesAll h report.phenomena report.level → IsExactJudgement h report
-of_sound h sound report s order least p placing places circle judges = record {
+pub of_sound : (h : History) → IsSound h → (report : Report) → IsSerialVerdict h report.serial → RestsOnOrder h report.serial → IsLeastOrder h report.serial → HasDueWalk h report.serial
+    → IsSnapshotVerdict h report.snapshot → RestsOnPlaces h report.snapshot → IsLeastPlacing h report.snapshot → HasBackCircle h report.snapshot → JudgesAll h report.phenomena report.level
+    → IsExactJudgement h report
+of_sound h sound report s order least walks p placing places circle judges = record {
   judgement = record {
     serial = s;
     snapshot = p;
@@ -44,6 +46,7 @@ of_sound h sound report s order least p placing places circle judges = record {
   };
   order = order;
   least = least;
+  walks = walks;
   placing = placing;
   places = places;
   circle = circle;
@@ -56,6 +59,7 @@ of_fault h fault first found grade judges = record {
   judgement = record { serial = first; snapshot = first; fault = refl; found = judges };
   order = tt;
   least = tt;
+  walks = tt;
   placing = tt;
   places = tt;
   circle = tt;

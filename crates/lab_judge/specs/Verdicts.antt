@@ -32,7 +32,7 @@ IsLeastOrder h (serial.Yes order) = (other : List ℕ) → HoldsEachOnce h other
 IsLeastOrder h (serial.NoFault fault) = ⊤
 IsLeastOrder h (serial.NoCycle walk) = ⊤
 
--- the same order, the same fault, or both a closed walk
+-- the same order, the same fault, or the same closed walk
 abbrev pub AgreeOnOrder : Serial → Serial → Type 0
 AgreeOnOrder (serial.Yes one) (serial.Yes other) = one ≡ other
 AgreeOnOrder (serial.Yes one) (serial.NoFault fault) = ⊥
@@ -42,7 +42,7 @@ AgreeOnOrder (serial.NoFault fault) (serial.NoFault same) = fault ≡ same
 AgreeOnOrder (serial.NoFault fault) (serial.NoCycle walk) = ⊥
 AgreeOnOrder (serial.NoCycle walk) (serial.Yes other) = ⊥
 AgreeOnOrder (serial.NoCycle walk) (serial.NoFault fault) = ⊥
-AgreeOnOrder (serial.NoCycle walk) (serial.NoCycle other) = ⊤
+AgreeOnOrder (serial.NoCycle walk) (serial.NoCycle other) = walk ≡ other
 
 -- the same places, the same fault, or the same circle
 abbrev pub AgreeOnPlaces : Places → Places → Type 0

@@ -14,6 +14,7 @@ ghost use Rattle.lab_deps.specs.FaultOrder.{IsFirst};
 ghost use Rattle.lab_deps.specs.Refusal.{IsAnswer};
 ghost use Rattle.lab_deps.specs.Soundness.{IsSound};
 ghost use Rattle.lab_deps.specs.declared.edge.Edge.{Edge as Spelled};
+ghost use Rattle.lab_judge.specs.LeastWalks.{HasDueWalk};
 ghost use Rattle.lab_judge.specs.Phenomena.{IsClosedWalk, NoWalk};
 ghost use Rattle.lab_judge.specs.Runs.{HoldsEachOnce};
 ghost use Rattle.lab_judge.specs.BackPoints.{HasBackCircle};
@@ -54,6 +55,7 @@ pub fn judge(alloc: Global, history: &History) -> Result<Report, NoMemory>
     ensures yes { IfOk result (λ report. IsYes report.serial ↔ (IsSound history.now × NoWalk (IsClosedWalk history.now))) }
     ensures placed { IfOk result (λ report. IsPlaced report.snapshot ↔ (IsSound history.now × NoCircle history.now)) }
     ensures least { IfOk result (λ report. IsLeastOrder history.now report.serial) }
+    ensures walks { IfOk result (λ report. HasDueWalk history.now report.serial) }
     ensures places { IfOk result (λ report. IsLeastPlacing history.now report.snapshot) }
     ensures circle { IfOk result (λ report. HasBackCircle history.now report.snapshot) }
 {

@@ -8,6 +8,7 @@ ghost use Rattle.lab_deps.specs.Soundness.{IsSound};
 ghost use Rattle.lab_deps.specs.declared.edge.Edge.{Edge as Spelled};
 ghost use Rattle.lab_judge.specs.Runs.{HoldsEachOnce};
 ghost use Rattle.lab_judge.specs.Judgement.{IsSerialVerdict, RestsOnOrder};
+ghost use Rattle.lab_judge.specs.LeastWalks.{HasDueWalk};
 ghost use Rattle.lab_judge.specs.Verdicts.{IsLeastOrder};
 
 use crate::allowed::Allowed;
@@ -36,6 +37,7 @@ pub(crate) fn serial_verdict(
     ensures verdict { IfOk result (IsSerialVerdict _history.now) }
     ensures rests { IfOk result (RestsOnOrder _history.now) }
     ensures least { IfOk result (IsLeastOrder _history.now) }
+    ensures walk { IfOk result (HasDueWalk _history.now) }
 {
     let graph = graph_of(alloc, nodes, edges, Allowed::All)?;
     match order(alloc, &graph)? {

@@ -8,6 +8,8 @@ ghost use Rattle.lab_history.specs.History.{History};
 ghost use Rattle.lab_deps.specs.Edges.{IsEdge};
 ghost use Rattle.lab_deps.specs.declared.edge.Edge.{Edge as Spelled};
 ghost use Rattle.lab_judge.specs.Graphs.{HasEnds, IsGraphOf, LeadsAlong, last_of, count_others};
+ghost use Rattle.lab_judge.specs.LeastWalks.{GoesAlong, GoesRound};
+ghost use Rattle.lab_judge.specs.Openings.{HasEdgesOf};
 ghost use Rattle.lab_judge.specs.Phenomena.{IsWalk, IsClosedWalk};
 
 use crate::allowed::Allowed;
@@ -30,6 +32,7 @@ pub(crate) fn walk_round(
     requires circle { (graph : Arrows) × IsGraphOf allowed nodes.now edges.now graph × IsCircle graph circle.items }
     ensures closed { IfOk result (λ walk. (h : History) → ((e : Spelled) → Contains edges.now e → IsEdge h e) → IsClosedWalk h walk) }
     ensures allowed { IfOk result (λ walk. count_others allowed walk ≡ 0) }
+    ensures least { IfOk result (λ walk. (h : History) → HasEdgesOf h allowed edges.now → GoesRound h allowed nodes.now circle.items walk) }
 {
     let mut circle = circle;
     let first = circle[0];
@@ -53,6 +56,7 @@ pub(crate) fn walk_along(
         → IsWalk h (slice_index nodes.now from) walk.items (slice_index nodes.now (last_of from way.now))) }
     ensures allowed { IfOk result (λ walk. count_others allowed walk.items ≡ 0) }
     ensures length { IfOk result (λ walk. length walk.items ≡ length way.now) }
+    ensures least { IfOk result (λ walk. (h : History) → HasEdgesOf h allowed edges.now → GoesAlong h allowed nodes.now from way.now walk.items) }
 {
     let kinds = allowed.kinds();
     let mut walk = Vec::with_capacity(alloc, way.len())?;

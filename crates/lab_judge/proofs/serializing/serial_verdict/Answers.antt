@@ -1,9 +1,12 @@
 use Rattle.std.proofs.Common.{◌∙◌, ◌<◌, sym, ap, map, slice_index, subst, length}
 use Rattle.std.specs.List.{All}
 use Rattle.lab_order.specs.Order.{IsOrdered, IsAnswered}
+use Rattle.lab_judge.specs.declared.allowed.Allowed.TheVariants as allowed
 use Rattle.lab_judge.proofs.LeastOrders.{least_numbers}
+use Rattle.lab_judge.proofs.LeastWalks.{edge_graph}
 use Rattle.lab_judge.proofs.NodeOrders.{within}
 use Rattle.lab_judge.proofs.SerialVerdicts.{all_have_ends, rests, runs}
+use Rattle.lab_judge.proofs.WalkKinds.{has_all}
 use Rattle.lab_judge.proofs.serializing.serial_verdict.Goals as goal
 
 pub graph_of-requires : goal.graph_of-requires
@@ -41,3 +44,17 @@ returns-in-Order-clause-least c = λ other each ahead.
     let answered = subst (IsAnswered c.in_ok-graph.graph) c.in-Order.is c.in_ok-order.ensures.least in
     least_numbers c.args._history.now c.args.nodes.now c.requires.rising c.requires.nodes c.args.edges.now c.requires.exact c.in_ok-graph.graph c.in_ok-graph.ensures other each ahead
     c.in-Order.order.items answered c.new.result (c.new.ensures ∙ c.in_ok-numbers-in-Order.ensures ∙ ap (map (slice_index c.args.nodes.now)) c.deref.ensures.value)
+
+pub returns-clause-walk : goal.returns-clause-walk
+returns-clause-walk c =
+    let h = c.args._history.now in
+    let has = has_all h c.args.edges.now c.requires.exact allowed.All in
+    record {
+      txns = c.args.nodes.now;
+      committed = record { each_once = c.requires.nodes; rising = c.requires.rising };
+      graph = c.in_ok-graph.graph;
+      edges = edge_graph h allowed.All c.args.edges.now has c.args.nodes.now c.in_ok-graph.graph c.in_ok-graph.ensures;
+      circle = c.in-Circle.circle.items;
+      back = subst (IsAnswered c.in_ok-graph.graph) c.in-Circle.is c.in_ok-order.ensures.least;
+      round = c.in_ok-walk-in-Circle.ensures.least h has;
+    }

@@ -1,10 +1,13 @@
-use Rattle.std.proofs.Common.{◌≡◌, ◌+◌, ◌∙◌, true, sym, ap, subst, length}
+use Rattle.std.proofs.Common.{◌≡◌, ◌+◌, ◌∙◌, true, false, sym, ap, subst, length, arith}
 use Rattle.std.specs.Prelude.{Contains, IfSome}
+use Rattle.std.specs.Ordering.{is_lt}
 use Rattle.std.proofs.lemmas.Option.{slice_get_within, same_Some}
 use Rattle.std.proofs.lemmas.List.{length_push}
+use Rattle.lab_deps.specs.EdgeOrder.{edge_cmp}
 use Rattle.lab_deps.specs.KindBits.{has_bit}
 use Rattle.lab_deps.specs.declared.edge.Edge.{Edge}
 use Rattle.lab_judge.proofs.Joined.{next_tie, step, last_step, one_more, read, no_others_more}
+use Rattle.lab_judge.proofs.LeastWalks.{least_listed, steps_on, gone_along}
 use Rattle.lab_judge.proofs.walks.walk_along.Goals as goal
 
 pub number-requires : goal.number-requires
@@ -41,4 +44,19 @@ loop-next-preserved c =
       size = ap length c.in_ok-push.ensures.items ∙ length_push c.loop-next.walk.items edge ∙ ap (λ n. n + 1) c.loop-next.invariant.size;
       rest = (step c.args.allowed c.args.nodes.now c.args.edges.now c.loop-next.at c.loop-next.next-index c.args.way.now c.loop-next-test.true c.loop-next.invariant.rest).1;
       last = sym (last_step c.loop-next.at c.loop-next.next-index c.args.way.now c.loop-next-test.true) ∙ c.loop-next.invariant.last;
+      least = λ h has.
+          steps_on h c.args.allowed c.args.nodes.now c.args.from c.args.way.now c.loop-next.at c.loop-next.next-index c.loop-next.walk.items c.push.new.self.items edge c.loop-next-test.true
+          c.in_ok-push.ensures.items
+          (least_listed h c.args.allowed c.args.edges.now has c.kinds-kinds.result.bits c.kinds-kinds.ensures c.number.result c.number-in-loop-next.result _ _
+          (sym (read c.args.nodes.now _ _ c.number.ensures.number)) (sym (read c.args.nodes.now _ _ c.number-in-loop-next.ensures.number)) edge found from to kind
+          (subst
+          (λ o. IfSome o (λ g. (e : Edge) → Contains c.args.edges.now e → e.from ≡ c.number.result → e.to ≡ c.number-in-loop-next.result → has_bit c.kinds-kinds.result.bits e.kind ≡ true
+          → is_lt (edge_cmp e g) ≡ false))
+          c.in-Some.is c.in_ok-edge.ensures.least))
+          (c.loop-next.invariant.least h has);
     }
+
+pub returns-clause-least : goal.returns-clause-least
+returns-clause-least c = λ h has.
+    gone_along h c.args.allowed c.args.nodes.now c.args.from c.args.way.now c.loop-next.at c.loop-next.next-index c.loop-next.walk.items (omega (arith, c.loop-next-test.false))
+    (c.loop-next.invariant.least h has)

@@ -4,7 +4,9 @@ use Rattle.lab_history.specs.History.{History}
 use Rattle.lab_deps.specs.Edges.{IsEdge}
 use Rattle.lab_deps.specs.declared.edge.Edge.{Edge}
 use Rattle.lab_judge.specs.Graphs.{LeadsAlong, last_of, count_others}
+use Rattle.lab_judge.specs.Openings.{HasEdgesOf}
 use Rattle.lab_judge.specs.Phenomena.{IsWalk}
+use Rattle.lab_judge.proofs.LeastWalks.{LeadsOn}
 use Rattle.lab_judge.proofs.walks.walk_along.Given as goal
 
 -- a walk to where the way is now, and the rest of the way
@@ -15,4 +17,5 @@ invariant-loop-next l = record {
   size : length l.walk.items ≡ l.next-index;
   rest : LeadsAlong l.fn.allowed l.nodes l.edges l.at (drop l.next-index l.way);
   last : last_of l.at (drop l.next-index l.way) ≡ last_of l.from l.way;
+  least : (h : History) → HasEdgesOf h l.fn.allowed l.edges → LeadsOn h l.fn.allowed l.nodes l.from l.way l.at l.next-index l.walk.items;
 }

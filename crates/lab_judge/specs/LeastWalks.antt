@@ -1,0 +1,67 @@
+-- Which of several closed walks is carried.
+use Rattle.std.specs.Prelude.{◌≡◌, ◌↔◌, ℕ, true, false, List, [], ◌∷◌, ◌++◌, length, slice_index, IsTrue, ⊤}
+use Rattle.std.specs.Ordering.{is_lt}
+use Rattle.std.specs.List.Sorted.{IsStrictlyIncreasing}
+use Rattle.lab_order.specs.Arrows.{Arrows, nodes_of, has_arrow}
+use Rattle.lab_order.specs.Back.{IsBackCircle}
+use Rattle.lab_order.specs.Order.{position}
+use Rattle.lab_history.specs.History.{History}
+use Rattle.lab_deps.specs.Edges.{IsEdge}
+use Rattle.lab_deps.specs.EdgeOrder.{edge_cmp}
+use Rattle.lab_deps.specs.declared.edge.Edge.{Edge}
+use Rattle.lab_judge.specs.Allowed.{allows}
+use Rattle.lab_judge.specs.Runs.{HoldsEachOnce}
+use Rattle.lab_judge.specs.declared.allowed.Allowed.{Allowed}
+use Rattle.lab_judge.specs.declared.allowed.Allowed.TheVariants as allowed
+use Rattle.lab_judge.specs.declared.serial.Serial.{Serial}
+use Rattle.lab_judge.specs.declared.serial.Serial.TheVariants as serial
+
+-- the committed transactions by rising number
+pub record AreCommitted (h : History) (txns : List ℕ) : Type 0 where
+  pub each_once : HoldsEachOnce h txns
+  pub rising : IsStrictlyIncreasing txns
+
+-- an edge of an allowed kind between the transactions at two places of a list
+abbrev pub HasEdgeAt : History → Allowed → List ℕ → ℕ → ℕ → Type 0
+HasEdgeAt h allowed txns a b = (e : Edge) × IsEdge h e × (allows allowed e.kind ≡ true) × (position txns e.from ≡ a) × (position txns e.to ≡ b)
+
+-- the graph of the edges of allowed kinds: its nodes are the places of transactions in a list, and an arrow is exactly where such an edge is
+pub record IsEdgeGraph (h : History) (allowed : Allowed) (txns : List ℕ) (graph : Arrows) : Type 0 where
+  pub size : nodes_of graph ≡ length txns
+  pub arrows : (a b : ℕ) → IsTrue (has_arrow graph a b) ↔ HasEdgeAt h allowed txns a b
+
+-- the least edge of an allowed kind from one transaction to another, by kind and row
+pub record IsLeastEdge (h : History) (allowed : Allowed) (m n : ℕ) (e : Edge) : Type 0 where
+  pub edge : IsEdge h e
+  pub from : e.from ≡ m
+  pub to : e.to ≡ n
+  pub kind : allows allowed e.kind ≡ true
+  pub least : (other : Edge) → IsEdge h other → other.from ≡ m → other.to ≡ n → allows allowed other.kind ≡ true → is_lt (edge_cmp other e) ≡ false
+
+-- a walk from a node along these: from the transaction of each to that of the next it takes the least allowed edge
+abbrev pub GoesAlong : History → Allowed → List ℕ → ℕ → List ℕ → List Edge → Type 0
+GoesAlong h allowed txns from [] [] = ⊤
+GoesAlong h allowed txns from [] (e ∷ walk) = ⊥
+GoesAlong h allowed txns from (n ∷ way) [] = ⊥
+GoesAlong h allowed txns from (n ∷ way) (e ∷ walk) = IsLeastEdge h allowed (slice_index txns from) (slice_index txns n) e × GoesAlong h allowed txns n way walk
+
+-- such a walk round a circle, from its first node to the first again
+abbrev pub GoesRound : History → Allowed → List ℕ → List ℕ → List Edge → Type 0
+GoesRound h allowed txns [] walk = ⊥
+GoesRound h allowed txns (n ∷ way) walk = GoesAlong h allowed txns n (way ++ n ∷ []) walk
+
+-- the walk round the circle on the way back from the least transaction that no order can place
+pub record IsBackWalk (h : History) (allowed : Allowed) (walk : List Edge) : Type 0 where
+  pub txns : List ℕ
+  pub committed : AreCommitted h txns
+  pub graph : Arrows
+  pub edges : IsEdgeGraph h allowed txns graph
+  pub circle : List ℕ
+  pub back : IsBackCircle graph circle
+  pub round : GoesRound h allowed txns circle walk
+
+-- the closed walk of a serial no is the one on the way back
+abbrev pub HasDueWalk : History → Serial → Type 0
+HasDueWalk h (serial.Yes order) = ⊤
+HasDueWalk h (serial.NoFault fault) = ⊤
+HasDueWalk h (serial.NoCycle walk) = IsBackWalk h allowed.All walk
