@@ -90,11 +90,11 @@ tokens_are_faulty kinds.NoSetup kept says spells = no_setup_yet kept says.0 says
 tokens_are_faulty kinds.SetupRepeated kept says spells = setup_again kept says.0 says.1 spells
 tokens_are_faulty kinds.NoSession kept says spells = session_lacks kept says spells
 tokens_are_faulty kinds.UnknownStatement kept says spells = nothing_spelled kept says spells
-tokens_are_faulty kinds.BadPredicate kept says spells = nothing_spelled kept says spells
+tokens_are_faulty kinds.BadPredicate kept says spells = nothing_spelled kept says.0 spells
 tokens_are_faulty kinds.NumberOutOfRange kept says spells = nothing_spelled kept says spells
-tokens_are_faulty kinds.TooDeep kept says spells = nothing_spelled kept says spells
+tokens_are_faulty kinds.TooDeep kept says spells = nothing_spelled kept says.0 spells
 tokens_are_faulty kinds.TooLong kept says spells = nothing_spelled kept says spells
-tokens_are_faulty kinds.DuplicateSetupRow kept says spells = nothing_spelled kept says spells
+tokens_are_faulty kinds.DuplicateSetupRow kept says spells = nothing_spelled kept says.0 spells
 
 -- a line that is wrong spells nothing
 pub wrong_is_faulty : {number : ℕ} {line : List ℕ} {before : Option Script} {kind : ScriptFaultKind}

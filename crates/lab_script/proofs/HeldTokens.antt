@@ -1,5 +1,5 @@
 -- What tokens as they are held spell is what the tokens spell: no number of the grammar is past 1,000,000,000.
-use Rattle.std.proofs.Common.{◌≡◌, ℕ, ◌≤◌, min, true, List, [], ◌∷◌, map, Option, Some, None, refl, sym, ap, subst, ◌∙◌, arith}
+use Rattle.std.proofs.Common.{◌≡◌, ℕ, ◌≤◌, min, true, List, [], ◌∷◌, ◌++◌, map, Option, Some, None, refl, sym, ap, subst, ◌∙◌, arith}
 use Rattle.std.specs.List.{list_all}
 use Rattle.std.proofs.lemmas.Bool.{leb-true, and_parts}
 use Rattle.lab_table.specs.Table.{Table}
@@ -8,13 +8,15 @@ use Rattle.lab_table.specs.declared.statement.Statement.{Statement}
 use Rattle.lab_script.specs.declared.fault.ScriptFaultKind.{ScriptFaultKind}
 use Rattle.lab_script.specs.declared.fault.ScriptFaultKind.TheVariants as kinds
 use Rattle.lab_script.specs.declared.script.Script.{Script}
+use Rattle.lab_script.specs.declared.token.Word.{Word}
 use Rattle.lab_script.specs.declared.token.Word.TheVariants as word
 use Rattle.lab_script.specs.declared.token.Token.{Token}
 use Rattle.lab_script.specs.declared.token.Token.TheVariants as token
 use Rattle.lab_script.specs.Grammar.{IsCommands, IsSetup, IsWholeStatement}
 use Rattle.lab_script.specs.HeldTokens.{held}
-use Rattle.lab_script.specs.Script.{BeginsSetup}
+use Rattle.lab_script.specs.Script.{BeginsSetup, HasWhere}
 use Rattle.lab_script.specs.Fault.{SpellsNothing, LacksSession, SaysOfTokens}
+use Rattle.lab_script.proofs.Wheres.{where_further}
 use Rattle.lab_script.proofs.KnownTokens.{is_known, AllKnown, commands_known, setup_known, whole_known}
 
 -- a token that is one of the grammar, or is held as one, is held as it is
@@ -59,20 +61,35 @@ held_whole ts s is = subst (λ (us : List Token). IsWholeStatement us s) (all_he
 pub whole_held : (ts : List Token) (s : Statement) → IsWholeStatement ts s → IsWholeStatement (map held ts) s
 whole_held ts s is = subst (λ (us : List Token). IsWholeStatement us s) (sym (all_kept ts (whole_known is))) is
 
--- the first token is setup where it is held so
-setup_word : (t : Token) → held t ≡ token.Word word.Setup → t ≡ token.Word word.Setup
-setup_word (token.Digits n) e = absurd cc
-setup_word t e = e
+-- a token is a word where it is held as that word
+word_kept : (w : Word) (t : Token) → held t ≡ token.Word w → t ≡ token.Word w
+word_kept w (token.Digits n) e = absurd cc
+word_kept w t e = e
 
+-- the first token is setup where it is held so
 held_begins : (ts : List Token) → BeginsSetup (map held ts) → BeginsSetup ts
 held_begins [] begins = let e = begins.1 in absurd cc
 held_begins (t ∷ ts) begins =
     let e = begins.1 in
     let first : held t ≡ token.Word word.Setup = cc in
-    (ts, ap (λ (u : Token). u ∷ ts) (setup_word t first))
+    (ts, ap (λ (u : Token). u ∷ ts) (word_kept word.Setup t first))
 
 begins_held : (ts : List Token) → BeginsSetup ts → BeginsSetup (map held ts)
 begins_held ts begins = (map held begins.0, ap (map held) begins.1)
+
+-- a where stands where it is held
+where_held : (ts front rest : List Token) → map held ts ≡ front ++ token.Word word.Where ∷ rest → HasWhere ts
+where_held [] [] rest e = absurd cc
+where_held [] (u ∷ us) rest e = absurd cc
+where_held (t ∷ ts) [] rest e =
+    let first : held t ≡ token.Word word.Where = cc in
+    ([], ts, ap (λ (u : Token). u ∷ ts) (word_kept word.Where t first))
+where_held (t ∷ ts) (u ∷ us) rest e =
+    let behind : map held ts ≡ us ++ token.Word word.Where ∷ rest = cc in
+    where_further t ts (where_held ts us rest behind)
+
+pub held_where : (ts : List Token) → HasWhere (map held ts) → HasWhere ts
+held_where ts has = where_held ts has.0 has.1 has.2
 
 held_nothing : (ts : List Token) (before : Option Script) → SpellsNothing (map held ts) before → SpellsNothing ts before
 held_nothing ts None says = (held_begins ts says.0, λ table is. says.1 table (setup_held ts table is))
@@ -89,8 +106,8 @@ held_says kinds.NoSetup ts remark before says = (says.0, λ begins. says.1 (begi
 held_says kinds.SetupRepeated ts remark before says = (says.0, held_begins ts says.1)
 held_says kinds.NoSession ts remark before says = held_lacks ts remark before says
 held_says kinds.UnknownStatement ts remark before says = held_nothing ts before says
-held_says kinds.BadPredicate ts remark before says = held_nothing ts before says
+held_says kinds.BadPredicate ts remark before says = (held_nothing ts before says.0, says.1, held_where ts says.2)
 held_says kinds.NumberOutOfRange ts remark before says = held_nothing ts before says
-held_says kinds.TooDeep ts remark before says = held_nothing ts before says
+held_says kinds.TooDeep ts remark before says = (held_nothing ts before says.0, says.1)
 held_says kinds.TooLong ts remark before says = held_nothing ts before says
-held_says kinds.DuplicateSetupRow ts remark before says = held_nothing ts before says
+held_says kinds.DuplicateSetupRow ts remark before says = (held_nothing ts before says.0, says.1)

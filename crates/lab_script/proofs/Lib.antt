@@ -45,3 +45,4 @@ pub mod PrintedSetups
 pub mod PrintedScripts
 pub mod EachElement
 pub mod ReservedWords
+pub mod Wheres

@@ -13,9 +13,11 @@ use Rattle.lab_script.specs.Token.{tokens}
 use Rattle.lab_script.specs.Fault.{SaysOfStatement, IsStatementFault, kind_of, refusal_at}
 use Rattle.lab_script.specs.Grammar.{IsWholeStatement}
 use Rattle.lab_script.specs.HeldTokens.{held_tokens, AreStatementTokens}
-use Rattle.lab_script.specs.Script.{begins_remark, code_of, is_code_byte, SpellsStatement}
+use Rattle.lab_script.specs.Script.{begins_remark, code_of, is_code_byte, HasWhere, SpellsStatement}
 use Rattle.lab_script.specs.Reading.{Fails}
-use Rattle.lab_script.proofs.HeldTokens.{held_whole, whole_held}
+use Rattle.lab_script.specs.Stops.{OfLine, IsOfLine}
+use Rattle.lab_script.proofs.HeldTokens.{held_whole, whole_held, held_where}
+use Rattle.lab_script.proofs.Wheres.{where_before_last}
 use Rattle.lab_script.proofs.KnownTokens.{closed_known}
 
 -- code that is as long as the text is the text
@@ -70,15 +72,23 @@ module _ (text : List ℕ) (ts : List Token) (are : AreStatementTokens text ts) 
       (λ (cut : _). absurd (cut.0 spells.no_remark))
       are
 
-  says_of : (f : GrammarFault) → SaysOfStatement (kind_of f) text
-  says_of grammar.UnknownStatement = (short, ascii)
-  says_of grammar.BadPredicate = (short, ascii)
-  says_of grammar.NumberOutOfRange = (short, ascii)
-  says_of grammar.TooDeep = (short, ascii)
-  says_of grammar.TooLong = inr ascii
-  says_of grammar.DuplicateSetupRow = (short, ascii)
+  -- a where of these tokens stands in the text
+  where_of : HasWhere ts → HasWhere (tokens (code_of text))
+  where_of has =
+      ⊎_elim
+      (λ (all : _). held_where (tokens (code_of text)) (subst HasWhere (all.1 ∙ ap held_tokens (sym all.0)) has))
+      (λ (cut : _). held_where (tokens (code_of text)) (where_before_last (held_tokens (code_of text)) has.0 has.1 (sym cut.1 ∙ has.2)))
+      are
+
+  says_of : (f : GrammarFault) → OfLine ts f → SaysOfStatement (kind_of f) text
+  says_of grammar.UnknownStatement is = (short, ascii)
+  says_of grammar.BadPredicate is = (short, ascii, where_of is)
+  says_of grammar.NumberOutOfRange is = (short, ascii)
+  says_of grammar.TooDeep is = (short, ascii)
+  says_of grammar.TooLong is = inr ascii
+  says_of grammar.DuplicateSetupRow is = is
 
   -- where reading these tokens stopped, the text spells nothing
-  pub stop_fault : (s : Refusal) → ((t : Statement) → IsWholeStatement ts t → Fails s (Some t)) → IsStatementFault text (refusal_at s 1)
-  stop_fault refusal.NoMemory fails = tt
-  stop_fault (refusal.Fault f) fails = (refl, λ t spells. let none = fails t (spelled_tokens t spells) in absurd cc, says_of f)
+  pub stop_fault : (s : Refusal) → ((t : Statement) → IsWholeStatement ts t → Fails s (Some t)) → IsOfLine ts s → IsStatementFault text (refusal_at s 1)
+  stop_fault refusal.NoMemory fails is = tt
+  stop_fault (refusal.Fault f) fails is = (refl, λ t spells. let none = fails t (spelled_tokens t spells) in absurd cc, says_of f is)

@@ -18,7 +18,7 @@ use Rattle.lab_script.specs.declared.script.Script.{Script}
 use Rattle.lab_script.specs.declared.token.Token.{Token}
 use Rattle.lab_script.specs.Token.{tokens}
 use Rattle.lab_script.specs.Grammar.{IsCommands, IsSetup}
-use Rattle.lab_script.specs.Script.{code_of, remark_of, session_of, is_code_byte, is_ascii_code, is_passed, IsFit, BeginsSetup, SpellsStatement, LineSpells, LinesSpell}
+use Rattle.lab_script.specs.Script.{code_of, remark_of, session_of, is_code_byte, is_ascii_code, is_passed, IsFit, BeginsSetup, HasWhere, SpellsStatement, LineSpells, LinesSpell}
 use Rattle.lab_script.specs.Printed.{newline}
 use Rattle.lab_script.specs.Limits.{max_lines, max_line_bytes, max_commands}
 
@@ -47,11 +47,11 @@ SaysOfTokens kinds.NoSetup ts remark before = (before ≡ None) × (BeginsSetup 
 SaysOfTokens kinds.SetupRepeated ts remark before = (is_some before ≡ true) × BeginsSetup ts
 SaysOfTokens kinds.NoSession ts remark before = LacksSession ts remark before
 SaysOfTokens kinds.UnknownStatement ts remark before = SpellsNothing ts before
-SaysOfTokens kinds.BadPredicate ts remark before = SpellsNothing ts before
+SaysOfTokens kinds.BadPredicate ts remark before = SpellsNothing ts before × (is_some before ≡ true) × HasWhere ts
 SaysOfTokens kinds.NumberOutOfRange ts remark before = SpellsNothing ts before
-SaysOfTokens kinds.TooDeep ts remark before = SpellsNothing ts before
+SaysOfTokens kinds.TooDeep ts remark before = SpellsNothing ts before × (is_some before ≡ true)
 SaysOfTokens kinds.TooLong ts remark before = SpellsNothing ts before
-SaysOfTokens kinds.DuplicateSetupRow ts remark before = SpellsNothing ts before
+SaysOfTokens kinds.DuplicateSetupRow ts remark before = SpellsNothing ts before × (before ≡ None)
 
 -- What is wrong with a line with this number, behind what the lines before it spell: it is over a limit;
 -- or it isn't, and its code has another byte; or it is looked at by its tokens.
@@ -101,10 +101,10 @@ SaysOfStatement kinds.NoSetup text = ⊥
 SaysOfStatement kinds.SetupRepeated text = ⊥
 SaysOfStatement kinds.NoSession text = ⊥
 SaysOfStatement kinds.UnknownStatement text = (length text ≤ max_line_bytes) × (list_all is_code_byte text ≡ true)
-SaysOfStatement kinds.BadPredicate text = (length text ≤ max_line_bytes) × (list_all is_code_byte text ≡ true)
+SaysOfStatement kinds.BadPredicate text = (length text ≤ max_line_bytes) × (list_all is_code_byte text ≡ true) × HasWhere (tokens (code_of text))
 SaysOfStatement kinds.NumberOutOfRange text = (length text ≤ max_line_bytes) × (list_all is_code_byte text ≡ true)
 SaysOfStatement kinds.TooDeep text = (length text ≤ max_line_bytes) × (list_all is_code_byte text ≡ true)
-SaysOfStatement kinds.DuplicateSetupRow text = (length text ≤ max_line_bytes) × (list_all is_code_byte text ≡ true)
+SaysOfStatement kinds.DuplicateSetupRow text = ⊥
 
 -- the fault is true of the text of one statement
 abbrev pub IsStatementFault : List ℕ → ScriptFault → Type 0

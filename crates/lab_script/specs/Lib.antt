@@ -10,6 +10,7 @@ pub mod HeldTokens
 pub mod Fault
 pub mod Renumbered
 pub mod Reading
+pub mod Stops
 pub mod TranscriptView
 pub mod Transcript
 pub mod ReadingRows

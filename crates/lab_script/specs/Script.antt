@@ -85,6 +85,10 @@ pub data LineSpells (number : ℕ) (line : List ℕ) : Option Script → Option 
 abbrev pub BeginsSetup : List Token → Type 0
 BeginsSetup ts = (rest : List Token) × (ts ≡ token.Word word.Setup ∷ rest)
 
+-- whether a where stands among tokens
+abbrev pub HasWhere : List Token → Type 0
+HasWhere ts = (front rest : List Token) × (ts ≡ front ++ token.Word word.Where ∷ rest)
+
 -- what the commands of a line's tokens, of the session in its remark, make of a script
 abbrev pub AddsCommands : ℕ → List Token → List ℕ → Script → Script → Type 0
 AddsCommands number ts remark before after =

@@ -1,8 +1,9 @@
 //! Comparisons, remainders and lists, read from tokens.
 
-ghost use Rattle.std.specs.Prelude.{◌≡◌, ◌≤◌, length};
+ghost use Rattle.std.specs.Prelude.{◌≡◌, ◌≤◌, length, IfErr};
 ghost use Rattle.lab_script.specs.Reading.{Gives};
 ghost use Rattle.lab_script.specs.ReadingPredicates.{cmp_of, col_at, cmp_at, modulus_at, numbers_at, number_list_at, compare_at, remainder_at, one_of_at, atom_at};
+ghost use Rattle.lab_script.specs.Stops.{IsOfTokens};
 
 use crate::parser::Parser;
 use crate::refusal::{GrammarFault, Refusal};
@@ -31,6 +32,7 @@ impl Parser<'_> {
     pub fn atom(&mut self, alloc: Global) -> Result<Pred, Refusal>
         ensures gives { Gives (λ x. (x, self.new)) result (atom_at self.old) }
         ensures shorter { length self.new ≤ length self.old }
+        ensures kind { IfErr result IsOfTokens }
     {
         let col = self.col()?;
         if self.took(Token::Word(Word::In)) {
@@ -47,6 +49,7 @@ impl Parser<'_> {
     fn col(&mut self) -> Result<Col, Refusal>
         ensures gives { Gives (λ x. (x, self.new)) result (col_at self.old) }
         ensures shorter { length self.new ≤ length self.old }
+        ensures kind { IfErr result IsOfTokens }
     {
         if self.took(Token::Word(Word::Id)) {
             Ok(Col::Id)
@@ -61,6 +64,7 @@ impl Parser<'_> {
     fn compare(&mut self, col: Col) -> Result<Pred, Refusal>
         ensures gives { Gives (λ x. (x, self.new)) result (compare_at col self.old) }
         ensures shorter { length self.new ≤ length self.old }
+        ensures kind { IfErr result IsOfTokens }
     {
         let cmp = self.cmp()?;
         let number = self.number()?;
@@ -74,6 +78,7 @@ impl Parser<'_> {
     fn cmp(&mut self) -> Result<Cmp, Refusal>
         ensures gives { Gives (λ x. (x, self.new)) result (cmp_at self.old) }
         ensures shorter { length self.new ≤ length self.old }
+        ensures kind { IfErr result IsOfTokens }
     {
         match self.rest.split_first() {
             None => Err(Refusal::Fault(GrammarFault::UnknownStatement)),
@@ -92,6 +97,7 @@ impl Parser<'_> {
     fn remainder(&mut self, col: Col) -> Result<Pred, Refusal>
         ensures gives { Gives (λ x. (x, self.new)) result (remainder_at col self.old) }
         ensures shorter { length self.new ≤ length self.old }
+        ensures kind { IfErr result IsOfTokens }
     {
         let modulus = self.modulus()?;
         self.expect(Token::Equal)?;
@@ -106,6 +112,7 @@ impl Parser<'_> {
     fn modulus(&mut self) -> Result<Modulus, Refusal>
         ensures gives { Gives (λ x. (x, self.new)) result (modulus_at self.old) }
         ensures shorter { length self.new ≤ length self.old }
+        ensures kind { IfErr result IsOfTokens }
     {
         let negative = self.took(Token::Minus);
         let number = self.digits()?;
@@ -120,6 +127,7 @@ impl Parser<'_> {
     fn one_of(&mut self, alloc: Global, col: Col) -> Result<Pred, Refusal>
         ensures gives { Gives (λ x. (x, self.new)) result (one_of_at col self.old) }
         ensures shorter { length self.new ≤ length self.old }
+        ensures kind { IfErr result IsOfTokens }
     {
         let numbers = self.number_list(alloc)?;
         Ok(Pred {
@@ -132,6 +140,7 @@ impl Parser<'_> {
     fn number_list(&mut self, alloc: Global) -> Result<Numbers, Refusal>
         ensures gives { Gives (λ x. (x, self.new)) result (number_list_at self.old) }
         ensures shorter { length self.new ≤ length self.old }
+        ensures kind { IfErr result IsOfTokens }
     {
         self.expect(Token::Open)?;
         if self.took(Token::Close) {
@@ -147,6 +156,7 @@ impl Parser<'_> {
     fn numbers(&mut self, alloc: Global) -> Result<Vec<Value>, Refusal>
         ensures gives { Gives (λ x. (x.items, self.new)) result (numbers_at self.old) }
         ensures shorter { length self.new ≤ length self.old }
+        ensures kind { IfErr result IsOfTokens }
     {
         let mut numbers = Vec::new(alloc);
         let first = self.number()?;

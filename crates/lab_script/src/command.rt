@@ -1,9 +1,10 @@
 //! The commands of a line, read from tokens.
 
-ghost use Rattle.std.specs.Prelude.{◌≡◌, ◌∷◌, [], ◌≤◌, if◌then◌else◌, length, Some, None, OnOk};
+ghost use Rattle.std.specs.Prelude.{◌≡◌, ◌∷◌, [], ◌≤◌, if◌then◌else◌, length, Some, None, OnOk, IfErr};
 ghost use Rattle.std.specs.List.{prefix_len};
 ghost use Rattle.lab_script.specs.Reading.{Gives};
 ghost use Rattle.lab_script.specs.ReadingCommands.{is_word, words_at, level_at, command_at, is_short, terminated_at, added, step_at, commands_at};
+ghost use Rattle.lab_script.specs.Stops.{IsOfStatement, IsOfStatements, IsOfTokens};
 
 use crate::parser::Parser;
 use crate::refusal::{GrammarFault, Refusal};
@@ -16,7 +17,8 @@ impl Parser<'_> {
     /// The commands of all statements of a line, of which there is room for so many.
     #[tactic(auto, unfolding(crate::specs::ReadingCommands::commands_at))]
     pub fn commands(&mut self, alloc: Global, room: usize) -> Result<Vec<Command>, Refusal>
-        ensures { Gives (λ x. x.items) result (commands_at room self.old) }
+        ensures gives { Gives (λ x. x.items) result (commands_at room self.old) }
+        ensures kind { IfErr result IsOfStatements }
     {
         let mut commands = Vec::new(alloc);
         self.step(alloc, room, &mut commands)?;
@@ -34,7 +36,8 @@ impl Parser<'_> {
         room: usize,
         commands: &mut Vec<Command>,
     ) -> Result<(), Refusal>
-        ensures { Gives (λ x. (commands.new.items, self.new)) result (step_at room commands.old.items self.old) }
+        ensures gives { Gives (λ x. (commands.new.items, self.new)) result (step_at room commands.old.items self.old) }
+        ensures kind { IfErr result IsOfStatements }
     {
         let command = self.terminated(alloc)?;
         add(commands, room, command)
@@ -43,7 +46,8 @@ impl Parser<'_> {
     /// A statement with its end, and its command if it gives one.
     #[tactic(auto, unfolding(crate::specs::ReadingCommands::terminated_at))]
     fn terminated(&mut self, alloc: Global) -> Result<Option<Command>, Refusal>
-        ensures { Gives (λ x. (x, self.new)) result (terminated_at self.old) }
+        ensures gives { Gives (λ x. (x, self.new)) result (terminated_at self.old) }
+        ensures kind { IfErr result IsOfStatements }
     {
         let command = self.command(alloc)?;
         self.ended()?;
@@ -54,7 +58,8 @@ impl Parser<'_> {
     /// A statement, and its command if it gives one.
     #[tactic(auto, unfolding(crate::specs::ReadingCommands::command_at))]
     fn command(&mut self, alloc: Global) -> Result<Option<Command>, Refusal>
-        ensures { Gives (λ x. (x, self.new)) result (command_at self.old) }
+        ensures gives { Gives (λ x. (x, self.new)) result (command_at self.old) }
+        ensures kind { IfErr result IsOfStatement }
     {
         if self.took(Token::Word(Word::Begin)) {
             Ok(Some(Command::Begin))
@@ -76,7 +81,8 @@ impl Parser<'_> {
     /// The words that set a level, from behind the first on.
     #[tactic(auto, unfolding(crate::specs::ReadingCommands::level_at))]
     fn level(&mut self) -> Result<(), Refusal>
-        ensures { Gives (λ x. self.new) result (level_at self.old) }
+        ensures gives { Gives (λ x. self.new) result (level_at self.old) }
+        ensures kind { IfErr result IsOfTokens }
     {
         self.expect_all(&[
             Token::Word(Word::Transaction),
@@ -89,7 +95,8 @@ impl Parser<'_> {
     /// Words, at least one.
     #[tactic(auto, unfolding(crate::specs::ReadingCommands::words_at))]
     fn words(&mut self) -> Result<(), Refusal>
-        ensures { Gives (λ x. self.new) result (words_at self.old) }
+        ensures gives { Gives (λ x. self.new) result (words_at self.old) }
+        ensures kind { IfErr result IsOfTokens }
     {
         match self.rest.split_first() {
             None => Err(Refusal::Fault(GrammarFault::UnknownStatement)),
@@ -124,7 +131,8 @@ fn words_len(tokens: &[Token]) -> usize
 
 /// The printed form of a command is as short as it must be.
 fn check_short(command: &Option<Command>) -> Result<(), Refusal>
-    ensures { Gives (λ x. x) result (if is_short command.now then Some tt else None) }
+    ensures gives { Gives (λ x. x) result (if is_short command.now then Some tt else None) }
+    ensures kind { IfErr result IsOfStatements }
 {
     match command {
         Some(Command::Run(statement)) => check_length(statement),
@@ -134,7 +142,8 @@ fn check_short(command: &Option<Command>) -> Result<(), Refusal>
 
 /// Adds a command, if there is one, and room for it.
 fn add(commands: &mut Vec<Command>, room: usize, command: Option<Command>) -> Result<(), Refusal>
-    ensures { Gives (λ x. commands.new.items) result (added room commands.old.items command) }
+    ensures gives { Gives (λ x. commands.new.items) result (added room commands.old.items command) }
+    ensures kind { IfErr result IsOfStatements }
 {
     let Some(command) = command else {
         return Ok(());

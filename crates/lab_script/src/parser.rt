@@ -1,11 +1,12 @@
 //! A parser of a line's tokens, with the tokens and numbers that it reads, and what is read by it: the commands of a
 //! line, and single statements.
 
-ghost use Rattle.std.specs.Prelude.{◌≡◌, ◌==◌, ◌≤◌, ◌<◌, length, List, [], Option, Some, None, IfOk, MatchBool, if◌then◌else◌};
+ghost use Rattle.std.specs.Prelude.{◌≡◌, ◌==◌, ◌≤◌, ◌<◌, length, List, [], Option, Some, None, IfOk, MatchBool, if◌then◌else◌, IfErr, false};
 ghost use Rattle.lab_table.specs.declared.statement.Command.{Command as Spelled};
 ghost use Rattle.lab_table.specs.declared.statement.Statement.{Statement as SpelledStatement};
 ghost use Rattle.lab_script.specs.Grammar.{IsCommands, IsWholeStatement};
 ghost use Rattle.lab_script.specs.Reading.{after, after_all, digits_at, magnitude_at, number_at, Fails, Gives};
+ghost use Rattle.lab_script.specs.Stops.{IsOfTokens, IsOfStatements, IsOfLine, in_predicate};
 
 use crate::refusal::{GrammarFault, Refusal};
 use crate::token::{Token, Word};
@@ -38,7 +39,8 @@ impl<'a> Parser<'a> {
 
     /// Nothing may be left.
     pub fn nothing_left(&self) -> Result<(), Refusal>
-        ensures { Gives (λ x. x) result (if length self.now == 0 then Some tt else None) }
+        ensures gives { Gives (λ x. x) result (if length self.now == 0 then Some tt else None) }
+        ensures kind { IfErr result IsOfTokens }
     {
         if self.is_done() {
             Ok(())
@@ -69,6 +71,7 @@ impl<'a> Parser<'a> {
     pub fn expect(&mut self, token: Token) -> Result<(), Refusal>
         ensures gives { Gives (λ x. self.new) result (after token self.old) }
         ensures shorter { length self.new ≤ length self.old }
+        ensures kind { IfErr result IsOfTokens }
     {
         if self.took(token) {
             Ok(())
@@ -79,7 +82,8 @@ impl<'a> Parser<'a> {
 
     /// Takes these tokens, which must be the first.
     pub fn expect_all(&mut self, tokens: &[Token]) -> Result<(), Refusal>
-        ensures { Gives (λ x. self.new) result (after_all tokens.now self.old) }
+        ensures gives { Gives (λ x. self.new) result (after_all tokens.now self.old) }
+        ensures kind { IfErr result IsOfTokens }
     {
         for token in tokens {
             self.expect(*token)?;
@@ -92,6 +96,7 @@ impl<'a> Parser<'a> {
     pub fn digits(&mut self) -> Result<u32, Refusal>
         ensures gives { Gives (λ x. (x, self.new)) result (digits_at self.old) }
         ensures shorter { length self.new ≤ length self.old }
+        ensures kind { IfErr result IsOfTokens }
     {
         match self.rest.split_first() {
             None => Err(Refusal::Fault(GrammarFault::UnknownStatement)),
@@ -111,6 +116,7 @@ impl<'a> Parser<'a> {
         ensures gives { Gives (λ x. (x, self.new)) result (magnitude_at self.old) }
         ensures shorter { length self.new ≤ length self.old }
         ensures below { IfOk result (λ x. x ≤ 1000000000) }
+        ensures kind { IfErr result IsOfTokens }
     {
         let number = self.digits()?;
         if number <= 1_000_000_000 {
@@ -125,6 +131,7 @@ impl<'a> Parser<'a> {
     pub fn number(&mut self) -> Result<Value, Refusal>
         ensures gives { Gives (λ x. (x, self.new)) result (number_at self.old) }
         ensures shorter { length self.new ≤ length self.old }
+        ensures kind { IfErr result IsOfTokens }
     {
         let number = if self.took(Token::Minus) {
             -i64::from(self.magnitude()?)
@@ -143,6 +150,7 @@ pub fn read_commands(alloc: Global, tokens: &[Token], room: usize) -> Result<Vec
     ensures within { IfOk result (λ commands. length commands.items ≤ room) }
     // What is in the grammar is read, unless memory runs out.
     ensures only { (commands : List Spelled) → IsCommands tokens.now commands → length commands ≤ room → Gives (λ x. x.items) result (Some commands) }
+    ensures kind { IfErr result (IsOfLine tokens.now) }
 {
     let mut parser = Parser { rest: tokens };
     match parser.commands(alloc, room) {
@@ -158,6 +166,7 @@ pub fn read_statement(alloc: Global, tokens: &[Token]) -> Result<Statement, Refu
     ensures found { IfOk result (IsWholeStatement tokens.now) }
     // What is in the grammar is read, unless memory runs out.
     ensures only { (statement : SpelledStatement) → IsWholeStatement tokens.now statement → Gives (λ x. x) result (Some statement) }
+    ensures kind { IfErr result (IsOfLine tokens.now) }
 {
     let mut parser = Parser { rest: tokens };
     match parser.whole_statement(alloc) {
@@ -170,6 +179,7 @@ pub fn read_statement(alloc: Global, tokens: &[Token]) -> Result<Statement, Refu
 fn placed(refusal: Refusal, tokens: &[Token], left: usize) -> Refusal
     ensures stops { (read : Option (List Spelled)) → Fails refusal read → Fails result read }
     ensures stops_statement { (read : Option SpelledStatement) → Fails refusal read → Fails result read }
+    ensures kind { IsOfStatements refusal → IsOfLine tokens.now result }
 {
     match refusal {
         Refusal::Fault(GrammarFault::UnknownStatement) => {
@@ -185,10 +195,16 @@ fn placed(refusal: Refusal, tokens: &[Token], left: usize) -> Refusal
 }
 
 /// Whether a `where` stands in these tokens, and no semicolon behind it.
-fn ends_in_predicate(tokens: &[Token]) -> bool {
-    tokens
-        .iter()
-        .rev()
-        .take_while(|token| **token != Token::Semicolon)
-        .any(|token| *token == Token::Word(Word::Where))
+fn ends_in_predicate(tokens: &[Token]) -> bool
+    ensures { result ≡ in_predicate false tokens.now }
+{
+    let mut inside = false;
+    for token in tokens {
+        if *token == Token::Word(Word::Where) {
+            inside = true;
+        } else if *token == Token::Semicolon {
+            inside = false;
+        }
+    }
+    inside
 }

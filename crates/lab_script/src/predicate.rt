@@ -1,9 +1,10 @@
 //! Predicates, read from tokens.
 
-ghost use Rattle.std.specs.Prelude.{◌≡◌, ◌≤◌, length, Some};
+ghost use Rattle.std.specs.Prelude.{◌≡◌, ◌≤◌, length, Some, IfErr};
 ghost use Rattle.lab_table.specs.Predicate as predicate;
 ghost use Rattle.lab_script.specs.Reading.{Gives};
 ghost use Rattle.lab_script.specs.ReadingPredicates.{term_at, conj_at, pred_at, where_at};
+ghost use Rattle.lab_script.specs.Stops.{IsOfStatement};
 
 use crate::limits::MAX_DEPTH;
 use crate::parser::Parser;
@@ -16,7 +17,8 @@ impl Parser<'_> {
     /// The predicate behind a `where`, if one stands here.
     #[tactic(auto, unfolding(crate::specs::ReadingPredicates::where_at))]
     pub fn where_clause(&mut self, alloc: Global) -> Result<Option<Pred>, Refusal>
-        ensures { Gives (λ x. (x, self.new)) result (where_at self.old) }
+        ensures gives { Gives (λ x. (x, self.new)) result (where_at self.old) }
+        ensures kind { IfErr result IsOfStatement }
     {
         if self.took(Token::Word(Word::Where)) {
             let pred = self.pred(alloc, MAX_DEPTH)?;
@@ -32,6 +34,7 @@ impl Parser<'_> {
     fn pred(&mut self, alloc: Global, depth: u8) -> Result<Pred, Refusal>
         ensures gives { Gives (λ x. (x, self.new)) result (pred_at depth self.old) }
         ensures shorter { length self.new ≤ length self.old }
+        ensures kind { IfErr result IsOfStatement }
     {
         let mut pred = self.conj(alloc, depth)?;
         while self.took(Token::Word(Word::Or)) {
@@ -47,6 +50,7 @@ impl Parser<'_> {
     fn conj(&mut self, alloc: Global, depth: u8) -> Result<Pred, Refusal>
         ensures gives { Gives (λ x. (x, self.new)) result (conj_at depth self.old) }
         ensures shorter { length self.new ≤ length self.old }
+        ensures kind { IfErr result IsOfStatement }
     {
         let mut pred = self.term(alloc, depth)?;
         while self.took(Token::Word(Word::And)) {
@@ -62,6 +66,7 @@ impl Parser<'_> {
     fn term(&mut self, alloc: Global, depth: u8) -> Result<Pred, Refusal>
         ensures gives { Gives (λ x. (x, self.new)) result (term_at depth self.old) }
         ensures shorter { length self.new ≤ length self.old }
+        ensures kind { IfErr result IsOfStatement }
     {
         if self.took(Token::Word(Word::Not)) {
             if depth == 0 {
@@ -83,7 +88,8 @@ impl Parser<'_> {
 }
 
 fn negation(alloc: Global, pred: Pred) -> Result<Pred, Refusal>
-    ensures { Gives (λ x. x) result (Some (predicate.Not pred)) }
+    ensures gives { Gives (λ x. x) result (Some (predicate.Not pred)) }
+    ensures kind { IfErr result IsOfStatement }
 {
     Ok(Pred {
         kind: PredKind::Not(Box::new(alloc, pred)?),
@@ -91,7 +97,8 @@ fn negation(alloc: Global, pred: Pred) -> Result<Pred, Refusal>
 }
 
 fn conjunction(alloc: Global, left: Pred, right: Pred) -> Result<Pred, Refusal>
-    ensures { Gives (λ x. x) result (Some (predicate.And left right)) }
+    ensures gives { Gives (λ x. x) result (Some (predicate.And left right)) }
+    ensures kind { IfErr result IsOfStatement }
 {
     Ok(Pred {
         kind: PredKind::And(Box::new(alloc, left)?, Box::new(alloc, right)?),
@@ -99,7 +106,8 @@ fn conjunction(alloc: Global, left: Pred, right: Pred) -> Result<Pred, Refusal>
 }
 
 fn disjunction(alloc: Global, left: Pred, right: Pred) -> Result<Pred, Refusal>
-    ensures { Gives (λ x. x) result (Some (predicate.Or left right)) }
+    ensures gives { Gives (λ x. x) result (Some (predicate.Or left right)) }
+    ensures kind { IfErr result IsOfStatement }
 {
     Ok(Pred {
         kind: PredKind::Or(Box::new(alloc, left)?, Box::new(alloc, right)?),

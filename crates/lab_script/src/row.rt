@@ -1,8 +1,9 @@
 //! Rows with their values, read from tokens.
 
-ghost use Rattle.std.specs.Prelude.{◌≤◌, length};
+ghost use Rattle.std.specs.Prelude.{◌≤◌, length, IfErr};
 ghost use Rattle.lab_script.specs.Reading.{Gives};
 ghost use Rattle.lab_script.specs.ReadingRows.{id_at, row_at};
+ghost use Rattle.lab_script.specs.Stops.{IsOfTokens};
 
 use crate::parser::Parser;
 use crate::refusal::{GrammarFault, Refusal};
@@ -15,6 +16,7 @@ impl Parser<'_> {
     pub fn id(&mut self) -> Result<RowId, Refusal>
         ensures gives { Gives (λ x. (x, self.new)) result (id_at self.old) }
         ensures shorter { length self.new ≤ length self.old }
+        ensures kind { IfErr result IsOfTokens }
     {
         let negative = self.took(Token::Minus);
         let number = self.digits()?;
@@ -29,6 +31,7 @@ impl Parser<'_> {
     pub fn row(&mut self) -> Result<(RowId, Value), Refusal>
         ensures gives { Gives (λ x. (x, self.new)) result (row_at self.old) }
         ensures shorter { length self.new ≤ length self.old }
+        ensures kind { IfErr result IsOfTokens }
     {
         self.expect(Token::Open)?;
         let id = self.id()?;

@@ -1,10 +1,11 @@
 //! The setup, read from tokens.
 
-ghost use Rattle.std.specs.Prelude.{◌≡◌, ◌≤◌, length, Some, None, IfOk, MatchBool, if◌then◌else◌};
+ghost use Rattle.std.specs.Prelude.{◌≡◌, ◌≤◌, length, Some, None, IfOk, MatchBool, if◌then◌else◌, IfErr};
 ghost use Rattle.lab_table.specs.Table.{Table as Spelled};
 ghost use Rattle.lab_script.specs.Grammar.{IsSetup};
 ghost use Rattle.lab_script.specs.Reading.{Gives};
 ghost use Rattle.lab_script.specs.ReadingSetup.{row_onto, rows_at, no_rows_at, table_at, ends_setup, setup_at};
+ghost use Rattle.lab_script.specs.Stops.{IsOfRows, IsOfSetup};
 
 use crate::fits::setup_fits;
 use crate::parser::Parser;
@@ -19,6 +20,7 @@ impl Parser<'_> {
     fn row_onto(&mut self, alloc: Global, table: &mut Table) -> Result<(), Refusal>
         ensures gives { Gives (λ x. (table.new, self.new)) result (row_onto table.old self.old) }
         ensures shorter { length self.new ≤ length self.old }
+        ensures kind { IfErr result IsOfRows }
     {
         let row = self.row()?;
         if table.add(alloc, row.0, row.1)? {
@@ -30,7 +32,8 @@ impl Parser<'_> {
 
     /// The table of one row or more.
     fn rows(&mut self, alloc: Global) -> Result<Table, Refusal>
-        ensures { Gives (λ x. (x, self.new)) result (rows_at self.old) }
+        ensures gives { Gives (λ x. (x, self.new)) result (rows_at self.old) }
+        ensures kind { IfErr result IsOfRows }
     {
         let mut table = Table::new(alloc);
         loop {
@@ -58,7 +61,8 @@ impl Parser<'_> {
     /// The table of a setup.
     #[tactic(auto, unfolding(crate::specs::ReadingSetup::table_at))]
     fn table(&mut self, alloc: Global) -> Result<Table, Refusal>
-        ensures { Gives (λ x. (x, self.new)) result (table_at self.old) }
+        ensures gives { Gives (λ x. (x, self.new)) result (table_at self.old) }
+        ensures kind { IfErr result IsOfRows }
     {
         if self.took_no_rows() {
             Ok(Table::new(alloc))
@@ -70,7 +74,8 @@ impl Parser<'_> {
     /// The end of the setup of this table, which is its `;` or the end of the line.
     /// TooLong where the printed line is over 4,000 bytes; then what stands behind the `;` doesn't matter.
     fn setup_end(&mut self, table: &Table) -> Result<(), Refusal>
-        ensures { Gives (λ x. x) result (if ends_setup table.now self.old then Some tt else None) }
+        ensures gives { Gives (λ x. x) result (if ends_setup table.now self.old then Some tt else None) }
+        ensures kind { IfErr result IsOfSetup }
     {
         if !self.took(Token::Semicolon) {
             self.nothing_left()?;
@@ -85,7 +90,8 @@ impl Parser<'_> {
     /// A setup, all of the line.
     #[tactic(auto, unfolding(crate::specs::ReadingSetup::setup_at))]
     fn setup(&mut self, alloc: Global) -> Result<Table, Refusal>
-        ensures { Gives (λ x. x) result (setup_at self.old) }
+        ensures gives { Gives (λ x. x) result (setup_at self.old) }
+        ensures kind { IfErr result IsOfSetup }
     {
         self.expect(Token::Word(Word::Setup))?;
         let table = self.table(alloc)?;
@@ -105,6 +111,7 @@ pub fn read_setup(alloc: Global, tokens: &[Token]) -> Result<Table, Refusal>
     ensures found { IfOk result (λ table. IsSetup tokens.now table) }
     // What is in the grammar is read, unless memory runs out.
     ensures only { (table : Spelled) → IsSetup tokens.now table → Gives (λ x. x) result (Some table) }
+    ensures kind { IfErr result IsOfSetup }
 {
     let mut parser = Parser { rest: tokens };
     parser.setup(alloc)

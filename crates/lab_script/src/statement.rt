@@ -1,12 +1,13 @@
 //! Statements, read from tokens.
 
-ghost use Rattle.std.specs.Prelude.{◌≡◌, ◌==◌, ◌<◌, nat_le, if◌then◌else◌, List, length, Some, None, OnErr};
+ghost use Rattle.std.specs.Prelude.{◌≡◌, ◌==◌, ◌<◌, nat_le, if◌then◌else◌, List, length, Some, None, OnErr, IfErr};
 ghost use Rattle.lab_table.specs.declared.statement.Statement.{Statement as Spelled};
 ghost use Rattle.lab_script.specs.declared.token.Token.{Token as Shown};
 ghost use Rattle.lab_script.specs.Limits.{max_statement_bytes};
 ghost use Rattle.lab_script.specs.Printed.{printed_statement};
 ghost use Rattle.lab_script.specs.Reading.{Gives, RefusesTooLong};
 ghost use Rattle.lab_script.specs.ReadingStatements.{expr_at, select_at, update_at, insert_at, delete_at, statement_at, ended_at, whole_statement_at};
+ghost use Rattle.lab_script.specs.Stops.{IsOfStatement, IsOfStatements, IsOfTokens};
 
 use crate::fits::statement_fits;
 use crate::parser::Parser;
@@ -23,6 +24,7 @@ impl Parser<'_> {
         // A statement that is over its limit at its end is told before what stands behind it.
         ensures long { (s : Spelled) (end behind : List Shown) → (statement_at self.old ≡ Some (s, end)) → (ended_at end ≡ Some behind)
             → max_statement_bytes < length (printed_statement s) → RefusesTooLong result }
+        ensures kind { IfErr result IsOfStatements }
     {
         let statement = self.statement(alloc)?;
         self.ended()?;
@@ -34,7 +36,8 @@ impl Parser<'_> {
     /// One of the four kinds of statement.
     #[tactic(auto, unfolding(crate::specs::ReadingStatements::statement_at))]
     pub fn statement(&mut self, alloc: Global) -> Result<Statement, Refusal>
-        ensures { Gives (λ x. (x, self.new)) result (statement_at self.old) }
+        ensures gives { Gives (λ x. (x, self.new)) result (statement_at self.old) }
+        ensures kind { IfErr result IsOfStatement }
     {
         if self.took(Token::Word(Word::Select)) {
             self.select(alloc)
@@ -51,7 +54,8 @@ impl Parser<'_> {
     /// A select, from behind its first word on.
     #[tactic(auto, unfolding(crate::specs::ReadingStatements::select_at))]
     fn select(&mut self, alloc: Global) -> Result<Statement, Refusal>
-        ensures { Gives (λ x. (x, self.new)) result (select_at self.old) }
+        ensures gives { Gives (λ x. (x, self.new)) result (select_at self.old) }
+        ensures kind { IfErr result IsOfStatement }
     {
         self.expect_all(&[
             Token::Star,
@@ -65,7 +69,8 @@ impl Parser<'_> {
     /// An update, from behind its first word on.
     #[tactic(auto, unfolding(crate::specs::ReadingStatements::update_at))]
     fn update(&mut self, alloc: Global) -> Result<Statement, Refusal>
-        ensures { Gives (λ x. (x, self.new)) result (update_at self.old) }
+        ensures gives { Gives (λ x. (x, self.new)) result (update_at self.old) }
+        ensures kind { IfErr result IsOfStatement }
     {
         self.expect_all(&[
             Token::Word(Word::Test),
@@ -81,7 +86,8 @@ impl Parser<'_> {
     /// The new value of an update.
     #[tactic(auto, unfolding(crate::specs::ReadingStatements::expr_at))]
     fn expr(&mut self) -> Result<Expr, Refusal>
-        ensures { Gives (λ x. (x, self.new)) result (expr_at self.old) }
+        ensures gives { Gives (λ x. (x, self.new)) result (expr_at self.old) }
+        ensures kind { IfErr result IsOfTokens }
     {
         if !self.took(Token::Word(Word::Value)) {
             Ok(Expr::Set(self.number()?))
@@ -96,7 +102,8 @@ impl Parser<'_> {
     /// An insert, from behind its first word on.
     #[tactic(auto, unfolding(crate::specs::ReadingStatements::insert_at))]
     fn insert(&mut self) -> Result<Statement, Refusal>
-        ensures { Gives (λ x. (x, self.new)) result (insert_at self.old) }
+        ensures gives { Gives (λ x. (x, self.new)) result (insert_at self.old) }
+        ensures kind { IfErr result IsOfTokens }
     {
         self.expect_all(&[
             Token::Word(Word::Into),
@@ -115,7 +122,8 @@ impl Parser<'_> {
     /// A delete, from behind its first word on.
     #[tactic(auto, unfolding(crate::specs::ReadingStatements::delete_at))]
     fn delete(&mut self, alloc: Global) -> Result<Statement, Refusal>
-        ensures { Gives (λ x. (x, self.new)) result (delete_at self.old) }
+        ensures gives { Gives (λ x. (x, self.new)) result (delete_at self.old) }
+        ensures kind { IfErr result IsOfStatement }
     {
         self.expect_all(&[Token::Word(Word::From), Token::Word(Word::Test)])?;
         let pred = self.where_clause(alloc)?;
@@ -125,7 +133,8 @@ impl Parser<'_> {
     /// The end of a statement: nothing is left, or a semicolon.
     #[tactic(auto, unfolding(crate::specs::ReadingStatements::ended_at))]
     pub fn ended(&mut self) -> Result<(), Refusal>
-        ensures { Gives (λ x. self.new) result (ended_at self.old) }
+        ensures gives { Gives (λ x. self.new) result (ended_at self.old) }
+        ensures kind { IfErr result IsOfTokens }
     {
         match self.rest.split_first() {
             None => Ok(()),
@@ -145,6 +154,7 @@ impl Parser<'_> {
 pub fn check_length(statement: &Statement) -> Result<(), Refusal>
     ensures gives { Gives (λ x. x) result (if nat_le (length (printed_statement statement.now)) max_statement_bytes then Some tt else None) }
     ensures long { OnErr result (RefusesTooLong result) }
+    ensures kind { IfErr result IsOfStatements }
 {
     if statement_fits(statement) {
         Ok(())

@@ -4,13 +4,13 @@ use Rattle.lab_script.proofs.ReadCommands.{commands_take, commands_again}
 use Rattle.lab_script.proofs.parser.read_commands.Goals as goal
 
 pub returns-in-Ok-clause-found : goal.returns-in-Ok-clause-found
-returns-in-Ok-clause-found c = let t = commands_take c.args.room c.args.tokens.now _ c.in-Ok.ensures in t.0
+returns-in-Ok-clause-found c = let t = commands_take c.args.room c.args.tokens.now _ c.in-Ok.ensures.gives in t.0
 
 pub returns-in-Ok-clause-within : goal.returns-in-Ok-clause-within
-returns-in-Ok-clause-within c = let t = commands_take c.args.room c.args.tokens.now _ c.in-Ok.ensures in t.1
+returns-in-Ok-clause-within c = let t = commands_take c.args.room c.args.tokens.now _ c.in-Ok.ensures.gives in t.1
 
 pub returns-in-Ok-clause-only : goal.returns-in-Ok-clause-only
-returns-in-Ok-clause-only c = λ commands h le. sym (commands_again h c.args.room le) ∙ c.in-Ok.ensures
+returns-in-Ok-clause-only c = λ commands h le. sym (commands_again h c.args.room le) ∙ c.in-Ok.ensures.gives
 
 pub returns-in-Err-clause-only : goal.returns-in-Err-clause-only
-returns-in-Err-clause-only c = λ commands h le. subst (Fails c.placed.result) (commands_again h c.args.room le) (c.placed.ensures.stops _ c.in-Err.ensures)
+returns-in-Err-clause-only c = λ commands h le. subst (Fails c.placed.result) (commands_again h c.args.room le) (c.placed.ensures.stops _ c.in-Err.ensures.gives)

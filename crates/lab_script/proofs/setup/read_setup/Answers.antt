@@ -5,7 +5,7 @@ use Rattle.lab_script.proofs.ReadSetup.{setup_found}
 use Rattle.lab_script.proofs.setup.read_setup.Goals as goal
 
 pub returns-clause-found : goal.returns-clause-found
-returns-clause-found c = setup_found c.args.tokens.now c.setup.result c.setup.ensures
+returns-clause-found c = setup_found c.args.tokens.now c.setup.result c.setup.ensures.gives
 
 pub returns-clause-only : goal.returns-clause-only
-returns-clause-only c = λ table h. subst (Gives (λ x. x) c.setup.result) (setup_again h) c.setup.ensures
+returns-clause-only c = λ table h. subst (Gives (λ x. x) c.setup.result) (setup_again h) c.setup.ensures.gives

@@ -35,7 +35,7 @@ conj-loop-alloc-preserved t c =
       so_far =
           goes_on_to (term_at c.args.depth) (token.Word word.And) predicate.And s.0 c.loop-alloc.pred c.in_ok-right.right c.in_ok-pred-2.pred c.loop-alloc.self c.took.new.self
           c.term-in-loop-alloc.new.self (conj_at c.args.depth c.args.self.now) s.1 s.2 c.loop-alloc-test.ensures.gives c.loop-alloc-test.ensures.shorter
-          c.in_ok-right.ensures.gives c.in_ok-right.ensures.shorter c.in_ok-pred-2.ensures;
+          c.in_ok-right.ensures.gives c.in_ok-right.ensures.shorter c.in_ok-pred-2.ensures.gives;
     }
 
 pub conj-returns-clause-gives : goal.conj-returns-clause-gives
@@ -72,7 +72,7 @@ pred-loop-alloc-preserved t c =
       so_far =
           goes_on_to (conj_at c.args.depth) (token.Word word.Or) predicate.Or s.0 c.loop-alloc.pred c.in_ok-right.right c.in_ok-pred-2.pred c.loop-alloc.self c.took.new.self
           c.conj-in-loop-alloc.new.self (pred_at c.args.depth c.args.self.now) s.1 s.2 c.loop-alloc-test.ensures.gives c.loop-alloc-test.ensures.shorter
-          c.in_ok-right.ensures.gives c.in_ok-right.ensures.shorter c.in_ok-pred-2.ensures;
+          c.in_ok-right.ensures.gives c.in_ok-right.ensures.shorter c.in_ok-pred-2.ensures.gives;
     }
 
 pub pred-returns-clause-gives : goal.pred-returns-clause-gives

@@ -7,12 +7,12 @@ use Rattle.lab_script.proofs.parser.Parser.commands.Goals as goal
 
 pub loop-alloc-init : goal.loop-alloc-init
 loop-alloc-init c =
-    let s = steps_start c.args.room c.new-commands.result.items c.step.new.commands.items c.args.self.now c.step.new.self c.new-commands.ensures.items c.in_ok-step.ensures in
+    let s = steps_start c.args.room c.new-commands.result.items c.step.new.commands.items c.args.self.now c.step.new.self c.new-commands.ensures.items c.in_ok-step.ensures.gives in
     record { fits = s.0; so_far = (length c.step.new.self, omega arith, s.1) }
 
 pub loop-alloc-smaller : goal.loop-alloc-smaller
 loop-alloc-smaller c =
-    step_short c.args.room c.loop-alloc.commands.items c.loop-alloc.self (c.step-in-loop-alloc.new.commands.items, c.step-in-loop-alloc.new.self) c.in_ok-step-2.ensures c.loop-alloc.invariant.fits
+    step_short c.args.room c.loop-alloc.commands.items c.loop-alloc.self (c.step-in-loop-alloc.new.commands.items, c.step-in-loop-alloc.new.self) c.in_ok-step-2.ensures.gives c.loop-alloc.invariant.fits
 
 pub loop-alloc-preserved : goal.loop-alloc-preserved
 loop-alloc-preserved c =
@@ -20,21 +20,21 @@ loop-alloc-preserved c =
     let s = i.so_far in
     let some : 1 ≤ length c.loop-alloc.self = some_left c.is_done.result _ c.is_done.ensures c.loop-alloc-test.true in
     record {
-      fits = step_fits c.args.room c.loop-alloc.commands.items c.step-in-loop-alloc.new.commands.items c.loop-alloc.self c.step-in-loop-alloc.new.self c.in_ok-step-2.ensures i.fits;
+      fits = step_fits c.args.room c.loop-alloc.commands.items c.step-in-loop-alloc.new.commands.items c.loop-alloc.self c.step-in-loop-alloc.new.self c.in_ok-step-2.ensures.gives i.fits;
       so_far =
           steps_on s.0 c.args.room c.loop-alloc.commands.items c.step-in-loop-alloc.new.commands.items c.loop-alloc.self c.step-in-loop-alloc.new.self
-          (commands_at c.args.room c.args.self.now) some s.1 i.fits s.2 c.in_ok-step-2.ensures;
+          (commands_at c.args.room c.args.self.now) some s.1 i.fits s.2 c.in_ok-step-2.ensures.gives;
     }
 
-pub returns-in_err-step-2 : goal.returns-in_err-step-2
-returns-in_err-step-2 c =
+pub returns-in_err-step-2-clause-gives : goal.returns-in_err-step-2-clause-gives
+returns-in_err-step-2-clause-gives c =
     let p = err_from_is_err_and c.from_residual-in_err-step-2.result c.from_residual-in_err-step-2.ensures.1 in
     let i = c.loop-alloc.invariant in
     let s = i.so_far in
     let some : 1 ≤ length c.loop-alloc.self = some_left c.is_done.result _ c.is_done.ensures c.loop-alloc-test.true in
-    rw (p.1, p.2) (step_fails s.0 c.args.room c.loop-alloc.commands.items c.in_err-step-2.field-0.0 c.loop-alloc.self (commands_at c.args.room c.args.self.now) some s.1 s.2 c.in_err-step-2.ensures)
+    rw (p.1, p.2) (step_fails s.0 c.args.room c.loop-alloc.commands.items c.in_err-step-2.field-0.0 c.loop-alloc.self (commands_at c.args.room c.args.self.now) some s.1 s.2 c.in_err-step-2.ensures.gives)
 
-pub returns : goal.returns
-returns c =
+pub returns-clause-gives : goal.returns-clause-gives
+returns-clause-gives c =
     let s = c.loop-alloc.invariant.so_far in
     steps_end s.0 c.args.room c.loop-alloc.commands.items c.loop-alloc.self (commands_at c.args.room c.args.self.now) (none_left c.is_done.result _ c.is_done.ensures c.loop-alloc-test.false) s.2

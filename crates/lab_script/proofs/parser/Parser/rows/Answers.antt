@@ -8,14 +8,14 @@ pub loop-table-init : goal.loop-table-init
 unfolding rows_at
 loop-table-init c = (suc (length c.args.self.now), omega arith, rw c.new-table.ensures refl)
 
-pub returns-in_err-row_onto : goal.returns-in_err-row_onto
-returns-in_err-row_onto c =
+pub returns-in_err-row_onto-clause-gives : goal.returns-in_err-row_onto-clause-gives
+returns-in_err-row_onto-clause-gives c =
     let p = err_from_is_err_and c.from_residual.result c.from_residual.ensures.1 in
     let i = c.loop-table.invariant in
     rw (p.1, p.2) (row_fails i.0 c.loop-table.table c.in_err-row_onto.field-0.0 c.loop-table.self (rows_at c.args.self.now) i.1 i.2 c.in_err-row_onto.ensures.gives)
 
-pub returns-then-not-took : goal.returns-then-not-took
-returns-then-not-took c =
+pub returns-then-not-took-clause-gives : goal.returns-then-not-took-clause-gives
+returns-then-not-took-clause-gives c =
     let i = c.loop-table.invariant in
     let none = c.if-not-took.ensures.gives in
     rw none.1 (row_ends i.0 c.loop-table.table c.row_onto.new.table c.loop-table.self c.row_onto.new.self (rows_at c.args.self.now) i.1 i.2 c.in_ok-row_onto.ensures.gives none.0)

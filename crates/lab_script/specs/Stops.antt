@@ -1,0 +1,94 @@
+-- The kinds of fault with which reading the tokens of a line stops, by what is read.
+use Rattle.std.specs.Prelude.{Bool, true, false, if◌then◌else◌, List, [], ◌∷◌}
+use Rattle.lab_script.specs.declared.token.Word.TheVariants as word
+use Rattle.lab_script.specs.declared.token.Token.{Token}
+use Rattle.lab_script.specs.declared.token.Token.TheVariants as token
+use Rattle.lab_script.specs.Reading.{is_token}
+use Rattle.lab_script.specs.Script.{HasWhere}
+use Rattle.lab_script.specs.declared.refusal.GrammarFault.{GrammarFault}
+use Rattle.lab_script.specs.declared.refusal.GrammarFault.TheVariants as grammar
+use Rattle.lab_script.specs.declared.refusal.Refusal.{Refusal}
+use Rattle.lab_script.specs.declared.refusal.Refusal.TheVariants as refusal
+
+-- reading stopped with a kind of which this holds, or memory ran out
+abbrev pub StopsWith : (GrammarFault → Type 0) → Refusal → Type 0
+StopsWith Is refusal.NoMemory = Unit {0}
+StopsWith Is (refusal.Fault kind) = Is kind
+
+-- a wrong token, or a number out of its range
+abbrev pub OfTokens : GrammarFault → Type 0
+OfTokens grammar.UnknownStatement = Unit {0}
+OfTokens grammar.NumberOutOfRange = Unit {0}
+OfTokens grammar.BadPredicate = ⊥
+OfTokens grammar.TooDeep = ⊥
+OfTokens grammar.TooLong = ⊥
+OfTokens grammar.DuplicateSetupRow = ⊥
+
+-- one of these, or a predicate that goes too deep
+abbrev pub OfStatement : GrammarFault → Type 0
+OfStatement grammar.UnknownStatement = Unit {0}
+OfStatement grammar.NumberOutOfRange = Unit {0}
+OfStatement grammar.BadPredicate = ⊥
+OfStatement grammar.TooDeep = Unit {0}
+OfStatement grammar.TooLong = ⊥
+OfStatement grammar.DuplicateSetupRow = ⊥
+
+-- a wrong token, a number out of its range, or a row that comes twice
+abbrev pub OfRows : GrammarFault → Type 0
+OfRows grammar.UnknownStatement = Unit {0}
+OfRows grammar.NumberOutOfRange = Unit {0}
+OfRows grammar.BadPredicate = ⊥
+OfRows grammar.TooDeep = ⊥
+OfRows grammar.TooLong = ⊥
+OfRows grammar.DuplicateSetupRow = Unit {0}
+
+-- those of a statement, or one that is too long
+abbrev pub OfStatements : GrammarFault → Type 0
+OfStatements grammar.UnknownStatement = Unit {0}
+OfStatements grammar.NumberOutOfRange = Unit {0}
+OfStatements grammar.BadPredicate = ⊥
+OfStatements grammar.TooDeep = Unit {0}
+OfStatements grammar.TooLong = Unit {0}
+OfStatements grammar.DuplicateSetupRow = ⊥
+
+-- those of rows, or a setup that is too long
+abbrev pub OfSetup : GrammarFault → Type 0
+OfSetup grammar.UnknownStatement = Unit {0}
+OfSetup grammar.NumberOutOfRange = Unit {0}
+OfSetup grammar.BadPredicate = ⊥
+OfSetup grammar.TooDeep = ⊥
+OfSetup grammar.TooLong = Unit {0}
+OfSetup grammar.DuplicateSetupRow = Unit {0}
+
+-- those of statements, where a wrong token may stand behind a where
+abbrev pub OfLine : List Token → GrammarFault → Type 0
+OfLine ts grammar.UnknownStatement = Unit {0}
+OfLine ts grammar.NumberOutOfRange = Unit {0}
+OfLine ts grammar.BadPredicate = HasWhere ts
+OfLine ts grammar.TooDeep = Unit {0}
+OfLine ts grammar.TooLong = Unit {0}
+OfLine ts grammar.DuplicateSetupRow = ⊥
+
+-- whether tokens end behind a where with no semicolon since it, where what stands before them does so or not
+abbrev pub in_predicate : Bool → List Token → Bool
+in_predicate inside [] = inside
+in_predicate inside (t ∷ ts) = in_predicate (if is_token t (token.Word word.Where) then true else if is_token t token.Semicolon then false else inside) ts
+
+-- the same of why reading stopped
+abbrev pub IsOfTokens : Refusal → Type 0
+IsOfTokens e = StopsWith OfTokens e
+
+abbrev pub IsOfStatement : Refusal → Type 0
+IsOfStatement e = StopsWith OfStatement e
+
+abbrev pub IsOfRows : Refusal → Type 0
+IsOfRows e = StopsWith OfRows e
+
+abbrev pub IsOfStatements : Refusal → Type 0
+IsOfStatements e = StopsWith OfStatements e
+
+abbrev pub IsOfSetup : Refusal → Type 0
+IsOfSetup e = StopsWith OfSetup e
+
+abbrev pub IsOfLine : List Token → Refusal → Type 0
+IsOfLine ts e = StopsWith (OfLine ts) e
