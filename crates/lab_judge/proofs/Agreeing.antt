@@ -42,7 +42,7 @@ module _ (h : History) where
   placings (places.NoCycle points) (places.NoCycle other) v w r q l m c d = one_circle h points other c d
 
   pub serial_agrees : (one other : Report) → IsExactJudgement h one → IsExactJudgement h other → AgreeOnOrder one.serial other.serial
-  serial_agrees one other a b = orders one.serial other.serial a.judgement.serial b.judgement.serial a.order b.order a.least b.least a.walks b.walks
+  serial_agrees one other a b = orders one.serial other.serial a.judgement.serial b.judgement.serial a.order b.order a.least b.least a.walk b.walk
 
   pub snapshot_agrees : (one other : Report) → IsExactJudgement h one → IsExactJudgement h other → AgreeOnPlaces one.snapshot other.snapshot
   snapshot_agrees one other a b = placings one.snapshot other.snapshot a.judgement.snapshot b.judgement.snapshot a.placing b.placing a.places b.places a.circle b.circle

@@ -7,7 +7,7 @@ use Rattle.lab_deps.specs.declared.fault.LocalFault.{LocalFault}
 use Rattle.lab_judge.specs.Judgement.{IsSerialVerdict, IsSnapshotVerdict, SameFault, Judges, JudgesAll, JudgesAtFault, RestsOnOrder, RestsOnPlaces, IsExactJudgement}
 use Rattle.lab_judge.specs.BackPoints.{HasBackCircle}
 use Rattle.lab_judge.specs.LeastPlaces.{IsLeastPlacing}
-use Rattle.lab_judge.specs.LeastWalks.{HasDueWalk}
+use Rattle.lab_judge.specs.LeastWalks.{HasDueWalk, FindsDueWalks}
 use Rattle.lab_judge.specs.Verdicts.{IsLeastOrder}
 use Rattle.lab_judge.specs.declared.places.Places.{Places}
 use Rattle.lab_judge.specs.declared.places.Places.TheVariants as places
@@ -36,8 +36,8 @@ all_judged h sound (serial.NoFault fault) s found grade judges = absurd (sound f
 -- so they make a judgement
 pub of_sound : (h : History) → IsSound h → (report : Report) → IsSerialVerdict h report.serial → RestsOnOrder h report.serial → IsLeastOrder h report.serial → HasDueWalk h report.serial
     → IsSnapshotVerdict h report.snapshot → RestsOnPlaces h report.snapshot → IsLeastPlacing h report.snapshot → HasBackCircle h report.snapshot → JudgesAll h report.phenomena report.level
-    → IsExactJudgement h report
-of_sound h sound report s order least walks p placing places circle judges = record {
+    → FindsDueWalks h report.phenomena → IsExactJudgement h report
+of_sound h sound report s order least walk p placing places circle judges walks = record {
   judgement = record {
     serial = s;
     snapshot = p;
@@ -46,6 +46,7 @@ of_sound h sound report s order least walks p placing places circle judges = rec
   };
   order = order;
   least = least;
+  walk = walk;
   walks = walks;
   placing = placing;
   places = places;
@@ -53,13 +54,14 @@ of_sound h sound report s order least walks p placing places circle judges = rec
 }
 
 -- the first fault that stands makes one too
-pub of_fault : (h : History) (fault : LocalFault) → IsFirst h fault → (found : List Finding) (grade : Grade) → JudgesAtFault h fault found grade
+pub of_fault : (h : History) (fault : LocalFault) → IsFirst h fault → (found : List Finding) (grade : Grade) → JudgesAtFault h fault found grade → FindsDueWalks h found
     → IsExactJudgement h (record { serial = serial.NoFault fault; snapshot = places.NoFault fault; phenomena = found; level = grade })
-of_fault h fault first found grade judges = record {
+of_fault h fault first found grade judges walks = record {
   judgement = record { serial = first; snapshot = first; fault = refl; found = judges };
   order = tt;
   least = tt;
-  walks = tt;
+  walk = tt;
+  walks = walks;
   placing = tt;
   places = tt;
   circle = tt;

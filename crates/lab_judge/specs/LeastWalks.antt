@@ -10,9 +10,12 @@ use Rattle.lab_deps.specs.Edges.{IsEdge}
 use Rattle.lab_deps.specs.EdgeOrder.{edge_cmp}
 use Rattle.lab_deps.specs.declared.edge.Edge.{Edge}
 use Rattle.lab_judge.specs.Allowed.{allows}
+use Rattle.lab_judge.specs.Findings as found
 use Rattle.lab_judge.specs.Runs.{HoldsEachOnce}
 use Rattle.lab_judge.specs.declared.allowed.Allowed.{Allowed}
 use Rattle.lab_judge.specs.declared.allowed.Allowed.TheVariants as allowed
+use Rattle.lab_judge.specs.declared.report.Finding.{Finding}
+use Rattle.lab_judge.specs.declared.report.Finding.TheVariants.{Absent, Walk, At, NotJudged}
 use Rattle.lab_judge.specs.declared.serial.Serial.{Serial}
 use Rattle.lab_judge.specs.declared.serial.Serial.TheVariants as serial
 
@@ -65,3 +68,15 @@ abbrev pub HasDueWalk : History → Serial → Type 0
 HasDueWalk h (serial.Yes order) = ⊤
 HasDueWalk h (serial.NoFault fault) = ⊤
 HasDueWalk h (serial.NoCycle walk) = IsBackWalk h allowed.All walk
+
+-- a walk that is found is the due one
+abbrev pub FindsDue : (List Edge → Type 0) → Finding → Type 0
+FindsDue is_due Absent = ⊤
+FindsDue is_due (Walk walk) = is_due walk
+FindsDue is_due (At n k row) = ⊤
+FindsDue is_due NotJudged = ⊤
+
+-- the walks that are found of G0 and G1c are those on the way back, over writes and over all that is no anti-dependency
+pub record FindsDueWalks (h : History) (p : List Finding) : Type 0 where
+  pub g0 : FindsDue (IsBackWalk h allowed.Writes) (found.g0 p)
+  pub g1c : FindsDue (IsBackWalk h allowed.Flow) (found.g1c p)

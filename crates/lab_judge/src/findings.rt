@@ -2,6 +2,7 @@
 
 ghost use Rattle.std.specs.Prelude.{◌↔◌, Contains, IfOk};
 ghost use Rattle.std.specs.List.{All};
+ghost use Rattle.std.specs.List.Sorted.{IsStrictlyIncreasing};
 ghost use Rattle.lab_history.specs.History.{History as Recorded};
 ghost use Rattle.lab_deps.specs.Soundness.{Stands, IsSound};
 ghost use Rattle.lab_deps.specs.Edges.{IsEdge};
@@ -10,7 +11,9 @@ ghost use Rattle.lab_deps.specs.declared.edge.Edge.{Edge as Spelled};
 ghost use Rattle.lab_deps.specs.declared.fault.LocalFault.TheVariants as fault;
 ghost use Rattle.lab_table.specs.Row.{Row};
 ghost use Rattle.lab_judge.specs.Graphs.{HasEnds};
+ghost use Rattle.lab_judge.specs.LeastWalks.{AreCommitted, IsBackWalk, FindsDue, FindsDueWalks};
 ghost use Rattle.lab_judge.specs.Runs.{HoldsEachOnce};
+ghost use Rattle.lab_judge.specs.declared.allowed.Allowed.TheVariants as allowed;
 ghost use Rattle.lab_judge.specs.Phenomena.{NoWalk, IsClosedWalk, IsG0, MeetsPl2};
 ghost use Rattle.lab_judge.specs.Judgement.{FindsWalk, JudgesAll, JudgesReads, JudgesNothing, JudgesAtFault};
 
@@ -43,7 +46,8 @@ pub(crate) struct Findings {
 pub(crate) fn find_none(_history: &History) -> Findings
     requires sound { IsSound _history.now }
     requires forward { NoWalk (IsClosedWalk _history.now) }
-    ensures { JudgesAll _history.now result.phenomena result.level }
+    ensures found { JudgesAll _history.now result.phenomena result.level }
+    ensures walks { FindsDueWalks _history.now result.phenomena }
 {
     Findings {
         phenomena: [
@@ -69,8 +73,10 @@ pub(crate) fn find_in_sound(
 ) -> Result<Findings, NoMemory>
     requires sound { IsSound _history.now }
     requires nodes { HoldsEachOnce _history.now nodes.now }
+    requires rising { IsStrictlyIncreasing nodes.now }
     requires edges { (e : Spelled) → Contains edges.now e ↔ IsEdge _history.now e }
-    ensures { IfOk result (λ found. JudgesAll _history.now found.phenomena found.level) }
+    ensures found { IfOk result (λ found. JudgesAll _history.now found.phenomena found.level) }
+    ensures walks { IfOk result (λ found. FindsDueWalks _history.now found.phenomena) }
 {
     find_walks(alloc, nodes, edges)
 }
@@ -78,7 +84,8 @@ pub(crate) fn find_in_sound(
 /// What is found in any sound history that has these dependencies. NoMemory where a growth was refused.
 fn find_walks(alloc: Global, nodes: &Nodes, edges: &Dependencies<'_>) -> Result<Findings, NoMemory>
     requires { All (HasEnds nodes.now) edges.now }
-    ensures { IfOk result (λ found. (h : Recorded) → IsSound h → ((e : Spelled) → Contains edges.now e ↔ IsEdge h e) → JudgesAll h found.phenomena found.level) }
+    ensures found { IfOk result (λ found. (h : Recorded) → IsSound h → ((e : Spelled) → Contains edges.now e ↔ IsEdge h e) → JudgesAll h found.phenomena found.level) }
+    ensures walks { IfOk result (λ found. (h : Recorded) → AreCommitted h nodes.now → ((e : Spelled) → Contains edges.now e ↔ IsEdge h e) → FindsDueWalks h found.phenomena) }
 {
     let writes = graph_of(alloc, nodes, edges, Allowed::Writes)?;
     let flow = graph_of(alloc, nodes, edges, Allowed::Flow)?;
@@ -112,7 +119,8 @@ pub(crate) fn find_at_fault(
     fault: LocalFault,
 ) -> Result<Findings, NoMemory>
     requires { IsAnswer history.now fault }
-    ensures { IfOk result (λ found. JudgesAtFault history.now fault found.phenomena found.level) }
+    ensures found { IfOk result (λ found. JudgesAtFault history.now fault found.phenomena found.level) }
+    ensures walks { IfOk result (λ found. FindsDueWalks history.now found.phenomena) }
 {
     match fault {
         LocalFault::AbortedRead { .. } => find_at_read(alloc, history),
@@ -132,7 +140,8 @@ pub(crate) fn find_at_fault(
 fn find_at_read(alloc: Global, history: &History) -> Result<Findings, NoMemory>
     requires installed { (row : Row) → ¬ Stands history.now (fault.InstallOrder row) }
     requires read { ¬ (MeetsPl2 history.now) }
-    ensures { IfOk result (λ found. JudgesReads history.now found.phenomena found.level) }
+    ensures found { IfOk result (λ found. JudgesReads history.now found.phenomena found.level) }
+    ensures walks { IfOk result (λ found. FindsDueWalks history.now found.phenomena) }
 {
     let g0 = find_listed_circle(alloc, history)?;
     let g1a = find_aborted_read(history);
@@ -155,7 +164,8 @@ fn find_at_read(alloc: Global, history: &History) -> Result<Findings, NoMemory>
 /// The closed walk of write-dependencies, by the rows' lists of installers alone. NoMemory where a growth was refused.
 fn find_listed_circle(alloc: Global, history: &History) -> Result<Finding, NoMemory>
     requires { (row : Row) → ¬ Stands history.now (fault.InstallOrder row) }
-    ensures { IfOk result (FindsWalk (IsG0 history.now)) }
+    ensures found { IfOk result (FindsWalk (IsG0 history.now)) }
+    ensures due { IfOk result (FindsDue (IsBackWalk history.now allowed.Writes)) }
 {
     let nodes = Nodes::of(alloc, history)?;
     let edges = Dependencies::of_writes(alloc, history)?;
@@ -165,7 +175,8 @@ fn find_listed_circle(alloc: Global, history: &History) -> Result<Finding, NoMem
 
 /// What is found where nothing is judged.
 fn find_nothing() -> Findings
-    ensures { JudgesNothing result.phenomena result.level }
+    ensures found { JudgesNothing result.phenomena result.level }
+    ensures walks { (h : Recorded) → FindsDueWalks h result.phenomena }
 {
     Findings {
         phenomena: [

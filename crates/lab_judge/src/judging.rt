@@ -1,6 +1,7 @@
 //! The judgement of a history.
 
 ghost use Rattle.std.specs.Prelude.{◌≡◌, ◌≢◌, ◌⊎◌, ◌↔◌, ◌≤◌, ◌<◌, length, Contains, Ok, Err, Some, IfOk, IfErr, MatchResult, IsUtf8};
+ghost use Rattle.std.specs.List.Sorted.{IsStrictlyIncreasing};
 ghost use Rattle.serde_json.specs.Data.{Data};
 ghost use Rattle.serde_json.specs.Read.{read as read_text};
 ghost use Rattle.lab_history.specs.FaultOf.{IsTrueFault};
@@ -14,7 +15,7 @@ ghost use Rattle.lab_deps.specs.FaultOrder.{IsFirst};
 ghost use Rattle.lab_deps.specs.Refusal.{IsAnswer};
 ghost use Rattle.lab_deps.specs.Soundness.{IsSound};
 ghost use Rattle.lab_deps.specs.declared.edge.Edge.{Edge as Spelled};
-ghost use Rattle.lab_judge.specs.LeastWalks.{HasDueWalk};
+ghost use Rattle.lab_judge.specs.LeastWalks.{HasDueWalk, FindsDueWalks};
 ghost use Rattle.lab_judge.specs.Phenomena.{IsClosedWalk, NoWalk};
 ghost use Rattle.lab_judge.specs.Runs.{HoldsEachOnce};
 ghost use Rattle.lab_judge.specs.BackPoints.{HasBackCircle};
@@ -55,7 +56,8 @@ pub fn judge(alloc: Global, history: &History) -> Result<Report, NoMemory>
     ensures yes { IfOk result (λ report. IsYes report.serial ↔ (IsSound history.now × NoWalk (IsClosedWalk history.now))) }
     ensures placed { IfOk result (λ report. IsPlaced report.snapshot ↔ (IsSound history.now × NoCircle history.now)) }
     ensures least { IfOk result (λ report. IsLeastOrder history.now report.serial) }
-    ensures walks { IfOk result (λ report. HasDueWalk history.now report.serial) }
+    ensures walk { IfOk result (λ report. HasDueWalk history.now report.serial) }
+    ensures walks { IfOk result (λ report. FindsDueWalks history.now report.phenomena) }
     ensures places { IfOk result (λ report. IsLeastPlacing history.now report.snapshot) }
     ensures circle { IfOk result (λ report. HasBackCircle history.now report.snapshot) }
 {
@@ -130,9 +132,11 @@ fn find_beside(
 ) -> Result<Findings, NoMemory>
     requires sound { IsSound history.now }
     requires nodes { HoldsEachOnce history.now nodes.now }
+    requires rising { IsStrictlyIncreasing nodes.now }
     requires edges { (e : Spelled) → Contains edges.now e ↔ IsEdge history.now e }
     requires rests { RestsOnOrder history.now serial.now }
-    ensures { IfOk result (λ found. JudgesAll history.now found.phenomena found.level) }
+    ensures walks { IfOk result (λ found. FindsDueWalks history.now found.phenomena) }
+    ensures found { IfOk result (λ found. JudgesAll history.now found.phenomena found.level) }
 {
     match serial {
         Serial::Yes(_) => Ok(find_none(history)),

@@ -8,6 +8,7 @@ ghost use Rattle.lab_deps.specs.declared.edge.Edge.{Edge as Spelled};
 ghost use Rattle.lab_deps.specs.declared.edge.Kind.{Kind as Sort};
 ghost use Rattle.lab_judge.specs.Graphs.{HasEnds, IsGraphOf, count_others};
 ghost use Rattle.lab_judge.specs.Judgement.{FindsWalk};
+ghost use Rattle.lab_judge.specs.LeastWalks.{AreCommitted, IsBackWalk, FindsDue};
 ghost use Rattle.lab_judge.specs.Openings.{opens, HasEdgesOf, IsClosedOf, IsOpenedWalk, LeadsBack};
 ghost use Rattle.lab_judge.specs.Phenomena.{IsWalk, IsClosedWalk, count_kind};
 ghost use Rattle.lab_judge.specs.declared.findings.opening.Opening.{Opening as Opens};
@@ -33,7 +34,8 @@ pub(crate) fn find_circle(
 ) -> Result<Finding, NoMemory>
     requires ends { All (HasEnds nodes.now) edges.now }
     requires graph { IsGraphOf allowed nodes.now edges.now graph.now }
-    ensures { IfOk result (λ finding. (h : History) → HasEdgesOf h allowed edges.now → FindsWalk (IsClosedOf h allowed) finding) }
+    ensures found { IfOk result (λ finding. (h : History) → HasEdgesOf h allowed edges.now → FindsWalk (IsClosedOf h allowed) finding) }
+    ensures due { IfOk result (λ finding. (h : History) → AreCommitted h nodes.now → HasEdgesOf h allowed edges.now → FindsDue (IsBackWalk h allowed) finding) }
 {
     match order(alloc, graph)? {
         Ordered::Order(_) => Ok(Finding::Absent),

@@ -5,5 +5,9 @@ use Rattle.lab_judge.proofs.SerialVerdicts.{all_have_ends}
 pub find_walks-requires : goal.find_walks-requires
 find_walks-requires c = all_have_ends c.args._history.now c.args.nodes.now c.requires.nodes c.args.edges.now (λ e there. (c.requires.edges e).0 there)
 
-pub returns : goal.returns
-returns c = IfOk-weaker c.find_walks.result _ _ (λ found judges. judges c.args._history.now c.requires.sound c.requires.edges) c.find_walks.ensures
+pub returns-clause-found : goal.returns-clause-found
+returns-clause-found c = IfOk-weaker c.find_walks.result _ _ (λ found judges. judges c.args._history.now c.requires.sound c.requires.edges) c.find_walks.ensures.found
+
+pub returns-clause-walks : goal.returns-clause-walks
+returns-clause-walks c =
+    IfOk-weaker c.find_walks.result _ _ (λ found walks. walks c.args._history.now (record { each_once = c.requires.nodes; rising = c.requires.rising }) c.requires.edges) c.find_walks.ensures.walks

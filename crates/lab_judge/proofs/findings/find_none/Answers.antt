@@ -2,8 +2,8 @@ use Rattle.lab_judge.specs.Phenomena.{NoG1a, NoG1b}
 use Rattle.lab_judge.proofs.Levels.{none_aborted, none_intermediate}
 use Rattle.lab_judge.proofs.findings.find_none.Goals as goal
 
-pub returns : goal.returns
-returns c =
+pub returns-clause-found : goal.returns-clause-found
+returns-clause-found c =
     let none = c.requires.forward in
     let aborted : NoG1a c.args._history.now = none_aborted c.args._history.now c.requires.sound in
     let intermediate : NoG1b c.args._history.now = none_intermediate c.args._history.now c.requires.sound in (
@@ -16,3 +16,6 @@ returns c =
       λ es w. none es w.0,
       ((aborted, intermediate, λ es w. none es w.0), λ es w. none es w.0),
     )
+
+pub returns-clause-walks : goal.returns-clause-walks
+returns-clause-walks c = record { g0 = tt; g1c = tt }
