@@ -23,6 +23,12 @@ pub mod Unreached
 mod ShortestWalks
 mod LeastWalks
 mod LeastCircles
+mod RisingLists
+mod LeastRows
+mod InsertOrUpdate
+mod AnswerKinds
+mod OneOutcome
+mod OneStep
 mod WaitLayers
 pub mod Rising
 pub mod Waiting

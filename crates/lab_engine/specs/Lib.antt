@@ -19,6 +19,7 @@ pub mod Candidates
 pub mod WaitEdges
 pub mod Released
 pub mod LeastCircle
+pub mod Answered
 pub mod RecordingLaws
 pub mod RecordedLog
 pub mod Gathered

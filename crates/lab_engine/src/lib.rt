@@ -35,7 +35,7 @@ mod situation;
 mod version;
 mod waits;
 
-pub use answer_laws::least_circle_unique;
+pub use answer_laws::{least_circle_unique, one_outcome};
 pub use chain::{Chains, Installed};
 pub use engine::{Engine, MAX_EVENTS};
 pub use event::{EngineFault, Level, LogEvent, Outcome, Sessions};

@@ -1,0 +1,123 @@
+-- After a log there is one answer to a command.
+use Rattle.std.proofs.Common.{◌≡◌, inl, inr, ℕ, refl, sym, ap, subst, ◌∙◌, arith, List, [], ◌∷◌}
+use Rattle.std.specs.Prelude.{IsTrue}
+use Rattle.std.proofs.lemmas.Bool.{both_ways}
+use Rattle.std.proofs.lemmas.Option.{same_Some}
+use Rattle.lab_table.specs.Row.{Row}
+use Rattle.lab_table.specs.Table.{Table, Rows, Writes}
+use Rattle.lab_table.specs.Statement.{fails}
+use Rattle.lab_table.specs.declared.statement.Statement.{Statement}
+use Rattle.lab_table.specs.declared.statement.Command.{Command}
+use Rattle.lab_table.specs.declared.statement.Command.TheVariants.{Begin, Commit, Abort, Run}
+use Rattle.lab_table.proofs.Maps.{same_rows}
+use Rattle.lab_history.specs.VersionName.{View}
+use Rattle.lab_engine.specs.declared.event.Level.{Level}
+use Rattle.lab_engine.specs.declared.event.Level.TheVariants.{Snapshot}
+use Rattle.lab_engine.specs.declared.event.EngineFault.TheVariants.{DuplicateKey, OutOfRange, Deadlock, WriteConflict}
+use Rattle.lab_engine.specs.declared.event.Outcome.{Outcome}
+use Rattle.lab_engine.specs.declared.event.Outcome.TheVariants.{Rows as Listed, Waits, Refused}
+use Rattle.lab_engine.specs.Log.{Past, Txn, writers, commits, seen}
+use Rattle.lab_engine.specs.Rules.{BlockedBy, IsFree, IsChain, IsCircle, IsEffect, MayCommit, Conflicts}
+use Rattle.lab_engine.specs.Answer.{Answers}
+use Rattle.lab_engine.proofs.LeastCircles.{one_least_circle}
+use Rattle.lab_engine.proofs.LeastRows.{one_least_row}
+use Rattle.lab_engine.proofs.LockSteps.{none_some}
+use Rattle.lab_engine.proofs.InsertOrUpdate.{not_both}
+use Rattle.lab_engine.proofs.RisingLists.{same_rising, before_end, none_before}
+use Rattle.lab_engine.proofs.AnswerKinds.{FreeAnswer, HeldAnswer, TxnAnswer, IdleAnswer, KnownAnswer, IsFirstFailing, IsLeastConflict, answer_known}
+
+-- one transaction was the first to install a row
+one_installer : (past : Past) (txn : Txn) (row : Row) (by other : ℕ) → Conflicts past txn row by → Conflicts past txn row other → by ≡ other
+one_installer past txn row by other (some, first, newer, is, writes) (again, second, later, alike, wrote) =
+    sym is ∙ ap (λ (t : Txn). t.no) (before_end newer later first second (writers row (commits txn.before)) (sym writes ∙ wrote)) ∙ alike
+
+module _ (level : Level) (setup : Table) (past : Past) (session : ℕ) (txn : Txn) where
+  -- a commit that conflicts may not be
+  no_commit : (row : Row) (by : ℕ) → level ≡ Snapshot → MayCommit level past txn → Conflicts past txn row by → ⊥
+  no_commit row by is may (some, first, newer, is_by, writes) =
+      let all : MayCommit Snapshot past txn = subst (λ l. MayCommit l past txn) is may in
+      none_before newer first (writers row (commits txn.before)) (sym (all row some) ∙ writes)
+
+  one_conflict : (row other : Row) (by number : ℕ) → IsLeastConflict level past txn row by → IsLeastConflict level past txn other number → Refused (WriteConflict row by) ≡ Refused (WriteConflict other number)
+  one_conflict row other by number h k =
+      let same : row ≡ other = one_least_row (λ r. (n : ℕ) × Conflicts past txn r n) row other (by, h.conflict) (number, k.conflict) (λ r below c. h.least r c.0 below c.1) (λ r below c. k.least r c.0 below c.1) in
+      ap (λ r. Refused (WriteConflict r by)) same ∙ ap (λ n. Refused (WriteConflict other n)) (one_installer past txn other by number (subst (λ r. Conflicts past txn r by) same h.conflict) k.conflict)
+
+  module _ (s : Statement) where
+    one_effect : (view view' : View) (rows rows' : Rows) (writes writes' : Writes) → IsEffect level setup past txn s view rows writes → IsEffect level setup past txn s view' rows' writes'
+        → Listed view rows writes ≡ Listed view' rows' writes'
+    one_effect view view' rows rows' writes writes' h k =
+        ap (λ v. Listed v rows writes) (same_rows view view' (λ row. h.view_is row ∙ sym (k.view_is row)))
+        ∙ ap (λ r. Listed view' r writes) (same_rows rows rows' (λ row. h.rows_are row ∙ sym (k.rows_are row)))
+        ∙ ap (λ w. Listed view' rows' w) (same_rows writes writes' (λ row. h.writes_are row ∙ sym (k.writes_are row)))
+
+    one_failing : (row other : Row) → IsFirstFailing level setup past txn s row → IsFirstFailing level setup past txn s other → row ≡ other
+    one_failing row other h k = one_least_row (λ r. IsTrue (fails s r (seen level setup past txn r).state)) row other h.there k.there
+        (λ r below there. both_ways _ (h.least r below) there) (λ r below there. both_ways _ (k.least r below) there)
+
+    one_free : (one other : Outcome) → FreeAnswer level setup past txn s one → FreeAnswer level setup past txn s other → one ≡ other
+    one_free one other (inl (view, rows, writes, h, is)) (inl (view', rows', writes', k, alike)) = is ∙ one_effect view view' rows rows' writes writes' h k ∙ sym alike
+    one_free one other (inl (view, rows, writes, h, is)) (inr (inl (row, insert, there, alike))) = absurd (both_ways _ (h.runs row) there)
+    one_free one other (inl (view, rows, writes, h, is)) (inr (inr (row, k, alike))) = absurd (both_ways _ (h.runs row) k.there)
+    one_free one other (inr (inl (row, insert, there, is))) (inl (view, rows, writes, k, alike)) = absurd (both_ways _ (k.runs row) there)
+    one_free one other (inr (inl (row, insert, there, is))) (inr (inl (row', insert', there', alike))) =
+        is ∙ ap (λ r. Refused (DuplicateKey r)) (same_Some row row' (sym insert ∙ insert')) ∙ sym alike
+    one_free one other (inr (inl (row, insert, there, is))) (inr (inr (row', k, alike))) = absurd (not_both row s insert k.update)
+    one_free one other (inr (inr (row, h, is))) (inl (view, rows, writes, k, alike)) = absurd (both_ways _ (k.runs row) h.there)
+    one_free one other (inr (inr (row, h, is))) (inr (inl (row', insert, there, alike))) = absurd (not_both row' s insert h.update)
+    one_free one other (inr (inr (row, h, is))) (inr (inr (row', k, alike))) = is ∙ ap (λ r. Refused (OutOfRange r)) (one_failing row row' h k) ∙ sym alike
+
+    one_held : (one other : Outcome) → HeldAnswer level setup past session s one → HeldAnswer level setup past session s other → one ≡ other
+    one_held one other (inl (on, h, is)) (inl (on', k, alike)) =
+        is ∙ ap Waits (same_rising on on' h.rising k.rising (λ n c. (k.are n).1 ((h.are n).0 c)) (λ n c. (h.are n).1 ((k.are n).0 c))) ∙ sym alike
+    one_held one other (inl (on, h, is)) (inr (circle, k, alike)) = absurd (h.no_circle circle k.is_circle)
+    one_held one other (inr (circle, h, is)) (inl (on, k, alike)) = absurd (k.no_circle circle h.is_circle)
+    one_held one other (inr (circle, h, is)) (inr (circle', k, alike)) =
+        is ∙ ap (λ (c : List ℕ). Refused (Deadlock c)) (one_least_circle level setup past session s circle circle' h k) ∙ sym alike
+
+    -- the first step of a circle goes to one who blocks the statement
+    chain_blocks : (rest : List ℕ) (goal : ℕ) → IsChain level setup past session s rest goal → (other : ℕ) × BlockedBy level setup past session s other
+    chain_blocks [] goal c = (goal, c)
+    chain_blocks (next ∷ rest) goal c = (next, c.0)
+
+    circle_blocks : (circle : List ℕ) → IsCircle level setup past session s circle → (other : ℕ) × BlockedBy level setup past session s other
+    circle_blocks [] c = absurd c
+    circle_blocks (first ∷ rest) (own, chain) = chain_blocks rest session chain
+
+    -- what somebody blocks isn't free
+    not_free : (outcome : Outcome) → IsFree level setup past session s → HeldAnswer level setup past session s outcome → ⊥
+    not_free outcome free (inl ([], h, is)) = h.some refl
+    not_free outcome free (inl (n ∷ on, h, is)) = free n ((h.are n).0 (0, omega arith, refl))
+    not_free outcome free (inr (circle, h, is)) = let b = circle_blocks circle h.is_circle in free b.0 b.1
+
+  one_of_txn : (command : Command) (one other : Outcome) → TxnAnswer level setup past session txn command one → TxnAnswer level setup past session txn command other → one ≡ other
+  one_of_txn Begin one other is alike = is ∙ sym alike
+  one_of_txn Abort one other is alike = is ∙ sym alike
+  one_of_txn Commit one other (inl (may, is)) (inl (can, alike)) = is ∙ sym alike
+  one_of_txn Commit one other (inl (may, is)) (inr (row, by, k, alike)) = absurd (no_commit row by k.snapshot may k.conflict)
+  one_of_txn Commit one other (inr (row, by, h, is)) (inl (can, alike)) = absurd (no_commit row by h.snapshot can h.conflict)
+  one_of_txn Commit one other (inr (row, by, h, is)) (inr (row', by', k, alike)) = is ∙ one_conflict row row' by by' h k ∙ sym alike
+  one_of_txn (Run s) one other (inl (free, h)) (inl (f, k)) = one_free s one other h k
+  one_of_txn (Run s) one other (inl (free, h)) (inr k) = absurd (not_free s other free k)
+  one_of_txn (Run s) one other (inr h) (inl (free, k)) = absurd (not_free s one free h)
+  one_of_txn (Run s) one other (inr h) (inr k) = one_held s one other h k
+
+one_idle : (past : Past) (command : Command) (one other : Outcome) → IdleAnswer past command one → IdleAnswer past command other → one ≡ other
+one_idle past command one other (inl (begins, is)) (inl (start, alike)) = is ∙ sym alike
+one_idle past command one other (inl (begins, is)) (inr (isnt, alike)) = absurd (isnt begins)
+one_idle past command one other (inr (isnt, is)) (inl (begins, alike)) = absurd (isnt begins)
+one_idle past command one other (inr (isnt, is)) (inr (never, alike)) = is ∙ sym alike
+
+one_known : (level : Level) (setup : Table) (past : Past) (session : ℕ) (command : Command) (one other : Outcome) → KnownAnswer level setup past session command one
+    → KnownAnswer level setup past session command other → one ≡ other
+one_known level setup past session command one other (inl (none, h)) (inl (nobody, k)) = one_idle past command one other h k
+one_known level setup past session command one other (inl (none, h)) (inr (txn, some, k)) = none_some _ (sym none ∙ some)
+one_known level setup past session command one other (inr (txn, some, h)) (inl (none, k)) = none_some _ (sym none ∙ some)
+one_known level setup past session command one other (inr (txn, some, h)) (inr (txn', again, k)) =
+    let same : txn' ≡ txn = same_Some txn' txn (sym again ∙ some) in
+    one_of_txn level setup past session txn command one other h (subst (λ t. TxnAnswer level setup past session t command other) same k)
+
+pub one_answer : (level : Level) (setup : Table) (past : Past) (session : ℕ) (command : Command) (one other : Outcome) → Answers level setup past session command one
+    → Answers level setup past session command other → one ≡ other
+one_answer level setup past session command one other h k =
+    one_known level setup past session command one other (answer_known level setup past session command one h) (answer_known level setup past session command other k)
