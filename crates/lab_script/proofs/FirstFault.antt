@@ -93,7 +93,8 @@ tokens_are_faulty kinds.UnknownStatement kept says spells = nothing_spelled kept
 tokens_are_faulty kinds.BadPredicate kept says spells = nothing_spelled kept says.0 spells
 tokens_are_faulty kinds.NumberOutOfRange kept says spells = nothing_spelled kept says spells
 tokens_are_faulty kinds.TooDeep kept says spells = nothing_spelled kept says.0 spells
-tokens_are_faulty kinds.TooLong kept says spells = nothing_spelled kept says spells
+tokens_are_faulty kinds.TooLong {before = None} kept says spells = nothing_spelled kept says.0 spells
+tokens_are_faulty kinds.TooLong {before = Some script} kept says spells = nothing_spelled kept says spells
 tokens_are_faulty kinds.DuplicateSetupRow kept says spells = nothing_spelled kept says.0 spells
 
 -- a line that is wrong spells nothing

@@ -14,10 +14,10 @@ use Rattle.lab_script.specs.declared.token.Token.{Token}
 use Rattle.lab_script.specs.declared.token.Token.TheVariants as token
 use Rattle.lab_script.specs.Grammar.{IsCommands, IsSetup, IsWholeStatement}
 use Rattle.lab_script.specs.HeldTokens.{held}
-use Rattle.lab_script.specs.Script.{BeginsSetup, HasWhere}
+use Rattle.lab_script.specs.Script.{BeginsSetup, HasWhere, BeginsLongSetup}
 use Rattle.lab_script.specs.Fault.{SpellsNothing, LacksSession, SaysOfTokens}
 use Rattle.lab_script.proofs.Wheres.{where_further}
-use Rattle.lab_script.proofs.KnownTokens.{is_known, AllKnown, commands_known, setup_known, whole_known}
+use Rattle.lab_script.proofs.KnownTokens.{is_known, AllKnown, row_list_known, commands_known, setup_known, whole_known}
 
 -- a token that is one of the grammar, or is held as one, is held as it is
 known_kept : (t : Token) → is_known t ≡ true → held t ≡ t
@@ -91,6 +91,24 @@ where_held (t ∷ ts) (u ∷ us) rest e =
 pub held_where : (ts : List Token) → HasWhere (map held ts) → HasWhere ts
 held_where ts has = where_held ts has.0 has.1 has.2
 
+-- tokens of the grammar stand at the front where they are held there
+kept_front : (ts front rest : List Token) → map held ts ≡ front ++ rest → AllKnown front → (behind : List Token) × (ts ≡ front ++ behind)
+kept_front ts [] rest e known = (ts, refl)
+kept_front [] (u ∷ us) rest e known = absurd cc
+kept_front (t ∷ ts) (u ∷ us) rest e known =
+    let parts = and_parts (is_known u) (list_all is_known us) known in
+    let first : held t ≡ u = cc in
+    let next : map held ts ≡ us ++ rest = cc in
+    let others = kept_front ts us rest next parts.1 in
+    let same : t ≡ u = sym (held_kept t (ap is_known first ∙ parts.0)) ∙ first in
+    (others.0, ap (λ (v : Token). v ∷ ts) same ∙ ap (λ (vs : List Token). u ∷ vs) others.1)
+
+-- and so does a setup
+held_long : (ts : List Token) → BeginsLongSetup (map held ts) → BeginsLongSetup ts
+held_long ts long =
+    let kept = kept_front ts (token.Word word.Setup ∷ long.front) long.behind long.whole (row_list_known long.spelled) in
+    record { rows = long.rows; front = long.front; behind = kept.0; whole = kept.1; spelled = long.spelled; distinct = long.distinct; long = long.long }
+
 held_nothing : (ts : List Token) (before : Option Script) → SpellsNothing (map held ts) before → SpellsNothing ts before
 held_nothing ts None says = (held_begins ts says.0, λ table is. says.1 table (setup_held ts table is))
 held_nothing ts (Some script) says = (λ begins. says.0 (begins_held ts begins), λ cs is room. says.1 cs (commands_held ts cs is) room)
@@ -109,5 +127,6 @@ held_says kinds.UnknownStatement ts remark before says = held_nothing ts before 
 held_says kinds.BadPredicate ts remark before says = (held_nothing ts before says.0, says.1, held_where ts says.2)
 held_says kinds.NumberOutOfRange ts remark before says = held_nothing ts before says
 held_says kinds.TooDeep ts remark before says = (held_nothing ts before says.0, says.1)
-held_says kinds.TooLong ts remark before says = held_nothing ts before says
+held_says kinds.TooLong ts remark None says = (held_nothing ts None says.0, held_long ts says.1)
+held_says kinds.TooLong ts remark (Some script) says = held_nothing ts (Some script) says
 held_says kinds.DuplicateSetupRow ts remark before says = (held_nothing ts before says.0, says.1)

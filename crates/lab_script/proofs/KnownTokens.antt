@@ -130,7 +130,7 @@ rows_known : {ts : List Token} {rows : List (Row × ℤ)} → IsRows ts rows →
 rows_known (IsRows.last is) = row_known is
 rows_known (IsRows.more {ts = ts} {rest = others} is rest) = both ts (token.Comma ∷ others) (row_known is) (rows_known rest)
 
-row_list_known : {ts : List Token} {rows : List (Row × ℤ)} → IsRowList ts rows → AllKnown ts
+pub row_list_known : {ts : List Token} {rows : List (Row × ℤ)} → IsRowList ts rows → AllKnown ts
 row_list_known IsRowList.none = refl
 row_list_known (IsRowList.some is) = rows_known is
 

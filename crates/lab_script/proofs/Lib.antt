@@ -46,3 +46,4 @@ pub mod PrintedScripts
 pub mod EachElement
 pub mod ReservedWords
 pub mod Wheres
+pub mod LongSetups

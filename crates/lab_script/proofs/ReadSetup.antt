@@ -98,16 +98,16 @@ rows_take (suc k) x before ts all e =
     behind_takes k before ts x a.0 (rows_take k x) all (row_onto_takes before ts a.0 a.1) (after token.Comma a.0.1) refl a.2
 
 -- the rows of a setup at the front, and their table
-record TableTaken (ts : List Token) (x : Table × List Token) : Type 0 where
-  rows : List (Row × ℤ)
-  front : List Token
-  text : ts ≡ front ++ x.1
-  spelled : IsRowList front rows
-  distinct : AllDistinct rows
-  table : x.0 ≡ table_of rows
+pub record TableTaken (ts : List Token) (x : Table × List Token) : Type 0 where
+  pub rows : List (Row × ℤ)
+  pub front : List Token
+  pub text : ts ≡ front ++ x.1
+  pub spelled : IsRowList front rows
+  pub distinct : AllDistinct rows
+  pub table : x.0 ≡ table_of rows
 
 -- what is read as the rows of a setup is in the grammar
-table_takes : (ts : List Token) (x : Table × List Token) → table_at ts ≡ Some x → TableTaken ts x
+pub table_takes : (ts : List Token) (x : Table × List Token) → table_at ts ≡ Some x → TableTaken ts x
 unfolding table_at rows_at no_rows_at
 table_takes ts x e = chosen (no_rows_at ts) refl e
   where

@@ -18,7 +18,7 @@ use Rattle.lab_script.specs.declared.script.Script.{Script}
 use Rattle.lab_script.specs.declared.token.Token.{Token}
 use Rattle.lab_script.specs.Token.{tokens}
 use Rattle.lab_script.specs.Grammar.{IsCommands, IsSetup}
-use Rattle.lab_script.specs.Script.{code_of, remark_of, session_of, is_code_byte, is_ascii_code, is_passed, IsFit, BeginsSetup, HasWhere, SpellsStatement, LineSpells, LinesSpell}
+use Rattle.lab_script.specs.Script.{code_of, remark_of, session_of, is_code_byte, is_ascii_code, is_passed, IsFit, BeginsSetup, HasWhere, BeginsLongSetup, SpellsStatement, LineSpells, LinesSpell}
 use Rattle.lab_script.specs.Printed.{newline}
 use Rattle.lab_script.specs.Limits.{max_lines, max_line_bytes, max_commands}
 
@@ -50,7 +50,8 @@ SaysOfTokens kinds.UnknownStatement ts remark before = SpellsNothing ts before
 SaysOfTokens kinds.BadPredicate ts remark before = SpellsNothing ts before × (is_some before ≡ true) × HasWhere ts
 SaysOfTokens kinds.NumberOutOfRange ts remark before = SpellsNothing ts before
 SaysOfTokens kinds.TooDeep ts remark before = SpellsNothing ts before × (is_some before ≡ true)
-SaysOfTokens kinds.TooLong ts remark before = SpellsNothing ts before
+SaysOfTokens kinds.TooLong ts remark None = SpellsNothing ts None × BeginsLongSetup ts
+SaysOfTokens kinds.TooLong ts remark (Some script) = SpellsNothing ts (Some script)
 SaysOfTokens kinds.DuplicateSetupRow ts remark before = SpellsNothing ts before × (before ≡ None)
 
 -- What is wrong with a line with this number, behind what the lines before it spell: it is over a limit;

@@ -1,18 +1,20 @@
 -- Which text spells which script, and which one spells a statement.
-use Rattle.std.specs.Prelude.{◌≡◌, ℕ, ◌+◌, ◌-◌, ◌≤◌, Bool, true, false, not, ◌&&◌, ◌||◌, ◌==◌, nat_le, if◌then◌else◌, List, [], ◌∷◌, ◌++◌, length, drop, map, Option, Some, None}
+use Rattle.std.specs.Prelude.{◌≡◌, ℕ, ℤ, ◌+◌, ◌-◌, ◌≤◌, ◌<◌, Bool, true, false, not, ◌&&◌, ◌||◌, ◌==◌, nat_le, if◌then◌else◌, List, [], ◌∷◌, ◌++◌, length, drop, map, Option, Some, None}
 use Rattle.std.specs.Char.{to_ascii_lowercase, is_ascii_alphanumeric}
+use Rattle.std.specs.FinMap as finite
 use Rattle.std.specs.List.{list_all}
 use Rattle.std.specs.Str.Lines.{lines}
 use Rattle.lab_table.specs.declared.statement.Statement.{Statement}
 use Rattle.lab_table.specs.declared.statement.Command.{Command}
+use Rattle.lab_table.specs.Row.{Row}
 use Rattle.lab_table.specs.Table.{Table}
 use Rattle.lab_script.specs.declared.script.Script.{Script}
 use Rattle.lab_script.specs.declared.token.Word.TheVariants as word
 use Rattle.lab_script.specs.declared.token.Token.{Token}
 use Rattle.lab_script.specs.declared.token.Token.TheVariants as token
 use Rattle.lab_script.specs.Token.{is_blank, tokens}
-use Rattle.lab_script.specs.Grammar.{IsCommands, IsSetup, IsStatement, IsEnd}
-use Rattle.lab_script.specs.Printed.{printed_statement}
+use Rattle.lab_script.specs.Grammar.{IsCommands, IsSetup, IsStatement, IsEnd, IsRowList, AllDistinct}
+use Rattle.lab_script.specs.Printed.{printed_statement, printed_setup}
 use Rattle.lab_script.specs.Limits.{max_lines, max_line_bytes, max_commands, max_statement_bytes}
 
 -- whether a remark begins here
@@ -88,6 +90,16 @@ BeginsSetup ts = (rest : List Token) × (ts ≡ token.Word word.Setup ∷ rest)
 -- whether a where stands among tokens
 abbrev pub HasWhere : List Token → Type 0
 HasWhere ts = (front rest : List Token) × (ts ≡ front ++ token.Word word.Where ∷ rest)
+
+-- tokens that begin with a setup whose printed line is over its limit
+pub record BeginsLongSetup (ts : List Token) : Type 0 where
+  pub rows : List (Row × ℤ)
+  pub front : List Token
+  pub behind : List Token
+  pub whole : ts ≡ token.Word word.Setup ∷ front ++ behind
+  pub spelled : IsRowList front rows
+  pub distinct : AllDistinct rows
+  pub long : max_line_bytes < length (printed_setup (finite.from_entries rows))
 
 -- what the commands of a line's tokens, of the session in its remark, make of a script
 abbrev pub AddsCommands : ℕ → List Token → List ℕ → Script → Script → Type 0

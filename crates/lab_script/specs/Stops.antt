@@ -1,10 +1,14 @@
 -- The kinds of fault with which reading the tokens of a line stops, by what is read.
-use Rattle.std.specs.Prelude.{Bool, true, false, if◌then◌else◌, List, [], ◌∷◌}
+use Rattle.std.specs.Prelude.{◌≡◌, ◌<◌, Bool, true, false, if◌then◌else◌, List, [], ◌∷◌, length, Some}
+use Rattle.lab_table.specs.Table.{Table}
 use Rattle.lab_script.specs.declared.token.Word.TheVariants as word
 use Rattle.lab_script.specs.declared.token.Token.{Token}
 use Rattle.lab_script.specs.declared.token.Token.TheVariants as token
-use Rattle.lab_script.specs.Reading.{is_token}
-use Rattle.lab_script.specs.Script.{HasWhere}
+use Rattle.lab_script.specs.Reading.{is_token, after}
+use Rattle.lab_script.specs.ReadingSetup.{table_at}
+use Rattle.lab_script.specs.Printed.{printed_setup}
+use Rattle.lab_script.specs.Limits.{max_line_bytes}
+use Rattle.lab_script.specs.Script.{HasWhere, BeginsLongSetup}
 use Rattle.lab_script.specs.declared.refusal.GrammarFault.{GrammarFault}
 use Rattle.lab_script.specs.declared.refusal.GrammarFault.TheVariants as grammar
 use Rattle.lab_script.specs.declared.refusal.Refusal.{Refusal}
@@ -51,14 +55,19 @@ OfStatements grammar.TooDeep = Unit {0}
 OfStatements grammar.TooLong = Unit {0}
 OfStatements grammar.DuplicateSetupRow = ⊥
 
--- those of rows, or a setup that is too long
-abbrev pub OfSetup : GrammarFault → Type 0
-OfSetup grammar.UnknownStatement = Unit {0}
-OfSetup grammar.NumberOutOfRange = Unit {0}
-OfSetup grammar.BadPredicate = ⊥
-OfSetup grammar.TooDeep = ⊥
-OfSetup grammar.TooLong = Unit {0}
-OfSetup grammar.DuplicateSetupRow = Unit {0}
+-- those of rows, or too long where that is so
+abbrev pub OfRowsOr : Type 0 → GrammarFault → Type 0
+OfRowsOr IsLong grammar.UnknownStatement = Unit {0}
+OfRowsOr IsLong grammar.NumberOutOfRange = Unit {0}
+OfRowsOr IsLong grammar.BadPredicate = ⊥
+OfRowsOr IsLong grammar.TooDeep = ⊥
+OfRowsOr IsLong grammar.TooLong = IsLong
+OfRowsOr IsLong grammar.DuplicateSetupRow = Unit {0}
+
+-- a table that is read behind the first token has a printed line that is over its limit
+abbrev pub ReadsLong : List Token → Type 0
+ReadsLong ts = (rest behind : List Token) × (table : Table) × (after (token.Word word.Setup) ts ≡ Some rest) × (table_at rest ≡ Some (table, behind))
+    × (max_line_bytes < length (printed_setup table))
 
 -- those of statements, where a wrong token may stand behind a where
 abbrev pub OfLine : List Token → GrammarFault → Type 0
@@ -87,8 +96,14 @@ IsOfRows e = StopsWith OfRows e
 abbrev pub IsOfStatements : Refusal → Type 0
 IsOfStatements e = StopsWith OfStatements e
 
-abbrev pub IsOfSetup : Refusal → Type 0
-IsOfSetup e = StopsWith OfSetup e
+abbrev pub IsOfSetupEnd : Table → Refusal → Type 0
+IsOfSetupEnd table e = StopsWith (OfRowsOr (max_line_bytes < length (printed_setup table))) e
+
+abbrev pub IsOfSetupRead : List Token → Refusal → Type 0
+IsOfSetupRead ts e = StopsWith (OfRowsOr (ReadsLong ts)) e
+
+abbrev pub IsOfSetup : List Token → Refusal → Type 0
+IsOfSetup ts e = StopsWith (OfRowsOr (BeginsLongSetup ts)) e
 
 abbrev pub IsOfLine : List Token → Refusal → Type 0
 IsOfLine ts e = StopsWith (OfLine ts) e

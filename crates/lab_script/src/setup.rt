@@ -5,7 +5,7 @@ ghost use Rattle.lab_table.specs.Table.{Table as Spelled};
 ghost use Rattle.lab_script.specs.Grammar.{IsSetup};
 ghost use Rattle.lab_script.specs.Reading.{Gives};
 ghost use Rattle.lab_script.specs.ReadingSetup.{row_onto, rows_at, no_rows_at, table_at, ends_setup, setup_at};
-ghost use Rattle.lab_script.specs.Stops.{IsOfRows, IsOfSetup};
+ghost use Rattle.lab_script.specs.Stops.{IsOfRows, IsOfSetup, IsOfSetupEnd, IsOfSetupRead};
 
 use crate::fits::setup_fits;
 use crate::parser::Parser;
@@ -75,7 +75,7 @@ impl Parser<'_> {
     /// TooLong where the printed line is over 4,000 bytes; then what stands behind the `;` doesn't matter.
     fn setup_end(&mut self, table: &Table) -> Result<(), Refusal>
         ensures gives { Gives (λ x. x) result (if ends_setup table.now self.old then Some tt else None) }
-        ensures kind { IfErr result IsOfSetup }
+        ensures kind { IfErr result (IsOfSetupEnd table.now) }
     {
         if !self.took(Token::Semicolon) {
             self.nothing_left()?;
@@ -91,7 +91,7 @@ impl Parser<'_> {
     #[tactic(auto, unfolding(crate::specs::ReadingSetup::setup_at))]
     fn setup(&mut self, alloc: Global) -> Result<Table, Refusal>
         ensures gives { Gives (λ x. x) result (setup_at self.old) }
-        ensures kind { IfErr result IsOfSetup }
+        ensures kind { IfErr result (IsOfSetupRead self.old) }
     {
         self.expect(Token::Word(Word::Setup))?;
         let table = self.table(alloc)?;
@@ -111,7 +111,7 @@ pub fn read_setup(alloc: Global, tokens: &[Token]) -> Result<Table, Refusal>
     ensures found { IfOk result (λ table. IsSetup tokens.now table) }
     // What is in the grammar is read, unless memory runs out.
     ensures only { (table : Spelled) → IsSetup tokens.now table → Gives (λ x. x) result (Some table) }
-    ensures kind { IfErr result IsOfSetup }
+    ensures kind { IfErr result (IsOfSetup tokens.now) }
 {
     let mut parser = Parser { rest: tokens };
     parser.setup(alloc)

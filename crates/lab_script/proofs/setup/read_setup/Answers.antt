@@ -1,5 +1,7 @@
 use Rattle.std.proofs.Common.{subst}
+use Rattle.std.proofs.lemmas.Result.{IfErr-weaker}
 use Rattle.lab_script.specs.Reading.{Gives}
+use Rattle.lab_script.proofs.LongSetups.{setup_stops}
 use Rattle.lab_script.proofs.SetupAgain.{setup_again}
 use Rattle.lab_script.proofs.ReadSetup.{setup_found}
 use Rattle.lab_script.proofs.setup.read_setup.Goals as goal
@@ -9,3 +11,6 @@ returns-clause-found c = setup_found c.args.tokens.now c.setup.result c.setup.en
 
 pub returns-clause-only : goal.returns-clause-only
 returns-clause-only c = λ table h. subst (Gives (λ x. x) c.setup.result) (setup_again h) c.setup.ensures.gives
+
+pub returns-clause-kind : goal.returns-clause-kind
+returns-clause-kind c = IfErr-weaker c.setup.result _ _ (setup_stops c.args.tokens.now) c.setup.ensures.kind
