@@ -98,17 +98,22 @@ module _ (h : History) where
     ]
   ]
 
+  -- of two faults of one kind that stand one comes before the other, or they are one
+  pub one_of_kind : (f g : LocalFault) → kind_place f ≡ kind_place g → Stands h f → Stands h g
+      → (ComesBefore h (fault_txn f) (fault_op f) (fault_row f) (fault_txn g) (fault_op g) (fault_row g) → ⊥)
+      → (ComesBefore h (fault_txn g) (fault_op g) (fault_row g) (fault_txn f) (fault_op f) (fault_row f) → ⊥) → f ≡ g
+  one_of_kind f g kinds stands also not_before not_after =
+      let places = same_number (place_among h.txns (fault_txn f)) (place_among h.txns (fault_txn g)) (λ l. not_before (inl l)) (λ l. not_after (inl l)) in
+      let txns = one_transaction f g stands also kinds places in
+      let ops = same_number (fault_op f) (fault_op g) (λ l. not_before (inr (txns, inl l))) (λ l. not_after (inr (sym txns, inl l))) in
+      let rows = one_row (fault_row f) (fault_row g) (λ l. not_before (inr (txns, inr (ops, l)))) (λ l. not_after (inr (sym txns, inr (sym ops, l)))) in
+      same_parts f g kinds txns ops rows
+
   -- a history has one first fault
   pub one_first : (f g : LocalFault) → IsFirst h f → IsFirst h g → f ≡ g
   one_first f g first other =
       let kinds : kind_place f ≡ kind_place g = same_number (kind_place f) (kind_place g) (λ l. other.1 f first.0 (inl l)) (λ l. first.1 g other.0 (inl l)) in
-      let not_before : ComesBefore h (fault_txn f) (fault_op f) (fault_row f) (fault_txn g) (fault_op g) (fault_row g) → ⊥ = λ c. other.1 f first.0 (inr (kinds, c)) in
-      let not_after : ComesBefore h (fault_txn g) (fault_op g) (fault_row g) (fault_txn f) (fault_op f) (fault_row f) → ⊥ = λ c. first.1 g other.0 (inr (sym kinds, c)) in
-      let places = same_number (place_among h.txns (fault_txn f)) (place_among h.txns (fault_txn g)) (λ l. not_before (inl l)) (λ l. not_after (inl l)) in
-      let txns = one_transaction f g first.0 other.0 kinds places in
-      let ops = same_number (fault_op f) (fault_op g) (λ l. not_before (inr (txns, inl l))) (λ l. not_after (inr (sym txns, inl l))) in
-      let rows = one_row (fault_row f) (fault_row g) (λ l. not_before (inr (txns, inr (ops, l)))) (λ l. not_after (inr (sym txns, inr (sym ops, l)))) in
-      same_parts f g kinds txns ops rows
+      one_of_kind f g kinds first.0 other.0 (λ c. other.1 f first.0 (inr (kinds, c))) (λ c. first.1 g other.0 (inr (sym kinds, c)))
 
   -- reads of what was never committed are the last kinds
   reads_last : (f : LocalFault) → is_uncommitted_read f ≡ true → 7 ≤ kind_place f

@@ -1,11 +1,11 @@
 -- A history has one level.
-use Rattle.std.proofs.Common.{◌≡◌, ℕ, ◌+◌, ◌≤◌, Bool, cond, List, [], ◌∷◌, refl, subst, arith}
+use Rattle.std.proofs.Common.{◌≡◌, ℕ, ◌+◌, ◌≤◌, cond, List, [], ◌∷◌, refl, arith}
 use Rattle.std.specs.Prelude.{not}
 use Rattle.lab_history.specs.History.{History}
 use Rattle.lab_deps.specs.declared.edge.Edge.{Edge}
 use Rattle.lab_deps.specs.declared.edge.Kind.{Kind}
 use Rattle.lab_deps.specs.declared.edge.Kind.TheVariants.{Write, ItemRead, PredicateRead, ItemAnti, PredicateAnti}
-use Rattle.lab_judge.specs.Phenomena.{is_write, is_item_anti, count_kind, NoWalk, IsG1c, MeetsPl1, MeetsPl2, MeetsPl299, MeetsPl3, IsGrade}
+use Rattle.lab_judge.specs.Phenomena.{is_write, is_item_anti, count_kind, MeetsPl1, MeetsPl2, MeetsPl299, MeetsPl3, IsGrade}
 use Rattle.lab_judge.specs.Places.{is_anti}
 use Rattle.lab_judge.specs.declared.report.Grade.{Grade}
 use Rattle.lab_judge.specs.declared.report.Grade.TheVariants.{BelowPl1, Pl1, Pl2, Pl299, Pl3, Unsound}

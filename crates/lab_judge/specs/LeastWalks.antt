@@ -81,6 +81,6 @@ pub record FindsDueWalks (h : History) (p : List Finding) : Type 0 where
   pub g0 : FindsDue (IsBackWalk h allowed.Writes) (found.g0 p)
   pub g1c : FindsDue (IsBackWalk h allowed.Flow) (found.g1c p)
 
--- two reports find the same of G0 and of G1c
-abbrev pub FindSameWalks : List Finding → List Finding → Type 0
-FindSameWalks one other = (found.g0 one ≡ found.g0 other) × (found.g1c one ≡ found.g1c other)
+-- two reports find the same of G0, G1a, G1b and G1c
+abbrev pub FindSame : List Finding → List Finding → Type 0
+FindSame one other = (found.g0 one ≡ found.g0 other) × (found.g1a one ≡ found.g1a other) × (found.g1b one ≡ found.g1b other) × (found.g1c one ≡ found.g1c other)

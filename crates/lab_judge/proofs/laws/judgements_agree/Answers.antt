@@ -6,6 +6,6 @@ pub returns : goal.returns
 returns c = record {
   serial = λ h one other first again. serial_agrees h one other first again;
   snapshot = λ h one other first again. snapshot_agrees h one other first again;
-  walks = λ h one other first again. (found_agrees h one other first again).0;
+  found = λ h one other first again. (found_agrees h one other first again).0;
   level = λ h one other first again. (found_agrees h one other first again).1;
 }
