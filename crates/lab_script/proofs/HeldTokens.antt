@@ -14,10 +14,10 @@ use Rattle.lab_script.specs.declared.token.Token.{Token}
 use Rattle.lab_script.specs.declared.token.Token.TheVariants as token
 use Rattle.lab_script.specs.Grammar.{IsCommands, IsSetup, IsWholeStatement}
 use Rattle.lab_script.specs.HeldTokens.{held}
-use Rattle.lab_script.specs.Script.{BeginsSetup, HasWhere, BeginsLongSetup}
+use Rattle.lab_script.specs.Script.{BeginsSetup, HasWhere, BeginsLongSetup, BeginsLongStatement}
 use Rattle.lab_script.specs.Fault.{SpellsNothing, LacksSession, SaysOfTokens}
 use Rattle.lab_script.proofs.Wheres.{where_further}
-use Rattle.lab_script.proofs.KnownTokens.{is_known, AllKnown, row_list_known, commands_known, setup_known, whole_known}
+use Rattle.lab_script.proofs.KnownTokens.{is_known, AllKnown, row_list_known, statement_known, commands_known, setup_known, whole_known}
 
 -- a token that is one of the grammar, or is held as one, is held as it is
 known_kept : (t : Token) → is_known t ≡ true → held t ≡ t
@@ -108,6 +108,29 @@ held_long : (ts : List Token) → BeginsLongSetup (map held ts) → BeginsLongSe
 held_long ts long =
     let kept = kept_front ts (token.Word word.Setup ∷ long.front) long.behind long.whole (row_list_known long.spelled) in
     record { rows = long.rows; front = long.front; behind = kept.0; whole = kept.1; spelled = long.spelled; distinct = long.distinct; long = long.long }
+
+-- and a statement, also before a last token that is none of the grammar
+known_before_last : (us front rest : List Token) → us ++ token.Unknown ∷ [] ≡ front ++ rest → AllKnown front → (behind : List Token) × (us ≡ front ++ behind)
+known_before_last us [] rest e known = (us, refl)
+known_before_last [] (v ∷ vs) rest e known =
+    let first : token.Unknown ≡ v = cc in
+    let is : is_known token.Unknown ≡ true = ap is_known first ∙ (and_parts (is_known v) (list_all is_known vs) known).0 in
+    absurd (cc is)
+known_before_last (u ∷ us) (v ∷ vs) rest e known =
+    let next : us ++ token.Unknown ∷ [] ≡ vs ++ rest = cc in
+    let first : u ≡ v = cc in
+    let others = known_before_last us vs rest next (and_parts (is_known v) (list_all is_known vs) known).1 in
+    (others.0, ap (λ (w : Token). w ∷ us) first ∙ ap (λ (ws : List Token). v ∷ ws) others.1)
+
+pub held_long_statement : (ts : List Token) → BeginsLongStatement (map held ts) → BeginsLongStatement ts
+held_long_statement ts long =
+    let kept = kept_front ts long.front long.behind long.whole (statement_known long.spelled) in
+    record { statement = long.statement; front = long.front; behind = kept.0; whole = kept.1; spelled = long.spelled; long = long.long }
+
+pub long_before_last : (us : List Token) → BeginsLongStatement (us ++ token.Unknown ∷ []) → BeginsLongStatement us
+long_before_last us long =
+    let kept = known_before_last us long.front long.behind long.whole (statement_known long.spelled) in
+    record { statement = long.statement; front = long.front; behind = kept.0; whole = kept.1; spelled = long.spelled; long = long.long }
 
 held_nothing : (ts : List Token) (before : Option Script) → SpellsNothing (map held ts) before → SpellsNothing ts before
 held_nothing ts None says = (held_begins ts says.0, λ table is. says.1 table (setup_held ts table is))

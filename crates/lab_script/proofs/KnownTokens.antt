@@ -94,7 +94,7 @@ id_known (grammar.named id is low high) = number_known is
 row_known : {ts : List Token} {id : Row} {value : ℤ} → IsRow ts id value → AllKnown ts
 row_known (grammar.row {is = is} {vs = vs} id value) = both (token.Open ∷ is ++ token.Comma ∷ vs) (token.Close ∷ []) (both is (token.Comma ∷ vs) (id_known id) (number_known value)) refl
 
-statement_known : {ts : List Token} {s : Statement} → IsStatement ts s → AllKnown ts
+pub statement_known : {ts : List Token} {s : Statement} → IsStatement ts s → AllKnown ts
 statement_known (IsStatement.select is) = where_known is
 statement_known (IsStatement.update {es = es} {ts = ts} value is) = both es ts (expr_known value) (where_known is)
 statement_known (IsStatement.insert is) = row_known is

@@ -47,3 +47,4 @@ pub mod EachElement
 pub mod ReservedWords
 pub mod Wheres
 pub mod LongSetups
+pub mod LongStatements

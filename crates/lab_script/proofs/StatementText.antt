@@ -13,10 +13,10 @@ use Rattle.lab_script.specs.Token.{tokens}
 use Rattle.lab_script.specs.Fault.{SaysOfStatement, IsStatementFault, kind_of, refusal_at}
 use Rattle.lab_script.specs.Grammar.{IsWholeStatement}
 use Rattle.lab_script.specs.HeldTokens.{held_tokens, AreStatementTokens}
-use Rattle.lab_script.specs.Script.{begins_remark, code_of, is_code_byte, HasWhere, SpellsStatement}
+use Rattle.lab_script.specs.Script.{begins_remark, code_of, is_code_byte, HasWhere, BeginsLongStatement, SpellsStatement}
 use Rattle.lab_script.specs.Reading.{Fails}
-use Rattle.lab_script.specs.Stops.{OfLine, IsOfLine}
-use Rattle.lab_script.proofs.HeldTokens.{held_whole, whole_held, held_where}
+use Rattle.lab_script.specs.Stops.{OfLine, IsOfLine, IfTooLong, IsLongSpelled}
+use Rattle.lab_script.proofs.HeldTokens.{held_whole, whole_held, held_where, held_long_statement, long_before_last}
 use Rattle.lab_script.proofs.Wheres.{where_before_last}
 use Rattle.lab_script.proofs.KnownTokens.{closed_known}
 
@@ -80,15 +80,23 @@ module _ (text : List ℕ) (ts : List Token) (are : AreStatementTokens text ts) 
       (λ (cut : _). held_where (tokens (code_of text)) (where_before_last (held_tokens (code_of text)) has.0 has.1 (sym cut.1 ∙ has.2)))
       are
 
-  says_of : (f : GrammarFault) → OfLine ts f → SaysOfStatement (kind_of f) text
-  says_of grammar.UnknownStatement is = (short, ascii)
-  says_of grammar.BadPredicate is = (short, ascii, where_of is)
-  says_of grammar.NumberOutOfRange is = (short, ascii)
-  says_of grammar.TooDeep is = (short, ascii)
-  says_of grammar.TooLong is = inr ascii
-  says_of grammar.DuplicateSetupRow is = is
+  -- and a statement with which they begin
+  long_of : BeginsLongStatement ts → BeginsLongStatement (tokens (code_of text))
+  long_of long =
+      ⊎_elim
+      (λ (all : _). held_long_statement (tokens (code_of text)) (subst BeginsLongStatement (all.1 ∙ ap held_tokens (sym all.0)) long))
+      (λ (cut : _). held_long_statement (tokens (code_of text)) (long_before_last (held_tokens (code_of text)) (subst BeginsLongStatement cut.1 long)))
+      are
+
+  says_of : (f : GrammarFault) → OfLine ts f → IfTooLong (BeginsLongStatement ts) f → SaysOfStatement (kind_of f) text
+  says_of grammar.UnknownStatement is long = (short, ascii)
+  says_of grammar.BadPredicate is long = (short, ascii, where_of is)
+  says_of grammar.NumberOutOfRange is long = (short, ascii)
+  says_of grammar.TooDeep is long = (short, ascii)
+  says_of grammar.TooLong is long = inr (ascii, long_of long)
+  says_of grammar.DuplicateSetupRow is long = is
 
   -- where reading these tokens stopped, the text spells nothing
-  pub stop_fault : (s : Refusal) → ((t : Statement) → IsWholeStatement ts t → Fails s (Some t)) → IsOfLine ts s → IsStatementFault text (refusal_at s 1)
-  stop_fault refusal.NoMemory fails is = tt
-  stop_fault (refusal.Fault f) fails is = (refl, λ t spells. let none = fails t (spelled_tokens t spells) in absurd cc, says_of f is)
+  pub stop_fault : (s : Refusal) → ((t : Statement) → IsWholeStatement ts t → Fails s (Some t)) → IsOfLine ts s → IsLongSpelled ts s → IsStatementFault text (refusal_at s 1)
+  stop_fault refusal.NoMemory fails is long = tt
+  stop_fault (refusal.Fault f) fails is long = (refl, λ t spells. let none = fails t (spelled_tokens t spells) in absurd cc, says_of f is long)

@@ -18,7 +18,7 @@ use Rattle.lab_script.specs.declared.script.Script.{Script}
 use Rattle.lab_script.specs.declared.token.Token.{Token}
 use Rattle.lab_script.specs.Token.{tokens}
 use Rattle.lab_script.specs.Grammar.{IsCommands, IsSetup}
-use Rattle.lab_script.specs.Script.{code_of, remark_of, session_of, is_code_byte, is_ascii_code, is_passed, IsFit, BeginsSetup, HasWhere, BeginsLongSetup, SpellsStatement, LineSpells, LinesSpell}
+use Rattle.lab_script.specs.Script.{code_of, remark_of, session_of, is_code_byte, is_ascii_code, is_passed, IsFit, BeginsSetup, HasWhere, BeginsLongSetup, BeginsLongStatement, SpellsStatement, LineSpells, LinesSpell}
 use Rattle.lab_script.specs.Printed.{newline}
 use Rattle.lab_script.specs.Limits.{max_lines, max_line_bytes, max_commands}
 
@@ -97,7 +97,7 @@ IsTokensFault number ts remark before (fault.At n kind) = (n ≡ number) × Says
 -- or its tokens are wrong.
 abbrev pub SaysOfStatement : ScriptFaultKind → List ℕ → Type 0
 SaysOfStatement kinds.NotAscii text = (length text ≤ max_line_bytes) × (list_all is_code_byte text ≡ false)
-SaysOfStatement kinds.TooLong text = (max_line_bytes < length text) ⊎ (list_all is_code_byte text ≡ true)
+SaysOfStatement kinds.TooLong text = (max_line_bytes < length text) ⊎ ((list_all is_code_byte text ≡ true) × BeginsLongStatement (tokens (code_of text)))
 SaysOfStatement kinds.NoSetup text = ⊥
 SaysOfStatement kinds.SetupRepeated text = ⊥
 SaysOfStatement kinds.NoSession text = ⊥

@@ -101,6 +101,15 @@ pub record BeginsLongSetup (ts : List Token) : Type 0 where
   pub distinct : AllDistinct rows
   pub long : max_line_bytes < length (printed_setup (finite.from_entries rows))
 
+-- tokens that begin with a statement whose printed form is over its limit
+pub record BeginsLongStatement (ts : List Token) : Type 0 where
+  pub statement : Statement
+  pub front : List Token
+  pub behind : List Token
+  pub whole : ts ≡ front ++ behind
+  pub spelled : IsStatement front statement
+  pub long : max_statement_bytes < length (printed_statement statement)
+
 -- what the commands of a line's tokens, of the session in its remark, make of a script
 abbrev pub AddsCommands : ℕ → List Token → List ℕ → Script → Script → Type 0
 AddsCommands number ts remark before after =

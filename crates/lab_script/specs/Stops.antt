@@ -1,14 +1,16 @@
 -- The kinds of fault with which reading the tokens of a line stops, by what is read.
 use Rattle.std.specs.Prelude.{◌≡◌, ◌<◌, Bool, true, false, if◌then◌else◌, List, [], ◌∷◌, length, Some}
 use Rattle.lab_table.specs.Table.{Table}
+use Rattle.lab_table.specs.declared.statement.Statement.{Statement}
 use Rattle.lab_script.specs.declared.token.Word.TheVariants as word
 use Rattle.lab_script.specs.declared.token.Token.{Token}
 use Rattle.lab_script.specs.declared.token.Token.TheVariants as token
 use Rattle.lab_script.specs.Reading.{is_token, after}
 use Rattle.lab_script.specs.ReadingSetup.{table_at}
-use Rattle.lab_script.specs.Printed.{printed_setup}
-use Rattle.lab_script.specs.Limits.{max_line_bytes}
-use Rattle.lab_script.specs.Script.{HasWhere, BeginsLongSetup}
+use Rattle.lab_script.specs.Printed.{printed_setup, printed_statement}
+use Rattle.lab_script.specs.ReadingStatements.{statement_at}
+use Rattle.lab_script.specs.Limits.{max_line_bytes, max_statement_bytes}
+use Rattle.lab_script.specs.Script.{HasWhere, BeginsLongSetup, BeginsLongStatement}
 use Rattle.lab_script.specs.declared.refusal.GrammarFault.{GrammarFault}
 use Rattle.lab_script.specs.declared.refusal.GrammarFault.TheVariants as grammar
 use Rattle.lab_script.specs.declared.refusal.Refusal.{Refusal}
@@ -83,6 +85,19 @@ abbrev pub in_predicate : Bool → List Token → Bool
 in_predicate inside [] = inside
 in_predicate inside (t ∷ ts) = in_predicate (if is_token t (token.Word word.Where) then true else if is_token t token.Semicolon then false else inside) ts
 
+-- whatever it is, this holds where it is too long
+abbrev pub IfTooLong : Type 0 → GrammarFault → Type 0
+IfTooLong IsLong grammar.UnknownStatement = Unit {0}
+IfTooLong IsLong grammar.NumberOutOfRange = Unit {0}
+IfTooLong IsLong grammar.BadPredicate = Unit {0}
+IfTooLong IsLong grammar.TooDeep = Unit {0}
+IfTooLong IsLong grammar.TooLong = IsLong
+IfTooLong IsLong grammar.DuplicateSetupRow = Unit {0}
+
+-- a statement that is read first has a printed form that is over its limit
+abbrev pub ReadsLongStatement : List Token → Type 0
+ReadsLongStatement ts = (s : Statement) × (behind : List Token) × (statement_at ts ≡ Some (s, behind)) × (max_statement_bytes < length (printed_statement s))
+
 -- the same of why reading stopped
 abbrev pub IsOfTokens : Refusal → Type 0
 IsOfTokens e = StopsWith OfTokens e
@@ -107,3 +122,9 @@ IsOfSetup ts e = StopsWith (OfRowsOr (BeginsLongSetup ts)) e
 
 abbrev pub IsOfLine : List Token → Refusal → Type 0
 IsOfLine ts e = StopsWith (OfLine ts) e
+
+abbrev pub IsLongRead : List Token → Refusal → Type 0
+IsLongRead ts e = StopsWith (IfTooLong (ReadsLongStatement ts)) e
+
+abbrev pub IsLongSpelled : List Token → Refusal → Type 0
+IsLongSpelled ts e = StopsWith (IfTooLong (BeginsLongStatement ts)) e

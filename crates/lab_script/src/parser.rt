@@ -6,7 +6,7 @@ ghost use Rattle.lab_table.specs.declared.statement.Command.{Command as Spelled}
 ghost use Rattle.lab_table.specs.declared.statement.Statement.{Statement as SpelledStatement};
 ghost use Rattle.lab_script.specs.Grammar.{IsCommands, IsWholeStatement};
 ghost use Rattle.lab_script.specs.Reading.{after, after_all, digits_at, magnitude_at, number_at, Fails, Gives};
-ghost use Rattle.lab_script.specs.Stops.{IsOfTokens, IsOfStatements, IsOfLine, in_predicate};
+ghost use Rattle.lab_script.specs.Stops.{IsOfTokens, IsOfStatements, IsOfLine, IsLongSpelled, in_predicate};
 
 use crate::refusal::{GrammarFault, Refusal};
 use crate::token::{Token, Word};
@@ -167,6 +167,7 @@ pub fn read_statement(alloc: Global, tokens: &[Token]) -> Result<Statement, Refu
     // What is in the grammar is read, unless memory runs out.
     ensures only { (statement : SpelledStatement) → IsWholeStatement tokens.now statement → Gives (λ x. x) result (Some statement) }
     ensures kind { IfErr result (IsOfLine tokens.now) }
+    ensures long { IfErr result (IsLongSpelled tokens.now) }
 {
     let mut parser = Parser { rest: tokens };
     match parser.whole_statement(alloc) {
@@ -180,6 +181,7 @@ fn placed(refusal: Refusal, tokens: &[Token], left: usize) -> Refusal
     ensures stops { (read : Option (List Spelled)) → Fails refusal read → Fails result read }
     ensures stops_statement { (read : Option SpelledStatement) → Fails refusal read → Fails result read }
     ensures kind { IsOfStatements refusal → IsOfLine tokens.now result }
+    ensures long { IsLongSpelled tokens.now refusal → IsLongSpelled tokens.now result }
 {
     match refusal {
         Refusal::Fault(GrammarFault::UnknownStatement) => {

@@ -7,7 +7,7 @@ ghost use Rattle.lab_script.specs.Limits.{max_statement_bytes};
 ghost use Rattle.lab_script.specs.Printed.{printed_statement};
 ghost use Rattle.lab_script.specs.Reading.{Gives, RefusesTooLong};
 ghost use Rattle.lab_script.specs.ReadingStatements.{expr_at, select_at, update_at, insert_at, delete_at, statement_at, ended_at, whole_statement_at};
-ghost use Rattle.lab_script.specs.Stops.{IsOfStatement, IsOfStatements, IsOfTokens};
+ghost use Rattle.lab_script.specs.Stops.{IsOfStatement, IsOfStatements, IsOfTokens, IsLongRead};
 
 use crate::fits::statement_fits;
 use crate::parser::Parser;
@@ -25,6 +25,7 @@ impl Parser<'_> {
         ensures long { (s : Spelled) (end behind : List Shown) → (statement_at self.old ≡ Some (s, end)) → (ended_at end ≡ Some behind)
             → max_statement_bytes < length (printed_statement s) → RefusesTooLong result }
         ensures kind { IfErr result IsOfStatements }
+        ensures over { IfErr result (IsLongRead self.old) }
     {
         let statement = self.statement(alloc)?;
         self.ended()?;
@@ -155,6 +156,7 @@ pub fn check_length(statement: &Statement) -> Result<(), Refusal>
     ensures gives { Gives (λ x. x) result (if nat_le (length (printed_statement statement.now)) max_statement_bytes then Some tt else None) }
     ensures long { OnErr result (RefusesTooLong result) }
     ensures kind { IfErr result IsOfStatements }
+    ensures over { OnErr result (max_statement_bytes < length (printed_statement statement.now)) }
 {
     if statement_fits(statement) {
         Ok(())

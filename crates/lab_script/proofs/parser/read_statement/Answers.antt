@@ -1,6 +1,7 @@
 use Rattle.std.proofs.Common.{sym, ◌∙◌, subst}
 use Rattle.lab_script.specs.Reading.{Fails}
 use Rattle.lab_script.proofs.ReadStatements.{whole_takes, whole_again}
+use Rattle.lab_script.proofs.LongStatements.{statement_stops}
 use Rattle.lab_script.proofs.parser.read_statement.Goals as goal
 
 pub returns-in-Ok-clause-found : goal.returns-in-Ok-clause-found
@@ -11,3 +12,7 @@ returns-in-Ok-clause-only c = λ statement h. sym (whole_again h) ∙ c.in-Ok.en
 
 pub returns-in-Err-clause-only : goal.returns-in-Err-clause-only
 returns-in-Err-clause-only c = λ statement h. subst (Fails c.placed.result) (whole_again h) (c.placed.ensures.stops_statement _ c.in-Err.ensures.gives)
+
+pub returns-in-Err-clause-long : goal.returns-in-Err-clause-long
+returns-in-Err-clause-long c =
+    c.placed.ensures.long (statement_stops c.args.tokens.now c.in-Err.refusal c.in-Err.ensures.over)
