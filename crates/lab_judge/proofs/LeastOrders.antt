@@ -33,7 +33,7 @@ all_cons P x xs first rest (suc k) d lt = rest k d (omega (arith, lt))
 
 module _ (ns : List ℕ) (up : IsStrictlyIncreasing ns) where
   -- a greater node has a greater number
-  rises : (a b : ℕ) → a < b → b < length ns → slice_index ns a < slice_index ns b
+  pub rises : (a b : ℕ) → a < b → b < length ns → slice_index ns a < slice_index ns b
   rises a b l within = below_from_sorted ns a b 0 (sorted_from_strictly_increasing ns up) l within
 
   -- lists of nodes compare as the lists of their numbers

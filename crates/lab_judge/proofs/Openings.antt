@@ -32,7 +32,7 @@ within_nodes nodes es ends e there = let has : HasEnds nodes e = All-contains (H
 module _ (opening : Opening) (graph : Arrows) (nodes : List ℕ) (es : List Edge) (ends : All (HasEnds nodes) es) (bits : ℕ)
     (told : (kind : Kind) → has_bit bits kind ≡ opens opening kind) (from : ℕ) where
   -- an edge from a node that is of an opening kind
-  tied_by : (e : Edge) → Contains es e → position nodes e.from ≡ from → opens opening e.kind ≡ true → list_any (ties (has_bit bits) nodes from (position nodes e.to)) es ≡ true
+  pub tied_by : (e : Edge) → Contains es e → position nodes e.from ≡ from → opens opening e.kind ≡ true → list_any (ties (has_bit bits) nodes from (position nodes e.to)) es ≡ true
   tied_by e there at opened =
       passes_some (ties (has_bit bits) nodes from (position nodes e.to)) es e there
       (and_from (has_bit bits e.kind) (position nodes e.from == from && position nodes e.to == position nodes e.to) (told e.kind ∙ opened)

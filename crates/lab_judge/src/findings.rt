@@ -83,7 +83,8 @@ pub(crate) fn find_in_sound(
 
 /// What is found in any sound history that has these dependencies. NoMemory where a growth was refused.
 fn find_walks(alloc: Global, nodes: &Nodes, edges: &Dependencies<'_>) -> Result<Findings, NoMemory>
-    requires { All (HasEnds nodes.now) edges.now }
+    requires ends { All (HasEnds nodes.now) edges.now }
+    requires rising { IsStrictlyIncreasing nodes.now }
     ensures found { IfOk result (λ found. (h : Recorded) → IsSound h → ((e : Spelled) → Contains edges.now e ↔ IsEdge h e) → JudgesAll h found.phenomena found.level) }
     ensures walks { IfOk result (λ found. (h : Recorded) → AreCommitted h nodes.now → ((e : Spelled) → Contains edges.now e ↔ IsEdge h e) → FindsDueWalks h found.phenomena) }
 {

@@ -2,6 +2,7 @@
 
 ghost use Rattle.std.specs.Prelude.{◌≡◌, ◌≤◌, ◌↔◌, Bool, Contains, IfOk, length, true};
 ghost use Rattle.std.specs.List.{All};
+ghost use Rattle.std.specs.List.Sorted.{IsStrictlyIncreasing};
 ghost use Rattle.lab_history.specs.History.{History};
 ghost use Rattle.lab_deps.specs.Edges.{IsEdge};
 ghost use Rattle.lab_deps.specs.declared.edge.Edge.{Edge as Spelled};
@@ -58,6 +59,7 @@ pub(crate) fn find_opened(
 ) -> Result<Finding, NoMemory>
     requires ends { All (HasEnds nodes.now) edges.now }
     requires graph { IsGraphOf allowed nodes.now edges.now graph.now }
+    requires rising { IsStrictlyIncreasing nodes.now }
     ensures { IfOk result (λ finding. (h : History) → ((e : Spelled) → Contains edges.now e ↔ IsEdge h e) → FindsWalk (IsOpenedWalk h opening allowed) finding) }
 {
     match first_opening(alloc, graph, nodes, edges, opening)? {

@@ -2,8 +2,11 @@
 
 ghost use Rattle.std.specs.Prelude.{◌≡◌, ◌<◌, ℕ, true, false, Contains, None, IfOk, IfSome, length};
 ghost use Rattle.std.specs.List.{All, list_any};
+ghost use Rattle.std.specs.List.Sorted.{IsStrictlyIncreasing};
+ghost use Rattle.std.specs.Ordering.{is_lt};
 ghost use Rattle.lab_order.specs.Arrows.{nodes_of};
 ghost use Rattle.lab_order.specs.Order.{position};
+ghost use Rattle.lab_deps.specs.EdgeOrder.{edge_cmp};
 ghost use Rattle.lab_deps.specs.KindBits.{has_bit};
 ghost use Rattle.lab_deps.specs.declared.edge.Edge.{Edge as Spelled};
 ghost use Rattle.lab_deps.specs.declared.edge.Kind.{Kind as Way};
@@ -50,8 +53,10 @@ pub(crate) fn first_opening(
     opening: Opening,
 ) -> Result<Option<Edge>, NoMemory>
     requires nodes { nodes_of graph.now ≡ length nodes.now }
+    requires rising { IsStrictlyIncreasing nodes.now }
     requires ends { All (HasEnds nodes.now) edges.now }
     ensures found { IfOk result (λ found. IfSome found (λ e. Contains edges.now e × IsOpening opening graph.now nodes.now e)) }
+    ensures first { IfOk result (λ found. IfSome found (λ e. (other : Spelled) → Contains edges.now other → IsOpening opening graph.now nodes.now other → is_lt (edge_cmp other e) ≡ false)) }
     ensures none { IfOk result (λ found. found ≡ None → All (λ e. ¬ IsOpening opening graph.now nodes.now e) edges.now) }
 {
     for from in 0..nodes.len() {
@@ -74,9 +79,13 @@ fn first_from(
     from: u32,
 ) -> Result<Option<Edge>, NoMemory>
     requires nodes { nodes_of graph.now ≡ length nodes.now }
+    requires rising { IsStrictlyIncreasing nodes.now }
     requires ends { All (HasEnds nodes.now) edges.now }
     requires from { from < length nodes.now }
     ensures found { IfOk result (λ found. IfSome found (λ e. Contains edges.now e × IsOpening opening graph.now nodes.now e)) }
+    ensures from { IfOk result (λ found. IfSome found (λ e. position nodes.now e.from ≡ from)) }
+    ensures first { IfOk result (λ found. IfSome found (λ e. (other : Spelled) → Contains edges.now other → position nodes.now other.from ≡ from → IsOpening opening graph.now nodes.now other
+        → is_lt (edge_cmp other e) ≡ false)) }
     ensures none { IfOk result (λ found. found ≡ None → (e : Spelled) → Contains edges.now e → position nodes.now e.from ≡ from → ¬ IsOpening opening graph.now nodes.now e) }
 {
     let kinds = opening.kinds();
@@ -116,6 +125,7 @@ fn first_reaching(
     requires from { from < length nodes.now }
     requires marks { length reach.now ≡ length nodes.now }
     ensures found { IfSome result (λ to. (to < length nodes.now) × (is_marked reach.now to ≡ true) × (list_any (ties (has_bit kinds.bits) nodes.now from to) edges.now ≡ true)) }
+    ensures least { IfSome result (λ to. (k : ℕ) → k < to → is_marked reach.now k ≡ true → list_any (ties (has_bit kinds.bits) nodes.now from k) edges.now ≡ false) }
     ensures none { result ≡ None → (to : ℕ) → to < length nodes.now → is_marked reach.now to ≡ true → list_any (ties (has_bit kinds.bits) nodes.now from to) edges.now ≡ false }
 {
     for to in 0..nodes.len() {

@@ -2,8 +2,8 @@ use Rattle.std.proofs.lemmas.Result.{IfOk-weaker}
 use Rattle.lab_judge.proofs.findings.find_in_sound.Goals as goal
 use Rattle.lab_judge.proofs.SerialVerdicts.{all_have_ends}
 
-pub find_walks-requires : goal.find_walks-requires
-find_walks-requires c = all_have_ends c.args._history.now c.args.nodes.now c.requires.nodes c.args.edges.now (λ e there. (c.requires.edges e).0 there)
+pub find_walks-requires-clause-ends : goal.find_walks-requires-clause-ends
+find_walks-requires-clause-ends c = all_have_ends c.args._history.now c.args.nodes.now c.requires.nodes c.args.edges.now (λ e there. (c.requires.edges e).0 there)
 
 pub returns-clause-found : goal.returns-clause-found
 returns-clause-found c = IfOk-weaker c.find_walks.result _ _ (λ found judges. judges c.args._history.now c.requires.sound c.requires.edges) c.find_walks.ensures.found
