@@ -4,16 +4,21 @@ use Rattle.std.specs.Ordering.{is_lt}
 use Rattle.std.specs.List.Sorted.{IsStrictlyIncreasing}
 use Rattle.lab_order.specs.Arrows.{Arrows, nodes_of, has_arrow}
 use Rattle.lab_order.specs.Back.{IsBackCircle}
+use Rattle.lab_order.specs.Least.{IsLeast}
 use Rattle.lab_order.specs.Order.{position}
+use Rattle.lab_order.specs.Path.{IsShortestPath}
 use Rattle.lab_history.specs.History.{History}
 use Rattle.lab_deps.specs.Edges.{IsEdge}
 use Rattle.lab_deps.specs.EdgeOrder.{edge_cmp}
 use Rattle.lab_deps.specs.declared.edge.Edge.{Edge}
 use Rattle.lab_judge.specs.Allowed.{allows}
 use Rattle.lab_judge.specs.Findings as found
+use Rattle.lab_judge.specs.Openings.{IsOpening}
 use Rattle.lab_judge.specs.Runs.{HoldsEachOnce}
 use Rattle.lab_judge.specs.declared.allowed.Allowed.{Allowed}
 use Rattle.lab_judge.specs.declared.allowed.Allowed.TheVariants as allowed
+use Rattle.lab_judge.specs.declared.findings.opening.Opening.{Opening}
+use Rattle.lab_judge.specs.declared.findings.opening.Opening.TheVariants as opening
 use Rattle.lab_judge.specs.declared.report.Finding.{Finding}
 use Rattle.lab_judge.specs.declared.report.Finding.TheVariants.{Absent, Walk, At, NotJudged}
 use Rattle.lab_judge.specs.declared.serial.Serial.{Serial}
@@ -63,6 +68,39 @@ pub record IsBackWalk (h : History) (allowed : Allowed) (walk : List Edge) : Typ
   pub back : IsBackCircle graph circle
   pub round : GoesRound h allowed txns circle walk
 
+-- such a walk along a path, from its first node on
+abbrev pub GoesBy : History → Allowed → List ℕ → List ℕ → List Edge → Type 0
+GoesBy h allowed txns [] walk = ⊥
+GoesBy h allowed txns (n ∷ way) walk = GoesAlong h allowed txns n way walk
+
+-- the way back of an edge: such a walk along the least of the shortest paths from where it ends to where it begins
+pub record IsWayBack (h : History) (allowed : Allowed) (graph : Arrows) (txns : List ℕ) (e : Edge) (back : List Edge) : Type 0 where
+  pub path : List ℕ
+  pub least : IsLeast (IsShortestPath graph (position txns e.to) (position txns e.from)) path
+  pub goes : GoesBy h allowed txns path back
+
+-- the first edge, in the order in which edges are listed, that opens a walk and from which a path leads back
+pub record IsFirstOpening (h : History) (opening : Opening) (graph : Arrows) (txns : List ℕ) (e : Edge) : Type 0 where
+  pub edge : IsEdge h e
+  pub opens : IsOpening opening graph txns e
+  pub first : (other : Edge) → IsEdge h other → IsOpening opening graph txns other → is_lt (edge_cmp other e) ≡ false
+
+-- the same edges in the same round, maybe begun with another
+abbrev pub IsTurnOf : List Edge → List Edge → Type 0
+IsTurnOf round walk = (front : List Edge) × (rest : List Edge) × (round ≡ front ++ rest) × (walk ≡ rest ++ front)
+
+-- the round of the first edge that opens a walk and of its way back
+pub record IsOpenedRound (h : History) (opening : Opening) (allowed : Allowed) (walk : List Edge) : Type 0 where
+  pub txns : List ℕ
+  pub committed : AreCommitted h txns
+  pub graph : Arrows
+  pub edges : IsEdgeGraph h allowed txns graph
+  pub edge : Edge
+  pub first : IsFirstOpening h opening graph txns edge
+  pub back : List Edge
+  pub way : IsWayBack h allowed graph txns edge back
+  pub turned : IsTurnOf (edge ∷ back) walk
+
 -- the closed walk of a serial no is the one on the way back
 abbrev pub HasDueWalk : History → Serial → Type 0
 HasDueWalk h (serial.Yes order) = ⊤
@@ -76,10 +114,13 @@ FindsDue is_due (Walk walk) = is_due walk
 FindsDue is_due (At n k row) = ⊤
 FindsDue is_due NotJudged = ⊤
 
--- the walks that are found of G0 and G1c are those on the way back, over writes and over all that is no anti-dependency
+-- the walks that are found of G0 and G1c are those on the way back, over writes and over all that is no anti-dependency; the others are rounds of a first anti-dependency
 pub record FindsDueWalks (h : History) (p : List Finding) : Type 0 where
   pub g0 : FindsDue (IsBackWalk h allowed.Writes) (found.g0 p)
   pub g1c : FindsDue (IsBackWalk h allowed.Flow) (found.g1c p)
+  pub g_single : FindsDue (IsOpenedRound h opening.Anti allowed.Flow) (found.g_single p)
+  pub g2_item : FindsDue (IsOpenedRound h opening.ItemAnti allowed.All) (found.g2_item p)
+  pub g2 : FindsDue (IsOpenedRound h opening.Anti allowed.All) (found.g2 p)
 
 -- two reports find the same of G0, G1a, G1b and G1c
 abbrev pub FindSame : List Finding → List Finding → Type 0

@@ -1,6 +1,6 @@
 //! Closed walks of dependencies.
 
-ghost use Rattle.std.specs.Prelude.{◌≡◌, ◌≤◌, ◌↔◌, Bool, Contains, IfOk, length, true};
+ghost use Rattle.std.specs.Prelude.{◌≡◌, ◌≤◌, ◌↔◌, ◌∷◌, List, Bool, Contains, IfOk, length, true};
 ghost use Rattle.std.specs.List.{All};
 ghost use Rattle.std.specs.List.Sorted.{IsStrictlyIncreasing};
 ghost use Rattle.lab_history.specs.History.{History};
@@ -9,7 +9,7 @@ ghost use Rattle.lab_deps.specs.declared.edge.Edge.{Edge as Spelled};
 ghost use Rattle.lab_deps.specs.declared.edge.Kind.{Kind as Sort};
 ghost use Rattle.lab_judge.specs.Graphs.{HasEnds, IsGraphOf, count_others};
 ghost use Rattle.lab_judge.specs.Judgement.{FindsWalk};
-ghost use Rattle.lab_judge.specs.LeastWalks.{AreCommitted, IsBackWalk, FindsDue};
+ghost use Rattle.lab_judge.specs.LeastWalks.{AreCommitted, IsBackWalk, IsWayBack, IsTurnOf, IsOpenedRound, FindsDue};
 ghost use Rattle.lab_judge.specs.Openings.{opens, HasEdgesOf, IsClosedOf, IsOpenedWalk, LeadsBack};
 ghost use Rattle.lab_judge.specs.Phenomena.{IsWalk, IsClosedWalk, count_kind};
 ghost use Rattle.lab_judge.specs.declared.findings.opening.Opening.{Opening as Opens};
@@ -60,7 +60,8 @@ pub(crate) fn find_opened(
     requires ends { All (HasEnds nodes.now) edges.now }
     requires graph { IsGraphOf allowed nodes.now edges.now graph.now }
     requires rising { IsStrictlyIncreasing nodes.now }
-    ensures { IfOk result (λ finding. (h : History) → ((e : Spelled) → Contains edges.now e ↔ IsEdge h e) → FindsWalk (IsOpenedWalk h opening allowed) finding) }
+    ensures found { IfOk result (λ finding. (h : History) → ((e : Spelled) → Contains edges.now e ↔ IsEdge h e) → FindsWalk (IsOpenedWalk h opening allowed) finding) }
+    ensures due { IfOk result (λ finding. (h : History) → AreCommitted h nodes.now → ((e : Spelled) → Contains edges.now e ↔ IsEdge h e) → FindsDue (IsOpenedRound h opening allowed) finding) }
 {
     match first_opening(alloc, graph, nodes, edges, opening)? {
         None => Ok(Finding::Absent),
@@ -88,6 +89,8 @@ fn closed_by(
     ensures closed { IfOk result (λ walk. (h : History) → ((e : Spelled) → Contains edges.now e → IsEdge h e) → IsClosedWalk h walk.items) }
     ensures opened { IfOk result (λ walk. (opening : Opens) → opens opening edge.now.kind ≡ true → 1 ≤ count_kind (opens opening) walk.items) }
     ensures allowed { IfOk result (λ walk. count_others allowed walk.items ≤ 1) }
+    ensures round { IfOk result (λ walk. (h : History) → HasEdgesOf h allowed edges.now
+        → (back : List Spelled) × IsWayBack h allowed graph.now nodes.now edge.now back × IsTurnOf (edge.now ∷ back) walk.items) }
 {
     let mut walk = way_back(alloc, nodes, edges, allowed, graph, edge)?;
     walk.insert(0, *edge)?;
@@ -110,6 +113,7 @@ fn way_back(
     requires back { LeadsBack graph.now nodes.now edge.now }
     ensures walk { IfOk result (λ walk. (h : History) → ((e : Spelled) → Contains edges.now e → IsEdge h e) → IsWalk h edge.now.to walk.items edge.now.from) }
     ensures allowed { IfOk result (λ walk. count_others allowed walk.items ≡ 0) }
+    ensures least { IfOk result (λ walk. (h : History) → HasEdgesOf h allowed edges.now → IsWayBack h allowed graph.now nodes.now edge.now walk.items) }
 {
     let Some(nodes_back) = path(alloc, graph, nodes.place(edge.to), nodes.place(edge.from))? else {
         unreachable!()
@@ -124,6 +128,7 @@ fn way_back(
 fn with_least_first(walk: Vec<Edge>) -> Vec<Edge>
     ensures closed { (h : History) → IsClosedWalk h walk.items → IsClosedWalk h result.items }
     ensures kinds { (test : Sort → Bool) → count_kind test result.items ≡ count_kind test walk.items }
+    ensures turn { IsTurnOf walk.items result.items }
 {
     let mut walk = walk;
     let least = place_of_least(&walk);

@@ -18,4 +18,4 @@ returns-clause-found c =
     )
 
 pub returns-clause-walks : goal.returns-clause-walks
-returns-clause-walks c = record { g0 = tt; g1c = tt }
+returns-clause-walks c = record { g0 = tt; g1c = tt; g_single = tt; g2_item = tt; g2 = tt }

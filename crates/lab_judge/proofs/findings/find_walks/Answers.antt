@@ -11,13 +11,16 @@ returns-clause-found c = λ h sound exact.
     let intermediate : NoG1b h = none_intermediate h sound in
     let g0 : FindsWalk (IsG0 h) c.in_ok-g0.g0 = finds_g0 h c.in_ok-g0.g0 (c.in_ok-g0.ensures.found h (has_all h c.args.edges.now exact Writes)) in
     let g1c : FindsWalk (IsG1c h) c.in_ok-g1c.g1c = finds_g1c h c.in_ok-g1c.g1c (c.in_ok-g1c.ensures.found h (has_all h c.args.edges.now exact Flow)) in
-    let g_single : FindsWalk (IsGSingle h) c.in_ok-g_single.g_single = finds_g_single h c.in_ok-g_single.g_single (c.in_ok-g_single.ensures h exact) in
-    let g2_item : FindsWalk (IsG2Item h) c.in_ok-g2_item.g2_item = finds_g2_item h c.in_ok-g2_item.g2_item (c.in_ok-g2_item.ensures h exact) in
-    let g2 : FindsWalk (IsG2 h) c.in_ok-g2.g2 = finds_g2 h c.in_ok-g2.g2 (c.in_ok-g2.ensures h exact) in
+    let g_single : FindsWalk (IsGSingle h) c.in_ok-g_single.g_single = finds_g_single h c.in_ok-g_single.g_single (c.in_ok-g_single.ensures.found h exact) in
+    let g2_item : FindsWalk (IsG2Item h) c.in_ok-g2_item.g2_item = finds_g2_item h c.in_ok-g2_item.g2_item (c.in_ok-g2_item.ensures.found h exact) in
+    let g2 : FindsWalk (IsG2 h) c.in_ok-g2.g2 = finds_g2 h c.in_ok-g2.g2 (c.in_ok-g2.ensures.found h exact) in
     (g0, aborted, intermediate, g1c, g_single, g2_item, g2, c.grade_of-level.ensures h aborted intermediate g0 g1c g2_item g2)
 
 pub returns-clause-walks : goal.returns-clause-walks
 returns-clause-walks c = λ h committed exact. record {
   g0 = c.in_ok-g0.ensures.due h committed (has_all h c.args.edges.now exact Writes);
   g1c = c.in_ok-g1c.ensures.due h committed (has_all h c.args.edges.now exact Flow);
+  g_single = c.in_ok-g_single.ensures.due h committed exact;
+  g2_item = c.in_ok-g2_item.ensures.due h committed exact;
+  g2 = c.in_ok-g2.ensures.due h committed exact;
 }

@@ -4,6 +4,7 @@ use Rattle.std.proofs.lemmas.List.Elements.{All-contains}
 use Rattle.lab_deps.specs.declared.edge.Kind.{Kind}
 use Rattle.lab_judge.specs.Allowed.{allows}
 use Rattle.lab_judge.specs.Graphs.{HasEnds}
+use Rattle.lab_judge.specs.LeastWalks.{IsTurnOf}
 use Rattle.lab_judge.specs.Openings.{opens}
 use Rattle.lab_judge.specs.Phenomena.{IsClosedWalk, count_kind}
 use Rattle.lab_judge.proofs.ClosedWalks.{closed}
@@ -28,3 +29,7 @@ returns-clause-allowed c =
     let others = λ (k : Kind). not (allows c.args.allowed k) in
     subst (λ n. n ≤ 1) (sym (c.with_least_first.ensures.kinds others ∙ ap (count_kind others) c.in_ok-insert.ensures.items))
     (at_most_one others c.args.edge.now c.in_ok-walk.walk.items c.in_ok-walk.ensures.allowed)
+
+pub returns-clause-round : goal.returns-clause-round
+returns-clause-round c = λ h has.
+    (c.in_ok-walk.walk.items, c.in_ok-walk.ensures.least h has, subst (λ l. IsTurnOf l c.with_least_first.result.items) c.in_ok-insert.ensures.items c.with_least_first.ensures.turn)

@@ -1,8 +1,11 @@
-use Rattle.std.proofs.Common.{◌≡◌, ap, sym, subst, ◌∙◌, slice_index}
+use Rattle.std.proofs.Common.{◌≡◌, ◌∷◌, ap, sym, subst, ◌∙◌, slice_index}
 use Rattle.std.specs.Prelude.{IfSome}
 use Rattle.std.proofs.lemmas.Result.{IfOk-weaker}
-use Rattle.lab_order.specs.Path.{IsPath}
+use Rattle.lab_order.specs.Least.{IsLeast}
+use Rattle.lab_order.specs.Order.{position}
+use Rattle.lab_order.specs.Path.{IsPath, IsShortestPath}
 use Rattle.lab_judge.specs.Graphs.{LeadsAlong, last_of}
+use Rattle.lab_judge.specs.LeastWalks.{GoesBy}
 use Rattle.lab_judge.specs.Phenomena.{IsWalk}
 use Rattle.lab_judge.proofs.GraphWalks.{way_of, read_back}
 use Rattle.lab_judge.proofs.findings.closed_walk.way_back.Goals as goal
@@ -31,3 +34,18 @@ returns-clause-walk c =
     IfOk-weaker c.walk_along.result _ _
     (λ walk w h real. subst (λ n. IsWalk h n walk.items edge.from) from (subst (λ n. IsWalk h (slice_index nodes first) walk.items n) to (w h real)))
     c.walk_along.ensures.walk
+
+pub returns-clause-least : goal.returns-clause-least
+returns-clause-least c =
+    let graph = c.args.graph.now in
+    let nodes = c.args.nodes.now in
+    let path = c.in-Some.nodes_back.items in
+    let parts : path ≡ c.in-Some-split_first.first.now ∷ c.in-Some-split_first.way.now = sym c.deref.ensures.value ∙ c.in-Some-split_first.ensures.cases.0 in
+    let least : IsLeast (IsShortestPath graph c.place.result c.place-2.result) path
+    = subst (λ o. IfSome o (λ found. IsLeast (IsShortestPath graph c.place.result c.place-2.result) found.items)) c.in-Some.is c.in_ok-nodes_back.ensures.least in
+    let shortest : IsLeast (IsShortestPath graph (position nodes c.args.edge.now.to) (position nodes c.args.edge.now.from)) path
+    = subst (λ n. IsLeast (IsShortestPath graph n (position nodes c.args.edge.now.from)) path) c.place.ensures.place
+    (subst (λ n. IsLeast (IsShortestPath graph c.place.result n) path) c.place-2.ensures.place least) in
+    IfOk-weaker c.walk_along.result _ _
+    (λ walk goes h has. record { path = path; least = shortest; goes = subst (λ l. GoesBy h c.args.allowed nodes l walk.items) (sym parts) (goes h has) })
+    c.walk_along.ensures.least
