@@ -1,6 +1,7 @@
 -- Which of several closed walks is carried.
-use Rattle.std.specs.Prelude.{◌≡◌, ◌↔◌, ℕ, true, false, List, [], ◌∷◌, ◌++◌, length, slice_index, IsTrue, ⊤}
+use Rattle.std.specs.Prelude.{◌≡◌, ◌<◌, ◌≤◌, ◌↔◌, ℕ, true, false, List, [], ◌∷◌, ◌++◌, length, slice_index, IsTrue, ⊤}
 use Rattle.std.specs.Ordering.{is_lt}
+use Rattle.std.specs.List.{All}
 use Rattle.std.specs.List.Sorted.{IsStrictlyIncreasing}
 use Rattle.lab_order.specs.Arrows.{Arrows, nodes_of, has_arrow}
 use Rattle.lab_order.specs.Back.{IsBackCircle}
@@ -85,9 +86,15 @@ pub record IsFirstOpening (h : History) (opening : Opening) (graph : Arrows) (tx
   pub opens : IsOpening opening graph txns e
   pub first : (other : Edge) → IsEdge h other → IsOpening opening graph txns other → is_lt (edge_cmp other e) ≡ false
 
--- the same edges in the same round, maybe begun with another
-abbrev pub IsTurnOf : List Edge → List Edge → Type 0
-IsTurnOf round walk = (front : List Edge) × (rest : List Edge) × (round ≡ front ++ rest) × (walk ≡ rest ++ front)
+-- the same edges in the same round, begun with the first of those from the least transaction
+pub record IsTurnToLeast (round walk : List Edge) : Type 0 where
+  pub front : List Edge
+  pub first : Edge
+  pub rest : List Edge
+  pub split : round ≡ front ++ first ∷ rest
+  pub turned : walk ≡ (first ∷ rest) ++ front
+  pub greater : All (λ e. first.from < e.from) front
+  pub no_less : All (λ e. first.from ≤ e.from) rest
 
 -- the round of the first edge that opens a walk and of its way back
 pub record IsOpenedRound (h : History) (opening : Opening) (allowed : Allowed) (walk : List Edge) : Type 0 where
@@ -99,7 +106,7 @@ pub record IsOpenedRound (h : History) (opening : Opening) (allowed : Allowed) (
   pub first : IsFirstOpening h opening graph txns edge
   pub back : List Edge
   pub way : IsWayBack h allowed graph txns edge back
-  pub turned : IsTurnOf (edge ∷ back) walk
+  pub turned : IsTurnToLeast (edge ∷ back) walk
 
 -- the closed walk of a serial no is the one on the way back
 abbrev pub HasDueWalk : History → Serial → Type 0

@@ -1,6 +1,6 @@
 //! Closed walks of dependencies.
 
-ghost use Rattle.std.specs.Prelude.{◌≡◌, ◌≤◌, ◌↔◌, ◌∷◌, List, Bool, Contains, IfOk, length, true};
+ghost use Rattle.std.specs.Prelude.{◌≡◌, ◌≤◌, ◌<◌, ◌↔◌, ◌∷◌, ℕ, List, Bool, Contains, IfOk, length, map, slice_index, true};
 ghost use Rattle.std.specs.List.{All};
 ghost use Rattle.std.specs.List.Sorted.{IsStrictlyIncreasing};
 ghost use Rattle.lab_history.specs.History.{History};
@@ -9,7 +9,7 @@ ghost use Rattle.lab_deps.specs.declared.edge.Edge.{Edge as Spelled};
 ghost use Rattle.lab_deps.specs.declared.edge.Kind.{Kind as Sort};
 ghost use Rattle.lab_judge.specs.Graphs.{HasEnds, IsGraphOf, count_others};
 ghost use Rattle.lab_judge.specs.Judgement.{FindsWalk};
-ghost use Rattle.lab_judge.specs.LeastWalks.{AreCommitted, IsBackWalk, IsWayBack, IsTurnOf, IsOpenedRound, FindsDue};
+ghost use Rattle.lab_judge.specs.LeastWalks.{AreCommitted, IsBackWalk, IsWayBack, IsTurnToLeast, IsOpenedRound, FindsDue};
 ghost use Rattle.lab_judge.specs.Openings.{opens, HasEdgesOf, IsClosedOf, IsOpenedWalk, LeadsBack};
 ghost use Rattle.lab_judge.specs.Phenomena.{IsWalk, IsClosedWalk, count_kind};
 ghost use Rattle.lab_judge.specs.declared.findings.opening.Opening.{Opening as Opens};
@@ -90,7 +90,7 @@ fn closed_by(
     ensures opened { IfOk result (λ walk. (opening : Opens) → opens opening edge.now.kind ≡ true → 1 ≤ count_kind (opens opening) walk.items) }
     ensures allowed { IfOk result (λ walk. count_others allowed walk.items ≤ 1) }
     ensures round { IfOk result (λ walk. (h : History) → HasEdgesOf h allowed edges.now
-        → (back : List Spelled) × IsWayBack h allowed graph.now nodes.now edge.now back × IsTurnOf (edge.now ∷ back) walk.items) }
+        → (back : List Spelled) × IsWayBack h allowed graph.now nodes.now edge.now back × IsTurnToLeast (edge.now ∷ back) walk.items) }
 {
     let mut walk = way_back(alloc, nodes, edges, allowed, graph, edge)?;
     walk.insert(0, *edge)?;
@@ -128,7 +128,7 @@ fn way_back(
 fn with_least_first(walk: Vec<Edge>) -> Vec<Edge>
     ensures closed { (h : History) → IsClosedWalk h walk.items → IsClosedWalk h result.items }
     ensures kinds { (test : Sort → Bool) → count_kind test result.items ≡ count_kind test walk.items }
-    ensures turn { IsTurnOf walk.items result.items }
+    ensures turn { 0 < length walk.items → IsTurnToLeast walk.items result.items }
 {
     let mut walk = walk;
     let least = place_of_least(&walk);
@@ -138,7 +138,10 @@ fn with_least_first(walk: Vec<Edge>) -> Vec<Edge>
 
 /// The place of the first of these edges that begins with the least transaction.
 fn place_of_least(walk: &[Edge]) -> usize
-    ensures { result ≤ length walk.now }
+    ensures bound { result ≤ length walk.now }
+    ensures within { 0 < length walk.now → result < length walk.now }
+    ensures greater { (k : ℕ) → k < result → slice_index (map (λ e. e.from) walk.now) result < slice_index (map (λ e. e.from) walk.now) k }
+    ensures no_less { (k : ℕ) → k < length walk.now → slice_index (map (λ e. e.from) walk.now) result ≤ slice_index (map (λ e. e.from) walk.now) k }
 {
     let mut least = 0;
     for place in 1..walk.len() {

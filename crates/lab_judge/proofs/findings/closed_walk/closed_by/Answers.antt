@@ -1,10 +1,10 @@
-use Rattle.std.proofs.Common.{◌≤◌, sym, subst, ap, ◌∙◌}
+use Rattle.std.proofs.Common.{◌<◌, ◌≤◌, length, sym, subst, ap, ◌∙◌, arith}
 use Rattle.std.specs.Prelude.{not}
 use Rattle.std.proofs.lemmas.List.Elements.{All-contains}
 use Rattle.lab_deps.specs.declared.edge.Kind.{Kind}
 use Rattle.lab_judge.specs.Allowed.{allows}
 use Rattle.lab_judge.specs.Graphs.{HasEnds}
-use Rattle.lab_judge.specs.LeastWalks.{IsTurnOf}
+use Rattle.lab_judge.specs.LeastWalks.{IsTurnToLeast}
 use Rattle.lab_judge.specs.Openings.{opens}
 use Rattle.lab_judge.specs.Phenomena.{IsClosedWalk, count_kind}
 use Rattle.lab_judge.proofs.ClosedWalks.{closed}
@@ -32,4 +32,4 @@ returns-clause-allowed c =
 
 pub returns-clause-round : goal.returns-clause-round
 returns-clause-round c = λ h has.
-    (c.in_ok-walk.walk.items, c.in_ok-walk.ensures.least h has, subst (λ l. IsTurnOf l c.with_least_first.result.items) c.in_ok-insert.ensures.items c.with_least_first.ensures.turn)
+    (c.in_ok-walk.walk.items, c.in_ok-walk.ensures.least h has, subst (λ l. 0 < length l → IsTurnToLeast l c.with_least_first.result.items) c.in_ok-insert.ensures.items c.with_least_first.ensures.turn (omega arith))

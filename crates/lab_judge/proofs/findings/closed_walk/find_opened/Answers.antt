@@ -4,7 +4,7 @@ use Rattle.std.specs.Prelude.{Contains, IfSome}
 use Rattle.lab_judge.specs.Openings.{IsOpenedWalk, IsOpening}
 use Rattle.lab_deps.specs.EdgeOrder.{edge_cmp}
 use Rattle.lab_deps.specs.declared.edge.Edge.{Edge}
-use Rattle.lab_judge.specs.LeastWalks.{IsTurnOf}
+use Rattle.lab_judge.specs.LeastWalks.{IsTurnToLeast}
 use Rattle.lab_judge.proofs.LeastWalks.{edge_graph}
 use Rattle.lab_judge.proofs.OpenedWalks.{none_opened}
 use Rattle.lab_judge.proofs.WalkKinds.{has_all}
@@ -41,5 +41,5 @@ returns-in_ok-walk-in-Some-clause-due c = λ h committed exact.
       first = record { edge = (exact c.in-Some.edge).0 found.0; opens = found.1; first = λ f edge opened. first f ((exact f).1 edge) opened };
       back = round.0;
       way = round.1;
-      turned = subst (IsTurnOf (c.in-Some.edge ∷ round.0)) (sym c.new.ensures) round.2;
+      turned = subst (IsTurnToLeast (c.in-Some.edge ∷ round.0)) (sym c.new.ensures) round.2;
     }
