@@ -121,14 +121,11 @@ FindsDue is_due (Walk walk) = is_due walk
 FindsDue is_due (At n k row) = ⊤
 FindsDue is_due NotJudged = ⊤
 
--- the walks that are found of G0 and G1c are those on the way back, over writes and over all that is no anti-dependency; the others are rounds of a first anti-dependency
+-- Of seven findings, one a phenomenon, the walks of G0 and G1c are those on the way back, over writes and over all that is no anti-dependency; the others are rounds of a first anti-dependency.
 pub record FindsDueWalks (h : History) (p : List Finding) : Type 0 where
+  pub seven : length p ≡ 7
   pub g0 : FindsDue (IsBackWalk h allowed.Writes) (found.g0 p)
   pub g1c : FindsDue (IsBackWalk h allowed.Flow) (found.g1c p)
   pub g_single : FindsDue (IsOpenedRound h opening.Anti allowed.Flow) (found.g_single p)
   pub g2_item : FindsDue (IsOpenedRound h opening.ItemAnti allowed.All) (found.g2_item p)
   pub g2 : FindsDue (IsOpenedRound h opening.Anti allowed.All) (found.g2 p)
-
--- two reports find the same of G0, G1a, G1b and G1c
-abbrev pub FindSame : List Finding → List Finding → Type 0
-FindSame one other = (found.g0 one ≡ found.g0 other) × (found.g1a one ≡ found.g1a other) × (found.g1b one ≡ found.g1b other) × (found.g1c one ≡ found.g1c other)

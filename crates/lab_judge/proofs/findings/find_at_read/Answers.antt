@@ -14,4 +14,4 @@ returns-clause-found c = (
 )
 
 pub returns-clause-walks : goal.returns-clause-walks
-returns-clause-walks c = record { g0 = c.in_ok-g0.ensures.due; g1c = tt; g_single = tt; g2_item = tt; g2 = tt }
+returns-clause-walks c = record { seven = refl; g0 = c.in_ok-g0.ensures.due; g1c = tt; g_single = tt; g2_item = tt; g2 = tt }

@@ -1,3 +1,4 @@
+use Rattle.std.proofs.Common.{refl}
 use Rattle.lab_judge.specs.Phenomena.{NoG1a, NoG1b}
 use Rattle.lab_judge.proofs.Levels.{none_aborted, none_intermediate}
 use Rattle.lab_judge.proofs.findings.find_none.Goals as goal
@@ -18,4 +19,4 @@ returns-clause-found c =
     )
 
 pub returns-clause-walks : goal.returns-clause-walks
-returns-clause-walks c = record { g0 = tt; g1c = tt; g_single = tt; g2_item = tt; g2 = tt }
+returns-clause-walks c = record { seven = refl; g0 = tt; g1c = tt; g_single = tt; g2_item = tt; g2 = tt }

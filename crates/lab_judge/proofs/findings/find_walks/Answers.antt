@@ -1,3 +1,4 @@
+use Rattle.std.proofs.Common.{refl}
 use Rattle.lab_judge.specs.Judgement.{FindsWalk}
 use Rattle.lab_judge.specs.Phenomena.{NoG1a, NoG1b, IsG0, IsG1c, IsGSingle, IsG2Item, IsG2}
 use Rattle.lab_judge.specs.declared.allowed.Allowed.TheVariants.{Writes, Flow}
@@ -18,6 +19,7 @@ returns-clause-found c = λ h sound exact.
 
 pub returns-clause-walks : goal.returns-clause-walks
 returns-clause-walks c = λ h committed exact. record {
+  seven = refl;
   g0 = c.in_ok-g0.ensures.due h committed (has_all h c.args.edges.now exact Writes);
   g1c = c.in_ok-g1c.ensures.due h committed (has_all h c.args.edges.now exact Flow);
   g_single = c.in_ok-g_single.ensures.due h committed exact;

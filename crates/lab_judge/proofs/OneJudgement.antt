@@ -1,5 +1,5 @@
--- Two judgements of one history find the same, and the same level.
-use Rattle.std.proofs.Common.{◌≡◌, ℕ, List, inr, refl, sym, ap, ◌∙◌, subst}
+-- A history has one judgement.
+use Rattle.std.proofs.Common.{◌≡◌, ℕ, zero, suc, ◌<◌, List, [], ◌∷◌, length, inr, refl, sym, ap, ◌∙◌, subst, arith}
 use Rattle.lab_history.specs.History.{History}
 use Rattle.lab_table.specs.Row.{Row}
 use Rattle.lab_deps.proofs.FaultOrders.{one_of_kind}
@@ -9,18 +9,21 @@ use Rattle.lab_deps.specs.declared.edge.Edge.{Edge}
 use Rattle.lab_deps.specs.declared.fault.LocalFault.{LocalFault}
 use Rattle.lab_deps.specs.declared.fault.LocalFault.TheVariants.{Dangling, AbortedRead, IntermediateRead, OwnWriteMissed, LaterThanOwn, RowsDiffer, WritesDiffer, InstallOrder, EndDiffers}
 use Rattle.lab_judge.specs.Judgement.{FindsWalk, FindsFault, JudgesAll, JudgesReads, JudgesNothing, JudgesAtFault, Judges, IsExactJudgement}
-use Rattle.lab_judge.specs.LeastWalks.{FindsDue, FindsDueWalks, FindSame}
-use Rattle.lab_judge.specs.Verdicts.{AgreeOnOrder}
+use Rattle.lab_judge.specs.LeastWalks.{FindsDue, FindsDueWalks}
+use Rattle.lab_judge.specs.Findings as found
 use Rattle.lab_judge.specs.declared.allowed.Allowed.TheVariants as allowed
+use Rattle.lab_judge.specs.declared.findings.opening.Opening.TheVariants as opening
 use Rattle.lab_judge.specs.declared.report.Finding.{Finding}
 use Rattle.lab_judge.specs.declared.report.Finding.TheVariants.{Absent, Walk, At, NotJudged}
 use Rattle.lab_judge.specs.declared.report.Grade.{Grade}
 use Rattle.lab_judge.specs.declared.report.Report.{Report}
+use Rattle.lab_judge.specs.Phenomena.{IsG0, IsG1c, IsGSingle, IsG2Item, IsG2}
 use Rattle.lab_judge.specs.declared.serial.Serial.{Serial}
 use Rattle.lab_judge.specs.declared.serial.Serial.TheVariants as serial
-use Rattle.lab_judge.proofs.Agreeing.{serial_agrees}
+use Rattle.lab_judge.proofs.Agreeing.{serial_agrees, snapshot_agrees}
 use Rattle.lab_judge.proofs.Grades.{one_grade}
 use Rattle.lab_judge.proofs.OneWalk.{one_back_walk}
+use Rattle.lab_judge.proofs.OneOpenedRound.{one_opened_round}
 
 -- where of each kind of walk there is one due, two exact findings are one
 one_found : (P D : List Edge → Type 0) → ((es fs : List Edge) → D es → D fs → es ≡ fs) → (x y : Finding) → FindsWalk P x → FindsWalk P y → FindsDue D x → FindsDue D y → x ≡ y
@@ -63,22 +66,65 @@ one_read h made agrees Absent NotJudged p q = absurd q
 one_read h made agrees (At n k row) (Walk walk) p q = absurd q
 one_read h made agrees (At n k row) NotJudged p q = absurd q
 
+-- lists of as many findings that have the same at each place are one
+same_by : (n : ℕ) (p q : List Finding) → length p ≡ n → length q ≡ n → ((k : ℕ) → k < n → found.finding_at k p ≡ found.finding_at k q) → p ≡ q
+same_by zero [] [] l m same = refl
+same_by zero [] (y ∷ q) l m same = absurd (omega (arith, m))
+same_by zero (x ∷ p) q l m same = absurd (omega (arith, l))
+same_by (suc n) [] q l m same = absurd (omega (arith, l))
+same_by (suc n) (x ∷ p) [] l m same = absurd (omega (arith, m))
+same_by (suc n) (x ∷ p) (y ∷ q) l m same =
+    ap (λ f. f ∷ p) (same 0 (omega arith)) ∙ ap (λ fs. y ∷ fs) (same_by n p q (omega (arith, l)) (omega (arith, m)) (λ k lt. same (suc k) (omega (arith, lt))))
+
 module _ (h : History) (p q : List Finding) (a b : Grade) (d : FindsDueWalks h p) (e : FindsDueWalks h q) where
+  -- seven findings that are the same one by one
+  same_seven : found.g0 p ≡ found.g0 q → found.g1a p ≡ found.g1a q → found.g1b p ≡ found.g1b q → found.g1c p ≡ found.g1c q → found.g_single p ≡ found.g_single q → found.g2_item p ≡ found.g2_item q → found.g2 p ≡ found.g2 q → p ≡ q
+  same_seven is0 is1 is2 is3 is4 is5 is6 = same_by 7 p q d.seven e.seven at
+    where
+      at : (k : ℕ) → k < 7 → found.finding_at k p ≡ found.finding_at k q
+      at zero lt = is0
+      at (suc zero) lt = is1
+      at (suc (suc zero)) lt = is2
+      at (suc (suc (suc zero))) lt = is3
+      at (suc (suc (suc (suc zero)))) lt = is4
+      at (suc (suc (suc (suc (suc zero))))) lt = is5
+      at (suc (suc (suc (suc (suc (suc zero)))))) lt = is6
+      at (suc (suc (suc (suc (suc (suc (suc k))))))) lt = absurd (omega (arith, lt))
+
+  same_g0 : FindsWalk (IsG0 h) (found.g0 p) → FindsWalk (IsG0 h) (found.g0 q) → found.g0 p ≡ found.g0 q
+  same_g0 x y = one_found (IsG0 h) _ (one_back_walk h allowed.Writes) _ _ x y d.g0 e.g0
+
+  same_g1a : FindsFault h AbortedRead (found.g1a p) → FindsFault h AbortedRead (found.g1a q) → found.g1a p ≡ found.g1a q
+  same_g1a x y = one_read h AbortedRead (aborted_agrees h) _ _ x y
+
+  same_g1b : FindsFault h IntermediateRead (found.g1b p) → FindsFault h IntermediateRead (found.g1b q) → found.g1b p ≡ found.g1b q
+  same_g1b x y = one_read h IntermediateRead (intermediate_agrees h) _ _ x y
+
   -- the same findings, and the same level
   abbrev Same : Type 0
-  Same = FindSame p q × (a ≡ b)
+  Same = (p ≡ q) × (a ≡ b)
 
   all_same : JudgesAll h p a → JudgesAll h q b → Same
   all_same j k = (
-    (one_found _ _ (one_back_walk h allowed.Writes) _ _ j.0 k.0 d.g0 e.g0, one_read h AbortedRead (aborted_agrees h) _ _ j.1 k.1, one_read h IntermediateRead (intermediate_agrees h) _ _ j.2 k.2, one_found _ _ (one_back_walk h allowed.Flow) _ _ j.3 k.3 d.g1c e.g1c),
+    same_seven (same_g0 j.0 k.0) (same_g1a j.1 k.1) (same_g1b j.2 k.2)
+        (one_found (IsG1c h) _ (one_back_walk h allowed.Flow) _ _ j.3 k.3 d.g1c e.g1c)
+        (one_found (IsGSingle h) _ (one_opened_round h opening.Anti allowed.Flow) _ _ j.4 k.4 d.g_single e.g_single)
+        (one_found (IsG2Item h) _ (one_opened_round h opening.ItemAnti allowed.All) _ _ j.5 k.5 d.g2_item e.g2_item)
+        (one_found (IsG2 h) _ (one_opened_round h opening.Anti allowed.All) _ _ j.6 k.6 d.g2 e.g2),
     one_grade h a b j.7 k.7,
   )
 
   reads_same : JudgesReads h p a → JudgesReads h q b → Same
-  reads_same j k = ((one_found _ _ (one_back_walk h allowed.Writes) _ _ j.0 k.0 d.g0 e.g0, one_read h AbortedRead (aborted_agrees h) _ _ j.1 k.1, one_read h IntermediateRead (intermediate_agrees h) _ _ j.2 k.2, j.3 ∙ sym k.3), one_grade h a b j.7 k.7)
+  reads_same j k = (
+    same_seven (same_g0 j.0 k.0) (same_g1a j.1 k.1) (same_g1b j.2 k.2) (j.3 ∙ sym k.3) (j.4 ∙ sym k.4) (j.5 ∙ sym k.5) (j.6 ∙ sym k.6),
+    one_grade h a b j.7 k.7,
+  )
 
   nothing_same : JudgesNothing p a → JudgesNothing q b → Same
-  nothing_same j k = ((j.0 ∙ sym k.0, j.1 ∙ sym k.1, j.2 ∙ sym k.2, j.3 ∙ sym k.3), j.7 ∙ sym k.7)
+  nothing_same j k = (
+    same_seven (j.0 ∙ sym k.0) (j.1 ∙ sym k.1) (j.2 ∙ sym k.2) (j.3 ∙ sym k.3) (j.4 ∙ sym k.4) (j.5 ∙ sym k.5) (j.6 ∙ sym k.6),
+    j.7 ∙ sym k.7,
+  )
 
   same_at_fault : (fault : LocalFault) → JudgesAtFault h fault p a → JudgesAtFault h fault q b → Same
   same_at_fault (AbortedRead n k row) = reads_same
@@ -91,17 +137,19 @@ module _ (h : History) (p q : List Finding) (a b : Grade) (d : FindsDueWalks h p
   same_at_fault (InstallOrder row) = nothing_same
   same_at_fault (EndDiffers row) = nothing_same
 
-  same_found : (s t : Serial) → AgreeOnOrder s t → Judges h s p a → Judges h t q b → Same
-  same_found (serial.Yes order) (serial.Yes other) agree j k = all_same j k
-  same_found (serial.NoCycle walk) (serial.NoCycle other) agree j k = all_same j k
-  same_found (serial.NoFault fault) (serial.NoFault other) agree j k = same_at_fault fault j (subst (λ f. JudgesAtFault h f q b) (sym agree) k)
-  same_found (serial.Yes order) (serial.NoFault fault) agree j k = absurd agree
-  same_found (serial.Yes order) (serial.NoCycle walk) agree j k = absurd agree
-  same_found (serial.NoFault fault) (serial.Yes order) agree j k = absurd agree
-  same_found (serial.NoFault fault) (serial.NoCycle walk) agree j k = absurd agree
-  same_found (serial.NoCycle walk) (serial.Yes order) agree j k = absurd agree
-  same_found (serial.NoCycle walk) (serial.NoFault fault) agree j k = absurd agree
+  same_found : (s : Serial) → Judges h s p a → Judges h s q b → Same
+  same_found (serial.Yes order) = all_same
+  same_found (serial.NoCycle walk) = all_same
+  same_found (serial.NoFault fault) = same_at_fault fault
 
-pub found_agrees : (h : History) (one other : Report) → IsExactJudgement h one → IsExactJudgement h other → FindSame one.phenomena other.phenomena × (one.level ≡ other.level)
-found_agrees h one other a b =
-    same_found h one.phenomena other.phenomena one.level other.level a.walks b.walks one.serial other.serial (serial_agrees h one other a b) a.judgement.found b.judgement.found
+pub one_judgement : (h : History) (one other : Report) → IsExactJudgement h one → IsExactJudgement h other → one ≡ other
+one_judgement h one other x y =
+    let serials : one.serial ≡ other.serial = serial_agrees h one other x y in
+    let snapshots : one.snapshot ≡ other.snapshot = snapshot_agrees h one other x y in
+    let same : (one.phenomena ≡ other.phenomena) × (one.level ≡ other.level)
+    = same_found h one.phenomena other.phenomena one.level other.level x.walks y.walks one.serial x.judgement.found
+    (subst (λ s. Judges h s other.phenomena other.level) (sym serials) y.judgement.found) in
+    ap (λ s. record { serial = s; snapshot = one.snapshot; phenomena = one.phenomena; level = one.level }) serials
+    ∙ ap (λ s. record { serial = other.serial; snapshot = s; phenomena = one.phenomena; level = one.level }) snapshots
+    ∙ ap (λ p. record { serial = other.serial; snapshot = other.snapshot; phenomena = p; level = one.level }) same.0
+    ∙ ap (λ l. record { serial = other.serial; snapshot = other.snapshot; phenomena = other.phenomena; level = l }) same.1
