@@ -4,3 +4,4 @@ mod Refusals
 pub mod Taken
 mod WholeScripts
 mod ScriptsPrint
+mod OneAnswer
