@@ -48,3 +48,7 @@ pub mod ReservedWords
 pub mod Wheres
 pub mod LongSetups
 pub mod LongStatements
+mod StoppedLoops
+mod StoppedSetups
+mod StoppedCommands
+mod PlacedFaults
