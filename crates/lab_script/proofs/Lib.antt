@@ -52,3 +52,5 @@ mod StoppedLoops
 mod StoppedSetups
 mod StoppedCommands
 mod PlacedFaults
+mod OneFault
+mod OneStatementFault
