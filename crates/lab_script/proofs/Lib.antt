@@ -52,3 +52,7 @@ mod StoppedLoops
 mod StoppedSetups
 mod StoppedCommands
 mod PlacedFaults
+mod SameReadings
+mod ReadingValues
+mod LineValues
+mod GrammarFaults

@@ -1,12 +1,11 @@
 -- The first fault of a line's tokens, by where reading stopped.
-use Rattle.std.proofs.Common.{◌≡◌, ℕ, List, length, Some, None, Option, Result, Ok, Err, refl, sym, ap, subst, ◌∙◌}
+use Rattle.std.proofs.Common.{◌≡◌, ℕ, List, length, None, Result, Ok, Err, refl, sym, ap, subst}
 use Rattle.lab_script.specs.declared.token.Token.{Token}
-use Rattle.lab_script.specs.declared.refusal.GrammarFault.{GrammarFault}
 use Rattle.lab_script.specs.declared.refusal.Refusal.{Refusal}
 use Rattle.lab_script.specs.declared.refusal.Refusal.TheVariants as refusal
 use Rattle.lab_script.specs.Fault.{kind_of, refusal_at, IsFirstInText, TellsFirst}
 use Rattle.lab_script.specs.HeldTokens.{AreStatementTokens}
-use Rattle.lab_script.specs.Stopping.{Reading, Reads, Stops, StopsAt, Comes}
+use Rattle.lab_script.specs.Stopping.{Reading, Reads, StopsAt, Comes}
 use Rattle.lab_script.specs.FirstFaults.{placed_refusal, fault_in, setup_fault_in, statement_fault, StopsFirst, HasFault}
 
 -- where reading stops is the first fault of the line

@@ -1,5 +1,5 @@
 -- Statements of a line, read by a loop that may stop at a fault.
-use Rattle.std.proofs.Common.{◌≡◌, ℕ, zero, suc, ◌≤◌, ◌<◌, List, [], ◌∷◌, length, Some, refl, sym, ap, subst, ◌∙◌, arith}
+use Rattle.std.proofs.Common.{◌≡◌, ℕ, zero, suc, ◌≤◌, ◌<◌, List, [], ◌∷◌, length, Some, refl, sym, subst, ◌∙◌, arith}
 use Rattle.lab_table.specs.declared.statement.Command.{Command}
 use Rattle.lab_script.specs.declared.token.Token.{Token}
 use Rattle.lab_script.specs.declared.refusal.Refusal.{Refusal}
