@@ -54,3 +54,7 @@ mod StoppedCommands
 mod PlacedFaults
 mod OneFault
 mod OneStatementFault
+mod SameReadings
+mod ReadingValues
+mod LineValues
+mod GrammarFaults
