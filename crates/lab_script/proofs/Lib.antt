@@ -52,7 +52,7 @@ mod StoppedLoops
 mod StoppedSetups
 mod StoppedCommands
 mod PlacedFaults
-mod OneFault
+pub mod OneFault
 mod OneStatementFault
 mod SameReadings
 mod ReadingValues

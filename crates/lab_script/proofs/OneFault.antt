@@ -1,4 +1,4 @@
--- A text has one fault.
+-- A text has one fault, or spells one script.
 use Rattle.std.proofs.Common.{◌≡◌, ◌⊎◌, inl, inr, ℕ, zero, suc, ◌+◌, ◌<◌, ◌≤◌, true, List, [], ◌∷◌, length, take, Option, Some, None, refl, sym, ap, subst, ◌∙◌, arith}
 use Rattle.std.specs.Prelude.{is_some, slice_get}
 use Rattle.std.specs.Str.Lines.{lines}
@@ -16,7 +16,7 @@ use Rattle.lab_script.specs.Fault as wrong
 use Rattle.lab_script.specs.Fault.{kind_of, first_fault, IsOver, SpellsNothing, SaysOfTokens, ComesFirst, IsWrong, IsFaultyLine, IsWithoutSetup, IsFaultOf}
 use Rattle.lab_script.specs.Grammar.{IsCommands}
 use Rattle.lab_script.specs.HeldTokens.{held_tokens}
-use Rattle.lab_script.specs.Script.{code_of, remark_of, BeginsSetup, LineSpells, LinesSpell}
+use Rattle.lab_script.specs.Script.{code_of, remark_of, BeginsSetup, LineSpells, LinesSpell, Spells}
 use Rattle.lab_script.specs.Token.{tokens}
 use Rattle.lab_script.proofs.ReadCommands.{no_setup}
 use Rattle.lab_script.proofs.ScriptLines.{lines_once}
@@ -147,3 +147,7 @@ one_fault text n m kind other (inl f) (inl g) = faulty_once text n m kind other 
 one_fault text n m kind other (inl f) (inr w) = absurd (with_none text n m kind other f w)
 one_fault text n m kind other (inr w) (inl g) = absurd (with_none text m n other kind g w)
 one_fault text n m kind other (inr w) (inr v) = (w.counted ∙ sym v.counted, w.missing ∙ sym v.missing)
+
+-- a text spells one script at most
+pub one_script : (text : List ℕ) (s r : Script) → Spells text s → Spells text r → s ≡ r
+one_script text s r spells also = same_Some s r (lines_once 1 None (lines text) spells also)
