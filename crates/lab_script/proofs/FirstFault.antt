@@ -104,7 +104,7 @@ wrong_is_faulty (wrong.over long) after spells =
     let fit = fit_of spells in
     ⊎_elim (λ (many : _). let few = fit.lines in absurd (omega arith)) (λ (wide : _). let short = fit.bytes in absurd (omega arith)) long
 wrong_is_faulty (wrong.not_ascii few short isnt) after spells = false≢true (sym isnt ∙ (fit_of spells).ascii)
-wrong_is_faulty (wrong.of_tokens {kind = kind} kept says) after spells = tokens_are_faulty kind kept.1 says spells
+wrong_is_faulty (wrong.of_tokens {kind = kind} kept says first) after spells = tokens_are_faulty kind kept.1 says spells
 
 -- a list round the element at a place
 round_place : {A : Type 0} (xs : List A) (i : ℕ) (x : A) → slice_get xs i ≡ Some x → xs ≡ take i xs ++ x ∷ drop (suc i) xs

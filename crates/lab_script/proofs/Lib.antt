@@ -48,3 +48,13 @@ pub mod ReservedWords
 pub mod Wheres
 pub mod LongSetups
 pub mod LongStatements
+mod StoppedLoops
+mod StoppedSetups
+mod StoppedCommands
+mod PlacedFaults
+pub mod OneFault
+mod OneStatementFault
+mod SameReadings
+mod ReadingValues
+mod LineValues
+mod GrammarFaults

@@ -1,5 +1,5 @@
 -- Reading a setup stops as too long at the end of one that is.
-use Rattle.std.proofs.Common.{◌≡◌, ◌<◌, List, length, Some, sym, ap, subst, ◌∙◌}
+use Rattle.std.proofs.Common.{◌≡◌, ◌<◌, List, length, Some, subst, ◌∙◌}
 use Rattle.lab_table.specs.Table.{Table}
 use Rattle.lab_script.specs.declared.refusal.GrammarFault.TheVariants as grammar
 use Rattle.lab_script.specs.declared.refusal.Refusal.{Refusal}

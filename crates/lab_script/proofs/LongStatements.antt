@@ -1,5 +1,5 @@
 -- Reading a statement stops as too long only behind one that is.
-use Rattle.std.proofs.Common.{◌≡◌, List, Some}
+use Rattle.std.proofs.Common.{List}
 use Rattle.lab_script.specs.declared.refusal.GrammarFault.TheVariants as grammar
 use Rattle.lab_script.specs.declared.refusal.Refusal.{Refusal}
 use Rattle.lab_script.specs.declared.refusal.Refusal.TheVariants as refusal

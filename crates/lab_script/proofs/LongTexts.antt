@@ -58,7 +58,7 @@ over_too : {number : ℕ} {line : List ℕ} {before : Option Script} {kind : Scr
     → 4000 < length other → IsWrong number other before kind
 over_too other (wrong.over is) long also = wrong.over (inr also)
 over_too other (wrong.not_ascii few short isnt) long also = absurd (omega arith)
-over_too other (wrong.of_tokens kept says) long also = let short = kept.0.bytes in absurd (omega arith)
+over_too other (wrong.of_tokens kept says first) long also = let short = kept.0.bytes in absurd (omega arith)
 
 -- text that is longer than a script is, and more behind it
 module _ (text more : List ℕ) (up : IsCutUp text) (long : 8388608 < length text) (some : 0 < length more) where

@@ -13,7 +13,7 @@ use Rattle.lab_script.specs.Grammar.{IsCommands, IsSetup}
 use Rattle.lab_script.specs.Script as script
 use Rattle.lab_script.specs.Script.{code_of, remark_of, is_code_byte, session_of, extended, IsFit, AddsCommands, LineSpells}
 use Rattle.lab_script.specs.Fault as wrong
-use Rattle.lab_script.specs.Fault.{IsOver, IsKept, SaysOfTokens, IsTokensFault, IsLineFault}
+use Rattle.lab_script.specs.Fault.{IsOver, IsKept, SaysOfTokens, ComesFirst, IsTokensFault, IsLineFault}
 use Rattle.lab_script.proofs.HeldTokens.{held_setup, held_commands, held_says}
 
 -- a line within its limits, with this code and remark
@@ -49,7 +49,8 @@ module _ {number : ℕ} {line code remark : List ℕ} (split : IsSplit number li
     tokens_fault before (fault.At n kind) isnt says = (
       says.0,
       wrong.of_tokens (kept ascii isnt) (subst (λ (r : List ℕ). SaysOfTokens kind (tokens (code_of line)) r before) split.remark_is
-          (held_says kind (tokens (code_of line)) remark before (subst (λ (t : List Token). SaysOfTokens kind t remark before) of_line says.1))),
+          (held_says kind (tokens (code_of line)) remark before (subst (λ (t : List Token). SaysOfTokens kind t remark before) of_line says.1)))
+          (subst (λ (t : List Token). ComesFirst kind t before) of_line says.2),
     )
 
     pub setup_line : (s : Script) → (table : Table) × IsSetup ts table × (s ≡ record { setup = table; lines = [] }) → LineSpells number line None (Some s)

@@ -1,5 +1,5 @@
 -- What the fault of a script's text says, and its line.
-use Rattle.std.specs.Prelude.{◌≡◌, ℕ, ◌+◌, ◌<◌, ◌≤◌, ◌⊎◌, true, false, List, [], ◌++◌, length, take, Option, Some, None, slice_get, is_some, codes}
+use Rattle.std.specs.Prelude.{◌≡◌, ℕ, ◌+◌, ◌-◌, ◌<◌, ⊤, ◌≤◌, ◌⊎◌, true, false, List, [], ◌++◌, length, take, Option, Some, None, slice_get, is_some, codes}
 use Rattle.std.specs.Fmt.{decimal}
 use Rattle.std.specs.List.{list_all}
 use Rattle.std.specs.Str.Lines.{lines}
@@ -16,6 +16,8 @@ use Rattle.lab_script.specs.declared.refusal.Refusal.{Refusal}
 use Rattle.lab_script.specs.declared.refusal.Refusal.TheVariants as refusal
 use Rattle.lab_script.specs.declared.script.Script.{Script}
 use Rattle.lab_script.specs.declared.token.Token.{Token}
+use Rattle.lab_script.specs.FirstFaults.{commands_fault, setup_fault, statement_fault}
+use Rattle.lab_script.specs.HeldTokens.{held_tokens, AreStatementTokens}
 use Rattle.lab_script.specs.Token.{tokens}
 use Rattle.lab_script.specs.Grammar.{IsCommands, IsSetup}
 use Rattle.lab_script.specs.Script.{code_of, remark_of, session_of, is_code_byte, is_ascii_code, is_passed, IsFit, BeginsSetup, HasWhere, BeginsLongSetup, BeginsLongStatement, SpellsStatement, LineSpells, LinesSpell}
@@ -54,12 +56,30 @@ SaysOfTokens kinds.TooLong ts remark None = SpellsNothing ts None × BeginsLongS
 SaysOfTokens kinds.TooLong ts remark (Some script) = SpellsNothing ts (Some script)
 SaysOfTokens kinds.DuplicateSetupRow ts remark before = SpellsNothing ts before × (before ≡ None)
 
+-- the first fault from the left of tokens, as they are held, behind what the lines before spell: of a setup where that is still to come, else of commands for which there is room
+abbrev pub first_fault : List Token → Option Script → Option GrammarFault
+first_fault ts None = setup_fault ts
+first_fault ts (Some script) = commands_fault (max_commands - length script.lines) ts
+
+-- of the faults from the left this kind comes first; no session is told only where there is none
+abbrev pub ComesFirst : ScriptFaultKind → List Token → Option Script → Type 0
+ComesFirst kinds.NotAscii ts before = ⊥
+ComesFirst kinds.NoSetup ts before = ⊤
+ComesFirst kinds.SetupRepeated ts before = ⊤
+ComesFirst kinds.NoSession ts before = first_fault ts before ≡ None
+ComesFirst kinds.UnknownStatement ts before = first_fault ts before ≡ Some grammar.UnknownStatement
+ComesFirst kinds.BadPredicate ts before = first_fault ts before ≡ Some grammar.BadPredicate
+ComesFirst kinds.NumberOutOfRange ts before = first_fault ts before ≡ Some grammar.NumberOutOfRange
+ComesFirst kinds.TooDeep ts before = first_fault ts before ≡ Some grammar.TooDeep
+ComesFirst kinds.TooLong ts before = first_fault ts before ≡ Some grammar.TooLong
+ComesFirst kinds.DuplicateSetupRow ts before = first_fault ts before ≡ Some grammar.DuplicateSetupRow
+
 -- What is wrong with a line with this number, behind what the lines before it spell: it is over a limit;
 -- or it isn't, and its code has another byte; or it is looked at by its tokens.
 pub data IsWrong (number : ℕ) (line : List ℕ) (before : Option Script) : ScriptFaultKind → Type 0 where
   over : IsOver number line → IsWrong number line before kinds.TooLong
   not_ascii : number ≤ max_lines → length line ≤ max_line_bytes → is_ascii_code line ≡ false → IsWrong number line before kinds.NotAscii
-  of_tokens : {kind : ScriptFaultKind} → IsKept number line → SaysOfTokens kind (tokens (code_of line)) (remark_of line) before → IsWrong number line before kind
+  of_tokens : {kind : ScriptFaultKind} → IsKept number line → SaysOfTokens kind (tokens (code_of line)) (remark_of line) before → ComesFirst kind (held_tokens (code_of line)) before → IsWrong number line before kind
 
 -- the lines before this one spell something, and with it they spell nothing: it is the first faulty one, and what the kind says holds of it
 pub record IsFaultyLine (text : List ℕ) (number : ℕ) (kind : ScriptFaultKind) : Type 0 where
@@ -88,10 +108,10 @@ abbrev pub IsLineFault : ℕ → List ℕ → Option Script → ScriptFault → 
 IsLineFault number line before fault.NoMemory = Unit {0}
 IsLineFault number line before (fault.At n kind) = (n ≡ number) × IsWrong number line before kind
 
--- the fault is true of the tokens and the remark of a line with this number that is kept
+-- the fault is true of the tokens, as they are held, and the remark of a line with this number that is kept, and comes first
 abbrev pub IsTokensFault : ℕ → List Token → List ℕ → Option Script → ScriptFault → Type 0
 IsTokensFault number ts remark before fault.NoMemory = Unit {0}
-IsTokensFault number ts remark before (fault.At n kind) = (n ≡ number) × SaysOfTokens kind ts remark before
+IsTokensFault number ts remark before (fault.At n kind) = (n ≡ number) × SaysOfTokens kind ts remark before × ComesFirst kind ts before
 
 -- What a kind of fault says of the text of one statement: it is too long, or it isn't and has a byte that is no code,
 -- or its tokens are wrong.
@@ -125,6 +145,16 @@ kind_of grammar.DuplicateSetupRow = kinds.DuplicateSetupRow
 abbrev pub refusal_at : Refusal → ℕ → ScriptFault
 refusal_at refusal.NoMemory number = fault.NoMemory
 refusal_at (refusal.Fault f) number = fault.At number (kind_of f)
+
+-- the kind is that of the first fault of the grammar
+abbrev pub TellsFirst : Option GrammarFault → ScriptFaultKind → Type 0
+TellsFirst None kind = ⊥
+TellsFirst (Some first) kind = kind ≡ kind_of first
+
+-- in the text of one statement, that is short enough and code, the fault is the first from the left of its tokens, as they are held
+abbrev pub IsFirstInText : List ℕ → ScriptFault → Type 0
+IsFirstInText text fault.NoMemory = Unit {0}
+IsFirstInText text (fault.At line kind) = length text ≤ max_line_bytes → list_all is_code_byte text ≡ true → (ts : List Token) × AreStatementTokens text ts × TellsFirst (statement_fault ts) kind
 
 -- the name of a kind
 abbrev pub kind_name : ScriptFaultKind → List ℕ

@@ -19,3 +19,5 @@ pub mod ReadingPredicates
 pub mod ReadingStatements
 pub mod StatementText
 pub mod ReadingCommands
+pub mod Stopping
+pub mod FirstFaults

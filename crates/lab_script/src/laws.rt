@@ -1,12 +1,18 @@
 //! Laws of the texts. The functions have nothing to do: their contracts are the laws.
 
-ghost use Rattle.std.specs.Prelude.{◌≡◌, ◌≢◌, ◌≤◌, ◌<◌, ◌↔◌, ◌||◌, ℕ, List, length, take, Some, IsTrue, codes};
+ghost use Rattle.std.specs.Prelude.{◌≡◌, ◌≢◌, ◌≤◌, ◌<◌, ◌↔◌, ◌||◌, ℕ, List, length, take, Some, None, IsTrue, codes};
 ghost use Rattle.std.specs.Str.{bytes_eq};
 ghost use Rattle.lab_table.specs.Words.{is_reserved};
+ghost use Rattle.lab_table.specs.Table.{Table};
+ghost use Rattle.lab_table.specs.declared.statement.Command.{Command};
 ghost use Rattle.lab_table.specs.declared.statement.Statement.{Statement};
 ghost use Rattle.lab_script.specs.declared.fault.ScriptFault.{ScriptFault};
+ghost use Rattle.lab_script.specs.declared.fault.ScriptFaultKind.{ScriptFaultKind};
 ghost use Rattle.lab_script.specs.declared.script.Script.{Script};
-ghost use Rattle.lab_script.specs.Fault.{IsFaultOf};
+ghost use Rattle.lab_script.specs.declared.token.Token.{Token};
+ghost use Rattle.lab_script.specs.Fault.{IsFaultOf, IsFirstInText, IsStatementFault};
+ghost use Rattle.lab_script.specs.FirstFaults.{commands_fault, setup_fault, statement_fault};
+ghost use Rattle.lab_script.specs.Grammar.{IsCommands, IsSetup, IsWholeStatement};
 ghost use Rattle.lab_script.specs.Limits.{max_script_bytes};
 ghost use Rattle.lab_script.specs.Script.{Spells, SpellsStatement};
 ghost use Rattle.lab_script.specs.Token.{word_named};
@@ -30,4 +36,24 @@ pub fn first_bytes_tell_a_script()
 /// A text in lower case is a word of the grammar exactly where it is reserved, or the name of the table.
 pub fn words_are_reserved()
     ensures { (text : List ℕ) → IsTrue (is_reserved text || bytes_eq text (codes "test")) ↔ (word_named text ≢ words.Other) }
+{}
+
+/// A text has one fault at most: two of which each is true of it, as the contract of [`parse_script`](crate::parse_script)
+/// has it, are at one line and of one kind. So has the text of one statement, by the contract of
+/// [`parse_statement`](crate::parse_statement).
+pub fn fault_unique()
+    ensures line { (text : List ℕ) (n m : ℕ) (kind other : ScriptFaultKind) → IsFaultOf text (ScriptFault.At n kind) → IsFaultOf text (ScriptFault.At m other) → n ≡ m }
+    ensures kind { (text : List ℕ) (n m : ℕ) (kind other : ScriptFaultKind) → IsFaultOf text (ScriptFault.At n kind) → IsFaultOf text (ScriptFault.At m other) → kind ≡ other }
+    ensures statement_line { (text : List ℕ) (n m : ℕ) (kind other : ScriptFaultKind) → IsStatementFault text (ScriptFault.At n kind) → IsFirstInText text (ScriptFault.At n kind)
+        → IsStatementFault text (ScriptFault.At m other) → IsFirstInText text (ScriptFault.At m other) → n ≡ m }
+    ensures statement_kind { (text : List ℕ) (n m : ℕ) (kind other : ScriptFaultKind) → IsStatementFault text (ScriptFault.At n kind) → IsFirstInText text (ScriptFault.At n kind)
+        → IsStatementFault text (ScriptFault.At m other) → IsFirstInText text (ScriptFault.At m other) → kind ≡ other }
+{}
+
+/// There is no first fault of the grammar exactly where the tokens are in it: as a line of commands for which there is
+/// room, as a setup, or as one statement.
+pub fn first_faults_are_of_the_grammar()
+    ensures commands { (room : ℕ) (ts : List Token) → (commands_fault room ts ≡ None) ↔ ((cs : List Command) × IsCommands ts cs × (length cs ≤ room)) }
+    ensures setup { (ts : List Token) → (setup_fault ts ≡ None) ↔ ((table : Table) × IsSetup ts table) }
+    ensures statement { (ts : List Token) → (statement_fault ts ≡ None) ↔ ((s : Statement) × IsWholeStatement ts s) }
 {}

@@ -54,7 +54,10 @@ mod token;
 mod transcript;
 
 pub use fault::{ScriptFault, ScriptFaultKind, print_script_fault};
-pub use laws::{first_bytes_tell_a_script, statement_is_read_from_its_text, words_are_reserved};
+pub use laws::{
+    fault_unique, first_bytes_tell_a_script, first_faults_are_of_the_grammar,
+    statement_is_read_from_its_text, words_are_reserved,
+};
 pub use limits::{MAX_COMMANDS, MAX_DEPTH, MAX_LINE_BYTES, MAX_LINES, MAX_STATEMENT_BYTES};
 pub use parse::parse_script;
 pub use print::{PrintFault, check_statement, print_script, print_statement, put_printable};

@@ -7,6 +7,8 @@ ghost use Rattle.lab_table.specs.declared.statement.Statement.{Statement as Spel
 ghost use Rattle.lab_script.specs.Grammar.{IsCommands, IsWholeStatement};
 ghost use Rattle.lab_script.specs.Reading.{after, after_all, digits_at, magnitude_at, number_at, Fails, Gives};
 ghost use Rattle.lab_script.specs.Stops.{IsOfTokens, IsOfStatements, IsOfLine, IsLongSpelled, in_predicate};
+ghost use Rattle.lab_script.specs.Stopping.{Comes, digits_read, magnitude_read, number_read, token_read, tokens_read};
+ghost use Rattle.lab_script.specs.FirstFaults.{HasFault, commands_fault, nothing_read, placed_refusal, statement_fault};
 
 use crate::refusal::{GrammarFault, Refusal};
 use crate::token::{Token, Word};
@@ -37,9 +39,17 @@ impl<'a> Parser<'a> {
         self.rest.is_empty()
     }
 
+    /// How many tokens are left.
+    fn left(&self) -> usize
+        ensures { result ≡ length self.now }
+    {
+        self.rest.len()
+    }
+
     /// Nothing may be left.
     pub fn nothing_left(&self) -> Result<(), Refusal>
         ensures gives { Gives (λ x. x) result (if length self.now == 0 then Some tt else None) }
+        ensures reads { Comes (λ x. x) result self.now (nothing_read self.now) }
         ensures kind { IfErr result IsOfTokens }
     {
         if self.is_done() {
@@ -70,6 +80,7 @@ impl<'a> Parser<'a> {
     /// Takes this token, which must be the first.
     pub fn expect(&mut self, token: Token) -> Result<(), Refusal>
         ensures gives { Gives (λ x. self.new) result (after token self.old) }
+        ensures reads { Comes (λ x. self.new) result self.new (token_read token self.old) }
         ensures shorter { length self.new ≤ length self.old }
         ensures kind { IfErr result IsOfTokens }
     {
@@ -83,6 +94,7 @@ impl<'a> Parser<'a> {
     /// Takes these tokens, which must be the first.
     pub fn expect_all(&mut self, tokens: &[Token]) -> Result<(), Refusal>
         ensures gives { Gives (λ x. self.new) result (after_all tokens.now self.old) }
+        ensures reads { Comes (λ x. self.new) result self.new (tokens_read tokens.now self.old) }
         ensures kind { IfErr result IsOfTokens }
     {
         for token in tokens {
@@ -92,9 +104,10 @@ impl<'a> Parser<'a> {
     }
 
     /// Digits, and their number.
-    #[tactic(auto, unfolding(crate::specs::Reading::digits_at))]
+    #[tactic(auto, unfolding(crate::specs::Reading::digits_at, crate::specs::Stopping::digits_read))]
     pub fn digits(&mut self) -> Result<u32, Refusal>
         ensures gives { Gives (λ x. (x, self.new)) result (digits_at self.old) }
+        ensures reads { Comes (λ x. (x, self.new)) result self.new (digits_read self.old) }
         ensures shorter { length self.new ≤ length self.old }
         ensures kind { IfErr result IsOfTokens }
     {
@@ -111,9 +124,10 @@ impl<'a> Parser<'a> {
     }
 
     /// A number without a sign, up to 1,000,000,000.
-    #[tactic(auto, unfolding(crate::specs::Reading::magnitude_at))]
+    #[tactic(auto, unfolding(crate::specs::Reading::magnitude_at, crate::specs::Stopping::magnitude_read))]
     pub fn magnitude(&mut self) -> Result<u32, Refusal>
         ensures gives { Gives (λ x. (x, self.new)) result (magnitude_at self.old) }
+        ensures reads { Comes (λ x. (x, self.new)) result self.new (magnitude_read self.old) }
         ensures shorter { length self.new ≤ length self.old }
         ensures below { IfOk result (λ x. x ≤ 1000000000) }
         ensures kind { IfErr result IsOfTokens }
@@ -127,9 +141,10 @@ impl<'a> Parser<'a> {
     }
 
     /// A number, from -1,000,000,000 to 1,000,000,000.
-    #[tactic(auto, unfolding(crate::specs::Reading::number_at))]
+    #[tactic(auto, unfolding(crate::specs::Reading::number_at, crate::specs::Stopping::number_read))]
     pub fn number(&mut self) -> Result<Value, Refusal>
         ensures gives { Gives (λ x. (x, self.new)) result (number_at self.old) }
+        ensures reads { Comes (λ x. (x, self.new)) result self.new (number_read self.old) }
         ensures shorter { length self.new ≤ length self.old }
         ensures kind { IfErr result IsOfTokens }
     {
@@ -151,11 +166,13 @@ pub fn read_commands(alloc: Global, tokens: &[Token], room: usize) -> Result<Vec
     // What is in the grammar is read, unless memory runs out.
     ensures only { (commands : List Spelled) → IsCommands tokens.now commands → length commands ≤ room → Gives (λ x. x.items) result (Some commands) }
     ensures kind { IfErr result (IsOfLine tokens.now) }
+    // Of the faults from the left it is the first.
+    ensures first { HasFault (commands_fault room tokens.now) result }
 {
     let mut parser = Parser { rest: tokens };
     match parser.commands(alloc, room) {
         Ok(commands) => Ok(commands),
-        Err(refusal) => Err(placed(refusal, tokens, parser.rest.len())),
+        Err(refusal) => Err(placed(refusal, tokens, parser.left())),
     }
 }
 
@@ -168,11 +185,13 @@ pub fn read_statement(alloc: Global, tokens: &[Token]) -> Result<Statement, Refu
     ensures only { (statement : SpelledStatement) → IsWholeStatement tokens.now statement → Gives (λ x. x) result (Some statement) }
     ensures kind { IfErr result (IsOfLine tokens.now) }
     ensures long { IfErr result (IsLongSpelled tokens.now) }
+    // Of the faults from the left it is the first.
+    ensures first { HasFault (statement_fault tokens.now) result }
 {
     let mut parser = Parser { rest: tokens };
     match parser.whole_statement(alloc) {
         Ok(statement) => Ok(statement),
-        Err(refusal) => Err(placed(refusal, tokens, parser.rest.len())),
+        Err(refusal) => Err(placed(refusal, tokens, parser.left())),
     }
 }
 
@@ -182,6 +201,7 @@ fn placed(refusal: Refusal, tokens: &[Token], left: usize) -> Refusal
     ensures stops_statement { (read : Option SpelledStatement) → Fails refusal read → Fails result read }
     ensures kind { IsOfStatements refusal → IsOfLine tokens.now result }
     ensures long { IsLongSpelled tokens.now refusal → IsLongSpelled tokens.now result }
+    ensures placed { result ≡ placed_refusal tokens.now refusal left }
 {
     match refusal {
         Refusal::Fault(GrammarFault::UnknownStatement) => {

@@ -1,10 +1,12 @@
 //! Predicates, read from tokens.
 
-ghost use Rattle.std.specs.Prelude.{◌≡◌, ◌≤◌, length, Some, IfErr};
+ghost use Rattle.std.specs.Prelude.{◌≡◌, ◌≤◌, List, length, Some, IfErr};
+ghost use Rattle.lab_script.specs.declared.token.Token.{Token as Shown};
 ghost use Rattle.lab_table.specs.Predicate as predicate;
 ghost use Rattle.lab_script.specs.Reading.{Gives};
 ghost use Rattle.lab_script.specs.ReadingPredicates.{term_at, conj_at, pred_at, where_at};
 ghost use Rattle.lab_script.specs.Stops.{IsOfStatement};
+ghost use Rattle.lab_script.specs.Stopping.{Comes, Reads, conj_read, pred_read, term_read, where_read};
 
 use crate::limits::MAX_DEPTH;
 use crate::parser::Parser;
@@ -15,9 +17,10 @@ use std::alloc::Global;
 
 impl Parser<'_> {
     /// The predicate behind a `where`, if one stands here.
-    #[tactic(auto, unfolding(crate::specs::ReadingPredicates::where_at))]
+    #[tactic(auto, unfolding(crate::specs::ReadingPredicates::where_at, crate::specs::Stopping::where_read))]
     pub fn where_clause(&mut self, alloc: Global) -> Result<Option<Pred>, Refusal>
         ensures gives { Gives (λ x. (x, self.new)) result (where_at self.old) }
+        ensures reads { Comes (λ x. (x, self.new)) result self.new (where_read self.old) }
         ensures kind { IfErr result IsOfStatement }
     {
         if self.took(Token::Word(Word::Where)) {
@@ -30,9 +33,10 @@ impl Parser<'_> {
 
     /// A predicate that may have an `or` at its top, under which this many parentheses and `not`s may still be open.
     #[cycle(pred)]
-    #[tactic(auto, unfolding(crate::specs::ReadingPredicates::pred_at))]
+    #[tactic(auto, unfolding(crate::specs::ReadingPredicates::pred_at, crate::specs::Stopping::pred_read))]
     fn pred(&mut self, alloc: Global, depth: u8) -> Result<Pred, Refusal>
         ensures gives { Gives (λ x. (x, self.new)) result (pred_at depth self.old) }
+        ensures reads { Comes (λ x. (x, self.new)) result self.new (pred_read depth self.old) }
         ensures shorter { length self.new ≤ length self.old }
         ensures kind { IfErr result IsOfStatement }
     {
@@ -46,9 +50,10 @@ impl Parser<'_> {
 
     /// A predicate that may have an `and` at its top.
     #[cycle(pred)]
-    #[tactic(auto, unfolding(crate::specs::ReadingPredicates::conj_at))]
+    #[tactic(auto, unfolding(crate::specs::ReadingPredicates::conj_at, crate::specs::Stopping::conj_read))]
     fn conj(&mut self, alloc: Global, depth: u8) -> Result<Pred, Refusal>
         ensures gives { Gives (λ x. (x, self.new)) result (conj_at depth self.old) }
+        ensures reads { Comes (λ x. (x, self.new)) result self.new (conj_read depth self.old) }
         ensures shorter { length self.new ≤ length self.old }
         ensures kind { IfErr result IsOfStatement }
     {
@@ -62,9 +67,10 @@ impl Parser<'_> {
 
     /// A predicate with neither at its top.
     #[cycle(pred)]
-    #[tactic(auto, unfolding(crate::specs::ReadingPredicates::term_at, crate::specs::ReadingPredicates::pred_at, crate::specs::ReadingPredicates::conj_at))]
+    #[tactic(auto, unfolding(crate::specs::ReadingPredicates::term_at, crate::specs::ReadingPredicates::pred_at, crate::specs::ReadingPredicates::conj_at, crate::specs::Stopping::term_read, crate::specs::Stopping::pred_read, crate::specs::Stopping::conj_read))]
     fn term(&mut self, alloc: Global, depth: u8) -> Result<Pred, Refusal>
         ensures gives { Gives (λ x. (x, self.new)) result (term_at depth self.old) }
+        ensures reads { Comes (λ x. (x, self.new)) result self.new (term_read depth self.old) }
         ensures shorter { length self.new ≤ length self.old }
         ensures kind { IfErr result IsOfStatement }
     {
@@ -89,6 +95,7 @@ impl Parser<'_> {
 
 fn negation(alloc: Global, pred: Pred) -> Result<Pred, Refusal>
     ensures gives { Gives (λ x. x) result (Some (predicate.Not pred)) }
+    ensures reads { (left : List Shown) → Comes (λ x. x) result left (Reads (predicate.Not pred)) }
     ensures kind { IfErr result IsOfStatement }
 {
     Ok(Pred {
@@ -98,6 +105,7 @@ fn negation(alloc: Global, pred: Pred) -> Result<Pred, Refusal>
 
 fn conjunction(alloc: Global, left: Pred, right: Pred) -> Result<Pred, Refusal>
     ensures gives { Gives (λ x. x) result (Some (predicate.And left right)) }
+    ensures reads { (behind : List Shown) → Comes (λ x. x) result behind (Reads (predicate.And left right)) }
     ensures kind { IfErr result IsOfStatement }
 {
     Ok(Pred {
@@ -107,6 +115,7 @@ fn conjunction(alloc: Global, left: Pred, right: Pred) -> Result<Pred, Refusal>
 
 fn disjunction(alloc: Global, left: Pred, right: Pred) -> Result<Pred, Refusal>
     ensures gives { Gives (λ x. x) result (Some (predicate.Or left right)) }
+    ensures reads { (behind : List Shown) → Comes (λ x. x) result behind (Reads (predicate.Or left right)) }
     ensures kind { IfErr result IsOfStatement }
 {
     Ok(Pred {

@@ -6,6 +6,8 @@ ghost use Rattle.lab_script.specs.Grammar.{IsSetup};
 ghost use Rattle.lab_script.specs.Reading.{Gives};
 ghost use Rattle.lab_script.specs.ReadingSetup.{row_onto, rows_at, no_rows_at, table_at, ends_setup, setup_at};
 ghost use Rattle.lab_script.specs.Stops.{IsOfRows, IsOfSetup, IsOfSetupEnd, IsOfSetupRead};
+ghost use Rattle.lab_script.specs.Stopping.{Comes};
+ghost use Rattle.lab_script.specs.FirstFaults.{HasFault, row_onto_read, rows_read, setup_end_read, setup_fault, setup_read, table_read};
 
 use crate::fits::setup_fits;
 use crate::parser::Parser;
@@ -16,9 +18,10 @@ use std::alloc::Global;
 
 impl Parser<'_> {
     /// Adds a row to the table; DuplicateSetupRow where it is present.
-    #[tactic(auto, unfolding(crate::specs::ReadingSetup::row_onto))]
+    #[tactic(auto, unfolding(crate::specs::ReadingSetup::row_onto, crate::specs::FirstFaults::row_onto_read))]
     fn row_onto(&mut self, alloc: Global, table: &mut Table) -> Result<(), Refusal>
         ensures gives { Gives (λ x. (table.new, self.new)) result (row_onto table.old self.old) }
+        ensures reads { Comes (λ x. (table.new, self.new)) result self.new (row_onto_read table.old self.old) }
         ensures shorter { length self.new ≤ length self.old }
         ensures kind { IfErr result IsOfRows }
     {
@@ -33,6 +36,7 @@ impl Parser<'_> {
     /// The table of one row or more.
     fn rows(&mut self, alloc: Global) -> Result<Table, Refusal>
         ensures gives { Gives (λ x. (x, self.new)) result (rows_at self.old) }
+        ensures reads { Comes (λ x. (x, self.new)) result self.new (rows_read self.old) }
         ensures kind { IfErr result IsOfRows }
     {
         let mut table = Table::new(alloc);
@@ -59,9 +63,10 @@ impl Parser<'_> {
     }
 
     /// The table of a setup.
-    #[tactic(auto, unfolding(crate::specs::ReadingSetup::table_at))]
+    #[tactic(auto, unfolding(crate::specs::ReadingSetup::table_at, crate::specs::FirstFaults::table_read))]
     fn table(&mut self, alloc: Global) -> Result<Table, Refusal>
         ensures gives { Gives (λ x. (x, self.new)) result (table_at self.old) }
+        ensures reads { Comes (λ x. (x, self.new)) result self.new (table_read self.old) }
         ensures kind { IfErr result IsOfRows }
     {
         if self.took_no_rows() {
@@ -73,8 +78,10 @@ impl Parser<'_> {
 
     /// The end of the setup of this table, which is its `;` or the end of the line.
     /// TooLong where the printed line is over 4,000 bytes; then what stands behind the `;` doesn't matter.
+    #[tactic(auto, unfolding(crate::specs::FirstFaults::setup_end_read))]
     fn setup_end(&mut self, table: &Table) -> Result<(), Refusal>
         ensures gives { Gives (λ x. x) result (if ends_setup table.now self.old then Some tt else None) }
+        ensures reads { Comes (λ x. x) result self.new (setup_end_read table.now self.old) }
         ensures kind { IfErr result (IsOfSetupEnd table.now) }
     {
         if !self.took(Token::Semicolon) {
@@ -88,9 +95,10 @@ impl Parser<'_> {
     }
 
     /// A setup, all of the line.
-    #[tactic(auto, unfolding(crate::specs::ReadingSetup::setup_at))]
+    #[tactic(auto, unfolding(crate::specs::ReadingSetup::setup_at, crate::specs::FirstFaults::setup_read))]
     fn setup(&mut self, alloc: Global) -> Result<Table, Refusal>
         ensures gives { Gives (λ x. x) result (setup_at self.old) }
+        ensures reads { Comes (λ x. x) result self.new (setup_read self.old) }
         ensures kind { IfErr result (IsOfSetupRead self.old) }
     {
         self.expect(Token::Word(Word::Setup))?;
@@ -112,6 +120,8 @@ pub fn read_setup(alloc: Global, tokens: &[Token]) -> Result<Table, Refusal>
     // What is in the grammar is read, unless memory runs out.
     ensures only { (table : Spelled) → IsSetup tokens.now table → Gives (λ x. x) result (Some table) }
     ensures kind { IfErr result (IsOfSetup tokens.now) }
+    // Of the faults from the left it is the first.
+    ensures first { HasFault (setup_fault tokens.now) result }
 {
     let mut parser = Parser { rest: tokens };
     parser.setup(alloc)

@@ -4,7 +4,7 @@ ghost use Rattle.std.specs.Prelude.{◌≡◌, ◌≢◌, Some, None, IfOk, IfEr
 ghost use Rattle.lab_table.specs.declared.statement.Statement.{Statement as Spelled};
 ghost use Rattle.lab_script.specs.HeldTokens.{AreStatementTokens};
 ghost use Rattle.lab_script.specs.Script.{SpellsStatement};
-ghost use Rattle.lab_script.specs.Fault.{IsStatementFault};
+ghost use Rattle.lab_script.specs.Fault.{IsFirstInText, IsStatementFault};
 ghost use Rattle.lab_script.specs.StatementText.{statement_in};
 
 use crate::fault::{ScriptFault, ScriptFaultKind};
@@ -24,6 +24,8 @@ pub fn parse_statement(alloc: Global, text: &[u8]) -> Result<Statement, ScriptFa
     // A text spells one statement at most, and it is read unless memory runs out.
     ensures only { (statement : Spelled) → SpellsStatement text.now statement → MatchResult result (λ read. read ≡ statement) (λ fault. fault ≡ ScriptFault.NoMemory) }
     ensures fault { IfErr result (IsStatementFault text.now) }
+    // Of the faults of its tokens it is the first from the left.
+    ensures first { IfErr result (IsFirstInText text.now) }
     // The same as a function of the text: what it gives is read, or memory ran out.
     ensures read { MatchResult result (λ statement. statement_in text.now ≡ Some statement) (λ fault. fault ≢ ScriptFault.NoMemory → statement_in text.now ≡ None) }
 {

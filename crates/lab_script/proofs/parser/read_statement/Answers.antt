@@ -1,5 +1,7 @@
-use Rattle.std.proofs.Common.{sym, ◌∙◌, subst}
+use Rattle.std.proofs.Common.{sym, ap, ◌∙◌, subst}
 use Rattle.lab_script.specs.Reading.{Fails}
+use Rattle.lab_script.specs.FirstFaults.{whole_statement_read, fault_in, placed_refusal, StopsFirst}
+use Rattle.lab_script.proofs.PlacedFaults.{stops_first, reads_all}
 use Rattle.lab_script.proofs.ReadStatements.{whole_takes, whole_again}
 use Rattle.lab_script.proofs.LongStatements.{statement_stops}
 use Rattle.lab_script.proofs.parser.read_statement.Goals as goal
@@ -16,3 +18,11 @@ returns-in-Err-clause-only c = λ statement h. subst (Fails c.placed.result) (wh
 pub returns-in-Err-clause-long : goal.returns-in-Err-clause-long
 returns-in-Err-clause-long c =
     c.placed.ensures.long (statement_stops c.args.tokens.now c.in-Err.refusal c.in-Err.ensures.over)
+
+pub returns-in-Ok-clause-first : goal.returns-in-Ok-clause-first
+returns-in-Ok-clause-first c = reads_all c.args.tokens.now (whole_statement_read c.args.tokens.now) _ c.in-Ok.ensures.reads
+
+pub returns-in-Err-clause-first : goal.returns-in-Err-clause-first
+returns-in-Err-clause-first c =
+    subst (StopsFirst (fault_in c.args.tokens.now (whole_statement_read c.args.tokens.now))) (sym (c.placed.ensures.placed ∙ ap (placed_refusal c.args.tokens.now c.in-Err.refusal) c.left.ensures))
+    (stops_first c.args.tokens.now c.whole_statement.new.self (whole_statement_read c.args.tokens.now) c.in-Err.refusal c.in-Err.ensures.reads)

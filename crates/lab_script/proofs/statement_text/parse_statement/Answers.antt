@@ -1,7 +1,8 @@
 use Rattle.std.proofs.Common.{List, sym, subst, ◌∙◌}
 use Rattle.lab_script.specs.declared.token.Token.{Token}
 use Rattle.lab_script.specs.HeldTokens.{AreStatementTokens}
-use Rattle.lab_script.specs.Fault.{IsStatementFault}
+use Rattle.lab_script.specs.Fault.{IsStatementFault, IsFirstInText}
+use Rattle.lab_script.proofs.PlacedFaults.{first_in_text}
 use Rattle.lab_script.proofs.StatementText.{text_spells, stop_fault}
 use Rattle.lab_script.proofs.StatementRead.{spells_in, spells_once, fault_only, fault_read}
 use Rattle.lab_script.proofs.statement_text.parse_statement.Goals as goal
@@ -22,6 +23,11 @@ returns-clause-fault c =
     let are = subst (λ (ts : List Token). AreStatementTokens c.args.text.now ts) (sym c.deref.ensures.value) c.in_ok-tokens.ensures in
     subst (IsStatementFault c.args.text.now) (sym c.at.ensures)
     (stop_fault c.args.text.now c.deref.result.now are c.if-text-gt-MAX_LINE_BYTES.false (sym c.is_ascii_code.ensures ∙ c.if-not-is_ascii_code.false) c.in-Err.refusal c.in-Err.ensures.only c.in-Err.ensures.kind c.in-Err.ensures.long)
+
+pub returns-clause-first : goal.returns-clause-first
+returns-clause-first c =
+    let are = subst (λ (ts : List Token). AreStatementTokens c.args.text.now ts) (sym c.deref.ensures.value) c.in_ok-tokens.ensures in
+    subst (IsFirstInText c.args.text.now) (sym c.at.ensures) (first_in_text c.args.text.now c.deref.result.now c.in-Err.refusal are c.in-Err.ensures.first)
 
 pub returns-clause-only : goal.returns-clause-only
 returns-clause-only c = fault_only c.args.text.now c.at.result (returns-clause-fault c)

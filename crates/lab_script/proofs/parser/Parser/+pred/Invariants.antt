@@ -4,6 +4,7 @@ use Rattle.lab_script.specs.declared.token.Word.TheVariants as word
 use Rattle.lab_script.specs.declared.token.Token.TheVariants as token
 use Rattle.lab_script.specs.Reading.{more_of}
 use Rattle.lab_script.specs.ReadingPredicates.{term_at, conj_at, pred_at}
+use Rattle.lab_script.specs.Stopping.{more_read, term_read, conj_read, pred_read}
 use Rattle.lab_script.proofs.parser.Parser.+pred.Given as goal
 
 abbrev pub decreases-conj : goal.decreases-conj
@@ -19,6 +20,7 @@ abbrev pub invariant-conj-loop-alloc : goal.invariant-conj-loop-alloc
 invariant-conj-loop-alloc l = record {
   shorter : length l.self ≤ length l.fn.self;
   so_far : (k : ℕ) × (length l.self ≤ k) × (more_of k (term_at l.fn.depth) (token.Word word.And) predicate.And l.pred l.self ≡ conj_at l.fn.depth l.fn.self);
+  stopped : (k : ℕ) × (length l.self ≤ k) × (more_read k (term_read l.fn.depth) (token.Word word.And) predicate.And l.pred l.self ≡ conj_read l.fn.depth l.fn.self);
 }
 
 abbrev pub decreases-conj-loop-alloc : goal.decreases-conj-loop-alloc
@@ -28,6 +30,7 @@ abbrev pub invariant-pred-loop-alloc : goal.invariant-pred-loop-alloc
 invariant-pred-loop-alloc l = record {
   shorter : length l.self ≤ length l.fn.self;
   so_far : (k : ℕ) × (length l.self ≤ k) × (more_of k (conj_at l.fn.depth) (token.Word word.Or) predicate.Or l.pred l.self ≡ pred_at l.fn.depth l.fn.self);
+  stopped : (k : ℕ) × (length l.self ≤ k) × (more_read k (conj_read l.fn.depth) (token.Word word.Or) predicate.Or l.pred l.self ≡ pred_read l.fn.depth l.fn.self);
 }
 
 abbrev pub decreases-pred-loop-alloc : goal.decreases-pred-loop-alloc
