@@ -5,3 +5,4 @@ pub mod Taken
 mod WholeScripts
 mod ScriptsPrint
 mod OneAnswer
+mod OneTranscript

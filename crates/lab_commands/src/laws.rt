@@ -1,11 +1,18 @@
-//! The law of what is said of a history file: there is one thing to say of it. The function has nothing to do.
+//! The laws of what is said of an input: there is one thing to say of it. The functions have nothing to do.
 
 ghost use Rattle.std.specs.Prelude.{◌≡◌, ℕ, List};
 ghost use Rattle.lab_commands.specs.Judging.{IsJudgeAnswer};
+ghost use Rattle.lab_commands.specs.Serial.{IsSerialAnswer};
 ghost use Rattle.lab_commands.specs.declared.ending.Ending.{Ending};
 
 /// Of one input `judge` says one thing, byte for byte: whoever judges a file gets the same report, or the same fault.
 pub fn judge_answer_unique()
     ensures text { (input one other : List ℕ) (first again : Ending) → IsJudgeAnswer input one first → IsJudgeAnswer input other again → one ≡ other }
     ensures ending { (input one other : List ℕ) (first again : Ending) → IsJudgeAnswer input one first → IsJudgeAnswer input other again → first ≡ again }
+{}
+
+/// Of one input `serial` says one thing, byte for byte: the transcript, or the line of the fault.
+pub fn serial_answer_unique()
+    ensures text { (input one other : List ℕ) (first again : Ending) → IsSerialAnswer input one first → IsSerialAnswer input other again → one ≡ other }
+    ensures ending { (input one other : List ℕ) (first again : Ending) → IsSerialAnswer input one first → IsSerialAnswer input other again → first ≡ again }
 {}

@@ -24,7 +24,7 @@ pub use batching::batch;
 pub use ending::{Ending, RunFault, status};
 pub use input::read_input;
 pub use judging::judge;
-pub use laws::judge_answer_unique;
+pub use laws::{judge_answer_unique, serial_answer_unique};
 pub use listing::case;
 pub use output::{Answer, write_text};
 pub use playing::run;
