@@ -10,6 +10,8 @@ import sys
 
 TOP = os.path.dirname(os.path.dirname(os.path.realpath(__file__)))
 PROGRAM = f"{TOP}/crates/hermitage_lab/out/hermitage_lab"
+# As many tables as an input may have, with names as long as may be. They begin alike, so that names are compared in full.
+TABLES = ("accounts_of_last", "accounts_of_next", "accounts_of_then", "accounts_of_this")
 
 
 def numbers(seed=1):

@@ -13,6 +13,7 @@ import re
 import sqlite3
 import tempfile
 
+NAME = "test"
 TABLES = """
     pragma journal_mode = wal;
     create table test (id integer primary key, value integer, txn integer, op integer, gone integer default 0);
@@ -40,6 +41,11 @@ def in_sql(statement, version):
     return change and f"update test set {change}, (txn, op) = ({version}) where {rows}", rows
 
 
+def of_table(members):
+    """Members of a list of the file, which begin with the name of the row's table."""
+    return [[NAME, *member] for member in members]
+
+
 class Recorder:
     """The table, and what is noted of its transactions: their outcomes and operations."""
 
@@ -61,15 +67,15 @@ class Recorder:
         by_number = {txn["no"]: txn for txn in self.transactions}
         for no, in self.list("select txn from commits order by place"):
             by_number[no]["outcome"] = "committed"
-            for row in {row for op in by_number[no]["ops"] for row, _ in op["writes"]}:
+            for row in {row for op in by_number[no]["ops"] for _, row, _ in op["writes"]}:
                 installed.setdefault(row, []).append(no)
         return {
             "format": "hermitage-history",
-            "version": 1,
-            "initial": self.initial,
+            "version": 2,
+            "initial": of_table(self.initial),
             "transactions": self.transactions,
-            "installed": sorted([row, numbers] for row, numbers in installed.items()),
-            "end": self.list("select id, value from test where not gone order by id"),
+            "installed": of_table(sorted([row, numbers] for row, numbers in installed.items())),
+            "end": of_table(self.list("select id, value from test where not gone order by id")),
         }
 
 
@@ -103,7 +109,8 @@ class Session:
             return False
         writes = self.list("select id, case when gone then null else value end from test"
                            f" where txn = {no} and op = {op} order by id")
-        self.txn["ops"].append({"statement": statement, "view": view, "rows": rows, "writes": writes})
+        lists = {"view": of_table(view), "rows": of_table(rows), "writes": of_table(writes)}
+        self.txn["ops"].append({"statement": statement, **lists})
         return True
 
     def commit(self):

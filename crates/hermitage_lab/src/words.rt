@@ -20,8 +20,8 @@ const SERIAL: &str = "Runs a script's transactions one after another";
 const SERIAL_WHOLE: &str = "\
 Runs a script's transactions one after another, each whole, in the order of their begins.
 
-Reads a script from standard input. It has a line with the table's rows, each an id and a value,
-and then lines of statements, each with its session behind two dashes:
+Reads a script from standard input. It has a line with rows, each an id and a value, and then lines of
+statements, each with its session behind two dashes:
 
     setup (1, 10), (2, 20);
     begin; -- T1
@@ -29,20 +29,24 @@ and then lines of statements, each with its session behind two dashes:
     update test set value = value + 10 where id = 1; -- T1
     commit; -- T1
 
+Rows may be of up to four named tables: `setup (1, 10), stock (1, 5);` has a row of `test`, which needn't
+be named, and one of `stock`. A name is 1 to 16 letters and low lines, and no word of scripts.
+
 Writes the transcript to standard output: for each transaction a line with its number and its
 session, as `txn 1 T1`, each statement with the rows that it lists, as `-> (2, 20)`, and `commit`
-or `abort`; then the rows of the table in the end. Where the input is no script, writes one line
-that names its first fault, as `line 3: NoSession`.";
+or `abort`; then the rows in the end. Where the input is no script, writes one line that names its
+first fault, as `line 3: NoSession`.";
 
 const RUN: &str = "Plays a script on an engine, and judges what its recording shows";
 
 const RUN_WHOLE: &str = "\
 Plays a script's sessions on one of three engines, and judges what its recording shows.
 
-Reads a script from standard input, as `serial` does. Writes the log to standard output, a line for
-each event, as `T1 begin: begun 1` or `T2 commit: refused WriteConflict row 1 by 1`; and then the
-ten lines of the report, as `judge` writes them. Where the input is no script, or its play is refused,
-writes one line that says so, as `line 3: NoSession` or `play: OverLimit entries`.
+Reads a script of up to four tables from standard input, as `serial` does. Writes the log to standard
+output, a line for each event, as `T1 begin: begun 1` or `T2 commit: refused WriteConflict row 1 by 1`;
+and then the ten lines of the report, as `judge` writes them. Where the input is no script, or its play
+is refused, writes one line that says so, as `line 3: NoSession` or `play: OverLimit entries`. With
+`--history` it writes a history file, of version 2, in place of log and report.
 
     hermitage_lab run --engine snapshot < examples/write_skew.txt
 
@@ -63,8 +67,11 @@ Judges the history of a file, from any source: whether it is serializable, and i
 it is a snapshot run, and with which starts and commits; which phenomena it has, and which level it meets.
 
 Reads a history file from standard input, and writes the ten lines of the report to standard output, as
-`serializable: yes T2 T1` or `G-single: present T1 wr(1) T2 rw(1) T1`. Where the input is no history
+`serializable: yes T2 T1` or `G-single: present T1 wr(1) T2 rw(stock 1) T1`. Where the input is no history
 file, writes one line that names its first fault, as `file: NotJson`.
+
+A file of version 2 has rows of up to four named tables, and one of version 1 rows of the table `test`
+alone; `run` writes version 2. Rows of `test` are told without their table.
 
     hermitage_lab run --engine committed --history < examples/write_skew.txt > history.json
     hermitage_lab judge < history.json";

@@ -45,6 +45,14 @@ const ONE_UPDATE: Case = Case {
     status: 0,
 };
 
+/// The same in a file of version 2.
+const ONE_UPDATE_OF_A_NAMED_TABLE: Case = Case {
+    subcommand: Subcommand::Judge,
+    input: br#"{"end":[["test",1,11]],"format":"hermitage-history","initial":[["test",1,10]],"installed":[["test",1,[1]]],"transactions":[{"no":1,"ops":[{"rows":[["test",1,10]],"statement":"update test set value = value + 1 where id = 1","view":[],"writes":[["test",1,11]]}],"outcome":"committed"}],"version":2}"#,
+    text: b"serializable: yes T1\nsnapshot: yes T1 0-1\nG0: absent\nG1a: absent\nG1b: absent\nG1c: absent\nG-single: absent\nG2-item: absent\nG2: absent\nlevel: PL-3\n",
+    status: 0,
+};
+
 const ROW_BORN_AGAIN: Case = Case {
     subcommand: Subcommand::Judge,
     input: br#"{"end":[[1,10],[2,20],[3,33]],"format":"hermitage-history","initial":[[1,10],[2,20]],"installed":[[3,[1,2,3]]],"transactions":[{"no":1,"ops":[{"rows":[],"statement":"insert into test (id, value) values (3, 30)","view":[],"writes":[[3,30]]}],"outcome":"committed"},{"no":2,"ops":[{"rows":[[3,30]],"statement":"delete from test where id = 3","view":[[3,1,1]],"writes":[[3,null]]}],"outcome":"committed"},{"no":3,"ops":[{"rows":[],"statement":"insert into test (id, value) values (3, 33)","view":[[3,2,1]],"writes":[[3,33]]}],"outcome":"committed"}],"version":1}"#,
@@ -80,13 +88,14 @@ const REPEATED_NUMBER: Case = Case {
     status: 2,
 };
 
-const CASES: [Case; 11] = [
+const CASES: [Case; 12] = [
     ABORTED_READ,
     WRITE_CYCLE,
     INTERMEDIATE_READ,
     READ_OF_A_LATER_VERSION,
     VALUE_WRITTEN_AGAIN,
     ONE_UPDATE,
+    ONE_UPDATE_OF_A_NAMED_TABLE,
     ROW_BORN_AGAIN,
     NO_TRANSACTIONS,
     ANOTHER_END,

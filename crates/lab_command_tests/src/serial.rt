@@ -66,7 +66,28 @@ const PRINTED: Case = Case {
     status: 0,
 };
 
-const CASES: [Case; 9] = [
+const TWO_TABLES: Case = Case {
+    subcommand: Subcommand::Serial,
+    input: b"setup test (1, 10), stock (1, 5);\nbegin; -- T1\nselect * from TEST where id = 1; -- T1\nupdate Stock set value = 6 where id = 1; -- T1\ninsert into test (id, value) values (2, 20); -- T1\ninsert into stock (id, value) values (1, 7); -- T1\n",
+    text: b"txn 1 T1\nselect * from test where id = 1 -> (1, 10)\nupdate stock set value = 6 where id = 1 -> (1, 5)\ninsert into test (id, value) values (2, 20) -> none\ninsert into stock (id, value) values (1, 7) -> DuplicateKey stock 1\nabort\nend stock (1, 5), (1, 10)\n",
+    status: 0,
+};
+
+const FIVE_TABLES: Case = Case {
+    subcommand: Subcommand::Serial,
+    input: b"setup a (1, 1), b (1, 1), c (1, 1), (1, 1), d (1, 1);",
+    text: b"line 1: TooManyTables\n",
+    status: 2,
+};
+
+const NO_NAME: Case = Case {
+    subcommand: Subcommand::Serial,
+    input: b"setup (1, 10);\nselect * from values; -- T1\n",
+    text: b"line 2: BadTableName\n",
+    status: 2,
+};
+
+const CASES: [Case; 12] = [
     NO_ROWS,
     TWO_SESSIONS,
     LARGE_NUMBER,
@@ -76,6 +97,9 @@ const CASES: [Case; 9] = [
     SEVENTEEN_OPEN,
     SIXTEEN_OPEN,
     PRINTED,
+    TWO_TABLES,
+    FIVE_TABLES,
+    NO_NAME,
 ];
 
 #[test]

@@ -5,7 +5,7 @@ use Rattle.lab_table.specs.declared.statement.Command.{Command}
 use Rattle.lab_table.specs.declared.statement.Command.TheVariants.{Begin, Commit, Abort, Run}
 use Rattle.lab_script.specs.declared.script.Line.{Line}
 use Rattle.lab_script.specs.declared.script.Script.{Script}
-use Rattle.lab_script.specs.Limits.{CommandPrints, AllPrint, ScriptPrints, IsDeep, IsLong, BreaksDepth, BreaksLength, long_setup, many_lines, long_statement}
+use Rattle.lab_script.specs.Limits.{CommandPrints, AllPrint, ScriptPrints, IsDeep, IsLong, BreaksDepth, BreaksLength, BreaksTables, long_setup, many_lines, long_statement}
 
 -- each line's command prints
 line_prints : (lines : List Line) → AllPrint lines → (line : Line) → Contains lines line → CommandPrints line.command
@@ -36,3 +36,7 @@ pub keeps_length : (script : Script) → ScriptPrints script → BreaksLength sc
 keeps_length script prints (long_setup long) = absurd (omega (arith, prints.setup, long))
 keeps_length script prints (many_lines many) = absurd (omega (arith, prints.few, many))
 keeps_length script prints (long_statement long) = not_long long.line.command (line_prints script.lines prints.lines long.line long.stands) long.is
+
+-- and no more tables are named than may be
+pub keeps_tables : (script : Script) → ScriptPrints script → BreaksTables script → ⊥
+keeps_tables script prints many = absurd (omega (arith, prints.tables, many))

@@ -24,6 +24,7 @@ fn text_of(alloc: Global, name: CaseName) -> Result<Vec<u8>, NoMemory>
         Err(PrintFault::NoMemory) => Err(AllocError),
         Err(PrintFault::TooDeep) => unreachable!(),
         Err(PrintFault::TooLong) => unreachable!(),
+        Err(PrintFault::TooManyTables) => unreachable!(),
     }
 }
 

@@ -53,6 +53,7 @@ fn answer_of(
         Err(PrintFault::NoMemory) => Err(AllocError),
         Err(PrintFault::TooDeep) => unreachable!(),
         Err(PrintFault::TooLong) => unreachable!(),
+        Err(PrintFault::TooManyTables) => unreachable!(),
     }
 }
 

@@ -77,6 +77,7 @@ fn answer_of(alloc: Global, recording: &Recording, history: bool) -> Result<Answ
         Err(PrintFault::TooDeep | PrintFault::TooLong) => Err(PlayFault::OverLimit {
             which: Limit::Statement,
         }),
+        Err(PrintFault::TooManyTables) => unreachable!(),
     }
 }
 

@@ -1,6 +1,6 @@
 //! What a recording tells.
 
-ghost use Rattle.std.specs.Prelude.{◌≡◌, Err, IfOk};
+ghost use Rattle.std.specs.Prelude.{◌≢◌, ◌≡◌, Err, IfOk};
 ghost use Rattle.lab_script.specs.Limits.{IsDeep, IsLong};
 ghost use Rattle.lab_session.specs.LogText.{SomeEvent};
 ghost use Rattle.lab_commands.specs.Playing.{IsLogAnswer, IsHistoryAnswer};
@@ -21,6 +21,7 @@ pub fn log_answer(alloc: Global, recording: &Recording) -> Result<Answer, PrintF
     ensures answer { IfOk result (λ answer. IsLogAnswer recording.now answer.text.items answer.ending) }
     ensures too_deep { result ≡ Err PrintFault.TooDeep → SomeEvent IsDeep recording.now.log }
     ensures too_long { result ≡ Err PrintFault.TooLong → SomeEvent IsLong recording.now.log }
+    ensures few_tables { result ≢ Err PrintFault.TooManyTables }
 {
     let mut text = print_log(alloc, recording)?;
     let report = judge_recording(alloc, recording)?;

@@ -1,43 +1,35 @@
 -- Rows of the initial table whose numbers a statement lists.
-use Rattle.std.proofs.Common.{◌≡◌, ◌≢◌, ℤ, nat_abs, Bool, true, false, ◌||◌, ◌&&◌, ◌<◌, cond, T, Option, Some, None, List, [], ◌∷◌, ◌++◌, refl, sym, ap, ◌∙◌, subst, arith}
-use Rattle.std.specs.Prelude.{nat_lt, ◌==◌, option_and_then, option_map}
+use Rattle.std.proofs.Common.{◌≡◌, ◌≢◌, ℕ, ℤ, nat_abs, Bool, true, false, ◌||◌, ◌&&◌, cond, T, Option, Some, None, List, [], ◌∷◌, ◌++◌, refl, sym, ap, ◌∙◌, subst}
+use Rattle.std.specs.Prelude.{pos, option_and_then, option_map}
 use Rattle.std.specs.FinMap.{find, get, entries, entries_sorted, is_sorted, get-entries}
 use Rattle.std.specs.FinMap.Entries.{below_all}
-use Rattle.std.specs.Ordering.{int_eq, is_lt}
-use Rattle.std.specs.declared.cmp.Ordering.TheVariants.{Less, Equal, Greater}
-use Rattle.std.proofs.lemmas.Bool.{ltb-true, lt-leb, le-leb, and_parts, false_from_ne_true}
+use Rattle.std.specs.Ordering.{int_eq, is_lt, is_le}
+use Rattle.std.specs.declared.cmp.Ordering.TheVariants.{Less}
+use Rattle.std.proofs.lemmas.Bool.{and_parts, false_from_ne_true}
 use Rattle.std.proofs.lemmas.Bool.Decides.{Decides-int_eq}
 use Rattle.std.proofs.lemmas.List.Folds.{list_any-append}
 use Rattle.std.proofs.lemmas.Option.{none-some, same_Some}
 use Rattle.std.proofs.Math.Bool.{or-false, and-false, and-or_distrib_left}
-use Rattle.lab_table.specs.Row.{Row, row_cmp, id_of, row_le}
+use Rattle.lab_table.specs.Row.{Row, row_cmp, id_of, row_le, numbered, row_made}
 use Rattle.lab_table.specs.NamedRow.{has_number}
-use Rattle.lab_table.specs.Table.{Table}
 use Rattle.lab_table.specs.Statement.{may_match}
+use Rattle.lab_table.proofs.Orderings.{is_less, turned_back}
 use Rattle.lab_table.proofs.Tests.{both}
 use Rattle.lab_history.specs.History.{History}
 use Rattle.lab_history.specs.declared.operation.Op.{Op}
 use Rattle.lab_deps.specs.Broken.{is_unlisted}
-use Rattle.lab_deps.specs.Passes.{first_value, is_unlisted_among, least}
+use Rattle.lab_deps.specs.Passes.{first_value, is_unlisted_among, least, unlisted_itself}
 use Rattle.lab_deps.proofs.RuledOut.{may_be_unlisted, first_is}
-
--- a row that compares as less is less
-less_than : (x y : Row) → T (is_lt (row_cmp x y)) → x < y
-less_than x y less = ltb-true x y (at (nat_lt x y) (x == y) less)
-  where
-    at : (a b : Bool) → T (is_lt (cond a Less (cond b Equal Greater))) → a ≡ true
-    at true b h = refl
-    at false true h = absurd h
-    at false false h = absurd h
+use Rattle.lab_deps.proofs.OwnTable.{own_table}
 
 -- of a row and rows above it the row is the least
-least_first : (x : Row) (o : Option Row) → ((row : Row) → o ≡ Some row → x < row) → least (Some x) o ≡ Some x
+least_first : (x : Row) (o : Option Row) → ((row : Row) → o ≡ Some row → row_cmp x row ≡ Less) → least (Some x) o ≡ Some x
 least_first x None below = refl
-least_first x (Some y) below = let less : x < y = below y refl in ap (λ t. cond t (Some x) (Some y)) (le-leb x y (omega (arith, less)))
+least_first x (Some y) below = ap (λ r. cond (is_le r) (Some x) (Some y)) (below y refl)
 
-least_second : (x : Row) (o : Option Row) → ((row : Row) → o ≡ Some row → x < row) → least o (Some x) ≡ Some x
+least_second : (x : Row) (o : Option Row) → ((row : Row) → o ≡ Some row → row_cmp x row ≡ Less) → least o (Some x) ≡ Some x
 least_second x None below = refl
-least_second x (Some y) below = ap (λ t. cond t (Some y) (Some x)) (lt-leb y x (below y refl))
+least_second x (Some y) below = ap (λ r. cond (is_le r) (Some y) (Some x)) (turned_back x y (below y refl))
 
 module _ {A : Type 0} where
   -- tests that are alike find the same
@@ -51,12 +43,12 @@ module _ {A : Type 0} where
   none_first test never (e ∷ es) = ap (λ t. cond t (Some e.0) (first_value test es)) (never e.0 e.1) ∙ none_first test never es
 
   -- what is found among entries stands above what is below all of them
-  found_above : (test : Row → A → Bool) (x : Row) (es : List (Row × A)) → T (below_all row_cmp x es) → (row : Row) → first_value test es ≡ Some row → x < row
+  found_above : (test : Row → A → Bool) (x : Row) (es : List (Row × A)) → T (below_all row_cmp x es) → (row : Row) → first_value test es ≡ Some row → row_cmp x row ≡ Less
   found_above test x [] below row e = absurd (none-some row e)
   found_above test x (y ∷ es) below row e =
       let parts = both (is_lt (row_cmp x y.0)) (below_all row_cmp x es) below in
-      elim (test y.0 y.1) as (λ b. cond b (Some y.0) (first_value test es) ≡ Some row → x < row) [
-        | true ↦ λ is. subst (λ r. x < r) (same_Some y.0 row is) (less_than x y.0 parts.0)
+      elim (test y.0 y.1) as (λ b. cond b (Some y.0) (first_value test es) ≡ Some row → row_cmp x row ≡ Less) [
+        | true ↦ λ is. subst (λ r. row_cmp x r ≡ Less) (same_Some y.0 row is) (is_less (row_cmp x y.0) parts.0)
         | false ↦ λ is. found_above test x es parts.1 row is
       ] e
 
@@ -80,14 +72,14 @@ abbrev entry_if : Op → Row × ℤ → Option Row
 entry_if op e = cond (is_unlisted op e.0 e.1) (Some e.0) None
 
 -- what is answered of a row's entry, where the table has one
-pub at_entry : (op : Op) (table : Table) (id : Row) (es : List (Row × ℤ)) → es ≡ entries table → (o : Option (Row × ℤ)) → o ≡ option_map (λ value. (id, value)) (find row_cmp id es)
-    → option_and_then (entry_if op) o ≡ option_and_then (λ value. cond (is_unlisted op id value) (Some id) None) (get table id)
-at_entry op table id es are o is =
+pub at_entry : (h : History) (op : Op) (row : Row) (es : List (Row × ℤ)) → es ≡ entries h.initial → (o : Option (Row × ℤ)) → o ≡ option_map (λ value. (row, value)) (find row_cmp row es)
+    → option_and_then (entry_if op) o ≡ unlisted_itself h op row
+at_entry h op row es are o is =
     ap (option_and_then (entry_if op))
-    (is ∙ ap (λ es. option_map (λ value. (id, value)) (find row_cmp id es)) are ∙ ap (option_map (λ value. (id, value))) (sym (get-entries table id)))
-    ∙ at (get table id)
+    (is ∙ ap (λ es. option_map (λ value. (row, value)) (find row_cmp row es)) are ∙ ap (option_map (λ value. (row, value))) (sym (get-entries h.initial row)))
+    ∙ at (get h.initial row)
   where
-    at : (o : Option ℤ) → option_and_then (entry_if op) (option_map (λ value. (id, value)) o) ≡ option_and_then (λ value. cond (is_unlisted op id value) (Some id) None) o
+    at : (o : Option ℤ) → option_and_then (entry_if op) (option_map (λ value. (row, value)) o) ≡ option_and_then (λ value. cond (is_unlisted op row value) (Some row) None) o
     at None = refl
     at (Some value) = refl
 
@@ -110,30 +102,36 @@ module _ (h : History) (op : Op) where
       (entries h.initial)
       ∙ first_of_either (is_unlisted_among op numbers) (is_unlisted_among op (number ∷ [])) (entries h.initial) (entries_sorted h.initial)
 
-  -- the row of one number
-  pub of_number : (number : ℤ) (id : Row) → id_of id ≡ number
-      → first_value (is_unlisted_among op (number ∷ [])) (entries h.initial) ≡ option_and_then (λ value. cond (is_unlisted op id value) (Some id) None) (get h.initial id)
+  -- the row of one number: of those with it that of the statement's table alone can be unlisted
+  pub of_number : (number : ℤ) (id : ℕ) → pos id ≡ number → first_value (is_unlisted_among op (number ∷ [])) (entries h.initial) ≡ unlisted_itself h op (numbered op.statement.table id)
   of_number number id is =
-      first_is (is_unlisted_among op (number ∷ [])) id
-      (λ other value found. ap nat_abs (own_number other number (and_parts _ _ found).1 ∙ sym is)) (entries h.initial) (entries_sorted h.initial)
-      ∙ ap (λ o. option_and_then (λ value. cond (is_unlisted_among op (number ∷ []) id value) (Some id) None) o) (sym (get-entries h.initial id))
-      ∙ at (get h.initial id)
+      first_is (is_unlisted_among op (number ∷ [])) row only (entries h.initial) (entries_sorted h.initial)
+      ∙ ap (λ o. option_and_then (λ value. cond (is_unlisted_among op (number ∷ []) row value) (Some row) None) o) (sym (get-entries h.initial row))
+      ∙ at (get h.initial row)
     where
-      has : has_number (number ∷ []) id ≡ true
-      has = or-false _ ∙ (Decides-int_eq (id_of id) number).1 is
+      row : Row
+      row = numbered op.statement.table id
+
+      only : (other : Row) (value : ℤ) → is_unlisted_among op (number ∷ []) other value ≡ true → other ≡ row
+      only other value found =
+          let parts = and_parts (is_unlisted op other value) (has_number (number ∷ []) other) found in
+          row_made other row (own_table op.statement other (may_be_unlisted op other value parts.0)) (ap nat_abs (own_number other number parts.1 ∙ sym is))
+
+      has : has_number (number ∷ []) row ≡ true
+      has = or-false _ ∙ (Decides-int_eq (id_of row) number).1 is
 
       also : (a b : Bool) → b ≡ true → (a && b) ≡ a
       also true b t = t
       also false b t = refl
 
-      at : (o : Option ℤ) → option_and_then (λ value. cond (is_unlisted_among op (number ∷ []) id value) (Some id) None) o ≡ option_and_then (λ value. cond (is_unlisted op id value) (Some id) None) o
+      at : (o : Option ℤ) → option_and_then (λ value. cond (is_unlisted_among op (number ∷ []) row value) (Some row) None) o ≡ option_and_then (λ value. cond (is_unlisted op row value) (Some row) None) o
       at None = refl
-      at (Some value) = ap (λ b. cond b (Some id) None) (also (is_unlisted op id value) _ has)
+      at (Some value) = ap (λ b. cond b (Some row) None) (also (is_unlisted op row value) _ has)
 
   -- a number that no row has
-  pub of_no_row : (number : ℤ) → ((row : Row) → id_of row ≢ number) → first_value (is_unlisted_among op (number ∷ [])) (entries h.initial) ≡ None
+  pub of_no_row : (number : ℤ) → ((id : ℕ) → pos id ≢ number) → first_value (is_unlisted_among op (number ∷ [])) (entries h.initial) ≡ None
   of_no_row number never =
-      none_first (is_unlisted_among op (number ∷ [])) (λ row value. false_from_ne_true _ (λ found. never row (own_number row number (and_parts _ _ found).1))) (entries h.initial)
+      none_first (is_unlisted_among op (number ∷ [])) (λ row value. false_from_ne_true _ (λ found. never row.id (own_number row number (and_parts _ _ found).1))) (entries h.initial)
 
   -- where a statement can match rows of some numbers alone, it is enough to look at these
   pub among_all : (numbers : List ℤ) → ((row : Row) → may_match op.statement row ≡ true → has_number numbers row ≡ true)

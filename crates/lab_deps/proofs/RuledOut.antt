@@ -1,7 +1,7 @@
 -- Rows that a statement rules out by their own numbers.
 use Rattle.std.proofs.Common.{◌≡◌, ℤ, Bool, true, false, cond, T, Option, Some, None, List, [], ◌∷◌, refl, sym, ap, ◌∙◌}
 use Rattle.std.specs.Prelude.{is_some, option_and_then}
-use Rattle.std.specs.FinMap.{find, get, entries, entries_sorted, is_sorted, get-entries}
+use Rattle.std.specs.FinMap.{find, entries, entries_sorted, is_sorted, get-entries}
 use Rattle.std.specs.FinMap.Entries.{below_all}
 use Rattle.std.specs.Ordering.{is_eq}
 use Rattle.std.proofs.lemmas.Bool.{false≢true, and_parts}
@@ -13,7 +13,7 @@ use Rattle.lab_table.proofs.Tests.{both}
 use Rattle.lab_history.specs.History.{History}
 use Rattle.lab_history.specs.declared.operation.Op.{Op}
 use Rattle.lab_deps.specs.Broken.{is_unlisted}
-use Rattle.lab_deps.specs.Passes.{first_value}
+use Rattle.lab_deps.specs.Passes.{first_value, unlisted_itself}
 
 -- a row that isn't listed though it matches isn't ruled out
 pub may_be_unlisted : (op : Op) (row : Row) (value : ℤ) → is_unlisted op row value ≡ true → may_match op.statement row ≡ true
@@ -46,7 +46,7 @@ module _ {A : Type 0} (test : Row → A → Bool) (row : Row) (only : (other : R
 
 -- the first row that a statement matches without listing it, where it may match no other row than one
 pub unlisted_at_row : (h : History) (op : Op) (row : Row) → ((other : Row) → may_match op.statement other ≡ true → other ≡ row)
-    → first_value (is_unlisted op) (entries h.initial) ≡ option_and_then (λ value. cond (is_unlisted op row value) (Some row) None) (get h.initial row)
+    → first_value (is_unlisted op) (entries h.initial) ≡ unlisted_itself h op row
 unlisted_at_row h op row only =
     first_is (is_unlisted op) row (λ other value unlisted. only other (may_be_unlisted op other value unlisted)) (entries h.initial) (entries_sorted h.initial)
     ∙ ap (λ o. option_and_then (λ value. cond (is_unlisted op row value) (Some row) None) o) (sym (get-entries h.initial row))

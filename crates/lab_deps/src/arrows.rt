@@ -15,7 +15,7 @@ use crate::txn_places::places_of;
 use crate::versions::Versions;
 use indexmap::IndexMap;
 use lab_history::History;
-use lab_table::{NoMemory, RowId, TxnNo};
+use lab_table::{NoMemory, RowName, TxnNo};
 use std::alloc::Global;
 
 /// Which kinds of dependencies there are between each two transactions.
@@ -34,7 +34,7 @@ pub fn arrows_of(
     alloc: Global,
     history: &History,
     scope: Scope,
-    rows: &IndexMap<RowId, Versions>,
+    rows: &IndexMap<RowName, Versions>,
 ) -> Result<Arrows, NoMemory>
     requires allowed { Allows scope history.now }
     requires versions { rows.now.entries ≡ rows_of history.now }

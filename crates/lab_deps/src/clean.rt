@@ -14,7 +14,7 @@ ghost use Rattle.lab_deps.specs.Passes as pass;
 use crate::due::{lists_due, writes_due};
 use crate::fine::sees_fine;
 use lab_history::{History, Op, Outcome, Txn, VersionName};
-use lab_table::{RowId, TxnNo};
+use lab_table::{RowName, TxnNo};
 
 /// Whether no fault is found at an operation of a committed transaction.
 pub fn is_clean(history: &History) -> bool
@@ -45,7 +45,7 @@ fn are_clean(history: &History, txn: TxnNo, ops: &[Op]) -> bool
     requires few { length ops.now ≤ max_operations }
     ensures { result ≡ true → fine.AreClean history.now txn ops.now }
 {
-    let mut known: &[(RowId, VersionName)] = &[];
+    let mut known: &[(RowName, VersionName)] = &[];
     for (index, op) in ops.iter().enumerate() {
         if !is_clean_op(history, txn, index as u32 + 1, known, op) {
             return false;
@@ -60,7 +60,7 @@ fn is_clean_op(
     history: &History,
     txn: TxnNo,
     number: u32,
-    known: &[(RowId, VersionName)],
+    known: &[(RowName, VersionName)],
     op: &Op,
 ) -> bool
     requires committed { IsCommitted history.now txn }

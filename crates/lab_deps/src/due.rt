@@ -17,7 +17,7 @@ use crate::passes::broken_row;
 use crate::relevant_rows::only_row;
 use crate::unlisted::unlisted_row;
 use lab_history::{History, Op, State};
-use lab_table::{RowId, Statement, TxnNo, Value};
+use lab_table::{RowName, Statement, TxnNo, Value};
 
 /// Whether an operation is found to list of each row what is due.
 pub fn lists_due(history: &History, op: &Op) -> bool
@@ -38,7 +38,7 @@ pub fn lists_due(history: &History, op: &Op) -> bool
 }
 
 /// Whether an operation lists of a row what is due.
-fn lists_at(history: &History, op: &Op, row: RowId) -> bool
+fn lists_at(history: &History, op: &Op, row: RowName) -> bool
     ensures { result ≡ true → (n k : ℕ) → test.is_broken kind.RowsDiffer history.now n k op.now row ≡ false }
 {
     let due = op

@@ -13,7 +13,7 @@ use crate::broken::precedes;
 use crate::lookup::{is_last, version_state};
 use crate::near::value_near;
 use lab_history::{History, Op, VersionName};
-use lab_table::{RowId, TxnNo};
+use lab_table::{RowName, TxnNo};
 
 /// Whether each version that an operation of a transaction sees is found to be one that it may see. What is known are
 /// versions that it may see.
@@ -21,7 +21,7 @@ pub fn sees_fine(
     history: &History,
     txn: TxnNo,
     number: u32,
-    known: &[(RowId, VersionName)],
+    known: &[(RowName, VersionName)],
     op: &Op,
 ) -> bool
     requires sorted { T (map.is_sorted row_cmp known.now) }
@@ -57,7 +57,7 @@ pub fn is_same(found: Option<VersionName>, version: VersionName) -> bool
 }
 
 /// Whether a version is found to be one that an operation of a transaction may see.
-fn is_fine(history: &History, reader: TxnNo, number: u32, row: RowId, seen: VersionName) -> bool
+fn is_fine(history: &History, reader: TxnNo, number: u32, row: RowName, seen: VersionName) -> bool
     ensures { result ≡ true → fine.is_fine history.now reader number row seen ≡ true }
 {
     match seen {
@@ -73,7 +73,7 @@ fn is_fine(history: &History, reader: TxnNo, number: u32, row: RowId, seen: Vers
 }
 
 /// Whether a transaction doesn't stand before another one among a row's installers.
-fn is_clear(history: &History, reader: TxnNo, writer: TxnNo, row: RowId) -> bool
+fn is_clear(history: &History, reader: TxnNo, writer: TxnNo, row: RowName) -> bool
     ensures { result ≡ fine.is_clear history.now reader writer row }
 {
     match history.installer_place(row, reader) {

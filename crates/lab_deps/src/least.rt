@@ -12,14 +12,14 @@ use crate::sink::EdgeSink;
 use crate::versions::Versions;
 use indexmap::IndexMap;
 use lab_history::History;
-use lab_table::{NoMemory, RowId, TxnNo};
+use lab_table::{NoMemory, RowName, TxnNo};
 
 /// The least of the edges that are meant and fit, among those that are found for two transactions. NoMemory where a
 /// growth was refused.
 pub fn least_of_two(
     history: &History,
     scope: Scope,
-    rows: &IndexMap<RowId, Versions>,
+    rows: &IndexMap<RowName, Versions>,
     from: TxnNo,
     to: TxnNo,
     kinds: Kinds,

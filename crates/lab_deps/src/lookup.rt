@@ -8,7 +8,7 @@ ghost use Rattle.lab_deps.specs.Passes.{is_at};
 ghost use Rattle.lab_deps.specs.Fine.{is_last};
 
 use lab_history::{History, Op, Outcome, State, Txn, VersionName};
-use lab_table::{RowId, TxnNo};
+use lab_table::{RowName, TxnNo};
 
 /// The transaction with this number, if there is one. Where numbers follow each other it is looked for by its own.
 pub fn txn_of(history: &History, number: TxnNo) -> Option<&Txn>
@@ -27,7 +27,7 @@ pub fn txn_of(history: &History, number: TxnNo) -> Option<&Txn>
 }
 
 /// What a version of a row is, or None where there is no such version.
-pub fn version_state(history: &History, row: RowId, version: VersionName) -> Option<State>
+pub fn version_state(history: &History, row: RowName, version: VersionName) -> Option<State>
     ensures { option_map state_value result ≡ version_state history.now row version }
 {
     match version {
@@ -47,7 +47,7 @@ fn op_of(ops: &[Op], number: u32) -> Option<&Op>
 }
 
 /// Whether an operation of a committed transaction is found to be the transaction's last that writes a row.
-pub fn is_last(history: &History, txn: TxnNo, op: u32, row: RowId) -> bool
+pub fn is_last(history: &History, txn: TxnNo, op: u32, row: RowName) -> bool
     ensures { result ≡ true → is_last history.now txn op row ≡ true }
 {
     match txn_of(history, txn) {
@@ -61,7 +61,7 @@ pub fn is_last(history: &History, txn: TxnNo, op: u32, row: RowId) -> bool
 
 /// The same of a transaction with these operations.
 #[tactic(auto, using(crate::proofs::LastOperations::ends_with))]
-fn is_last_of(history: &History, txn: TxnNo, ops: &[Op], op: u32, row: RowId) -> bool
+fn is_last_of(history: &History, txn: TxnNo, ops: &[Op], op: u32, row: RowName) -> bool
     requires { ops_of history.now txn ≡ ops.now }
     ensures { result ≡ true → is_at (last_write ops.now row) op ≡ true }
 {
@@ -73,7 +73,7 @@ fn is_last_of(history: &History, txn: TxnNo, ops: &[Op], op: u32, row: RowId) ->
 }
 
 /// Whether the operation with this number writes a row.
-fn writes_at(ops: &[Op], number: u32, row: RowId) -> bool
+fn writes_at(ops: &[Op], number: u32, row: RowName) -> bool
     ensures { result ≡ true → WritesAt ops.now number row }
 {
     match op_of(ops, number) {

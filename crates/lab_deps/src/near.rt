@@ -4,14 +4,19 @@ ghost use Rattle.std.specs.Prelude.{◌≡◌, T, option_map};
 ghost use Rattle.std.specs.Option.{option_copied};
 ghost use Rattle.std.specs.List.{prefix_len};
 ghost use Rattle.std.specs.FinMap as map;
-ghost use Rattle.lab_table.specs.Row.{row_cmp};
+ghost use Rattle.std.specs.Ordering.{is_gt};
+ghost use Rattle.lab_table.specs.Row.{row_cmp, numbered};
 ghost use Rattle.lab_table.specs.Running.{comes_after};
 
-use lab_table::{RowId, entry_numbered, place_of};
+use lab_table::{RowName, TableName, entry_numbered, place_of};
 
 /// The value of a row in a list whose rows rise strictly, looked for at a place first; and a place at which the row
 /// stands, or would.
-pub fn value_near<V: Copy>(entries: &[(RowId, V)], near: usize, row: RowId) -> (Option<V>, usize)
+pub fn value_near<V: Copy>(
+    entries: &[(RowName, V)],
+    near: usize,
+    row: RowName,
+) -> (Option<V>, usize)
     requires { T (map.is_sorted row_cmp entries.now) }
     ensures { result.0 ≡ map.find row_cmp row entries.now }
 {
@@ -20,7 +25,7 @@ pub fn value_near<V: Copy>(entries: &[(RowId, V)], near: usize, row: RowId) -> (
 }
 
 /// How many entries stand before a row, which is looked for at a place first.
-fn place_near<V>(entries: &[(RowId, V)], near: usize, row: RowId) -> usize
+fn place_near<V>(entries: &[(RowName, V)], near: usize, row: RowName) -> usize
     requires { T (map.is_sorted row_cmp entries.now) }
     ensures { result ≡ prefix_len (comes_after row) entries.now }
 {
@@ -32,21 +37,35 @@ fn place_near<V>(entries: &[(RowId, V)], near: usize, row: RowId) -> usize
     place_of(entries, row)
 }
 
-/// The entry of the row of this number in a list whose rows rise strictly; one beyond the last isn't looked for.
-pub fn entry_within<V>(entries: &[(RowId, V)], number: u32) -> Option<&(RowId, V)>
+/// The entry of the row of this number and table in a list whose rows rise strictly; one beyond the last isn't looked for.
+pub fn entry_within<V>(
+    entries: &[(RowName, V)],
+    table: TableName,
+    number: u32,
+) -> Option<&(RowName, V)>
     requires { T (map.is_sorted row_cmp entries.now) }
-    ensures { option_copied result ≡ option_map (λ value. (number, value)) (map.find row_cmp number entries.now) }
+    ensures { option_copied result ≡ option_map (λ value. (numbered table number, value)) (map.find row_cmp (numbered table number) entries.now) }
 {
     if let Some(last) = entries.last() {
-        if last.0.number() < number {
+        if is_behind(table, number, last.0) {
             return None;
         }
     }
-    entry_numbered(entries, number)
+    entry_numbered(entries, table, number)
+}
+
+/// Whether the row of this number and table comes after a row.
+fn is_behind(table: TableName, number: u32, row: RowName) -> bool
+    ensures { result ≡ is_gt (row_cmp (numbered table number) row) }
+{
+    table
+        .cmp(&row.table)
+        .then(number.cmp(&row.id.number()))
+        .is_gt()
 }
 
 /// The value of a row, where this is its place.
-fn value_at<V: Copy>(entries: &[(RowId, V)], place: usize, row: RowId) -> Option<V>
+fn value_at<V: Copy>(entries: &[(RowName, V)], place: usize, row: RowName) -> Option<V>
     requires sorted { T (map.is_sorted row_cmp entries.now) }
     requires place { place ≡ prefix_len (comes_after row) entries.now }
     ensures { result ≡ map.find row_cmp row entries.now }

@@ -11,7 +11,7 @@ use crate::versions::Versions;
 use crate::writes::add_neighbours_of_rows;
 use indexmap::IndexMap;
 use lab_history::History;
-use lab_table::{NoMemory, RowId, TxnNo};
+use lab_table::{NoMemory, RowName, TxnNo};
 
 /// Which dependencies are meant.
 #[derive(Clone, Copy)]
@@ -27,7 +27,7 @@ pub fn add_edges<S: EdgeSink>(
     sink: &mut S,
     history: &History,
     scope: Scope,
-    rows: &IndexMap<RowId, Versions>,
+    rows: &IndexMap<RowName, Versions>,
 ) -> Result<(), NoMemory>
     requires { rows.now.entries ≡ rows_of history.now }
     ensures { OnOk result (Grows S.handed sink.old sink.new (edges_in scope history.now)) }
@@ -43,7 +43,7 @@ pub fn add_edges_between<S: EdgeSink>(
     sink: &mut S,
     history: &History,
     scope: Scope,
-    rows: &IndexMap<RowId, Versions>,
+    rows: &IndexMap<RowName, Versions>,
     from: TxnNo,
     to: TxnNo,
 ) -> Result<(), NoMemory>

@@ -12,14 +12,14 @@ use crate::fault::LocalFault;
 use crate::kind::OpFault;
 use crate::passes::fault_in;
 use lab_history::History;
-use lab_table::{RowId, TxnNo};
+use lab_table::{RowName, TxnNo};
 
 /// An operation of a transaction, counted from 1, that sees a row.
 #[derive(Clone, Copy, Debug, PartialEq, Eq)]
 pub struct Read {
     pub txn: TxnNo,
     pub op: u32,
-    pub row: RowId,
+    pub row: RowName,
 }
 
 /// The first operation of a committed transaction that sees a version of an aborted one, with its least such row; None

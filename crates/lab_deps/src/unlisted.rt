@@ -1,10 +1,10 @@
 //! Rows of the initial table that an operation matches without listing them.
 //!
-//! Where the statement names the rows that it may match by their numbers, these alone are looked at.
+//! Where the statement names the rows that it may match by their numbers, these rows of its table alone are looked at.
 
-ghost use Rattle.std.specs.Prelude.{◌≡◌, ◌≢◌, cond, None, Some, IfSome, [], ◌∷◌, option_and_then};
+ghost use Rattle.std.specs.Prelude.{◌≡◌, ◌≢◌, ℕ, pos, None, IfSome, [], ◌∷◌};
 ghost use Rattle.std.specs.FinMap as map;
-ghost use Rattle.lab_table.specs.Row.{Row, id_of};
+ghost use Rattle.lab_table.specs.Row.{numbered};
 ghost use Rattle.lab_deps.specs.Broken as test;
 ghost use Rattle.lab_deps.specs.Passes as pass;
 
@@ -12,10 +12,10 @@ use crate::broken::is_unlisted;
 use crate::near::entry_within;
 use crate::row::least;
 use lab_history::{History, Op};
-use lab_table::{RowId, Value};
+use lab_table::{RowName, Value};
 
 /// The first row of the initial table that an operation's view lacks, and that matches without being listed so.
-pub fn unlisted_row(history: &History, op: &Op) -> Option<RowId>
+pub fn unlisted_row(history: &History, op: &Op) -> Option<RowName>
     ensures { result ≡ pass.first_value (test.is_unlisted op.now) (map.entries history.now.initial) }
 {
     if let Some(row) = op.statement.named_row() {
@@ -28,7 +28,7 @@ pub fn unlisted_row(history: &History, op: &Op) -> Option<RowId>
 }
 
 /// The same, where all rows are looked at.
-fn first_unlisted(history: &History, op: &Op) -> Option<RowId>
+fn first_unlisted(history: &History, op: &Op) -> Option<RowName>
     ensures { result ≡ pass.first_value (test.is_unlisted op.now) (map.entries history.now.initial) }
 {
     let entries = history.initial().rows();
@@ -41,8 +41,8 @@ fn first_unlisted(history: &History, op: &Op) -> Option<RowId>
 }
 
 /// This row, where the initial table has it so.
-fn unlisted_itself(history: &History, op: &Op, row: RowId) -> Option<RowId>
-    ensures { result ≡ option_and_then (λ value. cond (test.is_unlisted op.now row value) (Some row) None) (map.get history.now.initial row) }
+fn unlisted_itself(history: &History, op: &Op, row: RowName) -> Option<RowName>
+    ensures { result ≡ pass.unlisted_itself history.now op.now row }
 {
     let value = history.initial().get(row)?;
     if is_unlisted(op, row, value) {
@@ -52,11 +52,11 @@ fn unlisted_itself(history: &History, op: &Op, row: RowId) -> Option<RowId>
     }
 }
 
-/// The row of this number, where the initial table has it so.
-fn unlisted_at(history: &History, op: &Op, id: u32) -> Option<RowId>
-    ensures { result ≡ option_and_then (λ value. cond (test.is_unlisted op.now id value) (Some id) None) (map.get history.now.initial id) }
+/// The row of this number in the statement's table, where the initial table has it so.
+fn unlisted_at(history: &History, op: &Op, id: u32) -> Option<RowName>
+    ensures { result ≡ pass.unlisted_itself history.now op.now (numbered op.now.statement.table id) }
 {
-    match entry_within(history.initial().rows(), id) {
+    match entry_within(history.initial().rows(), op.statement.table, id) {
         None => None,
         Some(entry) => {
             if is_unlisted(op, entry.0, entry.1) {
@@ -68,8 +68,8 @@ fn unlisted_at(history: &History, op: &Op, id: u32) -> Option<RowId>
     }
 }
 
-/// The first of the rows with these numbers that is so.
-fn unlisted_among(history: &History, op: &Op, numbers: &[Value]) -> Option<RowId>
+/// The first of the rows with these numbers that is so. It is one of the statement's table, as no other matches.
+fn unlisted_among(history: &History, op: &Op, numbers: &[Value]) -> Option<RowName>
     ensures { result ≡ pass.first_value (pass.is_unlisted_among op.now numbers.now) (map.entries history.now.initial) }
 {
     let mut found = None;
@@ -79,7 +79,7 @@ fn unlisted_among(history: &History, op: &Op, numbers: &[Value]) -> Option<RowId
     found
 }
 
-fn unlisted_numbered(history: &History, op: &Op, number: Value) -> Option<RowId>
+fn unlisted_numbered(history: &History, op: &Op, number: Value) -> Option<RowName>
     ensures { result ≡ pass.first_value (pass.is_unlisted_among op.now (number ∷ [])) (map.entries history.now.initial) }
 {
     match row_number(number) {
@@ -90,8 +90,8 @@ fn unlisted_numbered(history: &History, op: &Op, number: Value) -> Option<RowId>
 
 /// The number as a row's, where it is none below 0.
 fn row_number(number: Value) -> Option<u32>
-    ensures some { IfSome result (λ id. id_of id ≡ number) }
-    ensures none { result ≡ None → (row : Row) → id_of row ≢ number }
+    ensures some { IfSome result (λ id. pos id ≡ number) }
+    ensures none { result ≡ None → (id : ℕ) → pos id ≢ number }
 {
     u32::try_from(number.number()).ok()
 }

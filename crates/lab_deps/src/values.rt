@@ -7,7 +7,7 @@ ghost use Rattle.lab_deps.specs.EdgesByRow.{answers_of, AreValuesOf};
 use crate::effect::is_same;
 use crate::versions::Version;
 use indexmap::IndexMap;
-use lab_table::{NoMemory, RowId, Statement, Value};
+use lab_table::{NoMemory, RowName, Statement, Value};
 use std::alloc::Global;
 
 /// The values of the first of a row's versions, up to 256 values. A version has one byte here, so that a walk reads
@@ -106,7 +106,7 @@ impl Values {
         &self,
         alloc: Global,
         statement: &Statement,
-        row: RowId,
+        row: RowName,
         versions: &[Version],
     ) -> Result<Vec<bool>, NoMemory>
         requires { AreValuesOf self.now.values.items self.now.places.items versions.now }
@@ -121,7 +121,12 @@ impl Values {
     }
 
     /// Whether a row of each value matches a statement.
-    fn asked(&self, alloc: Global, statement: &Statement, row: RowId) -> Result<Vec<bool>, NoMemory>
+    fn asked(
+        &self,
+        alloc: Global,
+        statement: &Statement,
+        row: RowName,
+    ) -> Result<Vec<bool>, NoMemory>
         ensures { IfOk result (λ asked. asked.items ≡ map (matches statement.now row) self.now.values.items) }
     {
         let mut asked = Vec::with_capacity(alloc, self.values.len())?;
@@ -136,7 +141,7 @@ impl Values {
         &self,
         asked: &[bool],
         statement: &Statement,
-        row: RowId,
+        row: RowName,
         place: usize,
         version: &Version,
     ) -> bool

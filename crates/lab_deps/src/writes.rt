@@ -10,7 +10,7 @@ use crate::edge::{Edge, Kind};
 use crate::reading::add_apart;
 use crate::sink::EdgeSink;
 use lab_history::{History, Installers};
-use lab_table::{NoMemory, RowId, TxnNo};
+use lab_table::{NoMemory, RowName, TxnNo};
 use std::alloc::Global;
 
 /// The edges between neighbours in the lists of all rows. NoMemory where a growth was refused.
@@ -29,7 +29,7 @@ pub fn add_neighbours_of_rows<S: EdgeSink>(sink: &mut S, history: &History) -> R
     add_rows(sink, history.installed().entries())
 }
 
-fn add_rows<S: EdgeSink>(sink: &mut S, rows: &[(RowId, Installers)]) -> Result<(), NoMemory>
+fn add_rows<S: EdgeSink>(sink: &mut S, rows: &[(RowName, Installers)]) -> Result<(), NoMemory>
     ensures { OnOk result (Grows S.handed sink.old sink.new (flat_map neighbours_at rows.now)) }
 {
     for entry in rows {
@@ -41,7 +41,7 @@ fn add_rows<S: EdgeSink>(sink: &mut S, rows: &[(RowId, Installers)]) -> Result<(
 /// Adds the edges between neighbours in a row's list.
 pub fn add_neighbours<S: EdgeSink>(
     sink: &mut S,
-    row: RowId,
+    row: RowName,
     installers: &[TxnNo],
 ) -> Result<(), NoMemory>
     ensures { OnOk result (Grows S.handed sink.old sink.new (neighbours row None installers.now)) }
@@ -57,7 +57,7 @@ pub fn add_neighbours<S: EdgeSink>(
 /// Adds the edge from an installer to the next one, if there is one before.
 fn add_next<S: EdgeSink>(
     sink: &mut S,
-    row: RowId,
+    row: RowName,
     before: Option<TxnNo>,
     to: TxnNo,
 ) -> Result<(), NoMemory>

@@ -2,8 +2,9 @@
 
 use crate::pairs::edges_by_pairs;
 use crate::told::is_told;
-use lab_deps::{Edge, Kind, Unsound, check_local, edges};
+use lab_deps::{Edge, Kind, LocalFault, Unsound, check_local, edges};
 use lab_history::{History, read_history};
+use lab_table::RowName;
 use std::alloc::Global;
 use std::test::Fail;
 
@@ -50,13 +51,22 @@ const BEFORE_AND_AFTER: &str =
 const REBORN: &str =
     r#"{"version":1,"format":"hermitage-history","initial":[[1,10],[2,20]],"transactions":[{"no":1,"outcome":"committed","ops":[{"statement":"insert into test (id, value) values (3, 30)","view":[],"rows":[],"writes":[[3,30]]}]},{"no":2,"outcome":"committed","ops":[{"statement":"delete from test where id = 3","view":[[3,1,1]],"rows":[[3,30]],"writes":[[3,null]]}]},{"no":3,"outcome":"committed","ops":[{"statement":"insert into test (id, value) values (3, 33)","view":[[3,2,1]],"rows":[],"writes":[[3,33]]}]}],"installed":[[3,[1,2,3]]],"end":[[1,10],[2,20],[3,33]]}"#;
 
+/// Two tables have a row 1: one transaction sees that of `test` and writes the other, and one turned round. A third sees
+/// what was written to `test`, and asks it for a value that only the other table's row had.
+const TWO_TABLES: &str =
+    r#"{"version":2,"format":"hermitage-history","initial":[["stock",1,5],["test",1,10]],"transactions":[{"no":1,"outcome":"committed","ops":[{"statement":"select * from test where id = 1","view":[],"rows":[["test",1,10]],"writes":[]},{"statement":"update stock set value = 6 where id = 1","view":[],"rows":[["stock",1,5]],"writes":[["stock",1,6]]}]},{"no":2,"outcome":"committed","ops":[{"statement":"select * from stock where id in (1, 2)","view":[],"rows":[["stock",1,5]],"writes":[]},{"statement":"update test set value = 11 where id = 1","view":[],"rows":[["test",1,10]],"writes":[["test",1,11]]}]},{"no":3,"outcome":"committed","ops":[{"statement":"select * from test","view":[["test",1,2,2]],"rows":[["test",1,11]],"writes":[]},{"statement":"select * from test where value = 5","view":[["test",1,2,2]],"rows":[],"writes":[]}]}],"installed":[["stock",1,[1]],["test",1,[2]]],"end":[["stock",1,6],["test",1,11]]}"#;
+
+/// A row of the first table isn't listed, whose number is above all of the second table's.
+const UNLISTED: &str =
+    r#"{"version":2,"format":"hermitage-history","initial":[["stock",2,5],["test",1,10]],"transactions":[{"no":1,"outcome":"committed","ops":[{"statement":"select * from stock where id in (1, 2)","view":[],"rows":[],"writes":[]}]}],"installed":[],"end":[["stock",2,5],["test",1,10]]}"#;
+
 /// The numbers of an edge's transactions and its row, and its kind.
 fn spelled(edge: Edge) -> (u32, u32, Kind, u32) {
     (
         edge.from.number(),
         edge.to.number(),
         edge.kind,
-        edge.row.number(),
+        edge.row.id.number(),
     )
 }
 
@@ -104,5 +114,51 @@ fn histories_with_their_edges(rt: HostRuntime) -> Result<(), Fail> {
         assert_eq!(rt; found.paired.as_slice(), found.walked.as_slice(), "{text}");
         assert!(rt; is_told(rt.alloc(), text.as_bytes())?, "{text}");
     }
+    Ok(())
+}
+
+#[test]
+fn a_history_over_two_tables(rt: HostRuntime) -> Result<(), Fail> {
+    let found = edges_by_both(rt.alloc(), TWO_TABLES.as_bytes())?;
+    let expected = [
+        (1, 2, Kind::ItemAnti, "test"),
+        (2, 1, Kind::ItemAnti, "stock"),
+        (2, 3, Kind::ItemRead, "test"),
+    ];
+    assert_eq!(rt; found.walked.len(), expected.len());
+    for (edge, (from, to, kind, table)) in found.walked.iter().zip(expected) {
+        assert_eq!(rt; spelled(*edge), (from, to, kind, 1));
+        assert_eq!(rt; edge.row.table.as_bytes(), table.as_bytes());
+    }
+    assert_eq!(rt; found.paired.as_slice(), found.walked.as_slice());
+    assert!(rt; is_told(rt.alloc(), TWO_TABLES.as_bytes())?);
+    Ok(())
+}
+
+/// Where a fault is of rows that aren't listed as is due: the numbers of the transaction and the operation, and the row.
+fn differing(fault: LocalFault) -> Option<(u32, u32, RowName)> {
+    match fault {
+        LocalFault::RowsDiffer { txn, op, row } => Some((txn.number(), op, row)),
+        _ => None,
+    }
+}
+
+/// The fault of a history of this text.
+fn fault_of(alloc: Global, text: &[u8]) -> Result<LocalFault, Fail> {
+    let Ok(history) = read_history(alloc, text) else {
+        return Err(Fail::from("a history"));
+    };
+    match walked(alloc, &history) {
+        Err(Unsound::Fault(fault)) => Ok(fault),
+        _ => Err(Fail::from("a fault")),
+    }
+}
+
+#[test]
+fn a_row_of_the_first_table_is_not_listed(rt: HostRuntime) -> Result<(), Fail> {
+    let fault = fault_of(rt.alloc(), UNLISTED.as_bytes())?;
+    let (txn, op, row) = differing(fault).ok_or("rows that differ")?;
+    assert_eq!(rt; (txn, op, row.id.number()), (1, 1, 2));
+    assert_eq!(rt; row.table.as_bytes(), b"stock".as_slice());
     Ok(())
 }

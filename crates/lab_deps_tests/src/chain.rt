@@ -41,7 +41,7 @@ fn a_long_chain_of_updates(rt: HostRuntime) -> Result<(), Fail> {
         assert_eq!(rt; (write.kind, read.kind), (Kind::Write, Kind::ItemRead));
         for edge in pair {
             assert_eq!(rt;
-                (edge.from.number(), edge.to.number(), edge.row.number()),
+                (edge.from.number(), edge.to.number(), edge.row.id.number()),
                 (from, from.wrapping_add(1), 1)
             );
         }

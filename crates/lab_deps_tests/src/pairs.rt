@@ -2,7 +2,7 @@
 
 use lab_deps::{Edge, Kind};
 use lab_history::{History, Op, Outcome, State, VersionName};
-use lab_table::{NoMemory, Pred, RowId, Statement, TxnNo, Value};
+use lab_table::{NoMemory, Pred, RowId, RowName, Statement, StatementKind, TxnNo, Value};
 use std::alloc::Global;
 
 /// What an operation of a transaction sees of a row: the place of a version, counted from 0, and whether it lists the
@@ -10,7 +10,7 @@ use std::alloc::Global;
 #[derive(Clone, Copy)]
 struct Reading {
     txn: TxnNo,
-    row: RowId,
+    row: RowName,
     place: usize,
     listed: bool,
 }
@@ -32,7 +32,11 @@ pub fn edges_by_pairs(alloc: Global, history: &History) -> Result<Vec<Edge>, NoM
 }
 
 /// Adds the edges between neighbours in a row's list.
-fn add_neighbours(edges: &mut Vec<Edge>, row: RowId, installers: &[TxnNo]) -> Result<(), NoMemory> {
+fn add_neighbours(
+    edges: &mut Vec<Edge>,
+    row: RowName,
+    installers: &[TxnNo],
+) -> Result<(), NoMemory> {
     let mut before = None;
     for installer in installers {
         if let Some(from) = before {
@@ -47,7 +51,7 @@ fn add_neighbours(edges: &mut Vec<Edge>, row: RowId, installers: &[TxnNo]) -> Re
 fn add_txn(
     edges: &mut Vec<Edge>,
     history: &History,
-    row: RowId,
+    row: RowName,
     txn: TxnNo,
     ops: &[Op],
 ) -> Result<(), NoMemory> {
@@ -133,7 +137,7 @@ fn add_apart(
     from: TxnNo,
     to: TxnNo,
     kind: Kind,
-    row: RowId,
+    row: RowName,
 ) -> Result<(), NoMemory> {
     if from != to {
         edges.push(Edge {
@@ -147,7 +151,7 @@ fn add_apart(
 }
 
 /// The place of the version that an operation sees of a row, or None where that is its own transaction's.
-fn seen_place(history: &History, reader: TxnNo, op: &Op, row: RowId) -> Option<usize> {
+fn seen_place(history: &History, reader: TxnNo, op: &Op, row: RowName) -> Option<usize> {
     match op.view.get(row).unwrap_or(VersionName::Initial) {
         VersionName::Initial => Some(0),
         VersionName::Of { txn, .. } => {
@@ -161,7 +165,7 @@ fn seen_place(history: &History, reader: TxnNo, op: &Op, row: RowId) -> Option<u
 }
 
 /// The transactions that installed a row, in order.
-fn installers(history: &History, row: RowId) -> &[TxnNo] {
+fn installers(history: &History, row: RowName) -> &[TxnNo] {
     match history.installed().get(row) {
         None => &[],
         Some(installers) => installers.as_slice(),
@@ -169,7 +173,7 @@ fn installers(history: &History, row: RowId) -> &[TxnNo] {
 }
 
 /// Whether exactly one of the version at a place and the one before it matches.
-fn changes(history: &History, statement: &Statement, row: RowId, place: usize) -> bool {
+fn changes(history: &History, statement: &Statement, row: RowName, place: usize) -> bool {
     let before = match place.checked_sub(1) {
         None => history.initial().get(row),
         Some(previous) => value_after(history, row, previous),
@@ -179,7 +183,7 @@ fn changes(history: &History, statement: &Statement, row: RowId, place: usize) -
 }
 
 /// The value that the installer at a place left, None where it made the row absent.
-fn value_after(history: &History, row: RowId, place: usize) -> Option<Value> {
+fn value_after(history: &History, row: RowName, place: usize) -> Option<Value> {
     let txn = *installers(history, row).get(place)?;
     let op = history.last_write(txn, row)?;
     match history.version_state(row, VersionName::Of { txn, op })? {
@@ -189,22 +193,25 @@ fn value_after(history: &History, row: RowId, place: usize) -> Option<Value> {
 }
 
 /// Whether a row with this value, None where it is absent, matches a statement.
-fn matches(statement: &Statement, row: RowId, value: Option<Value>) -> bool {
+fn matches(statement: &Statement, row: RowName, value: Option<Value>) -> bool {
     let Some(value) = value else {
         return false;
     };
-    match statement {
-        Statement::Select { pred } => is_true(pred, row, value),
-        Statement::Update { pred, .. } => is_true(pred, row, value),
-        Statement::Insert { id, .. } => row == *id,
-        Statement::Delete { pred } => is_true(pred, row, value),
+    if row.table != statement.table {
+        return false;
+    }
+    match &statement.kind {
+        StatementKind::Select { pred } => is_true(pred, row.id, value),
+        StatementKind::Update { pred, .. } => is_true(pred, row.id, value),
+        StatementKind::Insert { id, .. } => row.id == *id,
+        StatementKind::Delete { pred } => is_true(pred, row.id, value),
     }
 }
 
-/// Whether what stands behind `where` is true of a row; without a `where` it is.
-fn is_true(pred: &Option<Pred>, row: RowId, value: Value) -> bool {
+/// Whether what stands behind `where` is true of a row of this number; without a `where` it is.
+fn is_true(pred: &Option<Pred>, id: RowId, value: Value) -> bool {
     match pred {
         None => true,
-        Some(pred) => pred.matches(row, value),
+        Some(pred) => pred.matches(id, value),
     }
 }

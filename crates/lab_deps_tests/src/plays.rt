@@ -1,4 +1,4 @@
-//! Histories of recordings: scripts made by a rule, each played on the three engines.
+//! Histories of recordings: scripts over two tables made by a rule, each played on the three engines.
 
 ghost use Rattle.std.specs.Prelude.{◌≡◌, []};
 
@@ -12,21 +12,27 @@ use lab_versions::{CommittedEngine, SnapshotEngine};
 use std::alloc::{AllocError, Global};
 use std::test::Fail;
 
-/// The line that a number chooses: a command of one of three sessions on one of three rows. A commit begins anew.
+/// The line that a number chooses: a command of one of three sessions on one of three rows of one of two tables. A commit
+/// begins anew.
 fn line(alloc: Global, number: u32) -> Result<String, AllocError> {
     let session = (number >> 4) % 3 + 1;
     let row = (number >> 8) % 3 + 1;
+    let table = if (number >> 12) % 4 == 0 {
+        "stock"
+    } else {
+        "test"
+    };
     let command = match (number >> 16) % 11 {
         0 | 1 => format!(in alloc; "commit; -- T{session}\nbegin")?,
-        2 => String::from_str(alloc, "select * from test")?,
-        3 => String::from_str(alloc, "select * from test where value % 3 = 1")?,
-        4 => format!(in alloc; "select * from test where id = {row}")?,
-        5 => format!(in alloc; "select * from test where id = {row} and value > 12")?,
-        6 => format!(in alloc; "select * from test where id in ({row}, 3)")?,
-        7 => format!(in alloc; "update test set value = value + {row} where id = {row}")?,
-        8 => String::from_str(alloc, "update test set value = value + 2 where value < 25")?,
-        9 => format!(in alloc; "delete from test where id = {row}")?,
-        _ => format!(in alloc; "insert into test (id, value) values ({row}, {row}7)")?,
+        2 => format!(in alloc; "select * from {table}")?,
+        3 => format!(in alloc; "select * from {table} where value % 3 = 1")?,
+        4 => format!(in alloc; "select * from {table} where id = {row}")?,
+        5 => format!(in alloc; "select * from {table} where id = {row} and value > 12")?,
+        6 => format!(in alloc; "select * from {table} where id in ({row}, 3)")?,
+        7 => format!(in alloc; "update {table} set value = value + {row} where id = {row}")?,
+        8 => format!(in alloc; "update {table} set value = value + 2 where value < 25")?,
+        9 => format!(in alloc; "delete from {table} where id = {row}")?,
+        _ => format!(in alloc; "insert into {table} (id, value) values ({row}, {row}7)")?,
     };
     format!(in alloc; "{command}; -- T{session}\n")
 }
@@ -35,7 +41,7 @@ fn line(alloc: Global, number: u32) -> Result<String, AllocError> {
 fn made(alloc: Global, seed: u32) -> Result<String, AllocError> {
     let mut text = String::from_str(
         alloc,
-        "setup (1, 10), (2, 20), (3, 30);\nbegin; -- T1\nbegin; -- T2\nbegin; -- T3\n",
+        "setup (1, 10), (2, 20), (3, 30), stock (2, 21), stock (3, 31);\nbegin; -- T1\nbegin; -- T2\nbegin; -- T3\n",
     )?;
     let mut number = seed;
     for _ in 0..30 {

@@ -13,7 +13,10 @@ use lab_history::{History, ListPlace, Op, Path, VersionName, read_history};
 use lab_locking::LockEngine;
 use lab_script::{ScriptFault, parse_script, parse_statement, print_statement};
 use lab_session::play_script;
-use lab_table::{ByRow, NoMemory, Numbers, RowId, Session, Statement, Table, TxnNo, Value};
+use lab_table::{
+    ByRow, NoMemory, Numbers, RowId, RowName, Session, Statement, StatementKind, TableName, TxnNo,
+    Value,
+};
 use std::alloc::{AllocError, Global};
 use std::test::Fail;
 
@@ -43,7 +46,7 @@ struct Named {
     first: TxnNo,
     second: TxnNo,
     /// A row that the recording's setup doesn't have.
-    row: RowId,
+    row: RowName,
     value: Value,
     version: Version,
     sessions: [Session; 2],
@@ -54,7 +57,7 @@ fn numbers_and_rows() -> Option<Named> {
     Some(Named {
         first: TxnNo::new(1)?,
         second: TxnNo::new(2)?,
-        row: RowId::new(5)?,
+        row: RowName::in_test(RowId::new(5)?),
         value,
         version: Version {
             name: VersionName::Initial,
@@ -194,13 +197,16 @@ const CALLS: [Call; 25] = [
 
 /// Copies the condition of an update.
 fn with_condition_copied(alloc: Global, statement: &Statement) -> Result<Statement, ScriptFault> {
-    match statement {
-        Statement::Update {
+    match &statement.kind {
+        StatementKind::Update {
             expr,
             pred: Some(pred),
         } => {
             let pred = Some(pred.copy(alloc)?);
-            Ok(Statement::Update { expr: *expr, pred })
+            Ok(Statement {
+                table: statement.table,
+                kind: StatementKind::Update { expr: *expr, pred },
+            })
         }
         _ => Ok(statement.copy(alloc)?),
     }
@@ -224,9 +230,11 @@ fn made_statement(
 #[test]
 fn statements_that_are_refused_memory_are_not_made(rt: HostRuntime) -> Result<(), Fail> {
     let alloc = rt.alloc();
-    let statement = made_statement(alloc, 0, &Statement::Select { pred: None })
-        .ok()
-        .ok_or("a statement")?;
+    let any = Statement {
+        table: TableName::test(),
+        kind: StatementKind::Select { pred: None },
+    };
+    let statement = made_statement(alloc, 0, &any).ok().ok_or("a statement")?;
     for call in 0..3u8 {
         let mut answered = false;
         for growth in 1..500u16 {

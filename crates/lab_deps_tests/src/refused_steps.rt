@@ -63,7 +63,7 @@ pub fn told(outcome: &Outcome) -> Told {
         },
         Outcome::Refused(EngineFault::WriteConflict { row, by }) => (
             "conflict",
-            i64::from(row.number()),
+            i64::from(row.id.number()),
             i64::from(by.number()),
         ),
         Outcome::Refused(_) => ("refused", 0, 0),

@@ -1,25 +1,29 @@
 -- What a situation says of sessions, rows and numbers.
-use Rattle.std.proofs.Common.{◌≡◌, ◌≢◌, ℕ, zero, suc, ◌+◌, cond, List, [], ◌∷◌, map, length, Option, Some, None, refl, sym, ap, subst, ◌∙◌, arith, inl, inr, Contains, IsSome, option_map, T}
+use Rattle.std.proofs.Common.{◌≡◌, ◌≢◌, ℕ, zero, suc, ◌+◌, cond, List, [], ◌∷◌, ◌++◌, map as each, length, Option, Some, None, refl, sym, ap, subst, ◌∙◌, arith, inl, inr, Contains, IsSome, option_map, T}
 use Rattle.std.specs.Prelude.{is_some}
+use Rattle.std.specs.Option.{option_or}
+use Rattle.std.proofs.lemmas.List.{length-map, length-reverse, reverse-append}
 use Rattle.std.proofs.lemmas.Bool.Decides.{eqb_tells}
 use Rattle.std.specs.FinMap as map
 use Rattle.std.specs.FinMap.{empty, get-empty}
 use Rattle.lab_table.specs.Row.{Row, row_cmp}
-use Rattle.lab_table.specs.Table.{Rows, Writes}
+use Rattle.lab_table.specs.Table.{State, Rows, Writes}
 use Rattle.lab_table.specs.declared.statement.Statement.{Statement}
 use Rattle.lab_table.specs.declared.statement.Command.{Command}
 use Rattle.lab_table.specs.declared.statement.Command.TheVariants.{Begin, Commit, Abort, Run}
 use Rattle.lab_history.specs.VersionName.{View}
 use Rattle.lab_history.specs.declared.operation.Op.{Op}
+use Rattle.lab_history.specs.declared.operation.VersionName.TheVariants.{Of}
 use Rattle.lab_engine.specs.declared.event.LogEvent.{LogEvent}
 use Rattle.lab_engine.specs.declared.situation.RunningTxn.{RunningTxn}
 use Rattle.lab_engine.specs.declared.situation.SessionState.{SessionState}
 use Rattle.lab_engine.specs.declared.situation.Situation.{Situation}
-use Rattle.lab_engine.specs.Log.{Past, Txn, active, active_after, ops_after, asked, waiting, waiting_after, begun_after, commits, commits_after, last_installed}
+use Rattle.lab_engine.specs.Log.{Past, Txn, Version, version_or, version_by, active, active_after, ops_after, asked, waiting, waiting_after, begun_after, commits, commits_after, last_installed}
 use Rattle.lab_engine.specs.Sight.{Listed}
+use Rattle.lab_engine.specs.Merging.{written_version}
 use Rattle.lab_engine.specs.declared.event.Outcome.TheVariants.{Begun}
 use Rattle.lab_engine.specs.Chains.{chain_in, chain_after}
-use Rattle.lab_engine.specs.Situation.{Describes, DescribesAll, Agree, AreInstalled, IsRunning, all_sessions, running_of, waiting_of, grown}
+use Rattle.lab_engine.specs.Situation.{Describes, DescribesAll, Agree, AreInstalled, IsRunning, statements_of, all_sessions, running_of, waiting_of, grown}
 use Rattle.std.proofs.lemmas.Option.{same_Some}
 use Rattle.lab_table.proofs.Tests.{none_of}
 
@@ -33,6 +37,30 @@ begins_running past number before running is_number is_before none last_is insta
   statements = none;
   last = λ row. ap (λ m. map.get m row) last_is ∙ get-empty row_cmp row;
 }
+
+-- the version of a row after one more operation, which has this number
+grown_version : (number place : ℕ) (ops : List Op) (written : Option State) (old : Option Version) → place ≡ length ops + 1
+    → option_or (written_version (Of number place) written) old ≡ version_or number (length ops + 1) written old
+grown_version number place ops None old is = refl
+grown_version number place ops (Some state) old is = ap (λ n. Some (record { name = Of number n; state = state })) is
+
+-- a transaction that runs a statement more
+pub runs_on : (txn : Txn) (op : Op) (old new : RunningTxn) (place : ℕ) → IsRunning txn old → new.number ≡ old.number → new.before ≡ old.before → new.installed ≡ old.installed
+    → statements_of new ≡ statements_of old ++ op.statement ∷ [] → place ≡ length (statements_of old) + 1
+    → ((row : Row) → map.get new.last row ≡ option_or (written_version (Of old.number place) (map.get op.writes row)) (map.get old.last row)) → IsRunning (grown txn op) new
+runs_on txn op old new place running number before installed statements numbered last =
+    let ran : ℕ = length txn.ops in
+    let counted : length (statements_of old) ≡ ran = ap length running.statements ∙ length-reverse (each (λ op. op.statement) txn.ops) ∙ length-map txn.ops (λ op. op.statement) in
+    record {
+      number = number ∙ running.number;
+      before = before ∙ running.before;
+      installed = subst (AreInstalled txn.before) (sym installed) running.installed;
+      statements = statements ∙ ap (λ l. l ++ op.statement ∷ []) running.statements ∙ sym (reverse-append (op.statement ∷ []) (each (λ op. op.statement) txn.ops));
+      last = λ row.
+          last row ∙ ap (option_or (written_version (Of old.number place) (map.get op.writes row))) (running.last row)
+          ∙ ap (λ n. option_or (written_version (Of n place) (map.get op.writes row)) (version_by txn row)) running.number
+          ∙ grown_version txn.no place txn.ops (map.get op.writes row) (version_by txn row) (numbered ∙ ap (λ n. n + 1) counted);
+    }
 
 -- a begin installs nothing
 pub installed_at_begin : (past : Past) (event : LogEvent) (number : ℕ) (versions : Listed) → event.outcome ≡ Begun number → AreInstalled (event ∷ past) versions → AreInstalled past versions
@@ -64,13 +92,13 @@ not_first : (x y : ℕ) (xs : List ℕ) → x ≢ y → Contains (x ∷ xs) y �
 not_first x y xs apart (zero, few, is) = absurd (apart is)
 not_first x y xs apart (suc k, few, is) = (k, omega arith, is)
 
-agrees_in : (past : Past) (states : List SessionState) (session : ℕ) → DescribesAll past states → (IsSome (active past session) → Contains (map (λ state. state.session) states) session)
+agrees_in : (past : Past) (states : List SessionState) (session : ℕ) → DescribesAll past states → (IsSome (active past session) → Contains (each (λ state. state.session) states) session)
     → Agree (active past session) (running_of states session)
 agrees_in past [] session all there = no_txn (active past session) (λ some. absurd (omega (arith, (there some).1)))
 agrees_in past (state ∷ states) session all there = elim (eqb_tells state.session session) [
   | inl p ↦ subst (λ b. Agree (active past session) (cond b state.running (running_of states session))) (sym p.0) (subst (λ n. Agree (active past n) state.running) p.1 all.0.running)
   | inr p ↦ subst (λ b. Agree (active past session) (cond b state.running (running_of states session))) (sym p.0)
-      (agrees_in past states session all.1 (λ some. not_first state.session session (map (λ state. state.session) states) p.1 (there some)))
+      (agrees_in past states session all.1 (λ some. not_first state.session session (each (λ state. state.session) states) p.1 (there some)))
 ]
 
 -- what a situation keeps of a session's transaction agrees with it
@@ -95,13 +123,13 @@ running_txn past situation is session running kept = kept_txn (active past sessi
 pub running_none : (past : Past) (situation : Situation) → Describes past situation → (session : ℕ) → running_of situation.sessions.items session ≡ None → active past session ≡ None
 running_none past situation is session kept = kept_none (active past session) (subst (λ r. Agree (active past session) r) kept (running_agrees past situation is session))
 
-waits_in : (past : Past) (states : List SessionState) (session : ℕ) → DescribesAll past states → (IsSome (waiting past session) → Contains (map (λ state. state.session) states) session)
+waits_in : (past : Past) (states : List SessionState) (session : ℕ) → DescribesAll past states → (IsSome (waiting past session) → Contains (each (λ state. state.session) states) session)
     → waiting_of states session ≡ waiting past session
 waits_in past [] session all there = sym (none_of (waiting past session) (λ some. absurd (omega (arith, (there some).1))))
 waits_in past (state ∷ states) session all there = elim (eqb_tells state.session session) [
   | inl p ↦ ap (λ b. cond b state.waits (waiting_of states session)) p.0 ∙ all.0.waits ∙ ap (waiting past) p.1
   | inr p ↦ ap (λ b. cond b state.waits (waiting_of states session)) p.0
-      ∙ waits_in past states session all.1 (λ some. not_first state.session session (map (λ state. state.session) states) p.1 (there some))
+      ∙ waits_in past states session all.1 (λ some. not_first state.session session (each (λ state. state.session) states) p.1 (there some))
 ]
 
 -- what a situation keeps of a session that waits agrees with the log
@@ -141,7 +169,7 @@ waiting_in past event own before session some = elim (eqb_tells event.session se
 ]
 
 -- a situation goes on by an event where its parts do
-pub goes_on : (past : Past) (event : LogEvent) (old new : Situation) → Describes past old → Contains all_sessions event.session → map (λ state. state.session) new.sessions.items ≡ all_sessions
+pub goes_on : (past : Past) (event : LogEvent) (old new : Situation) → Describes past old → Contains all_sessions event.session → each (λ state. state.session) new.sessions.items ≡ all_sessions
     → DescribesAll (event ∷ past) new.sessions.items → ((row : Row) → map.get new.committed row ≡ last_installed (commits (event ∷ past)) row)
     → ((row : Row) → chain_in new.chains row ≡ chain_after event.outcome (active past event.session) (length past) row (chain_in old.chains row))
     → new.begun ≡ begun_after event.outcome old.begun → new.events ≡ old.events + 1 → Describes (event ∷ past) new
@@ -157,7 +185,7 @@ goes_on past event old new is own sessions states committed chains begins counte
 }
 
 -- the situation before any event
-pub starts : (situation : Situation) → map (λ state. state.session) situation.sessions.items ≡ all_sessions → DescribesAll [] situation.sessions.items → situation.committed ≡ empty
+pub starts : (situation : Situation) → each (λ state. state.session) situation.sessions.items ≡ all_sessions → DescribesAll [] situation.sessions.items → situation.committed ≡ empty
     → ((row : Row) → chain_in situation.chains row ≡ []) → situation.begun ≡ 0 → situation.events ≡ 0
     → Describes [] situation
 starts situation sessions states none chains begins counted = record {

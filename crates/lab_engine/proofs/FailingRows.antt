@@ -1,20 +1,20 @@
 -- The first row that keeps a statement from running.
-use Rattle.std.proofs.Common.{◌≡◌, ◌∙◌, refl, sym, ap, subst, Bool, true, false, cond, ◌||◌, T, List, [], ◌∷◌, ◌⊎◌, inl, inr}
-use Rattle.std.specs.Prelude.{Option, Some, None, unwrap_or}
+use Rattle.std.proofs.Common.{◌≡◌, ◌∙◌, refl, sym, ap, subst, Bool, true, false, cond, ◌||◌, ◌&&◌, T, List, [], ◌∷◌, ◌⊎◌, inl, inr}
+use Rattle.std.specs.Prelude.{ℤ, Option, Some, None, is_some, unwrap_or, option_map, IsTrue}
 use Rattle.std.specs.List.{list_any}
 use Rattle.std.specs.Ordering.{is_lt, ordering_reverse}
 use Rattle.std.specs.declared.cmp.Ordering.TheVariants.{Less}
 use Rattle.std.specs.FinMap.{find, is_sorted, get, entries, entries_sorted, get-entries}
 use Rattle.std.specs.FinMap.Entries.{below_all}
 use Rattle.lab_table.specs.Row.{Row, row_cmp, row_eq, rows_total}
-use Rattle.lab_table.specs.Statement.{is_update, fails}
+use Rattle.lab_table.specs.Statement.{is_update, inserted, fails}
 use Rattle.lab_table.specs.declared.statement.Statement.{Statement}
 use Rattle.lab_table.proofs.Maps.{same_row, row_eq_self}
-use Rattle.lab_table.proofs.OneRow.{absent_runs}
+use Rattle.lab_table.proofs.OneRow.{absent_runs, insert_is}
 use Rattle.lab_table.proofs.Tests.{both}
 use Rattle.lab_table.proofs.Orderings.{is_less}
 use Rattle.lab_engine.specs.Log.{Version}
-use Rattle.lab_engine.specs.Rules.{IsBelow}
+use Rattle.lab_engine.specs.Rules.{IsBelow, IsInsertOf}
 use Rattle.lab_engine.specs.Sight.{Listed, version_in}
 use Rattle.lab_engine.specs.EachRow.{first_failing}
 use Rattle.lab_engine.specs.Effect.{IsEffectFault}
@@ -108,6 +108,23 @@ module _ (s : Statement) (m : Listed) (es : List (Row × Version)) (of_map : es 
       at : IsFirst s (λ q. find row_cmp q (entries m)) row → (other : Row) → IsBelow other row → (o : Option Version) → get m other ≡ o → fails s other (unwrap_or o absent).state ≡ false
       at f other below None is = nothing other
       at f other below (Some u) is = f.before other u below (sym (get-entries m other) ∙ is)
+
+-- an insert fails where its row is present
+pub insert_fails : (s : Statement) (m : Listed) (added : Row × ℤ) → inserted s ≡ Some added → is_some (version_in m added.0).state ≡ true
+    → IsInsertOf added.0 s × IsTrue (fails s added.0 (version_in m added.0).state)
+insert_fails s m (row, value) is there = (
+  ap (option_map (λ (added : Row × ℤ). added.0)) is,
+  (insert_is s row value is).is_refused row (version_in m row).state ∙ ap (λ own. own && is_some (version_in m row).state) (row_eq_self row) ∙ there,
+)
+
+-- an insert runs where its row is absent
+pub insert_runs : (s : Statement) (m : Listed) (added : Row × ℤ) → inserted s ≡ Some added → is_some (version_in m added.0).state ≡ false
+    → (q : Row) → fails s q (version_in m q).state ≡ false
+insert_runs s m (row, value) is off q = (insert_is s row value is).is_refused q (version_in m q).state ∙ at (row_eq q row) refl
+  where
+    at : (own : Bool) → row_eq q row ≡ own → (own && is_some (version_in m q).state) ≡ false
+    at true same = ap (λ k. is_some (version_in m k).state) (same_row q row same) ∙ off
+    at false other = refl
 
 -- a statement runs where no row that is seen fails
 pub update_runs : (s : Statement) (m : Listed) (es : List (Row × Version)) → es ≡ entries m → first_failing s es ≡ None → (q : Row) → fails s q (version_in m q).state ≡ false

@@ -6,13 +6,13 @@ ghost use Rattle.lab_table.specs.Row.{row_cmp};
 ghost use Rattle.lab_engine.specs.Candidates.{own_first, own_entries, AreCandidates};
 
 use crate::version::Version;
-use lab_table::{RowId, Statement, place_of};
+use lab_table::{RowName, Statement, place_of};
 
 /// Of entries by rising row those whose rows a statement may match: where it names a row, at most that row's.
 pub fn candidates<'e>(
     statement: &Statement,
-    entries: &'e [(RowId, Version)],
-) -> &'e [(RowId, Version)]
+    entries: &'e [(RowName, Version)],
+) -> &'e [(RowName, Version)]
     requires { T (map.is_sorted row_cmp entries.now) }
     ensures { AreCandidates statement.now entries.now result.now }
 {
@@ -23,7 +23,7 @@ pub fn candidates<'e>(
 }
 
 /// The row's entry, of entries by rising row; nothing where it has none.
-fn own_entry(entries: &[(RowId, Version)], row: RowId) -> &[(RowId, Version)]
+fn own_entry(entries: &[(RowName, Version)], row: RowName) -> &[(RowName, Version)]
     requires { T (map.is_sorted row_cmp entries.now) }
     ensures { result.now ≡ own_entries row entries.now }
 {
@@ -32,7 +32,7 @@ fn own_entry(entries: &[(RowId, Version)], row: RowId) -> &[(RowId, Version)]
 }
 
 /// The first entry, where it is the row's; else nothing.
-fn first_own(entries: &[(RowId, Version)], row: RowId) -> &[(RowId, Version)]
+fn first_own(entries: &[(RowName, Version)], row: RowName) -> &[(RowName, Version)]
     ensures { result.now ≡ own_first row entries.now }
 {
     match entries.split_first() {

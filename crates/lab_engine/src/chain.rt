@@ -8,7 +8,7 @@ ghost use Rattle.lab_engine.specs.Chains.{chain_in, longer, added};
 
 use crate::version::{Version, Versions};
 use lab_history::VersionName;
-use lab_table::{NoMemory, RowId, TxnNo, Value};
+use lab_table::{NoMemory, RowName, TxnNo, Value};
 use std::alloc::Global;
 use std::collections::BTreeMap;
 
@@ -25,7 +25,7 @@ pub struct Installed {
 /// Of each row the installed versions, in order of their commits.
 #[derive(Drop)]
 pub struct Chains {
-    rows: BTreeMap<RowId, Vec<Installed>>,
+    rows: BTreeMap<RowName, Vec<Installed>>,
 }
 
 impl Chains {
@@ -39,7 +39,7 @@ impl Chains {
     }
 
     /// The transaction that was the first to install a row by a commit with at least so many events before it.
-    pub fn first_since(&self, row: RowId, place: usize) -> Option<TxnNo>
+    pub fn first_since(&self, row: RowName, place: usize) -> Option<TxnNo>
         ensures { result ≡ plain.first_since place (chain_in self.now row) }
     {
         match self.rows.get(&row) {
@@ -52,7 +52,7 @@ impl Chains {
     fn add(
         &mut self,
         alloc: Global,
-        row: RowId,
+        row: RowName,
         name: VersionName,
         state: Option<Value>,
         by: TxnNo,

@@ -17,7 +17,7 @@ use crate::candidates::candidates;
 use crate::pending::version_seen;
 use crate::version::{Version, Versions};
 use lab_history::{Rows, State, VersionName, View, Writes};
-use lab_table::{NoMemory, RowId, Statement, Value};
+use lab_table::{NoMemory, RowName, Statement, Value};
 use std::alloc::{AllocError, Global};
 
 /// What a statement saw, listed and wrote.
@@ -37,9 +37,9 @@ pub enum EffectFault {
     /// A growth of memory was refused.
     NoMemory,
     /// The row that the insert adds is present.
-    DuplicateKey { id: RowId },
+    DuplicateKey { id: RowName },
     /// The update's result is out of range at this row, the least such.
-    OutOfRange { id: RowId },
+    OutOfRange { id: RowName },
 }
 
 impl From<AllocError> for EffectFault {
@@ -53,7 +53,7 @@ impl From<AllocError> for EffectFault {
     }
 }
 
-fn name_at(entry: &(RowId, Version)) -> Option<(RowId, VersionName)>
+fn name_at(entry: &(RowName, Version)) -> Option<(RowName, VersionName)>
     ensures { result ≡ with_row entry.now.0 (in_view entry.now.1.name) }
 {
     match entry.1.name {
@@ -62,7 +62,10 @@ fn name_at(entry: &(RowId, Version)) -> Option<(RowId, VersionName)>
     }
 }
 
-fn names(alloc: Global, entries: &[(RowId, Version)]) -> Result<Vec<(RowId, VersionName)>, NoMemory>
+fn names(
+    alloc: Global,
+    entries: &[(RowName, Version)],
+) -> Result<Vec<(RowName, VersionName)>, NoMemory>
     ensures { IfOk result (λ v. v.items ≡ each_row (λ row version. in_view version.name) entries.now) }
 {
     entries
@@ -78,7 +81,7 @@ fn view_of(alloc: Global, seen: &Versions) -> Result<View, NoMemory>
     Ok(View::new(names(alloc, seen.entries())?))
 }
 
-fn value_at(statement: &Statement, entry: &(RowId, Version)) -> Option<(RowId, Value)>
+fn value_at(statement: &Statement, entry: &(RowName, Version)) -> Option<(RowName, Value)>
     ensures { result ≡ with_row entry.now.0 (listed statement.now entry.now.0 entry.now.1.state) }
 {
     let value = statement.listed(entry.0, entry.1.state)?;
@@ -88,8 +91,8 @@ fn value_at(statement: &Statement, entry: &(RowId, Version)) -> Option<(RowId, V
 fn values(
     alloc: Global,
     statement: &Statement,
-    entries: &[(RowId, Version)],
-) -> Result<Vec<(RowId, Value)>, NoMemory>
+    entries: &[(RowName, Version)],
+) -> Result<Vec<(RowName, Value)>, NoMemory>
     ensures { IfOk result (λ v. v.items ≡ each_row (λ row version. listed statement.now row version.state) entries.now) }
 {
     entries
@@ -102,8 +105,8 @@ fn values(
 fn listed_values(
     alloc: Global,
     statement: &Statement,
-    entries: &[(RowId, Version)],
-) -> Result<Vec<(RowId, Value)>, NoMemory>
+    entries: &[(RowName, Version)],
+) -> Result<Vec<(RowName, Value)>, NoMemory>
     requires { T (map.is_sorted row_cmp entries.now) }
     ensures { IfOk result (λ v. v.items ≡ each_row (λ row version. listed statement.now row version.state) entries.now) }
 {
@@ -128,7 +131,7 @@ fn rewritten_value(statement: &Statement, value: Value) -> Option<State>
     }
 }
 
-fn state_at(statement: &Statement, entry: &(RowId, Version)) -> Option<(RowId, State)>
+fn state_at(statement: &Statement, entry: &(RowName, Version)) -> Option<(RowName, State)>
     ensures { result ≡ with_row entry.now.0 (rewritten statement.now entry.now.0 entry.now.1.state) }
 {
     let value = statement.listed(entry.0, entry.1.state)?;
@@ -139,8 +142,8 @@ fn state_at(statement: &Statement, entry: &(RowId, Version)) -> Option<(RowId, S
 fn states(
     alloc: Global,
     statement: &Statement,
-    entries: &[(RowId, Version)],
-) -> Result<Vec<(RowId, State)>, NoMemory>
+    entries: &[(RowName, Version)],
+) -> Result<Vec<(RowName, State)>, NoMemory>
     ensures { IfOk result (λ v. v.items ≡ each_row (λ row version. rewritten statement.now row version.state) entries.now) }
 {
     entries
@@ -153,15 +156,15 @@ fn states(
 fn rewritten_states(
     alloc: Global,
     statement: &Statement,
-    entries: &[(RowId, Version)],
-) -> Result<Vec<(RowId, State)>, NoMemory>
+    entries: &[(RowName, Version)],
+) -> Result<Vec<(RowName, State)>, NoMemory>
     requires { T (map.is_sorted row_cmp entries.now) }
     ensures { IfOk result (λ v. v.items ≡ each_row (λ row version. rewritten statement.now row version.state) entries.now) }
 {
     states(alloc, statement, candidates(statement, entries))
 }
 
-fn inserted(alloc: Global, id: RowId, value: Value) -> Result<Vec<(RowId, State)>, NoMemory>
+fn inserted(alloc: Global, id: RowName, value: Value) -> Result<Vec<(RowName, State)>, NoMemory>
     ensures { IfOk result (λ v. v.items ≡ (id, Present value) ∷ []) }
 {
     let mut written = Vec::new(alloc);
@@ -175,7 +178,7 @@ fn written_states(
     alloc: Global,
     statement: &Statement,
     seen: &Versions,
-) -> Result<Vec<(RowId, State)>, NoMemory>
+) -> Result<Vec<(RowName, State)>, NoMemory>
     ensures sorted { IfOk result (λ v. T (map.is_sorted row_cmp (new_states v.items))) }
     ensures found { ((row : Row) → fails statement.now row (version_in seen.now row).state ≡ false)
         → IfOk result (λ v. (row : Row) → map.find row_cmp row (new_states v.items) ≡ written statement.now row (version_in seen.now row).state) }
@@ -199,7 +202,7 @@ fn writes_of(alloc: Global, statement: &Statement, seen: &Versions) -> Result<Wr
     Ok(Writes::new(written_states(alloc, statement, seen)?))
 }
 
-fn first_failing(statement: &Statement, entries: &[(RowId, Version)]) -> Option<RowId>
+fn first_failing(statement: &Statement, entries: &[(RowName, Version)]) -> Option<RowName>
     ensures { result ≡ made.first_failing statement.now entries.now }
 {
     for entry in entries {
@@ -211,7 +214,7 @@ fn first_failing(statement: &Statement, entries: &[(RowId, Version)]) -> Option<
 }
 
 /// The same, where only the rows are looked at that the statement may match.
-fn first_candidate_failing(statement: &Statement, entries: &[(RowId, Version)]) -> Option<RowId>
+fn first_candidate_failing(statement: &Statement, entries: &[(RowName, Version)]) -> Option<RowName>
     requires { T (map.is_sorted row_cmp entries.now) }
     ensures { result ≡ made.first_failing statement.now entries.now }
 {

@@ -3,7 +3,7 @@
 ghost use Rattle.std.specs.Prelude.{◌≡◌, IfOk};
 
 use lab_history::{Rows, View, Writes};
-use lab_table::{Command, NoMemory, RowId, Session, TxnNo};
+use lab_table::{Command, NoMemory, RowName, Session, TxnNo};
 use std::alloc::Global;
 use std::marker::Model;
 
@@ -36,15 +36,15 @@ impl Model for Sessions {
 #[derive(Drop)]
 pub enum EngineFault {
     /// Refusal 2: the row that the insert adds is present.
-    DuplicateKey { id: RowId },
+    DuplicateKey { id: RowName },
     /// Refusal 3: the update would give a row a value out of range. The row named is the least such.
-    OutOfRange { id: RowId },
+    OutOfRange { id: RowName },
     /// Refusal 4: the sessions wait in a circle, from the asking one on: each is blocked by the next, and the last by
     /// the first.
     Deadlock { circle: Sessions },
     /// Refusal 5, of a commit: another transaction has installed a row that this one wrote, since its begin. The row
     /// named is the least such, and the transaction the first to install it since then.
-    WriteConflict { row: RowId, by: TxnNo },
+    WriteConflict { row: RowName, by: TxnNo },
     /// Refusal 6: the session has no active transaction.
     NoTransaction,
     /// Refusal 7, of a begin: the session has an active transaction.

@@ -18,7 +18,7 @@ use crate::installs::{install, installing};
 use crate::log_query::{asked_statement, is_fatal_fault};
 use crate::version::Versions;
 use lab_history::{Op, Outcome as End};
-use lab_table::{NoMemory, RowId, Session, TxnNo};
+use lab_table::{NoMemory, RowName, Session, TxnNo};
 use std::alloc::Global;
 
 /// A transaction, as far as the events went.
@@ -40,7 +40,7 @@ pub struct Gathering {
     /// The last installed version of each row that was ever installed.
     pub committed: Versions,
     /// Each row that a transaction installed, and the transaction, in order of commits.
-    pub installs: Vec<(RowId, TxnNo)>,
+    pub installs: Vec<(RowName, TxnNo)>,
 }
 
 impl Gathering {

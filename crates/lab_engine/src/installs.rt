@@ -15,7 +15,7 @@ use crate::event::Outcome;
 use crate::gathering::{GatheredTxn, place_of};
 use crate::version::{Version, Versions};
 use lab_history::{Installed, Installers, VersionName};
-use lab_table::{NoMemory, RowId, Table, TxnNo, Value};
+use lab_table::{NoMemory, RowName, Table, TxnNo, Value};
 use std::alloc::Global;
 
 /// The last version of each row that a transaction wrote.
@@ -37,8 +37,8 @@ fn last_versions(alloc: Global, txn: &GatheredTxn) -> Result<Versions, NoMemory>
 
 /// Notes of each of these rows that a transaction installed it.
 fn note_rows(
-    installs: &mut Vec<(RowId, TxnNo)>,
-    rows: &[(RowId, Version)],
+    installs: &mut Vec<(RowName, TxnNo)>,
+    rows: &[(RowName, Version)],
     number: TxnNo,
 ) -> Result<(), NoMemory>
     ensures { OnOk result (installs.new.items ≡ installs.old.items ++ list.map (λ entry. (entry.0, number)) rows.now) }
@@ -53,7 +53,7 @@ fn note_rows(
 pub fn install(
     alloc: Global,
     committed: &mut Versions,
-    installs: &mut Vec<(RowId, TxnNo)>,
+    installs: &mut Vec<(RowName, TxnNo)>,
     txn: Option<&GatheredTxn>,
 ) -> Result<(), NoMemory>
     requires { plain.IsShort (list.option_map (λ t. t.now) txn) }
@@ -90,7 +90,7 @@ fn gathered_by(txns: &[GatheredTxn], by: Option<TxnNo>) -> Option<&GatheredTxn>
     txns.get(place_of(by?))
 }
 
-fn is_row_next(installs: &[(RowId, TxnNo)], row: RowId) -> bool
+fn is_row_next(installs: &[(RowName, TxnNo)], row: RowName) -> bool
     ensures { result ≡ plain.is_row_next row installs.now }
 {
     match installs.first() {
@@ -100,7 +100,10 @@ fn is_row_next(installs: &[(RowId, TxnNo)], row: RowId) -> bool
 }
 
 /// Those who installed each row, of installs that are sorted by row.
-fn grouped(alloc: Global, installs: &[(RowId, TxnNo)]) -> Result<Vec<(RowId, Installers)>, NoMemory>
+fn grouped(
+    alloc: Global,
+    installs: &[(RowName, TxnNo)],
+) -> Result<Vec<(RowName, Installers)>, NoMemory>
     ensures { IfOk result (λ v. v.items ≡ groups_from [] installs.now) }
 {
     let mut entries = Vec::new(alloc);
@@ -116,7 +119,7 @@ fn grouped(alloc: Global, installs: &[(RowId, TxnNo)]) -> Result<Vec<(RowId, Ins
 }
 
 /// Those who installed each row, in order of commits. NoMemory where a growth was refused.
-pub fn installed_of(alloc: Global, installs: Vec<(RowId, TxnNo)>) -> Result<Installed, NoMemory>
+pub fn installed_of(alloc: Global, installs: Vec<(RowName, TxnNo)>) -> Result<Installed, NoMemory>
     ensures { IfOk result (λ installed. (row : Row) → map.get installed row ≡ if_any (numbers_of row installs.items)) }
 {
     let mut installs = installs;
@@ -125,14 +128,17 @@ pub fn installed_of(alloc: Global, installs: Vec<(RowId, TxnNo)>) -> Result<Inst
     Ok(Installed::new(entries))
 }
 
-fn present(entry: &(RowId, Version)) -> Option<(RowId, Value)>
+fn present(entry: &(RowName, Version)) -> Option<(RowName, Value)>
     ensures { result ≡ with_row entry.now.0 entry.now.1.state }
 {
     let value = entry.1.state?;
     Some((entry.0, value))
 }
 
-fn all_present(alloc: Global, entries: &[(RowId, Version)]) -> Result<Vec<(RowId, Value)>, NoMemory>
+fn all_present(
+    alloc: Global,
+    entries: &[(RowName, Version)],
+) -> Result<Vec<(RowName, Value)>, NoMemory>
     ensures { IfOk result (λ v. v.items ≡ each_row (λ row version. version.state) entries.now) }
 {
     entries

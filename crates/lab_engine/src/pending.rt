@@ -7,10 +7,10 @@ ghost use Rattle.lab_engine.specs.Pending.{writes_over};
 use crate::situation::RunningTxn;
 use crate::version::{Version, Versions};
 use lab_history::VersionName;
-use lab_table::{RowId, Statement};
+use lab_table::{RowName, Statement};
 
 /// The version of a row that is seen: the one listed, else that of a row absent from the start.
-pub fn version_seen(seen: &Versions, row: RowId) -> Version
+pub fn version_seen(seen: &Versions, row: RowName) -> Version
     ensures { result ≡ version_in seen.now row }
 {
     match seen.get(row) {

@@ -10,13 +10,13 @@ ghost use Rattle.lab_engine.specs.Sight.{ShowsWritten, IsFirstConflict};
 use crate::event::Level;
 use crate::situation::{RunningTxn, Situation};
 use crate::version::Versions;
-use lab_table::{RowId, Session, Statement, Table, TxnNo};
+use lab_table::{RowName, Session, Statement, Table, TxnNo};
 
 /// A row that another transaction has installed since the begin of one that wrote it, and the first such transaction.
 #[derive(Clone, Copy, Debug, PartialEq, Eq)]
 pub struct Conflict {
     /// The least such row.
-    pub row: RowId,
+    pub row: RowName,
     /// The transaction that was the first to install it since the begin.
     pub by: TxnNo,
 }

@@ -12,7 +12,7 @@ use crate::event::Level;
 use crate::situation::{RunningTxn, Situation};
 use crate::version::{Version, Versions};
 use lab_history::VersionName;
-use lab_table::{NoMemory, RowId, Statement, Table};
+use lab_table::{NoMemory, RowName, Statement, Table};
 use std::alloc::Global;
 
 /// The versions of the table's rows, with these over them. NoMemory where a growth was refused.
@@ -63,7 +63,7 @@ fn installed_seen(
     level: Level,
     situation: &Situation,
     running: &RunningTxn,
-    row: RowId,
+    row: RowName,
 ) -> Option<Version>
     ensures { (past : Past) (session : ℕ) (txn : Txn) → Describes past situation.now → active past session ≡ Some txn → IsRunning txn running.now
         → result ≡ last_installed (commits (sight level past txn)) row }
@@ -81,7 +81,7 @@ fn row_seen(
     setup: &Table,
     situation: &Situation,
     running: &RunningTxn,
-    row: RowId,
+    row: RowName,
 ) -> Version
     ensures { (past : Past) (session : ℕ) (txn : Txn) → Describes past situation.now → active past session ≡ Some txn → IsRunning txn running.now
         → result ≡ seen level setup.now past txn row }

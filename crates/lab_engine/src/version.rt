@@ -12,7 +12,7 @@ ghost use Rattle.lab_history.specs.VersionName.{state_value};
 ghost use Rattle.lab_engine.specs.Merging.{initial_entry, written_entry, written_version, insert_each, merged, without_row};
 
 use lab_history::{State, VersionName, Writes};
-use lab_table::{ByRow, NoMemory, RowId, Statement, Table, Value};
+use lab_table::{ByRow, NoMemory, RowName, Statement, Table, Value};
 use std::alloc::Global;
 use std::marker::Model;
 
@@ -74,7 +74,7 @@ impl Versions {
     }
 
     /// This version of a row, and no other. NoMemory where a growth was refused.
-    pub(crate) fn only(alloc: Global, row: RowId, version: Version) -> Result<Versions, NoMemory>
+    pub(crate) fn only(alloc: Global, row: RowName, version: Version) -> Result<Versions, NoMemory>
         ensures { IfOk result (λ made. made ≡ map.insert map.empty row version) }
     {
         let mut made = Versions::new(alloc);
@@ -83,14 +83,14 @@ impl Versions {
     }
 
     /// The version of a row, or None where there is none of it.
-    pub fn get(&self, row: RowId) -> Option<Version>
+    pub fn get(&self, row: RowName) -> Option<Version>
         ensures { result ≡ map.get self.now row }
     {
         self.by_row.get(row)
     }
 
     /// The rows with their versions, by rising row.
-    pub fn entries(&self) -> &[(RowId, Version)]
+    pub fn entries(&self) -> &[(RowName, Version)]
         ensures { result.now ≡ map.entries self.now }
     {
         self.by_row.entries()
@@ -120,7 +120,7 @@ impl Versions {
 
     /// Gives a row this version, in the place of the one that it has, if any.
     /// The one refusal is want of memory, and leaves all as it was.
-    pub fn put(&mut self, _alloc: Global, row: RowId, version: Version) -> Result<(), NoMemory>
+    pub fn put(&mut self, _alloc: Global, row: RowName, version: Version) -> Result<(), NoMemory>
         ensures ok { IfOk result (λ _. self.new ≡ map.insert self.old row version) }
         ensures err { OnErr result (self.new ≡ self.old) }
     {
@@ -141,7 +141,7 @@ impl Versions {
         Ok(())
     }
 
-    fn put_each(&mut self, alloc: Global, entries: &[(RowId, Version)]) -> Result<(), NoMemory>
+    fn put_each(&mut self, alloc: Global, entries: &[(RowName, Version)]) -> Result<(), NoMemory>
         ensures { IfOk result (λ _. self.new ≡ insert_each self.old entries.now) }
     {
         for entry in entries {
@@ -163,8 +163,8 @@ impl Versions {
 
 fn initial_entries(
     alloc: Global,
-    rows: &[(RowId, Value)],
-) -> Result<Vec<(RowId, Version)>, NoMemory>
+    rows: &[(RowName, Value)],
+) -> Result<Vec<(RowName, Version)>, NoMemory>
     ensures { IfOk result (λ v. v.items ≡ list.map initial_entry rows.now) }
 {
     rows.iter()
@@ -191,9 +191,9 @@ fn value_of(state: State) -> Option<Value>
 
 fn written_entries(
     alloc: Global,
-    writes: &[(RowId, State)],
+    writes: &[(RowName, State)],
     name: VersionName,
-) -> Result<Vec<(RowId, Version)>, NoMemory>
+) -> Result<Vec<(RowName, Version)>, NoMemory>
     ensures { IfOk result (λ v. v.items ≡ list.map (written_entry name) writes.now) }
 {
     writes
@@ -210,7 +210,10 @@ fn written_entries(
         .collect(alloc)
 }
 
-fn entry_overwritten(statement: &Statement, entry: &(RowId, Version)) -> Option<(RowId, Version)>
+fn entry_overwritten(
+    statement: &Statement,
+    entry: &(RowName, Version),
+) -> Option<(RowName, Version)>
     ensures { result ≡ with_row entry.now.0 (overwritten_version statement.now entry.now.0 entry.now.1) }
 {
     if statement.would_write(entry.0, entry.1.state) {
@@ -223,8 +226,8 @@ fn entry_overwritten(statement: &Statement, entry: &(RowId, Version)) -> Option<
 fn entries_overwritten(
     alloc: Global,
     statement: &Statement,
-    entries: &[(RowId, Version)],
-) -> Result<Vec<(RowId, Version)>, NoMemory>
+    entries: &[(RowName, Version)],
+) -> Result<Vec<(RowName, Version)>, NoMemory>
     ensures { IfOk result (λ v. v.items ≡ each_row (overwritten_version statement.now) entries.now) }
 {
     entries
@@ -234,7 +237,7 @@ fn entries_overwritten(
 }
 
 /// The entries behind the row's, of a list that has none before it.
-fn behind(entries: &[(RowId, Version)], row: RowId) -> &[(RowId, Version)]
+fn behind(entries: &[(RowName, Version)], row: RowName) -> &[(RowName, Version)]
     ensures { result.now ≡ without_row row entries.now }
 {
     match entries.split_first() {
@@ -246,9 +249,9 @@ fn behind(entries: &[(RowId, Version)], row: RowId) -> &[(RowId, Version)]
 /// Walks through both lists at once: what stands before each entry that lies over, then that entry.
 fn merged_entries(
     alloc: Global,
-    under: &[(RowId, Version)],
-    over: &[(RowId, Version)],
-) -> Result<Vec<(RowId, Version)>, NoMemory>
+    under: &[(RowName, Version)],
+    over: &[(RowName, Version)],
+) -> Result<Vec<(RowName, Version)>, NoMemory>
     requires { T (map.is_sorted row_cmp under.now) }
     ensures { IfOk result (λ v. v.items ≡ merged under.now over.now) }
 {
@@ -265,7 +268,7 @@ fn merged_entries(
 }
 
 /// How many entries stand before a row. They are mostly few, so they are counted.
-fn place_near(entries: &[(RowId, Version)], row: RowId) -> usize
+fn place_near(entries: &[(RowName, Version)], row: RowName) -> usize
     ensures value { result ≡ prefix_len (comes_after row) entries.now }
     ensures bound { result ≤ length entries.now }
 {

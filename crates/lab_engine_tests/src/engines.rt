@@ -16,10 +16,11 @@ use lab_versions::{CommittedEngine, SnapshotEngine};
 use std::alloc::Global;
 use std::test::Fail;
 
-/// Each row of a script has a number below this one.
+/// Each row of a script in `test` has a number below this one; of `stock` there are rows 1 and 2.
 const BELOW: u32 = 6;
 
-/// Commands by a number: first those that name a row, of which longer circles are made, then those that look at all rows.
+/// Commands by a number: first those that name a row, of which longer circles are made, then those that look at all rows,
+/// and those of another table.
 fn command(number: u32) -> &'static [u8] {
     match number {
         0 => b"begin",
@@ -46,6 +47,10 @@ fn command(number: u32) -> &'static [u8] {
         26 => b"insert into test (id, value) values (1, 13)",
         27 => b"insert into test (id, value) values (4, 14)",
         28 => b"delete from test where value < 12",
+        29 => b"select * from stock",
+        30 => b"update stock set value = value + 1 where id = 1",
+        31 => b"insert into stock (id, value) values (2, 5)",
+        32 => b"delete from stock where value < 12",
         _ => b"delete from test where id = 1",
     }
 }
@@ -53,8 +58,8 @@ fn command(number: u32) -> &'static [u8] {
 /// A script of two to nine sessions, by a seed. Each begins, and then come commands of any of them.
 fn made_script(alloc: Global, seed: u32) -> Result<Vec<u8>, NoMemory> {
     let mut text = Vec::new(alloc);
-    text.extend_from_slice(b"setup (1, 10), (2, 20), (3, 30), (4, 40);\n")?;
-    let kinds = if seed % 3 == 0 { 30 } else { 20 };
+    text.extend_from_slice(b"setup (1, 10), (2, 20), (3, 30), (4, 40), stock (1, 10);\n")?;
+    let kinds = if seed % 3 == 0 { 34 } else { 20 };
     let sessions = 2 + seed % 8;
     let mut state = seed;
     for place in 0..40 {

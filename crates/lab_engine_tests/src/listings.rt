@@ -1,7 +1,7 @@
-//! The ten listings of anomalies, after Kleppmann's Hermitage.
+//! The ten listings of anomalies, after Kleppmann's Hermitage, and one over two tables.
 
 /// How many they are.
-pub const LISTINGS: u32 = 10;
+pub const LISTINGS: u32 = 11;
 
 /// Each by its number.
 pub fn listing(number: u32) -> &'static [u8] {
@@ -122,7 +122,7 @@ pub fn listing(number: u32) -> &'static [u8] {
               commit; -- T2\n"
         }
         // pmp
-        _ => {
+        9 => {
             b"setup (1, 10), (2, 20);\n\
               begin; -- T1\n\
               begin; -- T2\n\
@@ -131,6 +131,18 @@ pub fn listing(number: u32) -> &'static [u8] {
               commit; -- T2\n\
               select * from test where value % 3 = 0; -- T1\n\
               commit; -- T1\n"
+        }
+        // write skew over the rows with one number in two tables
+        _ => {
+            b"setup (1, 10), stock (1, 5);\n\
+              begin; -- T1\n\
+              begin; -- T2\n\
+              select * from test where id = 1; -- T1\n\
+              select * from stock where id = 1; -- T2\n\
+              update stock set value = 6 where id = 1; -- T1\n\
+              update test set value = 11 where id = 1; -- T2\n\
+              commit; -- T1\n\
+              commit; -- T2\n"
         }
     }
 }

@@ -9,7 +9,7 @@ mod versions;
 mod waits;
 
 use lab_engine::{EngineFault, Level, LogEvent, Outcome};
-use lab_table::{Command, RowId, Session, Statement, Table, TxnNo};
+use lab_table::{Command, RowId, RowName, Session, Statement, Table, TableName, TxnNo};
 use std::alloc::Global;
 use transactions::{Txn, active, next_number, waiting};
 
@@ -18,21 +18,30 @@ use transactions::{Txn, active, next_number, waiting};
 pub struct PlainEngine {
     pub level: Level,
     pub setup: Table,
-    pub rows: Vec<RowId>,
+    pub rows: Vec<RowName>,
     pub log: Vec<LogEvent>,
 }
 
-impl PlainEngine {
-    /// An engine that has done nothing yet, on this table. Each row has a number below this one.
-    pub fn new(alloc: Global, level: Level, setup: Table, below: u32) -> Option<PlainEngine> {
-        let mut rows = Vec::new(alloc);
-        for id in 1..below {
-            rows.push(RowId::new(id)?).ok()?;
+/// The rows of the table `test` that have a number below this one, and two of `stock`, as they rise.
+pub fn rows_below(alloc: Global, below: u32) -> Option<Vec<RowName>> {
+    let mut rows = Vec::new(alloc);
+    let stock = TableName::new(alloc, b"stock").ok()??;
+    for (table, end) in [(stock, 3), (TableName::test(), below)] {
+        for number in 1..end {
+            let id = RowId::new(number)?;
+            rows.push(RowName { table, id }).ok()?;
         }
+    }
+    Some(rows)
+}
+
+impl PlainEngine {
+    /// An engine that has done nothing yet, on rows of `test` that have a number below this one, and two of `stock`.
+    pub fn new(alloc: Global, level: Level, setup: Table, below: u32) -> Option<PlainEngine> {
         Some(PlainEngine {
             level,
             setup,
-            rows,
+            rows: rows_below(alloc, below)?,
             log: Vec::new(alloc),
         })
     }

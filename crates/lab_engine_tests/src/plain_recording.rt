@@ -1,10 +1,11 @@
 //! A plain body of a recording's history, which looks through the log anew for each transaction and each row.
 
+use crate::plain::rows_below;
 use lab_engine::{EngineFault, LogEvent, Outcome};
 use lab_history::{
     History, Installed, Installers, Op, Ops, Outcome as End, Parts, State, Txn, Txns,
 };
-use lab_table::{Command, NoMemory, RowId, Session, Table, TxnNo};
+use lab_table::{Command, NoMemory, RowName, Session, Table, TxnNo};
 use std::alloc::Global;
 
 /// The number of a session's active transaction after these events.
@@ -92,7 +93,7 @@ fn txns(alloc: Global, log: &[LogEvent], commits: &[TxnNo]) -> Result<Vec<Txn>, 
 }
 
 /// What a transaction's last write of a row left, if it wrote the row.
-fn last_write(txns: &[Txn], number: TxnNo, row: RowId) -> Option<State> {
+fn last_write(txns: &[Txn], number: TxnNo, row: RowName) -> Option<State> {
     let mut state = None;
     for txn in txns {
         if txn.no == number {
@@ -104,20 +105,18 @@ fn last_write(txns: &[Txn], number: TxnNo, row: RowId) -> Option<State> {
     state
 }
 
-/// Each row below this number with the transactions that installed it, and the table that they leave.
+/// Each of these rows with the transactions that installed it, and the table that they leave.
 fn installed(
     alloc: Global,
     setup: &Table,
     txns: &[Txn],
     commits: &[TxnNo],
-    below: u32,
-) -> Result<(Vec<(RowId, Installers)>, Table), NoMemory> {
+    rows: &[RowName],
+) -> Result<(Vec<(RowName, Installers)>, Table), NoMemory> {
     let mut entries = Vec::new(alloc);
     let mut table = Table::new(alloc);
-    for id in 1..below {
-        let Some(row) = RowId::new(id) else {
-            continue;
-        };
+    for row in rows {
+        let row = *row;
         let mut numbers = Vec::new(alloc);
         let mut value = setup.get(row);
         for number in commits {
@@ -139,16 +138,18 @@ fn installed(
     Ok((entries, table))
 }
 
-/// The history that a log tells, of which each row is below this number. None where memory is refused.
+/// The history that a log tells, of rows of `test` that have a number below this one, and two of `stock`. None where
+/// memory is refused.
 pub fn plain_history(
     alloc: Global,
     setup: &Table,
     log: &[LogEvent],
     below: u32,
 ) -> Option<History> {
+    let rows = rows_below(alloc, below)?;
     let commits = commits(alloc, log).ok()?;
     let txns = txns(alloc, log, &commits).ok()?;
-    let (entries, end_table) = installed(alloc, setup, &txns, &commits, below).ok()?;
+    let (entries, end_table) = installed(alloc, setup, &txns, &commits, &rows).ok()?;
     let parts = Parts {
         initial: setup.copy(alloc).ok()?,
         txns: Txns::new(txns),

@@ -22,6 +22,8 @@ fn command(number: u32) -> &'static [u8] {
         4 => b"delete from test where id = 2",
         5 => b"insert into test (id, value) values (3, 5)",
         6 => b"abort",
+        7 => b"update stock set value = value + 1",
+        8 => b"insert into stock (id, value) values (2, 5)",
         _ => b"commit",
     }
 }
@@ -29,11 +31,11 @@ fn command(number: u32) -> &'static [u8] {
 /// A script of three sessions, by a seed.
 fn made_script(alloc: Global, seed: u32) -> Result<Vec<u8>, NoMemory> {
     let mut text = Vec::new(alloc);
-    text.extend_from_slice(b"setup (1, 10), (2, 20);\n")?;
+    text.extend_from_slice(b"setup (1, 10), (2, 20), stock (1, 10);\n")?;
     let mut state = seed;
     for _ in 0..120 {
         state = state.wrapping_mul(1_664_525).wrapping_add(1_013_904_223);
-        text.extend_from_slice(command((state >> 16) % 9))?;
+        text.extend_from_slice(command((state >> 16) % 11))?;
         let session: &[u8] = match (state >> 24) % 3 {
             0 => b"; -- T1\n",
             1 => b"; -- T2\n",

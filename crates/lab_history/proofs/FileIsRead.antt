@@ -1,30 +1,33 @@
 -- The history of a file is read from it.
 use Rattle.std.proofs.Common.{◌≡◌, [], Ok, refl}
 use Rattle.serde_json.specs.Data.{Data}
-use Rattle.lab_history.specs.FileOf.{IsFileOf}
+use Rattle.lab_history.specs.FileOf.{IsFileIn}
 use Rattle.lab_history.specs.Format.{parts_in, history_in}
 use Rattle.lab_history.specs.History.{History}
 use Rattle.lab_history.specs.HistoryRules.{Keeps}
 use Rattle.lab_history.specs.WithinLimits.{within_limits}
 use Rattle.lab_history.specs.declared.fault.FileFault.TheVariants as fault
 use Rattle.lab_history.specs.declared.fault.Limit.TheVariants as limit
+use Rattle.lab_history.specs.declared.file_version.FileVersion.{FileVersion}
 use Rattle.lab_history.proofs.Steps.{step_on, limit_kept}
 use Rattle.lab_history.proofs.Standing.{stand}
 use Rattle.lab_history.proofs.PartsRead.{parts_are_read}
 
 -- what keeps the limits isn't refused
 pub kept_within : (h : History) → Keeps h → within_limits h ≡ Ok tt
-kept_within h keeps = step_on _ (limit_kept 1000 _ (fault.OverLimit limit.Ids) keeps.ids) (limit_kept 200000 _ (fault.OverLimit limit.Entries) keeps.entries)
+kept_within h keeps =
+    step_on _ (limit_kept 4 _ (fault.OverLimit limit.Tables) keeps.tables)
+    (step_on _ (limit_kept 1000 _ (fault.OverLimit limit.Ids) keeps.ids) (limit_kept 200000 _ (fault.OverLimit limit.Entries) keeps.entries))
 
-pub parts_of_file : (d : Data) (h : History) → IsFileOf d h → parts_in d ≡ Ok h
-parts_of_file d h file = parts_are_read d h (record {
+pub parts_of_file : (version : FileVersion) (d : Data) (h : History) → IsFileIn version d h → parts_in d ≡ Ok h
+parts_of_file version d h file = parts_are_read version d h (record {
+  number = file.number;
   initial = file.initial;
   transactions = file.transactions;
   installed = file.installed;
   end = file.end;
-  version = file.version;
   tree = file.tree;
-  version_is = file.version_is;
+  number_is = file.number_is;
   initial_is = file.initial_is;
   transactions_are = file.transactions_are;
   installed_is = file.installed_is;
@@ -33,5 +36,5 @@ parts_of_file d h file = parts_are_read d h (record {
   few = file.keeps.transactions;
 })
 
-pub file_is_read : (d : Data) (h : History) → IsFileOf d h → history_in d ≡ Ok h
-file_is_read d h file = step_on _ (parts_of_file d h file) (step_on _ (kept_within h file.keeps) refl)
+pub file_is_read : (version : FileVersion) (d : Data) (h : History) → IsFileIn version d h → history_in d ≡ Ok h
+file_is_read version d h file = step_on _ (parts_of_file version d h file) (step_on _ (kept_within h file.keeps) refl)

@@ -9,7 +9,7 @@ use Rattle.std.proofs.lemmas.List.Folds.{list_any-append}
 use Rattle.lab_table.specs.Row.{Row}
 use Rattle.lab_history.specs.Faults.{◌>>=◌, refused_if}
 use Rattle.lab_history.specs.History.{History}
-use Rattle.lab_history.specs.HistoryRules.{AllDistinct, operations, named_rows, distinct_rows, op_entries, OpsKeep, has_installer, Keeps}
+use Rattle.lab_history.specs.HistoryRules.{AllDistinct, operations, named_tables, distinct_tables, named_rows, distinct_rows, op_entries, OpsKeep, has_installer, Keeps}
 use Rattle.lab_history.specs.WithinLimits.{within_limits}
 use Rattle.lab_history.specs.FirstPartsFault.{ops_checked, txn_checked, txns_checked, installed_checked, checked}
 use Rattle.lab_history.specs.declared.fault.FileFault.{FileFault}
@@ -118,12 +118,24 @@ pass_installed index (e ∷ es) h =
 
 -- ---- the whole
 
-limits_pass : (h : History) → within_limits h ≡ Ok tt → (distinct_rows (named_rows h) ≤ 1000) × (sum (map op_entries (operations h.txns)) ≤ 200000)
+record LimitsKeep (h : History) : Type 0 where
+  tables : distinct_tables (named_tables h) ≤ 4
+  ids : distinct_rows (named_rows h) ≤ 1000
+  entries : sum (map op_entries (operations h.txns)) ≤ 200000
+
+limits_pass : (h : History) → within_limits h ≡ Ok tt → LimitsKeep h
 limits_pass h w =
+    let named = distinct_tables (named_tables h) in
     let ids = distinct_rows (named_rows h) in
     let all = sum (map op_entries (operations h.txns)) in
-    let parts = both_pass (refused_if (nat_lt 1000 ids) (fault.OverLimit limit.Ids)) (λ _. refused_if (nat_lt 200000 all) (fault.OverLimit limit.Entries)) tt w in
-    (ltb-false 1000 ids (not_refused (nat_lt 1000 ids) (fault.OverLimit limit.Ids) parts.0), ltb-false 200000 all (not_refused (nat_lt 200000 all) (fault.OverLimit limit.Entries) parts.1))
+    let tables = both_pass (refused_if (nat_lt 4 named) (fault.OverLimit limit.Tables)) (λ _. refused_if (nat_lt 1000 ids) (fault.OverLimit limit.Ids) >>= λ _. refused_if (nat_lt 200000 all)
+    (fault.OverLimit limit.Entries)) tt w in
+    let parts = both_pass (refused_if (nat_lt 1000 ids) (fault.OverLimit limit.Ids)) (λ _. refused_if (nat_lt 200000 all) (fault.OverLimit limit.Entries)) tt tables.1 in
+    record {
+      tables = ltb-false 4 named (not_refused (nat_lt 4 named) (fault.OverLimit limit.Tables) tables.0);
+      ids = ltb-false 1000 ids (not_refused (nat_lt 1000 ids) (fault.OverLimit limit.Ids) parts.0);
+      entries = ltb-false 200000 all (not_refused (nat_lt 200000 all) (fault.OverLimit limit.Entries) parts.1);
+    }
 
 pub checked_keeps : (h : History) → checked h ≡ Ok tt → Keeps h
 checked_keeps h c =
@@ -132,15 +144,16 @@ checked_keeps h c =
     let ran = both_pass (txns_checked [] 0 h.txns) (λ _. installed_checked 0 (finite.entries h.installed) >>= λ _. within_limits h) tt few.1 in
     let rest = both_pass (installed_checked 0 (finite.entries h.installed)) (λ _. within_limits h) tt ran.1 in
     let txns : TxnsKeep [] h.txns = txns_pass [] 0 h.txns (omega arith) ran.0 in
-    let limits : (distinct_rows (named_rows h) ≤ 1000) × (sum (map op_entries (operations h.txns)) ≤ 200000) = limits_pass h rest.1 in
+    let limits : LimitsKeep h = limits_pass h rest.1 in
     record {
       transactions = ltb-false 1000 (length h.txns) (not_refused (nat_lt 1000 (length h.txns)) (fault.OverLimit limit.Transactions) few.0);
       distinct = txns.distinct;
       few_operations = omega (arith, txns.few);
       operations_keep = txns.ops;
       installers = installed_pass 0 (finite.entries h.installed) rest.0;
-      ids = limits.0;
-      entries = limits.1;
+      tables = limits.tables;
+      ids = limits.ids;
+      entries = limits.entries;
     }
 
 pub keeps_checked : (h : History) → Keeps h → checked h ≡ Ok tt
@@ -151,7 +164,7 @@ keeps_checked h k =
     ∙ passed_then (txns_checked [] 0 h.txns) (λ _. installed_checked 0 (finite.entries h.installed) >>= λ _. within_limits h)
     (pass_txns [] 0 h.txns (record { fresh = none_fresh h.txns; distinct = k.distinct; few = omega (arith, k.few_operations); ops = k.operations_keep }))
     ∙ passed_then (installed_checked 0 (finite.entries h.installed)) (λ _. within_limits h) (pass_installed 0 (finite.entries h.installed) k.installers)
-    ∙ limits_kept h k.ids k.entries
+    ∙ limits_kept h k.tables k.ids k.entries
 
 passes_or_stops : (r : Result ⊤ FileFault) (f : FileFault) → r ≡ Ok tt → r ≡ Err f → ⊥
 passes_or_stops (Ok x) f is isnt = absurd cc

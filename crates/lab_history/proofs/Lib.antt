@@ -1,5 +1,8 @@
 pub mod Rising
+pub mod TableNames
 pub mod Members
+pub mod MemberKeys
+pub mod KeyParts
 pub mod Entries
 pub mod NewStates
 pub mod WritesRead
@@ -22,6 +25,7 @@ pub mod FaultsOfTransactions
 pub mod FaultsAreTrue
 pub mod GoodLists
 pub mod Faultless
+pub mod Lifted
 pub mod ListedPlaces
 pub mod Halving
 pub mod FirstValues
@@ -33,6 +37,7 @@ pub mod CountedEntries
 pub mod CountedRows
 mod RowsMet
 mod IdsWithin
+mod CountedTables
 pub mod LimitsKept
 pub mod CheckedTxns
 pub mod KeptParts
@@ -43,6 +48,7 @@ pub mod Appended
 pub mod WrittenLists
 pub mod WrittenViews
 pub mod WrittenWrites
+pub mod WrittenMembers
 pub mod CodeBytes
 pub mod KeptOperations
 pub mod WritableTree

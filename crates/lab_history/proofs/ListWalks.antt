@@ -6,11 +6,12 @@ use Rattle.lab_table.specs.Row.{Row, row_cmp}
 use Rattle.lab_history.specs.Faults.{required}
 use Rattle.lab_history.specs.Entries.{follows, entries_from, entries_in}
 use Rattle.lab_history.specs.Member.{row_of}
-use Rattle.lab_history.specs.FaultOf.{FallsSomewhere, IsTrueFault}
+use Rattle.lab_history.specs.FaultOf.{FallsSomewhere, IsTrueIn}
 use Rattle.lab_history.specs.PlaceShape.{fits}
 use Rattle.lab_history.specs.ValueAt.{list_at, value_at}
 use Rattle.lab_history.specs.declared.fault.FileFault.{FileFault}
 use Rattle.lab_history.specs.declared.fault.FileFault.TheVariants as fault
+use Rattle.lab_history.specs.declared.file_version.FileVersion.{FileVersion}
 use Rattle.lab_history.specs.declared.path.ListPlace.{ListPlace}
 use Rattle.lab_history.specs.declared.path.Path.{Path}
 use Rattle.lab_history.specs.declared.path.Path.TheVariants as path
@@ -18,8 +19,8 @@ use Rattle.lab_history.proofs.Steps.{either_err, required_ok, required_err}
 use Rattle.lab_history.proofs.JsonShapes.{array_of}
 
 -- a value that may not stand at its path
-pub is_wrong : (d : Data) (f : FileFault) (p : Path) (v : Data) → f ≡ fault.WrongFormat p → value_at d p ≡ Some v → fits p v ≡ false → IsTrueFault d f
-is_wrong d f p v e here wrong = subst (IsTrueFault d) (sym e) (v, here, wrong)
+pub is_wrong : (version : FileVersion) (d : Data) (f : FileFault) (p : Path) (v : Data) → f ≡ fault.WrongFormat p → value_at version d p ≡ Some v → fits version p v ≡ false → IsTrueIn version d f
+is_wrong version d f p v e here wrong = subst (IsTrueIn version d) (sym e) (v, here, wrong)
 
 -- ---- the walk along a list
 
@@ -37,8 +38,8 @@ pub tail_rest : (all : Items) (i : ℕ) (d : Data) (ds : Items) → Tail all i (
 tail_rest all i d ds tail k m e = let same : i + 1 + k ≡ i + suc k = omega arith in ap (λ n. get_item n all) same ∙ tail (suc k) m e
 
 -- the item before a place begins with this row
-abbrev Before : Items → ℕ → Option Row → Type 0
-Before all i before = (row : Row) → before ≡ Some row → (j : ℕ) × (a : Data) × (j + 1 ≡ i) × (get_item j all ≡ Some a) × (row_of a ≡ Some row)
+abbrev Before : FileVersion → Items → ℕ → Option Row → Type 0
+Before version all i before = (row : Row) → before ≡ Some row → (j : ℕ) × (a : Data) × (j + 1 ≡ i) × (get_item j all ≡ Some a) × (row_of version a ≡ Some row)
 
 under_err : {A : Type 0} (b : Bool) (r : Result A FileFault) (g f : FileFault) → (if b then r else Err g) ≡ Err f → ((b ≡ true) × (r ≡ Err f)) ⊎ ((b ≡ false) × (f ≡ g))
 under_err true r g f e = inl (refl, e)
@@ -49,12 +50,13 @@ doesnt_follow : (before : Option Row) (row : Row) → follows before row ≡ fal
 doesnt_follow None row e = absurd cc
 doesnt_follow (Some r) row e = (r, refl, e)
 
-module _ {X : Type 0} (read : ℕ → Data → Result (Row × X) FileFault) (place : ListPlace) (starts : (i : ℕ) (d : Data) (x : Row × X) → read i d ≡ Ok x → row_of d ≡ Some x.0) (f : FileFault) where
+module _ (version : FileVersion) {X : Type 0} (read : ℕ → Data → Result (Row × X) FileFault) (place : ListPlace)
+    (starts : (i : ℕ) (d : Data) (x : Row × X) → read i d ≡ Ok x → row_of version d ≡ Some x.0) (f : FileFault) where
   -- a member's fault, or a fall
   abbrev ListFault : Items → Type 0
-  ListFault all = ((k : ℕ) × (m : Data) × (get_item k all ≡ Some m) × (read k m ≡ Err f)) ⊎ ((f ≡ fault.Unsorted (path.List place)) × FallsSomewhere (array all))
+  ListFault all = ((k : ℕ) × (m : Data) × (get_item k all ≡ Some m) × (read k m ≡ Err f)) ⊎ ((f ≡ fault.Unsorted (path.List place)) × FallsSomewhere version (array all))
 
-  walk_err : (all : Items) (i : ℕ) (before : Option Row) (ds : Items) → Tail all i ds → Before all i before → entries_from read place i before ds ≡ Err f → ListFault all
+  walk_err : (all : Items) (i : ℕ) (before : Option Row) (ds : Items) → Tail all i ds → Before version all i before → entries_from read place i before ds ≡ Err f → ListFault all
   walk_err all i before no_items tail prior e = absurd cc
   walk_err all i before (item d ds) tail prior e =
       let here = tail_head all i d ds tail in
@@ -74,15 +76,15 @@ module _ {X : Type 0} (read : ℕ → Data → Result (Row × X) FileFault) (pla
       (either_err (read i d) _ f e)
 
   -- the fault of a list is true, where those of its members are
-  pub list_fault : (d l : Data) → list_at d place ≡ Some l → ((k : ℕ) (m : Data) → at k l ≡ Some m → read k m ≡ Err f → IsTrueFault d f)
-      → entries_in read place l ≡ Err f → IsTrueFault d f
+  pub list_fault : (d l : Data) → list_at d place ≡ Some l → ((k : ℕ) (m : Data) → at k l ≡ Some m → read k m ≡ Err f → IsTrueIn version d f)
+      → entries_in read place l ≡ Err f → IsTrueIn version d f
   list_fault d l stands members e =
       ⊎_elim
-      (λ missing. let is = required_err (path.List place) (as_array l) f missing in is_wrong d f (path.List place) l is.1 stands (ap is_some is.0))
+      (λ missing. let is = required_err (path.List place) (as_array l) f missing in is_wrong version d f (path.List place) l is.1 stands (ap is_some is.0))
       (λ found.
       let is = array_of l found.0 (required_ok (path.List place) (as_array l) found.0 found.1) in
       ⊎_elim
       (λ member. members member.0 member.1 (ap (at member.0) is ∙ member.2) member.3)
-      (λ falls. subst (IsTrueFault d) (sym falls.0) (place, l, refl, stands, subst FallsSomewhere (sym is) falls.1))
+      (λ falls. subst (IsTrueIn version d) (sym falls.0) (place, l, refl, stands, subst (FallsSomewhere version) (sym is) falls.1))
       (walk_err found.0 0 None found.0 (tail_all found.0) (λ r none. absurd cc) found.2))
       (either_err (required (path.List place) (as_array l)) _ f e)

@@ -8,6 +8,7 @@ use Rattle.lab_history.specs.FaultOf.{all_ops}
 use Rattle.lab_history.specs.FileOf.{AreEach, IsTransaction, outcome_text}
 use Rattle.lab_history.specs.Format.{outcome_named}
 use Rattle.lab_history.specs.HistoryRules.{AllDistinct, operations}
+use Rattle.lab_history.specs.declared.file_version.FileVersion.{FileVersion}
 use Rattle.lab_history.specs.declared.transaction.Txn.{Txn}
 use Rattle.lab_history.specs.declared.transaction.Outcome.{Outcome}
 use Rattle.lab_history.specs.declared.transaction.Outcome.TheVariants.{Committed, Aborted}
@@ -36,17 +37,17 @@ distinct_at (t ∷ ts) zero (suc j) a b all below e f same =
 distinct_at (t ∷ ts) (suc i) (suc j) a b all below e f same = distinct_at ts i j a b all.1 (omega (arith, below)) e f same
 
 -- all operations that transactions list
-pub each_lists : (ds : Items) (txns : List Txn) → AreEach IsTransaction ds txns → all_ops ds ≡ length (operations txns)
-each_lists no_items [] each = refl
-each_lists no_items (txn ∷ txns) each = absurd each
-each_lists (item t ds) [] each = absurd each
-each_lists (item t ds) (txn ∷ txns) each =
-    let own = read_count t txn each.0 in
-    let rest = each_lists ds txns each.1 in
+pub each_lists : (version : FileVersion) (ds : Items) (txns : List Txn) → AreEach (IsTransaction version) ds txns → all_ops ds ≡ length (operations txns)
+each_lists version no_items [] each = refl
+each_lists version no_items (txn ∷ txns) each = absurd each
+each_lists version (item t ds) [] each = absurd each
+each_lists version (item t ds) (txn ∷ txns) each =
+    let own = read_count version t txn each.0 in
+    let rest = each_lists version ds txns each.1 in
     let both : length (operations (txn ∷ txns)) ≡ length txn.ops + length (operations txns) = length-append txn.ops _ in
     omega (arith, own, rest, both)
 
--- what is found under a condition
-pub under : (b : Bool) (r : Option Data) (v : Data) → (if b then r else None) ≡ Some v → r ≡ Some v
-under true r v e = e
+-- what is found under a condition, and that the condition holds
+pub under : (b : Bool) (r : Option Data) (v : Data) → (if b then r else None) ≡ Some v → (b ≡ true) × (r ≡ Some v)
+under true r v e = (refl, e)
 under false r v e = absurd cc

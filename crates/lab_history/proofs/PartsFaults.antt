@@ -11,10 +11,10 @@ use Rattle.lab_table.proofs.Tests.{slice_get-middle}
 use Rattle.lab_table.specs.Row.{Row}
 use Rattle.lab_history.specs.Faults.{◌>>=◌, refused_if}
 use Rattle.lab_history.specs.History.{History}
-use Rattle.lab_history.specs.HistoryRules.{operations, named_rows, distinct_rows, op_entries, has_installer}
+use Rattle.lab_history.specs.HistoryRules.{operations, named_tables, distinct_tables, named_rows, distinct_rows, op_entries, has_installer}
 use Rattle.lab_history.specs.WithinLimits.{within_limits}
 use Rattle.lab_history.specs.FirstPartsFault.{ops_checked, txn_checked, txns_checked, installed_checked, checked}
-use Rattle.lab_history.specs.PartsFault.{IsOpFault, IsPartsFault, many_transactions, repeated, many_operations, of_operation, no_installer, many_ids, many_entries}
+use Rattle.lab_history.specs.PartsFault.{IsOpFault, IsPartsFault, many_transactions, repeated, many_operations, of_operation, no_installer, many_tables, many_ids, many_entries}
 use Rattle.lab_history.specs.declared.fault.FileFault.{FileFault}
 use Rattle.lab_history.specs.declared.fault.FileFault.TheVariants as fault
 use Rattle.lab_history.specs.declared.fault.Limit.TheVariants as limit
@@ -109,8 +109,10 @@ installed_fault index (e ∷ es) f h =
 
 -- ---- the whole
 
-limits_fault : (h : History) (f : FileFault) → within_limits h ≡ Err f → IsPartsFault h f
-limits_fault h f e =
+-- of ids and entries
+counts_fault : (h : History) (f : FileFault) → (refused_if (nat_lt 1000 (distinct_rows (named_rows h))) (fault.OverLimit limit.Ids) >>= λ _. refused_if (nat_lt 200000
+    (sum (map op_entries (operations h.txns)))) (fault.OverLimit limit.Entries)) ≡ Err f → IsPartsFault h f
+counts_fault h f e =
     let ids : ℕ = distinct_rows (named_rows h) in
     let all : ℕ = sum (map op_entries (operations h.txns)) in
     elim (first_or_second (refused_if (nat_lt 1000 ids) (fault.OverLimit limit.Ids)) (λ _. refused_if (nat_lt 200000 all) (fault.OverLimit limit.Entries)) f e) [
@@ -120,6 +122,17 @@ limits_fault h f e =
       | inr later ↦
           let refused : (nat_lt 200000 all ≡ true) × (fault.OverLimit limit.Entries ≡ f) = refused_for (nat_lt 200000 all) (fault.OverLimit limit.Entries) f later in
           subst (IsPartsFault h) refused.1 (many_entries (ltb-true 200000 all refused.0))
+    ]
+
+limits_fault : (h : History) (f : FileFault) → within_limits h ≡ Err f → IsPartsFault h f
+limits_fault h f e =
+    let tables : ℕ = distinct_tables (named_tables h) in
+    elim (first_or_second (refused_if (nat_lt 4 tables) (fault.OverLimit limit.Tables)) (λ _. refused_if (nat_lt 1000 (distinct_rows (named_rows h))) (fault.OverLimit limit.Ids) >>= λ _. refused_if (nat_lt 200000
+    (sum (map op_entries (operations h.txns)))) (fault.OverLimit limit.Entries)) f e) [
+      | inl here ↦
+          let refused : (nat_lt 4 tables ≡ true) × (fault.OverLimit limit.Tables ≡ f) = refused_for (nat_lt 4 tables) (fault.OverLimit limit.Tables) f here in
+          subst (IsPartsFault h) refused.1 (many_tables (ltb-true 4 tables refused.0))
+      | inr later ↦ counts_fault h f later
     ]
 
 rest_fault : (h : History) (f : FileFault) → (installed_checked 0 (finite.entries h.installed) >>= λ _. within_limits h) ≡ Err f → IsPartsFault h f

@@ -11,6 +11,7 @@ use Rattle.lab_history.specs.Format.{keyed, txn_keys, ops_from, count, outcome_n
 use Rattle.lab_history.specs.HistoryRules.{operations}
 use Rattle.lab_history.specs.declared.fault.FileFault.TheVariants as fault
 use Rattle.lab_history.specs.declared.fault.Limit.TheVariants as limit
+use Rattle.lab_history.specs.declared.file_version.FileVersion.{FileVersion}
 use Rattle.lab_history.specs.declared.path.Path.TheVariants as path
 use Rattle.lab_history.specs.declared.transaction.Outcome.{Outcome}
 use Rattle.lab_history.specs.declared.transaction.Outcome.TheVariants.{Committed, Aborted}
@@ -49,24 +50,24 @@ pub record Stands (before : List Txn) (txn : Txn) : Type 0 where
   pub alone : list_any (λ t. t.no == txn.no) before ≡ false
   pub room : length (operations before) + length txn.ops ≤ 10000
 
-module _ (before : List Txn) (index : ℕ) where
-  txn_parts : (own ops outcome : Data) (txn : Txn) → txn_in before index (txn_tree own ops outcome) ≡ Ok txn
-      → IsTransaction (txn_tree own ops outcome) txn × Stands before txn
+module _ (version : FileVersion) (before : List Txn) (index : ℕ) where
+  txn_parts : (own ops outcome : Data) (txn : Txn) → txn_in version before index (txn_tree own ops outcome) ≡ Ok txn
+      → IsTransaction version (txn_tree own ops outcome) txn × Stands before txn
   txn_parts own ops outcome txn e =
       let numbered = both_ok (required (path.Number index) (txn_in_number own)) _ txn e in
       let alone = both_ok (refused_if (list_any (λ t. t.no == numbered.0) before) (fault.RepeatedTxn numbered.0)) _ txn numbered.2 in
       let ended = both_ok (required (path.Outcome index) (option_and_then outcome_named (as_str outcome))) _ txn alone.2 in
       let items = both_ok (required (path.Operations index) (as_array ops)) _ txn ended.2 in
       let room = both_ok (refused_if (nat_lt 10000 (length (operations before) + count items.0)) (fault.OverLimit limit.Operations)) _ txn items.2 in
-      let those = both_ok (ops_from index numbered.0 0 items.0) _ txn room.2 in
+      let those = both_ok (ops_from version index numbered.0 0 items.0) _ txn room.2 in
       let made : Txn = record { no = numbered.0; outcome = ended.0; ops = those.0 } in
       let same : made ≡ txn = cc in
-      let each = ops_read index numbered.0 0 items.0 those.0 those.1 in
+      let each = ops_read version index numbered.0 0 items.0 those.0 those.1 in
       let spelled = outcome_spelled outcome ended.0 (required_ok (path.Outcome index) _ ended.0 ended.1) in
-      let many : count items.0 ≡ length those.0 = each_count IsOperation items.0 those.0 each in
+      let many : count items.0 ≡ length those.0 = each_count (IsOperation version) items.0 those.0 each in
       let few : length (operations before) + count items.0 ≤ 10000 = kept_limit 10000 _ _ room.0 room.1 in
       let stands : Stands before made = record { alone = refused_ok _ _ alone.0 alone.1; room = omega (arith, many, few) } in
-      subst (λ t. IsTransaction (txn_tree own ops outcome) t × Stands before t) same (
+      subst (λ t. IsTransaction version (txn_tree own ops outcome) t × Stands before t) same (
         (
           own,
           ops,
@@ -78,26 +79,26 @@ module _ (before : List Txn) (index : ℕ) where
       )
 
   -- a transaction that is read is one, and may stand there
-  pub txn_read : (d : Data) (txn : Txn) → txn_in before index d ≡ Ok txn → IsTransaction d txn × Stands before txn
+  pub txn_read : (d : Data) (txn : Txn) → txn_in version before index d ≡ Ok txn → IsTransaction version d txn × Stands before txn
   txn_read d txn e =
       let keys = both_ok (keyed (path.Transaction index) txn_keys d) _ txn e in
       let shape = keyed_shape _ txn_keys d keys.0 keys.1 in
       let is = shape.1.1.1 in
-      subst (λ t. IsTransaction t txn × Stands before txn) (sym is) (txn_parts shape.0 shape.1.0 shape.1.1.0 txn (subst (λ t. txn_in before index t ≡ Ok txn) is e))
+      subst (λ t. IsTransaction version t txn × Stands before txn) (sym is) (txn_parts shape.0 shape.1.0 shape.1.1.0 txn (subst (λ t. txn_in version before index t ≡ Ok txn) is e))
 
   -- and one that is and may stand there, is read
-  pub txn_is_read : (d : Data) (txn : Txn) → IsTransaction d txn → Stands before txn → txn_in before index d ≡ Ok txn
+  pub txn_is_read : (d : Data) (txn : Txn) → IsTransaction version d txn → Stands before txn → txn_in version before index d ≡ Ok txn
   txn_is_read d txn is stands =
       let items = is.4.0 in
-      let many : count items ≡ length txn.ops = each_count IsOperation items txn.ops is.4.2 in
+      let many : count items ≡ length txn.ops = each_count (IsOperation version) items txn.ops is.4.2 in
       let few : length (operations before) + count items ≤ 10000 = let room = stands.room in omega (arith, many, room) in
-      ap (txn_in before index) is.2
+      ap (txn_in version before index) is.2
       ∙ step_on _ (required_is (path.Number index) is.3)
       (step_on _ (refused_is (fault.RepeatedTxn txn.no) stands.alone)
       (step_on _ (required_is (path.Outcome index) (outcome_is_read txn.outcome))
       (step_on _ (required_is (path.Operations index) (ap as_array is.4.1))
       (step_on _ (limit_kept 10000 _ (fault.OverLimit limit.Operations) few)
-      (step_on _ (ops_are_read index txn.no 0 items txn.ops is.4.2) refl)))))
+      (step_on _ (ops_are_read version index txn.no 0 items txn.ops is.4.2) refl)))))
 
 -- ---- the list
 
@@ -106,39 +107,39 @@ abbrev pub AllStand : List Txn → List Txn → Type 0
 AllStand before [] = Unit {0}
 AllStand before (txn ∷ txns) = Stands before txn × AllStand (before ++ txn ∷ []) txns
 
-pub txns_read : (before : List Txn) (index : ℕ) (ds : Items) (all : List Txn) → txns_from before index ds ≡ Ok all
-    → (txns : List Txn) × (all ≡ before ++ txns) × AreEach IsTransaction ds txns × AllStand before txns
-txns_read before index no_items all e = let same : before ≡ all = cc in ([], sym same ∙ sym (append-nil before), tt, tt)
-txns_read before index (item d ds) all e =
-    let first = both_ok (txn_in before index d) _ all e in
-    let is = txn_read before index d first.0 first.1 in
-    let rest = txns_read (before ++ first.0 ∷ []) (index + 1) ds all first.2 in
+pub txns_read : (version : FileVersion) (before : List Txn) (index : ℕ) (ds : Items) (all : List Txn) → txns_from version before index ds ≡ Ok all
+    → (txns : List Txn) × (all ≡ before ++ txns) × AreEach (IsTransaction version) ds txns × AllStand before txns
+txns_read version before index no_items all e = let same : before ≡ all = cc in ([], sym same ∙ sym (append-nil before), tt, tt)
+txns_read version before index (item d ds) all e =
+    let first = both_ok (txn_in version before index d) _ all e in
+    let is = txn_read version before index d first.0 first.1 in
+    let rest = txns_read version (before ++ first.0 ∷ []) (index + 1) ds all first.2 in
     (first.0 ∷ rest.0, rest.1 ∙ append_assoc before (first.0 ∷ []) rest.0, (is.0, rest.2), (is.1, rest.3))
 
-pub txns_are_read : (before : List Txn) (index : ℕ) (ds : Items) (txns : List Txn) → AreEach IsTransaction ds txns → AllStand before txns
-    → txns_from before index ds ≡ Ok (before ++ txns)
-txns_are_read before index no_items [] each all = ap (λ ts. Ok ts) (sym (append-nil before))
-txns_are_read before index no_items (txn ∷ txns) each all = absurd each
-txns_are_read before index (item d ds) [] each all = absurd each
-txns_are_read before index (item d ds) (txn ∷ txns) each all =
-    step_on _ (txn_is_read before index d txn each.0 all.0)
-    (txns_are_read (before ++ txn ∷ []) (index + 1) ds txns each.1 all.1 ∙ ap (λ (ts : List Txn). Ok ts) (append_assoc before (txn ∷ []) txns))
+pub txns_are_read : (version : FileVersion) (before : List Txn) (index : ℕ) (ds : Items) (txns : List Txn) → AreEach (IsTransaction version) ds txns → AllStand before txns
+    → txns_from version before index ds ≡ Ok (before ++ txns)
+txns_are_read version before index no_items [] each all = ap (λ ts. Ok ts) (sym (append-nil before))
+txns_are_read version before index no_items (txn ∷ txns) each all = absurd each
+txns_are_read version before index (item d ds) [] each all = absurd each
+txns_are_read version before index (item d ds) (txn ∷ txns) each all =
+    step_on _ (txn_is_read version before index d txn each.0 all.0)
+    (txns_are_read version (before ++ txn ∷ []) (index + 1) ds txns each.1 all.1 ∙ ap (λ (ts : List Txn). Ok ts) (append_assoc before (txn ∷ []) txns))
 
 -- a list of transactions that is read stands for them
-pub list_read : (d : Data) (txns : List Txn) → txns_in d ≡ Ok txns → IsListOf IsTransaction d txns × AllStand [] txns × (length txns ≤ 1000)
-list_read d txns e =
+pub list_read : (version : FileVersion) (d : Data) (txns : List Txn) → txns_in version d ≡ Ok txns → IsListOf (IsTransaction version) d txns × AllStand [] txns × (length txns ≤ 1000)
+list_read version d txns e =
     let items = both_ok (required path.Transactions (as_array d)) _ txns e in
     let few = both_ok (refused_if (nat_lt 1000 (count items.0)) (fault.OverLimit limit.Transactions)) _ txns items.2 in
-    let found = txns_read [] 0 items.0 txns few.2 in
+    let found = txns_read version [] 0 items.0 txns few.2 in
     let same : found.0 ≡ txns = sym found.1 in
-    let many : count items.0 ≡ length found.0 = each_count IsTransaction items.0 found.0 found.2 in
+    let many : count items.0 ≡ length found.0 = each_count (IsTransaction version) items.0 found.0 found.2 in
     let within : count items.0 ≤ 1000 = kept_limit 1000 _ _ few.0 few.1 in
-    subst (λ ts. IsListOf IsTransaction d ts × AllStand [] ts × (length ts ≤ 1000)) same
+    subst (λ ts. IsListOf (IsTransaction version) d ts × AllStand [] ts × (length ts ≤ 1000)) same
     ((items.0, array_of d items.0 (required_ok path.Transactions _ items.0 items.1), found.2), found.3, omega (arith, many, within))
 
-pub list_is_read : (d : Data) (txns : List Txn) → IsListOf IsTransaction d txns → AllStand [] txns → length txns ≤ 1000 → txns_in d ≡ Ok txns
-list_is_read d txns is all few =
-    let many : count is.0 ≡ length txns = each_count IsTransaction is.0 txns is.2 in
+pub list_is_read : (version : FileVersion) (d : Data) (txns : List Txn) → IsListOf (IsTransaction version) d txns → AllStand [] txns → length txns ≤ 1000 → txns_in version d ≡ Ok txns
+list_is_read version d txns is all few =
+    let many : count is.0 ≡ length txns = each_count (IsTransaction version) is.0 txns is.2 in
     let within : count is.0 ≤ 1000 = omega (arith, many, few) in
     step_on _ (required_is path.Transactions (ap as_array is.1))
-    (step_on _ (limit_kept 1000 _ (fault.OverLimit limit.Transactions) within) (txns_are_read [] 0 is.0 txns is.2 all))
+    (step_on _ (limit_kept 1000 _ (fault.OverLimit limit.Transactions) within) (txns_are_read version [] 0 is.0 txns is.2 all))

@@ -6,11 +6,12 @@ use Rattle.serde_json.specs.Find.{as_array}
 use Rattle.lab_table.specs.Row.{Row, row_cmp}
 use Rattle.lab_history.specs.VersionName.{new_states, state_value}
 use Rattle.lab_history.specs.Faults.{◌>>=◌, required, Gives}
-use Rattle.lab_history.specs.Member.{id_in, pair_in}
+use Rattle.lab_history.specs.Member.{key_parts, pair_in}
 use Rattle.lab_history.specs.Entries.{written_in, follows, pair_of, entries_from, entries_in, writes_in}
 use Rattle.lab_history.specs.WrittenState.{state_from, state_in}
 use Rattle.lab_history.specs.declared.fault.FileFault.{FileFault}
 use Rattle.lab_history.specs.declared.fault.FileFault.TheVariants as fault
+use Rattle.lab_history.specs.declared.file_version.FileVersion.{FileVersion}
 use Rattle.lab_history.specs.declared.path.Path.{Path}
 use Rattle.lab_history.specs.declared.path.Path.TheVariants as path
 use Rattle.lab_history.specs.declared.path.ListPlace.{ListPlace}
@@ -34,30 +35,24 @@ seen_part : (id : Row) (at : Path) (s : Option (Option ℤ))
 seen_part id at None = refl
 seen_part id at (Some s) = ap (λ x. Ok (id, x)) (sym (value_state s))
 
--- the row before it,
-seen_pair : (place : ListPlace) (index : ℕ) (id : Result Row FileFault) (d : Data)
-    → (id >>= λ id. required (path.Part place index 1) (written_in d) >>= λ x. Ok (id, x))
-    ≡ ((id >>= λ id. required (path.Part place index 1) (state_in d) >>= λ x. Ok (id, x)) >>= λ e. Ok (seen e))
-seen_pair place index (Ok id) d = seen_part id (path.Part place index 1) (written_in d)
-seen_pair place index (Err f) d = refl
-
--- and the list of the two
-seen_parts : (place : ListPlace) (index : ℕ) (pair : Result (Data × Data) FileFault)
-    → (pair >>= λ p. required (path.Part place index 0) (id_in p.0) >>= λ id. required (path.Part place index 1) (written_in p.1) >>= λ x. Ok (id, x))
-    ≡ ((pair >>= λ p. required (path.Part place index 0) (id_in p.0) >>= λ id. required (path.Part place index 1) (state_in p.1) >>= λ x. Ok (id, x)) >>= λ e. Ok (seen e))
-seen_parts place index (Ok p) = seen_pair place index (required (path.Part place index 0) (id_in p.0)) p.1
-seen_parts place index (Err f) = refl
+-- and the row before it
+seen_pair : (at : Path) (pair : Result (Row × Data) FileFault)
+    → (pair >>= λ p. required at (written_in p.1) >>= λ x. Ok (p.0, x))
+    ≡ ((pair >>= λ p. required at (state_in p.1) >>= λ x. Ok (p.0, x)) >>= λ e. Ok (seen e))
+seen_pair at (Ok p) = seen_part p.0 at (written_in p.1)
+seen_pair at (Err f) = refl
 
 -- a member,
-pair_seen : (place : ListPlace) (index : ℕ) (parts : Option Items) → pair_of written_in place index parts ≡ (pair_of state_in place index parts >>= λ e. Ok (seen e))
-pair_seen place index parts = seen_parts place index (pair_in place index parts)
+pair_seen : (version : FileVersion) (place : ListPlace) (index : ℕ) (parts : Option Items)
+    → pair_of version written_in place index parts ≡ (pair_of version state_in place index parts >>= λ e. Ok (seen e))
+pair_seen version place index parts = seen_pair (path.Part place index (key_parts version)) (pair_in version place index parts)
 
-module _ (place : ListPlace) where
+module _ (version : FileVersion) (place : ListPlace) where
   abbrev written : ℕ → Data → Result (Row × Option ℤ) FileFault
-  written index d = pair_of written_in place index (as_array d)
+  written index d = pair_of version written_in place index (as_array d)
 
   abbrev stated : ℕ → Data → Result (Row × State) FileFault
-  stated index d = pair_of state_in place index (as_array d)
+  stated index d = pair_of version state_in place index (as_array d)
 
   -- what follows an entry moves across
   seen_more : (b : Bool) (e : Row × State) (rest : Result (List (Row × State)) FileFault)
@@ -72,7 +67,7 @@ module _ (place : ListPlace) where
   states_from index before no_items = refl
   states_from index before (item d ds) =
       ap (λ r. r >>= λ e. if follows before e.0 then (entries_from written place (index + 1) (Some e.0) ds >>= λ es. Ok (e ∷ es)) else Err (fault.Unsorted (path.List place)))
-      (pair_seen place index (as_array d))
+      (pair_seen version place index (as_array d))
       ∙ elim (stated index d) as (λ r. ((r >>= λ e. Ok (seen e)) >>= λ e. if follows before e.0 then (entries_from written place (index + 1) (Some e.0) ds >>= λ es. Ok (e ∷ es)) else Err
       (fault.Unsorted (path.List place)))
       ≡ ((r >>= λ e. if follows before e.0 then (entries_from stated place (index + 1) (Some e.0) ds >>= λ es. Ok (e ∷ es)) else Err (fault.Unsorted (path.List place))) >>= λ es. Ok
@@ -91,7 +86,7 @@ module _ (place : ListPlace) where
   states_list (Some ds) = states_from 0 None ds
 
   -- and a list
-  pub states_read : (d : Data) → writes_in place d ≡ (entries_in stated place d >>= λ es. Ok (new_states es))
+  pub states_read : (d : Data) → writes_in version place d ≡ (entries_in stated place d >>= λ es. Ok (new_states es))
   states_read d = states_list (as_array d)
 
 -- what is seen further of what was given

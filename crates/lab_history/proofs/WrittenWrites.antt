@@ -7,6 +7,7 @@ use Rattle.lab_history.specs.Entries.{written_in}
 use Rattle.lab_history.specs.FileOf.{AreEach, IsListOf, IsPair}
 use Rattle.lab_history.specs.Tree.{written_tree, pair_tree, list_tree}
 use Rattle.lab_history.specs.VersionName.{state_value, new_states}
+use Rattle.lab_history.specs.declared.file_version.FileVersion.TheVariants.{Two}
 use Rattle.lab_history.specs.declared.operation.State.{State}
 
 -- a row with its new state
@@ -15,7 +16,7 @@ write_tree e = pair_tree written_tree (e.0, state_value e.1)
 
 -- what the format says of it
 abbrev pub IsWrite : Data → Row × State → Type 0
-IsWrite d e = IsPair written_in d (e.0, state_value e.1)
+IsWrite d e = IsPair Two written_in d (e.0, state_value e.1)
 
 -- the trees of the rows
 pub write_trees : (es : List (Row × State)) → list_tree write_tree es ≡ list_tree (pair_tree written_tree) (new_states es)
@@ -26,10 +27,10 @@ write_trees es = ap (λ ds. array (items_of ds)) (each es)
     each (e ∷ es) = ap (λ ds. write_tree e ∷ ds) (each es)
 
 -- each row is what the format says
-pub writes_stand : (es : List (Row × State)) → IsListOf IsWrite (list_tree write_tree es) es → IsListOf (IsPair written_in) (list_tree (pair_tree written_tree) (new_states es)) (new_states es)
+pub writes_stand : (es : List (Row × State)) → IsListOf IsWrite (list_tree write_tree es) es → IsListOf (IsPair Two written_in) (list_tree (pair_tree written_tree) (new_states es)) (new_states es)
 writes_stand es h = (h.0, sym (write_trees es) ∙ h.1, each h.0 es h.2)
   where
-    each : (ds : Items) (es : List (Row × State)) → AreEach IsWrite ds es → AreEach (IsPair written_in) ds (new_states es)
+    each : (ds : Items) (es : List (Row × State)) → AreEach IsWrite ds es → AreEach (IsPair Two written_in) ds (new_states es)
     each no_items [] h = tt
     each no_items (e ∷ es) h = absurd h
     each (item d ds) [] h = absurd h

@@ -7,9 +7,10 @@ use Rattle.lab_table.specs.Row.{Row, row_cmp}
 use Rattle.lab_history.specs.Faults.{◌>>=◌, required}
 use Rattle.lab_history.specs.Limits.{max_operations}
 use Rattle.lab_history.specs.Whole.{whole_in}
-use Rattle.lab_history.specs.Member.{key_parts, key_in, pair_in, triple_in}
+use Rattle.lab_history.specs.Member.{key_parts, pair_in, triple_in}
 use Rattle.lab_history.specs.declared.fault.FileFault.{FileFault}
 use Rattle.lab_history.specs.declared.fault.FileFault.TheVariants as fault
+use Rattle.lab_history.specs.declared.file_version.FileVersion.{FileVersion}
 use Rattle.lab_history.specs.declared.path.Path.TheVariants as path
 use Rattle.lab_history.specs.declared.path.ListPlace.{ListPlace}
 use Rattle.lab_history.specs.declared.path.ListPlace.TheVariants as list
@@ -58,53 +59,50 @@ abbrev pub entries_in : {X : Type 0} → (ℕ → Data → Result (Row × X) Fil
 entries_in read place d = required (path.List place) (as_array d) >>= entries_from read place 0 None
 
 -- [key, x]
-abbrev pub pair_of : {X : Type 0} → (Data → Option X) → ListPlace → ℕ → Option Items → Result (Row × X) FileFault
-pair_of read place index parts =
-    pair_in place index parts >>= λ pair.
-    key_in place index pair.0 >>= λ row.
-    required (path.Part place index key_parts) (read pair.1) >>= λ x.
-    Ok (row, x)
+abbrev pub pair_of : {X : Type 0} → FileVersion → (Data → Option X) → ListPlace → ℕ → Option Items → Result (Row × X) FileFault
+pair_of version read place index parts =
+    pair_in version place index parts >>= λ pair.
+    required (path.Part place index (key_parts version)) (read pair.1) >>= λ x.
+    Ok (pair.0, x)
 
 -- [key, txn, op]
-abbrev pub version_of : ListPlace → ℕ → Option Items → Result (Row × VersionName) FileFault
-version_of place index parts =
-    triple_in place index parts >>= λ triple.
-    key_in place index triple.0 >>= λ row.
-    required (path.Part place index key_parts) (txn_in_number triple.1) >>= λ txn.
-    required (path.Part place index (key_parts + 1)) (op_in_number triple.2) >>= λ op.
-    Ok (row, Of txn op)
+abbrev pub version_of : FileVersion → ListPlace → ℕ → Option Items → Result (Row × VersionName) FileFault
+version_of version place index parts =
+    triple_in version place index parts >>= λ triple.
+    required (path.Part place index (key_parts version)) (txn_in_number triple.1) >>= λ txn.
+    required (path.Part place index (key_parts version + 1)) (op_in_number triple.2) >>= λ op.
+    Ok (triple.0, Of txn op)
 
--- the installers of a row, of which the first has this place
-abbrev pub installers_from : ℕ → ℕ → Items → Result (List ℕ) FileFault
-installers_from index at no_items = Ok []
-installers_from index at (item d ds) =
-    required (path.Installer index at) (txn_in_number d) >>= λ n.
-    installers_from index (at + 1) ds >>= λ ns.
+-- the installers of a row, which are a part of a member; the first has this place
+abbrev pub installers_from : ℕ → ℕ → ℕ → Items → Result (List ℕ) FileFault
+installers_from index part at no_items = Ok []
+installers_from index part at (item d ds) =
+    required (path.Installer index part at) (txn_in_number d) >>= λ n.
+    installers_from index part (at + 1) ds >>= λ ns.
     Ok (n ∷ ns)
 
 -- [txn, ..], with at least one
-abbrev pub installers_of : ℕ → Option Items → Result (List ℕ) FileFault
-installers_of index None = Err (fault.WrongFormat (path.Part list.Installed index key_parts))
-installers_of index (Some no_items) = Err (fault.WrongFormat (path.Part list.Installed index key_parts))
-installers_of index (Some (item d ds)) = installers_from index 0 (item d ds)
+abbrev pub installers_of : ℕ → ℕ → Option Items → Result (List ℕ) FileFault
+installers_of index part None = Err (fault.WrongFormat (path.Part list.Installed index part))
+installers_of index part (Some no_items) = Err (fault.WrongFormat (path.Part list.Installed index part))
+installers_of index part (Some (item d ds)) = installers_from index part 0 (item d ds)
 
 -- [key, [txn, ..]]
-abbrev pub installed_of : ℕ → Option Items → Result (Row × List ℕ) FileFault
-installed_of index parts =
-    pair_in list.Installed index parts >>= λ pair.
-    key_in list.Installed index pair.0 >>= λ row.
-    installers_of index (as_array pair.1) >>= λ ns.
-    Ok (row, ns)
+abbrev pub installed_of : FileVersion → ℕ → Option Items → Result (Row × List ℕ) FileFault
+installed_of version index parts =
+    pair_in version list.Installed index parts >>= λ pair.
+    installers_of index (key_parts version) (as_array pair.1) >>= λ ns.
+    Ok (pair.0, ns)
 
 -- the lists
-abbrev pub values_in : ListPlace → Data → Result (List (Row × ℤ)) FileFault
-values_in place d = entries_in (λ index e. pair_of value_in place index (as_array e)) place d
+abbrev pub values_in : FileVersion → ListPlace → Data → Result (List (Row × ℤ)) FileFault
+values_in version place d = entries_in (λ index e. pair_of version value_in place index (as_array e)) place d
 
-abbrev pub writes_in : ListPlace → Data → Result (List (Row × Option ℤ)) FileFault
-writes_in place d = entries_in (λ index e. pair_of written_in place index (as_array e)) place d
+abbrev pub writes_in : FileVersion → ListPlace → Data → Result (List (Row × Option ℤ)) FileFault
+writes_in version place d = entries_in (λ index e. pair_of version written_in place index (as_array e)) place d
 
-abbrev pub view_in : ListPlace → Data → Result (List (Row × VersionName)) FileFault
-view_in place d = entries_in (λ index e. version_of place index (as_array e)) place d
+abbrev pub view_in : FileVersion → ListPlace → Data → Result (List (Row × VersionName)) FileFault
+view_in version place d = entries_in (λ index e. version_of version place index (as_array e)) place d
 
-abbrev pub installed_in : Data → Result (List (Row × List ℕ)) FileFault
-installed_in d = entries_in (λ index e. installed_of index (as_array e)) list.Installed d
+abbrev pub installed_in : FileVersion → Data → Result (List (Row × List ℕ)) FileFault
+installed_in version d = entries_in (λ index e. installed_of version index (as_array e)) list.Installed d

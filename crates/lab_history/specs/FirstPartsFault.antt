@@ -55,7 +55,7 @@ abbrev pub installed_checked : ℕ → List (Row × List ℕ) → Result ⊤ Fil
 installed_checked index [] = Ok tt
 installed_checked index (e ∷ es) = refused_if (not (has_installer e.1)) (fault.WrongFormat (path.Member list.Installed index)) >>= λ _. installed_checked (index + 1) es
 
--- the whole: its transactions, its installed rows, and then the limits on ids and entries
+-- the whole: its transactions, its installed rows, and then the limits on tables, ids and entries
 abbrev pub checked : History → Result ⊤ FileFault
 checked h =
     refused_if (nat_lt max_transactions (length h.txns)) (fault.OverLimit limit.Transactions) >>= λ _.

@@ -1,4 +1,4 @@
--- The history file, version 1: the history that a JSON value holds, or its first fault.
+-- The history file: the history that a JSON value holds, or its first fault.
 use Rattle.std.specs.Prelude.{ℕ, ◌+◌, ⊤, ◌&&◌, ◌==◌, nat_lt, Bool, true, false, List, [], ◌∷◌, ◌++◌, length, Option, Some, None, option_and_then, unwrap_or, Result, Ok, Err, if◌then◌else◌, codes}
 use Rattle.std.specs.Str.{bytes_eq}
 use Rattle.std.specs.List.{list_any}
@@ -8,6 +8,7 @@ use Rattle.serde_json.specs.Find.{as_number, as_u64, as_array, as_object, as_str
 use Rattle.lab_table.specs.declared.statement.Statement.{Statement}
 use Rattle.lab_script.specs.StatementText.{statement_in}
 use Rattle.lab_history.specs.Faults.{◌>>=◌, required, refused_if}
+use Rattle.lab_history.specs.FileVersion.{may_have}
 use Rattle.lab_history.specs.Entries.{txn_in_number, values_in, writes_in, view_in, installed_in}
 use Rattle.lab_history.specs.History.{History}
 use Rattle.lab_history.specs.HistoryRules.{operations}
@@ -16,6 +17,8 @@ use Rattle.lab_history.specs.WithinLimits.{within_limits}
 use Rattle.lab_history.specs.declared.fault.FileFault.{FileFault}
 use Rattle.lab_history.specs.declared.fault.FileFault.TheVariants as fault
 use Rattle.lab_history.specs.declared.fault.Limit.TheVariants as limit
+use Rattle.lab_history.specs.declared.file_version.FileVersion.{FileVersion}
+use Rattle.lab_history.specs.declared.file_version.FileVersion.TheVariants.{One, Two}
 use Rattle.lab_history.specs.declared.path.Path.{Path}
 use Rattle.lab_history.specs.declared.path.Path.TheVariants as path
 use Rattle.lab_history.specs.declared.path.ListPlace.TheVariants as list
@@ -56,24 +59,28 @@ op_keys = codes "rows" ∷ codes "statement" ∷ codes "view" ∷ codes "writes"
 
 -- ---- operations and transactions; their places count from 0, operations are numbered from 1
 
+-- a statement that a file of this version may have
+abbrev pub only_in : FileVersion → Statement → Option Statement
+only_in version s = if may_have version s then Some s else None
+
 -- what a statement's text spells
 abbrev pub spelled_in : ℕ → ℕ → Option Statement → Result Statement FileFault
 spelled_in by op None = Err (fault.BadStatement by op)
 spelled_in by op (Some s) = Ok s
 
-abbrev pub op_in : ℕ → ℕ → ℕ → Data → Result Op FileFault
-op_in txn by index d =
+abbrev pub op_in : FileVersion → ℕ → ℕ → ℕ → Data → Result Op FileFault
+op_in version txn by index d =
     keyed (path.Operation txn index) op_keys d >>= λ _.
     required (path.Statement txn index) (as_str (at_key (codes "statement") d)) >>= λ text.
-    spelled_in by (index + 1) (statement_in text) >>= λ statement.
-    view_in (list.View txn index) (at_key (codes "view") d) >>= λ view.
-    values_in (list.Rows txn index) (at_key (codes "rows") d) >>= λ rows.
-    writes_in (list.Writes txn index) (at_key (codes "writes") d) >>= λ writes.
+    spelled_in by (index + 1) (option_and_then (only_in version) (statement_in text)) >>= λ statement.
+    view_in version (list.View txn index) (at_key (codes "view") d) >>= λ view.
+    values_in version (list.Rows txn index) (at_key (codes "rows") d) >>= λ rows.
+    writes_in version (list.Writes txn index) (at_key (codes "writes") d) >>= λ writes.
     Ok (record { statement = statement; view = finite.from_sorted view; rows = finite.from_sorted rows; writes = finite.from_sorted writes })
 
-abbrev pub ops_from : ℕ → ℕ → ℕ → Items → Result (List Op) FileFault
-ops_from txn by index no_items = Ok []
-ops_from txn by index (item d ds) = op_in txn by index d >>= λ op. ops_from txn by (index + 1) ds >>= λ ops. Ok (op ∷ ops)
+abbrev pub ops_from : FileVersion → ℕ → ℕ → ℕ → Items → Result (List Op) FileFault
+ops_from version txn by index no_items = Ok []
+ops_from version txn by index (item d ds) = op_in version txn by index d >>= λ op. ops_from version txn by (index + 1) ds >>= λ ops. Ok (op ∷ ops)
 
 abbrev pub outcome_named : List ℕ → Option Outcome
 outcome_named text = if bytes_eq text (codes "committed") then Some Committed else if bytes_eq text (codes "aborted") then Some Aborted else None
@@ -84,26 +91,26 @@ count no_items = 0
 count (item d ds) = 1 + count ds
 
 -- a transaction behind others
-abbrev pub txn_in : List Txn → ℕ → Data → Result Txn FileFault
-txn_in before index d =
+abbrev pub txn_in : FileVersion → List Txn → ℕ → Data → Result Txn FileFault
+txn_in version before index d =
     keyed (path.Transaction index) txn_keys d >>= λ _.
     required (path.Number index) (txn_in_number (at_key (codes "no") d)) >>= λ number.
     refused_if (list_any (λ t. t.no == number) before) (fault.RepeatedTxn number) >>= λ _.
     required (path.Outcome index) (option_and_then outcome_named (as_str (at_key (codes "outcome") d))) >>= λ outcome.
     required (path.Operations index) (as_array (at_key (codes "ops") d)) >>= λ items.
     refused_if (nat_lt max_operations (length (operations before) + count items)) (fault.OverLimit limit.Operations) >>= λ _.
-    ops_from index number 0 items >>= λ ops.
+    ops_from version index number 0 items >>= λ ops.
     Ok (record { no = number; outcome = outcome; ops = ops })
 
-abbrev pub txns_from : List Txn → ℕ → Items → Result (List Txn) FileFault
-txns_from before index no_items = Ok before
-txns_from before index (item d ds) = txn_in before index d >>= λ txn. txns_from (before ++ txn ∷ []) (index + 1) ds
+abbrev pub txns_from : FileVersion → List Txn → ℕ → Items → Result (List Txn) FileFault
+txns_from version before index no_items = Ok before
+txns_from version before index (item d ds) = txn_in version before index d >>= λ txn. txns_from version (before ++ txn ∷ []) (index + 1) ds
 
-abbrev pub txns_in : Data → Result (List Txn) FileFault
-txns_in d =
+abbrev pub txns_in : FileVersion → Data → Result (List Txn) FileFault
+txns_in version d =
     required path.Transactions (as_array d) >>= λ items.
     refused_if (nat_lt max_transactions (count items)) (fault.OverLimit limit.Transactions) >>= λ _.
-    txns_from [] 0 items
+    txns_from version [] 0 items
 
 -- ---- the whole
 
@@ -112,22 +119,41 @@ format_in d =
     required path.Root (as_object d) >>= λ _.
     required path.Format (option_and_then (λ text. if bytes_eq text (codes "hermitage-history") then Some tt else None) (as_str (at_key (codes "format") d)))
 
-abbrev pub version_in : Data → Result ⊤ FileFault
-version_in d =
-    required path.Version (option_and_then as_u64 (as_number (at_key (codes "version") d))) >>= λ version.
-    refused_if (if version == 1 then false else true) (fault.WrongVersion version)
+-- the whole number that a value has as its version
+abbrev pub number_said : Data → Option ℕ
+number_said d = option_and_then as_u64 (as_number (at_key (codes "version") d))
 
--- the parts of the history that a JSON value holds, or its first fault but for the limits on whole histories
+-- the version of this number
+abbrev pub numbered_version : ℕ → Result FileVersion FileFault
+numbered_version n = if n == 1 then Ok One else if n == 2 then Ok Two else Err (fault.WrongVersion n)
+
+abbrev pub version_in : Data → Result FileVersion FileFault
+version_in d = required path.Version (number_said d) >>= numbered_version
+
+-- the version that a value says by this number: 2 where it says neither
+abbrev pub said_by : Option ℕ → FileVersion
+said_by None = Two
+said_by (Some n) = if n == 1 then One else Two
+
+-- the version that a value says that it is of
+abbrev pub version_said : Data → FileVersion
+version_said d = said_by (number_said d)
+
+-- the parts of the history that a JSON value of a version holds, or its first fault but for the limits on whole histories
+abbrev pub parts_of_version : FileVersion → Data → Result History FileFault
+parts_of_version version d =
+    keyed path.Root root_keys d >>= λ _.
+    values_in version list.Initial (at_key (codes "initial") d) >>= λ initial.
+    txns_in version (at_key (codes "transactions") d) >>= λ txns.
+    installed_in version (at_key (codes "installed") d) >>= λ installed.
+    values_in version list.End (at_key (codes "end") d) >>= λ end.
+    Ok (record { initial = finite.from_sorted initial; txns = txns; installed = finite.from_sorted installed; end_table = finite.from_sorted end })
+
 abbrev pub parts_in : Data → Result History FileFault
 parts_in d =
     format_in d >>= λ _.
-    version_in d >>= λ _.
-    keyed path.Root root_keys d >>= λ _.
-    values_in list.Initial (at_key (codes "initial") d) >>= λ initial.
-    txns_in (at_key (codes "transactions") d) >>= λ txns.
-    installed_in (at_key (codes "installed") d) >>= λ installed.
-    values_in list.End (at_key (codes "end") d) >>= λ end.
-    Ok (record { initial = finite.from_sorted initial; txns = txns; installed = finite.from_sorted installed; end_table = finite.from_sorted end })
+    version_in d >>= λ version.
+    parts_of_version version d
 
 -- the history that a JSON value holds, or its first fault
 abbrev pub history_in : Data → Result History FileFault

@@ -3,9 +3,10 @@ use Rattle.std.specs.Prelude.{◌≡◌, ℕ, ◌+◌, ◌≤◌, Bool, true, fa
 use Rattle.std.specs.List.{list_any, list_all}
 use Rattle.std.specs.FinMap as finite
 use Rattle.lab_table.specs.Row.{Row, row_eq}
+use Rattle.lab_table.specs.TableName.{table_name_eq}
 use Rattle.lab_script.specs.Limits.{StatementPrints}
 use Rattle.lab_history.specs.History.{History}
-use Rattle.lab_history.specs.Limits.{max_transactions, max_operations, max_ids, max_entries}
+use Rattle.lab_history.specs.Limits.{max_transactions, max_operations, max_tables, max_ids, max_entries}
 use Rattle.lab_history.specs.declared.transaction.Txn.{Txn}
 use Rattle.lab_history.specs.declared.operation.Op.{Op}
 use Rattle.lab_history.specs.declared.operation.VersionName.{VersionName}
@@ -32,6 +33,23 @@ named_rows h = finite.keys h.initial ++ flat_map op_rows (operations h.txns) ++ 
 abbrev pub distinct_rows : List Row → ℕ
 distinct_rows [] = 0
 distinct_rows (row ∷ rows) = cond (list_any (row_eq row) rows) 0 1 + distinct_rows rows
+
+-- the tables that rows are of
+abbrev pub tables_of : List Row → List (List ℕ)
+tables_of rows = map (λ row. row.table) rows
+
+-- the tables that an operation names: its statement's, and those of its lists
+abbrev pub op_tables : Op → List (List ℕ)
+op_tables op = op.statement.table ∷ tables_of (op_rows op)
+
+-- the tables that a history names, in the order of the file
+abbrev pub named_tables : History → List (List ℕ)
+named_tables h = tables_of (finite.keys h.initial) ++ flat_map op_tables (operations h.txns) ++ tables_of (finite.keys h.installed) ++ tables_of (finite.keys h.end_table)
+
+-- how many different tables there are in a list
+abbrev pub distinct_tables : List (List ℕ) → ℕ
+distinct_tables [] = 0
+distinct_tables (table ∷ tables) = cond (list_any (table_name_eq table) tables) 0 1 + distinct_tables tables
 
 -- the entries of an operation's view, rows and writes
 abbrev pub op_entries : Op → ℕ
@@ -64,5 +82,6 @@ pub record Keeps (h : History) : Type 0 where
   pub few_operations : length (operations h.txns) ≤ max_operations
   pub operations_keep : OpsKeep (operations h.txns)
   pub installers : list_all has_installer (finite.values h.installed) ≡ true
+  pub tables : distinct_tables (named_tables h) ≤ max_tables
   pub ids : distinct_rows (named_rows h) ≤ max_ids
   pub entries : sum (map op_entries (operations h.txns)) ≤ max_entries

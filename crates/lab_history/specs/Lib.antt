@@ -7,14 +7,17 @@ pub mod Faults
 pub mod Limits
 pub mod WithinLimits
 pub mod RunningCounts
+pub mod RunningTables
 pub mod FirstPartsFault
 pub mod PartsFault
 pub mod WrittenState
 pub mod Whole
+pub mod FileVersion
 pub mod Member
 pub mod Entries
 pub mod Format
 pub mod FileOf
+pub mod Lift
 pub mod ValueAt
 pub mod PlaceShape
 pub mod FaultOf

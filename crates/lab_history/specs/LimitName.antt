@@ -8,6 +8,7 @@ abbrev pub limit_name : Limit → List ℕ
 limit_name limit.Bytes = codes "bytes"
 limit_name limit.Transactions = codes "transactions"
 limit_name limit.Operations = codes "operations"
+limit_name limit.Tables = codes "tables"
 limit_name limit.Ids = codes "ids"
 limit_name limit.Entries = codes "entries"
 limit_name limit.Statement = codes "statement"

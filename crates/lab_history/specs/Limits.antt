@@ -13,6 +13,10 @@ max_transactions = 1000
 abbrev pub max_operations : ℕ
 max_operations = 10000
 
+-- the most different tables that its lists and its statements name
+abbrev pub max_tables : ℕ
+max_tables = 4
+
 -- the most different rows that its lists name
 abbrev pub max_ids : ℕ
 max_ids = 1000

@@ -1,60 +1,133 @@
 -- What a member of a list begins with: the key of a row. Nothing else says how many parts a key takes, and which.
-use Rattle.std.specs.Prelude.{ℕ, Bool, Option, Some, None, is_some, option_and_then, Result, Ok, Err}
-use Rattle.serde_json.specs.Data.{Data, number, unsigned, Items, no_items, item}
-use Rattle.serde_json.specs.Find.{at}
-use Rattle.lab_table.specs.Row.{Row}
+use Rattle.std.specs.Prelude.{ℕ, zero, suc, Bool, List, Option, Some, None, is_some, option_map, option_and_then, Result, Ok, Err, if◌then◌else◌}
+use Rattle.serde_json.specs.Data.{Data, number, unsigned, string, Items, no_items, item}
+use Rattle.serde_json.specs.Find.{as_str, at}
+use Rattle.lab_table.specs.Row.{Row, in_test, numbered}
+use Rattle.lab_table.specs.TableName.{is_table_name}
 use Rattle.lab_history.specs.Whole.{whole_in}
-use Rattle.lab_history.specs.Faults.{required}
+use Rattle.lab_history.specs.Faults.{◌>>=◌, required}
 use Rattle.lab_history.specs.declared.fault.FileFault.{FileFault}
 use Rattle.lab_history.specs.declared.fault.FileFault.TheVariants as fault
+use Rattle.lab_history.specs.declared.file_version.FileVersion.{FileVersion}
+use Rattle.lab_history.specs.declared.file_version.FileVersion.TheVariants.{One, Two}
 use Rattle.lab_history.specs.declared.path.Path.TheVariants as path
 use Rattle.lab_history.specs.declared.path.ListPlace.{ListPlace}
 
--- a key, as a file has it: the row's id
-abbrev pub Key : Type 0
-Key = Data
+-- ---- keys
 
--- how many parts of a member it takes
-abbrev pub key_parts : ℕ
-key_parts = 1
+-- how many parts of a member are its key
+abbrev pub key_parts : FileVersion → ℕ
+key_parts One = 1
+key_parts Two = 2
 
--- the row of a key
-abbrev pub id_in : Key → Option Row
-id_in key = whole_in 1 999999 key
-
--- whether a value may stand at a place of a key
-abbrev pub key_fits : ℕ → Data → Bool
-key_fits part v = is_some (id_in v)
-
--- the key of a row
-abbrev pub key_tree : Row → Key
-key_tree row = number (unsigned row)
+-- a key, as a file has it: an id in version 1, a table's name and an id in version 2
+pub data Key : Type 0 where
+  plain : (id : Data) → Key
+  full : (table id : Data) → Key
 
 -- a key in front of other parts
 abbrev pub with_key : Key → Items → Items
-with_key key parts = item key parts
+with_key (plain id) parts = item id parts
+with_key (full table id) parts = item table (item id parts)
+
+-- an id
+abbrev pub id_in : Data → Option ℕ
+id_in d = whole_in 1 999999 d
+
+-- a table's name, in lower case
+abbrev pub name_in : List ℕ → Option (List ℕ)
+name_in text = if is_table_name text then Some text else None
+
+abbrev pub table_in : Data → Option (List ℕ)
+table_in d = option_and_then name_in (as_str d)
+
+-- the row of an id, and of a table's name and an id
+abbrev pub plain_row : Option ℕ → Option Row
+plain_row id = option_map in_test id
+
+abbrev pub full_row : Option (List ℕ) → Option ℕ → Option Row
+full_row table id = option_and_then (λ name. option_map (numbered name) id) table
+
+-- the row of a key
+abbrev pub row_in : FileVersion → Key → Option Row
+row_in One (plain id) = plain_row (id_in id)
+row_in One (full table id) = None
+row_in Two (plain id) = None
+row_in Two (full table id) = full_row (table_in table) (id_in id)
+
+-- whether a value may stand at a place of a key
+abbrev pub key_fits : FileVersion → ℕ → Data → Bool
+key_fits One part v = is_some (id_in v)
+key_fits Two zero v = is_some (table_in v)
+key_fits Two (suc part) v = is_some (id_in v)
 
 -- the row that a member of a list begins with
-abbrev pub row_of : Data → Option Row
-row_of member = option_and_then id_in (at 0 member)
+abbrev pub row_of : FileVersion → Data → Option Row
+row_of One member = plain_row (option_and_then id_in (at 0 member))
+row_of Two member = full_row (option_and_then table_in (at 0 member)) (option_and_then id_in (at 1 member))
 
--- the row of a member's key, which has to be one
-abbrev pub key_in : ListPlace → ℕ → Key → Result Row FileFault
-key_in place index key = required (path.Part place index 0) (id_in key)
+-- the key of a row, as it is written
+abbrev pub key_tree : Row → Key
+key_tree row = full (string row.table) (number (unsigned row.id))
 
--- the key of a member, and the one part behind it
-abbrev pub pair_in : ListPlace → ℕ → Option Items → Result (Key × Data) FileFault
-pair_in place index None = Err (fault.WrongFormat (path.Member place index))
-pair_in place index (Some no_items) = Err (fault.WrongFormat (path.Member place index))
-pair_in place index (Some (item a no_items)) = Err (fault.WrongFormat (path.Member place index))
-pair_in place index (Some (item a (item b no_items))) = Ok (a, b)
-pair_in place index (Some (item a (item b (item c ds)))) = Err (fault.WrongFormat (path.Member place index))
+-- ---- members
 
--- the key of a member, and the two parts behind it
-abbrev pub triple_in : ListPlace → ℕ → Option Items → Result (Key × Data × Data) FileFault
-triple_in place index None = Err (fault.WrongFormat (path.Member place index))
-triple_in place index (Some no_items) = Err (fault.WrongFormat (path.Member place index))
-triple_in place index (Some (item a no_items)) = Err (fault.WrongFormat (path.Member place index))
-triple_in place index (Some (item a (item b no_items))) = Err (fault.WrongFormat (path.Member place index))
-triple_in place index (Some (item a (item b (item c no_items)))) = Ok (a, b, c)
-triple_in place index (Some (item a (item b (item c (item d ds))))) = Err (fault.WrongFormat (path.Member place index))
+-- the row of a key, which has to be one
+abbrev pub plain_in : ListPlace → ℕ → Data → Result Row FileFault
+plain_in place index id =
+    required (path.Part place index 0) (id_in id) >>= λ n.
+    Ok (in_test n)
+
+abbrev pub full_in : ListPlace → ℕ → Data → Data → Result Row FileFault
+full_in place index table id =
+    required (path.Part place index 0) (table_in table) >>= λ name.
+    required (path.Part place index 1) (id_in id) >>= λ n.
+    Ok (numbered name n)
+
+-- that of a key by its first and its last part
+abbrev pub key_in : FileVersion → ListPlace → ℕ → Data → Data → Result Row FileFault
+key_in One place index first last = plain_in place index last
+key_in Two place index first last = full_in place index first last
+
+-- the parts of a member that has two, three or four
+abbrev pub two_in : ListPlace → ℕ → Option Items → Result (Data × Data) FileFault
+two_in place index None = Err (fault.WrongFormat (path.Member place index))
+two_in place index (Some no_items) = Err (fault.WrongFormat (path.Member place index))
+two_in place index (Some (item a no_items)) = Err (fault.WrongFormat (path.Member place index))
+two_in place index (Some (item a (item b no_items))) = Ok (a, b)
+two_in place index (Some (item a (item b (item c ds)))) = Err (fault.WrongFormat (path.Member place index))
+
+abbrev pub three_in : ListPlace → ℕ → Option Items → Result (Data × Data × Data) FileFault
+three_in place index None = Err (fault.WrongFormat (path.Member place index))
+three_in place index (Some no_items) = Err (fault.WrongFormat (path.Member place index))
+three_in place index (Some (item a no_items)) = Err (fault.WrongFormat (path.Member place index))
+three_in place index (Some (item a (item b no_items))) = Err (fault.WrongFormat (path.Member place index))
+three_in place index (Some (item a (item b (item c no_items)))) = Ok (a, b, c)
+three_in place index (Some (item a (item b (item c (item d ds))))) = Err (fault.WrongFormat (path.Member place index))
+
+abbrev pub four_in : ListPlace → ℕ → Option Items → Result (Data × Data × Data × Data) FileFault
+four_in place index None = Err (fault.WrongFormat (path.Member place index))
+four_in place index (Some no_items) = Err (fault.WrongFormat (path.Member place index))
+four_in place index (Some (item a no_items)) = Err (fault.WrongFormat (path.Member place index))
+four_in place index (Some (item a (item b no_items))) = Err (fault.WrongFormat (path.Member place index))
+four_in place index (Some (item a (item b (item c no_items)))) = Err (fault.WrongFormat (path.Member place index))
+four_in place index (Some (item a (item b (item c (item d no_items))))) = Ok (a, b, c, d)
+four_in place index (Some (item a (item b (item c (item d (item e ds)))))) = Err (fault.WrongFormat (path.Member place index))
+
+-- the first and the last part of a member's key, which are one part in version 1, and the one part behind the key
+abbrev pub split_pair : FileVersion → ListPlace → ℕ → Option Items → Result (Data × Data × Data) FileFault
+split_pair One place index parts = two_in place index parts >>= λ two. Ok (two.0, two.0, two.1)
+split_pair Two place index parts = three_in place index parts
+
+-- and the two parts behind the key
+abbrev pub split_triple : FileVersion → ListPlace → ℕ → Option Items → Result (Data × Data × Data × Data) FileFault
+split_triple One place index parts = three_in place index parts >>= λ three. Ok (three.0, three.0, three.1, three.2)
+split_triple Two place index parts = four_in place index parts
+
+-- the row of a member, and the one part behind its key
+abbrev pub pair_in : FileVersion → ListPlace → ℕ → Option Items → Result (Row × Data) FileFault
+pair_in version place index parts = split_pair version place index parts >>= λ p. key_in version place index p.0 p.1 >>= λ row. Ok (row, p.2)
+
+-- the row of a member, and the two parts behind its key
+abbrev pub triple_in : FileVersion → ListPlace → ℕ → Option Items → Result (Row × Data × Data) FileFault
+triple_in version place index parts = split_triple version place index parts >>= λ p. key_in version place index p.0 p.1 >>= λ row. Ok (row, p.2, p.3)

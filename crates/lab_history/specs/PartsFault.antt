@@ -4,8 +4,8 @@ use Rattle.std.specs.FinMap as finite
 use Rattle.lab_table.specs.Row.{Row}
 use Rattle.lab_script.specs.Limits.{StatementPrints}
 use Rattle.lab_history.specs.History.{History}
-use Rattle.lab_history.specs.Limits.{max_transactions, max_operations, max_ids, max_entries}
-use Rattle.lab_history.specs.HistoryRules.{operations, named_rows, distinct_rows, op_entries, is_listed}
+use Rattle.lab_history.specs.Limits.{max_transactions, max_operations, max_tables, max_ids, max_entries}
+use Rattle.lab_history.specs.HistoryRules.{operations, named_tables, distinct_tables, named_rows, distinct_rows, op_entries, is_listed}
 use Rattle.lab_history.specs.declared.fault.FileFault.{FileFault}
 use Rattle.lab_history.specs.declared.fault.FileFault.TheVariants as fault
 use Rattle.lab_history.specs.declared.fault.Limit.TheVariants as limit
@@ -28,5 +28,6 @@ pub data IsPartsFault (h : History) : FileFault → Type 0 where
   many_operations : max_operations < length (operations h.txns) → IsPartsFault h (fault.OverLimit limit.Operations)
   of_operation : (i j : ℕ) (t : Txn) (op : Op) (f : FileFault) → slice_get h.txns i ≡ Some t → slice_get t.ops j ≡ Some op → IsOpFault i t.no j op f → IsPartsFault h f
   no_installer : (k : ℕ) (row : Row) → slice_get (finite.entries h.installed) k ≡ Some (row, []) → IsPartsFault h (fault.WrongFormat (path.Member list.Installed k))
+  many_tables : max_tables < distinct_tables (named_tables h) → IsPartsFault h (fault.OverLimit limit.Tables)
   many_ids : max_ids < distinct_rows (named_rows h) → IsPartsFault h (fault.OverLimit limit.Ids)
   many_entries : max_entries < sum (map op_entries (operations h.txns)) → IsPartsFault h (fault.OverLimit limit.Entries)

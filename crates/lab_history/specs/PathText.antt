@@ -1,6 +1,5 @@
 -- How places in a history file are spelled: as JSON pointers, with the root as /.
 use Rattle.std.specs.Prelude.{ℕ, List, ◌++◌, decimal, codes}
-use Rattle.lab_history.specs.Member.{key_parts}
 use Rattle.lab_history.specs.declared.path.Path.{Path}
 use Rattle.lab_history.specs.declared.path.Path.TheVariants as path
 use Rattle.lab_history.specs.declared.path.ListPlace.{ListPlace}
@@ -27,7 +26,7 @@ list_text (list.View txn op) = op_text txn op ++ codes "/view"
 list_text (list.Rows txn op) = op_text txn op ++ codes "/rows"
 list_text (list.Writes txn op) = op_text txn op ++ codes "/writes"
 
--- a place; the installers of a row stand behind its key
+-- a place
 abbrev pub path_text : Path → List ℕ
 path_text path.Root = codes "/"
 path_text path.Format = codes "/format"
@@ -35,7 +34,7 @@ path_text path.Version = codes "/version"
 path_text (path.List place) = list_text place
 path_text (path.Member place index) = list_text place ++ index_text index
 path_text (path.Part place index part) = list_text place ++ index_text index ++ index_text part
-path_text (path.Installer index at) = codes "/installed" ++ index_text index ++ index_text key_parts ++ index_text at
+path_text (path.Installer index part at) = codes "/installed" ++ index_text index ++ index_text part ++ index_text at
 path_text path.Transactions = codes "/transactions"
 path_text (path.Transaction txn) = txn_text txn
 path_text (path.Number txn) = txn_text txn ++ codes "/no"

@@ -84,5 +84,5 @@ tree_of h = object
     (member (codes "initial") (map_tree value_tree h.initial)
     (member (codes "installed") (map_tree (list_tree natural_tree) h.installed)
     (member (codes "transactions") (list_tree txn_tree h.txns)
-    (member (codes "version") (natural_tree 1)
+    (member (codes "version") (natural_tree 2)
     no_members))))))

@@ -19,7 +19,7 @@ use crate::path::{ListPlace, Path};
 use crate::refusal::Refusal;
 use crate::transaction::{Installers, Txn};
 use lab_script::check_statement;
-use lab_table::{RowId, Statement, TxnNo};
+use lab_table::{RowName, Statement, TxnNo};
 use std::alloc::Global;
 use std::collections::BTreeSet;
 
@@ -115,7 +115,7 @@ fn prints(statement: &Statement) -> bool
     check_statement(statement).is_ok()
 }
 
-fn check_view(place: ListPlace, entries: &[(RowId, VersionName)]) -> Result<(), FileFault>
+fn check_view(place: ListPlace, entries: &[(RowName, VersionName)]) -> Result<(), FileFault>
     ensures { result ≡ listed_from place 0 entries.now }
 {
     for (index, entry) in entries.iter().enumerate() {
@@ -136,7 +136,7 @@ fn is_listed(version: VersionName) -> bool
     }
 }
 
-fn check_installed(entries: &[(RowId, Installers)]) -> Result<(), FileFault>
+fn check_installed(entries: &[(RowName, Installers)]) -> Result<(), FileFault>
     ensures { result ≡ installed_checked 0 entries.now }
 {
     for (index, entry) in entries.iter().enumerate() {

@@ -3,7 +3,7 @@
 ghost use Rattle.std.specs.Prelude.{◌≡◌, ◌↔◌, IsTrue};
 
 use crate::operation::{Rows, State, VersionName, View, Writes};
-use lab_table::{RowId, Value};
+use lab_table::{RowName, Value};
 
 impl View {
     ghost use Rattle.std.specs.Prelude.{◌≡◌, ◌↔◌, IsTrue};
@@ -38,13 +38,13 @@ impl Writes {
     }
 }
 
-fn same_version(a: &(RowId, VersionName), b: &(RowId, VersionName)) -> bool
+fn same_version(a: &(RowName, VersionName), b: &(RowName, VersionName)) -> bool
     ensures { IsTrue result ↔ (a.now ≡ b.now) }
 {
     a.0 == b.0 && a.1 == b.1
 }
 
-fn same_versions(a: &[(RowId, VersionName)], b: &[(RowId, VersionName)]) -> bool
+fn same_versions(a: &[(RowName, VersionName)], b: &[(RowName, VersionName)]) -> bool
     ensures { IsTrue result ↔ (a.now ≡ b.now) }
 {
     if a.len() != b.len() {
@@ -58,13 +58,13 @@ fn same_versions(a: &[(RowId, VersionName)], b: &[(RowId, VersionName)]) -> bool
     true
 }
 
-fn same_row(a: &(RowId, Value), b: &(RowId, Value)) -> bool
+fn same_row(a: &(RowName, Value), b: &(RowName, Value)) -> bool
     ensures { IsTrue result ↔ (a.now ≡ b.now) }
 {
     a.0 == b.0 && a.1 == b.1
 }
 
-fn same_rows(a: &[(RowId, Value)], b: &[(RowId, Value)]) -> bool
+fn same_rows(a: &[(RowName, Value)], b: &[(RowName, Value)]) -> bool
     ensures { IsTrue result ↔ (a.now ≡ b.now) }
 {
     if a.len() != b.len() {
@@ -78,13 +78,13 @@ fn same_rows(a: &[(RowId, Value)], b: &[(RowId, Value)]) -> bool
     true
 }
 
-fn same_state(a: &(RowId, State), b: &(RowId, State)) -> bool
+fn same_state(a: &(RowName, State), b: &(RowName, State)) -> bool
     ensures { IsTrue result ↔ (a.now ≡ b.now) }
 {
     a.0 == b.0 && a.1 == b.1
 }
 
-fn same_states(a: &[(RowId, State)], b: &[(RowId, State)]) -> bool
+fn same_states(a: &[(RowName, State)], b: &[(RowName, State)]) -> bool
     ensures { IsTrue result ↔ (a.now ≡ b.now) }
 {
     if a.len() != b.len() {

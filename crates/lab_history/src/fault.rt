@@ -14,7 +14,9 @@ pub enum Limit {
     Transactions,
     /// At most 10,000 operations of all transactions together.
     Operations,
-    /// At most 1,000 different ids in all lists together.
+    /// At most 4 different tables in all lists and statements together.
+    Tables,
+    /// At most 1,000 different rows in all lists together.
     Ids,
     /// At most 200,000 entries of views, rows and writes together.
     Entries,
@@ -34,6 +36,7 @@ impl Limit {
             Limit::Bytes => "bytes",
             Limit::Transactions => "transactions",
             Limit::Operations => "operations",
+            Limit::Tables => "tables",
             Limit::Ids => "ids",
             Limit::Entries => "entries",
             Limit::Statement => "statement",
@@ -53,7 +56,7 @@ pub enum FileFault {
     /// The innermost value that isn't of the format; where a key is missing or too many, their object.
     #[error("a value is not of the format")]
     WrongFormat { path: Path },
-    /// The file's version is another than 1.
+    /// The file's version is another than 1 and 2.
     #[error("version {number} of the format is not known")]
     WrongVersion { number: u64 },
     /// An earlier transaction has the same number.

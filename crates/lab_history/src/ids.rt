@@ -12,7 +12,7 @@ use crate::limits::MAX_IDS;
 use crate::operation::Op;
 use crate::parts::Parts;
 use crate::transaction::Txn;
-use lab_table::{ByRow, NoMemory, RowId, place_of};
+use lab_table::{ByRow, NoMemory, RowName, place_of};
 use std::alloc::Global;
 use std::marker::Model;
 
@@ -57,7 +57,7 @@ impl Ids {
     }
 
     /// Adds a row, which is looked for at this place first, and answers the place behind it.
-    fn add(&mut self, place: usize, row: RowId) -> Result<usize, NoMemory>
+    fn add(&mut self, place: usize, row: RowName) -> Result<usize, NoMemory>
         ensures { OnOk result (self.new ≡ insert_key row_cmp self.old row) }
     {
         if stands_at(self.seen.entries(), place, row) {
@@ -71,7 +71,7 @@ impl Ids {
     }
 
     /// Rows that rise mostly follow one another here too.
-    fn add_rows<X>(&mut self, entries: &[(RowId, X)]) -> Result<(), NoMemory>
+    fn add_rows<X>(&mut self, entries: &[(RowName, X)]) -> Result<(), NoMemory>
         ensures { OnOk result (self.new ≡ with_rows self.old entries.now) }
     {
         let mut place = 0;
@@ -115,7 +115,7 @@ impl Ids {
 }
 
 /// Whether this row is the one at a place.
-fn stands_at(entries: &[(RowId, ())], place: usize, row: RowId) -> bool
+fn stands_at(entries: &[(RowName, ())], place: usize, row: RowName) -> bool
     ensures { result ≡ is_row_at entries.now place row }
 {
     match entries.get(place) {

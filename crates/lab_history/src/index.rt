@@ -10,7 +10,7 @@ use crate::keyed::Keyed;
 use crate::operation::{Op, Writes};
 use crate::parts::Parts;
 use crate::transaction::{Installers, Txn};
-use lab_table::{NoMemory, RowId, TxnNo};
+use lab_table::{NoMemory, RowName, TxnNo};
 use std::alloc::Global;
 
 /// Where a history's transactions, writes and installers are.
@@ -19,9 +19,9 @@ pub struct Index {
     /// The places of the transactions by their numbers, counted from 0.
     pub numbers: Keyed<TxnNo, usize>,
     /// The last operation of a transaction that writes a row, counted from 1.
-    pub last_writes: Keyed<(TxnNo, RowId), u32>,
+    pub last_writes: Keyed<(TxnNo, RowName), u32>,
     /// The place of a transaction among the installers of a row, counted from 1.
-    pub places: Keyed<(RowId, TxnNo), usize>,
+    pub places: Keyed<(RowName, TxnNo), usize>,
 }
 
 impl Index {
@@ -54,7 +54,7 @@ fn numbers_of(alloc: Global, txns: &[Txn]) -> Result<Vec<(TxnNo, usize)>, NoMemo
 }
 
 /// The rows that the transactions write with the numbers of the operations, later ones first.
-fn last_writes_of(alloc: Global, txns: &[Txn]) -> Result<Vec<((TxnNo, RowId), u32)>, NoMemory>
+fn last_writes_of(alloc: Global, txns: &[Txn]) -> Result<Vec<((TxnNo, RowName), u32)>, NoMemory>
     requires { length (operations txns.now) ≤ max_operations }
     ensures { IfOk result (λ writes. writes.items ≡ reverse (written txns.now)) }
 {
@@ -67,7 +67,11 @@ fn last_writes_of(alloc: Global, txns: &[Txn]) -> Result<Vec<((TxnNo, RowId), u3
 }
 
 /// Adds the rows that a transaction's operations write.
-fn add_ops(writes: &mut Vec<((TxnNo, RowId), u32)>, txn: TxnNo, ops: &[Op]) -> Result<(), NoMemory>
+fn add_ops(
+    writes: &mut Vec<((TxnNo, RowName), u32)>,
+    txn: TxnNo,
+    ops: &[Op],
+) -> Result<(), NoMemory>
     requires { length ops.now ≤ max_operations }
     ensures { OnOk result (writes.new.items ≡ writes.old.items ++ written_from txn 0 ops.now) }
 {
@@ -79,7 +83,7 @@ fn add_ops(writes: &mut Vec<((TxnNo, RowId), u32)>, txn: TxnNo, ops: &[Op]) -> R
 
 /// Adds the rows that an operation writes.
 fn add_writes(
-    writes: &mut Vec<((TxnNo, RowId), u32)>,
+    writes: &mut Vec<((TxnNo, RowName), u32)>,
     txn: TxnNo,
     op: u32,
     written: &Writes,
@@ -96,8 +100,8 @@ fn add_writes(
 /// The installers of the rows with their places.
 fn places_of(
     alloc: Global,
-    installed: &[(RowId, Installers)],
-) -> Result<Vec<((RowId, TxnNo), usize)>, NoMemory>
+    installed: &[(RowName, Installers)],
+) -> Result<Vec<((RowName, TxnNo), usize)>, NoMemory>
     ensures { IfOk result (λ places. places.items ≡ placed installed.now) }
 {
     let mut places = Vec::new(alloc);
@@ -109,8 +113,8 @@ fn places_of(
 
 /// Adds the installers of a row.
 fn add_places(
-    places: &mut Vec<((RowId, TxnNo), usize)>,
-    row: RowId,
+    places: &mut Vec<((RowName, TxnNo), usize)>,
+    row: RowName,
     installers: &[TxnNo],
 ) -> Result<(), NoMemory>
     ensures { OnOk result (places.new.items ≡ places.old.items ++ placed_from row 0 installers.now) }

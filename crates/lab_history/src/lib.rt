@@ -3,7 +3,8 @@
 //! A [`History`] has a table to begin with, transactions with their operations, the order in which the versions of each
 //! row were installed, and the table in the end. It is read from a file by [`read_history`], or made from its [`Parts`]
 //! by `History::from_parts`, and written by [`write_history`]. Either way it keeps the limits and the rules of the
-//! format; whether it is sound, or serializable, isn't looked at here.
+//! format; whether it is sound, or serializable, isn't looked at here. In a file of version 1 rows are named by their ids
+//! and are all of the table `test`; in one of version 2, as it is written, each is named by its table and its id.
 //!
 //! A version of a row is named by the operation that wrote it ([`VersionName`]). `History::version_state` answers what
 //! a version is, `last_write` a transaction's last operation that wrote a row, and `installer_place` the place of a
@@ -17,6 +18,7 @@ mod checking;
 mod entry;
 mod equality;
 mod fault;
+mod file_version;
 mod history;
 mod ids;
 mod index;
@@ -32,6 +34,7 @@ mod path;
 mod path_text;
 mod reading;
 mod refusal;
+mod tables;
 mod transaction;
 mod writing;
 
@@ -39,8 +42,11 @@ pub use fault::{FileFault, Limit, WriteFault};
 pub use history::History;
 pub use laws::{
     faults_are_true, history_is_read_from_its_file, last_write_is_the_greatest, place_is_the_first,
+    versions_hold_one_history,
 };
-pub use limits::{MAX_ENTRIES, MAX_FILE_BYTES, MAX_IDS, MAX_OPERATIONS, MAX_TRANSACTIONS};
+pub use limits::{
+    MAX_ENTRIES, MAX_FILE_BYTES, MAX_IDS, MAX_OPERATIONS, MAX_TABLES, MAX_TRANSACTIONS,
+};
 pub use operation::{Op, Ops, Rows, State, VersionName, View, Writes};
 pub use parts::Parts;
 pub use path::{ListPlace, Path};

@@ -11,6 +11,7 @@ use crate::ids::has_few_ids;
 use crate::operation::Op;
 use crate::parts::Parts;
 use crate::refusal::{Refusal, over};
+use crate::tables::has_few_tables;
 use crate::transaction::Txn;
 use std::alloc::Global;
 
@@ -23,16 +24,22 @@ pub const MAX_TRANSACTIONS: usize = 1_000;
 /// The most operations of all its transactions together.
 pub const MAX_OPERATIONS: usize = 10_000;
 
-/// The most different ids in all its lists together.
+/// The most different tables in all its lists and statements together.
+pub const MAX_TABLES: usize = 4;
+
+/// The most different rows in all its lists together.
 pub const MAX_IDS: usize = 1_000;
 
 /// The most entries of views, rows and writes together.
 pub const MAX_ENTRIES: usize = 200_000;
 
-/// Whether parts keep the limits on ids and entries.
+/// Whether parts keep the limits on tables, ids and entries.
 pub fn check_limits(alloc: Global, parts: &Parts) -> Result<(), Refusal>
     ensures { Gives (λ _. tt) result (within_limits parts.now) }
 {
+    if !has_few_tables(parts) {
+        return Err(over(Limit::Tables));
+    }
     if !has_few_ids(alloc, parts)? {
         return Err(over(Limit::Ids));
     }

@@ -10,7 +10,7 @@ ghost use Rattle.lab_history.specs.VersionName.{state_value};
 use crate::history::History;
 use crate::operation::{Op, State, VersionName};
 use crate::transaction::Txn;
-use lab_table::{RowId, TxnNo};
+use lab_table::{RowName, TxnNo};
 
 impl History {
     /// The transaction with this number, if there is one.
@@ -23,7 +23,7 @@ impl History {
 
     /// What a version of a row is, or None where there is no such version. The initial version of a row that the
     /// initial table lacks is absent.
-    pub fn version_state(&self, row: RowId, version: VersionName) -> Option<State>
+    pub fn version_state(&self, row: RowName, version: VersionName) -> Option<State>
         ensures { option_map state_value result ≡ version_state self.now row version }
     {
         match version {
@@ -33,20 +33,20 @@ impl History {
     }
 
     /// The number of a transaction's last operation that writes a row, or None where none does.
-    pub fn last_write(&self, txn: TxnNo, row: RowId) -> Option<u32>
+    pub fn last_write(&self, txn: TxnNo, row: RowName) -> Option<u32>
         ensures { result ≡ last_write (ops_of self.now txn) row }
     {
         self.index().last_writes.get((txn, row))
     }
 
     /// The place of a transaction among the installers of a row, counted from 1, or None where it isn't among them.
-    pub fn installer_place(&self, row: RowId, txn: TxnNo) -> Option<usize>
+    pub fn installer_place(&self, row: RowName, txn: TxnNo) -> Option<usize>
         ensures { result ≡ place_in (installers self.now row) txn }
     {
         self.index().places.get((row, txn))
     }
 
-    fn initial_state(&self, row: RowId) -> State
+    fn initial_state(&self, row: RowName) -> State
         ensures { state_value result ≡ map.get self.now.initial row }
     {
         match self.initial().get(row) {

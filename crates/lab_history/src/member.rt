@@ -1,21 +1,32 @@
 //! What a member of a list begins with: the key of its row, in front of what the list says of the row.
 
-ghost use Rattle.std.specs.Prelude.{◌≡◌, Some};
+ghost use Rattle.std.specs.Prelude.{◌≡◌, Some, IfOk, OnOk};
+ghost use Rattle.serde_json.specs.Data.{string, number, unsigned};
 ghost use Rattle.serde_json.specs.Find.{as_array};
 ghost use Rattle.serde_json.specs.View.{view};
 ghost use Rattle.lab_history.specs.Faults.{Gives, required as spec_required};
-ghost use Rattle.lab_history.specs.Member.{key_parts, id_in, key_in, key_tree, pair_in, triple_in};
+ghost use Rattle.lab_history.specs.Member.{id_in, table_in, plain_in, full_in, key_in, two_in, three_in, four_in, split_pair, split_triple};
+ghost use Rattle.lab_history.specs.Member as key;
 ghost use Rattle.lab_history.specs.declared.path.Path.TheVariants as path;
 
+use crate::file_version::FileVersion;
 use crate::path::{ListPlace, Path};
 use crate::refusal::{Refusal, wrong};
-use lab_table::RowId;
+use lab_table::{NoMemory, RowId, RowName, TableName};
 use serde_json::Value as Json;
+use std::alloc::Global;
 
 /// How many parts of a member are its key.
-pub const KEY_PARTS: usize = 1;
+pub fn key_parts(version: FileVersion) -> usize
+    ensures { result ≡ key.key_parts version }
+{
+    match version {
+        FileVersion::One => 1,
+        FileVersion::Two => 2,
+    }
+}
 
-/// The row of a key.
+/// An id.
 fn id_of(json: &Json) -> Option<RowId>
     ensures { result ≡ id_in (view json.now) }
 {
@@ -27,19 +38,98 @@ fn id_of(json: &Json) -> Option<RowId>
     }
 }
 
-/// The key of a row.
-pub fn key_json(row: RowId) -> Json
-    ensures value { view result ≡ key_tree row }
-    ensures read { id_in (key_tree row) ≡ Some row }
+/// A table's name, in lower case.
+#[tactic(auto, using(crate::proofs::TableNames::name_found, crate::proofs::TableNames::no_name, crate::proofs::TableNames::other_name))]
+fn table_of(alloc: Global, json: &Json) -> Result<Option<TableName>, NoMemory>
+    ensures { IfOk result (λ table. table ≡ table_in (view json.now)) }
 {
-    Json::from(row.number())
+    let Some(text) = json.as_str() else {
+        return Ok(None);
+    };
+    match TableName::new(alloc, text.as_bytes())? {
+        Some(table) => {
+            if table.as_bytes() == text.as_bytes() {
+                Ok(Some(table))
+            } else {
+                Ok(None)
+            }
+        }
+        None => Ok(None),
+    }
 }
 
-/// The row of a member's key, which has to be one.
-pub fn key_of(place: ListPlace, index: usize, key: &Json) -> Result<RowId, Refusal>
-    ensures { Gives (λ row. row) result (key_in place index (view key.now)) }
+fn id_json(id: RowId) -> Json
+    ensures value { view result ≡ number (unsigned id) }
+    ensures read { id_in (number (unsigned id)) ≡ Some id }
 {
-    required(id_of(key), part(place, index, 0))
+    Json::from(id.number())
+}
+
+fn table_json(alloc: Global, table: TableName) -> Result<Json, NoMemory>
+    ensures value { IfOk result (λ v. view v ≡ string table) }
+    ensures read { OnOk result (table_in (string table) ≡ Some table) }
+{
+    let Ok(text) = String::from_utf8(Vec::from_slice(alloc, table.as_bytes())?) else {
+        // a table's name is ASCII
+        unreachable!()
+    };
+    Ok(Json::String(text))
+}
+
+/// The two parts of a row's key.
+pub fn key_json(alloc: Global, row: RowName) -> Result<(Json, Json), NoMemory>
+    ensures table { IfOk result (λ parts. view parts.0 ≡ string row.table) }
+    ensures id { IfOk result (λ parts. view parts.1 ≡ number (unsigned row.id)) }
+    ensures read { OnOk result (key.row_in FileVersion.Two (key.key_tree row) ≡ Some row) }
+{
+    let table = table_json(alloc, row.table)?;
+    Ok((table, id_json(row.id)))
+}
+
+/// The row of a key that is an id.
+fn plain_row(place: ListPlace, index: usize, id: &Json) -> Result<RowName, Refusal>
+    ensures { Gives (λ row. row) result (plain_in place index (view id.now)) }
+{
+    match id_of(id) {
+        Some(id) => Ok(RowName::in_test(id)),
+        None => Err(wrong(part(place, index, 0))),
+    }
+}
+
+/// The row of a key that is a table's name and an id.
+fn full_row(
+    alloc: Global,
+    place: ListPlace,
+    index: usize,
+    table: &Json,
+    id: &Json,
+) -> Result<RowName, Refusal>
+    ensures { Gives (λ row. row) result (full_in place index (view table.now) (view id.now)) }
+{
+    let Some(table) = table_of(alloc, table)? else {
+        return Err(wrong(part(place, index, 0)));
+    };
+    match id_of(id) {
+        Some(id) => Ok(RowName { table, id }),
+        None => Err(wrong(part(place, index, 1))),
+    }
+}
+
+/// The row of a key, by its first and its last part.
+pub fn key_of(
+    alloc: Global,
+    version: FileVersion,
+    place: ListPlace,
+    index: usize,
+    first: &Json,
+    last: &Json,
+) -> Result<RowName, Refusal>
+    ensures { Gives (λ row. row) result (key_in version place index (view first.now) (view last.now)) }
+{
+    match version {
+        FileVersion::One => plain_row(place, index, last),
+        FileVersion::Two => full_row(alloc, place, index, first, last),
+    }
 }
 
 /// What has to be at a place.
@@ -56,14 +146,10 @@ pub fn part(list: ListPlace, index: usize, part: usize) -> Path
     Path::Part { list, index, part }
 }
 
-/// The key of a member, and the one part behind it.
-#[tactic(auto, using(crate::proofs::Members::no_pair))]
-pub fn pair<'a>(
-    place: ListPlace,
-    index: usize,
-    json: &'a Json,
-) -> Result<(&'a Json, &'a Json), Refusal>
-    ensures { Gives (λ parts. (view parts.0.now, view parts.1.now)) result (pair_in place index (as_array (view json.now))) }
+/// The parts of a member that has two.
+#[tactic(auto, using(crate::proofs::Members::no_two))]
+fn two<'a>(place: ListPlace, index: usize, json: &'a Json) -> Result<(&'a Json, &'a Json), Refusal>
+    ensures { Gives (λ parts. (view parts.0.now, view parts.1.now)) result (two_in place index (as_array (view json.now))) }
 {
     let path = Path::Member { list: place, index };
     let parts = required(json.as_array(), path)?;
@@ -73,14 +159,14 @@ pub fn pair<'a>(
     Ok((first, second))
 }
 
-/// The key of a member, and the two parts behind it.
-#[tactic(auto, using(crate::proofs::Members::no_triple))]
-pub fn triple<'a>(
+/// The parts of a member that has three.
+#[tactic(auto, using(crate::proofs::Members::no_three))]
+fn three<'a>(
     place: ListPlace,
     index: usize,
     json: &'a Json,
 ) -> Result<(&'a Json, &'a Json, &'a Json), Refusal>
-    ensures { Gives (λ parts. (view parts.0.now, view parts.1.now, view parts.2.now)) result (triple_in place index (as_array (view json.now))) }
+    ensures { Gives (λ parts. (view parts.0.now, view parts.1.now, view parts.2.now)) result (three_in place index (as_array (view json.now))) }
 {
     let path = Path::Member { list: place, index };
     let parts = required(json.as_array(), path)?;
@@ -88,4 +174,57 @@ pub fn triple<'a>(
         return Err(wrong(path));
     };
     Ok((first, second, third))
+}
+
+/// The parts of a member that has four.
+#[tactic(auto, using(crate::proofs::Members::no_four))]
+fn four<'a>(
+    place: ListPlace,
+    index: usize,
+    json: &'a Json,
+) -> Result<(&'a Json, &'a Json, &'a Json, &'a Json), Refusal>
+    ensures { Gives (λ parts. (view parts.0.now, view parts.1.now, view parts.2.now, view parts.3.now)) result (four_in place index (as_array (view json.now))) }
+{
+    let path = Path::Member { list: place, index };
+    let parts = required(json.as_array(), path)?;
+    let [first, second, third, fourth] = parts.as_slice() else {
+        return Err(wrong(path));
+    };
+    Ok((first, second, third, fourth))
+}
+
+/// The first and the last part of a member's key, which are one part in version 1, and the one part behind the key.
+pub fn pair<'a>(
+    version: FileVersion,
+    place: ListPlace,
+    index: usize,
+    json: &'a Json,
+) -> Result<(&'a Json, &'a Json, &'a Json), Refusal>
+    ensures { Gives (λ parts. (view parts.0.now, view parts.1.now, view parts.2.now)) result (split_pair version place index (as_array (view json.now))) }
+{
+    match version {
+        FileVersion::One => {
+            let (id, behind) = two(place, index, json)?;
+            Ok((id, id, behind))
+        }
+        FileVersion::Two => three(place, index, json),
+    }
+}
+
+/// The first and the last part of a member's key, which are one part in version 1, and the two parts behind the key.
+pub fn triple<'a>(
+    version: FileVersion,
+    place: ListPlace,
+    index: usize,
+    json: &'a Json,
+) -> Result<(&'a Json, &'a Json, &'a Json, &'a Json), Refusal>
+    ensures { Gives (λ parts. (view parts.0.now, view parts.1.now, view parts.2.now, view parts.3.now)) result (split_triple version place index (as_array (view json.now))) }
+{
+    match version {
+        FileVersion::One => {
+            let (id, first, second) = three(place, index, json)?;
+            Ok((id, id, first, second))
+        }
+        FileVersion::Two => four(place, index, json),
+    }
 }

@@ -6,7 +6,7 @@ ghost use Rattle.lab_table.specs.Row.{row_cmp};
 ghost use Rattle.lab_history.specs.VersionName.{new_states, state_value};
 
 use crate::order::rises;
-use lab_table::{ByRow, NoMemory, RowId, Statement, TxnNo, Value, value_of};
+use lab_table::{ByRow, NoMemory, RowName, Statement, TxnNo, Value, value_of};
 use std::alloc::Global;
 use std::marker::Model;
 
@@ -65,7 +65,7 @@ impl Model for Rows {
 /// The rows that an operation wrote with their new states, by rising row.
 #[derive(Drop)]
 pub struct Writes {
-    entries: Vec<(RowId, State)>,
+    entries: Vec<(RowName, State)>,
 }
 
 impl Model for Writes {
@@ -115,7 +115,7 @@ impl Model for Ops {
 
 impl View {
     /// The view that lists these versions, whose rows rise strictly.
-    pub fn new(entries: Vec<(RowId, VersionName)>) -> View
+    pub fn new(entries: Vec<(RowName, VersionName)>) -> View
         requires { T (map.is_sorted row_cmp entries.items) }
         ensures { result ≡ map.from_sorted entries.items }
     {
@@ -126,8 +126,8 @@ impl View {
 
     /// The view that lists these versions, or the entries back where their rows don't rise strictly. It takes no memory.
     pub fn from_entries(
-        entries: Vec<(RowId, VersionName)>,
-    ) -> Result<View, Vec<(RowId, VersionName)>>
+        entries: Vec<(RowName, VersionName)>,
+    ) -> Result<View, Vec<(RowName, VersionName)>>
         ensures found { IfOk result (λ made. made ≡ map.from_sorted entries.items) }
         ensures only { IsOk result ↔ T (map.is_sorted row_cmp entries.items) }
         ensures back { IfErr result (λ back. back ≡ entries) }
@@ -140,14 +140,14 @@ impl View {
     }
 
     /// The entries, by rising row.
-    pub fn entries(&self) -> &[(RowId, VersionName)]
+    pub fn entries(&self) -> &[(RowName, VersionName)]
         ensures { result.now ≡ map.entries self.now }
     {
         self.by_row.entries()
     }
 
     /// The version that is listed for a row, if one is.
-    pub fn get(&self, row: RowId) -> Option<VersionName>
+    pub fn get(&self, row: RowName) -> Option<VersionName>
         ensures { result ≡ map.get self.now row }
     {
         self.by_row.get(row)
@@ -165,7 +165,7 @@ impl View {
 
 impl Rows {
     /// The rows of these entries, which rise strictly.
-    pub fn new(entries: Vec<(RowId, Value)>) -> Rows
+    pub fn new(entries: Vec<(RowName, Value)>) -> Rows
         requires { T (map.is_sorted row_cmp entries.items) }
         ensures { result ≡ map.from_sorted entries.items }
     {
@@ -175,7 +175,7 @@ impl Rows {
     }
 
     /// The rows of these entries, or the entries back where their rows don't rise strictly. It takes no memory.
-    pub fn from_entries(entries: Vec<(RowId, Value)>) -> Result<Rows, Vec<(RowId, Value)>>
+    pub fn from_entries(entries: Vec<(RowName, Value)>) -> Result<Rows, Vec<(RowName, Value)>>
         ensures found { IfOk result (λ made. made ≡ map.from_sorted entries.items) }
         ensures only { IsOk result ↔ T (map.is_sorted row_cmp entries.items) }
         ensures back { IfErr result (λ back. back ≡ entries) }
@@ -188,14 +188,14 @@ impl Rows {
     }
 
     /// The entries, by rising row.
-    pub fn entries(&self) -> &[(RowId, Value)]
+    pub fn entries(&self) -> &[(RowName, Value)]
         ensures { result.now ≡ map.entries self.now }
     {
         self.by_row.entries()
     }
 
     /// A row's value, if the row is listed.
-    pub fn get(&self, row: RowId) -> Option<Value>
+    pub fn get(&self, row: RowName) -> Option<Value>
         ensures { result ≡ map.get self.now row }
     {
         self.by_row.get(row)
@@ -213,7 +213,7 @@ impl Rows {
 
 impl Writes {
     /// The writes of these new states, whose rows rise strictly.
-    pub fn new(entries: Vec<(RowId, State)>) -> Writes
+    pub fn new(entries: Vec<(RowName, State)>) -> Writes
         requires { T (map.is_sorted row_cmp (new_states entries.items)) }
         ensures { result ≡ map.from_sorted (new_states entries.items) }
     {
@@ -222,7 +222,7 @@ impl Writes {
 
     /// The writes of these new states, or the entries back where their rows don't rise strictly. It takes no memory.
     #[tactic(auto, using(crate::proofs::NewStates::new_states_sorted))]
-    pub fn from_entries(entries: Vec<(RowId, State)>) -> Result<Writes, Vec<(RowId, State)>>
+    pub fn from_entries(entries: Vec<(RowName, State)>) -> Result<Writes, Vec<(RowName, State)>>
         ensures found { IfOk result (λ made. made ≡ map.from_sorted (new_states entries.items)) }
         ensures only { IsOk result ↔ T (map.is_sorted row_cmp (new_states entries.items)) }
         ensures back { IfErr result (λ back. back ≡ entries) }
@@ -235,14 +235,14 @@ impl Writes {
     }
 
     /// The entries, by rising row.
-    pub fn entries(&self) -> &[(RowId, State)]
+    pub fn entries(&self) -> &[(RowName, State)]
         ensures { new_states result.now ≡ map.entries self.now }
     {
         &self.entries
     }
 
     /// What is written to a row, if it is written.
-    pub fn get(&self, row: RowId) -> Option<State>
+    pub fn get(&self, row: RowName) -> Option<State>
         ensures { option_map state_value result ≡ map.get self.now row }
     {
         value_of(&self.entries, row).copied()

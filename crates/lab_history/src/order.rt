@@ -5,10 +5,10 @@ ghost use Rattle.std.specs.FinMap as map;
 ghost use Rattle.lab_table.specs.Row.{row_cmp};
 ghost use Rattle.lab_history.specs.Entries as entry;
 
-use lab_table::RowId;
+use lab_table::RowName;
 
 /// Whether a row comes after the one before it, if there is one.
-pub fn follows(before: Option<RowId>, row: RowId) -> bool
+pub fn follows(before: Option<RowName>, row: RowName) -> bool
     ensures { result ≡ entry.follows before row }
 {
     match before {
@@ -19,7 +19,7 @@ pub fn follows(before: Option<RowId>, row: RowId) -> bool
 
 /// Whether each row comes after the one before it.
 #[tactic(auto, using(crate::proofs::Rising::rises_all))]
-pub fn rises<X>(entries: &[(RowId, X)]) -> bool
+pub fn rises<X>(entries: &[(RowName, X)]) -> bool
     ensures { result ≡ map.is_sorted row_cmp entries.now }
 {
     let mut before = None;

@@ -40,9 +40,10 @@ pub enum Path {
         index: usize,
         part: usize,
     },
-    /// One of the installers of a row: the member of `installed`, and the place in its inner list.
+    /// One of the installers of a row: the member of `installed`, which part of it lists them, and the place there.
     Installer {
         index: usize,
+        part: usize,
         place: usize,
     },
     /// The list of the transactions.

@@ -3,7 +3,6 @@
 ghost use Rattle.std.specs.Prelude.{◌≡◌, ◌++◌, IfOk, OnOk};
 ghost use Rattle.lab_history.specs.PathText.{index_text, txn_text, op_text, list_text, path_text};
 
-use crate::member::KEY_PARTS;
 use crate::path::{ListPlace, Path};
 use itoa::Buffer;
 use lab_table::NoMemory;
@@ -45,10 +44,14 @@ fn put_path(out: &mut Vec<u8>, path: Path) -> Result<(), NoMemory>
             put_index(out, index)?;
             put_index(out, part)
         }
-        Path::Installer { index, place: at } => {
+        Path::Installer {
+            index,
+            part,
+            place: at,
+        } => {
             out.extend_from_slice(b"/installed")?;
             put_index(out, index)?;
-            put_index(out, KEY_PARTS)?;
+            put_index(out, part)?;
             put_index(out, at)
         }
         Path::Transactions => out.extend_from_slice(b"/transactions"),

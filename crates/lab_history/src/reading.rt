@@ -18,6 +18,7 @@ mod operation;
 mod transaction;
 
 use crate::fault::{FileFault, Limit};
+use crate::file_version::FileVersion;
 use crate::history::History;
 use crate::limits::{MAX_FILE_BYTES, check_limits};
 use crate::parts::Parts;
@@ -44,12 +45,13 @@ fn check_format(json: &Json) -> Result<(), Refusal>
     }
 }
 
-/// Whether a value says that it is of version 1 of the format.
-fn check_version(json: &Json) -> Result<(), Refusal>
-    ensures { Gives (λ _. tt) result (version_in (view json.now)) }
+/// The version of the format that a value says it is of.
+fn version_of(json: &Json) -> Result<FileVersion, Refusal>
+    ensures { Gives (λ version. version) result (version_in (view json.now)) }
 {
     match json.get("version").and_then(Json::as_u64) {
-        Some(1) => Ok(()),
+        Some(1) => Ok(FileVersion::One),
+        Some(2) => Ok(FileVersion::Two),
         Some(number) => Err(Refusal::Fault(FileFault::WrongVersion { number })),
         None => Err(wrong(Path::Version)),
     }
@@ -60,7 +62,7 @@ fn parts_of(alloc: Global, json: &Json) -> Result<Parts, Refusal>
     ensures { Gives (λ parts. parts) result (parts_in (view json.now)) }
 {
     check_format(json)?;
-    check_version(json)?;
+    let version = version_of(json)?;
     if !has_keys(
         json,
         &[
@@ -74,10 +76,10 @@ fn parts_of(alloc: Global, json: &Json) -> Result<Parts, Refusal>
     ) {
         return Err(wrong(Path::Root));
     }
-    let initial = values_at(alloc, json, "initial", ListPlace::Initial)?;
-    let txns = txns_of(alloc, json)?;
-    let installed = installed_at(alloc, json)?;
-    let end = values_at(alloc, json, "end", ListPlace::End)?;
+    let initial = values_at(alloc, version, json, "initial", ListPlace::Initial)?;
+    let txns = txns_of(alloc, version, json)?;
+    let installed = installed_at(alloc, version, json)?;
+    let end = values_at(alloc, version, json, "end", ListPlace::End)?;
     Ok(Parts {
         initial: Table::from_rising(initial),
         txns,

@@ -7,7 +7,7 @@ ghost use Rattle.lab_table.specs.Row.{row_cmp};
 
 use crate::operation::Ops;
 use crate::order::rises;
-use lab_table::{RowId, TxnNo, value_of};
+use lab_table::{RowName, TxnNo, value_of};
 use std::marker::Model;
 
 /// How a transaction ended.
@@ -96,7 +96,7 @@ impl Installers {
 /// The transactions that installed each row, by rising row.
 #[derive(Drop)]
 pub struct Installed {
-    entries: Vec<(RowId, Installers)>,
+    entries: Vec<(RowName, Installers)>,
 }
 
 impl Model for Installed {
@@ -117,7 +117,7 @@ impl Model for Installed {
 
 impl Installed {
     /// The installers of these rows, which rise strictly.
-    pub fn new(entries: Vec<(RowId, Installers)>) -> Installed
+    pub fn new(entries: Vec<(RowName, Installers)>) -> Installed
         requires { T (map.is_sorted row_cmp entries.items) }
         ensures { result ≡ map.from_sorted entries.items }
     {
@@ -126,8 +126,8 @@ impl Installed {
 
     /// The installers of these rows, or the entries back where their rows don't rise strictly. It takes no memory.
     pub fn from_entries(
-        entries: Vec<(RowId, Installers)>,
-    ) -> Result<Installed, Vec<(RowId, Installers)>>
+        entries: Vec<(RowName, Installers)>,
+    ) -> Result<Installed, Vec<(RowName, Installers)>>
         ensures found { IfOk result (λ made. made ≡ map.from_sorted entries.items) }
         ensures only { IsOk result ↔ T (map.is_sorted row_cmp entries.items) }
         ensures back { IfErr result (λ back. back ≡ entries) }
@@ -140,14 +140,14 @@ impl Installed {
     }
 
     /// The entries, by rising row.
-    pub fn entries(&self) -> &[(RowId, Installers)]
+    pub fn entries(&self) -> &[(RowName, Installers)]
         ensures { result.now ≡ map.entries self.now }
     {
         &self.entries
     }
 
     /// The installers of a row, if it has any.
-    pub fn get(&self, row: RowId) -> Option<&Installers>
+    pub fn get(&self, row: RowName) -> Option<&Installers>
         ensures { option_copied result ≡ map.get self.now row }
     {
         value_of(&self.entries, row)

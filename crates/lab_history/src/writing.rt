@@ -7,11 +7,12 @@ ghost use Rattle.std.specs.Prelude.{◌≡◌, ◌≤◌, ◌<◌, length, Some,
 ghost use Rattle.serde_json.specs.Read.{read as read_text};
 ghost use Rattle.serde_json.specs.View.{view};
 ghost use Rattle.serde_json.specs.Written.{compact_text};
-ghost use Rattle.lab_history.specs.FileOf.{IsFileOf};
+ghost use Rattle.lab_history.specs.FileOf.{IsFileIn};
 ghost use Rattle.lab_history.specs.Format.{history_in};
 ghost use Rattle.lab_history.specs.HistoryRules.{Keeps};
 ghost use Rattle.lab_history.specs.Limits.{max_file_bytes};
 ghost use Rattle.lab_history.specs.Tree.{tree_of};
+ghost use Rattle.lab_history.specs.declared.file_version.FileVersion.TheVariants.{Two};
 
 use crate::fault::WriteFault;
 use crate::history::History;
@@ -26,7 +27,7 @@ use std::alloc::Global;
 fn parts_json(alloc: Global, parts: &Parts) -> Result<Json, NoMemory>
     requires { Keeps parts.now }
     ensures value { IfOk result (λ v. view v ≡ tree_of parts.now) }
-    ensures file { OnOk result (IsFileOf (tree_of parts.now) parts.now) }
+    ensures file { OnOk result (IsFileIn Two (tree_of parts.now) parts.now) }
 {
     json!(in alloc; {
         "end": table_json(alloc, &parts.end_table)?,
@@ -34,11 +35,12 @@ fn parts_json(alloc: Global, parts: &Parts) -> Result<Json, NoMemory>
         "initial": table_json(alloc, &parts.initial)?,
         "installed": installed_json(alloc, &parts.installed)?,
         "transactions": transactions_json(alloc, parts.txns.as_slice())?,
-        "version": 1
+        "version": 2
     })
 }
 
-/// The file of a history: compact JSON with the keys of each object in the order of their bytes, without a newline.
+/// The file of a history, of version 2: compact JSON with the keys of each object in the order of their bytes, without
+/// a newline.
 ///
 /// TooLong where the text would have more than [`MAX_FILE_BYTES`]; NoMemory where a growth was refused.
 #[tactic(auto, using(crate::proofs::WritableTree::tree_whole, crate::proofs::WritableTree::tree_flat, crate::proofs::FileIsRead::file_is_read))]
@@ -47,8 +49,8 @@ pub fn write_history(alloc: Global, history: &History) -> Result<Vec<u8>, WriteF
     ensures utf8 { IfOk result (λ text. IsUtf8 text.items) }
     // The text, read as JSON, is the value of the history's file.
     ensures value { IfOk result (λ text. read_text text.items ≡ Some (tree_of history.now)) }
-    // That value is a file of the history.
-    ensures file { OnOk result (IsFileOf (tree_of history.now) history.now) }
+    // That value is a file of the history, of version 2.
+    ensures file { OnOk result (IsFileIn Two (tree_of history.now) history.now) }
     // It is read as the same history again.
     ensures again { OnOk result (history_in (tree_of history.now) ≡ Ok history.now) }
     ensures within { IfOk result (λ text. length text.items ≤ max_file_bytes) }

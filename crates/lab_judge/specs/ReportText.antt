@@ -2,7 +2,7 @@
 use Rattle.std.specs.Prelude.{ℕ, List, [], ◌∷◌, ◌++◌, flat_map, codes}
 use Rattle.std.specs.Fmt.{decimal}
 use Rattle.lab_table.specs.Row.{Row}
-use Rattle.lab_script.specs.Printed.{printed_id, newline}
+use Rattle.lab_script.specs.Printed.{printed_row_name, newline}
 use Rattle.lab_deps.specs.declared.fault.LocalFault.{LocalFault}
 use Rattle.lab_deps.specs.declared.fault.LocalFault.TheVariants as fault
 use Rattle.lab_deps.specs.declared.edge.Kind.{Kind}
@@ -28,7 +28,7 @@ txn_text n = codes " T" ++ decimal n
 
 -- a row, with the space before it
 abbrev pub row_text : Row → List ℕ
-row_text row = codes " row " ++ printed_id row
+row_text row = codes " row " ++ printed_row_name row
 
 -- an operation of a transaction at a row, with the space before it
 abbrev pub place_text : ℕ → ℕ → Row → List ℕ
@@ -56,7 +56,7 @@ kind_name kind.PredicateAnti = codes "rw-p"
 
 -- a dependency and the transaction that it leads to, with the space before it
 abbrev pub step_text : Edge → List ℕ
-step_text e = codes " " ++ kind_name e.kind ++ codes "(" ++ printed_id e.row ++ codes ")" ++ txn_text e.to
+step_text e = codes " " ++ kind_name e.kind ++ codes "(" ++ printed_row_name e.row ++ codes ")" ++ txn_text e.to
 
 -- a walk: the transaction where it begins, then each dependency with the next one
 abbrev pub walk_text : List Edge → List ℕ

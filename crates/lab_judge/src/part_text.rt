@@ -9,8 +9,8 @@ ghost use Rattle.lab_judge.specs.ReportText.{circle_text, fault_text, kind_name,
 use crate::places::Point;
 use itoa::Buffer;
 use lab_deps::{Edge, Kind, LocalFault};
-use lab_script::put_id;
-use lab_table::{NoMemory, RowId, TxnNo};
+use lab_script::put_row_name;
+use lab_table::{NoMemory, RowName, TxnNo};
 
 fn put_number(out: &mut Vec<u8>, number: u32) -> Result<(), NoMemory>
     ensures { OnOk result (out.new.items ≡ out.old.items ++ decimal number) }
@@ -25,15 +25,15 @@ fn put_txn(out: &mut Vec<u8>, txn: TxnNo) -> Result<(), NoMemory>
     put_number(out, txn.number())
 }
 
-fn put_row(out: &mut Vec<u8>, row: RowId) -> Result<(), NoMemory>
+fn put_row(out: &mut Vec<u8>, row: RowName) -> Result<(), NoMemory>
     ensures { OnOk result (out.new.items ≡ out.old.items ++ row_text row) }
 {
     out.extend_from_slice(b" row ")?;
-    put_id(out, row)
+    put_row_name(out, row)
 }
 
 /// Appends an operation of a transaction at a row.
-pub fn put_place(out: &mut Vec<u8>, txn: TxnNo, op: u32, row: RowId) -> Result<(), NoMemory>
+pub fn put_place(out: &mut Vec<u8>, txn: TxnNo, op: u32, row: RowName) -> Result<(), NoMemory>
     ensures { OnOk result (out.new.items ≡ out.old.items ++ place_text txn op row) }
 {
     put_txn(out, txn)?;
@@ -47,7 +47,7 @@ fn put_fault_at(
     name: &[u8],
     txn: TxnNo,
     op: u32,
-    row: RowId,
+    row: RowName,
 ) -> Result<(), NoMemory>
     ensures { OnOk result (out.new.items ≡ out.old.items ++ (name.now ++ place_text txn op row)) }
 {
@@ -55,7 +55,7 @@ fn put_fault_at(
     put_place(out, txn, op, row)
 }
 
-fn put_fault_of_row(out: &mut Vec<u8>, name: &[u8], row: RowId) -> Result<(), NoMemory>
+fn put_fault_of_row(out: &mut Vec<u8>, name: &[u8], row: RowName) -> Result<(), NoMemory>
     ensures { OnOk result (out.new.items ≡ out.old.items ++ (name.now ++ row_text row)) }
 {
     out.extend_from_slice(name)?;
@@ -110,7 +110,7 @@ fn put_step(out: &mut Vec<u8>, edge: Edge) -> Result<(), NoMemory>
     out.extend_from_slice(b" ")?;
     out.extend_from_slice(kind_name(edge.kind).as_bytes())?;
     out.extend_from_slice(b"(")?;
-    put_id(out, edge.row)?;
+    put_row_name(out, edge.row)?;
     out.extend_from_slice(b")")?;
     put_txn(out, edge.to)
 }

@@ -6,9 +6,9 @@ ghost use Rattle.lab_engine.specs.Situation.{statements_of};
 ghost use Rattle.lab_locking.specs.Blockers as spec;
 
 use lab_engine::{RunningTxn, Version, Versions, version_seen};
-use lab_table::{RowId, Statement, Table, Value};
+use lab_table::{RowName, Statement, Table, Value};
 
-fn committed_state(setup: &Table, committed: &Versions, row: RowId) -> Option<Value>
+fn committed_state(setup: &Table, committed: &Versions, row: RowName) -> Option<Value>
     ensures { result ≡ spec.committed_state setup.now (map.get committed.now row) row }
 {
     match committed.get(row) {
@@ -32,13 +32,13 @@ pub fn holds_match(
     })
 }
 
-fn any_matches(ran: &[Statement], row: RowId, state: &Option<Value>) -> bool
+fn any_matches(ran: &[Statement], row: RowName, state: &Option<Value>) -> bool
     ensures { result ≡ spec.any_matches ran.now row state.now }
 {
     ran.iter().any(|statement| statement.matches(row, *state))
 }
 
-fn row_was_read(ran: &[Statement], statement: &Statement, row: RowId, version: &Version) -> bool
+fn row_was_read(ran: &[Statement], statement: &Statement, row: RowName, version: &Version) -> bool
     ensures { result ≡ spec.row_was_read ran.now statement.now row version.now.state }
 {
     statement.would_write(row, version.state)

@@ -1,21 +1,25 @@
 -- The scripts of the cases print within the limits of a text.
-use Rattle.std.proofs.Common.{◌≡◌, ◌≤◌, ◌<◌, ℕ, ℤ, pos, [], ◌∷◌, length, Some, None, sym, ap, ◌∙◌, subst, arith}
+use Rattle.std.proofs.Common.{◌≡◌, ◌≤◌, ◌<◌, ℕ, ℤ, pos, List, [], ◌∷◌, length, Some, None, refl, sym, ap, ◌∙◌, subst, arith}
 use Rattle.std.specs.Fmt.{decimal, signed_decimal}
 use Rattle.std.specs.FinMap as map
 use Rattle.std.specs.FinMap.{entries-insert, put, len-entries, len-empty}
 use Rattle.std.proofs.lemmas.List.{nil_from_length}
 use Rattle.std.proofs.lemmas.Fmt.{length_signed_le, length-decimal-le}
-use Rattle.lab_table.specs.Row.{Row, row_cmp, rows_total}
+use Rattle.lab_table.specs.Row.{Row, row_cmp, rows_total, in_test}
+use Rattle.lab_table.specs.TableName.{test_name}
 use Rattle.lab_table.specs.Predicate.{Compare, Remainder, OneOf}
 use Rattle.lab_table.specs.declared.predicate.Col.{Col}
 use Rattle.lab_table.specs.declared.predicate.Col.TheVariants.{Id, Value as Column}
 use Rattle.lab_table.specs.declared.predicate.Cmp.TheVariants.{Eq}
 use Rattle.lab_table.specs.declared.statement.Expr.TheVariants.{Set}
 use Rattle.lab_table.specs.declared.statement.Statement.{Statement}
-use Rattle.lab_table.specs.declared.statement.Statement.TheVariants.{Select, Update, Insert}
+use Rattle.lab_table.specs.declared.statement.StatementKind.{StatementKind}
+use Rattle.lab_table.specs.declared.statement.StatementKind.TheVariants.{Select, Update, Insert}
 use Rattle.lab_script.specs.Depth.{statement_depth}
 use Rattle.lab_script.specs.Length.{statement_length, setup_length}
 use Rattle.lab_script.specs.Limits.{StatementPrints, ScriptPrints, AllPrint}
+use Rattle.lab_script.specs.Tables.{with_rows, with_lines, setup_tables}
+use Rattle.lab_script.specs.declared.script.Line.{Line}
 use Rattle.lab_script.specs.Printed.{printed_setup}
 use Rattle.lab_script.proofs.Lengths.{length_statement, length_setup}
 use Rattle.lab_matrix.specs.Listings.{usual_setup, case_script, g0_lines, g1a_lines, g1b_lines, g1c_lines, otv_lines, pmp_lines, p4_lines, g_single_lines, g2_item_lines, g2_lines}
@@ -23,51 +27,55 @@ use Rattle.lab_matrix.specs.declared.name.CaseName.{CaseName}
 use Rattle.lab_matrix.specs.declared.name.CaseName.TheVariants as name
 
 -- the rows of the usual setup
-rows : map.entries usual_setup ≡ (1, pos 10) ∷ (2, pos 20) ∷ []
+rows : map.entries usual_setup ≡ (in_test 1, pos 10) ∷ (in_test 2, pos 20) ∷ []
 rows =
     let none : map.entries (map.empty {K = Row} {X = ℤ} {R = row_cmp}) ≡ [] = nil_from_length _ (sym (len-entries (map.empty {K = Row} {X = ℤ} {R = row_cmp})) ∙ len-empty row_cmp ℤ) in
-    entries-insert rows_total (map.insert map.empty 1 (pos 10)) 2 (pos 20) ∙ ap (put row_cmp 2 (pos 20)) (entries-insert rows_total map.empty 1 (pos 10) ∙ ap (put row_cmp 1 (pos 10)) none)
+    entries-insert rows_total (map.insert map.empty (in_test 1) (pos 10)) (in_test 2) (pos 20) ∙ ap (put row_cmp (in_test 2) (pos 20)) (entries-insert rows_total map.empty (in_test 1) (pos 10) ∙ ap (put row_cmp (in_test 1) (pos 10)) none)
 
 -- a small number has few digits
 digits_of : (n : ℕ) → n < 1000 → length (signed_decimal (pos n)) ≤ 5
 digits_of n lt = length_signed_le 4 (pos n) (omega (arith, lt)) (omega (arith, lt))
+
+-- a statement on the rows of the table test
+abbrev over_test : StatementKind → Statement
+over_test kind = record { table = test_name; kind = kind }
 
 -- a statement whose printed form is short by its parts
 short_one : (s : Statement) → statement_depth s ≤ 16 → statement_length s ≤ 1000 → StatementPrints s
 short_one s shallow short = record { shallow = shallow; short = subst (λ n. n ≤ 1000) (sym (length_statement s)) short }
 
 -- an update of a row
-update_prints : (id value : ℕ) → id < 1000 → value < 1000 → StatementPrints (Update (Set (pos value)) (Some (Compare Id Eq (pos id))))
+update_prints : (id value : ℕ) → id < 1000 → value < 1000 → StatementPrints (over_test (Update (Set (pos value)) (Some (Compare Id Eq (pos id)))))
 update_prints id value small little =
     let a : length (signed_decimal (pos id)) ≤ 5 = digits_of id small in
     let b : length (signed_decimal (pos value)) ≤ 5 = digits_of value little in
     short_one _ (omega arith) (omega (arith, a, b))
 
 -- a select of the rows whose column equals a number
-equal_prints : (col : Col) (n : ℕ) → n < 1000 → StatementPrints (Select (Some (Compare col Eq (pos n))))
+equal_prints : (col : Col) (n : ℕ) → n < 1000 → StatementPrints (over_test (Select (Some (Compare col Eq (pos n)))))
 equal_prints Id n small = let a : length (signed_decimal (pos n)) ≤ 5 = digits_of n small in short_one _ (omega arith) (omega (arith, a))
 equal_prints Column n small = let a : length (signed_decimal (pos n)) ≤ 5 = digits_of n small in short_one _ (omega arith) (omega (arith, a))
 
 -- a select of the rows whose value leaves a rest
-rest_prints : (m r : ℕ) → m < 1000 → r < 1000 → StatementPrints (Select (Some (Remainder Column m (pos r))))
+rest_prints : (m r : ℕ) → m < 1000 → r < 1000 → StatementPrints (over_test (Select (Some (Remainder Column m (pos r)))))
 rest_prints m r small little =
     let a : length (decimal m) ≤ 4 = length-decimal-le 4 m (omega arith) (omega (arith, small)) (omega (arith, small)) in
     let b : length (signed_decimal (pos r)) ≤ 5 = digits_of r little in
     short_one _ (omega arith) (omega (arith, a, b))
 
 -- a select of two rows
-two_print : StatementPrints (Select (Some (OneOf Id (pos 1 ∷ pos 2 ∷ []))))
+two_print : StatementPrints (over_test (Select (Some (OneOf Id (pos 1 ∷ pos 2 ∷ [])))))
 two_print =
     let a : length (signed_decimal (pos 1)) ≤ 5 = digits_of 1 (omega arith) in
     let b : length (signed_decimal (pos 2)) ≤ 5 = digits_of 2 (omega arith) in
     short_one _ (omega arith) (omega (arith, a, b))
 
 -- a select of all rows
-all_print : StatementPrints (Select None)
+all_print : StatementPrints (over_test (Select None))
 all_print = short_one _ (omega arith) (omega arith)
 
 -- an insert
-insert_prints : (id value : ℕ) → id < 1000 → value < 1000 → StatementPrints (Insert id (pos value))
+insert_prints : (id value : ℕ) → id < 1000 → value < 1000 → StatementPrints (over_test (Insert id (pos value)))
 insert_prints id value small little =
     let a : length (decimal id) ≤ 4 = length-decimal-le 4 id (omega arith) (omega (arith, small)) (omega (arith, small)) in
     let b : length (signed_decimal (pos value)) ≤ 5 = digits_of value little in
@@ -182,18 +190,26 @@ setup_short =
     let b : length (signed_decimal (pos 10)) ≤ 5 = digits_of 10 (omega arith) in
     let c : length (decimal 2) ≤ 4 = length-decimal-le 4 2 (omega arith) (omega arith) (omega arith) in
     let d : length (signed_decimal (pos 20)) ≤ 5 = digits_of 20 (omega arith) in
-    let e : length (printed_setup usual_setup) ≡ setup_length ((1, pos 10) ∷ (2, pos 20) ∷ []) = length_setup (map.entries usual_setup) ∙ ap setup_length rows in
+    let e : length (printed_setup usual_setup) ≡ setup_length ((in_test 1, pos 10) ∷ (in_test 2, pos 20) ∷ []) = length_setup (map.entries usual_setup) ∙ ap setup_length rows in
     subst (λ n. n ≤ 4000) (sym e) (omega (arith, a, b, c, d))
+
+-- the setup names the table test alone
+setup_named : setup_tables usual_setup ≡ test_name ∷ []
+setup_named = ap (with_rows []) rows
+
+-- lines that name no other table
+few_named : (lines : List Line) → with_lines (test_name ∷ []) lines ≡ test_name ∷ [] → length (with_lines (setup_tables usual_setup) lines) ≤ 4
+few_named lines same = subst (λ names. length names ≤ 4) (sym (ap (λ names. with_lines names lines) setup_named ∙ same)) (omega arith)
 
 -- the script of each case
 pub case_prints : (case : CaseName) → ScriptPrints (case_script case)
-case_prints name.G0 = record { setup = setup_short; few = omega arith; lines = g0_print }
-case_prints name.G1a = record { setup = setup_short; few = omega arith; lines = g1a_print }
-case_prints name.G1b = record { setup = setup_short; few = omega arith; lines = g1b_print }
-case_prints name.G1c = record { setup = setup_short; few = omega arith; lines = g1c_print }
-case_prints name.Otv = record { setup = setup_short; few = omega arith; lines = otv_print }
-case_prints name.Pmp = record { setup = setup_short; few = omega arith; lines = pmp_print }
-case_prints name.P4 = record { setup = setup_short; few = omega arith; lines = p4_print }
-case_prints name.GSingle = record { setup = setup_short; few = omega arith; lines = g_single_print }
-case_prints name.G2Item = record { setup = setup_short; few = omega arith; lines = g2_item_print }
-case_prints name.G2 = record { setup = setup_short; few = omega arith; lines = g2_print }
+case_prints name.G0 = record { setup = setup_short; few = omega arith; lines = g0_print; tables = few_named g0_lines refl }
+case_prints name.G1a = record { setup = setup_short; few = omega arith; lines = g1a_print; tables = few_named g1a_lines refl }
+case_prints name.G1b = record { setup = setup_short; few = omega arith; lines = g1b_print; tables = few_named g1b_lines refl }
+case_prints name.G1c = record { setup = setup_short; few = omega arith; lines = g1c_print; tables = few_named g1c_lines refl }
+case_prints name.Otv = record { setup = setup_short; few = omega arith; lines = otv_print; tables = few_named otv_lines refl }
+case_prints name.Pmp = record { setup = setup_short; few = omega arith; lines = pmp_print; tables = few_named pmp_lines refl }
+case_prints name.P4 = record { setup = setup_short; few = omega arith; lines = p4_print; tables = few_named p4_lines refl }
+case_prints name.GSingle = record { setup = setup_short; few = omega arith; lines = g_single_print; tables = few_named g_single_lines refl }
+case_prints name.G2Item = record { setup = setup_short; few = omega arith; lines = g2_item_print; tables = few_named g2_item_lines refl }
+case_prints name.G2 = record { setup = setup_short; few = omega arith; lines = g2_print; tables = few_named g2_lines refl }

@@ -1,12 +1,15 @@
 -- The ten cases, line by line.
 use Rattle.std.specs.Prelude.{ℕ, pos, List, [], ◌∷◌, Some, None}
 use Rattle.std.specs.FinMap as map
+use Rattle.lab_table.specs.Row.{in_test}
+use Rattle.lab_table.specs.TableName.{test_name}
 use Rattle.lab_table.specs.Table.{Table}
 use Rattle.lab_table.specs.Predicate.{Predicate, Compare, Remainder, OneOf}
 use Rattle.lab_table.specs.declared.predicate.Col.TheVariants.{Id, Value as Column}
 use Rattle.lab_table.specs.declared.predicate.Cmp.TheVariants.{Eq}
 use Rattle.lab_table.specs.declared.statement.Expr.TheVariants.{Set}
-use Rattle.lab_table.specs.declared.statement.Statement.TheVariants.{Select, Update, Insert}
+use Rattle.lab_table.specs.declared.statement.StatementKind.{StatementKind}
+use Rattle.lab_table.specs.declared.statement.StatementKind.TheVariants.{Select, Update, Insert}
 use Rattle.lab_table.specs.declared.statement.Command.{Command}
 use Rattle.lab_table.specs.declared.statement.Command.TheVariants.{Begin, Commit, Abort, Run}
 use Rattle.lab_script.specs.declared.script.Line.{Line}
@@ -16,27 +19,31 @@ use Rattle.lab_matrix.specs.declared.name.CaseName.TheVariants as name
 
 -- the table that each case begins with: (1, 10), (2, 20)
 abbrev pub usual_setup : Table
-usual_setup = map.insert (map.insert map.empty 1 (pos 10)) 2 (pos 20)
+usual_setup = map.insert (map.insert map.empty (in_test 1) (pos 10)) (in_test 2) (pos 20)
 
 -- a line of the text, with a command of a session
 abbrev pub line : ℕ → ℕ → Command → Line
 line place session command = record { session = session; command = command; text_line = place }
 
+-- a statement on the rows of the table test
+abbrev pub on_test : StatementKind → Command
+on_test kind = Run (record { table = test_name; kind = kind })
+
 -- select * from test
 abbrev pub select_all : Command
-select_all = Run (Select None)
+select_all = on_test (Select None)
 
 -- select * from test where ..
 abbrev pub select_where : Predicate → Command
-select_where predicate = Run (Select (Some predicate))
+select_where predicate = on_test (Select (Some predicate))
 
 -- update test set value = .. where id = ..
 abbrev pub update : ℕ → ℕ → Command
-update id new = Run (Update (Set (pos new)) (Some (Compare Id Eq (pos id))))
+update id new = on_test (Update (Set (pos new)) (Some (Compare Id Eq (pos id))))
 
 -- insert into test (id, value) values (.., ..)
 abbrev pub insert : ℕ → ℕ → Command
-insert id new = Run (Insert id (pos new))
+insert id new = on_test (Insert id (pos new))
 
 -- the listing of G0
 abbrev pub g0_lines : List Line

@@ -4,14 +4,14 @@ ghost use Rattle.std.specs.Prelude.{◌≡◌, ◌≤◌, ◌<◌, ◌+◌, ◌+
 ghost use Rattle.lab_table.specs.Predicate.{Compare, Remainder, OneOf};
 ghost use Rattle.lab_table.specs.declared.predicate.Cmp.TheVariants.{Eq};
 ghost use Rattle.lab_table.specs.declared.statement.Expr.TheVariants.{Set};
-ghost use Rattle.lab_table.specs.declared.statement.Statement.TheVariants as statement;
-ghost use Rattle.lab_table.specs.declared.statement.Command.TheVariants.{Run};
-ghost use Rattle.lab_matrix.specs.Listings.{usual_setup};
+ghost use Rattle.lab_table.specs.declared.statement.StatementKind.TheVariants as kind;
+ghost use Rattle.lab_table.specs.Row.{in_test};
+ghost use Rattle.lab_matrix.specs.Listings.{usual_setup, on_test};
 
 use lab_script::{Line, Lines, Script};
 use lab_table::{
-    Cmp, Col, Command, Expr, Modulus, NoMemory, Numbers, Pred, PredKind, RowId, Session, Statement,
-    Table, Value,
+    Cmp, Col, Command, Expr, Modulus, NoMemory, Numbers, Pred, PredKind, RowId, RowName, Session,
+    Statement, StatementKind, Table, TableName, Value,
 };
 use std::alloc::Global;
 use std::marker::Model;
@@ -28,16 +28,25 @@ pub(crate) fn session(number: u8) -> Session
     session
 }
 
-/// The row with this id.
-pub(crate) fn row(id: u32) -> RowId
-    requires low { 1 ≤ id }
-    requires high { id ≤ 999999 }
-    ensures { result ≡ id }
+/// The row id of this number.
+pub(crate) fn row_id(number: u32) -> RowId
+    requires low { 1 ≤ number }
+    requires high { number ≤ 999999 }
+    ensures { result ≡ number }
 {
-    let Some(row) = RowId::new(id) else {
+    let Some(id) = RowId::new(number) else {
         unreachable!()
     };
-    row
+    id
+}
+
+/// The row of the table `test` with this id.
+pub(crate) fn row(id: u32) -> RowName
+    requires low { 1 ≤ id }
+    requires high { id ≤ 999999 }
+    ensures { result ≡ in_test id }
+{
+    RowName::in_test(row_id(id))
 }
 
 /// The value of this number.
@@ -142,13 +151,23 @@ impl Listed {
     }
 }
 
+/// A statement on the rows of the table `test`.
+fn run_on_test(kind: StatementKind) -> Command
+    ensures { result ≡ on_test kind }
+{
+    Command::Run(Statement {
+        table: TableName::test(),
+        kind,
+    })
+}
+
 /// Sets the value of one row.
 pub(crate) fn set_one(id: u32, number: u32) -> Command
     requires id { id ≤ 1000000000 }
     requires value { number ≤ 1000000000 }
-    ensures { result ≡ Run (statement.Update (Set (pos number)) (Some (Compare Col.Id Eq (pos id)))) }
+    ensures { result ≡ on_test (kind.Update (Set (pos number)) (Some (Compare Col.Id Eq (pos id)))) }
 {
-    Command::Run(Statement::Update {
+    run_on_test(StatementKind::Update {
         expr: Expr::Set(value(number)),
         pred: Some(equals(Col::Id, id)),
     })
@@ -159,19 +178,19 @@ pub(crate) fn insert(id: u32, number: u32) -> Command
     requires low { 1 ≤ id }
     requires high { id ≤ 999999 }
     requires value { number ≤ 1000000000 }
-    ensures { result ≡ Run (statement.Insert id (pos number)) }
+    ensures { result ≡ on_test (kind.Insert id (pos number)) }
 {
-    Command::Run(Statement::Insert {
-        id: row(id),
+    run_on_test(StatementKind::Insert {
+        id: row_id(id),
         value: value(number),
     })
 }
 
 /// Lists the rows that match, or all rows.
 pub(crate) fn select(pred: Option<Pred>) -> Command
-    ensures { result ≡ Run (statement.Select pred) }
+    ensures { result ≡ on_test (kind.Select pred) }
 {
-    Command::Run(Statement::Select { pred })
+    run_on_test(StatementKind::Select { pred })
 }
 
 /// The table that each case begins with: (1, 10), (2, 20).

@@ -1,7 +1,7 @@
 -- The text of a picture's arrows.
 use Rattle.std.specs.Prelude.{ℕ, ◌+◌, ◌-◌, ◌/◌, ◌==◌, Bool, true, false, cond, Option, Some, None, List, [], ◌∷◌, ◌++◌, codes}
 use Rattle.std.specs.Fmt.{decimal}
-use Rattle.lab_script.specs.Printed.{printed_id}
+use Rattle.lab_script.specs.Printed.{printed_row_name}
 use Rattle.lab_judge.specs.Places.{is_anti}
 use Rattle.lab_judge.specs.ReportText.{kind_name}
 use Rattle.lab_picture.specs.declared.drawing.Arrow.{Arrow}
@@ -9,7 +9,7 @@ use Rattle.lab_picture.specs.declared.drawing.Tie.{Tie}
 use Rattle.lab_picture.specs.declared.drawing.Tie.TheVariants.{Dependency, Version}
 use Rattle.lab_picture.specs.declared.layout.Corner.{Corner}
 use Rattle.lab_picture.specs.Layout.{exit_of, entry_of, is_next, lane, aside}
-use Rattle.lab_picture.specs.Text.{text_at}
+use Rattle.lab_picture.specs.Text.{text_at, paragraph}
 
 -- the column of a transaction, where so many come before these
 abbrev pub column_of : ℕ → ℕ → List ℕ → Option ℕ
@@ -28,11 +28,19 @@ is_dashed Version = false
 
 -- what stands at an arrow
 abbrev pub label_of : Arrow → List ℕ
-label_of arrow = tie_name arrow.tie ++ codes "(" ++ printed_id arrow.row ++ codes ")"
+label_of arrow = tie_name arrow.tie ++ codes "(" ++ printed_row_name arrow.row ++ codes ")"
 
--- a label in the middle of a place, on a white ground
+-- labels stand in the middle of their place, on a white ground
+abbrev pub label_style : List ℕ
+label_style = codes " text-anchor=\"middle\" paint-order=\"stroke\" stroke=\"white\" stroke-width=\"4\""
+
+-- a label at a place
 unfoldable pub label_text : ℕ → ℕ → Arrow → List ℕ
-label_text x y arrow = text_at (codes " text-anchor=\"middle\" paint-order=\"stroke\" stroke=\"white\" stroke-width=\"4\"") x y (label_of arrow)
+label_text x y arrow = text_at label_style x y (label_of arrow)
+
+-- a label at a place between two columns, where a line of twelve bytes has room
+unfoldable pub narrow_text : ℕ → ℕ → Arrow → List ℕ
+narrow_text x y arrow = paragraph label_style x y 12 (label_of arrow)
 
 -- the way of a straight arrow
 unfoldable pub straight_path : Corner → Corner → List ℕ
@@ -59,7 +67,7 @@ style_text dashed =
 -- an arrow from one column to the next
 unfoldable pub straight_text : Arrow → Corner → Corner → List ℕ
 straight_text arrow from to =
-    codes "<path d=\"" ++ straight_path from to ++ style_text (is_dashed arrow.tie) ++ label_text (from.x + 42) ((from.y + to.y) / 2 - 5) arrow
+    codes "<path d=\"" ++ straight_path from to ++ style_text (is_dashed arrow.tie) ++ narrow_text (from.x + 42) ((from.y + to.y) / 2 - 5) arrow
 
 -- an arrow that goes below the boxes
 unfoldable pub round_text : Arrow → Corner → ℕ → ℕ → Corner → List ℕ

@@ -21,7 +21,7 @@ edge_text x y marked = codes "<rect" ++ place_text x y ++ edge_style marked
 
 -- an operation's box at a place: its whole text as a title, its edge, and its text in up to four lines
 unfoldable pub box_text : ℕ → ℕ → Bool → Op → List ℕ
-box_text x y marked op = codes "<g><title>" ++ escaped (op_text op) ++ codes "</title>\n" ++ edge_text x y marked ++ paragraph (x + 5) (y + 14) 28 (op_text op) ++ codes "</g>\n"
+box_text x y marked op = codes "<g><title>" ++ escaped (op_text op) ++ codes "</title>\n" ++ edge_text x y marked ++ paragraph [] (x + 5) (y + 14) 28 (op_text op) ++ codes "</g>\n"
 
 -- the boxes of a column's operations, where so many come before these and the one with the number `marked` is marked
 abbrev pub boxes_text : ℕ → ℕ → ℕ → ℕ → List Op → List ℕ

@@ -55,11 +55,11 @@ more_text columns = cond (nat_lt 40 columns) (decimal (columns - 40) ++ codes " 
 
 -- the line that is drawn: whole as the title, and in up to four lines
 unfoldable pub heading_text : List ℕ → List ℕ
-heading_text about = codes "<title>" ++ escaped about ++ codes "</title>\n" ++ paragraph 26 20 112 about
+heading_text about = codes "<title>" ++ escaped about ++ codes "</title>\n" ++ paragraph [] 26 20 112 about
 
 -- the note, and how many transactions aren't drawn
 unfoldable pub notes_text : Sketch → List ℕ
-notes_text d = line_at 26 72 d.note ++ line_at 26 85 (more_text (length d.columns))
+notes_text d = line_at [] 26 72 d.note ++ line_at [] 26 85 (more_text (length d.columns))
 
 -- the columns that are drawn and the arrows between them, where the longest has so many operations
 unfoldable pub drawn_text : History → ℕ → Sketch → List ℕ

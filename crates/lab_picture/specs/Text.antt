@@ -47,14 +47,14 @@ place_text x y = codes " x=\"" ++ decimal x ++ codes "\" y=\"" ++ decimal y ++ c
 unfoldable pub text_at : List ℕ → ℕ → ℕ → List ℕ → List ℕ
 text_at attributes x y text = codes "<text" ++ attributes ++ place_text x y ++ codes ">" ++ escaped text ++ codes "</text>\n"
 
--- a line of text; nothing where it is empty
-unfoldable pub line_at : ℕ → ℕ → List ℕ → List ℕ
-line_at x y text = cond (length text == 0) [] (text_at [] x y text)
+-- a line of text at a place, with attributes; nothing where it is empty
+unfoldable pub line_at : List ℕ → ℕ → ℕ → List ℕ → List ℕ
+line_at attributes x y text = cond (length text == 0) [] (text_at attributes x y text)
 
--- a text in up to four lines
-unfoldable pub paragraph : ℕ → ℕ → ℕ → List ℕ → List ℕ
-paragraph x y width text =
-    line_at x y (front width text)
-    ++ line_at x (y + 13) (front width (back width text))
-    ++ line_at x (y + 26) (front width (back width (back width text)))
-    ++ line_at x (y + 39) (shown width (back width (back width (back width text))))
+-- a text in up to four lines, with attributes
+unfoldable pub paragraph : List ℕ → ℕ → ℕ → ℕ → List ℕ → List ℕ
+paragraph attributes x y width text =
+    line_at attributes x y (front width text)
+    ++ line_at attributes x (y + 13) (front width (back width text))
+    ++ line_at attributes x (y + 26) (front width (back width (back width text)))
+    ++ line_at attributes x (y + 39) (shown width (back width (back width (back width text))))

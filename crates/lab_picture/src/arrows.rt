@@ -1,15 +1,15 @@
 //! The arrows of a picture.
 
 ghost use Rattle.std.specs.Prelude.{◌≡◌, ◌++◌, ◌≤◌, ◌<◌, length, flat_map, IfOk, IfSome, OnOk};
-ghost use Rattle.lab_picture.specs.Arrows.{column_of, tie_name, is_dashed, label_of, label_text, straight_text, round_text, arrow_text};
+ghost use Rattle.lab_picture.specs.Arrows.{column_of, tie_name, is_dashed, label_of, label_style, label_text, narrow_text, straight_text, round_text, arrow_text};
 
 use crate::drawing::{Arrow, Tie};
-use crate::layout::{Corner, aside, entry_of, exit_of, is_next, lane};
+use crate::layout::{Corner, GAP_BYTES, aside, entry_of, exit_of, is_next, lane};
 use crate::route::{put_round_path, put_straight_path, put_style};
-use crate::text::put_text;
+use crate::text::{put_paragraph, put_text};
 use lab_deps::Kind;
 use lab_judge::kind_name;
-use lab_script::put_id;
+use lab_script::put_row_name;
 use lab_table::{NoMemory, TxnNo};
 use std::alloc::Global;
 
@@ -53,12 +53,19 @@ fn label_of(alloc: Global, arrow: &Arrow) -> Result<Vec<u8>, NoMemory>
 {
     let mut label = Vec::from_slice(alloc, tie_name(arrow.tie).as_bytes())?;
     label.extend_from_slice(b"(")?;
-    put_id(&mut label, arrow.row)?;
+    put_row_name(&mut label, arrow.row)?;
     label.extend_from_slice(b")")?;
     Ok(label)
 }
 
-/// Appends a label in the middle of a place.
+/// The attributes of labels: in the middle of their place, on a white ground.
+fn label_style() -> &'static [u8]
+    ensures { result.now ≡ label_style }
+{
+    b" text-anchor=\"middle\" paint-order=\"stroke\" stroke=\"white\" stroke-width=\"4\""
+}
+
+/// Appends a label at a place.
 #[tactic(auto, unfolding(crate::specs::Arrows::label_text))]
 fn put_label(
     alloc: Global,
@@ -70,13 +77,23 @@ fn put_label(
     ensures { OnOk result (out.new.items ≡ out.old.items ++ label_text x y arrow.now) }
 {
     let label = label_of(alloc, arrow)?;
-    put_text(
-        out,
-        b" text-anchor=\"middle\" paint-order=\"stroke\" stroke=\"white\" stroke-width=\"4\"",
-        x,
-        y,
-        &label,
-    )
+    put_text(out, label_style(), x, y, &label)
+}
+
+/// Appends a label at a place between two columns, in lines that have room there.
+#[tactic(auto, unfolding(crate::specs::Arrows::narrow_text))]
+fn put_narrow(
+    alloc: Global,
+    out: &mut Vec<u8>,
+    x: u64,
+    y: u64,
+    arrow: &Arrow,
+) -> Result<(), NoMemory>
+    requires { y ≤ 100000000000000 }
+    ensures { OnOk result (out.new.items ≡ out.old.items ++ narrow_text x y arrow.now) }
+{
+    let label = label_of(alloc, arrow)?;
+    put_paragraph(alloc, out, label_style(), x, y, GAP_BYTES, &label)
 }
 
 /// Appends an arrow from one column to the next.
@@ -95,7 +112,7 @@ fn put_straight(
     put_straight_path(out, from, to)?;
     put_style(out, is_dashed(arrow.tie))?;
     let y = (from.y + to.y) / 2;
-    put_label(alloc, out, from.x + 42, y.saturating_sub(5), arrow)
+    put_narrow(alloc, out, from.x + 42, y.saturating_sub(5), arrow)
 }
 
 /// Appends an arrow that goes below the boxes.

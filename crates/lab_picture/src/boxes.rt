@@ -21,6 +21,7 @@ fn op_text(alloc: Global, op: &Op) -> Result<Vec<u8>, NoMemory>
         Err(PrintFault::NoMemory) => return Err(AllocError),
         Err(PrintFault::TooDeep) => unreachable!(),
         Err(PrintFault::TooLong) => unreachable!(),
+        Err(PrintFault::TooManyTables) => unreachable!(),
     };
     text.extend_from_slice(b" -> ")?;
     put_list(&mut text, op.rows.entries())?;
@@ -71,7 +72,7 @@ fn put_box(
     put_escaped(out, &text)?;
     out.extend_from_slice(b"</title>\n")?;
     put_edge(out, x, y, marked)?;
-    put_paragraph(alloc, out, x + 5, y + 14, BOX_BYTES, &text)?;
+    put_paragraph(alloc, out, b"", x + 5, y + 14, BOX_BYTES, &text)?;
     out.extend_from_slice(b"</g>\n")
 }
 

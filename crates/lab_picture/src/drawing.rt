@@ -1,7 +1,7 @@
 //! Drawings.
 
 use lab_deps::Kind;
-use lab_table::{RowId, TxnNo};
+use lab_table::{RowName, TxnNo};
 use std::marker::Model;
 
 /// An operation of a transaction, counted from 1.
@@ -26,7 +26,7 @@ pub struct Arrow {
     pub from: Spot,
     pub to: Spot,
     pub tie: Tie,
-    pub row: RowId,
+    pub row: RowName,
 }
 
 /// A drawing of some of a history's transactions.

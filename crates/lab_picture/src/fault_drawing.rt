@@ -9,7 +9,7 @@ use crate::states::{ops_of, viewed};
 use crate::text::put_number;
 use lab_deps::LocalFault;
 use lab_history::{History, VersionName};
-use lab_table::{NoMemory, RowId, TxnNo};
+use lab_table::{NoMemory, RowName, TxnNo};
 use std::alloc::Global;
 
 /// A drawing without columns.
@@ -36,7 +36,7 @@ pub fn add_column(columns: &mut Vec<TxnNo>, txn: TxnNo) -> Result<(), NoMemory>
 }
 
 /// The version of a row that an operation of a transaction sees, where there is such an operation.
-fn seen_at(history: &History, txn: TxnNo, op: u32, row: RowId) -> Option<VersionName>
+fn seen_at(history: &History, txn: TxnNo, op: u32, row: RowName) -> Option<VersionName>
     ensures { result ≡ seen_at history.now txn op row }
 {
     let found = ops_of(history, txn).get(op.checked_sub(1)? as usize)?;
@@ -44,7 +44,7 @@ fn seen_at(history: &History, txn: TxnNo, op: u32, row: RowId) -> Option<Version
 }
 
 /// The operation that wrote a version of a row, where it did.
-fn written_by(history: &History, row: RowId, version: VersionName) -> Option<Spot>
+fn written_by(history: &History, row: RowName, version: VersionName) -> Option<Spot>
     ensures { result ≡ written_by history.now row version }
 {
     match version {
@@ -57,7 +57,7 @@ fn written_by(history: &History, row: RowId, version: VersionName) -> Option<Spo
 }
 
 /// The operation that wrote the version that is seen, where there is one.
-fn writer_at(history: &History, row: RowId, version: Option<VersionName>) -> Option<Spot>
+fn writer_at(history: &History, row: RowName, version: Option<VersionName>) -> Option<Spot>
     ensures { result ≡ writer_at history.now row version }
 {
     match version {
@@ -111,7 +111,7 @@ pub fn of_place(
     about: Vec<u8>,
     txn: TxnNo,
     op: u32,
-    row: RowId,
+    row: RowName,
 ) -> Result<Drawing, NoMemory>
     ensures { IfOk result (λ drawing. drawing ≡ of_place history.now about.items txn op row) }
 {
@@ -151,7 +151,12 @@ pub fn of_place(
 }
 
 /// The drawing of a fault of a row: the transactions that installed it.
-fn of_row(alloc: Global, history: &History, about: Vec<u8>, row: RowId) -> Result<Drawing, NoMemory>
+fn of_row(
+    alloc: Global,
+    history: &History,
+    about: Vec<u8>,
+    row: RowName,
+) -> Result<Drawing, NoMemory>
     ensures { IfOk result (λ drawing. drawing ≡ of_row history.now about.items row) }
 {
     let mut columns = Vec::new(alloc);
@@ -169,7 +174,7 @@ fn of_row(alloc: Global, history: &History, about: Vec<u8>, row: RowId) -> Resul
 }
 
 /// The transactions that installed a row, in order.
-fn installers_of(history: &History, row: RowId) -> &[TxnNo]
+fn installers_of(history: &History, row: RowName) -> &[TxnNo]
     ensures { result.now ≡ installers history.now row }
 {
     match history.installed().get(row) {

@@ -17,6 +17,9 @@ pub const MAX_COLUMNS: usize = 40;
 /// How many bytes of text a line of a box has.
 pub const BOX_BYTES: usize = 28;
 
+/// How many bytes of text a line between two columns has.
+pub const GAP_BYTES: usize = 12;
+
 /// The left side of a column.
 pub fn left(column: usize) -> u64
     ensures value { result ≡ layout.left column }

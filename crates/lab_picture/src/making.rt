@@ -8,7 +8,7 @@ use crate::drawing::{Arrow, Spot, Tie};
 use crate::states::{changes, ops_of, seen_place};
 use lab_deps::{Edge, Kind};
 use lab_history::{History, Op};
-use lab_table::{RowId, TxnNo};
+use lab_table::{RowName, TxnNo};
 
 /// The transaction that a dependency reads in; of two writers the later one.
 fn reader_of(edge: &Edge) -> TxnNo
@@ -31,7 +31,7 @@ fn writer_of(edge: &Edge) -> TxnNo
 }
 
 /// Whether an operation that sees the version at one place depends so on the one that is installed at another.
-fn ties(history: &History, kind: Kind, row: RowId, op: &Op, seen: usize, own: usize) -> bool
+fn ties(history: &History, kind: Kind, row: RowName, op: &Op, seen: usize, own: usize) -> bool
     ensures { result ≡ ties history.now kind row op.now seen own }
 {
     match kind {

@@ -9,7 +9,7 @@ ghost use Rattle.lab_deps.specs.Edges.{place_of, changes};
 ghost use Rattle.lab_deps.specs.Broken.{state_of};
 
 use lab_history::{History, Op, State, VersionName};
-use lab_table::{RowId, Statement, TxnNo, Value};
+use lab_table::{RowName, Statement, TxnNo, Value};
 
 /// The operations of a transaction; none where there is no such transaction.
 fn ops_in(history: &History, txn: TxnNo) -> &[Op]
@@ -32,7 +32,7 @@ pub fn ops_of(history: &History, txn: TxnNo) -> &[Op]
 }
 
 /// The version of a row that an operation sees.
-pub fn viewed(op: &Op, row: RowId) -> VersionName
+pub fn viewed(op: &Op, row: RowName) -> VersionName
     ensures { result ≡ viewed op.now row }
 {
     op.view.get(row).unwrap_or(VersionName::Initial)
@@ -40,7 +40,7 @@ pub fn viewed(op: &Op, row: RowId) -> VersionName
 
 /// The place among a row's versions of the one that a transaction's operation sees, counted from 0, or None where that
 /// is the transaction's own, or isn't installed.
-pub fn seen_place(history: &History, txn: TxnNo, op: &Op, row: RowId) -> Option<usize>
+pub fn seen_place(history: &History, txn: TxnNo, op: &Op, row: RowName) -> Option<usize>
     ensures { result ≡ place_of history.now txn row (viewed op.now row) }
 {
     match viewed(op, row) {
@@ -66,7 +66,7 @@ fn value_of(state: State) -> Option<Value>
 }
 
 /// The state of a version of a row; absent where there is no such version.
-fn state_of(history: &History, row: RowId, version: VersionName) -> Option<Value>
+fn state_of(history: &History, row: RowName, version: VersionName) -> Option<Value>
     ensures { result ≡ state_of history.now row version }
 {
     match history.version_state(row, version) {
@@ -76,7 +76,7 @@ fn state_of(history: &History, row: RowId, version: VersionName) -> Option<Value
 }
 
 /// The state that the installer at a place, counted from 0, leaves of a row.
-fn installed_state(history: &History, row: RowId, place: usize) -> Option<Value>
+fn installed_state(history: &History, row: RowName, place: usize) -> Option<Value>
     ensures { result ≡ state_at history.now row (suc place) }
 {
     let installers = history.installed().get(row)?;
@@ -86,7 +86,7 @@ fn installed_state(history: &History, row: RowId, place: usize) -> Option<Value>
 }
 
 /// The state of a row's version at a place, counted from 0.
-fn state_at(history: &History, row: RowId, place: usize) -> Option<Value>
+fn state_at(history: &History, row: RowName, place: usize) -> Option<Value>
     ensures { result ≡ state_at history.now row place }
 {
     match place.checked_sub(1) {
@@ -96,7 +96,7 @@ fn state_at(history: &History, row: RowId, place: usize) -> Option<Value>
 }
 
 /// Whether the installer at a place, counted from 0, changes whether a row matches a statement.
-pub fn changes(history: &History, statement: &Statement, row: RowId, place: usize) -> bool
+pub fn changes(history: &History, statement: &Statement, row: RowName, place: usize) -> bool
     ensures { result ≡ changes history.now statement.now row place }
 {
     let before = statement.matches(row, state_at(history, row, place));

@@ -118,7 +118,7 @@ fn put_heading(alloc: Global, out: &mut Vec<u8>, about: &[u8]) -> Result<(), NoM
     out.extend_from_slice(b"<title>")?;
     put_escaped(out, about)?;
     out.extend_from_slice(b"</title>\n")?;
-    put_paragraph(alloc, out, 26, 20, 112, about)
+    put_paragraph(alloc, out, b"", 26, 20, 112, about)
 }
 
 /// Appends the note, and how many transactions aren't drawn.
@@ -127,8 +127,8 @@ fn put_notes(alloc: Global, out: &mut Vec<u8>, drawing: &Drawing) -> Result<(), 
     ensures { OnOk result (out.new.items ≡ out.old.items ++ notes_text drawing.now) }
 {
     let more = more_text(alloc, drawing.columns.len())?;
-    put_line(out, 26, 72, &drawing.note)?;
-    put_line(out, 26, 85, &more)
+    put_line(out, b"", 26, 72, &drawing.note)?;
+    put_line(out, b"", 26, 85, &more)
 }
 
 /// Appends the columns that are drawn, and the arrows between them.

@@ -102,15 +102,21 @@ pub fn put_text(
     out.extend_from_slice(b"</text>\n")
 }
 
-/// Appends a line of text, if it isn't empty.
+/// Appends a line of text with these attributes, if it isn't empty.
 #[tactic(auto, unfolding(crate::specs::Text::line_at))]
-pub fn put_line(out: &mut Vec<u8>, x: u64, y: u64, text: &[u8]) -> Result<(), NoMemory>
-    ensures { OnOk result (out.new.items ≡ out.old.items ++ line_at x y text.now) }
+pub fn put_line(
+    out: &mut Vec<u8>,
+    attributes: &[u8],
+    x: u64,
+    y: u64,
+    text: &[u8],
+) -> Result<(), NoMemory>
+    ensures { OnOk result (out.new.items ≡ out.old.items ++ line_at attributes.now x y text.now) }
 {
     if text.len() == 0 {
         Ok(())
     } else {
-        put_text(out, b"", x, y, text)
+        put_text(out, attributes, x, y, text)
     }
 }
 
@@ -127,25 +133,26 @@ fn shown(alloc: Global, width: usize, text: &[u8]) -> Result<Vec<u8>, NoMemory>
     Ok(line)
 }
 
-/// Appends a text in up to four lines of so many bytes.
+/// Appends a text with these attributes in up to four lines of so many bytes.
 #[tactic(auto, unfolding(crate::specs::Text::paragraph))]
 pub fn put_paragraph(
     alloc: Global,
     out: &mut Vec<u8>,
+    attributes: &[u8],
     x: u64,
     y: u64,
     width: usize,
     text: &[u8],
 ) -> Result<(), NoMemory>
     requires { (2 ≤ width) × (y ≤ 100000000000000) }
-    ensures { OnOk result (out.new.items ≡ out.old.items ++ paragraph x y width text.now) }
+    ensures { OnOk result (out.new.items ≡ out.old.items ++ paragraph attributes.now x y width text.now) }
 {
     let (first, rest) = divided(width, text);
     let (second, rest) = divided(width, rest);
     let (third, rest) = divided(width, rest);
-    put_line(out, x, y, first)?;
-    put_line(out, x, y + 13, second)?;
-    put_line(out, x, y + 26, third)?;
+    put_line(out, attributes, x, y, first)?;
+    put_line(out, attributes, x, y + 13, second)?;
+    put_line(out, attributes, x, y + 26, third)?;
     let last = shown(alloc, width, rest)?;
-    put_line(out, x, y + 39, &last)
+    put_line(out, attributes, x, y + 39, &last)
 }

@@ -11,7 +11,7 @@ use Rattle.lab_table.specs.declared.statement.Command.TheVariants.{Begin, Commit
 use Rattle.lab_script.specs.declared.script.Line.{Line}
 use Rattle.lab_script.specs.declared.script.Script.{Script}
 use Rattle.lab_script.specs.declared.print.PrintFault.{PrintFault}
-use Rattle.lab_script.specs.declared.print.PrintFault.TheVariants.{NoMemory, TooDeep, TooLong}
+use Rattle.lab_script.specs.declared.print.PrintFault.TheVariants.{NoMemory, TooDeep, TooLong, TooManyTables}
 use Rattle.lab_script.specs.Depth.{statement_depth}
 use Rattle.lab_script.specs.Printed.{printed_statement}
 use Rattle.lab_script.specs.Limits.{StatementPrints, CommandPrints, AllPrint, SomeLine}
@@ -23,12 +23,14 @@ prints : (fault : PrintFault) (s : Statement) → StatementPrints s → Breaks f
 prints NoMemory s p h = h
 prints TooDeep s p h = omega arith
 prints TooLong s p h = omega arith
+prints TooManyTables s p h = h
 
 -- a command that isn't a statement breaks none
 breaks_none : (fault : PrintFault) → (Breaks fault Begin → ⊥) × (Breaks fault Commit → ⊥) × (Breaks fault Abort → ⊥)
 breaks_none NoMemory = (λ h. h, λ h. h, λ h. h)
 breaks_none TooDeep = (λ h. h, λ h. h, λ h. h)
 breaks_none TooLong = (λ h. h, λ h. h, λ h. h)
+breaks_none TooManyTables = (λ h. h, λ h. h, λ h. h)
 
 module _ (fault : PrintFault) where
   -- some statement of a list breaks this limit

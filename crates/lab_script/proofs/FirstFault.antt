@@ -16,7 +16,7 @@ use Rattle.lab_script.specs.Grammar.{IsCommands}
 use Rattle.lab_script.specs.Script as script
 use Rattle.lab_script.specs.Script.{code_of, remark_of, session_of, is_passed, IsFit, BeginsSetup, LineSpells, LinesSpell, Spells}
 use Rattle.lab_script.specs.Fault as wrong
-use Rattle.lab_script.specs.Fault.{SpellsNothing, LacksSession, SaysOfTokens, IsWrong, IsFaultyLine, IsWithoutSetup, IsFaultOf, IsLineFault}
+use Rattle.lab_script.specs.Fault.{SpellsNothing, SpellsNoFew, LacksSession, SaysOfTokens, IsWrong, IsFaultyLine, IsWithoutSetup, IsFaultOf, IsLineFault}
 use Rattle.lab_script.proofs.ReadCommands.{no_setup}
 use Rattle.lab_script.proofs.ReadSetup.{setup_begins}
 use Rattle.lab_script.proofs.ScriptLines.{fit_of, lines_once, lines_join, lines_front, IsFew, line_few}
@@ -56,29 +56,36 @@ all_read {script = script} read = subst (λ (ls : List (List ℕ)). LinesSpell 1
 nothing_spelled : {number : ℕ} {line : List ℕ} {before after : Option Script}
     → is_passed line ≡ false → SpellsNothing (tokens (code_of line)) before → LineSpells number line before after → ⊥
 nothing_spelled kept says (script.passed s fit is) = false≢true (sym kept ∙ is)
-nothing_spelled kept says (script.setup fit spelled) = says.1 _ spelled
-nothing_spelled kept says (script.commands s fit spelled session room) = says.1 _ spelled room
+nothing_spelled kept says (script.setup fit spelled few) = says.1 _ spelled
+nothing_spelled kept says (script.commands s fit spelled session room few) = says.1 _ spelled room
+
+-- nor do tokens that spell nothing with few tables
+no_few_spelled : {number : ℕ} {line : List ℕ} {before after : Option Script}
+    → is_passed line ≡ false → SpellsNoFew (tokens (code_of line)) before → LineSpells number line before after → ⊥
+no_few_spelled kept says (script.passed s fit is) = false≢true (sym kept ∙ is)
+no_few_spelled kept says (script.setup fit spelled few) = says.1 _ spelled few
+no_few_spelled kept says (script.commands s fit spelled session room few) = says.1 _ spelled room few
 
 -- no line can stand before its setup
 no_setup_yet : {number : ℕ} {line : List ℕ} {before after : Option Script}
     → is_passed line ≡ false → before ≡ None → (BeginsSetup (tokens (code_of line)) → ⊥) → LineSpells number line before after → ⊥
 no_setup_yet kept none not (script.passed s fit is) = false≢true (sym kept ∙ is)
-no_setup_yet kept none not (script.setup fit spelled) = not (setup_begins spelled)
-no_setup_yet kept none not (script.commands s fit spelled session room) = absurd cc
+no_setup_yet kept none not (script.setup fit spelled small) = not (setup_begins spelled)
+no_setup_yet kept none not (script.commands s fit spelled session room small) = absurd cc
 
 -- no setup can stand behind a setup
 setup_again : {number : ℕ} {line : List ℕ} {before after : Option Script}
     → is_passed line ≡ false → is_some before ≡ true → BeginsSetup (tokens (code_of line)) → LineSpells number line before after → ⊥
 setup_again kept some begins (script.passed s fit is) = false≢true (sym kept ∙ is)
-setup_again kept some begins (script.setup fit spelled) = false≢true some
-setup_again kept some begins (script.commands {cs = cs} s fit spelled session room) = no_setup (subst (λ (ts : List Token). IsCommands ts cs) begins.1 spelled)
+setup_again kept some begins (script.setup fit spelled small) = false≢true some
+setup_again kept some begins (script.commands {cs = cs} s fit spelled session room small) = no_setup (subst (λ (ts : List Token). IsCommands ts cs) begins.1 spelled)
 
 -- no commands without a session
 session_lacks : {number : ℕ} {line : List ℕ} {before after : Option Script}
     → is_passed line ≡ false → LacksSession (tokens (code_of line)) (remark_of line) before → LineSpells number line before after → ⊥
 session_lacks kept says (script.passed s fit is) = false≢true (sym kept ∙ is)
-session_lacks kept says (script.setup fit spelled) = says
-session_lacks {line = line} kept says (script.commands {session = one} s fit spelled session room) =
+session_lacks kept says (script.setup fit spelled small) = says
+session_lacks {line = line} kept says (script.commands {session = one} s fit spelled session room small) =
     let none : ◌≡◌ {A = Option ℕ} None (Some one) = sym says.1 ∙ session in
     absurd cc
 
@@ -91,11 +98,13 @@ tokens_are_faulty kinds.SetupRepeated kept says spells = setup_again kept says.0
 tokens_are_faulty kinds.NoSession kept says spells = session_lacks kept says spells
 tokens_are_faulty kinds.UnknownStatement kept says spells = nothing_spelled kept says spells
 tokens_are_faulty kinds.BadPredicate kept says spells = nothing_spelled kept says.0 spells
+tokens_are_faulty kinds.BadTableName kept says spells = nothing_spelled kept says spells
 tokens_are_faulty kinds.NumberOutOfRange kept says spells = nothing_spelled kept says spells
 tokens_are_faulty kinds.TooDeep kept says spells = nothing_spelled kept says.0 spells
 tokens_are_faulty kinds.TooLong {before = None} kept says spells = nothing_spelled kept says.0 spells
 tokens_are_faulty kinds.TooLong {before = Some script} kept says spells = nothing_spelled kept says spells
 tokens_are_faulty kinds.DuplicateSetupRow kept says spells = nothing_spelled kept says.0 spells
+tokens_are_faulty kinds.TooManyTables kept says spells = no_few_spelled kept says spells
 
 -- a line that is wrong spells nothing
 pub wrong_is_faulty : {number : ℕ} {line : List ℕ} {before : Option Script} {kind : ScriptFaultKind}

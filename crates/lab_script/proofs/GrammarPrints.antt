@@ -52,10 +52,10 @@ where_shallow (grammar.where_pred h) = shallow h
 
 -- a statement of the grammar is no deeper than it may be
 pub statement_shallow : {ts : List Token} {s : Statement} → IsStatement ts s → statement_depth s ≤ 16
-statement_shallow (grammar.select h) = where_shallow h
-statement_shallow (grammar.update g h) = where_shallow h
-statement_shallow (grammar.insert h) = omega arith
-statement_shallow (grammar.delete h) = where_shallow h
+statement_shallow (grammar.select table h) = where_shallow h
+statement_shallow (grammar.update table g h) = where_shallow h
+statement_shallow (grammar.insert table h) = omega arith
+statement_shallow (grammar.delete table h) = where_shallow h
 
 -- every command prints
 abbrev pub EachPrints : List Command → Type 0

@@ -15,7 +15,7 @@ use Rattle.lab_script.specs.declared.token.Token.TheVariants as token
 use Rattle.lab_script.specs.Grammar.{IsCommands, IsSetup, IsWholeStatement}
 use Rattle.lab_script.specs.HeldTokens.{held}
 use Rattle.lab_script.specs.Script.{BeginsSetup, HasWhere, BeginsLongSetup, BeginsLongStatement}
-use Rattle.lab_script.specs.Fault.{SpellsNothing, LacksSession, SaysOfTokens}
+use Rattle.lab_script.specs.Fault.{SpellsNothing, SpellsNoFew, LacksSession, SaysOfTokens}
 use Rattle.lab_script.proofs.Wheres.{where_further}
 use Rattle.lab_script.proofs.KnownTokens.{is_known, AllKnown, row_list_known, statement_known, commands_known, setup_known, whole_known}
 
@@ -138,7 +138,11 @@ held_nothing ts (Some script) says = (λ begins. says.0 (begins_held ts begins),
 
 held_lacks : (ts : List Token) (remark : List ℕ) (before : Option Script) → LacksSession (map held ts) remark before → LacksSession ts remark before
 held_lacks ts remark None says = says
-held_lacks ts remark (Some script) ((cs, is, room), none) = ((cs, held_commands ts cs is, room), none)
+held_lacks ts remark (Some script) ((cs, is, room, few), none) = ((cs, held_commands ts cs is, room, few), none)
+
+held_no_few : (ts : List Token) (before : Option Script) → SpellsNoFew (map held ts) before → SpellsNoFew ts before
+held_no_few ts None says = (held_begins ts says.0, λ table is few. says.1 table (setup_held ts table is) few)
+held_no_few ts (Some script) says = (λ begins. says.0 (begins_held ts begins), λ cs is room few. says.1 cs (commands_held ts cs is) room few)
 
 -- what is wrong with the tokens as they are held is wrong with them
 pub held_says : (kind : ScriptFaultKind) (ts : List Token) (remark : List ℕ) (before : Option Script) → SaysOfTokens kind (map held ts) remark before → SaysOfTokens kind ts remark before
@@ -148,8 +152,10 @@ held_says kinds.SetupRepeated ts remark before says = (says.0, held_begins ts sa
 held_says kinds.NoSession ts remark before says = held_lacks ts remark before says
 held_says kinds.UnknownStatement ts remark before says = held_nothing ts before says
 held_says kinds.BadPredicate ts remark before says = (held_nothing ts before says.0, says.1, held_where ts says.2)
+held_says kinds.BadTableName ts remark before says = held_nothing ts before says
 held_says kinds.NumberOutOfRange ts remark before says = held_nothing ts before says
 held_says kinds.TooDeep ts remark before says = (held_nothing ts before says.0, says.1)
 held_says kinds.TooLong ts remark None says = (held_nothing ts None says.0, held_long ts says.1)
 held_says kinds.TooLong ts remark (Some script) says = held_nothing ts (Some script) says
 held_says kinds.DuplicateSetupRow ts remark before says = (held_nothing ts before says.0, says.1)
+held_says kinds.TooManyTables ts remark before says = held_no_few ts before says

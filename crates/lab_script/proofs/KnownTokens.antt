@@ -19,7 +19,7 @@ use Rattle.lab_script.specs.declared.token.Word.TheVariants as word
 use Rattle.lab_script.specs.declared.token.Token.{Token}
 use Rattle.lab_script.specs.declared.token.Token.TheVariants as token
 use Rattle.lab_script.specs.Grammar as grammar
-use Rattle.lab_script.specs.Grammar.{Kind, col_token, cmp_token, IsNumber, IsNumbers, IsNumberList, IsAtom, IsPred, IsWhere, IsExpr, IsId, IsRow, IsStatement, IsCommand, IsCommands, IsRows, IsRowList, IsEnd, IsSetup, IsWholeStatement}
+use Rattle.lab_script.specs.Grammar.{Kind, col_token, cmp_token, IsNumber, IsNumbers, IsNumberList, IsAtom, IsPred, IsWhere, IsExpr, IsId, IsRow, IsNamedRow, IsStatement, IsCommand, IsCommands, IsRows, IsRowList, IsEnd, IsSetup, IsWholeStatement}
 
 -- whether a token is one of the grammar
 abbrev pub is_known : Token → Bool
@@ -88,17 +88,17 @@ expr_known (IsExpr.set is) = number_known is
 expr_known (IsExpr.plus is) = number_known is
 expr_known (IsExpr.minus is) = number_known is
 
-id_known : {ts : List Token} {id : Row} → IsId ts id → AllKnown ts
+id_known : {ts : List Token} {id : ℕ} → IsId ts id → AllKnown ts
 id_known (grammar.named id is low high) = number_known is
 
-row_known : {ts : List Token} {id : Row} {value : ℤ} → IsRow ts id value → AllKnown ts
+row_known : {ts : List Token} {id : ℕ} {value : ℤ} → IsRow ts id value → AllKnown ts
 row_known (grammar.row {is = is} {vs = vs} id value) = both (token.Open ∷ is ++ token.Comma ∷ vs) (token.Close ∷ []) (both is (token.Comma ∷ vs) (id_known id) (number_known value)) refl
 
 pub statement_known : {ts : List Token} {s : Statement} → IsStatement ts s → AllKnown ts
-statement_known (IsStatement.select is) = where_known is
-statement_known (IsStatement.update {es = es} {ts = ts} value is) = both es ts (expr_known value) (where_known is)
-statement_known (IsStatement.insert is) = row_known is
-statement_known (IsStatement.delete is) = where_known is
+statement_known (IsStatement.select table is) = where_known is
+statement_known (IsStatement.update {es = es} {ts = ts} table value is) = both es ts (expr_known value) (where_known is)
+statement_known (IsStatement.insert table is) = row_known is
+statement_known (IsStatement.delete table is) = where_known is
 
 end_known : {ts : List Token} → IsEnd ts → AllKnown ts
 end_known grammar.open_end = refl
@@ -126,9 +126,13 @@ commands_known (IsCommands.one is) = command_known is
 commands_known (IsCommands.closed {ts = ts} is) = both ts (token.Semicolon ∷ []) (command_known is) refl
 commands_known (IsCommands.more {ts = ts} {rest = others} is rest) = both ts (token.Semicolon ∷ others) (command_known is) (commands_known rest)
 
+named_row_known : {ts : List Token} {row : Row} {value : ℤ} → IsNamedRow ts row value → AllKnown ts
+named_row_known (grammar.unnamed is) = row_known is
+named_row_known (grammar.named table is) = row_known is
+
 rows_known : {ts : List Token} {rows : List (Row × ℤ)} → IsRows ts rows → AllKnown ts
-rows_known (IsRows.last is) = row_known is
-rows_known (IsRows.more {ts = ts} {rest = others} is rest) = both ts (token.Comma ∷ others) (row_known is) (rows_known rest)
+rows_known (IsRows.last is) = named_row_known is
+rows_known (IsRows.more {ts = ts} {rest = others} is rest) = both ts (token.Comma ∷ others) (named_row_known is) (rows_known rest)
 
 pub row_list_known : {ts : List Token} {rows : List (Row × ℤ)} → IsRowList ts rows → AllKnown ts
 row_list_known IsRowList.none = refl

@@ -8,6 +8,7 @@ pub mod ReadNumbers
 pub mod Joined
 pub mod Lengths
 pub mod Appended
+pub mod ReadNames
 pub mod ReadRows
 pub mod SetupLoop
 pub mod DistinctRows
@@ -37,6 +38,8 @@ pub mod BrokenLimits
 pub mod PrintedText
 pub mod PrintedNumbers
 pub mod PrintedPreds
+pub mod ReservedWords
+pub mod PrintedNames
 pub mod PrintedStatements
 pub mod StatementRead
 pub mod PrintedLines
@@ -44,7 +47,6 @@ pub mod PrintedCommands
 pub mod PrintedSetups
 pub mod PrintedScripts
 pub mod EachElement
-pub mod ReservedWords
 pub mod Wheres
 pub mod LongSetups
 pub mod LongStatements
@@ -58,3 +60,5 @@ mod SameReadings
 mod ReadingValues
 mod LineValues
 mod GrammarFaults
+pub mod FewTables
+pub mod FewRead

@@ -21,7 +21,7 @@ use Rattle.lab_script.specs.Stopping.{Reading, Reads, Stops, token_read, tokens_
 use Rattle.lab_script.specs.FirstFaults.{expr_read, select_read, update_read, insert_read, delete_read, statement_read, end_read, whole_statement_read, words_read, level_read, command_read, terminated_read, one_added, step_read, more_commands_read, commands_read, row_onto_read, rows_onto_read, rows_read, table_read, setup_end_read, setup_read}
 use Rattle.lab_script.proofs.TokenNumbers.{same_token}
 use Rattle.lab_script.proofs.SameReadings.{value, bind_same, when_same, elim_same, cond_same, absent_same, token_same, tokens_same, short_same, none_same}
-use Rattle.lab_script.proofs.ReadingValues.{number_same, row_same, where_same}
+use Rattle.lab_script.proofs.ReadingValues.{number_same, name_same, row_same, named_row_same, where_same}
 
 -- statements
 
@@ -35,23 +35,30 @@ expr_same ts = when_same (after (token.Word word.Value) ts) _ _ _ _
 
 select_same : (ts : List Token) → select_at ts ≡ value (select_read ts)
 unfolding select_at select_read
-select_same ts = bind_same _ _ _ _ (tokens_same (token.Star ∷ token.Word word.From ∷ token.Word word.Test ∷ []) ts) (λ rest. bind_same _ _ _ _ (where_same rest) (λ p. refl))
+select_same ts =
+    bind_same _ _ _ _ (tokens_same (token.Star ∷ token.Word word.From ∷ []) ts) (λ rest.
+    bind_same _ _ _ _ (name_same rest) (λ table. bind_same _ _ _ _ (where_same table.1) (λ p. refl)))
 
 update_same : (ts : List Token) → update_at ts ≡ value (update_read ts)
 unfolding update_at update_read
 update_same ts =
-    bind_same _ _ _ _ (tokens_same (token.Word word.Test ∷ token.Word word.Set ∷ token.Word word.Value ∷ token.Equal ∷ []) ts) (λ rest.
-    bind_same _ _ _ _ (expr_same rest) (λ e. bind_same _ _ _ _ (where_same e.1) (λ p. refl)))
+    bind_same _ _ _ _ (name_same ts) (λ table.
+    bind_same _ _ _ _ (tokens_same (token.Word word.Set ∷ token.Word word.Value ∷ token.Equal ∷ []) table.1) (λ rest.
+    bind_same _ _ _ _ (expr_same rest) (λ e. bind_same _ _ _ _ (where_same e.1) (λ p. refl))))
 
 insert_same : (ts : List Token) → insert_at ts ≡ value (insert_read ts)
 unfolding insert_at insert_read
 insert_same ts =
-    bind_same _ _ _ _ (tokens_same (token.Word word.Into ∷ token.Word word.Test ∷ token.Open ∷ token.Word word.Id ∷ token.Comma ∷ token.Word word.Value ∷ token.Close ∷ token.Word word.Values ∷ []) ts) (λ rest.
-    bind_same _ _ _ _ (row_same rest) (λ r. refl))
+    bind_same _ _ _ _ (token_same (token.Word word.Into) ts) (λ rest.
+    bind_same _ _ _ _ (name_same rest) (λ table.
+    bind_same _ _ _ _ (tokens_same (token.Open ∷ token.Word word.Id ∷ token.Comma ∷ token.Word word.Value ∷ token.Close ∷ token.Word word.Values ∷ []) table.1) (λ behind.
+    bind_same _ _ _ _ (row_same behind) (λ r. refl))))
 
 delete_same : (ts : List Token) → delete_at ts ≡ value (delete_read ts)
 unfolding delete_at delete_read
-delete_same ts = bind_same _ _ _ _ (tokens_same (token.Word word.From ∷ token.Word word.Test ∷ []) ts) (λ rest. bind_same _ _ _ _ (where_same rest) (λ p. refl))
+delete_same ts =
+    bind_same _ _ _ _ (token_same (token.Word word.From) ts) (λ rest.
+    bind_same _ _ _ _ (name_same rest) (λ table. bind_same _ _ _ _ (where_same table.1) (λ p. refl)))
 
 statement_same : (ts : List Token) → statement_at ts ≡ value (statement_read ts)
 unfolding statement_at statement_read
@@ -119,7 +126,7 @@ commands_same room ts = bind_same _ _ _ _ (step_same room [] ts) (λ s. more_com
 
 row_onto_same : (table : Table) (ts : List Token) → row_onto table ts ≡ value (row_onto_read table ts)
 unfolding row_onto row_onto_read
-row_onto_same table ts = bind_same _ _ _ _ (row_same ts) (λ row. absent_same (map.contains_key table row.0.0) (map.insert table row.0.0 row.0.1, row.1) DuplicateSetupRow row.1)
+row_onto_same table ts = bind_same _ _ _ _ (named_row_same ts) (λ row. absent_same (map.contains_key table row.0.0) (map.insert table row.0.0 row.0.1, row.1) DuplicateSetupRow row.1)
 
 rows_onto_same : (k : ℕ) (table : Table) (ts : List Token) → rows_onto k table ts ≡ value (rows_onto_read k table ts)
 unfolding rows_onto rows_onto_read

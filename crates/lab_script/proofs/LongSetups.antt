@@ -21,11 +21,13 @@ pub end_stops : (ts rest behind : List Token) (table : Table) (e : Refusal) → 
     → IsOfSetupEnd table e → IsOfSetupRead ts e
 end_stops ts rest behind table refusal.NoMemory first rows is = tt
 end_stops ts rest behind table (refusal.Fault grammar.UnknownStatement) first rows is = tt
+end_stops ts rest behind table (refusal.Fault grammar.BadTableName) first rows is = tt
 end_stops ts rest behind table (refusal.Fault grammar.NumberOutOfRange) first rows is = tt
 end_stops ts rest behind table (refusal.Fault grammar.BadPredicate) first rows is = is
 end_stops ts rest behind table (refusal.Fault grammar.TooDeep) first rows is = is
 end_stops ts rest behind table (refusal.Fault grammar.TooLong) first rows is = (rest, behind, table, first, rows, is)
 end_stops ts rest behind table (refusal.Fault grammar.DuplicateSetupRow) first rows is = tt
+end_stops ts rest behind table (refusal.Fault grammar.TooManyTables) first rows is = tt
 
 -- a table that is read and too long is a setup that is
 long_begins : (ts : List Token) → ReadsLong ts → BeginsLongSetup ts
@@ -45,8 +47,10 @@ long_begins ts (rest, behind, table, first, rows, long) =
 pub setup_stops : (ts : List Token) (e : Refusal) → IsOfSetupRead ts e → IsOfSetup ts e
 setup_stops ts refusal.NoMemory is = tt
 setup_stops ts (refusal.Fault grammar.UnknownStatement) is = tt
+setup_stops ts (refusal.Fault grammar.BadTableName) is = tt
 setup_stops ts (refusal.Fault grammar.NumberOutOfRange) is = tt
 setup_stops ts (refusal.Fault grammar.BadPredicate) is = is
 setup_stops ts (refusal.Fault grammar.TooDeep) is = is
 setup_stops ts (refusal.Fault grammar.TooLong) is = long_begins ts is
 setup_stops ts (refusal.Fault grammar.DuplicateSetupRow) is = tt
+setup_stops ts (refusal.Fault grammar.TooManyTables) is = tt

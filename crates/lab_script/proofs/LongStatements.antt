@@ -18,8 +18,10 @@ long_begins ts (s, behind, read, long) =
 pub statement_stops : (ts : List Token) (e : Refusal) → IsLongRead ts e → IsLongSpelled ts e
 statement_stops ts refusal.NoMemory is = tt
 statement_stops ts (refusal.Fault grammar.UnknownStatement) is = tt
+statement_stops ts (refusal.Fault grammar.BadTableName) is = tt
 statement_stops ts (refusal.Fault grammar.NumberOutOfRange) is = tt
 statement_stops ts (refusal.Fault grammar.BadPredicate) is = tt
 statement_stops ts (refusal.Fault grammar.TooDeep) is = tt
 statement_stops ts (refusal.Fault grammar.TooLong) is = long_begins ts is
 statement_stops ts (refusal.Fault grammar.DuplicateSetupRow) is = tt
+statement_stops ts (refusal.Fault grammar.TooManyTables) is = tt

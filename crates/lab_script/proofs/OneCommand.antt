@@ -63,10 +63,10 @@ Given ts cs rest = (c : Option Command) × (command_at ts ≡ Some (c, rest)) ×
 
 run_again : {ts : List Token} {s : Statement} → IsStatement ts s → (rest : List Token) → Closes rest → command_at (ts ++ rest) ≡ Some (Some (command.Run s), rest)
 unfolding command_at
-run_again (grammar.select h) rest closes = rw (statement_again (grammar.select h) rest (unjoined closes)) refl
-run_again (grammar.update g h) rest closes = rw (statement_again (grammar.update g h) rest (unjoined closes)) refl
-run_again (grammar.insert h) rest closes = rw (statement_again (grammar.insert h) rest (unjoined closes)) refl
-run_again (grammar.delete h) rest closes = rw (statement_again (grammar.delete h) rest (unjoined closes)) refl
+run_again (grammar.select table h) rest closes = rw (statement_again (grammar.select table h) rest (unjoined closes)) refl
+run_again (grammar.update table g h) rest closes = rw (statement_again (grammar.update table g h) rest (unjoined closes)) refl
+run_again (grammar.insert table h) rest closes = rw (statement_again (grammar.insert table h) rest (unjoined closes)) refl
+run_again (grammar.delete table h) rest closes = rw (statement_again (grammar.delete table h) rest (unjoined closes)) refl
 
 -- a statement of the grammar is read
 pub command_again : {ts : List Token} {cs : List Command} → IsCommand ts cs → (rest : List Token) → Closes rest → Given (ts ++ rest) cs rest
@@ -116,10 +116,10 @@ command_long grammar.commit = omega arith
 command_long grammar.abort = omega arith
 command_long grammar.rollback = omega arith
 command_long (grammar.level w ws) = omega arith
-command_long (grammar.run (grammar.select h) le) = omega arith
-command_long (grammar.run (grammar.update g h) le) = omega arith
-command_long (grammar.run (grammar.insert h) le) = omega arith
-command_long (grammar.run (grammar.delete h) le) = omega arith
+command_long (grammar.run (grammar.select table h) le) = omega arith
+command_long (grammar.run (grammar.update table g h) le) = omega arith
+command_long (grammar.run (grammar.insert table h) le) = omega arith
+command_long (grammar.run (grammar.delete table h) le) = omega arith
 
 -- the command of a statement with its end that is read, with what is left
 abbrev Closed : List Token → List Command → List Token → Type 0

@@ -13,7 +13,7 @@ use Rattle.lab_script.specs.declared.refusal.GrammarFault.TheVariants as grammar
 use Rattle.lab_script.specs.declared.script.Script.{Script}
 use Rattle.lab_script.specs.declared.token.Token.{Token}
 use Rattle.lab_script.specs.Fault as wrong
-use Rattle.lab_script.specs.Fault.{kind_of, first_fault, IsOver, SpellsNothing, SaysOfTokens, ComesFirst, IsWrong, IsFaultyLine, IsWithoutSetup, IsFaultOf}
+use Rattle.lab_script.specs.Fault.{kind_of, first_fault, IsOver, SpellsNothing, SpellsNoFew, SaysOfTokens, ComesFirst, IsWrong, IsFaultyLine, IsWithoutSetup, IsFaultOf}
 use Rattle.lab_script.specs.Grammar.{IsCommands}
 use Rattle.lab_script.specs.HeldTokens.{held_tokens}
 use Rattle.lab_script.specs.Script.{code_of, remark_of, BeginsSetup, LineSpells, LinesSpell, Spells}
@@ -38,6 +38,10 @@ module _ (ts : List Token) (remark : List ℕ) (hs : List Token) where
   of_first None first says is = inr (inr (ap told (sym is), (λ none. says.0), λ some. absurd (false≢true some)))
   of_first (Some script) first says is = inr (inr (ap told (sym is), (λ none. absurd (false≢true (sym (ap is_some none)))), λ some. says.0))
 
+  of_fifth : (before : Option Script) → SpellsNoFew ts before → first_fault hs before ≡ Some grammar.TooManyTables → Sort before kinds.TooManyTables
+  of_fifth None says is = inr (inr (ap told (sym is), (λ none. says.0), λ some. absurd (false≢true some)))
+  of_fifth (Some script) says is = inr (inr (ap told (sym is), (λ none. absurd (false≢true (sym (ap is_some none)))), λ some. says.0))
+
   sort_of : (kind : ScriptFaultKind) (before : Option Script) → SaysOfTokens kind ts remark before → ComesFirst kind hs before → Sort before kind
   sort_of kinds.NotAscii before says first = absurd says
   sort_of kinds.NoSetup before says first = inl (refl, says.0, says.1)
@@ -47,11 +51,13 @@ module _ (ts : List Token) (remark : List ℕ) (hs : List Token) where
       inr (inr (ap told (sym first), (λ none. absurd (false≢true (sym (ap is_some none)))), λ some begins. no_setup (subst (λ us. IsCommands us says.0.0) begins.1 says.0.1)))
   sort_of kinds.UnknownStatement before says first = of_first before grammar.UnknownStatement says first
   sort_of kinds.BadPredicate before says first = of_first before grammar.BadPredicate says.0 first
+  sort_of kinds.BadTableName before says first = of_first before grammar.BadTableName says first
   sort_of kinds.NumberOutOfRange before says first = of_first before grammar.NumberOutOfRange says first
   sort_of kinds.TooDeep before says first = of_first before grammar.TooDeep says.0 first
   sort_of kinds.TooLong None says first = of_first None grammar.TooLong says.0 first
   sort_of kinds.TooLong (Some script) says first = of_first (Some script) grammar.TooLong says first
   sort_of kinds.DuplicateSetupRow before says first = of_first before grammar.DuplicateSetupRow says.0 first
+  sort_of kinds.TooManyTables before says first = of_fifth before says first
 
   one_sort : (before : Option Script) (kind other : ScriptFaultKind) → Sort before kind → Sort before other → kind ≡ other
   one_sort before kind other (inl p) (inl q) = p.0 ∙ sym q.0

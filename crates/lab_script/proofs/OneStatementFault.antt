@@ -25,12 +25,14 @@ module _ (text : List ℕ) where
   sort_of kinds.TooLong (inr says) = elim (cases_lt 4000 (length text)) [ inl long ↦ inl (refl, long) | inr short ↦ inr (inr (short, says.0)) ]
   sort_of kinds.UnknownStatement says = inr (inr (says.0, says.1))
   sort_of kinds.BadPredicate says = inr (inr (says.0, says.1))
+  sort_of kinds.BadTableName says = inr (inr (says.0, says.1))
   sort_of kinds.NumberOutOfRange says = inr (inr (says.0, says.1))
   sort_of kinds.TooDeep says = inr (inr (says.0, says.1))
   sort_of kinds.NoSetup says = absurd says
   sort_of kinds.SetupRepeated says = absurd says
   sort_of kinds.NoSession says = absurd says
   sort_of kinds.DuplicateSetupRow says = absurd says
+  sort_of kinds.TooManyTables says = absurd says
 
   -- a text has its tokens
   one_tokens : (ts us : List Token) → AreStatementTokens text ts → AreStatementTokens text us → ts ≡ us

@@ -19,6 +19,7 @@ use Rattle.lab_script.specs.Printed.{printed_command}
 use Rattle.lab_script.specs.Script.{is_code_byte, code_of, remark_of, session_digit, session_of, IsFit, LineSpells, extended}
 use Rattle.lab_script.specs.Script as script
 use Rattle.lab_script.specs.Ranges.{CommandInRange, SessionInRange}
+use Rattle.lab_script.specs.Tables.{with_command, script_tables}
 use Rattle.lab_script.proofs.PrintedText.{Plain, all_plain, append_plain, append_ascii, Reads, word_ends}
 use Rattle.lab_script.proofs.PrintedStatements.{statement_tokens, statement_reads, statement_fits, statement_plain}
 use Rattle.lab_script.proofs.PrintedNumbers.{decimal_plain}
@@ -45,11 +46,11 @@ command_fits command.Abort h p = grammar.abort
 command_fits (command.Run s) h p = grammar.run (statement_fits s h p.shallow) p.short
 
 -- all of a printed command is code
-pub command_plain : (c : Command) → Plain (printed_command c)
-command_plain command.Begin = all_plain (codes "begin") refl
-command_plain command.Commit = all_plain (codes "commit") refl
-command_plain command.Abort = all_plain (codes "abort") refl
-command_plain (command.Run s) = statement_plain s
+pub command_plain : (c : Command) → CommandInRange c → Plain (printed_command c)
+command_plain command.Begin h = all_plain (codes "begin") refl
+command_plain command.Commit h = all_plain (codes "commit") refl
+command_plain command.Abort h = all_plain (codes "abort") refl
+command_plain (command.Run s) h = statement_plain s h
 
 -- a command that prints has at most 1,000 bytes
 command_short : (c : Command) → CommandPrints c → length (printed_command c) ≤ 1000
@@ -73,26 +74,26 @@ session_is n low high =
     ∙ ap (λ (m : ℕ). Some m) back
 
 -- the remark names the session
-line_session : (line : Line) → SessionInRange line.session → session_of (remark_of (line_text line)) ≡ Some line.session
-line_session line r =
+line_session : (line : Line) → SessionInRange line.session → CommandInRange line.command → session_of (remark_of (line_text line)) ≡ Some line.session
+line_session line r h =
     ap (λ (t : List ℕ). session_of (remark_of t)) (append_assoc (printed_command line.command) (codes "; -- T") (decimal line.session))
-    ∙ ap session_of ((command_plain line.command).remark (codes "; -- T" ++ decimal line.session))
+    ∙ ap session_of ((command_plain line.command h).remark (codes "; -- T" ++ decimal line.session))
     ∙ ap session_digit (decimal_digit line.session (omega arith))
     ∙ session_is line.session r.0 r.1
 
 -- the code is the command and a semicolon
-line_code : (line : Line) → code_of (line_text line) ≡ printed_command line.command ++ codes "; "
-line_code line =
+line_code : (line : Line) → CommandInRange line.command → code_of (line_text line) ≡ printed_command line.command ++ codes "; "
+line_code line h =
     ap code_of (append_assoc (printed_command line.command) (codes "; -- T") (decimal line.session))
-    ∙ (command_plain line.command).code (codes "; -- T" ++ decimal line.session)
+    ∙ (command_plain line.command h).code (codes "; -- T" ++ decimal line.session)
 
 -- the tokens of a line are those of its command and a semicolon
 line_tokens : (line : Line) → CommandInRange line.command → tokens (code_of (line_text line)) ≡ command_tokens line.command ++ token.Semicolon ∷ []
-line_tokens line h = ap tokens (line_code line) ∙ (command_reads line.command h).is (codes "; ") refl
+line_tokens line h = ap tokens (line_code line h) ∙ (command_reads line.command h).is (codes "; ") refl
 
 -- a line may have any number up to 2,000
-line_fit : (number : ℕ) (line : Line) → SessionInRange line.session → CommandPrints line.command → number ≤ 2000 → IsFit number (line_text line)
-line_fit number line r p le = record {
+line_fit : (number : ℕ) (line : Line) → SessionInRange line.session → CommandInRange line.command → CommandPrints line.command → number ≤ 2000 → IsFit number (line_text line)
+line_fit number line r h p le = record {
   lines = le;
   bytes = omega (
     arith,
@@ -101,18 +102,19 @@ line_fit number line r p le = record {
     command_short line.command p,
     ap length (decimal_digit line.session (omega arith)),
   );
-  ascii = ap (list_all is_code_byte) (line_code line) ∙ (append_plain (printed_command line.command) (codes "; ") (command_plain line.command) (all_plain (codes "; ") refl)).ascii;
+  ascii = ap (list_all is_code_byte) (line_code line h) ∙ (append_plain (printed_command line.command) (codes "; ") (command_plain line.command h) (all_plain (codes "; ") refl)).ascii;
 }
 
 -- all of a line is printed
-pub line_ascii : (line : Line) → list_all is_code_byte (line_text line) ≡ true
-line_ascii line =
+pub line_ascii : (line : Line) → CommandInRange line.command → list_all is_code_byte (line_text line) ≡ true
+line_ascii line h =
     append_ascii (printed_command line.command ++ codes "; -- T") (decimal line.session)
-    (append_ascii (printed_command line.command) (codes "; -- T") (command_plain line.command).ascii refl) (decimal_plain line.session).ascii
+    (append_ascii (printed_command line.command) (codes "; -- T") (command_plain line.command h).ascii refl) (decimal_plain line.session).ascii
 
 -- a printed line gives its command
 pub line_spells : (number : ℕ) (line : Line) (before : Script) → SessionInRange line.session → CommandInRange line.command → CommandPrints line.command → number ≤ 2000 → length before.lines + 1 ≤ 1999
+    → length (with_command (script_tables before) line.command) ≤ 4
     → LineSpells number (line_text line) (Some before) (Some (extended before line.session number (line.command ∷ [])))
-line_spells number line before r h p le few =
-    script.commands before (line_fit number line r p le) (subst (λ (ts : List Token). IsCommands ts (line.command ∷ [])) (sym (line_tokens line h))
-    (grammar.closed (command_fits line.command h p))) (line_session line r) few
+line_spells number line before r h p le few small =
+    script.commands before (line_fit number line r h p le) (subst (λ (ts : List Token). IsCommands ts (line.command ∷ [])) (sym (line_tokens line h))
+    (grammar.closed (command_fits line.command h p))) (line_session line r h) few small

@@ -1,52 +1,94 @@
 -- Printed setups.
 use Rattle.std.proofs.Common.{◌≡◌, ℕ, ◌≤◌, List, [], ◌∷◌, ◌++◌, length, refl, sym, ap, subst, ◌∙◌, append_assoc, arith}
-use Rattle.std.specs.Prelude.{ℤ, codes, None, Some}
+use Rattle.std.specs.Prelude.{ℤ, Bool, true, false, if◌then◌else◌, codes, None, Some}
 use Rattle.std.specs.List.{list_all, All}
 use Rattle.std.proofs.lemmas.List.Elements.{All-head, All-tail}
 use Rattle.std.specs.FinMap as finite
-use Rattle.lab_table.specs.Row.{Row, rows_total, rows_apart}
+use Rattle.std.specs.Cmp.Lexicographic.{bytes_decides}
+use Rattle.lab_table.specs.Row.{Row, numbered, rows_total, rows_apart}
+use Rattle.lab_table.specs.TableName.{table_name_eq, test_name}
 use Rattle.lab_table.specs.Table.{Table}
 use Rattle.lab_script.specs.declared.token.Word.TheVariants as word
 use Rattle.lab_script.specs.declared.token.Token.{Token}
 use Rattle.lab_script.specs.declared.token.Token.TheVariants as token
 use Rattle.lab_script.specs.Token.{tokens}
-use Rattle.lab_script.specs.Grammar.{IsRows, IsRowList, IsSetup}
+use Rattle.lab_script.specs.Grammar.{IsNamedRow, IsRows, IsRowList, IsSetup}
 use Rattle.lab_script.specs.Grammar as grammar
-use Rattle.lab_script.specs.Printed.{joined, printed_row, printed_rows, rows_or, printed_setup}
+use Rattle.lab_script.specs.Printed.{joined, printed_row, printed_named_row, printed_named_rows, named_rows_or, printed_setup}
 use Rattle.lab_script.specs.Script.{code_of, LineSpells}
 use Rattle.lab_script.specs.Script as script
 use Rattle.lab_script.specs.Ranges.{EntryInRange}
-use Rattle.lab_script.proofs.PrintedText.{Plain, all_plain, plain_between, plain_code, Leads, leads_reads, leads_leads, mark_leads, reads_all}
+use Rattle.lab_script.specs.Tables.{setup_tables}
+use Rattle.lab_script.proofs.PrintedText.{Plain, all_plain, plain_between, plain_code, Leads, leads_reads, leads_leads, cut_leads, mark_leads, reads_all}
+use Rattle.lab_script.proofs.PrintedNames.{name_token, name_plain, name_reads}
 use Rattle.lab_script.proofs.PrintedNumbers.{comma_leads}
 use Rattle.lab_script.proofs.PrintedPreds.{open_leads, close_leads}
 use Rattle.lab_script.proofs.PrintedStatements.{row_tokens, row_leads, row_fits, row_plain}
 
+-- the token of a table's name before a row, where it is printed
+abbrev table_tokens : Bool → List ℕ → List Token
+table_tokens true table = []
+table_tokens false table = name_token table ∷ []
+
+-- the tokens of a printed row of a setup
+abbrev pub named_row_tokens : Row → ℤ → List Token
+named_row_tokens row z = table_tokens (table_name_eq row.table test_name) row.table ++ row_tokens row.id z
+
+space_leads : Leads (codes " ") []
+space_leads = record { is = λ rest. refl }
+
+-- a printed row of a setup has its tokens
+named_row_leads : (row : Row) (z : ℤ) → EntryInRange (row, z) → Leads (printed_named_row row z) (named_row_tokens row z)
+named_row_leads row z h = at (table_name_eq row.table test_name)
+  where
+    at : (b : Bool) → Leads ((if b then [] else row.table ++ codes " ") ++ printed_row row.id z) (table_tokens b row.table ++ row_tokens row.id z)
+    at true = row_leads row.id z h.1 h.2
+    at false =
+        leads_leads (row.table ++ codes " ") (printed_row row.id z) (name_token row.table ∷ []) (row_tokens row.id z)
+        (cut_leads row.table (codes " ") (name_token row.table ∷ []) [] (name_reads row.table h.0) (λ rest. refl) space_leads) (row_leads row.id z h.1 h.2)
+
+-- its tokens are in the grammar
+named_row_fits : (row : Row) (z : ℤ) → EntryInRange (row, z) → IsNamedRow (named_row_tokens row z) row z
+named_row_fits row z h = at (table_name_eq row.table test_name) refl
+  where
+    at : (b : Bool) → table_name_eq row.table test_name ≡ b → IsNamedRow (table_tokens b row.table ++ row_tokens row.id z) row z
+    at true is = subst (λ t. IsNamedRow (row_tokens row.id z) (numbered t row.id) z) (sym ((bytes_decides row.table test_name).0 is)) (grammar.unnamed (row_fits row.id z h.1 h.2))
+    at false is = grammar.named row.table (row_fits row.id z h.1 h.2)
+
+-- all of it is code
+named_row_plain : (row : Row) (z : ℤ) → EntryInRange (row, z) → Plain (printed_named_row row z)
+named_row_plain row z h = at (table_name_eq row.table test_name)
+  where
+    at : (b : Bool) → Plain ((if b then [] else row.table ++ codes " ") ++ printed_row row.id z)
+    at true = row_plain row.id z
+    at false = plain_between row.table (codes " ") (printed_row row.id z) (name_plain row.table h.0) (all_plain (codes " ") refl) (row_plain row.id z)
+
 -- the tokens of the rows of a printed setup
 abbrev pub rows_tokens : List (Row × ℤ) → List Token
 rows_tokens [] = token.Open ∷ token.Close ∷ []
-rows_tokens (row ∷ []) = row_tokens row.0 row.1
-rows_tokens (row ∷ next ∷ rows) = row_tokens row.0 row.1 ++ token.Comma ∷ rows_tokens (next ∷ rows)
+rows_tokens (row ∷ []) = named_row_tokens row.0 row.1
+rows_tokens (row ∷ next ∷ rows) = named_row_tokens row.0 row.1 ++ token.Comma ∷ rows_tokens (next ∷ rows)
 
 -- one printed row or more have their tokens
-joined_leads : (row : Row × ℤ) (rows : List (Row × ℤ)) → All EntryInRange (row ∷ rows) → Leads (joined (printed_rows (row ∷ rows))) (rows_tokens (row ∷ rows))
-joined_leads row [] r = let fit = All-head EntryInRange row [] r in row_leads row.0 row.1 fit.0 fit.1
+joined_leads : (row : Row × ℤ) (rows : List (Row × ℤ)) → All EntryInRange (row ∷ rows) → Leads (joined (printed_named_rows (row ∷ rows))) (rows_tokens (row ∷ rows))
+joined_leads row [] r = let fit = All-head EntryInRange row [] r in named_row_leads row.0 row.1 fit
 joined_leads row (next ∷ rows) r =
     let fit = All-head EntryInRange row (next ∷ rows) r in
-    subst (Leads (joined (printed_rows (row ∷ next ∷ rows)))) (append_assoc (row_tokens row.0 row.1) (token.Comma ∷ []) (rows_tokens (next ∷ rows)))
-    (leads_leads (printed_row row.0 row.1 ++ codes ", ") (joined (printed_rows (next ∷ rows))) (row_tokens row.0 row.1 ++ token.Comma ∷ []) (rows_tokens (next ∷ rows))
-    (leads_leads (printed_row row.0 row.1) (codes ", ") (row_tokens row.0 row.1) (token.Comma ∷ []) (row_leads row.0 row.1 fit.0 fit.1) comma_leads)
+    subst (Leads (joined (printed_named_rows (row ∷ next ∷ rows)))) (append_assoc (named_row_tokens row.0 row.1) (token.Comma ∷ []) (rows_tokens (next ∷ rows)))
+    (leads_leads (printed_named_row row.0 row.1 ++ codes ", ") (joined (printed_named_rows (next ∷ rows))) (named_row_tokens row.0 row.1 ++ token.Comma ∷ []) (rows_tokens (next ∷ rows))
+    (leads_leads (printed_named_row row.0 row.1) (codes ", ") (named_row_tokens row.0 row.1) (token.Comma ∷ []) (named_row_leads row.0 row.1 fit) comma_leads)
     (joined_leads next rows (All-tail EntryInRange row (next ∷ rows) r)))
 
 -- the printed rows of a setup have their tokens
-rows_lead : (rows : List (Row × ℤ)) → All EntryInRange rows → Leads (rows_or (codes "()") rows) (rows_tokens rows)
+rows_lead : (rows : List (Row × ℤ)) → All EntryInRange rows → Leads (named_rows_or (codes "()") rows) (rows_tokens rows)
 rows_lead [] r = leads_leads (codes "(") (codes ")") (token.Open ∷ []) (token.Close ∷ []) open_leads close_leads
 rows_lead (row ∷ rows) r = joined_leads row rows r
 
 -- the tokens of one row or more are in the grammar
 joined_fit : (row : Row × ℤ) (rows : List (Row × ℤ)) → All EntryInRange (row ∷ rows) → IsRows (rows_tokens (row ∷ rows)) (row ∷ rows)
-joined_fit row [] r = let fit = All-head EntryInRange row [] r in grammar.last (row_fits row.0 row.1 fit.0 fit.1)
+joined_fit row [] r = let fit = All-head EntryInRange row [] r in grammar.last (named_row_fits row.0 row.1 fit)
 joined_fit row (next ∷ rows) r =
-    let fit = All-head EntryInRange row (next ∷ rows) r in grammar.more (row_fits row.0 row.1 fit.0 fit.1) (joined_fit next rows (All-tail EntryInRange row (next ∷ rows) r))
+    let fit = All-head EntryInRange row (next ∷ rows) r in grammar.more (named_row_fits row.0 row.1 fit) (joined_fit next rows (All-tail EntryInRange row (next ∷ rows) r))
 
 -- the tokens of the rows of a setup are in the grammar
 rows_fit : (rows : List (Row × ℤ)) → All EntryInRange rows → IsRowList (rows_tokens rows) rows
@@ -54,15 +96,16 @@ rows_fit [] r = grammar.none
 rows_fit (row ∷ rows) r = grammar.some (joined_fit row rows r)
 
 -- all of one printed row or more is code
-joined_plain : (row : Row × ℤ) (rows : List (Row × ℤ)) → Plain (joined (printed_rows (row ∷ rows)))
-joined_plain row [] = row_plain row.0 row.1
-joined_plain row (next ∷ rows) =
-    plain_between (printed_row row.0 row.1) (codes ", ") (joined (printed_rows (next ∷ rows))) (row_plain row.0 row.1) (all_plain (codes ", ") refl) (joined_plain next rows)
+joined_plain : (row : Row × ℤ) (rows : List (Row × ℤ)) → All EntryInRange (row ∷ rows) → Plain (joined (printed_named_rows (row ∷ rows)))
+joined_plain row [] r = named_row_plain row.0 row.1 (All-head EntryInRange row [] r)
+joined_plain row (next ∷ rows) r =
+    plain_between (printed_named_row row.0 row.1) (codes ", ") (joined (printed_named_rows (next ∷ rows))) (named_row_plain row.0 row.1 (All-head EntryInRange row (next ∷ rows) r))
+    (all_plain (codes ", ") refl) (joined_plain next rows (All-tail EntryInRange row (next ∷ rows) r))
 
 -- all of the printed rows of a setup is code
-rows_plain : (rows : List (Row × ℤ)) → Plain (rows_or (codes "()") rows)
-rows_plain [] = all_plain (codes "()") refl
-rows_plain (row ∷ rows) = joined_plain row rows
+rows_plain : (rows : List (Row × ℤ)) → All EntryInRange rows → Plain (named_rows_or (codes "()") rows)
+rows_plain [] r = all_plain (codes "()") refl
+rows_plain (row ∷ rows) r = joined_plain row rows r
 
 -- the map of a map's entries is the map
 rows_again : (table : Table) → finite.from_entries (finite.entries table) ≡ table
@@ -78,14 +121,14 @@ semicolon_leads = mark_leads 59 token.Semicolon (λ rest. refl) (λ b. refl)
 -- a printed setup has its tokens
 setup_leads : (table : Table) → All EntryInRange (finite.entries table) → Leads (printed_setup table) (token.Word word.Setup ∷ rows_tokens (finite.entries table) ++ token.Semicolon ∷ [])
 setup_leads table r =
-    leads_leads (codes "setup " ++ rows_or (codes "()") (finite.entries table)) (codes ";") (token.Word word.Setup ∷ rows_tokens (finite.entries table)) (token.Semicolon ∷ [])
-    (leads_leads (codes "setup ") (rows_or (codes "()") (finite.entries table)) (token.Word word.Setup ∷ []) (rows_tokens (finite.entries table)) setup_lead (rows_lead (finite.entries table) r))
+    leads_leads (codes "setup " ++ named_rows_or (codes "()") (finite.entries table)) (codes ";") (token.Word word.Setup ∷ rows_tokens (finite.entries table)) (token.Semicolon ∷ [])
+    (leads_leads (codes "setup ") (named_rows_or (codes "()") (finite.entries table)) (token.Word word.Setup ∷ []) (rows_tokens (finite.entries table)) setup_lead (rows_lead (finite.entries table) r))
     semicolon_leads
 
 -- all of a printed setup is code
-pub setup_plain : (table : Table) → Plain (printed_setup table)
-setup_plain table =
-    plain_between (codes "setup ") (rows_or (codes "()") (finite.entries table)) (codes ";") (all_plain (codes "setup ") refl) (rows_plain (finite.entries table)) (all_plain (codes ";") refl)
+pub setup_plain : (table : Table) → All EntryInRange (finite.entries table) → Plain (printed_setup table)
+setup_plain table r =
+    plain_between (codes "setup ") (named_rows_or (codes "()") (finite.entries table)) (codes ";") (all_plain (codes "setup ") refl) (rows_plain (finite.entries table) r) (all_plain (codes ";") refl)
 
 -- the tokens of a printed setup are in the grammar
 setup_fits : (table : Table) → All EntryInRange (finite.entries table) → length (printed_setup table) ≤ 4000
@@ -96,12 +139,12 @@ setup_fits table r le =
     (subst (λ (t : Table). length (printed_setup t) ≤ 4000) (sym (rows_again table)) le))
 
 -- a printed setup gives its table
-pub setup_spells : (table : Table) → All EntryInRange (finite.entries table) → length (printed_setup table) ≤ 4000
+pub setup_spells : (table : Table) → All EntryInRange (finite.entries table) → length (printed_setup table) ≤ 4000 → length (setup_tables table) ≤ 4
     → LineSpells 1 (printed_setup table) None (Some (record { setup = table; lines = [] }))
-setup_spells table r le =
-    let plain = setup_plain table in
+setup_spells table r le few =
+    let plain = setup_plain table r in
     let code : code_of (printed_setup table) ≡ printed_setup table = plain_code (printed_setup table) plain in
     let read : tokens (code_of (printed_setup table)) ≡ token.Word word.Setup ∷ rows_tokens (finite.entries table) ++ token.Semicolon ∷ [] =
     ap tokens code ∙ reads_all (printed_setup table) _ (leads_reads (printed_setup table) _ (setup_leads table r)) in
     script.setup (record { lines = omega arith; bytes = le; ascii = ap (λ (t : List ℕ). list_all script.is_code_byte t) code ∙ plain.ascii })
-    (subst (λ (ts : List Token). IsSetup ts table) (sym read) (setup_fits table r le))
+    (subst (λ (ts : List Token). IsSetup ts table) (sym read) (setup_fits table r le)) few

@@ -1,25 +1,27 @@
 -- Printed statements: their tokens, which are in the grammar, and that all of them is code.
-use Rattle.std.proofs.Common.{◌≤◌, List, [], ◌∷◌, ◌++◌, Option, Some, None, refl, sym, ap, ◌∙◌, arith}
+use Rattle.std.proofs.Common.{◌≡◌, ◌≤◌, ℕ, true, List, [], ◌∷◌, ◌++◌, Option, Some, None, refl, sym, ◌∙◌, arith}
 use Rattle.std.specs.Prelude.{ℤ, codes}
 use Rattle.std.specs.Fmt.{decimal, signed_decimal}
 use Rattle.std.proofs.lemmas.List.{append-nil}
 use Rattle.lab_table.specs.Predicate.{Predicate}
-use Rattle.lab_table.specs.Row.{Row}
+use Rattle.lab_table.specs.TableName.{is_table_name}
 use Rattle.lab_table.specs.declared.statement.Statement.{Statement}
-use Rattle.lab_table.specs.declared.statement.Statement.TheVariants as statement
+use Rattle.lab_table.specs.declared.statement.StatementKind.{StatementKind}
+use Rattle.lab_table.specs.declared.statement.StatementKind.TheVariants as kind
 use Rattle.lab_table.specs.declared.statement.Expr.{Expr}
 use Rattle.lab_table.specs.declared.statement.Expr.TheVariants as expr
 use Rattle.lab_script.specs.declared.token.Word.TheVariants as word
 use Rattle.lab_script.specs.declared.token.Token.{Token}
 use Rattle.lab_script.specs.declared.token.Token.TheVariants as token
-use Rattle.lab_script.specs.Grammar.{IsWhere, IsExpr, IsRow, IsStatement, words}
+use Rattle.lab_script.specs.Grammar.{over, IsWhere, IsExpr, IsRow, IsStatement, words}
 use Rattle.lab_script.specs.Grammar as grammar
-use Rattle.lab_script.specs.Depth.{where_depth, statement_depth}
+use Rattle.lab_script.specs.Depth.{where_depth, kind_depth, statement_depth}
 use Rattle.lab_script.specs.Limits.{StatementPrints}
-use Rattle.lab_script.specs.Printed.{printed_where, printed_expr, printed_row, printed_pred, printed_statement}
+use Rattle.lab_script.specs.Printed.{printed_where, printed_expr, printed_row, printed_pred, printed_kind, printed_statement}
 use Rattle.lab_script.specs.Script.{SpellsStatement}
-use Rattle.lab_script.specs.Ranges.{WhereInRange, ExprInRange, RowInRange, ValueInRange, StatementInRange}
-use Rattle.lab_script.proofs.PrintedText.{Plain, empty_plain, all_plain, dash_plain, append_plain, plain_between, plain_code, Leads, Reads, Breaks, word_ends, empty_reads, reads_all, leads_reads, leads_leads, leads_then, cut_leads, reads_then, reads_between}
+use Rattle.lab_script.specs.Ranges.{WhereInRange, ExprInRange, RowInRange, ValueInRange, KindInRange, StatementInRange}
+use Rattle.lab_script.proofs.PrintedText.{Plain, empty_plain, all_plain, dash_plain, append_plain, plain_between, plain_code, Leads, Reads, Breaks, empty_reads, reads_all, leads_reads, leads_leads, leads_then, cut_leads, reads_then, reads_between}
+use Rattle.lab_script.proofs.PrintedNames.{name_token, name_plain, name_reads}
 use Rattle.lab_script.proofs.PrintedNumbers.{comma_leads, number_tokens, number_reads, number_fits, decimal_reads, decimal_plain, signed_plain}
 use Rattle.lab_script.proofs.PrintedPreds.{pred_tokens, pred_reads, pred_fits, pred_plain, open_leads, close_leads}
 
@@ -88,11 +90,11 @@ expr_plain (expr.Plus z) = append_plain (codes "value + ") (signed_decimal z) (a
 expr_plain (expr.Minus z) = append_plain (codes "value - ") (signed_decimal z) minus_plain (signed_plain z)
 
 -- the tokens of a printed row
-abbrev pub row_tokens : Row → ℤ → List Token
+abbrev pub row_tokens : ℕ → ℤ → List Token
 row_tokens id z = token.Open ∷ token.Digits id ∷ token.Comma ∷ number_tokens z ++ token.Close ∷ []
 
 -- a printed row has its tokens
-pub row_leads : (id : Row) (z : ℤ) → RowInRange id → ValueInRange z → Leads (printed_row id z) (row_tokens id z)
+pub row_leads : (id : ℕ) (z : ℤ) → RowInRange id → ValueInRange z → Leads (printed_row id z) (row_tokens id z)
 row_leads id z r h =
     cut_leads (codes "(" ++ decimal id ++ codes ", " ++ signed_decimal z) (codes ")") (token.Open ∷ token.Digits id ∷ token.Comma ∷ number_tokens z) (token.Close ∷ [])
     (reads_between (codes "(" ++ decimal id) (codes ", ") (signed_decimal z) (token.Open ∷ token.Digits id ∷ []) (token.Comma ∷ []) (number_tokens z)
@@ -100,76 +102,119 @@ row_leads id z r h =
     (λ rest. refl) close_leads
 
 -- the tokens of a printed row are in the grammar
-pub row_fits : (id : Row) (z : ℤ) → RowInRange id → ValueInRange z → IsRow (row_tokens id z) id z
+pub row_fits : (id : ℕ) (z : ℤ) → RowInRange id → ValueInRange z → IsRow (row_tokens id z) id z
 row_fits id z r h = grammar.row (grammar.named id (grammar.positive id (omega arith)) r.0 r.1) (number_fits z h)
 
 -- all of a printed row is code
-pub row_plain : (id : Row) (z : ℤ) → Plain (printed_row id z)
+pub row_plain : (id : ℕ) (z : ℤ) → Plain (printed_row id z)
 row_plain id z =
     append_plain (codes "(" ++ decimal id ++ codes ", " ++ signed_decimal z) (codes ")")
     (plain_between (codes "(" ++ decimal id) (codes ", ") (signed_decimal z)
     (append_plain (codes "(") (decimal id) (all_plain (codes "(") refl) (decimal_plain id)) (all_plain (codes ", ") refl) (signed_plain z))
     (all_plain (codes ")") refl)
 
+-- the tokens of a printed statement of this kind
+abbrev pub kind_tokens : List ℕ → StatementKind → List Token
+kind_tokens table (kind.Select p) = token.Word word.Select ∷ token.Star ∷ token.Word word.From ∷ name_token table ∷ where_tokens p
+kind_tokens table (kind.Update e p) = token.Word word.Update ∷ name_token table ∷ token.Word word.Set ∷ token.Word word.Value ∷ token.Equal ∷ expr_tokens e ++ where_tokens p
+kind_tokens table (kind.Insert id z) =
+    token.Word word.Insert ∷ token.Word word.Into ∷ name_token table ∷ token.Open ∷ token.Word word.Id ∷ token.Comma ∷ token.Word word.Value ∷ token.Close
+    ∷ token.Word word.Values ∷ row_tokens id z
+kind_tokens table (kind.Delete p) = token.Word word.Delete ∷ token.Word word.From ∷ name_token table ∷ where_tokens p
+
 -- the tokens of a printed statement
 abbrev pub statement_tokens : Statement → List Token
-statement_tokens (statement.Select p) = token.Word word.Select ∷ token.Star ∷ token.Word word.From ∷ token.Word word.Test ∷ where_tokens p
-statement_tokens (statement.Update e p) = token.Word word.Update ∷ token.Word word.Test ∷ token.Word word.Set ∷ token.Word word.Value ∷ token.Equal ∷ expr_tokens e ++ where_tokens p
-statement_tokens (statement.Insert id z) =
-    token.Word word.Insert ∷ token.Word word.Into ∷ token.Word word.Test ∷ token.Open ∷ token.Word word.Id ∷ token.Comma ∷ token.Word word.Value ∷ token.Close
-    ∷ token.Word word.Values ∷ row_tokens id z
-statement_tokens (statement.Delete p) = token.Word word.Delete ∷ token.Word word.From ∷ token.Word word.Test ∷ where_tokens p
+statement_tokens s = kind_tokens s.table s.kind
 
 -- the first words of each statement have their tokens
-select_reads : Reads (codes "select * from test") (token.Word word.Select ∷ token.Star ∷ token.Word word.From ∷ token.Word word.Test ∷ [])
-select_reads = record { is = λ rest h. ap (λ (ts : List Token). token.Word word.Select ∷ token.Star ∷ token.Word word.From ∷ ts) (word_ends (codes "test") rest h) }
+select_leads : Leads (codes "select * from ") (token.Word word.Select ∷ token.Star ∷ token.Word word.From ∷ [])
+select_leads = record { is = λ rest. refl }
 
-delete_reads : Reads (codes "delete from test") (token.Word word.Delete ∷ token.Word word.From ∷ token.Word word.Test ∷ [])
-delete_reads = record { is = λ rest h. ap (λ (ts : List Token). token.Word word.Delete ∷ token.Word word.From ∷ ts) (word_ends (codes "test") rest h) }
+delete_leads : Leads (codes "delete from ") (token.Word word.Delete ∷ token.Word word.From ∷ [])
+delete_leads = record { is = λ rest. refl }
 
-update_leads : Leads (codes "update test set value = ") (token.Word word.Update ∷ token.Word word.Test ∷ token.Word word.Set ∷ token.Word word.Value ∷ token.Equal ∷ [])
+update_leads : Leads (codes "update ") (token.Word word.Update ∷ [])
 update_leads = record { is = λ rest. refl }
 
-insert_leads : Leads (codes "insert into test (id, value) values ")
-    (token.Word word.Insert ∷ token.Word word.Into ∷ token.Word word.Test ∷ token.Open ∷ token.Word word.Id ∷ token.Comma ∷ token.Word word.Value ∷ token.Close ∷ token.Word word.Values ∷ [])
+insert_leads : Leads (codes "insert into ") (token.Word word.Insert ∷ token.Word word.Into ∷ [])
 insert_leads = record { is = λ rest. refl }
 
--- a printed statement has its tokens
+-- and so have the words behind the name of a table
+set_leads : Leads (codes " set value = ") (token.Word word.Set ∷ token.Word word.Value ∷ token.Equal ∷ [])
+set_leads = record { is = λ rest. refl }
+
+values_leads : Leads (codes " (id, value) values ") (token.Open ∷ token.Word word.Id ∷ token.Comma ∷ token.Word word.Value ∷ token.Close ∷ token.Word word.Values ∷ [])
+values_leads = record { is = λ rest. refl }
+
+module _ (table : List ℕ) (named : is_table_name table ≡ true) where
+  select_reads : Reads (codes "select * from " ++ table) (token.Word word.Select ∷ token.Star ∷ token.Word word.From ∷ name_token table ∷ [])
+  select_reads = leads_then (codes "select * from ") table _ (name_token table ∷ []) select_leads (name_reads table named)
+
+  delete_reads : Reads (codes "delete from " ++ table) (token.Word word.Delete ∷ token.Word word.From ∷ name_token table ∷ [])
+  delete_reads = leads_then (codes "delete from ") table _ (name_token table ∷ []) delete_leads (name_reads table named)
+
+  update_front : Leads (codes "update " ++ table ++ codes " set value = ") (token.Word word.Update ∷ name_token table ∷ token.Word word.Set ∷ token.Word word.Value ∷ token.Equal ∷ [])
+  update_front =
+      cut_leads (codes "update " ++ table) (codes " set value = ") (token.Word word.Update ∷ name_token table ∷ []) _
+      (leads_then (codes "update ") table _ (name_token table ∷ []) update_leads (name_reads table named)) (λ rest. refl) set_leads
+
+  insert_front : Leads (codes "insert into " ++ table ++ codes " (id, value) values ")
+      (token.Word word.Insert ∷ token.Word word.Into ∷ name_token table ∷ token.Open ∷ token.Word word.Id ∷ token.Comma ∷ token.Word word.Value ∷ token.Close ∷ token.Word word.Values ∷ [])
+  insert_front =
+      cut_leads (codes "insert into " ++ table) (codes " (id, value) values ") (token.Word word.Insert ∷ token.Word word.Into ∷ name_token table ∷ []) _
+      (leads_then (codes "insert into ") table _ (name_token table ∷ []) insert_leads (name_reads table named)) (λ rest. refl) values_leads
+
+  -- a printed statement has its tokens
+  kind_reads : (k : StatementKind) → KindInRange k → Reads (printed_kind table k) (kind_tokens table k)
+  kind_reads (kind.Select p) h =
+      reads_then (codes "select * from " ++ table) (printed_where p) (token.Word word.Select ∷ token.Star ∷ token.Word word.From ∷ name_token table ∷ [])
+      (where_tokens p) select_reads (where_breaks p) (where_reads p h)
+  kind_reads (kind.Update e p) h =
+      reads_then (codes "update " ++ table ++ codes " set value = " ++ printed_expr e) (printed_where p)
+      (token.Word word.Update ∷ name_token table ∷ token.Word word.Set ∷ token.Word word.Value ∷ token.Equal ∷ expr_tokens e) (where_tokens p)
+      (leads_then (codes "update " ++ table ++ codes " set value = ") (printed_expr e)
+      (token.Word word.Update ∷ name_token table ∷ token.Word word.Set ∷ token.Word word.Value ∷ token.Equal ∷ []) (expr_tokens e) update_front (expr_reads e h.0))
+      (where_breaks p) (where_reads p h.1)
+  kind_reads (kind.Insert id z) h =
+      leads_reads _ _ (leads_leads (codes "insert into " ++ table ++ codes " (id, value) values ") (printed_row id z) _ (row_tokens id z) insert_front (row_leads id z h.0 h.1))
+  kind_reads (kind.Delete p) h =
+      reads_then (codes "delete from " ++ table) (printed_where p) (token.Word word.Delete ∷ token.Word word.From ∷ name_token table ∷ []) (where_tokens p) delete_reads (where_breaks p) (where_reads p h)
+
+  -- the tokens of a printed statement are in the grammar
+  kind_fits : (k : StatementKind) → KindInRange k → kind_depth k ≤ 16 → IsStatement (kind_tokens table k) (over table k)
+  kind_fits (kind.Select p) h le = grammar.select table (where_fits p h le)
+  kind_fits (kind.Update e p) h le = grammar.update table (expr_fits e h.0) (where_fits p h.1 le)
+  kind_fits (kind.Insert id z) h le = grammar.insert table (row_fits id z h.0 h.1)
+  kind_fits (kind.Delete p) h le = grammar.delete table (where_fits p h le)
+
+  -- all of a printed statement is code
+  kind_plain : (k : StatementKind) → Plain (printed_kind table k)
+  kind_plain (kind.Select p) =
+      append_plain (codes "select * from " ++ table) (printed_where p) (append_plain (codes "select * from ") table (all_plain (codes "select * from ") refl) (name_plain table named)) (where_plain p)
+  kind_plain (kind.Update e p) =
+      append_plain (codes "update " ++ table ++ codes " set value = " ++ printed_expr e) (printed_where p)
+      (append_plain (codes "update " ++ table ++ codes " set value = ") (printed_expr e)
+      (plain_between (codes "update ") table (codes " set value = ") (all_plain (codes "update ") refl) (name_plain table named) (all_plain (codes " set value = ") refl)) (expr_plain e)) (where_plain p)
+  kind_plain (kind.Insert id z) =
+      append_plain (codes "insert into " ++ table ++ codes " (id, value) values ") (printed_row id z)
+      (plain_between (codes "insert into ") table (codes " (id, value) values ") (all_plain (codes "insert into ") refl) (name_plain table named) (all_plain (codes " (id, value) values ") refl)) (row_plain id z)
+  kind_plain (kind.Delete p) =
+      append_plain (codes "delete from " ++ table) (printed_where p) (append_plain (codes "delete from ") table (all_plain (codes "delete from ") refl) (name_plain table named)) (where_plain p)
+
+-- the same of a statement
 pub statement_reads : (s : Statement) → StatementInRange s → Reads (printed_statement s) (statement_tokens s)
-statement_reads (statement.Select p) h =
-    reads_then (codes "select * from test") (printed_where p) (token.Word word.Select ∷ token.Star ∷ token.Word word.From ∷ token.Word word.Test ∷ [])
-    (where_tokens p) select_reads (where_breaks p) (where_reads p h)
-statement_reads (statement.Update e p) h =
-    reads_then (codes "update test set value = " ++ printed_expr e) (printed_where p)
-    (token.Word word.Update ∷ token.Word word.Test ∷ token.Word word.Set ∷ token.Word word.Value ∷ token.Equal ∷ expr_tokens e) (where_tokens p)
-    (leads_then (codes "update test set value = ") (printed_expr e)
-    (token.Word word.Update ∷ token.Word word.Test ∷ token.Word word.Set ∷ token.Word word.Value ∷ token.Equal ∷ []) (expr_tokens e) update_leads (expr_reads e h.0))
-    (where_breaks p) (where_reads p h.1)
-statement_reads (statement.Insert id z) h = leads_reads _ _ (leads_leads (codes "insert into test (id, value) values ") (printed_row id z) _ (row_tokens id z) insert_leads (row_leads id z h.0 h.1))
-statement_reads (statement.Delete p) h =
-    reads_then (codes "delete from test") (printed_where p) (token.Word word.Delete ∷ token.Word word.From ∷ token.Word word.Test ∷ []) (where_tokens p) delete_reads (where_breaks p) (where_reads p h)
+statement_reads s h = kind_reads s.table h.0 s.kind h.1
 
--- the tokens of a printed statement are in the grammar
 pub statement_fits : (s : Statement) → StatementInRange s → statement_depth s ≤ 16 → IsStatement (statement_tokens s) s
-statement_fits (statement.Select p) h le = grammar.select (where_fits p h le)
-statement_fits (statement.Update e p) h le = grammar.update (expr_fits e h.0) (where_fits p h.1 le)
-statement_fits (statement.Insert id z) h le = grammar.insert (row_fits id z h.0 h.1)
-statement_fits (statement.Delete p) h le = grammar.delete (where_fits p h le)
+statement_fits s h le = kind_fits s.table h.0 s.kind h.1 le
 
--- all of a printed statement is code
-pub statement_plain : (s : Statement) → Plain (printed_statement s)
-statement_plain (statement.Select p) = append_plain (codes "select * from test") (printed_where p) (all_plain (codes "select * from test") refl) (where_plain p)
-statement_plain (statement.Update e p) =
-    append_plain (codes "update test set value = " ++ printed_expr e) (printed_where p)
-    (append_plain (codes "update test set value = ") (printed_expr e) (all_plain (codes "update test set value = ") refl) (expr_plain e)) (where_plain p)
-statement_plain (statement.Insert id z) =
-    append_plain (codes "insert into test (id, value) values ") (printed_row id z) (all_plain (codes "insert into test (id, value) values ") refl) (row_plain id z)
-statement_plain (statement.Delete p) = append_plain (codes "delete from test") (printed_where p) (all_plain (codes "delete from test") refl) (where_plain p)
+pub statement_plain : (s : Statement) → StatementInRange s → Plain (printed_statement s)
+statement_plain s h = kind_plain s.table h.0 s.kind
 
 -- a printed statement spells the statement
 pub statement_spells : (s : Statement) → StatementInRange s → StatementPrints s → SpellsStatement (printed_statement s) s
 statement_spells s h prints =
-    let plain = statement_plain s in
+    let plain = statement_plain s h in
     record {
       bytes = omega arith;
       ascii = plain.ascii;

@@ -14,6 +14,7 @@ use Rattle.lab_script.specs.Script as script
 use Rattle.lab_script.specs.Script.{code_of, remark_of, is_code_byte, session_of, extended, IsFit, AddsCommands, LineSpells}
 use Rattle.lab_script.specs.Fault as wrong
 use Rattle.lab_script.specs.Fault.{IsOver, IsKept, SaysOfTokens, ComesFirst, IsTokensFault, IsLineFault}
+use Rattle.lab_script.specs.Tables.{max_tables, setup_tables}
 use Rattle.lab_script.proofs.HeldTokens.{held_setup, held_commands, held_says}
 
 -- a line within its limits, with this code and remark
@@ -53,11 +54,11 @@ module _ {number : ℕ} {line code remark : List ℕ} (split : IsSplit number li
           (subst (λ (t : List Token). ComesFirst kind t before) of_line says.2),
     )
 
-    pub setup_line : (s : Script) → (table : Table) × IsSetup ts table × (s ≡ record { setup = table; lines = [] }) → LineSpells number line None (Some s)
-    setup_line s (table, is, e) =
-        subst (λ (r : Script). LineSpells number line None (Some r)) (sym e) (script.setup (fit ascii) (held_setup _ table (subst (λ (t : List Token). IsSetup t table) of_line is)))
+    pub setup_line : (s : Script) → (table : Table) × IsSetup ts table × (length (setup_tables table) ≤ max_tables) × (s ≡ record { setup = table; lines = [] }) → LineSpells number line None (Some s)
+    setup_line s (table, is, small, e) =
+        subst (λ (r : Script). LineSpells number line None (Some r)) (sym e) (script.setup (fit ascii) (held_setup _ table (subst (λ (t : List Token). IsSetup t table) of_line is)) small)
 
     pub commands_line : (s r : Script) → AddsCommands number ts remark s r → LineSpells number line (Some s) (Some r)
-    commands_line s r (cs, session, is, named, room, e) =
+    commands_line s r (cs, session, is, named, room, small, e) =
         subst (λ (t : Script). LineSpells number line (Some s) (Some t)) (sym e)
-        (script.commands s (fit ascii) (held_commands _ cs (subst (λ (t : List Token). IsCommands t cs) of_line is)) (ap session_of (sym split.remark_is) ∙ named) room)
+        (script.commands s (fit ascii) (held_commands _ cs (subst (λ (t : List Token). IsCommands t cs) of_line is)) (ap session_of (sym split.remark_is) ∙ named) room small)

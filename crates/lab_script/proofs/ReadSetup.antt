@@ -11,15 +11,15 @@ use Rattle.lab_script.specs.declared.token.Word.TheVariants as word
 use Rattle.lab_script.specs.declared.token.Token.{Token}
 use Rattle.lab_script.specs.declared.token.Token.TheVariants as token
 use Rattle.lab_script.specs.declared.refusal.Refusal.{Refusal}
-use Rattle.lab_script.specs.Grammar.{IsRow, IsRows, IsRowList, IsEnd, IsSetup, AllDistinct}
+use Rattle.lab_script.specs.Grammar.{IsNamedRow, IsRows, IsRowList, IsEnd, IsSetup, AllDistinct}
 use Rattle.lab_script.specs.Grammar as grammar
 use Rattle.lab_script.specs.Printed.{printed_setup}
 use Rattle.lab_script.specs.Reading.{Gives, ◌>>=◌, is_token, after, is_end}
-use Rattle.lab_script.specs.ReadingRows.{row_at}
+use Rattle.lab_script.specs.ReadingRows.{named_row_at}
 use Rattle.lab_script.specs.ReadingSetup.{row_onto, rows_onto, rows_at, no_rows_at, table_at, ends_setup, setup_at}
 use Rattle.lab_script.proofs.TokenNumbers.{same_token, after_is, bind_some, some_is}
 use Rattle.lab_script.proofs.ReadNumbers.{after_then, under}
-use Rattle.lab_script.proofs.ReadRows.{RowTaken, row_takes}
+use Rattle.lab_script.proofs.ReadRows.{NamedRowTaken, named_row_takes}
 use Rattle.lab_script.proofs.SetupLoop.{behind_row}
 use Rattle.lab_script.proofs.DistinctRows.{none_distinct, absent_from, pushed_table, pushed_distinct, table_of}
 use Rattle.lab_script.proofs.SetupAgain.{setup_again}
@@ -35,7 +35,7 @@ record RowAdded (before : List (Row × ℤ)) (ts : List Token) (x : Table × Lis
   row : Row × ℤ
   front : List Token
   text : ts ≡ front ++ x.1
-  spelled : IsRow front row.0 row.1
+  spelled : IsNamedRow front row.0 row.1
   absent : find row_cmp row.0 before ≡ None
   table : x.0 ≡ table_of (before ++ row ∷ [])
 
@@ -43,10 +43,10 @@ record RowAdded (before : List (Row × ℤ)) (ts : List Token) (x : Table × Lis
 row_onto_takes : (before : List (Row × ℤ)) (ts : List Token) (x : Table × List Token) → row_onto (table_of before) ts ≡ Some x → RowAdded before ts x
 unfolding row_onto
 row_onto_takes before ts x e =
-    let a = bind_some (row_at ts) (λ row. cond (contains_key (table_of before) row.0.0) None (Some (insert (table_of before) row.0.0 row.0.1, row.1))) x e in
-    added before ts x a.0 (row_takes ts a.0 a.1) a.2
+    let a = bind_some (named_row_at ts) (λ row. cond (contains_key (table_of before) row.0.0) None (Some (insert (table_of before) row.0.0 row.0.1, row.1))) x e in
+    added before ts x a.0 (named_row_takes ts a.0 a.1) a.2
   where
-    added : (before : List (Row × ℤ)) (ts : List Token) (x : Table × List Token) (row : (Row × ℤ) × List Token) → RowTaken ts row
+    added : (before : List (Row × ℤ)) (ts : List Token) (x : Table × List Token) (row : (Row × ℤ) × List Token) → NamedRowTaken ts row
         → cond (contains_key (table_of before) row.0.0) None (Some (insert (table_of before) row.0.0 row.0.1, row.1)) ≡ Some x → RowAdded before ts x
     added before ts x row taken e =
         let o = otherwise_some (contains_key (table_of before) row.0.0) (insert (table_of before) row.0.0 row.0.1, row.1) x e in

@@ -5,22 +5,23 @@ use Rattle.std.proofs.lemmas.Bool.{eqb-true, le-leb, leb-true, and_parts}
 use Rattle.std.proofs.lemmas.List.{nil_from_length}
 use Rattle.std.proofs.lemmas.Option.{cond_some}
 use Rattle.lab_table.specs.declared.statement.Statement.{Statement}
-use Rattle.lab_table.specs.declared.statement.Statement.TheVariants as statement
+use Rattle.lab_table.specs.declared.statement.StatementKind.TheVariants as kind
 use Rattle.lab_table.specs.declared.statement.Expr.{Expr}
 use Rattle.lab_table.specs.declared.statement.Expr.TheVariants as expr
 use Rattle.lab_script.specs.declared.token.Word.TheVariants as word
 use Rattle.lab_script.specs.declared.token.Token.{Token}
 use Rattle.lab_script.specs.declared.token.Token.TheVariants as token
-use Rattle.lab_script.specs.Grammar.{IsNumber, IsExpr, IsStatement, IsEnd}
+use Rattle.lab_script.specs.Grammar.{over, IsNumber, IsExpr, IsStatement, IsEnd}
 use Rattle.lab_script.specs.Grammar as grammar
 use Rattle.lab_script.specs.Printed.{printed_statement}
-use Rattle.lab_script.specs.Reading.{is_token, after, after_all}
+use Rattle.lab_script.specs.Reading.{is_token, after, after_all, name_at}
 use Rattle.lab_script.specs.ReadingRows.{row_at}
 use Rattle.lab_script.specs.ReadingPredicates.{where_at}
 use Rattle.lab_script.specs.ReadingStatements.{expr_at, select_at, update_at, insert_at, delete_at, statement_at, ended_at, whole_statement_at}
 use Rattle.lab_script.specs.Grammar.{IsWholeStatement}
 use Rattle.lab_script.proofs.TokenNumbers.{same_token, after_is, bind_some, some_is, when_takes, some}
 use Rattle.lab_script.proofs.ReadNumbers.{Taken, number_again, number_then, under}
+use Rattle.lab_script.proofs.ReadNames.{name_takes}
 use Rattle.lab_script.proofs.ReadRows.{row_again, row_takes}
 use Rattle.lab_script.proofs.ReadPredicates.{IsUnjoined, where_again, where_takes}
 
@@ -66,58 +67,72 @@ expr_takes ts x e = when_takes (token.Word word.Value) ts _ _ x e
 
 -- a statement of the grammar is read
 pub statement_again : {ts : List Token} {s : Statement} → IsStatement ts s → (rest : List Token) → IsUnjoined rest → statement_at (ts ++ rest) ≡ Some (s, rest)
-unfolding statement_at select_at update_at insert_at delete_at
-statement_again (grammar.select h) rest none = rw (where_again h rest none) refl
-statement_again (grammar.update {es} {ts} g h) rest none = rw (append_assoc es ts rest, expr_again g (ts ++ rest), where_again h rest none) refl
-statement_again (grammar.insert h) rest none = rw (row_again h rest) refl
-statement_again (grammar.delete h) rest none = rw (where_again h rest none) refl
+unfolding statement_at select_at update_at insert_at delete_at name_at
+statement_again (grammar.select table h) rest none = rw (where_again h rest none) refl
+statement_again (grammar.update {es} {ts} table g h) rest none = rw (append_assoc es ts rest, expr_again g (ts ++ rest), where_again h rest none) refl
+statement_again (grammar.insert table h) rest none = rw (row_again h rest) refl
+statement_again (grammar.delete table h) rest none = rw (where_again h rest none) refl
 
 select_takes : (ts : List Token) (x : Statement × List Token) → select_at ts ≡ Some x → Taken IsStatement (token.Word word.Select ∷ ts) x
 unfolding select_at
 select_takes ts x e =
-    let front = token.Star ∷ token.Word word.From ∷ token.Word word.Test ∷ [] in
+    let front = token.Star ∷ token.Word word.From ∷ [] in
     let a = bind_some (after_all front ts) _ x e in
-    let w = bind_some (where_at a.0) _ x a.2 in
-    let p = where_takes a.0 w.0 w.1 in
-    subst (Taken IsStatement (token.Word word.Select ∷ ts)) (some_is (statement.Select w.0.0, w.0.1) x w.2)
-    (token.Word word.Select ∷ token.Star ∷ token.Word word.From ∷ token.Word word.Test ∷ p.0, under _ _ _ (after_all_is front ts a.0 a.1 ∙ ap (λ (r : List Token). front ++ r) p.1), grammar.select p.2)
+    let n = bind_some (name_at a.0) _ x a.2 in
+    let w = bind_some (where_at n.0.1) _ x n.2 in
+    let p = where_takes n.0.1 w.0 w.1 in
+    let behind : a.0 ≡ token.Word (word.Name n.0.0) ∷ (p.0 ++ w.0.1) = name_takes a.0 n.0 n.1 ∙ under _ _ _ p.1 in
+    subst (Taken IsStatement (token.Word word.Select ∷ ts)) (some_is (over n.0.0 (kind.Select w.0.0), w.0.1) x w.2) (
+      token.Word word.Select ∷ token.Star ∷ token.Word word.From ∷ token.Word (word.Name n.0.0) ∷ p.0,
+      under _ _ _ (after_all_is front ts a.0 a.1 ∙ ap (λ (r : List Token). front ++ r) behind),
+      grammar.select n.0.0 p.2,
+    )
 
 update_takes : (ts : List Token) (x : Statement × List Token) → update_at ts ≡ Some x → Taken IsStatement (token.Word word.Update ∷ ts) x
 unfolding update_at
 update_takes ts x e =
-    let front = token.Word word.Test ∷ token.Word word.Set ∷ token.Word word.Value ∷ token.Equal ∷ [] in
-    let a = bind_some (after_all front ts) _ x e in
+    let front = token.Word word.Set ∷ token.Word word.Value ∷ token.Equal ∷ [] in
+    let n = bind_some (name_at ts) _ x e in
+    let a = bind_some (after_all front n.0.1) _ x n.2 in
     let g = bind_some (expr_at a.0) _ x a.2 in
     let w = bind_some (where_at g.0.1) _ x g.2 in
     let h = expr_takes a.0 g.0 g.1 in
     let p = where_takes g.0.1 w.0 w.1 in
     let behind : a.0 ≡ (h.0 ++ p.0) ++ w.0.1 = h.1 ∙ ap (λ (r : List Token). h.0 ++ r) p.1 ∙ sym (append_assoc h.0 p.0 w.0.1) in
-    subst (Taken IsStatement (token.Word word.Update ∷ ts)) (some_is (statement.Update g.0.0 w.0.0, w.0.1) x w.2) (
-      token.Word word.Update ∷ token.Word word.Test ∷ token.Word word.Set ∷ token.Word word.Value ∷ token.Equal ∷ h.0 ++ p.0,
+    subst (Taken IsStatement (token.Word word.Update ∷ ts)) (some_is (over n.0.0 (kind.Update g.0.0 w.0.0), w.0.1) x w.2) (
+      token.Word word.Update ∷ token.Word (word.Name n.0.0) ∷ token.Word word.Set ∷ token.Word word.Value ∷ token.Equal ∷ h.0 ++ p.0,
       under _ _ _
-          (after_all_is front ts a.0 a.1 ∙ ap (λ (r : List Token). front ++ r) behind),
-      grammar.update h.2 p.2,
+          (name_takes ts n.0 n.1 ∙ under _ _ _ (after_all_is front n.0.1 a.0 a.1 ∙ ap (λ (r : List Token). front ++ r) behind)),
+      grammar.update n.0.0 h.2 p.2,
     )
 
 insert_takes : (ts : List Token) (x : Statement × List Token) → insert_at ts ≡ Some x → Taken IsStatement (token.Word word.Insert ∷ ts) x
 unfolding insert_at
 insert_takes ts x e =
-    let front = token.Word word.Into ∷ token.Word word.Test ∷ token.Open ∷ token.Word word.Id ∷ token.Comma ∷ token.Word word.Value ∷ token.Close ∷ token.Word word.Values ∷ [] in
-    let a = bind_some (after_all front ts) _ x e in
+    let front = token.Open ∷ token.Word word.Id ∷ token.Comma ∷ token.Word word.Value ∷ token.Close ∷ token.Word word.Values ∷ [] in
+    let i = bind_some (after (token.Word word.Into) ts) _ x e in
+    let n = bind_some (name_at i.0) _ x i.2 in
+    let a = bind_some (after_all front n.0.1) _ x n.2 in
     let r = bind_some (row_at a.0) _ x a.2 in
     let p = row_takes a.0 r.0 r.1 in
-    subst (Taken IsStatement (token.Word word.Insert ∷ ts)) (some_is (statement.Insert r.0.0.0 r.0.0.1, r.0.1) x r.2)
-    (token.Word word.Insert ∷ front ++ p.0, under _ _ _ (after_all_is front ts a.0 a.1 ∙ ap (λ (r : List Token). front ++ r) p.1), grammar.insert p.2)
+    let behind : i.0 ≡ token.Word (word.Name n.0.0) ∷ (front ++ (p.0 ++ r.0.1)) =
+    name_takes i.0 n.0 n.1 ∙ under _ _ _ (after_all_is front n.0.1 a.0 a.1 ∙ ap (λ (u : List Token). front ++ u) p.1) in
+    subst (Taken IsStatement (token.Word word.Insert ∷ ts)) (some_is (over n.0.0 (kind.Insert r.0.0.0 r.0.0.1), r.0.1) x r.2) (
+      token.Word word.Insert ∷ token.Word word.Into ∷ token.Word (word.Name n.0.0) ∷ front ++ p.0,
+      under _ _ _ (after_is (token.Word word.Into) ts i.0 i.1 ∙ under _ _ _ behind),
+      grammar.insert n.0.0 p.2,
+    )
 
 delete_takes : (ts : List Token) (x : Statement × List Token) → delete_at ts ≡ Some x → Taken IsStatement (token.Word word.Delete ∷ ts) x
 unfolding delete_at
 delete_takes ts x e =
-    let front = token.Word word.From ∷ token.Word word.Test ∷ [] in
-    let a = bind_some (after_all front ts) _ x e in
-    let w = bind_some (where_at a.0) _ x a.2 in
-    let p = where_takes a.0 w.0 w.1 in
-    subst (Taken IsStatement (token.Word word.Delete ∷ ts)) (some_is (statement.Delete w.0.0, w.0.1) x w.2)
-    (token.Word word.Delete ∷ front ++ p.0, under _ _ _ (after_all_is front ts a.0 a.1 ∙ ap (λ (r : List Token). front ++ r) p.1), grammar.delete p.2)
+    let a = bind_some (after (token.Word word.From) ts) _ x e in
+    let n = bind_some (name_at a.0) _ x a.2 in
+    let w = bind_some (where_at n.0.1) _ x n.2 in
+    let p = where_takes n.0.1 w.0 w.1 in
+    let behind : a.0 ≡ token.Word (word.Name n.0.0) ∷ (p.0 ++ w.0.1) = name_takes a.0 n.0 n.1 ∙ under _ _ _ p.1 in
+    subst (Taken IsStatement (token.Word word.Delete ∷ ts)) (some_is (over n.0.0 (kind.Delete w.0.0), w.0.1) x w.2)
+    (token.Word word.Delete ∷ token.Word word.From ∷ token.Word (word.Name n.0.0) ∷ p.0, under _ _ _ (after_is (token.Word word.From) ts a.0 a.1 ∙ under _ _ _ behind), grammar.delete n.0.0 p.2)
 
 -- what is read as a statement is one of the grammar
 pub statement_takes : (ts : List Token) (x : Statement × List Token) → statement_at ts ≡ Some x → Taken IsStatement ts x

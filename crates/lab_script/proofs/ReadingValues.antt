@@ -5,16 +5,19 @@ use Rattle.lab_table.specs.Predicate.{Predicate}
 use Rattle.lab_table.specs.Predicate as predicate
 use Rattle.lab_table.specs.declared.predicate.Col.{Col}
 use Rattle.lab_table.specs.declared.predicate.Cmp.{Cmp}
+use Rattle.lab_script.specs.declared.token.Word.{Word}
 use Rattle.lab_script.specs.declared.token.Word.TheVariants as word
 use Rattle.lab_script.specs.declared.token.Token.{Token}
 use Rattle.lab_script.specs.declared.token.Token.TheVariants as token
 use Rattle.lab_script.specs.declared.refusal.GrammarFault.TheVariants.{NumberOutOfRange}
 use Rattle.lab_script.specs.Limits.{max_depth}
 use Rattle.lab_script.specs.Reading as reading
-use Rattle.lab_script.specs.Reading.{after, digits_of, digits_at, magnitude_at, number_at, more_of}
-use Rattle.lab_script.specs.ReadingRows.{id_at, row_at}
+use Rattle.lab_script.specs.Reading.{after, digits_of, digits_at, magnitude_at, name_at, number_at, more_of}
+use Rattle.lab_script.specs.ReadingRows.{id_at, named_row_at, row_at, row_table_at}
+use Rattle.lab_script.specs.ReadingRows as rows
 use Rattle.lab_script.specs.ReadingPredicates.{col_at, cmp_of, cmp_at, modulus_at, one_more, numbers_at, number_list_at, compare_at, remainder_at, one_of_at, atom_at, joined_of, term_at, conj_at, pred_at, where_at}
-use Rattle.lab_script.specs.Stopping.{Reading, digits_in, digits_read, magnitude_read, number_read, more_read, id_read, row_read, col_read, cmp_in, cmp_read, modulus_read, numbers_read, number_list_read, compare_read, remainder_read, one_of_read, atom_read, joined_read, term_read, conj_read, pred_read, where_read}
+use Rattle.lab_script.specs.Stopping as stopping
+use Rattle.lab_script.specs.Stopping.{Reading, digits_in, digits_read, magnitude_read, number_read, more_read, id_read, name_read, named_row_read, row_read, row_table_read, col_read, cmp_in, cmp_read, modulus_read, numbers_read, number_list_read, compare_read, remainder_read, one_of_read, atom_read, joined_read, term_read, conj_read, pred_read, where_read}
 use Rattle.lab_script.proofs.SameReadings.{value, bind_same, when_same, elim_same, cond_same, token_same, stops_same}
 
 -- numbers
@@ -76,6 +79,34 @@ row_same ts =
     bind_same _ _ _ _ (token_same token.Comma id.1) (λ b.
     bind_same _ _ _ _ (number_same b) (λ v.
     bind_same _ _ _ _ (token_same token.Close v.1) (λ c. refl)))))
+
+-- names
+
+word_same : (w : Word) (ts : List Token) → reading.name_in w ts ≡ value (stopping.name_in w ts)
+word_same (word.Name n) ts = refl
+word_same w ts = refl
+
+name_of_same : (t : Token) (ts : List Token) → reading.name_of t ts ≡ value (stopping.name_of t ts)
+name_of_same (token.Word w) ts = word_same w ts
+name_of_same t ts = refl
+
+pub name_same : (ts : List Token) → name_at ts ≡ value (name_read ts)
+unfolding name_at name_read
+name_same [] = refl
+name_same (t ∷ ts) = name_of_same t ts
+
+table_of_same : (t : Token) (ts : List Token) → rows.table_of t ts ≡ value (stopping.table_of t ts)
+table_of_same (token.Word w) ts = word_same w ts
+table_of_same t ts = refl
+
+row_table_same : (ts : List Token) → row_table_at ts ≡ value (row_table_read ts)
+unfolding row_table_at row_table_read
+row_table_same [] = refl
+row_table_same (t ∷ ts) = table_of_same t ts
+
+pub named_row_same : (ts : List Token) → named_row_at ts ≡ value (named_row_read ts)
+unfolding named_row_at named_row_read
+named_row_same ts = bind_same _ _ _ _ (row_table_same ts) (λ table. bind_same _ _ _ _ (row_same table.1) (λ r. refl))
 
 -- parts of an atom
 

@@ -39,18 +39,18 @@ passed_no_commands line {cs} passed commands = absurd (not_empty (subst (λ (ts 
 -- a line that spells something may have its number
 pub fit_of : {number : ℕ} {line : List ℕ} {before after : Option Script} → LineSpells number line before after → IsFit number line
 fit_of (script.passed s fit is) = fit
-fit_of (script.setup fit is) = fit
-fit_of (script.commands s fit is session room) = fit
+fit_of (script.setup fit is small) = fit
+fit_of (script.commands s fit is session room small) = fit
 
 -- a line makes one thing at most of what stands before it
 pub line_once : {number : ℕ} {line : List ℕ} {before a b : Option Script} → LineSpells number line before a → LineSpells number line before b → a ≡ b
 line_once {line = line} (script.passed s fit is) (script.passed r fits also) = refl
-line_once {line = line} (script.passed s fit is) (script.setup fits spelled) = passed_no_setup line is (setup_begins spelled)
-line_once {line = line} (script.passed s fit is) (script.commands r fits spelled session room) = passed_no_commands line is spelled
-line_once {line = line} (script.setup fit spelled) (script.passed r fits also) = passed_no_setup line also (setup_begins spelled)
-line_once {line = line} (script.setup fit spelled) (script.setup fits also) = ap (λ t. Some (record { setup = t; lines = [] })) (setup_once spelled also)
-line_once {line = line} (script.commands s fit spelled session room) (script.passed r fits also) = passed_no_commands line also spelled
-line_once {number} {line} (script.commands {cs = cs} {session = one} s fit spelled session room) (script.commands {cs = ds} {session = other} r fits also named few) =
+line_once {line = line} (script.passed s fit is) (script.setup fits spelled small) = passed_no_setup line is (setup_begins spelled)
+line_once {line = line} (script.passed s fit is) (script.commands r fits spelled session room small) = passed_no_commands line is spelled
+line_once {line = line} (script.setup fit spelled small) (script.passed r fits also) = passed_no_setup line also (setup_begins spelled)
+line_once {line = line} (script.setup fit spelled small) (script.setup fits also tiny) = ap (λ t. Some (record { setup = t; lines = [] })) (setup_once spelled also)
+line_once {line = line} (script.commands s fit spelled session room small) (script.passed r fits also) = passed_no_commands line also spelled
+line_once {number} {line} (script.commands {cs = cs} {session = one} s fit spelled session room small) (script.commands {cs = ds} {session = other} r fits also named few tiny) =
     ap (λ c. Some (extended s one number c)) (commands_once spelled also)
     ∙ ap (λ n. Some (extended s n number ds)) (some_is one other (sym session ∙ named))
 
@@ -89,8 +89,8 @@ IsFew script = IfSome script (λ s. length s.lines ≤ 1999)
 -- a line keeps a script within its number of commands
 pub line_few : {number : ℕ} {line : List ℕ} {before after : Option Script} → LineSpells number line before after → IsFew before → IsFew after
 line_few (script.passed s fit is) few = few
-line_few (script.setup fit spelled) few = omega arith
-line_few {number} (script.commands {cs = cs} {session = one} s fit spelled session room) few =
+line_few (script.setup fit spelled small) few = omega arith
+line_few {number} (script.commands {cs = cs} {session = one} s fit spelled session room small) few =
     let more : List Line = map (λ c. record { session = one; command = c; text_line = number }) cs in
     let len : length more ≡ length cs = length-map cs _ in
     omega (arith, length-append s.lines more)

@@ -7,12 +7,12 @@ use Rattle.lab_table.specs.Row.{Row, row_cmp}
 use Rattle.lab_table.specs.Table.{Table}
 use Rattle.lab_script.specs.declared.token.Token.{Token}
 use Rattle.lab_script.specs.declared.token.Token.TheVariants as token
-use Rattle.lab_script.specs.Grammar.{IsId, IsRow, IsRows, IsRowList, IsEnd, IsSetup, AllDistinct}
+use Rattle.lab_script.specs.Grammar.{IsId, IsRow, IsNamedRow, IsRows, IsRowList, IsEnd, IsSetup, AllDistinct}
 use Rattle.lab_script.specs.Grammar as grammar
 use Rattle.lab_script.specs.Printed.{printed_setup}
 use Rattle.lab_script.specs.Reading.{after, is_end}
 use Rattle.lab_script.specs.ReadingSetup.{row_onto, rows_onto, rows_at, no_rows_at, table_at, setup_at}
-use Rattle.lab_script.proofs.ReadRows.{parts_of, row_again}
+use Rattle.lab_script.proofs.ReadRows.{parts_of, named_row_again}
 use Rattle.lab_script.proofs.SetupLoop.{behind_row}
 use Rattle.lab_script.proofs.DistinctRows.{not_before, is_absent, pushed_table, table_of}
 use Rattle.lab_script.proofs.AtomParts.{no_close}
@@ -20,37 +20,42 @@ use Rattle.lab_script.proofs.AtomParts.{no_close}
 -- what is in the grammar is read
 
 -- a row of the grammar is added to those before it, whatever follows it
-row_onto_again : {ts : List Token} {id : Row} {value : ℤ} → IsRow ts id value → (before : List (Row × ℤ)) → find row_cmp id before ≡ None → (rest : List Token)
+row_onto_again : {ts : List Token} {id : Row} {value : ℤ} → IsNamedRow ts id value → (before : List (Row × ℤ)) → find row_cmp id before ≡ None → (rest : List Token)
     → row_onto (table_of before) (ts ++ rest) ≡ Some (table_of (before ++ (id, value) ∷ []), rest)
 unfolding row_onto
 row_onto_again {ts} {id} {value} h before none rest =
-    rw (row_onto, row_again h rest, is_absent before id none) (ap (λ (t : Table). Some (t, rest)) (sym (pushed_table before (id, value) none)))
+    rw (row_onto, named_row_again h rest, is_absent before id none) (ap (λ (t : Table). Some (t, rest)) (sym (pushed_table before (id, value) none)))
 
 -- rows of the grammar are added to those before them, where no row comes twice
 rows_again : {ts : List Token} {rows : List (Row × ℤ)} → IsRows ts rows → (before : List (Row × ℤ)) → AllDistinct (before ++ rows) → (end : List Token) → after token.Comma end ≡ None
     → (k : ℕ) → length (ts ++ end) < k → rows_onto k (table_of before) (ts ++ end) ≡ Some (table_of (before ++ rows), end)
 unfolding rows_onto
 rows_again h before all end none zero lt = absurd (omega (arith, lt))
-rows_again (grammar.last {ts} {id} {value} h) before all end none (suc k) lt =
-    rw (rows_onto, row_onto_again h before (not_before before [] (id, value) all) end) (ap (behind_row k (table_of (before ++ (id, value) ∷ [])) end) none)
-rows_again (grammar.more {ts} {rest} {id} {value} {rows} h hs) before all end none (suc k) lt =
+rows_again (grammar.last {ts} {row} {value} h) before all end none (suc k) lt =
+    rw (rows_onto, row_onto_again h before (not_before before [] (row, value) all) end) (ap (behind_row k (table_of (before ++ (row, value) ∷ [])) end) none)
+rows_again (grammar.more {ts} {rest} {row} {value} {rows} h hs) before all end none (suc k) lt =
     let text : ts ++ token.Comma ∷ rest ++ end ≡ ts ++ (token.Comma ∷ (rest ++ end)) = append_assoc ts (token.Comma ∷ rest) end in
-    let listed : before ++ (id, value) ∷ rows ≡ before ++ (id, value) ∷ [] ++ rows = sym (append_assoc before ((id, value) ∷ []) rows) in
+    let listed : before ++ (row, value) ∷ rows ≡ before ++ (row, value) ∷ [] ++ rows = sym (append_assoc before ((row, value) ∷ []) rows) in
     let long : length (ts ++ token.Comma ∷ rest ++ end) ≡ length ts + suc (length (rest ++ end)) = ap length text ∙ length-append ts (token.Comma ∷ (rest ++ end)) in
-    let next = rows_again hs (before ++ (id, value) ∷ []) (subst AllDistinct listed all) end none k (omega (arith, lt, long)) in
-    rw (text, rows_onto, row_onto_again h before (not_before before rows (id, value) all) (token.Comma ∷ (rest ++ end))) (next ∙ ap (λ (l : List (Row × ℤ)). Some (table_of l, end)) (sym listed))
+    let next = rows_again hs (before ++ (row, value) ∷ []) (subst AllDistinct listed all) end none k (omega (arith, lt, long)) in
+    rw (text, rows_onto, row_onto_again h before (not_before before rows (row, value) all) (token.Comma ∷ (rest ++ end))) (next ∙ ap (λ (l : List (Row × ℤ)). Some (table_of l, end)) (sym listed))
 
-id_no_close : {ts : List Token} {id : Row} → IsId ts id → (rest : List Token) → after token.Close (ts ++ rest) ≡ None
+id_no_close : {ts : List Token} {id : ℕ} → IsId ts id → (rest : List Token) → after token.Close (ts ++ rest) ≡ None
 id_no_close (grammar.named id number low high) rest = no_close number rest
 
 -- what begins with a row isn't the parentheses of no row
-row_shown : {ts : List Token} {id : Row} {value : ℤ} → IsRow ts id value → (rest : List Token) → no_rows_at (ts ++ rest) ≡ None
+row_shown : {ts : List Token} {id : ℕ} {value : ℤ} → IsRow ts id value → (rest : List Token) → no_rows_at (ts ++ rest) ≡ None
 unfolding no_rows_at
 row_shown (grammar.row {is} {vs} i v) rest = rw (parts_of is vs rest) (id_no_close i (token.Comma ∷ (vs ++ token.Close ∷ rest)))
 
+named_row_shown : {ts : List Token} {row : Row} {value : ℤ} → IsNamedRow ts row value → (rest : List Token) → no_rows_at (ts ++ rest) ≡ None
+unfolding no_rows_at
+named_row_shown (grammar.unnamed h) rest = row_shown h rest
+named_row_shown (grammar.named table h) rest = refl
+
 rows_shown : {ts : List Token} {rows : List (Row × ℤ)} → IsRows ts rows → (end : List Token) → no_rows_at (ts ++ end) ≡ None
-rows_shown (grammar.last h) end = row_shown h end
-rows_shown (grammar.more {ts} {rest} h hs) end = ap no_rows_at (append_assoc ts (token.Comma ∷ rest) end) ∙ row_shown h (token.Comma ∷ rest ++ end)
+rows_shown (grammar.last h) end = named_row_shown h end
+rows_shown (grammar.more {ts} {rest} h hs) end = ap no_rows_at (append_assoc ts (token.Comma ∷ rest) end) ∙ named_row_shown h (token.Comma ∷ rest ++ end)
 
 no_comma : (end : List Token) → IsEnd end → after token.Comma end ≡ None
 no_comma _ grammar.open_end = refl

@@ -1,5 +1,5 @@
 -- A script that a text spells prints.
-use Rattle.std.proofs.Common.{◌≡◌, ℕ, ◌+◌, List, [], ◌∷◌, ◌++◌, length, map, Option, Some, None, subst, sym, arith, length-append}
+use Rattle.std.proofs.Common.{◌≡◌, ℕ, ◌+◌, ◌≤◌, List, [], ◌∷◌, ◌++◌, length, map, Option, Some, None, subst, sym, arith, length-append}
 use Rattle.std.specs.Prelude.{IfSome}
 use Rattle.std.proofs.lemmas.List.{length-map}
 use Rattle.lab_table.specs.declared.statement.Command.{Command}
@@ -10,6 +10,7 @@ use Rattle.lab_script.specs.Script as script
 use Rattle.lab_script.specs.Script.{LineSpells, LinesSpell, Spells}
 use Rattle.lab_script.proofs.GrammarPrints.{EachPrints, commands_print}
 use Rattle.lab_script.proofs.ReadSetup.{setup_short}
+use Rattle.lab_script.proofs.FewTables.{tables_extended}
 
 -- lines print, and so do those of commands behind them
 all_print : (lines : List Line) (cs : List Command) (session number : ℕ) → AllPrint lines → EachPrints cs
@@ -21,11 +22,16 @@ all_print (line ∷ lines) cs session number all commands = (all.0, all_print li
 -- what a line makes of a script that prints prints
 line_prints : {number : ℕ} {line : List ℕ} {before after : Option Script} → LineSpells number line before after → IfSome before ScriptPrints → IfSome after ScriptPrints
 line_prints (script.passed s fit is) prints = prints
-line_prints (script.setup fit spelled) prints = record { setup = setup_short spelled; few = omega arith; lines = tt }
-line_prints {number} (script.commands {cs = cs} {session = one} s fit spelled session room) prints =
+line_prints (script.setup fit spelled small) prints = record { setup = setup_short spelled; few = omega arith; lines = tt; tables = small }
+line_prints {number} (script.commands {cs = cs} {session = one} s fit spelled session room small) prints =
     let more : List Line = map (λ c. record { session = one; command = c; text_line = number }) cs in
     let len : length more ≡ length cs = length-map cs _ in
-    record { setup = prints.setup; few = omega (arith, length-append s.lines more); lines = all_print s.lines cs one number prints.lines (commands_print spelled) }
+    record {
+      setup = prints.setup;
+      few = omega (arith, length-append s.lines more);
+      lines = all_print s.lines cs one number prints.lines (commands_print spelled);
+      tables = subst (λ names. length names ≤ 4) (sym (tables_extended s one number cs)) small;
+    }
 
 -- lines keep a script printing
 lines_print : (number : ℕ) (before : Option Script) (ls : List (List ℕ)) (after : Option Script) → LinesSpell number before ls after → IfSome before ScriptPrints → IfSome after ScriptPrints

@@ -3,14 +3,15 @@ use Rattle.std.proofs.Common.{◌≡◌, ℕ, ℤ, ◌≢◌, List, ◌++◌, Op
 use Rattle.std.specs.Prelude.{option_map, codes}
 use Rattle.lab_table.specs.Row.{Row}
 use Rattle.lab_table.specs.Table.{Table}
-use Rattle.lab_table.specs.Statement.{Ran, run}
-use Rattle.lab_table.specs.Running.{Gives, IsFault}
+use Rattle.lab_table.specs.Statement.{Ran, kind_run, run}
+use Rattle.lab_table.specs.Running.{Gives, IsKindFault, IsFault}
 use Rattle.lab_table.specs.declared.statement.Statement.{Statement}
-use Rattle.lab_table.specs.declared.statement.Statement.TheVariants.{Select, Update, Insert, Delete}
+use Rattle.lab_table.specs.declared.statement.StatementKind.{StatementKind}
+use Rattle.lab_table.specs.declared.statement.StatementKind.TheVariants.{Select, Update, Insert, Delete}
 use Rattle.lab_table.specs.declared.table.TableFault.{TableFault}
 use Rattle.lab_table.specs.declared.table.TableFault.TheVariants.{NoMemory, DuplicateKey, OutOfRange}
-use Rattle.lab_script.specs.Printed.{printed_statement, printed_id, newline, rows_or}
-use Rattle.lab_script.specs.Transcript.{row_text, refusal_text, answer_text, statement_text, table_with}
+use Rattle.lab_script.specs.Printed.{printed_statement, printed_row_name, newline, rows_or}
+use Rattle.lab_script.specs.Transcript.{row_text, kind_refusal_text, refusal_text, answer_text, statement_text, table_with}
 use Rattle.lab_script.specs.TranscriptView.{fault_text}
 use Rattle.lab_table.proofs.Running.{fault_is_due}
 
@@ -25,16 +26,20 @@ gives_table new None rows h = absurd h
 gives_table new (Some ran) rows h = ap Some (sym h.1)
 
 -- a statement that a table refuses doesn't run, and the fault is why
+kind_refused : (table : List ℕ) (s : StatementKind) (t : Table) (fault : TableFault) → IsKindFault table s t fault → fault ≢ NoMemory
+    → (kind_run table s t ≡ None) × (fault_text fault ≡ kind_refusal_text table s t)
+kind_refused table s t NoMemory h n = absurd (n refl)
+kind_refused table (Insert id new) t (DuplicateKey row) h n = (fault_is_due table (Insert id new) t (DuplicateKey row) h, ap (λ x. codes "DuplicateKey " ++ printed_row_name x) h.0)
+kind_refused table (Select p) t (DuplicateKey row) h n = absurd h
+kind_refused table (Update e p) t (DuplicateKey row) h n = absurd h
+kind_refused table (Delete p) t (DuplicateKey row) h n = absurd h
+kind_refused table (Update e p) t (OutOfRange row) h n = (fault_is_due table (Update e p) t (OutOfRange row) h, ap (λ x. codes "OutOfRange " ++ row_text x) (sym h))
+kind_refused table (Select p) t (OutOfRange row) h n = absurd h
+kind_refused table (Insert id new) t (OutOfRange row) h n = absurd h
+kind_refused table (Delete p) t (OutOfRange row) h n = absurd h
+
 refused : (s : Statement) (t : Table) (fault : TableFault) → IsFault s t fault → fault ≢ NoMemory → (run s t ≡ None) × (fault_text fault ≡ refusal_text s t)
-refused s t NoMemory h n = absurd (n refl)
-refused (Insert row new) t (DuplicateKey id) h n = (fault_is_due (Insert row new) t (DuplicateKey id) h, ap (λ x. codes "DuplicateKey " ++ printed_id x) h.0)
-refused (Select p) t (DuplicateKey id) h n = absurd h
-refused (Update e p) t (DuplicateKey id) h n = absurd h
-refused (Delete p) t (DuplicateKey id) h n = absurd h
-refused (Update e p) t (OutOfRange id) h n = (fault_is_due (Update e p) t (OutOfRange id) h, ap (λ x. codes "OutOfRange " ++ row_text x) (sym h))
-refused (Select p) t (OutOfRange id) h n = absurd h
-refused (Insert row new) t (OutOfRange id) h n = absurd h
-refused (Delete p) t (OutOfRange id) h n = absurd h
+refused s t fault h n = kind_refused s.table s.kind t fault h n
 
 spread : (a p q r s : List ℕ) → (((a ++ p) ++ q) ++ r) ++ s ≡ a ++ (((p ++ q) ++ r) ++ s)
 spread a p q r s = simp append_assoc

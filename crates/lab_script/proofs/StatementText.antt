@@ -91,10 +91,12 @@ module _ (text : List ℕ) (ts : List Token) (are : AreStatementTokens text ts) 
   says_of : (f : GrammarFault) → OfLine ts f → IfTooLong (BeginsLongStatement ts) f → SaysOfStatement (kind_of f) text
   says_of grammar.UnknownStatement is long = (short, ascii)
   says_of grammar.BadPredicate is long = (short, ascii, where_of is)
+  says_of grammar.BadTableName is long = (short, ascii)
   says_of grammar.NumberOutOfRange is long = (short, ascii)
   says_of grammar.TooDeep is long = (short, ascii)
   says_of grammar.TooLong is long = inr (ascii, long_of long)
   says_of grammar.DuplicateSetupRow is long = is
+  says_of grammar.TooManyTables is long = is
 
   -- where reading these tokens stopped, the text spells nothing
   pub stop_fault : (s : Refusal) → ((t : Statement) → IsWholeStatement ts t → Fails s (Some t)) → IsOfLine ts s → IsLongSpelled ts s → IsStatementFault text (refusal_at s 1)

@@ -1,13 +1,15 @@
--- Tokens of one number are one.
+-- Tokens of one number, with the same digits and the same name, are one.
 use Rattle.std.proofs.Common.{◌≡◌, ℕ, Bool, true, false, cond, List, [], ◌∷◌, Option, Some, None, refl, sym, ap, ◌∙◌, inl, inr}
-use Rattle.std.specs.Prelude.{◌==◌, ◌≤◌, nat_le}
+use Rattle.std.specs.Prelude.{◌==◌, ◌&&◌, ◌≤◌, nat_le}
+use Rattle.std.specs.Cmp.Lexicographic.{bytes_decides}
+use Rattle.lab_table.specs.TableName.{table_name_eq}
 use Rattle.std.proofs.lemmas.Bool.{eqb-true, cases_Bool, le-leb, leb-true, false≢true, and_parts}
 use Rattle.std.proofs.Common.{zero, suc, arith}
 use Rattle.lab_script.specs.declared.token.Word.{Word}
 use Rattle.lab_script.specs.declared.token.Word.TheVariants as word
 use Rattle.lab_script.specs.declared.token.Token.{Token}
 use Rattle.lab_script.specs.declared.token.Token.TheVariants as token
-use Rattle.lab_script.specs.Reading.{word_number, token_number, token_digits, is_token, when, after, ◌>>=◌}
+use Rattle.lab_script.specs.Reading.{word_number, word_name, token_number, token_digits, token_name, is_token, when, after, ◌>>=◌}
 
 abbrev named : ℕ → Token
 named n =
@@ -19,7 +21,6 @@ named n =
     (cond (n == 8) (token.Word word.Level)
     (cond (n == 9) (token.Word word.Select)
     (cond (n == 10) (token.Word word.From)
-    (cond (n == 11) (token.Word word.Test)
     (cond (n == 12) (token.Word word.Where)
     (cond (n == 13) (token.Word word.Update)
     (cond (n == 14) (token.Word word.Value)
@@ -48,12 +49,12 @@ named n =
     (cond (n == 62) token.Plus
     (cond (n == 63) token.Minus
     (cond (n == 64) token.Unknown
-    (token.Unknown))))))))))))))))))))))))))))))))))))))))
+    (token.Unknown)))))))))))))))))))))))))))))))))))))))
 
-abbrev numbered : ℕ → ℕ → Token
-numbered n digits = cond (n == 99) (token.Digits digits) (named n)
+abbrev numbered : ℕ → ℕ → List ℕ → Token
+numbered n digits name = cond (n == 99) (token.Digits digits) (cond (n == 11) (token.Word (word.Name name)) (named n))
 
-again_word : (w : Word) → numbered (word_number w) 0 ≡ token.Word w
+again_word : (w : Word) → numbered (word_number w) 0 (word_name w) ≡ token.Word w
 again_word word.Setup = refl
 again_word word.Begin = refl
 again_word word.Commit = refl
@@ -65,7 +66,7 @@ again_word word.Isolation = refl
 again_word word.Level = refl
 again_word word.Select = refl
 again_word word.From = refl
-again_word word.Test = refl
+again_word (word.Name n) = refl
 again_word word.Where = refl
 again_word word.Update = refl
 again_word word.Value = refl
@@ -80,7 +81,7 @@ again_word word.Not = refl
 again_word word.In = refl
 again_word word.Other = refl
 
-again : (t : Token) → numbered (token_number t) (token_digits t) ≡ t
+again : (t : Token) → numbered (token_number t) (token_digits t) (token_name t) ≡ t
 again (token.Word w) = again_word w
 again (token.Digits n) = refl
 again token.Open = refl
@@ -101,9 +102,11 @@ again token.Unknown = refl
 
 pub same_token : (t u : Token) → is_token t u ≡ true → t ≡ u
 same_token t u e =
-    let both = and_parts (token_number t == token_number u) (token_digits t == token_digits u) e in
-    sym (again t) ∙ ap (λ (n : ℕ). numbered n (token_digits t)) (eqb-true (token_number t) (token_number u) both.0)
-    ∙ ap (numbered (token_number u)) (eqb-true (token_digits t) (token_digits u) both.1) ∙ again u
+    let three = and_parts (token_number t == token_number u && token_digits t == token_digits u) (table_name_eq (token_name t) (token_name u)) e in
+    let both = and_parts (token_number t == token_number u) (token_digits t == token_digits u) three.0 in
+    sym (again t) ∙ ap (λ (n : ℕ). numbered n (token_digits t) (token_name t)) (eqb-true (token_number t) (token_number u) both.0)
+    ∙ ap (λ (n : ℕ). numbered (token_number u) n (token_name t)) (eqb-true (token_digits t) (token_digits u) both.1)
+    ∙ ap (numbered (token_number u) (token_digits u)) ((bytes_decides (token_name t) (token_name u)).0 three.1) ∙ again u
 
 -- Some as a function
 abbrev pub some : {A : Type 0} → A → Option A

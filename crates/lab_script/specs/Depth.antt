@@ -3,7 +3,8 @@ use Rattle.std.specs.Prelude.{ℕ, suc, max, Bool, true, false, ◌||◌, Option
 use Rattle.lab_table.specs.Predicate.{Predicate}
 use Rattle.lab_table.specs.Predicate as predicate
 use Rattle.lab_table.specs.declared.statement.Statement.{Statement}
-use Rattle.lab_table.specs.declared.statement.Statement.TheVariants as statement
+use Rattle.lab_table.specs.declared.statement.StatementKind.{StatementKind}
+use Rattle.lab_table.specs.declared.statement.StatementKind.TheVariants as kind
 use Rattle.lab_script.specs.Printed.{is_and, is_or}
 
 -- one more where parentheses stand round it
@@ -25,9 +26,13 @@ abbrev pub where_depth : Option Predicate → ℕ
 where_depth None = 0
 where_depth (Some p) = depth_of p
 
+-- the depth of the printed form of a statement of this kind
+abbrev pub kind_depth : StatementKind → ℕ
+kind_depth (kind.Select p) = where_depth p
+kind_depth (kind.Update e p) = where_depth p
+kind_depth (kind.Insert id value) = 0
+kind_depth (kind.Delete p) = where_depth p
+
 -- the depth of a statement's printed form
 abbrev pub statement_depth : Statement → ℕ
-statement_depth (statement.Select p) = where_depth p
-statement_depth (statement.Update e p) = where_depth p
-statement_depth (statement.Insert id value) = 0
-statement_depth (statement.Delete p) = where_depth p
+statement_depth s = kind_depth s.kind

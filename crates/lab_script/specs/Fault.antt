@@ -22,6 +22,7 @@ use Rattle.lab_script.specs.Token.{tokens}
 use Rattle.lab_script.specs.Grammar.{IsCommands, IsSetup}
 use Rattle.lab_script.specs.Script.{code_of, remark_of, session_of, is_code_byte, is_ascii_code, is_passed, IsFit, BeginsSetup, HasWhere, BeginsLongSetup, BeginsLongStatement, SpellsStatement, LineSpells, LinesSpell}
 use Rattle.lab_script.specs.Printed.{newline}
+use Rattle.lab_script.specs.Tables.{max_tables, with_commands, setup_tables, script_tables}
 use Rattle.lab_script.specs.Limits.{max_lines, max_line_bytes, max_commands}
 
 -- a line that is longer than a line may be, or comes after the last that a text may have
@@ -37,10 +38,17 @@ abbrev pub SpellsNothing : List Token → Option Script → Type 0
 SpellsNothing ts None = BeginsSetup ts × ((table : Table) → IsSetup ts table → ⊥)
 SpellsNothing ts (Some script) = (BeginsSetup ts → ⊥) × ((cs : List Command) → IsCommands ts cs → length script.lines + length cs ≤ max_commands → ⊥)
 
--- tokens that spell commands for which there is room, and a remark that names no session
+-- tokens that spell nothing that names few tables, with those of the lines before
+abbrev pub SpellsNoFew : List Token → Option Script → Type 0
+SpellsNoFew ts None = BeginsSetup ts × ((table : Table) → IsSetup ts table → length (setup_tables table) ≤ max_tables → ⊥)
+SpellsNoFew ts (Some script) =
+    (BeginsSetup ts → ⊥) × ((cs : List Command) → IsCommands ts cs → length script.lines + length cs ≤ max_commands → length (with_commands (script_tables script) cs) ≤ max_tables → ⊥)
+
+-- tokens that spell commands for which there is room and which name few tables, and a remark that names no session
 abbrev pub LacksSession : List Token → List ℕ → Option Script → Type 0
 LacksSession ts remark None = ⊥
-LacksSession ts remark (Some script) = ((cs : List Command) × IsCommands ts cs × (length script.lines + length cs ≤ max_commands)) × (session_of remark ≡ None)
+LacksSession ts remark (Some script) =
+    ((cs : List Command) × IsCommands ts cs × (length script.lines + length cs ≤ max_commands) × (length (with_commands (script_tables script) cs) ≤ max_tables)) × (session_of remark ≡ None)
 
 -- what this kind of fault says of the tokens and the remark of a line that is kept, and of what the lines before it spell
 abbrev pub SaysOfTokens : ScriptFaultKind → List Token → List ℕ → Option Script → Type 0
@@ -50,16 +58,18 @@ SaysOfTokens kinds.SetupRepeated ts remark before = (is_some before ≡ true) ×
 SaysOfTokens kinds.NoSession ts remark before = LacksSession ts remark before
 SaysOfTokens kinds.UnknownStatement ts remark before = SpellsNothing ts before
 SaysOfTokens kinds.BadPredicate ts remark before = SpellsNothing ts before × (is_some before ≡ true) × HasWhere ts
+SaysOfTokens kinds.BadTableName ts remark before = SpellsNothing ts before
 SaysOfTokens kinds.NumberOutOfRange ts remark before = SpellsNothing ts before
 SaysOfTokens kinds.TooDeep ts remark before = SpellsNothing ts before × (is_some before ≡ true)
 SaysOfTokens kinds.TooLong ts remark None = SpellsNothing ts None × BeginsLongSetup ts
 SaysOfTokens kinds.TooLong ts remark (Some script) = SpellsNothing ts (Some script)
 SaysOfTokens kinds.DuplicateSetupRow ts remark before = SpellsNothing ts before × (before ≡ None)
+SaysOfTokens kinds.TooManyTables ts remark before = SpellsNoFew ts before
 
 -- the first fault from the left of tokens, as they are held, behind what the lines before spell: of a setup where that is still to come, else of commands for which there is room
 abbrev pub first_fault : List Token → Option Script → Option GrammarFault
 first_fault ts None = setup_fault ts
-first_fault ts (Some script) = commands_fault (max_commands - length script.lines) ts
+first_fault ts (Some script) = commands_fault (script_tables script) (max_commands - length script.lines) ts
 
 -- of the faults from the left this kind comes first; no session is told only where there is none
 abbrev pub ComesFirst : ScriptFaultKind → List Token → Option Script → Type 0
@@ -69,10 +79,12 @@ ComesFirst kinds.SetupRepeated ts before = ⊤
 ComesFirst kinds.NoSession ts before = first_fault ts before ≡ None
 ComesFirst kinds.UnknownStatement ts before = first_fault ts before ≡ Some grammar.UnknownStatement
 ComesFirst kinds.BadPredicate ts before = first_fault ts before ≡ Some grammar.BadPredicate
+ComesFirst kinds.BadTableName ts before = first_fault ts before ≡ Some grammar.BadTableName
 ComesFirst kinds.NumberOutOfRange ts before = first_fault ts before ≡ Some grammar.NumberOutOfRange
 ComesFirst kinds.TooDeep ts before = first_fault ts before ≡ Some grammar.TooDeep
 ComesFirst kinds.TooLong ts before = first_fault ts before ≡ Some grammar.TooLong
 ComesFirst kinds.DuplicateSetupRow ts before = first_fault ts before ≡ Some grammar.DuplicateSetupRow
+ComesFirst kinds.TooManyTables ts before = first_fault ts before ≡ Some grammar.TooManyTables
 
 -- What is wrong with a line with this number, behind what the lines before it spell: it is over a limit;
 -- or it isn't, and its code has another byte; or it is looked at by its tokens.
@@ -123,9 +135,11 @@ SaysOfStatement kinds.SetupRepeated text = ⊥
 SaysOfStatement kinds.NoSession text = ⊥
 SaysOfStatement kinds.UnknownStatement text = (length text ≤ max_line_bytes) × (list_all is_code_byte text ≡ true)
 SaysOfStatement kinds.BadPredicate text = (length text ≤ max_line_bytes) × (list_all is_code_byte text ≡ true) × HasWhere (tokens (code_of text))
+SaysOfStatement kinds.BadTableName text = (length text ≤ max_line_bytes) × (list_all is_code_byte text ≡ true)
 SaysOfStatement kinds.NumberOutOfRange text = (length text ≤ max_line_bytes) × (list_all is_code_byte text ≡ true)
 SaysOfStatement kinds.TooDeep text = (length text ≤ max_line_bytes) × (list_all is_code_byte text ≡ true)
 SaysOfStatement kinds.DuplicateSetupRow text = ⊥
+SaysOfStatement kinds.TooManyTables text = ⊥
 
 -- the fault is true of the text of one statement
 abbrev pub IsStatementFault : List ℕ → ScriptFault → Type 0
@@ -136,10 +150,12 @@ IsStatementFault text (fault.At line kind) = (line ≡ 1) × ((s : Statement) �
 abbrev pub kind_of : GrammarFault → ScriptFaultKind
 kind_of grammar.UnknownStatement = kinds.UnknownStatement
 kind_of grammar.BadPredicate = kinds.BadPredicate
+kind_of grammar.BadTableName = kinds.BadTableName
 kind_of grammar.NumberOutOfRange = kinds.NumberOutOfRange
 kind_of grammar.TooDeep = kinds.TooDeep
 kind_of grammar.TooLong = kinds.TooLong
 kind_of grammar.DuplicateSetupRow = kinds.DuplicateSetupRow
+kind_of grammar.TooManyTables = kinds.TooManyTables
 
 -- the fault of a script whose line with this number stopped so
 abbrev pub refusal_at : Refusal → ℕ → ScriptFault
@@ -164,10 +180,12 @@ kind_name kinds.SetupRepeated = codes "SetupRepeated"
 kind_name kinds.NoSession = codes "NoSession"
 kind_name kinds.UnknownStatement = codes "UnknownStatement"
 kind_name kinds.BadPredicate = codes "BadPredicate"
+kind_name kinds.BadTableName = codes "BadTableName"
 kind_name kinds.NumberOutOfRange = codes "NumberOutOfRange"
 kind_name kinds.TooDeep = codes "TooDeep"
 kind_name kinds.TooLong = codes "TooLong"
 kind_name kinds.DuplicateSetupRow = codes "DuplicateSetupRow"
+kind_name kinds.TooManyTables = codes "TooManyTables"
 
 -- the line that tells a fault
 abbrev pub fault_text : ScriptFault → List ℕ

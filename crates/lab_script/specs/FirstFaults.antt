@@ -8,22 +8,25 @@ use Rattle.lab_table.specs.declared.statement.Command.TheVariants as command
 use Rattle.lab_table.specs.declared.statement.Expr.{Expr}
 use Rattle.lab_table.specs.declared.statement.Expr.TheVariants as expr
 use Rattle.lab_table.specs.declared.statement.Statement.{Statement}
-use Rattle.lab_table.specs.declared.statement.Statement.TheVariants as statement
+use Rattle.lab_table.specs.declared.statement.StatementKind.TheVariants as kind
 use Rattle.lab_script.specs.declared.token.Word.TheVariants as word
 use Rattle.lab_script.specs.declared.token.Token.{Token}
 use Rattle.lab_script.specs.declared.token.Token.TheVariants as token
 use Rattle.lab_script.specs.declared.refusal.GrammarFault.{GrammarFault}
 use Rattle.lab_script.specs.declared.refusal.GrammarFault.TheVariants as grammar
-use Rattle.lab_script.specs.declared.refusal.GrammarFault.TheVariants.{UnknownStatement, TooLong, DuplicateSetupRow}
+use Rattle.lab_script.specs.declared.refusal.GrammarFault.TheVariants.{UnknownStatement, TooLong, DuplicateSetupRow, TooManyTables}
 use Rattle.lab_script.specs.declared.refusal.Refusal.{Refusal}
 use Rattle.lab_script.specs.declared.refusal.Refusal.TheVariants as refusal
+use Rattle.lab_script.specs.Grammar.{over}
 use Rattle.lab_script.specs.Limits.{max_line_bytes, max_statement_bytes}
 use Rattle.lab_script.specs.Printed.{printed_setup, printed_statement}
 use Rattle.lab_script.specs.Reading.{is_token, after}
 use Rattle.lab_script.specs.ReadingCommands.{is_word, is_short}
 use Rattle.lab_script.specs.ReadingSetup.{no_rows_at}
-use Rattle.lab_script.specs.Stopping.{Reading, Reads, Stops, ◌>>=◌, if_found, token_read, tokens_read, number_read, row_read, where_read}
+use Rattle.lab_script.specs.Stopping.{Reading, Reads, Stops, ◌>>=◌, if_found, token_read, tokens_read, name_read, number_read, named_row_read, row_read, where_read}
 use Rattle.lab_script.specs.Stops.{in_predicate}
+use Rattle.lab_script.specs.Tables.{are_few, with_commands, setup_tables}
+use Rattle.lab_script.specs.PassedTables.{with_tokens, with_setup_tokens}
 
 -- the new value of an update
 unfoldable pub expr_read : List Token → Reading (Expr × List Token)
@@ -39,31 +42,36 @@ expr_read ts = if_found (after (token.Word word.Value) ts) (λ rest. if_found (a
 -- a select, from behind its first word on
 unfoldable pub select_read : List Token → Reading (Statement × List Token)
 select_read ts = do
-  rest ← tokens_read (token.Star ∷ token.Word word.From ∷ token.Word word.Test ∷ []) ts
-  p ← where_read rest
-  Reads (statement.Select p.0, p.1)
+  rest ← tokens_read (token.Star ∷ token.Word word.From ∷ []) ts
+  table ← name_read rest
+  p ← where_read table.1
+  Reads (over table.0 (kind.Select p.0), p.1)
 
 -- an update, from behind its first word on
 unfoldable pub update_read : List Token → Reading (Statement × List Token)
 update_read ts = do
-  rest ← tokens_read (token.Word word.Test ∷ token.Word word.Set ∷ token.Word word.Value ∷ token.Equal ∷ []) ts
+  table ← name_read ts
+  rest ← tokens_read (token.Word word.Set ∷ token.Word word.Value ∷ token.Equal ∷ []) table.1
   e ← expr_read rest
   p ← where_read e.1
-  Reads (statement.Update e.0 p.0, p.1)
+  Reads (over table.0 (kind.Update e.0 p.0), p.1)
 
 -- an insert, from behind its first word on
 unfoldable pub insert_read : List Token → Reading (Statement × List Token)
 insert_read ts = do
-  rest ← tokens_read (token.Word word.Into ∷ token.Word word.Test ∷ token.Open ∷ token.Word word.Id ∷ token.Comma ∷ token.Word word.Value ∷ token.Close ∷ token.Word word.Values ∷ []) ts
-  r ← row_read rest
-  Reads (statement.Insert r.0.0 r.0.1, r.1)
+  rest ← token_read (token.Word word.Into) ts
+  table ← name_read rest
+  behind ← tokens_read (token.Open ∷ token.Word word.Id ∷ token.Comma ∷ token.Word word.Value ∷ token.Close ∷ token.Word word.Values ∷ []) table.1
+  r ← row_read behind
+  Reads (over table.0 (kind.Insert r.0.0 r.0.1), r.1)
 
 -- a delete, from behind its first word on
 unfoldable pub delete_read : List Token → Reading (Statement × List Token)
 delete_read ts = do
-  rest ← tokens_read (token.Word word.From ∷ token.Word word.Test ∷ []) ts
-  p ← where_read rest
-  Reads (statement.Delete p.0, p.1)
+  rest ← token_read (token.Word word.From) ts
+  table ← name_read rest
+  p ← where_read table.1
+  Reads (over table.0 (kind.Delete p.0), p.1)
 
 -- one of the four kinds of statement
 unfoldable pub statement_read : List Token → Reading (Statement × List Token)
@@ -150,7 +158,7 @@ commands_read room ts = do
 -- a row that is added to a table, and stops at its end where it is present
 unfoldable pub row_onto_read : Table → List Token → Reading (Table × List Token)
 row_onto_read table ts = do
-  row ← row_read ts
+  row ← named_row_read ts
   if map.contains_key table row.0.0 then Stops DuplicateSetupRow row.1 else Reads (map.insert table row.0.0 row.0.1, row.1)
 
 -- rows with a comma between two of them, at most k, that are added to a table one by one
@@ -190,10 +198,12 @@ setup_read ts = do
 abbrev pub placed_kind : List Token → GrammarFault → ℕ → GrammarFault
 placed_kind ts grammar.UnknownStatement left = if in_predicate false (take (length ts - left) ts) then grammar.BadPredicate else grammar.UnknownStatement
 placed_kind ts grammar.BadPredicate left = grammar.BadPredicate
+placed_kind ts grammar.BadTableName left = grammar.BadTableName
 placed_kind ts grammar.NumberOutOfRange left = grammar.NumberOutOfRange
 placed_kind ts grammar.TooDeep left = grammar.TooDeep
 placed_kind ts grammar.TooLong left = grammar.TooLong
 placed_kind ts grammar.DuplicateSetupRow left = grammar.DuplicateSetupRow
+placed_kind ts grammar.TooManyTables left = grammar.TooManyTables
 
 -- the same of why reading stopped
 abbrev pub placed_refusal : List Token → Refusal → ℕ → Refusal
@@ -205,18 +215,36 @@ abbrev pub fault_in : {X : Type 0} → List Token → Reading X → Option Gramm
 fault_in ts (Reads x) = None
 fault_in ts (Stops kind left) = Some (placed_kind ts kind (length left))
 
--- the same of a setup, in which no where can stand
-abbrev pub setup_fault_in : {X : Type 0} → Reading X → Option GrammarFault
-setup_fault_in (Reads x) = None
-setup_fault_in (Stops kind left) = Some kind
+-- the tokens that were read before so many were left
+abbrev pub passed : List Token → ℕ → List Token
+passed ts left = take (length ts - left) ts
 
--- the first fault of the tokens of a line of commands, for which there is this much room
-abbrev pub commands_fault : ℕ → List Token → Option GrammarFault
-commands_fault room ts = fault_in ts (commands_read room ts)
+-- a fault behind these names of tables: where they are more than a script may have, the fifth came first
+abbrev pub behind_tables : List (List ℕ) → GrammarFault → GrammarFault
+behind_tables names kind = if are_few names then kind else TooManyTables
+
+-- the same of why reading stopped
+abbrev pub refusal_behind : List (List ℕ) → Refusal → Refusal
+refusal_behind names refusal.NoMemory = refusal.NoMemory
+refusal_behind names (refusal.Fault kind) = refusal.Fault (behind_tables names kind)
+
+-- the fault of a line of commands, behind lines that name these tables: a fifth table, or that with which reading stops
+abbrev pub commands_fault_in : List (List ℕ) → List Token → Reading (List Command) → Option GrammarFault
+commands_fault_in names ts (Reads cs) = if are_few (with_commands names cs) then None else Some TooManyTables
+commands_fault_in names ts (Stops kind left) = Some (behind_tables (with_tokens false names (passed ts (length left))) (placed_kind ts kind (length left)))
+
+-- the same of a setup, in which no where can stand
+abbrev pub setup_fault_in : List Token → Reading Table → Option GrammarFault
+setup_fault_in ts (Reads table) = if are_few (setup_tables table) then None else Some TooManyTables
+setup_fault_in ts (Stops kind left) = Some (behind_tables (with_setup_tokens false [] (passed ts (length left))) kind)
+
+-- the first fault of the tokens of a line of commands, for which there is this much room, behind lines that name these tables
+abbrev pub commands_fault : List (List ℕ) → ℕ → List Token → Option GrammarFault
+commands_fault names room ts = commands_fault_in names ts (commands_read room ts)
 
 -- the first fault of the tokens of a setup
 abbrev pub setup_fault : List Token → Option GrammarFault
-setup_fault ts = setup_fault_in (setup_read ts)
+setup_fault ts = setup_fault_in ts (setup_read ts)
 
 -- the first fault of the tokens of one statement
 abbrev pub statement_fault : List Token → Option GrammarFault

@@ -4,10 +4,11 @@ use Rattle.std.specs.FinMap as finite
 use Rattle.lab_table.specs.Predicate.{Predicate}
 use Rattle.lab_table.specs.Predicate as predicate
 use Rattle.lab_table.specs.declared.statement.Statement.{Statement}
-use Rattle.lab_table.specs.declared.statement.Statement.TheVariants as statement
+use Rattle.lab_table.specs.declared.statement.StatementKind.{StatementKind}
+use Rattle.lab_table.specs.declared.statement.StatementKind.TheVariants as kind
 use Rattle.lab_table.specs.declared.statement.Command.{Command}
 use Rattle.lab_table.specs.declared.statement.Command.TheVariants as command
-use Rattle.lab_table.specs.Row.{Row, row_cmp}
+use Rattle.lab_table.specs.Row.{Row, row_cmp, in_test, numbered}
 use Rattle.lab_table.specs.Table.{Table}
 use Rattle.lab_table.specs.declared.predicate.Col.{Col}
 use Rattle.lab_table.specs.declared.predicate.Col.TheVariants as col
@@ -91,25 +92,29 @@ pub data IsExpr : List Token → Expr → Type 0 where
   minus : {ts : List Token} {z : ℤ} → IsNumber ts z → IsExpr (token.Word word.Value ∷ token.Minus ∷ ts) (expr.Minus z)
 
 -- id := number
-pub data IsId : List Token → Row → Type 0 where
+pub data IsId : List Token → ℕ → Type 0 where
   named : {ts : List Token} (id : ℕ) → IsNumber ts (pos id) → 1 ≤ id → id ≤ 999999 → IsId ts id
 
--- '(' id ',' number ')', a row and its value
-pub data IsRow : List Token → Row → ℤ → Type 0 where
-  row : {is vs : List Token} {id : Row} {value : ℤ} → IsId is id → IsNumber vs value
+-- '(' id ',' number ')', a row's number and its value
+pub data IsRow : List Token → ℕ → ℤ → Type 0 where
+  row : {is vs : List Token} {id : ℕ} {value : ℤ} → IsId is id → IsNumber vs value
       → IsRow (token.Open ∷ is ++ token.Comma ∷ vs ++ token.Close ∷ []) id value
 
--- the four kinds of statement
+-- a statement of this kind on the rows of a table
+abbrev pub over : List ℕ → StatementKind → Statement
+over table does = record { table = table; kind = does }
+
+-- the four kinds of statement, each with the name of its table
 pub data IsStatement : List Token → Statement → Type 0 where
-  select : {ts : List Token} {p : Option Predicate} → IsWhere ts p
-      → IsStatement (token.Word word.Select ∷ token.Star ∷ words (word.From ∷ word.Test ∷ []) ++ ts) (statement.Select p)
-  update : {es ts : List Token} {e : Expr} {p : Option Predicate} → IsExpr es e → IsWhere ts p
-      → IsStatement (words (word.Update ∷ word.Test ∷ word.Set ∷ word.Value ∷ []) ++ token.Equal ∷ es ++ ts) (statement.Update e p)
-  insert : {rs : List Token} {id : Row} {value : ℤ} → IsRow rs id value
-      → IsStatement (words (word.Insert ∷ word.Into ∷ word.Test ∷ []) ++ token.Open ∷ token.Word word.Id ∷ token.Comma ∷ token.Word word.Value ∷ token.Close ∷ token.Word word.Values ∷ rs)
-      (statement.Insert id value)
-  delete : {ts : List Token} {p : Option Predicate} → IsWhere ts p
-      → IsStatement (words (word.Delete ∷ word.From ∷ word.Test ∷ []) ++ ts) (statement.Delete p)
+  select : {ts : List Token} {p : Option Predicate} (table : List ℕ) → IsWhere ts p
+      → IsStatement (token.Word word.Select ∷ token.Star ∷ words (word.From ∷ word.Name table ∷ []) ++ ts) (over table (kind.Select p))
+  update : {es ts : List Token} {e : Expr} {p : Option Predicate} (table : List ℕ) → IsExpr es e → IsWhere ts p
+      → IsStatement (words (word.Update ∷ word.Name table ∷ word.Set ∷ word.Value ∷ []) ++ token.Equal ∷ es ++ ts) (over table (kind.Update e p))
+  insert : {rs : List Token} {id : ℕ} {value : ℤ} (table : List ℕ) → IsRow rs id value
+      → IsStatement (words (word.Insert ∷ word.Into ∷ word.Name table ∷ []) ++ token.Open ∷ token.Word word.Id ∷ token.Comma ∷ token.Word word.Value ∷ token.Close ∷ token.Word word.Values ∷ rs)
+      (over table (kind.Insert id value))
+  delete : {ts : List Token} {p : Option Predicate} (table : List ℕ) → IsWhere ts p
+      → IsStatement (words (word.Delete ∷ word.From ∷ word.Name table ∷ []) ++ ts) (over table (kind.Delete p))
 
 -- stmt, and the commands that it gives
 pub data IsCommand : List Token → List Command → Type 0 where
@@ -126,10 +131,15 @@ pub data IsCommands : List Token → List Command → Type 0 where
   closed : {ts : List Token} {cs : List Command} → IsCommand ts cs → IsCommands (ts ++ token.Semicolon ∷ []) cs
   more : {ts rest : List Token} {cs ds : List Command} → IsCommand ts cs → IsCommands rest ds → IsCommands (ts ++ token.Semicolon ∷ rest) (cs ++ ds)
 
+-- [ name ] '(' id ',' number ')', a row of a setup and its value: one without a table's name is of `test`
+pub data IsNamedRow : List Token → Row → ℤ → Type 0 where
+  unnamed : {ts : List Token} {id : ℕ} {value : ℤ} → IsRow ts id value → IsNamedRow ts (in_test id) value
+  named : {ts : List Token} {id : ℕ} {value : ℤ} (table : List ℕ) → IsRow ts id value → IsNamedRow (token.Word (word.Name table) ∷ ts) (numbered table id) value
+
 -- row { ',' row }
 pub data IsRows : List Token → List (Row × ℤ) → Type 0 where
-  last : {ts : List Token} {id : Row} {value : ℤ} → IsRow ts id value → IsRows ts ((id, value) ∷ [])
-  more : {ts rest : List Token} {id : Row} {value : ℤ} {rows : List (Row × ℤ)} → IsRow ts id value → IsRows rest rows → IsRows (ts ++ token.Comma ∷ rest) ((id, value) ∷ rows)
+  last : {ts : List Token} {row : Row} {value : ℤ} → IsNamedRow ts row value → IsRows ts ((row, value) ∷ [])
+  more : {ts rest : List Token} {row : Row} {value : ℤ} {rows : List (Row × ℤ)} → IsNamedRow ts row value → IsRows rest rows → IsRows (ts ++ token.Comma ∷ rest) ((row, value) ∷ rows)
 
 -- '(' ')' | row { ',' row }
 pub data IsRowList : List Token → List (Row × ℤ) → Type 0 where

@@ -1,7 +1,8 @@
 -- How many bytes the printed form has.
-use Rattle.std.specs.Prelude.{ℕ, ◌+◌, ◌<◌, ◌≡◌, ℤ, Bool, true, false, ◌||◌, List, [], ◌∷◌, length, Option, Some, None, MatchOption}
+use Rattle.std.specs.Prelude.{ℕ, ◌+◌, ◌<◌, ◌≡◌, ℤ, Bool, true, false, ◌||◌, if◌then◌else◌, List, [], ◌∷◌, length, Option, Some, None, MatchOption}
 use Rattle.std.specs.Fmt.{decimal, signed_decimal}
 use Rattle.lab_table.specs.Row.{Row}
+use Rattle.lab_table.specs.TableName.{table_name_eq, test_name}
 use Rattle.lab_table.specs.Predicate.{Predicate}
 use Rattle.lab_table.specs.Predicate as predicate
 use Rattle.lab_table.specs.declared.predicate.Col.{Col}
@@ -11,8 +12,9 @@ use Rattle.lab_table.specs.declared.predicate.Cmp.TheVariants as cmp
 use Rattle.lab_table.specs.declared.statement.Expr.{Expr}
 use Rattle.lab_table.specs.declared.statement.Expr.TheVariants as expr
 use Rattle.lab_table.specs.declared.statement.Statement.{Statement}
-use Rattle.lab_table.specs.declared.statement.Statement.TheVariants as statement
-use Rattle.lab_script.specs.Printed.{is_and, is_or, printed_id}
+use Rattle.lab_table.specs.declared.statement.StatementKind.{StatementKind}
+use Rattle.lab_table.specs.declared.statement.StatementKind.TheVariants as kind
+use Rattle.lab_script.specs.Printed.{is_and, is_or}
 
 -- a text of so many bytes taken from a room: what is left, or none where it doesn't fit
 abbrev pub Leaves : ℕ → ℕ → Option ℕ → Type 0
@@ -62,21 +64,32 @@ expr_length (expr.Set n) = length (signed_decimal n)
 expr_length (expr.Plus n) = 8 + length (signed_decimal n)
 expr_length (expr.Minus n) = 8 + length (signed_decimal n)
 
-abbrev pub row_length : Row → ℤ → ℕ
-row_length id value = 4 + length (printed_id id) + length (signed_decimal value)
+abbrev pub row_length : ℕ → ℤ → ℕ
+row_length id value = 4 + length (decimal id) + length (signed_decimal value)
+
+abbrev pub kind_length : List ℕ → StatementKind → ℕ
+kind_length table (kind.Select p) = 14 + length table + where_length p
+kind_length table (kind.Update e p) = 20 + length table + expr_length e + where_length p
+kind_length table (kind.Insert id value) = 32 + length table + row_length id value
+kind_length table (kind.Delete p) = 12 + length table + where_length p
 
 abbrev pub statement_length : Statement → ℕ
-statement_length (statement.Select p) = 18 + where_length p
-statement_length (statement.Update e p) = 24 + expr_length e + where_length p
-statement_length (statement.Insert id value) = 36 + row_length id value
-statement_length (statement.Delete p) = 16 + where_length p
+statement_length s = kind_length s.table s.kind
+
+-- the name of a table before a row, with its space
+abbrev pub table_name_length : List ℕ → ℕ
+table_name_length table = if table_name_eq table test_name then 0 else 1 + length table
+
+-- a row of any table
+abbrev pub named_row_length : Row → ℤ → ℕ
+named_row_length row value = table_name_length row.table + row_length row.id value
 
 -- rows behind another one, each with its comma and space
 abbrev pub more_rows_length : List (Row × ℤ) → ℕ
 more_rows_length [] = 0
-more_rows_length (row ∷ rows) = 2 + row_length row.0 row.1 + more_rows_length rows
+more_rows_length (row ∷ rows) = 2 + named_row_length row.0 row.1 + more_rows_length rows
 
 -- the line of a setup with these rows
 abbrev pub setup_length : List (Row × ℤ) → ℕ
 setup_length [] = 9
-setup_length (row ∷ rows) = 7 + row_length row.0 row.1 + more_rows_length rows
+setup_length (row ∷ rows) = 7 + named_row_length row.0 row.1 + more_rows_length rows

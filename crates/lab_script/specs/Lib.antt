@@ -21,3 +21,5 @@ pub mod StatementText
 pub mod ReadingCommands
 pub mod Stopping
 pub mod FirstFaults
+pub mod Tables
+pub mod PassedTables

@@ -8,6 +8,7 @@ use Rattle.lab_script.specs.declared.script.Line.{Line}
 use Rattle.lab_script.specs.declared.script.Script.{Script}
 use Rattle.lab_script.specs.Depth.{statement_depth}
 use Rattle.lab_script.specs.Printed.{printed_statement, printed_setup}
+use Rattle.lab_script.specs.Tables.{max_tables, script_tables}
 
 -- the most lines of a text
 abbrev pub max_lines : ℕ
@@ -55,6 +56,7 @@ pub record ScriptPrints (script : Script) : Type 0 where
   pub setup : length (printed_setup script.setup) ≤ max_line_bytes
   pub few : length script.lines ≤ max_commands
   pub lines : AllPrint script.lines
+  pub tables : length (script_tables script) ≤ max_tables
 
 -- a statement that is too deep
 abbrev pub IsDeep : Command → Type 0
@@ -85,3 +87,7 @@ pub data BreaksLength (script : Script) : Type 0 where
   long_setup : max_line_bytes < length (printed_setup script.setup) → BreaksLength script
   many_lines : max_commands < length script.lines → BreaksLength script
   long_statement : SomeLine IsLong script → BreaksLength script
+
+-- there are more tables than a script may name
+abbrev pub BreaksTables : Script → Type 0
+BreaksTables script = max_tables < length (script_tables script)

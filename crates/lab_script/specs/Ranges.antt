@@ -1,16 +1,18 @@
 -- Which predicates, statements and scripts have each number in its range.
-use Rattle.std.specs.Prelude.{ℕ, ◌≤◌, ℤ, pos, negsuc, ◌≤ℤ◌, Option, Some, None}
+use Rattle.std.specs.Prelude.{◌≡◌, true, ℕ, ◌≤◌, ℤ, pos, negsuc, ◌≤ℤ◌, Option, Some, None}
 use Rattle.std.specs.List.{All}
 use Rattle.std.specs.FinMap as finite
 use Rattle.lab_table.specs.Predicate.{Predicate}
 use Rattle.lab_table.specs.Predicate as predicate
 use Rattle.lab_table.specs.declared.statement.Statement.{Statement}
-use Rattle.lab_table.specs.declared.statement.Statement.TheVariants as statement
+use Rattle.lab_table.specs.declared.statement.StatementKind.{StatementKind}
+use Rattle.lab_table.specs.declared.statement.StatementKind.TheVariants as kind
 use Rattle.lab_table.specs.declared.statement.Command.{Command}
 use Rattle.lab_table.specs.declared.statement.Command.TheVariants as command
 use Rattle.lab_table.specs.declared.statement.Expr.{Expr}
 use Rattle.lab_table.specs.declared.statement.Expr.TheVariants as expr
 use Rattle.lab_table.specs.Row.{Row}
+use Rattle.lab_table.specs.TableName.{is_table_name}
 use Rattle.lab_script.specs.declared.script.Line.{Line}
 use Rattle.lab_script.specs.declared.script.Script.{Script}
 
@@ -19,7 +21,7 @@ abbrev pub ValueInRange : ℤ → Type 0
 ValueInRange z = (negsuc 999999999 ≤ℤ z) × (z ≤ℤ pos 1000000000)
 
 -- from 1 to 999,999
-abbrev pub RowInRange : Row → Type 0
+abbrev pub RowInRange : ℕ → Type 0
 RowInRange id = (1 ≤ id) × (id ≤ 999999)
 
 -- from 1 to 1,000,000
@@ -50,12 +52,16 @@ ExprInRange (expr.Set z) = ValueInRange z
 ExprInRange (expr.Plus z) = ValueInRange z
 ExprInRange (expr.Minus z) = ValueInRange z
 
--- each number of a statement
+-- each number of what a statement does
+abbrev pub KindInRange : StatementKind → Type 0
+KindInRange (kind.Select p) = WhereInRange p
+KindInRange (kind.Update e p) = ExprInRange e × WhereInRange p
+KindInRange (kind.Insert id z) = RowInRange id × ValueInRange z
+KindInRange (kind.Delete p) = WhereInRange p
+
+-- the name of a statement's table, and each number of it
 abbrev pub StatementInRange : Statement → Type 0
-StatementInRange (statement.Select p) = WhereInRange p
-StatementInRange (statement.Update e p) = ExprInRange e × WhereInRange p
-StatementInRange (statement.Insert id z) = RowInRange id × ValueInRange z
-StatementInRange (statement.Delete p) = WhereInRange p
+StatementInRange s = (is_table_name s.table ≡ true) × KindInRange s.kind
 
 -- each number of a command
 abbrev pub CommandInRange : Command → Type 0
@@ -64,9 +70,9 @@ CommandInRange command.Commit = Unit {0}
 CommandInRange command.Abort = Unit {0}
 CommandInRange (command.Run s) = StatementInRange s
 
--- the numbers of a row
+-- the name of a row's table, and the numbers of the row
 abbrev pub EntryInRange : Row × ℤ → Type 0
-EntryInRange row = RowInRange row.0 × ValueInRange row.1
+EntryInRange row = (is_table_name row.0.table ≡ true) × RowInRange row.0.id × ValueInRange row.1
 
 -- each number of a line
 abbrev pub LineInRange : Line → Type 0

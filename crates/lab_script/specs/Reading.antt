@@ -1,5 +1,8 @@
 -- Reading tokens from left to right: a value and the tokens behind it, or nothing.
-use Rattle.std.specs.Prelude.{◌≡◌, ℕ, zero, suc, ℤ, pos, ◌-ℤ◌, Bool, true, ◌&&◌, ◌==◌, nat_le, length, if◌then◌else◌, List, [], ◌∷◌, Option, Some, None, Result, Ok, Err}
+use Rattle.std.specs.Prelude.{◌≡◌, ℕ, zero, suc, ℤ, pos, ◌-ℤ◌, Bool, true, false, ◌&&◌, ◌==◌, nat_le, length, if◌then◌else◌, List, [], ◌∷◌, Option, Some, None, Result, Ok, Err}
+use Rattle.std.specs.Cmp.{IsEquivalence, and_equiv, on_equiv, nat_eq_equiv}
+use Rattle.std.specs.Cmp.Lexicographic.{nat_list_eq_equiv}
+use Rattle.lab_table.specs.TableName.{table_name_eq}
 use Rattle.lab_script.specs.declared.token.Word.{Word}
 use Rattle.lab_script.specs.declared.token.Word.TheVariants as word
 use Rattle.lab_script.specs.declared.token.Token.{Token}
@@ -8,7 +11,7 @@ use Rattle.lab_script.specs.declared.refusal.GrammarFault.TheVariants as grammar
 use Rattle.lab_script.specs.declared.refusal.Refusal.{Refusal}
 use Rattle.lab_script.specs.declared.refusal.Refusal.TheVariants as refusal
 
--- A number for each word.
+-- A number for each word, names alike.
 abbrev pub word_number : Word → ℕ
 word_number word.Setup = 0
 word_number word.Begin = 1
@@ -21,7 +24,7 @@ word_number word.Isolation = 7
 word_number word.Level = 8
 word_number word.Select = 9
 word_number word.From = 10
-word_number word.Test = 11
+word_number (word.Name n) = 11
 word_number word.Where = 12
 word_number word.Update = 13
 word_number word.Value = 14
@@ -61,9 +64,24 @@ abbrev pub token_digits : Token → ℕ
 token_digits (token.Digits n) = n
 token_digits t = 0
 
+-- the name that a word is
+abbrev pub word_name : Word → List ℕ
+word_name (word.Name n) = n
+word_name w = []
+
+-- the name that a token has with it
+abbrev pub token_name : Token → List ℕ
+token_name (token.Word w) = word_name w
+token_name t = []
+
 -- whether two tokens are one
 abbrev pub is_token : Token → Token → Bool
-is_token a b = token_number a == token_number b && token_digits a == token_digits b
+is_token a b = token_number a == token_number b && token_digits a == token_digits b && table_name_eq (token_name a) (token_name b)
+
+-- it is an equivalence
+pub tokens_equiv : IsEquivalence is_token
+tokens_equiv =
+    and_equiv (and_equiv (on_equiv token_number nat_eq_equiv) (on_equiv token_digits nat_eq_equiv)) (on_equiv token_name nat_list_eq_equiv)
 
 -- what is read after what was read, if anything was
 infixl 10 ◌>>=◌
@@ -92,6 +110,12 @@ abbrev pub Gives : {X Y : Type 0} → (X → Y) → Result X Refusal → Option 
 Gives view (Ok x) read = read ≡ Some (view x)
 Gives view (Err e) read = Fails e read
 
+-- what a function returned, seen by view, is this where it names few tables, and else a refusal that says so, unless memory ran out
+abbrev pub Admits : {X Y : Type 0} → Bool → (X → Y) → Result X Refusal → Y → Type 0
+Admits few view (Ok x) y = y ≡ view x
+Admits few view (Err refusal.NoMemory) y = Unit {0}
+Admits few view (Err (refusal.Fault kind)) y = (few ≡ false) × (kind ≡ grammar.TooManyTables)
+
 -- what follows this token
 abbrev pub after : Token → List Token → Option (List Token)
 after t [] = None
@@ -113,6 +137,20 @@ digits_of t ts = None
 unfoldable pub digits_at : List Token → Option (ℕ × List Token)
 digits_at [] = None
 digits_at (t ∷ ts) = digits_of t ts
+
+-- the word at the front is the name of a table
+abbrev pub name_in : Word → List Token → Option (List ℕ × List Token)
+name_in (word.Name n) ts = Some (n, ts)
+name_in w ts = None
+
+abbrev pub name_of : Token → List Token → Option (List ℕ × List Token)
+name_of (token.Word w) ts = name_in w ts
+name_of t ts = None
+
+-- the name of a table
+unfoldable pub name_at : List Token → Option (List ℕ × List Token)
+name_at [] = None
+name_at (t ∷ ts) = name_of t ts
 
 -- a number without a sign
 unfoldable pub magnitude_at : List Token → Option (ℕ × List Token)

@@ -8,12 +8,12 @@ use Rattle.lab_script.specs.declared.token.Token.TheVariants as token
 use Rattle.lab_script.specs.Printed.{printed_setup}
 use Rattle.lab_script.specs.Limits.{max_line_bytes}
 use Rattle.lab_script.specs.Reading.{◌>>=◌, after, is_end}
-use Rattle.lab_script.specs.ReadingRows.{row_at}
+use Rattle.lab_script.specs.ReadingRows.{named_row_at}
 
 -- a row that is added to a table where it is absent
 unfoldable pub row_onto : Table → List Token → Option (Table × List Token)
 row_onto table ts = do
-  row ← row_at ts
+  row ← named_row_at ts
   if map.contains_key table row.0.0 then None else Some (map.insert table row.0.0 row.0.1, row.1)
 
 -- rows with a comma between two of them, at most k, that are added to a table one by one

@@ -15,6 +15,7 @@ use Rattle.lab_script.specs.declared.token.Token.TheVariants as token
 use Rattle.lab_script.specs.Token.{is_blank, tokens}
 use Rattle.lab_script.specs.Grammar.{IsCommands, IsSetup, IsStatement, IsEnd, IsRowList, AllDistinct}
 use Rattle.lab_script.specs.Printed.{printed_statement, printed_setup}
+use Rattle.lab_script.specs.Tables.{max_tables, with_commands, setup_tables, script_tables}
 use Rattle.lab_script.specs.Limits.{max_lines, max_line_bytes, max_commands, max_statement_bytes}
 
 -- whether a remark begins here
@@ -74,13 +75,13 @@ extended script session text_line commands = record {
 }
 
 -- What a line with this number makes of what the lines before it spell, which is nothing yet or a script:
--- it is passed over, or it is the setup, or it has commands of a session.
+-- it is passed over, or it is the setup, or it has commands of a session. The script then names four tables at most.
 pub data LineSpells (number : ℕ) (line : List ℕ) : Option Script → Option Script → Type 0 where
   passed : (script : Option Script) → IsFit number line → is_passed line ≡ true → LineSpells number line script script
-  setup : {table : Table} → IsFit number line → IsSetup (tokens (code_of line)) table
+  setup : {table : Table} → IsFit number line → IsSetup (tokens (code_of line)) table → length (setup_tables table) ≤ max_tables
       → LineSpells number line None (Some (record { setup = table; lines = [] }))
   commands : {cs : List Command} {session : ℕ} (script : Script) → IsFit number line → IsCommands (tokens (code_of line)) cs
-      → session_of (remark_of line) ≡ Some session → length script.lines + length cs ≤ max_commands
+      → session_of (remark_of line) ≡ Some session → length script.lines + length cs ≤ max_commands → length (with_commands (script_tables script) cs) ≤ max_tables
       → LineSpells number line (Some script) (Some (extended script session number cs))
 
 -- whether the first token is setup
@@ -114,7 +115,7 @@ pub record BeginsLongStatement (ts : List Token) : Type 0 where
 abbrev pub AddsCommands : ℕ → List Token → List ℕ → Script → Script → Type 0
 AddsCommands number ts remark before after =
     (cs : List Command) × (session : ℕ) × IsCommands ts cs × (session_of remark ≡ Some session)
-    × (length before.lines + length cs ≤ max_commands) × (after ≡ extended before session number cs)
+    × (length before.lines + length cs ≤ max_commands) × (length (with_commands (script_tables before) cs) ≤ max_tables) × (after ≡ extended before session number cs)
 
 -- what lines, of which the first has this number, make of what stands before them
 abbrev pub LinesSpell : ℕ → Option Script → List (List ℕ) → Option Script → Type 0

@@ -2,15 +2,17 @@
 use Rattle.std.specs.Prelude.{◌≡◌, ℕ, zero, suc, ℤ, pos, ◌-ℤ◌, ◌&&◌, nat_le, length, if◌then◌else◌, List, [], ◌∷◌, Option, Some, None, Result, Ok, Err}
 use Rattle.lab_table.specs.Predicate.{Predicate}
 use Rattle.lab_table.specs.Predicate as predicate
-use Rattle.lab_table.specs.Row.{Row}
+use Rattle.lab_table.specs.Row.{Row, numbered}
+use Rattle.lab_table.specs.TableName.{test_name}
 use Rattle.lab_table.specs.declared.predicate.Col.{Col}
 use Rattle.lab_table.specs.declared.predicate.Col.TheVariants as col
 use Rattle.lab_table.specs.declared.predicate.Cmp.{Cmp}
+use Rattle.lab_script.specs.declared.token.Word.{Word}
 use Rattle.lab_script.specs.declared.token.Word.TheVariants as word
 use Rattle.lab_script.specs.declared.token.Token.{Token}
 use Rattle.lab_script.specs.declared.token.Token.TheVariants as token
 use Rattle.lab_script.specs.declared.refusal.GrammarFault.{GrammarFault}
-use Rattle.lab_script.specs.declared.refusal.GrammarFault.TheVariants.{UnknownStatement, NumberOutOfRange, TooDeep}
+use Rattle.lab_script.specs.declared.refusal.GrammarFault.TheVariants.{UnknownStatement, BadTableName, NumberOutOfRange, TooDeep}
 use Rattle.lab_script.specs.declared.refusal.Refusal.{Refusal}
 use Rattle.lab_script.specs.declared.refusal.Refusal.TheVariants as refusal
 use Rattle.lab_script.specs.Limits.{max_depth}
@@ -85,16 +87,16 @@ more_read (suc k) member connective join a ts = if_found (after connective ts) (
   x ← member rest
   more_read k member connective join (join a x.0) x.1) (Reads (a, ts))
 
--- a row's name, which has no sign
-unfoldable pub id_read : List Token → Reading (Row × List Token)
+-- a row's number, which has no sign
+unfoldable pub id_read : List Token → Reading (ℕ × List Token)
 id_read ts = if_found (after token.Minus ts) (λ rest. do
   n ← digits_read rest
   Stops NumberOutOfRange n.1) (do
     n ← digits_read ts
     if nat_le 1 n.0 && nat_le n.0 999999 then Reads n else Stops NumberOutOfRange n.1)
 
--- a row with its value
-unfoldable pub row_read : List Token → Reading ((Row × ℤ) × List Token)
+-- a row's number with its value
+unfoldable pub row_read : List Token → Reading ((ℕ × ℤ) × List Token)
 row_read ts = do
   a ← token_read token.Open ts
   id ← id_read a
@@ -102,6 +104,36 @@ row_read ts = do
   value ← number_read b
   c ← token_read token.Close value.1
   Reads ((id.0, value.0), c)
+
+-- the word at the front is the name of a table
+abbrev pub name_in : Word → List Token → Reading (List ℕ × List Token)
+name_in (word.Name n) ts = Reads (n, ts)
+name_in w ts = Stops BadTableName (token.Word w ∷ ts)
+
+abbrev pub name_of : Token → List Token → Reading (List ℕ × List Token)
+name_of (token.Word w) ts = name_in w ts
+name_of t ts = Stops UnknownStatement (t ∷ ts)
+
+-- the name of a table
+unfoldable pub name_read : List Token → Reading (List ℕ × List Token)
+name_read [] = Stops UnknownStatement []
+name_read (t ∷ ts) = name_of t ts
+
+-- the table of a row of a setup, from the token that it begins with: a word names it, and without one it is `test`
+abbrev pub table_of : Token → List Token → Reading (List ℕ × List Token)
+table_of (token.Word w) ts = name_in w ts
+table_of t ts = Reads (test_name, t ∷ ts)
+
+unfoldable pub row_table_read : List Token → Reading (List ℕ × List Token)
+row_table_read [] = Reads (test_name, [])
+row_table_read (t ∷ ts) = table_of t ts
+
+-- a row of a setup with its value
+unfoldable pub named_row_read : List Token → Reading ((Row × ℤ) × List Token)
+named_row_read ts = do
+  table ← row_table_read ts
+  r ← row_read table.1
+  Reads ((numbered table.0 r.0.0, r.0.1), r.1)
 
 -- a column
 unfoldable pub col_read : List Token → Reading (Col × List Token)

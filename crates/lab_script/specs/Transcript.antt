@@ -1,17 +1,18 @@
 -- What a script does where its transactions run whole, in the order of their begins.
 use Rattle.std.specs.Prelude.{ℕ, ◌+◌, Bool, true, false, not, ◌==◌, if◌then◌else◌, List, [], ◌∷◌, ◌++◌, unwrap_or, ◌&&◌, Option, Some, None, option_map, slice_index_or, codes}
 use Rattle.std.specs.Fmt.{decimal}
-use Rattle.lab_table.specs.Row.{Row}
+use Rattle.lab_table.specs.Row.{Row, numbered}
 use Rattle.lab_table.specs.Table.{Table}
-use Rattle.lab_table.specs.Statement.{Ran, run, matching}
+use Rattle.lab_table.specs.Statement.{Ran, run, kind_matching}
 use Rattle.lab_table.specs.Running.{overflowing}
 use Rattle.lab_table.specs.declared.statement.Statement.{Statement}
-use Rattle.lab_table.specs.declared.statement.Statement.TheVariants as statement
+use Rattle.lab_table.specs.declared.statement.StatementKind.{StatementKind}
+use Rattle.lab_table.specs.declared.statement.StatementKind.TheVariants as kind
 use Rattle.lab_table.specs.declared.statement.Command.{Command}
 use Rattle.lab_table.specs.declared.statement.Command.TheVariants as command
 use Rattle.lab_script.specs.declared.script.Line.{Line}
 use Rattle.lab_script.specs.declared.script.Script.{Script}
-use Rattle.lab_script.specs.Printed.{printed_statement, printed_list, printed_id, newline}
+use Rattle.lab_script.specs.Printed.{printed_statement, printed_list, printed_table, printed_row_name, newline}
 
 -- a transaction: its session, its statements, and whether it ends in a commit
 pub record Transaction : Type 0 where
@@ -83,14 +84,18 @@ transactions inside (line ∷ lines) =
 -- the name of a row, if there is one
 abbrev pub row_text : Option Row → List ℕ
 row_text None = []
-row_text (Some row) = printed_id row
+row_text (Some row) = printed_row_name row
 
--- why a table refuses a statement: the id that is present, or the least id whose new value is out of range
+-- why a table refuses a statement of this kind: the row that is present, or the least row whose new value is out of range
+abbrev pub kind_refusal_text : List ℕ → StatementKind → Table → List ℕ
+kind_refusal_text table (kind.Select p) rows = []
+kind_refusal_text table (kind.Update e p) rows = codes "OutOfRange " ++ row_text (overflowing e (kind_matching table (kind.Update e p) rows))
+kind_refusal_text table (kind.Insert id value) rows = codes "DuplicateKey " ++ printed_row_name (numbered table id)
+kind_refusal_text table (kind.Delete p) rows = []
+
+-- why a table refuses a statement
 abbrev pub refusal_text : Statement → Table → List ℕ
-refusal_text (statement.Select p) table = []
-refusal_text (statement.Update e p) table = codes "OutOfRange " ++ row_text (overflowing e (matching (statement.Update e p) table))
-refusal_text (statement.Insert id value) table = codes "DuplicateKey " ++ printed_id id
-refusal_text (statement.Delete p) table = []
+refusal_text s rows = kind_refusal_text s.table s.kind rows
 
 -- what a table answers to a statement, from what running it gives: the rows that it lists, or why it is refused
 abbrev pub answer_text : Statement → Table → Option Ran → List ℕ
@@ -135,7 +140,7 @@ transaction_text n table txn = heading_text n txn.session ++ body_text table txn
 
 -- the lines of transactions, of which the first has this number, and the table in the end
 abbrev pub serial_text : ℕ → Table → List Transaction → List ℕ
-serial_text n table [] = codes "end " ++ printed_list table ++ newline
+serial_text n table [] = codes "end " ++ printed_table table ++ newline
 serial_text n table (txn ∷ txns) = transaction_text n table txn ++ serial_text (n + 1) (table_after table txn) txns
 
 -- what is printed where a script's transactions run whole, in the order of their begins

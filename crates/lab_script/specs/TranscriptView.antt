@@ -7,10 +7,10 @@ use Rattle.lab_table.specs.declared.statement.Statement.{Statement}
 use Rattle.lab_table.specs.declared.statement.Command.{Command}
 use Rattle.lab_script.specs.declared.script.Script.{Script}
 use Rattle.lab_script.specs.declared.print.PrintFault.{PrintFault}
-use Rattle.lab_script.specs.declared.print.PrintFault.TheVariants.{NoMemory, TooDeep, TooLong}
+use Rattle.lab_script.specs.declared.print.PrintFault.TheVariants.{NoMemory, TooDeep, TooLong, TooManyTables}
 use Rattle.lab_script.specs.Depth.{statement_depth}
 use Rattle.lab_script.specs.Limits.{max_depth, max_statement_bytes, IsDeep, IsLong}
-use Rattle.lab_script.specs.Printed.{printed_statement, printed_id}
+use Rattle.lab_script.specs.Printed.{printed_statement, printed_row_name}
 use Rattle.lab_script.specs.Transcript.{Transaction, table_with, table_after, transactions, nobody}
 
 -- its text, and the limit that a statement in it breaks, if one does
@@ -23,6 +23,7 @@ abbrev pub Breaks : PrintFault → Command → Type 0
 Breaks NoMemory command = ⊥
 Breaks TooDeep command = IsDeep command
 Breaks TooLong command = IsLong command
+Breaks TooManyTables command = ⊥
 
 -- the statements that a transaction shows: up to the first that is refused
 abbrev pub shown_of : Table → List Statement → List Statement
@@ -55,5 +56,5 @@ unprintable script = first_broken None (shown script.setup (transactions nobody 
 -- the text of a fault of a table
 abbrev pub fault_text : TableFault → List ℕ
 fault_text table_fault.NoMemory = []
-fault_text (table_fault.DuplicateKey id) = codes "DuplicateKey " ++ printed_id id
-fault_text (table_fault.OutOfRange id) = codes "OutOfRange " ++ printed_id id
+fault_text (table_fault.DuplicateKey id) = codes "DuplicateKey " ++ printed_row_name id
+fault_text (table_fault.OutOfRange id) = codes "OutOfRange " ++ printed_row_name id

@@ -23,6 +23,8 @@ pub enum ScriptFaultKind {
     UnknownStatement,
     /// The same, behind a `where` of the statement.
     BadPredicate,
+    /// A word that is no table's name where one may stand.
+    BadTableName,
     /// Digits whose number is out of its range.
     NumberOutOfRange,
     /// More than 16 parentheses and `not`s are open.
@@ -31,6 +33,8 @@ pub enum ScriptFaultKind {
     TooLong,
     /// A row of the setup whose id came before.
     DuplicateSetupRow,
+    /// The name of a fifth table; a row of the setup without a name is one of `test`.
+    TooManyTables,
 }
 
 /// Why a text is no script.
@@ -81,10 +85,12 @@ impl ScriptFaultKind {
             ScriptFaultKind::NoSession => "NoSession",
             ScriptFaultKind::UnknownStatement => "UnknownStatement",
             ScriptFaultKind::BadPredicate => "BadPredicate",
+            ScriptFaultKind::BadTableName => "BadTableName",
             ScriptFaultKind::NumberOutOfRange => "NumberOutOfRange",
             ScriptFaultKind::TooDeep => "TooDeep",
             ScriptFaultKind::TooLong => "TooLong",
             ScriptFaultKind::DuplicateSetupRow => "DuplicateSetupRow",
+            ScriptFaultKind::TooManyTables => "TooManyTables",
         }
     }
 }

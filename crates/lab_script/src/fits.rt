@@ -2,24 +2,27 @@
 
 ghost use Rattle.std.specs.Prelude.{◌≤◌, ◌≡◌, ◌+◌, ◌<◌, ◌↔◌, length, IsTrue};
 ghost use Rattle.std.specs.Fmt.{decimal, signed_decimal};
-ghost use Rattle.lab_script.specs.Length.{Leaves, parentheses_length, col_length, cmp_length, numbers_length, pred_length, where_length, expr_length, row_length, statement_length, more_rows_length, setup_length};
-ghost use Rattle.lab_script.specs.Printed.{printed_id, printed_statement, printed_setup};
+ghost use Rattle.lab_script.specs.Length.{Leaves, parentheses_length, col_length, cmp_length, numbers_length, pred_length, where_length, expr_length, row_length, statement_length, table_name_length, named_row_length, more_rows_length, setup_length};
+ghost use Rattle.lab_script.specs.Printed.{printed_statement, printed_setup};
 ghost use Rattle.lab_script.specs.Depth.{deeper, depth_of, where_depth, statement_depth};
 ghost use Rattle.lab_script.specs.Limits.{max_depth, max_line_bytes, max_statement_bytes};
 
 use crate::limits::{MAX_DEPTH, MAX_LINE_BYTES, MAX_STATEMENT_BYTES};
 use crate::spelling::{is_joined, is_or};
 use itoa::Buffer;
-use lab_table::{Cmp, Col, Expr, Pred, PredKind, RowId, Statement, Table, Value};
+use lab_table::{
+    Cmp, Col, Expr, Pred, PredKind, RowId, RowName, Statement, StatementKind, Table, TableName,
+    Value,
+};
 
 /// Whether at most [`MAX_DEPTH`] parentheses and `not`s are open at one place of a statement's printed form.
 pub fn depth_fits(statement: &Statement) -> bool
     ensures { IsTrue result ↔ (statement_depth statement.now ≤ max_depth) }
 {
-    match statement {
-        Statement::Select { pred: Some(p) }
-        | Statement::Update { pred: Some(p), .. }
-        | Statement::Delete { pred: Some(p) } => nests_within(p, false, usize::from(MAX_DEPTH)),
+    match &statement.kind {
+        StatementKind::Select { pred: Some(p) }
+        | StatementKind::Update { pred: Some(p), .. }
+        | StatementKind::Delete { pred: Some(p) } => nests_within(p, false, usize::from(MAX_DEPTH)),
         _ => true,
     }
 }
@@ -172,26 +175,43 @@ fn room_after_row(room: usize, id: RowId, value: Value) -> Option<usize>
 fn room_after_statement(room: usize, statement: &Statement) -> Option<usize>
     ensures { Leaves room (statement_length statement.now) result }
 {
-    match statement {
-        Statement::Select { pred } => room_after_where(room.checked_sub(18)?, pred),
-        Statement::Update { expr, pred } => {
-            let room = room_after_expr(room.checked_sub(24)?, *expr)?;
+    let room = room.checked_sub(statement.table.as_bytes().len())?;
+    match &statement.kind {
+        StatementKind::Select { pred } => room_after_where(room.checked_sub(14)?, pred),
+        StatementKind::Update { expr, pred } => {
+            let room = room_after_expr(room.checked_sub(20)?, *expr)?;
             room_after_where(room, pred)
         }
-        Statement::Insert { id, value } => room_after_row(room.checked_sub(36)?, *id, *value),
-        Statement::Delete { pred } => room_after_where(room.checked_sub(16)?, pred),
+        StatementKind::Insert { id, value } => room_after_row(room.checked_sub(32)?, *id, *value),
+        StatementKind::Delete { pred } => room_after_where(room.checked_sub(12)?, pred),
     }
 }
 
-fn room_after_setup(room: usize, rows: &[(RowId, Value)]) -> Option<usize>
+fn room_after_table_name(room: usize, table: TableName) -> Option<usize>
+    ensures { Leaves room (table_name_length table) result }
+{
+    if table == TableName::test() {
+        Some(room)
+    } else {
+        room.checked_sub(1)?.checked_sub(table.as_bytes().len())
+    }
+}
+
+fn room_after_named_row(room: usize, row: RowName, value: Value) -> Option<usize>
+    ensures { Leaves room (named_row_length row value) result }
+{
+    room_after_row(room_after_table_name(room, row.table)?, row.id, value)
+}
+
+fn room_after_setup(room: usize, rows: &[(RowName, Value)]) -> Option<usize>
     ensures { Leaves room (setup_length rows.now) result }
 {
     let Some((first, rest)) = rows.split_first() else {
         return room.checked_sub(9);
     };
-    let mut room = room_after_row(room.checked_sub(7)?, first.0, first.1)?;
-    for (id, value) in rest {
-        room = room_after_row(room.checked_sub(2)?, *id, *value)?;
+    let mut room = room_after_named_row(room.checked_sub(7)?, first.0, first.1)?;
+    for (row, value) in rest {
+        room = room_after_named_row(room.checked_sub(2)?, *row, *value)?;
     }
     Some(room)
 }

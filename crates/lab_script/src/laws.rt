@@ -1,7 +1,7 @@
 //! Laws of the texts. The functions have nothing to do: their contracts are the laws.
 
-ghost use Rattle.std.specs.Prelude.{◌≡◌, ◌≢◌, ◌≤◌, ◌<◌, ◌↔◌, ◌||◌, ℕ, List, length, take, Some, None, IsTrue, codes};
-ghost use Rattle.std.specs.Str.{bytes_eq};
+ghost use Rattle.std.specs.Prelude.{◌≡◌, ◌≢◌, ◌≤◌, ◌<◌, ◌↔◌, ℕ, List, length, take, Some, None, IsTrue, true};
+ghost use Rattle.lab_table.specs.TableName.{is_table_name};
 ghost use Rattle.lab_table.specs.Words.{is_reserved};
 ghost use Rattle.lab_table.specs.Table.{Table};
 ghost use Rattle.lab_table.specs.declared.statement.Command.{Command};
@@ -15,6 +15,7 @@ ghost use Rattle.lab_script.specs.FirstFaults.{commands_fault, setup_fault, stat
 ghost use Rattle.lab_script.specs.Grammar.{IsCommands, IsSetup, IsWholeStatement};
 ghost use Rattle.lab_script.specs.Limits.{max_script_bytes};
 ghost use Rattle.lab_script.specs.Script.{Spells, SpellsStatement};
+ghost use Rattle.lab_script.specs.Tables.{max_tables, with_commands, setup_tables};
 ghost use Rattle.lab_script.specs.Token.{word_named};
 ghost use Rattle.lab_script.specs.declared.token.Word.TheVariants as words;
 ghost use Rattle.lab_script.specs.StatementText.{statement_in};
@@ -33,9 +34,10 @@ pub fn first_bytes_tell_a_script()
     ensures fault { (text : List ℕ) (n : ℕ) (fault : ScriptFault) → max_script_bytes < n → IsFaultOf (take n text) fault → IsFaultOf text fault }
 {}
 
-/// A text in lower case is a word of the grammar exactly where it is reserved, or the name of the table.
+/// A text in lower case is a word of the grammar exactly where it is reserved, and a name where it is a table's.
 pub fn words_are_reserved()
-    ensures { (text : List ℕ) → IsTrue (is_reserved text || bytes_eq text (codes "test")) ↔ (word_named text ≢ words.Other) }
+    ensures word { (text : List ℕ) → IsTrue (is_reserved text) ↔ ((word_named text ≢ words.Other) × ((name : List ℕ) → word_named text ≢ words.Name name)) }
+    ensures name { (text name : List ℕ) → (word_named text ≡ words.Name name) ↔ ((name ≡ text) × (is_table_name text ≡ true)) }
 {}
 
 /// A text has one fault at most: two of which each is true of it, as the contract of [`parse_script`](crate::parse_script)
@@ -50,10 +52,10 @@ pub fn fault_unique()
         → IsStatementFault text (ScriptFault.At m other) → IsFirstInText text (ScriptFault.At m other) → kind ≡ other }
 {}
 
-/// There is no first fault of the grammar exactly where the tokens are in it: as a line of commands for which there is
-/// room, as a setup, or as one statement.
+/// There is no first fault exactly where the tokens are in the grammar: as a line of commands for which there is room and
+/// which, with the lines before, name few tables; as a setup that names few; or as one statement.
 pub fn first_faults_are_of_the_grammar()
-    ensures commands { (room : ℕ) (ts : List Token) → (commands_fault room ts ≡ None) ↔ ((cs : List Command) × IsCommands ts cs × (length cs ≤ room)) }
-    ensures setup { (ts : List Token) → (setup_fault ts ≡ None) ↔ ((table : Table) × IsSetup ts table) }
+    ensures commands { (names : List (List ℕ)) (room : ℕ) (ts : List Token) → (commands_fault names room ts ≡ None) ↔ ((cs : List Command) × IsCommands ts cs × (length cs ≤ room) × (length (with_commands names cs) ≤ max_tables)) }
+    ensures setup { (ts : List Token) → (setup_fault ts ≡ None) ↔ ((table : Table) × IsSetup ts table × (length (setup_tables table) ≤ max_tables)) }
     ensures statement { (ts : List Token) → (statement_fault ts ≡ None) ↔ ((s : Statement) × IsWholeStatement ts s) }
 {}

@@ -10,6 +10,9 @@
 //! commit; -- T1
 //! ```
 //!
+//! A statement names its table. A row of the setup is of the table whose name stands before it, as in `stock (1, 5)`, and of
+//! `test` where none does.
+//!
 //! [`parse_script`] reads such a text: this one as a table of two rows and three lines of session 1, each of which keeps
 //! the number of the text's line that it came from. A text that spells no script is refused with its first faulty line
 //! and what is wrong there, a [`ScriptFault`], which [`print_script_fault`] tells. [`print_script`] gives a script its
@@ -22,7 +25,7 @@
 //! without a text.
 //!
 //! [`run_serial`] runs a script's transactions whole, in the order of their begins, and [`print_transcript`] hands out
-//! what they listed and left. For texts of other crates [`put_printable`], [`put_id`] and [`put_list`] append a command,
+//! what they listed and left. For texts of other crates [`put_printable`], [`put_row_name`] and [`put_list`] append a command,
 //! a row's name and rows to bytes.
 //!
 //! What takes memory is handed an allocator, or bytes that have one, and may be refused for want of memory. Only bytes
@@ -50,6 +53,7 @@ mod setup;
 mod spelling;
 mod statement;
 mod statement_text;
+mod tables;
 mod token;
 mod transcript;
 
@@ -63,6 +67,6 @@ pub use parse::parse_script;
 pub use print::{PrintFault, check_statement, print_script, print_statement, put_printable};
 pub use script::{Line, Lines, Script};
 pub use serial::run_serial;
-pub use spelling::{put_id, put_list};
+pub use spelling::{put_list, put_row_name};
 pub use statement_text::parse_statement;
 pub use transcript::{Transcript, print_transcript};

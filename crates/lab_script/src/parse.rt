@@ -7,6 +7,7 @@ ghost use Rattle.lab_script.specs.Grammar.{IsSetup};
 ghost use Rattle.lab_script.specs.Script.{Spells, LineSpells, BeginsSetup, AddsCommands};
 ghost use Rattle.lab_script.specs.Fault.{IsFaultOf, IsLineFault, IsTokensFault};
 ghost use Rattle.lab_script.specs.Limits.{max_commands, ScriptPrints};
+ghost use Rattle.lab_script.specs.Tables.{max_tables, setup_tables, script_tables, tables_so_far};
 
 use crate::fault::{ScriptFault, ScriptFaultKind};
 use crate::limits::{MAX_COMMANDS, MAX_LINE_BYTES, MAX_LINES};
@@ -14,6 +15,7 @@ use crate::line::{code_and_remark, is_ascii_code, is_blank_code, session_of};
 use crate::parser::read_commands;
 use crate::script::{Lines, Script};
 use crate::setup::read_setup;
+use crate::tables::Tables;
 use crate::token::{Token, Word, tokens_into};
 use bstr::ByteSlice;
 use std::alloc::Global;
@@ -30,10 +32,11 @@ pub fn parse_script(alloc: Global, text: &[u8]) -> Result<Script, ScriptFault>
 {
     let mut tokens = Vec::new(alloc);
     let mut script = None;
+    let mut tables = Tables::new();
     let mut number: u32 = 0;
     for line in text.lines() {
         number += 1;
-        read_line(alloc, &mut script, number, line, &mut tokens)?;
+        read_line(alloc, &mut script, &mut tables, number, line, &mut tokens)?;
     }
     script.ok_or(ScriptFault::At {
         line: number + 1,
@@ -41,17 +44,20 @@ pub fn parse_script(alloc: Global, text: &[u8]) -> Result<Script, ScriptFault>
     })
 }
 
-/// Reads a line with this number behind lines that spell nothing yet or a script.
+/// Reads a line with this number behind lines that spell nothing yet or a script, and name these tables.
 /// The tokens are only the room for those of the line.
 fn read_line(
     alloc: Global,
     script: &mut Option<Script>,
+    tables: &mut Tables,
     number: u32,
     line: &[u8],
     tokens: &mut Vec<Token>,
 ) -> Result<(), ScriptFault>
     requires few { IfSome script.old (λ s. length s.lines ≤ max_commands) }
+    requires named { tables.old ≡ tables_so_far script.old }
     ensures found { OnOk result (LineSpells number line.now script.old script.new) }
+    ensures named { OnOk result (tables.new ≡ tables_so_far script.new) }
     ensures fault { IfErr result (IsLineFault number line.now script.old) }
 {
     if number > MAX_LINES || line.len() > MAX_LINE_BYTES {
@@ -67,10 +73,10 @@ fn read_line(
     tokens_into(tokens, code)?;
     match script {
         None => {
-            *script = Some(setup_script(alloc, number, tokens)?);
+            *script = Some(setup_script(alloc, number, tokens, tables)?);
             Ok(())
         }
-        Some(script) => add_commands(alloc, script, number, tokens, remark),
+        Some(script) => add_commands(alloc, script, tables, number, tokens, remark),
     }
 }
 
@@ -92,14 +98,21 @@ fn begins_setup(tokens: &[Token]) -> bool
 }
 
 /// The script with the setup of the line that has these tokens.
-fn setup_script(alloc: Global, number: u32, tokens: &[Token]) -> Result<Script, ScriptFault>
-    ensures found { IfOk result (λ script. (table : PlainTable) × IsSetup tokens.now table × (script ≡ record { setup = table; lines = [] })) }
+fn setup_script(
+    alloc: Global,
+    number: u32,
+    tokens: &[Token],
+    tables: &mut Tables,
+) -> Result<Script, ScriptFault>
+    requires none { tables.old ≡ [] }
+    ensures found { IfOk result (λ script. (table : PlainTable) × IsSetup tokens.now table × (length (setup_tables table) ≤ max_tables) × (script ≡ record { setup = table; lines = [] })) }
+    ensures named { IfOk result (λ script. tables.new ≡ script_tables script) }
     ensures fault { (remark : List ℕ) → IfErr result (IsTokensFault number tokens.now remark None) }
 {
     if !begins_setup(tokens) {
         return Err(at(number, ScriptFaultKind::NoSetup));
     }
-    match read_setup(alloc, tokens) {
+    match read_setup(alloc, tokens, tables) {
         Ok(setup) => Ok(Script {
             setup,
             lines: Lines::new(Vec::new(alloc)),
@@ -112,19 +125,22 @@ fn setup_script(alloc: Global, number: u32, tokens: &[Token]) -> Result<Script, 
 fn add_commands(
     alloc: Global,
     script: &mut Script,
+    tables: &mut Tables,
     number: u32,
     tokens: &[Token],
     remark: &[u8],
 ) -> Result<(), ScriptFault>
     requires few { length script.old.lines ≤ max_commands }
+    requires named { tables.old ≡ script_tables script.old }
     ensures found { OnOk result (AddsCommands number tokens.now remark.now script.old script.new) }
+    ensures named { OnOk result (tables.new ≡ script_tables script.new) }
     ensures fault { IfErr result (IsTokensFault number tokens.now remark.now (Some script.old)) }
 {
     if begins_setup(tokens) {
         return Err(at(number, ScriptFaultKind::SetupRepeated));
     }
     let room = MAX_COMMANDS - script.lines.as_slice().len();
-    let commands = match read_commands(alloc, tokens, room) {
+    let commands = match read_commands(alloc, tokens, room, tables) {
         Ok(commands) => commands,
         Err(refusal) => return Err(refusal.at(number)),
     };

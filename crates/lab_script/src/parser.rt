@@ -1,18 +1,22 @@
 //! A parser of a line's tokens, with the tokens and numbers that it reads, and what is read by it: the commands of a
 //! line, and single statements.
 
-ghost use Rattle.std.specs.Prelude.{◌≡◌, ◌==◌, ◌≤◌, ◌<◌, length, List, [], Option, Some, None, IfOk, MatchBool, if◌then◌else◌, IfErr, false};
+ghost use Rattle.std.specs.Prelude.{◌≡◌, ◌==◌, ◌≤◌, ◌<◌, length, List, [], Option, Some, None, IfOk, OnOk, MatchBool, if◌then◌else◌, IfErr, false};
 ghost use Rattle.lab_table.specs.declared.statement.Command.{Command as Spelled};
 ghost use Rattle.lab_table.specs.declared.statement.Statement.{Statement as SpelledStatement};
 ghost use Rattle.lab_script.specs.Grammar.{IsCommands, IsWholeStatement};
-ghost use Rattle.lab_script.specs.Reading.{after, after_all, digits_at, magnitude_at, number_at, Fails, Gives};
-ghost use Rattle.lab_script.specs.Stops.{IsOfTokens, IsOfStatements, IsOfLine, IsLongSpelled, in_predicate};
-ghost use Rattle.lab_script.specs.Stopping.{Comes, digits_read, magnitude_read, number_read, token_read, tokens_read};
-ghost use Rattle.lab_script.specs.FirstFaults.{HasFault, commands_fault, nothing_read, placed_refusal, statement_fault};
+ghost use Rattle.lab_script.specs.Reading.{after, after_all, digits_at, magnitude_at, name_at, number_at, Fails, Gives, Admits};
+ghost use Rattle.lab_script.specs.Stops.{IsOfNames, IsOfTokens, IsOfStatements, IsOfLine, IsOfCommands, IsLongSpelled, in_predicate};
+ghost use Rattle.lab_script.specs.Stopping.{Comes, digits_read, magnitude_read, name_read, number_read, token_read, tokens_read};
+ghost use Rattle.lab_script.specs.FirstFaults.{HasFault, commands_fault, nothing_read, passed, placed_refusal, refusal_behind, statement_fault};
+ghost use Rattle.lab_script.specs.Tables.{max_tables, are_few, with_commands};
+ghost use Rattle.lab_script.specs.PassedTables.{with_tokens};
+ghost use Rattle.lab_script.specs.declared.refusal.GrammarFault.TheVariants.{TooManyTables};
 
 use crate::refusal::{GrammarFault, Refusal};
+use crate::tables::Tables;
 use crate::token::{Token, Word};
-use lab_table::{Command, Statement, Value};
+use lab_table::{Command, Statement, TableName, Value};
 use std::alloc::Global;
 use std::marker::Model;
 
@@ -40,7 +44,7 @@ impl<'a> Parser<'a> {
     }
 
     /// How many tokens are left.
-    fn left(&self) -> usize
+    pub fn left(&self) -> usize
         ensures { result ≡ length self.now }
     {
         self.rest.len()
@@ -67,7 +71,7 @@ impl<'a> Parser<'a> {
         match self.rest.split_first() {
             None => false,
             Some((first, rest)) => {
-                if *first == token {
+                if token == *first {
                     self.rest = rest;
                     true
                 } else {
@@ -101,6 +105,29 @@ impl<'a> Parser<'a> {
             self.expect(*token)?;
         }
         Ok(())
+    }
+
+    /// The name of a table. BadTableName where another word stands.
+    #[tactic(auto, unfolding(crate::specs::Reading::name_at, crate::specs::Stopping::name_read))]
+    pub fn name(&mut self) -> Result<TableName, Refusal>
+        ensures gives { Gives (λ x. (x, self.new)) result (name_at self.old) }
+        ensures reads { Comes (λ x. (x, self.new)) result self.new (name_read self.old) }
+        ensures shorter { length self.new ≤ length self.old }
+        ensures kind { IfErr result IsOfNames }
+    {
+        match self.rest.split_first() {
+            None => Err(Refusal::Fault(GrammarFault::UnknownStatement)),
+            Some((first, rest)) => match first {
+                Token::Word(word) => match word {
+                    Word::Name(name) => {
+                        self.rest = rest;
+                        Ok(*name)
+                    }
+                    _ => Err(Refusal::Fault(GrammarFault::BadTableName)),
+                },
+                _ => Err(Refusal::Fault(GrammarFault::UnknownStatement)),
+            },
+        }
     }
 
     /// Digits, and their number.
@@ -157,22 +184,75 @@ impl<'a> Parser<'a> {
     }
 }
 
-/// The commands of a line, of which there is room for so many.
+/// The commands of a line, of which there is room for so many, behind lines that name these tables. The tables of the
+/// commands come to them; a fifth comes before whatever is wrong behind it.
 /// NoMemory may come in place of any other answer.
-pub fn read_commands(alloc: Global, tokens: &[Token], room: usize) -> Result<Vec<Command>, Refusal>
+pub fn read_commands(
+    alloc: Global,
+    tokens: &[Token],
+    room: usize,
+    tables: &mut Tables,
+) -> Result<Vec<Command>, Refusal>
     // What is read is in the grammar.
     ensures found { IfOk result (λ commands. IsCommands tokens.now commands.items) }
     ensures within { IfOk result (λ commands. length commands.items ≤ room) }
-    // What is in the grammar is read, unless memory runs out.
-    ensures only { (commands : List Spelled) → IsCommands tokens.now commands → length commands ≤ room → Gives (λ x. x.items) result (Some commands) }
-    ensures kind { IfErr result (IsOfLine tokens.now) }
+    ensures tables { IfOk result (λ commands. tables.new ≡ with_commands tables.old commands.items) }
+    ensures few { OnOk result (length tables.new ≤ max_tables) }
+    // What is in the grammar is read where it names few tables, unless memory runs out.
+    ensures only { (commands : List Spelled) → IsCommands tokens.now commands → length commands ≤ room → Admits (are_few (with_commands tables.old commands)) (λ x. x.items) result commands }
+    ensures kind { IfErr result (IsOfCommands tokens.now) }
     // Of the faults from the left it is the first.
-    ensures first { HasFault (commands_fault room tokens.now) result }
+    ensures first { HasFault (commands_fault tables.old room tokens.now) result }
 {
     let mut parser = Parser { rest: tokens };
     match parser.commands(alloc, room) {
-        Ok(commands) => Ok(commands),
-        Err(refusal) => Err(placed(refusal, tokens, parser.left())),
+        Ok(commands) => with_few_tables(commands, tables),
+        Err(refusal) => {
+            let left = parser.left();
+            Err(behind_tables(
+                tables,
+                placed(refusal, tokens, left),
+                read_before(tokens, left),
+            ))
+        }
+    }
+}
+
+/// Commands that were read, where their tables and those before are few.
+fn with_few_tables(commands: Vec<Command>, tables: &mut Tables) -> Result<Vec<Command>, Refusal>
+    ensures same { IfOk result (λ x. x.items ≡ commands.items) }
+    ensures tables { IfOk result (λ x. tables.new ≡ with_commands tables.old x.items) }
+    ensures few { OnOk result (length tables.new ≤ max_tables) }
+    ensures fewer { OnOk result (length (with_commands tables.old commands.items) ≤ max_tables) }
+    ensures many { IfErr result (λ e. (e ≡ Refusal.Fault TooManyTables) × (max_tables < length (with_commands tables.old commands.items))) }
+{
+    if !tables.add_commands(&commands) {
+        return Err(Refusal::Fault(GrammarFault::TooManyTables));
+    }
+    tables.are_few();
+    Ok(commands)
+}
+
+/// The tokens that were read before so many were left.
+pub fn read_before(tokens: &[Token], left: usize) -> &[Token]
+    ensures { result.now ≡ passed tokens.now left }
+{
+    &tokens[..tokens.len().saturating_sub(left)]
+}
+
+/// Why reading a line's tokens stopped, of which these were read: a fifth table among them came first.
+fn behind_tables(tables: &mut Tables, refusal: Refusal, read: &[Token]) -> Refusal
+    ensures { result ≡ refusal_behind (with_tokens false tables.old read.now) refusal }
+{
+    match refusal {
+        Refusal::NoMemory => Refusal::NoMemory,
+        Refusal::Fault(kind) => {
+            if !tables.add_tokens(read) {
+                return Refusal::Fault(GrammarFault::TooManyTables);
+            }
+            tables.are_few();
+            Refusal::Fault(kind)
+        }
     }
 }
 

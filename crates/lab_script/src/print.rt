@@ -1,18 +1,20 @@
 //! Statements and scripts in printed form, where that keeps the limits of a text.
 
-ghost use Rattle.std.specs.Prelude.{◌≡◌, ◌≢◌, ◌++◌, ◌≤◌, ◌<◌, length, Some, IfOk, OnOk, Err};
+ghost use Rattle.std.specs.Prelude.{◌≡◌, ◌≢◌, ◌++◌, ◌≤◌, ◌<◌, length, Some, IfOk, OnOk, IfErr, Err};
 ghost use Rattle.lab_script.specs.Printed.{printed_command, printed_statement, printed_script};
 ghost use Rattle.lab_script.specs.Depth.{statement_depth};
 ghost use Rattle.lab_script.specs.Renumbered.{renumbered};
 ghost use Rattle.lab_script.specs.Script.{Spells, SpellsStatement};
 ghost use Rattle.lab_script.specs.StatementText.{statement_in};
-ghost use Rattle.lab_script.specs.Limits.{max_depth, max_statement_bytes, StatementPrints, CommandPrints, IsDeep, IsLong, ScriptPrints, BreaksDepth, BreaksLength};
+ghost use Rattle.lab_script.specs.Limits.{max_depth, max_statement_bytes, StatementPrints, CommandPrints, IsDeep, IsLong, ScriptPrints, BreaksDepth, BreaksLength, BreaksTables};
+ghost use Rattle.lab_script.specs.Tables.{max_tables, script_tables};
 
 use crate::fits::{depth_fits, setup_fits, statement_fits};
 use crate::limits::MAX_COMMANDS;
 use crate::round_trip::{printed_script_spells, printed_statement_spells};
 use crate::script::Script;
 use crate::spelling::{put_command, put_line, put_setup, put_statement};
+use crate::tables::Tables;
 use lab_table::{Command, Statement};
 use std::alloc::{AllocError, Global};
 use thiserror::Error;
@@ -30,6 +32,9 @@ pub enum PrintFault {
     /// or a script more than 2,000 lines.
     #[error("the text is too long")]
     TooLong,
+    /// A script names more than four tables. Only `print_script` answers it.
+    #[error("there are too many tables")]
+    TooManyTables,
 }
 
 impl From<AllocError> for PrintFault {
@@ -54,6 +59,7 @@ pub fn print_statement(alloc: Global, statement: &Statement) -> Result<Vec<u8>, 
     ensures prints { OnOk result (StatementPrints statement.now) }
     ensures too_deep { result ≡ Err PrintFault.TooDeep → max_depth < statement_depth statement.now }
     ensures too_long { result ≡ Err PrintFault.TooLong → (statement_depth statement.now ≤ max_depth) × (max_statement_bytes < length (printed_statement statement.now)) }
+    ensures few_tables { result ≢ Err PrintFault.TooManyTables }
 {
     check_statement(statement)?;
     let mut text = Vec::new(alloc);
@@ -63,7 +69,7 @@ pub fn print_statement(alloc: Global, statement: &Statement) -> Result<Vec<u8>, 
 }
 
 /// A script in printed form, if that keeps the limits of a text; each line ends with a newline.
-/// TooDeep and TooLong only where the text would break that limit; NoMemory where a growth was refused.
+/// TooDeep, TooLong and TooManyTables only where the text would break that limit; NoMemory where a growth was refused.
 pub fn print_script(alloc: Global, script: &Script) -> Result<Vec<u8>, PrintFault>
     ensures text { IfOk result (λ text. text.items ≡ printed_script script.now) }
     // What is printed is read as the same script again, its commands on lines 2, 3 and so on.
@@ -71,11 +77,13 @@ pub fn print_script(alloc: Global, script: &Script) -> Result<Vec<u8>, PrintFaul
     ensures prints { OnOk result (ScriptPrints script.now) }
     ensures too_deep { result ≡ Err PrintFault.TooDeep → BreaksDepth script.now }
     ensures too_long { result ≡ Err PrintFault.TooLong → BreaksLength script.now }
+    ensures too_many_tables { result ≡ Err PrintFault.TooManyTables → BreaksTables script.now }
 {
     let lines = script.lines.as_slice();
     if lines.len() > MAX_COMMANDS || !setup_fits(&script.setup) {
         return Err(PrintFault::TooLong);
     }
+    check_tables(script)?;
     let mut text = Vec::new(alloc);
     put_setup(&mut text, &script.setup)?;
     text.extend_from_slice(b"\n")?;
@@ -97,6 +105,7 @@ pub fn check_statement(statement: &Statement) -> Result<(), PrintFault>
     ensures too_deep { result ≡ Err PrintFault.TooDeep → max_depth < statement_depth statement.now }
     ensures too_long { result ≡ Err PrintFault.TooLong → (statement_depth statement.now ≤ max_depth) × (max_statement_bytes < length (printed_statement statement.now)) }
     ensures memory { result ≢ Err PrintFault.NoMemory }
+    ensures few_tables { result ≢ Err PrintFault.TooManyTables }
 {
     if !depth_fits(statement) {
         Err(PrintFault::TooDeep)
@@ -115,6 +124,7 @@ pub fn put_printable(out: &mut Vec<u8>, command: &Command) -> Result<(), PrintFa
     ensures prints { OnOk result (CommandPrints command.now) }
     ensures too_deep { result ≡ Err PrintFault.TooDeep → IsDeep command.now }
     ensures too_long { result ≡ Err PrintFault.TooLong → IsLong command.now }
+    ensures few_tables { result ≢ Err PrintFault.TooManyTables }
 {
     check_command(command)?;
     put_command(out, command)?;
@@ -125,9 +135,26 @@ fn check_command(command: &Command) -> Result<(), PrintFault>
     ensures prints { OnOk result (CommandPrints command.now) }
     ensures too_deep { result ≡ Err PrintFault.TooDeep → IsDeep command.now }
     ensures too_long { result ≡ Err PrintFault.TooLong → IsLong command.now }
+    ensures few_tables { result ≢ Err PrintFault.TooManyTables }
 {
     match command {
         Command::Begin | Command::Commit | Command::Abort => Ok(()),
         Command::Run(statement) => check_statement(statement),
     }
+}
+
+/// Whether a script names four tables at most.
+fn check_tables(script: &Script) -> Result<(), PrintFault>
+    ensures few { OnOk result (length (script_tables script.now) ≤ max_tables) }
+    ensures many { IfErr result (λ e. (e ≡ PrintFault.TooManyTables) × (max_tables < length (script_tables script.now))) }
+{
+    let mut tables = Tables::new();
+    if !tables.add_rows(script.setup.rows()) {
+        return Err(PrintFault::TooManyTables);
+    }
+    if !tables.add_lines(script.lines.as_slice()) {
+        return Err(PrintFault::TooManyTables);
+    }
+    tables.are_few();
+    Ok(())
 }

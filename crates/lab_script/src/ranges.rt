@@ -1,10 +1,10 @@
 //! That numbers are in their ranges, said of whole values: each function reads the numbers and does nothing with them.
 
 ghost use Rattle.std.specs.List.{All};
-ghost use Rattle.lab_script.specs.Ranges.{ValueInRange, PredInRange, WhereInRange, ExprInRange, StatementInRange, CommandInRange, EntryInRange, LineInRange, ScriptInRange};
+ghost use Rattle.lab_script.specs.Ranges.{ValueInRange, PredInRange, WhereInRange, ExprInRange, KindInRange, StatementInRange, CommandInRange, EntryInRange, LineInRange, ScriptInRange};
 
 use crate::script::{Line, Script};
-use lab_table::{Command, Expr, Pred, PredKind, RowId, Statement, Value};
+use lab_table::{Command, Expr, Pred, PredKind, RowName, Statement, StatementKind, Value};
 
 fn value_in_range(value: Value)
     ensures { ValueInRange value }
@@ -54,17 +54,24 @@ fn expr_in_range(expr: &Expr)
     }
 }
 
-/// Each number of a statement is in its range.
+/// A statement's table has a name, and each number of the statement is in its range.
 pub fn statement_in_range(statement: &Statement)
     ensures { StatementInRange statement.now }
 {
-    match statement {
-        Statement::Select { pred } | Statement::Delete { pred } => where_in_range(pred),
-        Statement::Update { expr, pred } => {
+    let _ = statement.table.as_bytes();
+    kind_in_range(&statement.kind);
+}
+
+fn kind_in_range(kind: &StatementKind)
+    ensures { KindInRange kind.now }
+{
+    match kind {
+        StatementKind::Select { pred } | StatementKind::Delete { pred } => where_in_range(pred),
+        StatementKind::Update { expr, pred } => {
             expr_in_range(expr);
             where_in_range(pred);
         }
-        Statement::Insert { id, value } => {
+        StatementKind::Insert { id, value } => {
             let _ = id.number();
             value_in_range(*value);
         }
@@ -79,14 +86,15 @@ fn command_in_range(command: &Command)
     }
 }
 
-fn entry_in_range(entry: &(RowId, Value))
+fn entry_in_range(entry: &(RowName, Value))
     ensures { EntryInRange entry.now }
 {
-    let _ = entry.0.number();
+    let _ = entry.0.table.as_bytes();
+    let _ = entry.0.id.number();
     let _ = entry.1.number();
 }
 
-fn entries_in_range(entries: &[(RowId, Value)])
+fn entries_in_range(entries: &[(RowName, Value)])
     ensures { All EntryInRange entries.now }
 {
     for entry in entries {

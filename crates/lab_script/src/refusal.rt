@@ -10,6 +10,8 @@ pub enum GrammarFault {
     UnknownStatement,
     /// The same, behind a `where` of the statement.
     BadPredicate,
+    /// A word that is no table's name where one may stand.
+    BadTableName,
     /// Digits whose number is out of its range.
     NumberOutOfRange,
     /// More than 16 parentheses and `not`s are open.
@@ -18,6 +20,8 @@ pub enum GrammarFault {
     TooLong,
     /// A row of the setup whose id came before.
     DuplicateSetupRow,
+    /// The name of a fifth table.
+    TooManyTables,
 }
 
 impl GrammarFault {
@@ -31,10 +35,12 @@ impl GrammarFault {
         match self {
             GrammarFault::UnknownStatement => ScriptFaultKind::UnknownStatement,
             GrammarFault::BadPredicate => ScriptFaultKind::BadPredicate,
+            GrammarFault::BadTableName => ScriptFaultKind::BadTableName,
             GrammarFault::NumberOutOfRange => ScriptFaultKind::NumberOutOfRange,
             GrammarFault::TooDeep => ScriptFaultKind::TooDeep,
             GrammarFault::TooLong => ScriptFaultKind::TooLong,
             GrammarFault::DuplicateSetupRow => ScriptFaultKind::DuplicateSetupRow,
+            GrammarFault::TooManyTables => ScriptFaultKind::TooManyTables,
         }
     }
 }

@@ -37,7 +37,7 @@ pub fn run_serial(alloc: Global, script: &Script) -> Result<Transcript, NoMemory
         rest = later;
     }
     output.put(b"end ")?;
-    output.put_rows(table.rows())?;
+    output.put_table(table.rows())?;
     output.put(b"\n")?;
     Ok(output)
 }

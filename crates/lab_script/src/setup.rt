@@ -1,17 +1,21 @@
 //! The setup, read from tokens.
 
-ghost use Rattle.std.specs.Prelude.{◌≡◌, ◌≤◌, length, Some, None, IfOk, MatchBool, if◌then◌else◌, IfErr};
+ghost use Rattle.std.specs.Prelude.{◌≡◌, ◌≤◌, ◌<◌, [], false, length, Some, None, IfOk, OnOk, MatchBool, if◌then◌else◌, IfErr};
 ghost use Rattle.lab_table.specs.Table.{Table as Spelled};
 ghost use Rattle.lab_script.specs.Grammar.{IsSetup};
-ghost use Rattle.lab_script.specs.Reading.{Gives};
+ghost use Rattle.lab_script.specs.Reading.{Gives, Admits};
 ghost use Rattle.lab_script.specs.ReadingSetup.{row_onto, rows_at, no_rows_at, table_at, ends_setup, setup_at};
 ghost use Rattle.lab_script.specs.Stops.{IsOfRows, IsOfSetup, IsOfSetupEnd, IsOfSetupRead};
 ghost use Rattle.lab_script.specs.Stopping.{Comes};
-ghost use Rattle.lab_script.specs.FirstFaults.{HasFault, row_onto_read, rows_read, setup_end_read, setup_fault, setup_read, table_read};
+ghost use Rattle.lab_script.specs.FirstFaults.{HasFault, refusal_behind, row_onto_read, rows_read, setup_end_read, setup_fault, setup_read, table_read};
+ghost use Rattle.lab_script.specs.Tables.{max_tables, are_few, setup_tables, with_setup};
+ghost use Rattle.lab_script.specs.PassedTables.{with_setup_tokens};
+ghost use Rattle.lab_script.specs.declared.refusal.GrammarFault.TheVariants.{TooManyTables};
 
 use crate::fits::setup_fits;
-use crate::parser::Parser;
+use crate::parser::{Parser, read_before};
 use crate::refusal::{GrammarFault, Refusal};
+use crate::tables::Tables;
 use crate::token::{Token, Word};
 use lab_table::Table;
 use std::alloc::Global;
@@ -25,7 +29,7 @@ impl Parser<'_> {
         ensures shorter { length self.new ≤ length self.old }
         ensures kind { IfErr result IsOfRows }
     {
-        let row = self.row()?;
+        let row = self.named_row()?;
         if table.add(alloc, row.0, row.1)? {
             Ok(())
         } else {
@@ -108,21 +112,60 @@ impl Parser<'_> {
     }
 }
 
-/// The table that the tokens of a setup spell; all of them must belong to it.
+/// The table that the tokens of a setup spell; all of them must belong to it. Its rows' tables come to those that are handed
+/// in, which are none.
 ///
 /// Of its faults the first from the left counts: UnknownStatement for a token, or the end, that no setup
-/// has there; NumberOutOfRange for an id or a value out of its range; DuplicateSetupRow at the end of a row
+/// has there; NumberOutOfRange for an id or a value out of its range; TooManyTables at the name of a fifth table, or where a row
+/// without a name is one of it; DuplicateSetupRow at the end of a row
 /// that came before; TooLong at the end of a setup whose printed line is over 4,000 bytes.
 /// NoMemory may come in place of any other answer.
-pub fn read_setup(alloc: Global, tokens: &[Token]) -> Result<Table, Refusal>
+pub fn read_setup(alloc: Global, tokens: &[Token], tables: &mut Tables) -> Result<Table, Refusal>
+    requires none { tables.old ≡ [] }
     // What is read is in the grammar.
     ensures found { IfOk result (λ table. IsSetup tokens.now table) }
-    // What is in the grammar is read, unless memory runs out.
-    ensures only { (table : Spelled) → IsSetup tokens.now table → Gives (λ x. x) result (Some table) }
+    ensures tables { IfOk result (λ table. tables.new ≡ setup_tables table) }
+    ensures few { OnOk result (length tables.new ≤ max_tables) }
+    // What is in the grammar is read where it names few tables, unless memory runs out.
+    ensures only { (table : Spelled) → IsSetup tokens.now table → Admits (are_few (setup_tables table)) (λ x. x) result table }
     ensures kind { IfErr result (IsOfSetup tokens.now) }
     // Of the faults from the left it is the first.
     ensures first { HasFault (setup_fault tokens.now) result }
 {
     let mut parser = Parser { rest: tokens };
-    parser.setup(alloc)
+    match parser.setup(alloc) {
+        Ok(table) => with_few_tables(table, tables),
+        Err(refusal) => Err(behind_tables(tables, refusal, read_before(tokens, parser.left()))),
+    }
+}
+
+/// A setup that was read, where its tables are few.
+fn with_few_tables(table: Table, tables: &mut Tables) -> Result<Table, Refusal>
+    ensures same { IfOk result (λ x. x ≡ table) }
+    ensures tables { IfOk result (λ x. tables.new ≡ with_setup tables.old x) }
+    ensures few { OnOk result (length tables.new ≤ max_tables) }
+    ensures fewer { OnOk result (length (with_setup tables.old table) ≤ max_tables) }
+    ensures many { IfErr result (λ e. (e ≡ Refusal.Fault TooManyTables) × (max_tables < length (with_setup tables.old table))) }
+{
+    if !tables.add_rows(table.rows()) {
+        return Err(Refusal::Fault(GrammarFault::TooManyTables));
+    }
+    tables.are_few();
+    Ok(table)
+}
+
+/// Why reading a setup's tokens stopped, of which these were read: a fifth table among them came first.
+fn behind_tables(tables: &mut Tables, refusal: Refusal, read: &[Token]) -> Refusal
+    ensures { result ≡ refusal_behind (with_setup_tokens false tables.old read.now) refusal }
+{
+    match refusal {
+        Refusal::NoMemory => Refusal::NoMemory,
+        Refusal::Fault(kind) => {
+            if !tables.add_setup_tokens(read) {
+                return Refusal::Fault(GrammarFault::TooManyTables);
+            }
+            tables.are_few();
+            Refusal::Fault(kind)
+        }
+    }
 }

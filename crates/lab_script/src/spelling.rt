@@ -2,12 +2,13 @@
 
 ghost use Rattle.std.specs.Prelude.{◌≡◌, ◌≤◌, ◌+◌, ◌∷◌, ◌++◌, ◌||◌, [], drop, codes, if◌then◌else◌, OnOk};
 ghost use Rattle.std.specs.Fmt.{decimal, signed_decimal};
-ghost use Rattle.lab_script.specs.Printed.{printed_col, printed_cmp, joined, printed_numbers, printed_pred, printed_where, printed_expr, printed_id, printed_row, is_and, is_or, rows_or, printed_statement, printed_command, printed_setup, printed_line};
+ghost use Rattle.lab_script.specs.Printed.{printed_col, printed_cmp, joined, printed_numbers, printed_pred, printed_where, printed_expr, printed_table_name, printed_row_name, printed_row, printed_named_row, is_and, is_or, rows_or, named_rows_or, printed_statement, printed_command, printed_setup, printed_line};
 
 use crate::script::Line;
 use itoa::{Buffer, write_digits};
 use lab_table::{
-    Cmp, Col, Command, Expr, NoMemory, Pred, PredKind, RowId, Statement, Table, Value,
+    Cmp, Col, Command, Expr, NoMemory, Pred, PredKind, RowId, RowName, Statement, StatementKind,
+    Table, TableName, Value,
 };
 
 /// Room for a comma, a space and a row, whatever its numbers are: each has at most 20 digits, and one of them a sign.
@@ -26,11 +27,24 @@ fn put_natural(out: &mut Vec<u8>, n: u32) -> Result<(), NoMemory>
     out.extend_from_slice(Buffer::new().format(n).as_bytes())
 }
 
-/// Appends the name of a row. NoMemory where a growth was refused, and then part of it may stand there.
-pub fn put_id(out: &mut Vec<u8>, id: RowId) -> Result<(), NoMemory>
-    ensures { OnOk result (out.new.items ≡ out.old.items ++ printed_id id) }
+/// Appends what stands before a row of a table: its name and a space, and nothing for `test`.
+fn put_table_name(out: &mut Vec<u8>, table: TableName) -> Result<(), NoMemory>
+    ensures { OnOk result (out.new.items ≡ out.old.items ++ printed_table_name table) }
 {
-    put_natural(out, id.number())
+    if table == TableName::test() {
+        return Ok(());
+    }
+    out.extend_from_slice(table.as_bytes())?;
+    out.extend_from_slice(b" ")
+}
+
+/// Appends the name of a row: the number of a row of `test`, and the table's name and the number of another, as `stock 1`.
+/// NoMemory where a growth was refused, and then part of it may stand there.
+pub fn put_row_name(out: &mut Vec<u8>, row: RowName) -> Result<(), NoMemory>
+    ensures { OnOk result (out.new.items ≡ out.old.items ++ printed_row_name row) }
+{
+    put_table_name(out, row.table)?;
+    put_natural(out, row.id.number())
 }
 
 fn put_col(out: &mut Vec<u8>, col: Col) -> Result<(), NoMemory>
@@ -243,26 +257,45 @@ fn put_next_row(out: &mut Vec<u8>, id: RowId, value: Value) -> Result<(), NoMemo
     out.extend_from_slice(&text[start..])
 }
 
+/// Appends a row of any table.
+fn put_named_row(out: &mut Vec<u8>, row: RowName, value: Value) -> Result<(), NoMemory>
+    ensures { OnOk result (out.new.items ≡ out.old.items ++ printed_named_row row value) }
+{
+    put_table_name(out, row.table)?;
+    put_row(out, row.id, value)
+}
+
+/// Appends words and the name of a table.
+fn put_words(out: &mut Vec<u8>, words: &[u8], table: TableName) -> Result<(), NoMemory>
+    ensures { OnOk result (out.new.items ≡ out.old.items ++ (words.now ++ table)) }
+{
+    out.extend_from_slice(words)?;
+    out.extend_from_slice(table.as_bytes())
+}
+
 /// Appends a statement.
 pub fn put_statement(out: &mut Vec<u8>, statement: &Statement) -> Result<(), NoMemory>
     ensures { OnOk result (out.new.items ≡ out.old.items ++ printed_statement statement.now) }
 {
-    match statement {
-        Statement::Select { pred } => {
-            out.extend_from_slice(b"select * from test")?;
+    let table = statement.table;
+    match &statement.kind {
+        StatementKind::Select { pred } => {
+            put_words(out, b"select * from ", table)?;
             put_where(out, pred)
         }
-        Statement::Update { expr, pred } => {
-            out.extend_from_slice(b"update test set value = ")?;
+        StatementKind::Update { expr, pred } => {
+            put_words(out, b"update ", table)?;
+            out.extend_from_slice(b" set value = ")?;
             put_expr(out, *expr)?;
             put_where(out, pred)
         }
-        Statement::Insert { id, value } => {
-            out.extend_from_slice(b"insert into test (id, value) values ")?;
+        StatementKind::Insert { id, value } => {
+            put_words(out, b"insert into ", table)?;
+            out.extend_from_slice(b" (id, value) values ")?;
             put_row(out, *id, *value)
         }
-        Statement::Delete { pred } => {
-            out.extend_from_slice(b"delete from test")?;
+        StatementKind::Delete { pred } => {
+            put_words(out, b"delete from ", table)?;
             put_where(out, pred)
         }
     }
@@ -280,25 +313,38 @@ pub fn put_command(out: &mut Vec<u8>, command: &Command) -> Result<(), NoMemory>
     }
 }
 
-fn put_rows_or(out: &mut Vec<u8>, none: &[u8], rows: &[(RowId, Value)]) -> Result<(), NoMemory>
-    ensures { OnOk result (out.new.items ≡ out.old.items ++ rows_or none.now rows.now) }
+/// Appends rows of one table as a list, without the table's name; `none` where there is no row.
+/// NoMemory where a growth was refused, and then part of the list may stand there.
+pub fn put_list(out: &mut Vec<u8>, rows: &[(RowName, Value)]) -> Result<(), NoMemory>
+    ensures { OnOk result (out.new.items ≡ out.old.items ++ rows_or (codes "none") rows.now) }
 {
     let Some((first, rest)) = rows.split_first() else {
-        return out.extend_from_slice(none);
+        return out.extend_from_slice(b"none");
     };
-    put_row(out, first.0, first.1)?;
-    for (id, value) in rest {
-        put_next_row(out, *id, *value)?;
+    put_row(out, first.0.id, first.1)?;
+    for (row, value) in rest {
+        put_next_row(out, row.id, *value)?;
     }
     Ok(())
 }
 
-/// Appends rows as a list; `none` where there is no row. NoMemory where a growth was refused, and then part of the list
-/// may stand there.
-pub fn put_list(out: &mut Vec<u8>, rows: &[(RowId, Value)]) -> Result<(), NoMemory>
-    ensures { OnOk result (out.new.items ≡ out.old.items ++ rows_or (codes "none") rows.now) }
+/// Appends rows of any table.
+pub fn put_named_rows(
+    out: &mut Vec<u8>,
+    none: &[u8],
+    rows: &[(RowName, Value)],
+) -> Result<(), NoMemory>
+    ensures { OnOk result (out.new.items ≡ out.old.items ++ named_rows_or none.now rows.now) }
 {
-    put_rows_or(out, b"none", rows)
+    let Some((first, rest)) = rows.split_first() else {
+        return out.extend_from_slice(none);
+    };
+    put_named_row(out, first.0, first.1)?;
+    for (row, value) in rest {
+        out.extend_from_slice(b", ")?;
+        put_named_row(out, *row, *value)?;
+    }
+    Ok(())
 }
 
 /// Appends the line of a setup, without its newline.
@@ -306,7 +352,7 @@ pub fn put_setup(out: &mut Vec<u8>, table: &Table) -> Result<(), NoMemory>
     ensures { OnOk result (out.new.items ≡ out.old.items ++ printed_setup table.now) }
 {
     out.extend_from_slice(b"setup ")?;
-    put_rows_or(out, b"()", table.rows())?;
+    put_named_rows(out, b"()", table.rows())?;
     out.extend_from_slice(b";")
 }
 

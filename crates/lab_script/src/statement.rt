@@ -3,6 +3,7 @@
 ghost use Rattle.std.specs.Prelude.{◌≡◌, ◌==◌, ◌<◌, nat_le, if◌then◌else◌, List, length, Some, None, OnErr, IfErr};
 ghost use Rattle.lab_table.specs.declared.statement.Statement.{Statement as Spelled};
 ghost use Rattle.lab_script.specs.declared.token.Token.{Token as Shown};
+ghost use Rattle.lab_script.specs.Grammar.{over};
 ghost use Rattle.lab_script.specs.Limits.{max_statement_bytes};
 ghost use Rattle.lab_script.specs.Printed.{printed_statement};
 ghost use Rattle.lab_script.specs.Reading.{Gives, RefusesTooLong};
@@ -16,7 +17,7 @@ use crate::fits::statement_fits;
 use crate::parser::Parser;
 use crate::refusal::{GrammarFault, Refusal};
 use crate::token::{Token, Word};
-use lab_table::{Expr, Statement};
+use lab_table::{Expr, Statement, StatementKind, TableName};
 use std::alloc::Global;
 
 impl Parser<'_> {
@@ -64,13 +65,10 @@ impl Parser<'_> {
         ensures reads { Comes (λ x. (x, self.new)) result self.new (select_read self.old) }
         ensures kind { IfErr result IsOfStatement }
     {
-        self.expect_all(&[
-            Token::Star,
-            Token::Word(Word::From),
-            Token::Word(Word::Test),
-        ])?;
+        self.expect_all(&[Token::Star, Token::Word(Word::From)])?;
+        let table = self.name()?;
         let pred = self.where_clause(alloc)?;
-        Ok(Statement::Select { pred })
+        Ok(over(table, StatementKind::Select { pred }))
     }
 
     /// An update, from behind its first word on.
@@ -80,15 +78,15 @@ impl Parser<'_> {
         ensures reads { Comes (λ x. (x, self.new)) result self.new (update_read self.old) }
         ensures kind { IfErr result IsOfStatement }
     {
+        let table = self.name()?;
         self.expect_all(&[
-            Token::Word(Word::Test),
             Token::Word(Word::Set),
             Token::Word(Word::Value),
             Token::Equal,
         ])?;
         let expr = self.expr()?;
         let pred = self.where_clause(alloc)?;
-        Ok(Statement::Update { expr, pred })
+        Ok(over(table, StatementKind::Update { expr, pred }))
     }
 
     /// The new value of an update.
@@ -113,11 +111,11 @@ impl Parser<'_> {
     fn insert(&mut self) -> Result<Statement, Refusal>
         ensures gives { Gives (λ x. (x, self.new)) result (insert_at self.old) }
         ensures reads { Comes (λ x. (x, self.new)) result self.new (insert_read self.old) }
-        ensures kind { IfErr result IsOfTokens }
+        ensures kind { IfErr result IsOfStatement }
     {
+        self.expect(Token::Word(Word::Into))?;
+        let table = self.name()?;
         self.expect_all(&[
-            Token::Word(Word::Into),
-            Token::Word(Word::Test),
             Token::Open,
             Token::Word(Word::Id),
             Token::Comma,
@@ -126,7 +124,7 @@ impl Parser<'_> {
             Token::Word(Word::Values),
         ])?;
         let (id, value) = self.row()?;
-        Ok(Statement::Insert { id, value })
+        Ok(over(table, StatementKind::Insert { id, value }))
     }
 
     /// A delete, from behind its first word on.
@@ -136,9 +134,10 @@ impl Parser<'_> {
         ensures reads { Comes (λ x. (x, self.new)) result self.new (delete_read self.old) }
         ensures kind { IfErr result IsOfStatement }
     {
-        self.expect_all(&[Token::Word(Word::From), Token::Word(Word::Test)])?;
+        self.expect(Token::Word(Word::From))?;
+        let table = self.name()?;
         let pred = self.where_clause(alloc)?;
-        Ok(Statement::Delete { pred })
+        Ok(over(table, StatementKind::Delete { pred }))
     }
 
     /// The end of a statement: nothing is left, or a semicolon.
@@ -159,6 +158,13 @@ impl Parser<'_> {
             }
         }
     }
+}
+
+/// A statement of this kind on the rows of a table.
+fn over(table: TableName, kind: StatementKind) -> Statement
+    ensures { result ≡ over table kind }
+{
+    Statement { table, kind }
 }
 
 /// The printed form is as short as it must be.

@@ -55,7 +55,7 @@ fn statement_tokens(alloc: Global, text: &[u8]) -> Result<Vec<Token>, NoMemory>
     let (code, _) = code_and_remark(text);
     let mut tokens = tokens_of(alloc, code)?;
     if code.len() < text.len() {
-        tokens.push(Token::Unknown)?;
+        tokens.extend_from_slice(&[Token::Unknown])?;
     }
     Ok(tokens)
 }

@@ -1,14 +1,14 @@
 //! What a script does where its transactions run whole. After NoMemory, part of what was to be appended may stand there.
 
 ghost use Rattle.std.specs.Prelude.{◌≡◌, ◌++◌, [], None, codes, IfOk, IfErr, OnOk, ◌⊎◌, ◌≢◌, Some};
-ghost use Rattle.lab_script.specs.Printed.{printed_id, printed_statement, rows_or};
+ghost use Rattle.lab_script.specs.Printed.{named_rows_or, printed_row_name, printed_statement, rows_or};
 ghost use Rattle.lab_script.specs.TranscriptView.{broken_with, fault_text, limit_broken};
 ghost use Rattle.lab_script.specs.Transcript.{heading_text};
 
 use crate::print::{PrintFault, check_statement};
-use crate::spelling::{put_id, put_list, put_statement};
+use crate::spelling::{put_list, put_named_rows, put_row_name, put_statement};
 use itoa::Buffer;
-use lab_table::{NoMemory, RowId, Session, Statement, TableFault, Value};
+use lab_table::{NoMemory, RowName, Session, Statement, TableFault, Value};
 use std::alloc::{AllocError, Global};
 use std::marker::Model;
 
@@ -72,8 +72,16 @@ impl Transcript {
         Ok(())
     }
 
-    /// Appends rows as a list.
-    pub(crate) fn put_rows(&mut self, rows: &[(RowId, Value)]) -> Result<(), NoMemory>
+    /// Appends all rows of a table, with the names of tables.
+    pub(crate) fn put_table(&mut self, rows: &[(RowName, Value)]) -> Result<(), NoMemory>
+        ensures text { OnOk result (self.new.text ≡ self.old.text ++ named_rows_or (codes "none") rows.now) }
+        ensures unprintable { OnOk result (self.new.unprintable ≡ self.old.unprintable) }
+    {
+        put_named_rows(&mut self.text, b"none", rows)
+    }
+
+    /// Appends the rows that a statement lists.
+    pub(crate) fn put_rows(&mut self, rows: &[(RowName, Value)]) -> Result<(), NoMemory>
         ensures text { OnOk result (self.new.text ≡ self.old.text ++ rows_or (codes "none") rows.now) }
         ensures unprintable { OnOk result (self.new.unprintable ≡ self.old.unprintable) }
     {
@@ -93,12 +101,12 @@ impl Transcript {
         }
     }
 
-    fn put_refusal(&mut self, reason: &[u8], id: RowId) -> Result<(), NoMemory>
-        ensures text { OnOk result (self.new.text ≡ self.old.text ++ (reason.now ++ printed_id id)) }
+    fn put_refusal(&mut self, reason: &[u8], row: RowName) -> Result<(), NoMemory>
+        ensures text { OnOk result (self.new.text ≡ self.old.text ++ (reason.now ++ printed_row_name row)) }
         ensures unprintable { OnOk result (self.new.unprintable ≡ self.old.unprintable) }
     {
         self.text.extend_from_slice(reason)?;
-        put_id(&mut self.text, id)
+        put_row_name(&mut self.text, row)
     }
 
     /// The text that `print_transcript` copies, handed out as it is, if each statement in it keeps the limits of a text.

@@ -4,7 +4,7 @@ use Rattle.std.specs.List.{Contains}
 use Rattle.std.specs.Fmt.{decimal}
 use Rattle.lab_table.specs.declared.statement.Command.{Command}
 use Rattle.lab_script.specs.Limits.{CommandPrints}
-use Rattle.lab_script.specs.Printed.{joined, newline, printed_command, printed_id, printed_list}
+use Rattle.lab_script.specs.Printed.{joined, newline, printed_command, printed_row_name, printed_list}
 use Rattle.lab_engine.specs.declared.event.EngineFault.{EngineFault}
 use Rattle.lab_engine.specs.declared.event.EngineFault.TheVariants as fault
 use Rattle.lab_engine.specs.declared.event.Outcome.{Outcome}
@@ -21,10 +21,10 @@ next_text session = codes " " ++ session_text session
 
 -- why a command was refused
 abbrev pub refusal_text : EngineFault → List ℕ
-refusal_text (fault.DuplicateKey id) = codes "DuplicateKey " ++ printed_id id
-refusal_text (fault.OutOfRange id) = codes "OutOfRange " ++ printed_id id
+refusal_text (fault.DuplicateKey id) = codes "DuplicateKey " ++ printed_row_name id
+refusal_text (fault.OutOfRange id) = codes "OutOfRange " ++ printed_row_name id
 refusal_text (fault.Deadlock circle) = codes "Deadlock" ++ flat_map next_text circle
-refusal_text (fault.WriteConflict row by) = codes "WriteConflict row " ++ printed_id row ++ codes " by " ++ decimal by
+refusal_text (fault.WriteConflict row by) = codes "WriteConflict row " ++ printed_row_name row ++ codes " by " ++ decimal by
 refusal_text fault.NoTransaction = codes "NoTransaction"
 refusal_text fault.AlreadyBegun = codes "AlreadyBegun"
 refusal_text fault.Busy = codes "Busy"

@@ -1,14 +1,14 @@
 //! A log as a text. Each function appends; after NoMemory, part of what was to be appended may stand there.
 
-ghost use Rattle.std.specs.Prelude.{◌≡◌, ◌++◌, codes, flat_map, map, Err, IfOk, OnOk};
+ghost use Rattle.std.specs.Prelude.{◌≢◌, ◌≡◌, ◌++◌, codes, flat_map, map, Err, IfOk, OnOk};
 ghost use Rattle.lab_script.specs.Limits.{CommandPrints, IsDeep, IsLong};
-ghost use Rattle.lab_script.specs.Printed.{joined, printed_id};
+ghost use Rattle.lab_script.specs.Printed.{joined, printed_row_name};
 ghost use Rattle.lab_session.specs.LogText.{AllPrint, SomeEvent, event_text, log_text, next_text, outcome_text, refusal_text, session_text};
 
 use itoa::Buffer;
 use lab_engine::{EngineFault, LogEvent, Outcome, Recording};
-use lab_script::{PrintFault, put_id, put_list, put_printable};
-use lab_table::{NoMemory, RowId, Session};
+use lab_script::{PrintFault, put_list, put_printable, put_row_name};
+use lab_table::{NoMemory, RowName, Session};
 use std::alloc::Global;
 
 /// The log of a recording, one line for each event, as `T1 commit: committed`, if each of its statements keeps the
@@ -18,6 +18,7 @@ pub fn print_log(alloc: Global, recording: &Recording) -> Result<Vec<u8>, PrintF
     ensures prints { OnOk result (AllPrint recording.now.log) }
     ensures too_deep { result ≡ Err PrintFault.TooDeep → SomeEvent IsDeep recording.now.log }
     ensures too_long { result ≡ Err PrintFault.TooLong → SomeEvent IsLong recording.now.log }
+    ensures few_tables { result ≢ Err PrintFault.TooManyTables }
 {
     let log = recording.log();
     let mut text = Vec::new(alloc);
@@ -32,6 +33,7 @@ fn put_event(out: &mut Vec<u8>, event: &LogEvent) -> Result<(), PrintFault>
     ensures prints { OnOk result (CommandPrints event.now.command) }
     ensures too_deep { result ≡ Err PrintFault.TooDeep → IsDeep event.now.command }
     ensures too_long { result ≡ Err PrintFault.TooLong → IsLong event.now.command }
+    ensures few_tables { result ≢ Err PrintFault.TooManyTables }
 {
     put_session(out, event.session)?;
     out.extend_from_slice(b" ")?;
@@ -101,11 +103,11 @@ fn put_outcome(out: &mut Vec<u8>, outcome: &Outcome) -> Result<(), NoMemory>
 }
 
 /// Appends why a command was refused, and for which row.
-fn put_reason(out: &mut Vec<u8>, reason: &[u8], id: RowId) -> Result<(), NoMemory>
-    ensures { OnOk result (out.new.items ≡ out.old.items ++ (reason.now ++ printed_id id)) }
+fn put_reason(out: &mut Vec<u8>, reason: &[u8], id: RowName) -> Result<(), NoMemory>
+    ensures { OnOk result (out.new.items ≡ out.old.items ++ (reason.now ++ printed_row_name id)) }
 {
     out.extend_from_slice(reason)?;
-    put_id(out, id)
+    put_row_name(out, id)
 }
 
 fn put_refusal(out: &mut Vec<u8>, fault: &EngineFault) -> Result<(), NoMemory>
@@ -120,7 +122,7 @@ fn put_refusal(out: &mut Vec<u8>, fault: &EngineFault) -> Result<(), NoMemory>
         }
         EngineFault::WriteConflict { row, by } => {
             out.extend_from_slice(b"WriteConflict row ")?;
-            put_id(out, *row)?;
+            put_row_name(out, *row)?;
             out.extend_from_slice(b" by ")?;
             out.extend_from_slice(Buffer::new().format(by.number()).as_bytes())?;
         }

@@ -66,9 +66,10 @@ pub(crate) fn asked<E: Engine>(
             change,
         });
     }
-    let Ok(()) = seat.calls.push(Call { command, receipt }) else {
-        unreachable!()
-    };
+    match seat.calls.push(Call { command, receipt }) {
+        Ok(()) => (),
+        Err(_) => unreachable!(),
+    }
     Ok(Progress {
         answered: true,
         change,
@@ -150,9 +151,10 @@ pub(crate) fn retried<E: Engine>(
     let Some(command) = seat.holds.take() else {
         unreachable!()
     };
-    let Ok(()) = seat.calls.push(Call { command, receipt }) else {
-        unreachable!()
-    };
+    match seat.calls.push(Call { command, receipt }) {
+        Ok(()) => (),
+        Err(_) => unreachable!(),
+    }
     Ok(Some(change))
 }
 

@@ -1,7 +1,9 @@
 //! Seats that a lab isn't closed with.
 
 use lab_session::{CloseFault, Lab, LabFault, Seat};
-use lab_table::{Command, RowId, Session, Statement, Table, Value};
+use lab_table::{
+    Command, RowId, RowName, Session, Statement, StatementKind, Table, TableName, Value,
+};
 use lab_versions::SnapshotEngine;
 use std::alloc::Global;
 use std::sync::Wait;
@@ -32,7 +34,8 @@ fn a_missing_seat_is_handed_in_later(rt: HostRuntime) -> Result<(), Fail> {
 /// A table that has row 1 with this value.
 fn table_of(alloc: Global, value: i64) -> Option<Table> {
     let mut table = Table::new(alloc);
-    table.add(alloc, RowId::new(1)?, Value::new(value)?).ok()?;
+    let row = RowName::in_test(RowId::new(1)?);
+    table.add(alloc, row, Value::new(value)?).ok()?;
     Some(table)
 }
 
@@ -41,7 +44,10 @@ fn looked<R: Wait>(rt: &R, alloc: Global, value: i64) -> Option<(Lab<SnapshotEng
     let engine = SnapshotEngine::new(alloc, table_of(alloc, value)?);
     let (lab, mut seats) = Lab::start(alloc, engine, 1).ok()?;
     let seat = lab.submit(rt, alloc, seats.pop()?, Command::Begin).ok()?;
-    let select = Command::Run(Statement::Select { pred: None });
+    let select = Command::Run(Statement {
+        table: TableName::test(),
+        kind: StatementKind::Select { pred: None },
+    });
     let seat = lab.submit(rt, alloc, seat, select).ok()?;
     Some((lab, seat))
 }

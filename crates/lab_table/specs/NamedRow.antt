@@ -1,38 +1,42 @@
 -- Which rows a statement names by their numbers.
-use Rattle.std.specs.Prelude.{◌≡◌, ◌≤◌, ℤ, pos, ◌⊎◌, Bool, Option, Some, None, List}
+use Rattle.std.specs.Prelude.{◌≡◌, ◌≤◌, ℕ, ℤ, pos, ◌⊎◌, Bool, Option, Some, None, List}
 use Rattle.std.specs.List.{list_any}
 use Rattle.std.specs.Ordering.{int_eq}
-use Rattle.lab_table.specs.Row.{Row, id_of}
+use Rattle.lab_table.specs.Row.{Row, id_of, numbered}
 use Rattle.lab_table.specs.Predicate.{Predicate, Compare, Remainder, OneOf, Not, And, Or}
 use Rattle.lab_table.specs.declared.predicate.Col.TheVariants.{Id}
 use Rattle.lab_table.specs.declared.predicate.Cmp.TheVariants.{Eq}
 use Rattle.lab_table.specs.declared.statement.Statement.{Statement}
-use Rattle.lab_table.specs.declared.statement.Statement.TheVariants.{Select, Update, Insert, Delete}
+use Rattle.lab_table.specs.declared.statement.StatementKind.{StatementKind}
+use Rattle.lab_table.specs.declared.statement.StatementKind.TheVariants.{Select, Update, Insert, Delete}
 
 -- a number is that of a row, of those that there can be
-abbrev pub IsNumbered : ℤ → Row → Type 0
-IsNumbered number row = (number ≡ pos row) × (1 ≤ row) × (row ≤ 999999)
+abbrev pub IsNumbered : ℤ → ℕ → Type 0
+IsNumbered number id = (number ≡ pos id) × (1 ≤ id) × (id ≤ 999999)
 
--- a predicate is that the id is this row's, or an `and` of which a part is
-abbrev pub Names : Predicate → Row → Type 0
-Names (Compare col cmp number) row = (col ≡ Id) × (cmp ≡ Eq) × IsNumbered number row
-Names (Remainder col modulus rest) row = ⊥
-Names (OneOf col numbers) row = ⊥
-Names (Not p) row = ⊥
-Names (And p q) row = Names p row ⊎ Names q row
-Names (Or p q) row = ⊥
+-- a predicate is that the id is this, or an `and` of which a part is
+abbrev pub Names : Predicate → ℕ → Type 0
+Names (Compare col cmp number) id = (col ≡ Id) × (cmp ≡ Eq) × IsNumbered number id
+Names (Remainder col modulus rest) id = ⊥
+Names (OneOf col numbers) id = ⊥
+Names (Not p) id = ⊥
+Names (And p q) id = Names p id ⊎ Names q id
+Names (Or p q) id = ⊥
 
 -- what stands behind where does
-abbrev pub WhereNames : Option Predicate → Row → Type 0
-WhereNames None row = ⊥
-WhereNames (Some p) row = Names p row
+abbrev pub WhereNames : Option Predicate → ℕ → Type 0
+WhereNames None id = ⊥
+WhereNames (Some p) id = Names p id
 
--- a statement names a row: its predicate does, or it inserts it
+-- a statement names a row of its table: its predicate does, or it inserts it
+abbrev pub KindNames : List ℕ → StatementKind → Row → Type 0
+KindNames table (Select pred) row = (row.table ≡ table) × WhereNames pred row.id
+KindNames table (Update expr pred) row = (row.table ≡ table) × WhereNames pred row.id
+KindNames table (Insert id new) row = row ≡ numbered table id
+KindNames table (Delete pred) row = (row.table ≡ table) × WhereNames pred row.id
+
 abbrev pub StatementNames : Statement → Row → Type 0
-StatementNames (Select pred) row = WhereNames pred row
-StatementNames (Update expr pred) row = WhereNames pred row
-StatementNames (Insert id new) row = row ≡ id
-StatementNames (Delete pred) row = WhereNames pred row
+StatementNames s = KindNames s.table s.kind
 
 -- whether one of these is a row's number
 abbrev pub has_number : List ℤ → Row → Bool
@@ -53,8 +57,11 @@ WhereNamesIds None = ⊥
 WhereNamesIds (Some p) = NamesIds p
 
 -- a statement's predicate is
+abbrev pub KindNamesIds : StatementKind → Type 0
+KindNamesIds (Select pred) = WhereNamesIds pred
+KindNamesIds (Update expr pred) = WhereNamesIds pred
+KindNamesIds (Insert id new) = ⊥
+KindNamesIds (Delete pred) = WhereNamesIds pred
+
 abbrev pub StatementNamesIds : Statement → Type 0
-StatementNamesIds (Select pred) = WhereNamesIds pred
-StatementNamesIds (Update expr pred) = WhereNamesIds pred
-StatementNamesIds (Insert id new) = ⊥
-StatementNamesIds (Delete pred) = WhereNamesIds pred
+StatementNamesIds s = KindNamesIds s.kind

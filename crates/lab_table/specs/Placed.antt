@@ -1,11 +1,11 @@
 -- A row's entry in a list.
-use Rattle.std.specs.Prelude.{ℕ, Bool, false, ◌==◌, Option, Some, None, List, slice_get}
-use Rattle.lab_table.specs.Row.{Row}
+use Rattle.std.specs.Prelude.{ℕ, Bool, false, Option, Some, None, List, slice_get}
+use Rattle.lab_table.specs.Row.{Row, row_test}
 
 -- whether an entry is the row's
 abbrev pub is_row : {V : Type 0} → Row → Option (Row × V) → Bool
 is_row row None = false
-is_row row (Some e) = row == e.0
+is_row row (Some e) = row_test row e.0
 
 -- whether the row's entry stands at a place
 abbrev pub is_row_at : {V : Type 0} → List (Row × V) → ℕ → Row → Bool

@@ -1,5 +1,5 @@
 -- The names of tables.
-use Rattle.std.specs.Prelude.{ℕ, Bool, not, ◌&&◌, ◌||◌, ◌==◌, nat_le, List, length, map}
+use Rattle.std.specs.Prelude.{ℕ, Bool, not, ◌&&◌, ◌||◌, ◌==◌, nat_le, List, length, map, codes}
 use Rattle.std.specs.List.{list_all}
 use Rattle.std.specs.Char.{to_ascii_lowercase, is_ascii_lowercase}
 use Rattle.std.specs.Cmp.Lexicographic.{slice_cmp, pointwise}
@@ -27,3 +27,7 @@ table_name_cmp = slice_cmp nat_cmp
 -- whether two names are the same
 abbrev pub table_name_eq : List ℕ → List ℕ → Bool
 table_name_eq = pointwise nat_eq
+
+-- the table of rows and statements that name none
+abbrev pub test_name : List ℕ
+test_name = codes "test"

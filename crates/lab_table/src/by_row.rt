@@ -4,12 +4,14 @@ ghost use Rattle.std.specs.Prelude.{◌≡◌, T, ◌≤◌, length, option_map,
 ghost use Rattle.std.specs.Option.{option_copied};
 ghost use Rattle.std.specs.List.{prefix_len};
 ghost use Rattle.std.specs.FinMap as map;
-ghost use Rattle.lab_table.specs.Row.{row_cmp};
+ghost use Rattle.std.specs.Ordering.{is_gt};
+ghost use Rattle.lab_table.specs.Row.{row_cmp, row_test, numbered};
 ghost use Rattle.lab_table.specs.Running.{comes_after};
 ghost use Rattle.lab_table.specs.Placed.{is_row_at};
 
 use crate::memory::NoMemory;
-use crate::number::RowId;
+use crate::row_name::RowName;
+use crate::table_name::TableName;
 use std::alloc::Global;
 use std::marker::Model;
 use std::mem;
@@ -17,7 +19,7 @@ use std::mem;
 /// A finite map from rows to values. It is kept sorted, so a row is found by halving.
 #[derive(Debug, Drop)]
 pub struct ByRow<V: Copy> {
-    entries: Vec<(RowId, V)>,
+    entries: Vec<(RowName, V)>,
 }
 
 impl<V: Copy> Model for ByRow<V> {
@@ -45,7 +47,7 @@ impl<V: Copy> ByRow<V> {
     }
 
     /// The values of these rows, which rise strictly; it takes no memory.
-    pub fn from_rising(entries: Vec<(RowId, V)>) -> ByRow<V>
+    pub fn from_rising(entries: Vec<(RowName, V)>) -> ByRow<V>
         requires { T (map.is_sorted row_cmp entries.items) }
         ensures { result ≡ map.from_sorted entries.items }
     {
@@ -53,14 +55,14 @@ impl<V: Copy> ByRow<V> {
     }
 
     /// The value of a row, or None where the row has none.
-    pub fn get(&self, row: RowId) -> Option<V>
+    pub fn get(&self, row: RowName) -> Option<V>
         ensures { result ≡ map.get self.now row }
     {
         value_of(&self.entries, row).copied()
     }
 
     /// The rows with their values, by rising row.
-    pub fn entries(&self) -> &[(RowId, V)]
+    pub fn entries(&self) -> &[(RowName, V)]
         ensures { result.now ≡ map.entries self.now }
     {
         &self.entries
@@ -68,7 +70,7 @@ impl<V: Copy> ByRow<V> {
 
     /// Gives a row this value, in the place of the one that it has, if any.
     /// The one refusal is want of memory, and leaves all as it was.
-    pub fn put(&mut self, row: RowId, value: V) -> Result<(), NoMemory>
+    pub fn put(&mut self, row: RowName, value: V) -> Result<(), NoMemory>
         ensures ok { IfOk result (λ _. self.new ≡ map.insert self.old row value) }
         ensures err { OnErr result (self.new ≡ self.old) }
     {
@@ -77,7 +79,7 @@ impl<V: Copy> ByRow<V> {
     }
 
     /// Takes all entries out, by rising row, and leaves none.
-    pub fn take(&mut self, alloc: Global) -> Vec<(RowId, V)>
+    pub fn take(&mut self, alloc: Global) -> Vec<(RowName, V)>
         ensures entries { result.items ≡ map.entries self.old }
         ensures left { self.new ≡ map.empty }
     {
@@ -95,7 +97,7 @@ impl<V: Copy> ByRow<V> {
 }
 
 /// The value of a row in a list whose rows rise strictly.
-pub fn value_of<V>(entries: &[(RowId, V)], row: RowId) -> Option<&V>
+pub fn value_of<V>(entries: &[(RowName, V)], row: RowName) -> Option<&V>
     requires { T (map.is_sorted row_cmp entries.now) }
     ensures { option_copied result ≡ map.find row_cmp row entries.now }
 {
@@ -103,39 +105,61 @@ pub fn value_of<V>(entries: &[(RowId, V)], row: RowId) -> Option<&V>
     if row == entry.0 { Some(&entry.1) } else { None }
 }
 
-/// The entry of the row of this number in a list whose rows rise strictly. No row has a number that isn't from 1 to
-/// 999,999.
-pub fn entry_numbered<V>(entries: &[(RowId, V)], number: u32) -> Option<&(RowId, V)>
+/// The entry of the row of this number and table in a list whose rows rise strictly. No row has a number that isn't from
+/// 1 to 999,999.
+pub fn entry_numbered<V>(
+    entries: &[(RowName, V)],
+    table: TableName,
+    number: u32,
+) -> Option<&(RowName, V)>
     requires { T (map.is_sorted row_cmp entries.now) }
-    ensures { option_copied result ≡ option_map (λ value. (number, value)) (map.find row_cmp number entries.now) }
+    ensures { option_copied result ≡ option_map (λ value. (numbered table number, value)) (map.find row_cmp (numbered table number) entries.now) }
 {
-    let entry = entries.get(place_numbered(entries, number))?;
-    if number == entry.0.number() {
+    let entry = entries.get(place_numbered(entries, table, number))?;
+    if is_numbered(entry.0, table, number) {
         Some(entry)
     } else {
         None
     }
 }
 
+/// Whether a row is the one of this number and table.
+fn is_numbered(row: RowName, table: TableName, number: u32) -> bool
+    ensures { result ≡ row_test (numbered table number) row }
+{
+    number == row.id.number() && table == row.table
+}
+
+/// Whether the row of this number and table comes after a row.
+fn is_behind(table: TableName, number: u32, row: RowName) -> bool
+    ensures { result ≡ is_gt (row_cmp (numbered table number) row) }
+{
+    if table == row.table {
+        number > row.id.number()
+    } else {
+        table > row.table
+    }
+}
+
 /// How many entries stand before a row, of a list whose rows rise strictly.
-pub fn place_of<V>(entries: &[(RowId, V)], row: RowId) -> usize
+pub fn place_of<V>(entries: &[(RowName, V)], row: RowName) -> usize
     requires { T (map.is_sorted row_cmp entries.now) }
     ensures value { result ≡ prefix_len (comes_after row) entries.now }
     ensures bound { result ≤ length entries.now }
 {
-    place_numbered(entries, row.number())
+    place_numbered(entries, row.table, row.id.number())
 }
 
-/// The same of a row of this number.
-fn place_numbered<V>(entries: &[(RowId, V)], number: u32) -> usize
+/// The same of the row of this number and table.
+fn place_numbered<V>(entries: &[(RowName, V)], table: TableName, number: u32) -> usize
     requires { T (map.is_sorted row_cmp entries.now) }
-    ensures value { result ≡ prefix_len (comes_after number) entries.now }
+    ensures value { result ≡ prefix_len (comes_after (numbered table number)) entries.now }
     ensures bound { result ≤ length entries.now }
 {
-    entries.partition_point(|entry| number > entry.0.number())
+    entries.partition_point(|entry| is_behind(table, number, entry.0))
 }
 
-fn stands_at<V>(entries: &[(RowId, V)], place: usize, row: RowId) -> bool
+fn stands_at<V>(entries: &[(RowName, V)], place: usize, row: RowName) -> bool
     ensures { result ≡ is_row_at entries.now place row }
 {
     match entries.get(place) {
@@ -144,7 +168,11 @@ fn stands_at<V>(entries: &[(RowId, V)], place: usize, row: RowId) -> bool
     }
 }
 
-fn put_entry<V: Copy>(entries: &mut Vec<(RowId, V)>, row: RowId, value: V) -> Result<(), NoMemory>
+fn put_entry<V: Copy>(
+    entries: &mut Vec<(RowName, V)>,
+    row: RowName,
+    value: V,
+) -> Result<(), NoMemory>
     requires { T (map.is_sorted row_cmp entries.old.items) }
     ensures ok { IfOk result (λ _. entries.new.items ≡ map.put row_cmp row value entries.old.items) }
     ensures err { OnErr result (entries.new.items ≡ entries.old.items) }

@@ -4,7 +4,7 @@ ghost use Rattle.std.specs.Prelude.{◌≡◌, ◌↔◌, IsTrue};
 
 use crate::number::Value;
 use crate::predicate::{Pred, PredKind};
-use crate::statement::{Command, Expr, Statement};
+use crate::statement::{Command, Expr, Statement, StatementKind};
 
 impl Command {
     ghost use Rattle.std.specs.Prelude.{◌≡◌, ◌↔◌, IsTrue};
@@ -28,27 +28,33 @@ impl Command {
 fn same_statements(a: &Statement, b: &Statement) -> bool
     ensures { IsTrue result ↔ (a.now ≡ b.now) }
 {
+    a.table == b.table && same_kinds(&a.kind, &b.kind)
+}
+
+fn same_kinds(a: &StatementKind, b: &StatementKind) -> bool
+    ensures { IsTrue result ↔ (a.now ≡ b.now) }
+{
     match a {
-        Statement::Select { pred } => match b {
-            Statement::Select { pred: other } => same_wheres(pred, other),
+        StatementKind::Select { pred } => match b {
+            StatementKind::Select { pred: other } => same_wheres(pred, other),
             _ => false,
         },
-        Statement::Update { expr, pred } => match b {
-            Statement::Update {
+        StatementKind::Update { expr, pred } => match b {
+            StatementKind::Update {
                 expr: other_expr,
                 pred: other,
             } => same_expr(*expr, *other_expr) && same_wheres(pred, other),
             _ => false,
         },
-        Statement::Insert { id, value } => match b {
-            Statement::Insert {
+        StatementKind::Insert { id, value } => match b {
+            StatementKind::Insert {
                 id: other_id,
                 value: other,
             } => *id == *other_id && *value == *other,
             _ => false,
         },
-        Statement::Delete { pred } => match b {
-            Statement::Delete { pred: other } => same_wheres(pred, other),
+        StatementKind::Delete { pred } => match b {
+            StatementKind::Delete { pred: other } => same_wheres(pred, other),
             _ => false,
         },
     }

@@ -1,54 +1,64 @@
 //! What a statement does to one row.
 
 ghost use Rattle.std.specs.Prelude.{◌≡◌, cond, Some, None};
-ghost use Rattle.lab_table.specs.Statement.{where_holds, where_may_hold};
+ghost use Rattle.lab_table.specs.Statement.{picks, may_pick, where_holds, where_may_hold};
 
 use crate::number::{RowId, Value};
 use crate::predicate::Pred;
-use crate::statement::Statement;
+use crate::row_name::RowName;
+use crate::statement::{Statement, StatementKind};
+use crate::table_name::TableName;
 
 impl Statement {
     ghost use Rattle.std.specs.Prelude.{◌≡◌};
+    ghost use Rattle.lab_table.specs.Row.{row_eq, numbered};
     ghost use Rattle.lab_table.specs.Statement.{matches, may_match, listed, rewritten, would_write, new_state, fails};
+
+    /// Whether a row is the one of this number in the statement's table.
+    fn is_own(&self, id: RowId, row: RowName) -> bool
+        ensures { result ≡ row_eq row (numbered self.now.table id) }
+    {
+        row == self.row(id)
+    }
 
     /// Whether a row in this state, None where it is absent, matches the statement. An absent row matches none, and an
     /// insert matches the row that it adds.
-    pub fn matches(&self, id: RowId, state: Option<Value>) -> bool
-        ensures { result ≡ matches self.now id state }
+    pub fn matches(&self, row: RowName, state: Option<Value>) -> bool
+        ensures { result ≡ matches self.now row state }
     {
         let Some(value) = state else {
             return false;
         };
-        match self {
-            Statement::Select { pred } => is_selected(pred, id, value),
-            Statement::Update { pred, .. } => is_selected(pred, id, value),
-            Statement::Insert { id: own, .. } => id == *own,
-            Statement::Delete { pred } => is_selected(pred, id, value),
+        match &self.kind {
+            StatementKind::Select { pred } => is_selected(self.table, pred, row, value),
+            StatementKind::Update { pred, .. } => is_selected(self.table, pred, row, value),
+            StatementKind::Insert { id: own, .. } => self.is_own(*own, row),
+            StatementKind::Delete { pred } => is_selected(self.table, pred, row, value),
         }
     }
 
     /// Whether the row may match the statement in some state: false only where the row's own number rules that out.
-    pub fn may_match(&self, id: RowId) -> bool
-        ensures { result ≡ may_match self.now id }
+    pub fn may_match(&self, row: RowName) -> bool
+        ensures { result ≡ may_match self.now row }
     {
-        match self {
-            Statement::Select { pred } => may_be_selected(pred, id),
-            Statement::Update { pred, .. } => may_be_selected(pred, id),
-            Statement::Insert { id: own, .. } => id == *own,
-            Statement::Delete { pred } => may_be_selected(pred, id),
+        match &self.kind {
+            StatementKind::Select { pred } => may_be_selected(self.table, pred, row),
+            StatementKind::Update { pred, .. } => may_be_selected(self.table, pred, row),
+            StatementKind::Insert { id: own, .. } => self.is_own(*own, row),
+            StatementKind::Delete { pred } => may_be_selected(self.table, pred, row),
         }
     }
 
     /// What the statement lists of a row in this state: its value, if any.
-    pub fn listed(&self, id: RowId, state: Option<Value>) -> Option<Value>
-        ensures { result ≡ listed self.now id state }
+    pub fn listed(&self, row: RowName, state: Option<Value>) -> Option<Value>
+        ensures { result ≡ listed self.now row state }
     {
         let value = state?;
-        match self {
-            Statement::Select { pred } => selected_value(pred, id, value),
-            Statement::Update { pred, .. } => selected_value(pred, id, value),
-            Statement::Insert { .. } => None,
-            Statement::Delete { pred } => selected_value(pred, id, value),
+        match &self.kind {
+            StatementKind::Select { pred } => selected_value(self.table, pred, row, value),
+            StatementKind::Update { pred, .. } => selected_value(self.table, pred, row, value),
+            StatementKind::Insert { .. } => None,
+            StatementKind::Delete { pred } => selected_value(self.table, pred, row, value),
         }
     }
 
@@ -57,71 +67,84 @@ impl Statement {
     pub fn rewritten(&self, value: Value) -> Option<Option<Value>>
         ensures { result ≡ rewritten self.now value }
     {
-        match self {
-            Statement::Insert { .. } | Statement::Select { .. } => None,
-            Statement::Update { expr, .. } => {
+        match &self.kind {
+            StatementKind::Insert { .. } | StatementKind::Select { .. } => None,
+            StatementKind::Update { expr, .. } => {
                 let value = expr.apply(value)?;
                 Some(Some(value))
             }
-            Statement::Delete { .. } => Some(None),
+            StatementKind::Delete { .. } => Some(None),
         }
     }
 
     /// Whether the statement would write a row that it sees in this state, also where it would be refused.
-    pub fn would_write(&self, id: RowId, state: Option<Value>) -> bool
-        ensures { result ≡ would_write self.now id state }
+    pub fn would_write(&self, row: RowName, state: Option<Value>) -> bool
+        ensures { result ≡ would_write self.now row state }
     {
-        match self {
-            Statement::Select { .. } => false,
-            Statement::Update { .. } => self.matches(id, state),
-            Statement::Insert { id: own, .. } => id == *own,
-            Statement::Delete { .. } => self.matches(id, state),
+        match &self.kind {
+            StatementKind::Select { .. } => false,
+            StatementKind::Update { .. } => self.matches(row, state),
+            StatementKind::Insert { id: own, .. } => self.is_own(*own, row),
+            StatementKind::Delete { .. } => self.matches(row, state),
         }
     }
 
     /// The state that the statement would leave of a row that it sees in this state, None where that is absent.
     /// It is None too where the statement doesn't write the row, or the result is out of range.
-    pub fn new_state(&self, id: RowId, state: Option<Value>) -> Option<Value>
-        ensures { result ≡ new_state self.now id state }
+    pub fn new_state(&self, row: RowName, state: Option<Value>) -> Option<Value>
+        ensures { result ≡ new_state self.now row state }
     {
-        match self {
-            Statement::Select { .. } => None,
-            Statement::Update { expr, .. } => {
+        match &self.kind {
+            StatementKind::Select { .. } => None,
+            StatementKind::Update { expr, .. } => {
                 let Some(value) = state else {
                     return None;
                 };
-                if self.matches(id, Some(value)) {
+                if self.matches(row, Some(value)) {
                     expr.apply(value)
                 } else {
                     None
                 }
             }
-            Statement::Insert { id: own, value } => { if id == *own { Some(*value) } else { None } }
-            Statement::Delete { .. } => None,
+            StatementKind::Insert { id: own, value } => {
+                if self.is_own(*own, row) {
+                    Some(*value)
+                } else {
+                    None
+                }
+            }
+            StatementKind::Delete { .. } => None,
         }
     }
 
     /// Whether a row in this state keeps the statement from running: the result of an update is out of range, or the
     /// row that an insert adds is present.
-    pub fn fails_at(&self, id: RowId, state: Option<Value>) -> bool
-        ensures { result ≡ fails self.now id state }
+    pub fn fails_at(&self, row: RowName, state: Option<Value>) -> bool
+        ensures { result ≡ fails self.now row state }
     {
         let Some(value) = state else {
             return false;
         };
-        match self {
-            Statement::Select { .. } => false,
-            Statement::Update { expr, pred } => {
-                is_selected(pred, id, value) && expr.apply(value).is_none()
+        match &self.kind {
+            StatementKind::Select { .. } => false,
+            StatementKind::Update { expr, pred } => {
+                is_selected(self.table, pred, row, value) && expr.apply(value).is_none()
             }
-            Statement::Insert { id: own, .. } => id == *own,
-            Statement::Delete { .. } => false,
+            StatementKind::Insert { id: own, .. } => self.is_own(*own, row),
+            StatementKind::Delete { .. } => false,
         }
     }
 }
 
-/// Whether what stands behind `where` is true of a row with this value; without a `where` it is.
-pub fn is_selected(pred: &Option<Pred>, id: RowId, value: Value) -> bool
+/// Whether a row with this value is one of the table, and what stands behind `where` is true of it; without a `where` it is.
+pub fn is_selected(table: TableName, pred: &Option<Pred>, row: RowName, value: Value) -> bool
+    ensures { result ≡ picks table pred.now row value }
+{
+    row.table == table && is_true_of(pred, row.id, value)
+}
+
+/// Whether what stands behind `where` is true of a row of this number and with this value.
+fn is_true_of(pred: &Option<Pred>, id: RowId, value: Value) -> bool
     ensures { result ≡ where_holds pred.now id value }
 {
     match pred {
@@ -130,19 +153,31 @@ pub fn is_selected(pred: &Option<Pred>, id: RowId, value: Value) -> bool
     }
 }
 
-/// The value of a row, where what stands behind `where` is true of it.
-fn selected_value(pred: &Option<Pred>, id: RowId, value: Value) -> Option<Value>
-    ensures { result ≡ cond (where_holds pred.now id value) (Some value) None }
+/// The value of a row of the table, where what stands behind `where` is true of it.
+fn selected_value(
+    table: TableName,
+    pred: &Option<Pred>,
+    row: RowName,
+    value: Value,
+) -> Option<Value>
+    ensures { result ≡ cond (picks table pred.now row value) (Some value) None }
 {
-    if is_selected(pred, id, value) {
+    if is_selected(table, pred, row, value) {
         Some(value)
     } else {
         None
     }
 }
 
-/// Whether what stands behind `where` may be true of a row, whatever its value.
-fn may_be_selected(pred: &Option<Pred>, id: RowId) -> bool
+/// Whether a row is one of the table, and what stands behind `where` may be true of it, whatever its value.
+fn may_be_selected(table: TableName, pred: &Option<Pred>, row: RowName) -> bool
+    ensures { result ≡ may_pick table pred.now row }
+{
+    row.table == table && may_be_true_of(pred, row.id)
+}
+
+/// Whether what stands behind `where` may be true of a row of this number.
+fn may_be_true_of(pred: &Option<Pred>, id: RowId) -> bool
     ensures { result ≡ where_may_hold pred.now id }
 {
     match pred {

@@ -4,7 +4,7 @@ ghost use Rattle.std.specs.Prelude.{◌≡◌, ◌++◌, Some, refl};
 ghost use Rattle.std.specs.Cmp.{partial_equiv_from_equiv, po};
 ghost use Rattle.std.specs.Hash as fed;
 ghost use Rattle.std.specs.Hash.{same_Alike};
-ghost use Rattle.lab_table.specs.RowName.{row_name_cmp, row_name_eq, row_names_total, row_names_equiv, row_names_tied, row_names_decided};
+ghost use Rattle.lab_table.specs.Row.{row_cmp, row_test, rows_total, rows_equiv, rows_tested, rows_decided};
 
 use crate::number::RowId;
 use crate::table_name::TableName;
@@ -21,11 +21,11 @@ pub struct RowName {
 }
 
 impl Model for RowName {
-    ghost use Rattle.lab_table.specs.RowName.{RowKey, coded_row_name};
+    ghost use Rattle.lab_table.specs.Row.{Row, coded_row};
 
-    ghost Value = { RowKey };
+    ghost Value = { Row };
 
-    ghost coded = { coded_row_name };
+    ghost coded = { coded_row };
 
     ghost view = { λ row. record { table = row.table; id = row.id } };
 
@@ -33,6 +33,18 @@ impl Model for RowName {
 }
 
 impl RowName {
+    ghost use Rattle.lab_table.specs.Row.{in_test};
+
+    /// The row of this number in the table `test`.
+    pub fn in_test(id: RowId) -> RowName
+        ensures { result ≡ in_test id }
+    {
+        RowName {
+            table: TableName::test(),
+            id,
+        }
+    }
+
     /// The same name.
     pub fn copy(&self) -> RowName
         ensures { result ≡ self.now }
@@ -42,23 +54,24 @@ impl RowName {
 }
 
 impl PartialEq for RowName {
-    ghost eq = { row_name_eq };
+    ghost eq = { row_test };
 
-    ghost laws = { partial_equiv_from_equiv row_names_equiv };
+    ghost laws = { partial_equiv_from_equiv rows_equiv };
 
     fn eq(&self, other: &RowName) -> bool {
-        self.table == other.table && self.id == other.id
+        // Rows of one table are told apart by their numbers, at less cost.
+        self.id == other.id && self.table == other.table
     }
 }
 
 impl Eq for RowName {
-    ghost laws = { row_names_equiv };
+    ghost laws = { rows_equiv };
 }
 
 impl PartialOrd for RowName {
-    ghost partial_cmp = { λ a b. Some (row_name_cmp a b) };
+    ghost partial_cmp = { λ a b. Some (row_cmp a b) };
 
-    ghost laws = { po row_names_total row_names_tied };
+    ghost laws = { po rows_total rows_tested };
 
     fn partial_cmp(&self, other: &RowName) -> Option<Ordering> {
         Some(self.cmp(other))
@@ -66,23 +79,28 @@ impl PartialOrd for RowName {
 }
 
 impl Ord for RowName {
-    ghost cmp = { row_name_cmp };
+    ghost cmp = { row_cmp };
 
-    ghost total = { row_names_total };
+    ghost total = { rows_total };
 
     ghost matches_partial_cmp = { λ a b. refl };
 
-    ghost matches_eq = { row_names_tied };
+    ghost matches_eq = { rows_tested };
 
     fn cmp(&self, other: &RowName) -> Ordering {
-        self.table.cmp(&other.table).then(self.id.cmp(&other.id))
+        // Most rows that are compared are of one table, and whether they are is told at less cost than how tables stand.
+        if self.table == other.table {
+            self.id.cmp(&other.id)
+        } else {
+            self.table.cmp(&other.table)
+        }
     }
 }
 
 impl Hash for RowName {
     ghost hash_input = { λ row. fed.slice fed.u8 row.table ++ fed.u32 row.id };
 
-    ghost respects_eq = { (same_Alike (λ row. fed.slice fed.u8 row.table ++ fed.u32 row.id) row_names_decided).fed };
+    ghost respects_eq = { (same_Alike (λ row. fed.slice fed.u8 row.table ++ fed.u32 row.id) rows_decided).fed };
 
     fn hash<H: Hasher>(&self, state: &mut H) {
         self.table.hash(state);

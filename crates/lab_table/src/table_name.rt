@@ -55,7 +55,8 @@ impl TableName {
         Ok(TableName::spelled(text))
     }
 
-    fn spelled(text: &[u8]) -> Option<TableName>
+    /// What `new` answers, without the refusal that never comes.
+    pub fn spelled(text: &[u8]) -> Option<TableName>
         ensures some { is_some result ≡ is_table_name (in_lower_case text.now) }
         ensures value { IfSome result (λ name. name ≡ in_lower_case text.now) }
     {

@@ -6,20 +6,30 @@ use lab_history::{
     FileFault, History, Installed, Installers, Limit, ListPlace, Op, Ops, Outcome, Parts, Path,
     Rows, State, Txn, Txns, VersionName, View, Writes,
 };
-use lab_table::{Expr, RowId, Statement, Table, TxnNo, Value};
+use lab_table::{Expr, RowId, RowName, Statement, StatementKind, Table, TableName, TxnNo, Value};
 use std::alloc::Global;
 use std::test::Fail;
 
-fn row(number: u32) -> Result<RowId, Fail> {
-    Ok(RowId::new(number).ok_or("a row")?)
+fn row(number: u32) -> Result<RowName, Fail> {
+    Ok(RowName::in_test(RowId::new(number).ok_or("a row")?))
+}
+
+/// The table of this number: `test` at 1, and `b`, `c` and so on behind it.
+fn table_name(alloc: Global, number: u32) -> Result<TableName, Fail> {
+    if number <= 1 {
+        return Ok(TableName::test());
+    }
+    let letter = [b'a' + number.min(26) as u8 - 1];
+    Ok(TableName::new(alloc, &letter)?.ok_or("a table")?)
 }
 
 fn txn_no(number: u32) -> Result<TxnNo, Fail> {
     Ok(TxnNo::new(number).ok_or("a transaction")?)
 }
 
-/// A transaction with one update, which saw row 1 as this operation of transaction 1 left it, or as it was initially.
-fn txn(alloc: Global, number: u32, op: Option<u32>) -> Result<Txn, Fail> {
+/// A transaction with one update of a table, which saw row 1 as this operation of transaction 1 left it, or as it was
+/// initially.
+fn txn(alloc: Global, number: u32, op: Option<u32>, table: TableName) -> Result<Txn, Fail> {
     let value = Value::new(i64::from(number)).ok_or("a value")?;
     let version = match op {
         None => VersionName::Initial,
@@ -36,9 +46,12 @@ fn txn(alloc: Global, number: u32, op: Option<u32>) -> Result<Txn, Fail> {
         return Err(Fail::from("a view, rows and writes"));
     };
     let op = Op {
-        statement: Statement::Update {
-            expr: Expr::Plus(value),
-            pred: None,
+        statement: Statement {
+            table,
+            kind: StatementKind::Update {
+                expr: Expr::Plus(value),
+                pred: None,
+            },
         },
         view,
         rows,
@@ -57,9 +70,11 @@ fn txn(alloc: Global, number: u32, op: Option<u32>) -> Result<Txn, Fail> {
 }
 
 /// Rows 1 to a number; transactions 1 to a number and one more, which see this operation; and so many installers of
-/// row 1.
+/// row 1. Of so many tables the last one is named by the last transaction's statement alone, and each of the others has
+/// a row.
 #[derive(Clone, Copy, Debug)]
 struct Shape {
+    tables: u32,
     rows: u32,
     txns: u32,
     last: u32,
@@ -73,11 +88,17 @@ fn parts(alloc: Global, shape: Shape) -> Result<Parts, Fail> {
     for number in 1..=shape.rows {
         initial.add(alloc, row(number)?, value)?;
     }
+    for number in 2..shape.tables {
+        let mut row = row(1)?;
+        row.table = table_name(alloc, number)?;
+        initial.add(alloc, row, value)?;
+    }
     let mut txns = Vec::new(alloc);
     for number in 1..=shape.txns {
-        txns.push(txn(alloc, number, shape.op)?)?;
+        txns.push(txn(alloc, number, shape.op, TableName::test())?)?;
     }
-    txns.push(txn(alloc, shape.last, shape.op)?)?;
+    let table = table_name(alloc, shape.tables)?;
+    txns.push(txn(alloc, shape.last, shape.op, table)?)?;
     let installers = Installers::new(vec![in alloc; txn_no(1)?; shape.installers]?);
     let Ok(installed) = Installed::from_entries(vec![in alloc; (row(1)?, installers)]?) else {
         return Err(Fail::from("installers"));
@@ -93,6 +114,7 @@ fn parts(alloc: Global, shape: Shape) -> Result<Parts, Fail> {
 }
 
 const USUAL: Shape = Shape {
+    tables: 1,
     rows: 2,
     txns: 1,
     last: 2,
@@ -116,18 +138,24 @@ fn over(which: Limit) -> Option<FileFault> {
 fn parts_that_are_no_history(rt: HostRuntime) -> Result<(), Fail> {
     let repeated = FileFault::RepeatedTxn { no: txn_no(1)? };
     let view = wrong(ListPlace::View { txn: 0, op: 0 });
-    for (rows, txns, last, op, installers, expected) in [
-        (1_000, 999, 1_000, Some(1), 1, None),
-        (1_001, 1, 2, Some(1), 1, over(Limit::Ids)),
-        (2, 1_000, 1, Some(1), 1, over(Limit::Transactions)),
-        (2, 3, 1, Some(1), 1, Some(repeated)),
-        (2, 1, 2, None, 1, view),
-        (2, 1, 2, Some(0), 1, view),
-        (2, 1, 2, Some(10_000), 1, None),
-        (2, 1, 2, Some(10_001), 1, view),
-        (2, 1, 2, Some(1), 0, wrong(ListPlace::Installed)),
+    for (tables, rows, txns, last, op, installers, expected) in [
+        (1, 1_000, 999, 1_000, Some(1), 1, None),
+        (1, 1_001, 1, 2, Some(1), 1, over(Limit::Ids)),
+        (1, 2, 1_000, 1, Some(1), 1, over(Limit::Transactions)),
+        (1, 2, 3, 1, Some(1), 1, Some(repeated)),
+        (1, 2, 1, 2, None, 1, view),
+        (1, 2, 1, 2, Some(0), 1, view),
+        (1, 2, 1, 2, Some(10_000), 1, None),
+        (1, 2, 1, 2, Some(10_001), 1, view),
+        (1, 2, 1, 2, Some(1), 0, wrong(ListPlace::Installed)),
+        (4, 996, 1, 2, Some(1), 1, None),
+        (4, 999, 1, 2, Some(1), 1, over(Limit::Ids)),
+        (5, 2, 1, 2, Some(1), 1, over(Limit::Tables)),
+        (5, 1_001, 1, 2, Some(1), 1, over(Limit::Tables)),
+        (5, 2, 1_000, 1, Some(1), 1, over(Limit::Transactions)),
     ] {
         let shape = Shape {
+            tables,
             rows,
             txns,
             last,

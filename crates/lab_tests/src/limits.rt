@@ -5,10 +5,18 @@ use lab_script::{
     print_transcript, run_serial,
 };
 use lab_table::{
-    Col, Command, NoMemory, Numbers, Pred, PredKind, RowId, Session, Statement, Table, Value,
+    Col, Command, NoMemory, Numbers, Pred, PredKind, RowId, RowName, Session, Statement,
+    StatementKind, Table, TableName, Value,
 };
 use std::alloc::Global;
 use std::test::Fail;
+
+fn select_of(table: TableName, pred: Option<Pred>) -> Statement {
+    Statement {
+        table,
+        kind: StatementKind::Select { pred },
+    }
+}
 
 /// `select * from test where not not .. id in (1, 1, ..)`: 31 bytes, 4 for each `not` and 3 for each number.
 fn select(alloc: Global, nots: usize, numbers: usize) -> Result<Statement, Fail> {
@@ -23,7 +31,7 @@ fn select(alloc: Global, nots: usize, numbers: usize) -> Result<Statement, Fail>
             kind: PredKind::Not(Box::new(alloc, pred)?),
         };
     }
-    Ok(Statement::Select { pred: Some(pred) })
+    Ok(select_of(TableName::test(), Some(pred)))
 }
 
 /// A table of so many rows from row 100 on, all 0 but the last.
@@ -32,7 +40,11 @@ fn table(alloc: Global, count: u32, last: i64) -> Result<Table, Fail> {
     for index in 0..count.min(1_000) {
         let value = if index + 1 == count { last } else { 0 };
         let id = RowId::new(100 + index).ok_or("a row")?;
-        table.add(alloc, id, Value::new(value).ok_or("a value")?)?;
+        table.add(
+            alloc,
+            RowName::in_test(id),
+            Value::new(value).ok_or("a value")?,
+        )?;
     }
     Ok(table)
 }
@@ -95,17 +107,23 @@ fn statements_past_their_limits_are_not_printed(rt: HostRuntime) -> Result<(), F
 fn scripts_past_their_limits_are_not_printed(rt: HostRuntime) -> Result<(), Fail> {
     let alloc = rt.alloc();
     // 399 rows with a last value of six digits have a setup line of 4,000 bytes; a begin has 13 with its newline,
-    // and the statement 26.
-    for (rows, last, begins, expected) in [
-        (399, 100_000, 1_998, Ok(4_001 + 1_998 * 13 + 26)),
-        (399, 100_000, 1_999, Err(PrintFault::TooLong)),
-        (399, 1_000_000, 0, Err(PrintFault::TooLong)),
-        (0, 0, 0, Ok(10 + 26)),
+    // the statement 26, and one of a table whose name is a letter 23.
+    for (rows, last, begins, letters, expected) in [
+        (399, 100_000, 1_998, 0, Ok(4_001 + 1_998 * 13 + 26)),
+        (399, 100_000, 1_999, 0, Err(PrintFault::TooLong)),
+        (399, 1_000_000, 0, 0, Err(PrintFault::TooLong)),
+        (0, 0, 0, 0, Ok(10 + 26)),
+        (0, 0, 0, 3, Ok(10 + 26 + 3 * 23)),
+        (0, 0, 0, 4, Err(PrintFault::TooManyTables)),
     ] {
-        let mut script = script(alloc, begins, Statement::Select { pred: None })?;
+        let mut script = script(alloc, begins, select_of(TableName::test(), None))?;
+        for number in 0..letters {
+            let name = TableName::new(alloc, &[b'a' + number])?.ok_or("a table")?;
+            put(&mut script.lines, Command::Run(select_of(name, None)))?;
+        }
         script.setup = table(alloc, rows, last)?;
         let length = print_script(alloc, &script).map(|text| text.len());
-        assert_eq!(rt; length, expected, "{rows} {last} {begins}");
+        assert_eq!(rt; length, expected, "{rows} {last} {begins} {letters}");
     }
     Ok(())
 }

@@ -22,23 +22,28 @@ fn table(alloc: Global, setup: &str) -> Result<Table, Fail> {
 fn a_table_that_is_refused_memory_is_as_before(rt: HostRuntime) -> Result<(), Fail> {
     let alloc = rt.alloc();
     // Four rows, so that a fifth needs a growth.
-    let before = table(alloc, "setup (1, 10), (2, 20), (3, 30), (4, 40)")?;
+    let before = table(alloc, "setup (1, 10), (2, 20), (3, 30), stock (3, 24)")?;
     for (text, after) in [
         (
             "select * from test",
-            "setup (1, 10), (2, 20), (3, 30), (4, 40)",
+            "setup (1, 10), (2, 20), (3, 30), stock (3, 24)",
         ),
         (
             "update test set value = 7 where id > 2",
-            "setup (1, 10), (2, 20), (3, 7), (4, 7)",
+            "setup (1, 10), (2, 20), (3, 7), stock (3, 24)",
         ),
         (
             "delete from test where value < 25",
-            "setup (3, 30), (4, 40)",
+            "setup (3, 30), stock (3, 24)",
         ),
+        ("delete from stock", "setup (1, 10), (2, 20), (3, 30)"),
         (
             "insert into test (id, value) values (9, 90)",
-            "setup (1, 10), (2, 20), (3, 30), (4, 40), (9, 90)",
+            "setup (1, 10), (2, 20), (3, 30), (9, 90), stock (3, 24)",
+        ),
+        (
+            "insert into stock (id, value) values (2, 90)",
+            "setup (1, 10), (2, 20), (3, 30), stock (2, 90), stock (3, 24)",
         ),
     ] {
         let statement = parse_statement(alloc, text.as_bytes())
@@ -137,7 +142,7 @@ fn texts_that_are_refused_memory_are_not_made(rt: HostRuntime) -> Result<(), Fai
 
 /// A row that is inserted, changed and removed, which another transaction sees.
 const SHORT_LIFE: &str =
-    r#"{"end":[[1,10]],"format":"hermitage-history","initial":[[1,10]],"installed":[[3,[1]]],"transactions":[{"no":1,"ops":[{"rows":[],"statement":"insert into test (id, value) values (3, 30)","view":[],"writes":[[3,30]]},{"rows":[[3,30]],"statement":"update test set value = 31 where id = 3","view":[[3,1,1]],"writes":[[3,31]]},{"rows":[[3,31]],"statement":"delete from test where id = 3","view":[[3,1,2]],"writes":[[3,null]]}],"outcome":"committed"},{"no":2,"ops":[{"rows":[[1,10]],"statement":"select * from test","view":[[3,1,3]],"writes":[]}],"outcome":"aborted"}],"version":1}"#;
+    r#"{"end":[["test",1,10]],"format":"hermitage-history","initial":[["test",1,10]],"installed":[["test",3,[1]]],"transactions":[{"no":1,"ops":[{"rows":[],"statement":"insert into test (id, value) values (3, 30)","view":[],"writes":[["test",3,30]]},{"rows":[["test",3,30]],"statement":"update test set value = 31 where id = 3","view":[["test",3,1,1]],"writes":[["test",3,31]]},{"rows":[["test",3,31]],"statement":"delete from test where id = 3","view":[["test",3,1,2]],"writes":[["test",3,null]]}],"outcome":"committed"},{"no":2,"ops":[{"rows":[["test",1,10]],"statement":"select * from test","view":[["test",3,1,3]],"writes":[]}],"outcome":"aborted"}],"version":2}"#;
 
 /// What a call came to.
 #[derive(Clone, Copy, Debug, PartialEq, Eq)]

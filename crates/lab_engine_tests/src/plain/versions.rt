@@ -4,7 +4,7 @@ use crate::plain::PlainEngine;
 use crate::plain::transactions::{Txn, committed_by};
 use lab_engine::{Level, LogEvent, Outcome};
 use lab_history::{State, VersionName};
-use lab_table::{RowId, Table, TxnNo, Value};
+use lab_table::{RowName, Table, TxnNo, Value};
 
 /// A version of a row: its name, and what the row is in it.
 #[derive(Clone, Copy)]
@@ -21,7 +21,7 @@ pub fn state_of(value: Option<Value>) -> State {
 }
 
 /// The version of a row that a transaction wrote last, if it wrote the row. Its operations are counted from 1.
-pub fn last_written(txn: &Txn<'_>, row: RowId) -> Option<Version> {
+pub fn last_written(txn: &Txn<'_>, row: RowName) -> Option<Version> {
     let mut last = None;
     let mut op = 0u32;
     for event in txn.since {
@@ -43,7 +43,7 @@ pub fn last_written(txn: &Txn<'_>, row: RowId) -> Option<Version> {
 
 /// The committed version of a row after these events: what the last commit of a transaction that wrote the row installed,
 /// else as the setup has the row.
-pub fn committed(setup: &Table, log: &[LogEvent], row: RowId) -> Version {
+pub fn committed(setup: &Table, log: &[LogEvent], row: RowName) -> Version {
     for place in (0..log.len()).rev() {
         if let Some(txn) = committed_by(&log[..place], &log[place]) {
             if let Some(version) = last_written(&txn, row) {
@@ -60,7 +60,7 @@ pub fn committed(setup: &Table, log: &[LogEvent], row: RowId) -> Version {
 impl PlainEngine {
     /// The version of a row that a transaction sees: its own last one, else the one committed by now, or at snapshot at
     /// its begin.
-    pub fn seen(&self, txn: &Txn<'_>, row: RowId) -> Version {
+    pub fn seen(&self, txn: &Txn<'_>, row: RowName) -> Version {
         if let Some(own) = last_written(txn, row) {
             return own;
         }
@@ -71,7 +71,7 @@ impl PlainEngine {
     }
 
     /// The first transaction to install a row since the begin of one that wrote it.
-    pub fn overtaken_by(&self, txn: &Txn<'_>, row: RowId) -> Option<TxnNo> {
+    pub fn overtaken_by(&self, txn: &Txn<'_>, row: RowName) -> Option<TxnNo> {
         last_written(txn, row)?;
         for (place, event) in self.log.iter().enumerate() {
             if place >= txn.before.len() {

@@ -6,11 +6,11 @@ use crate::plain::transactions::{Txn, active};
 use crate::plain::versions::{committed, last_written};
 use lab_engine::{Level, Outcome};
 use lab_history::State;
-use lab_table::{Command, RowId, Session, Statement};
+use lab_table::{Command, RowName, Session, Statement};
 use std::alloc::Global;
 
 /// Whether a transaction has run a statement that a row in this state matches.
-fn was_matched(txn: &Txn<'_>, row: RowId, state: &State) -> bool {
+fn was_matched(txn: &Txn<'_>, row: RowName, state: &State) -> bool {
     for event in txn.since {
         if event.session == txn.session && is_operation(&event.outcome) {
             if let Command::Run(ran) = &event.command {
@@ -30,7 +30,7 @@ fn is_operation(outcome: &Outcome) -> bool {
 /// A row's state as a transaction sees it.
 #[derive(Clone, Copy)]
 struct Found {
-    row: RowId,
+    row: RowName,
     seen: State,
 }
 
@@ -48,7 +48,7 @@ fn has_read(statement: &Statement, other: &Txn<'_>, found: &Found) -> bool {
 
 impl PlainEngine {
     /// Whether another transaction has a pending write of a row that matches a statement as committed or as written.
-    fn holds_match(&self, statement: &Statement, other: &Txn<'_>, row: RowId) -> bool {
+    fn holds_match(&self, statement: &Statement, other: &Txn<'_>, row: RowName) -> bool {
         let Some(pending) = last_written(other, row) else {
             return false;
         };

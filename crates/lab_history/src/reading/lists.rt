@@ -12,11 +12,12 @@ ghost use Rattle.lab_history.specs.Format.{at_key};
 
 use crate::entry::{installed_of, values_of, view_of, writes_of};
 use crate::fault::FileFault;
+use crate::file_version::FileVersion;
 use crate::operation::{State, VersionName};
 use crate::path::{ListPlace, Path};
 use crate::refusal::{Refusal, wrong};
 use crate::transaction::Installers;
-use lab_table::{RowId, Value};
+use lab_table::{RowName, Value};
 use serde_json::Value as Json;
 use std::alloc::Global;
 
@@ -35,44 +36,55 @@ fn list_at<'v>(json: &'v Json, key: &str, place: ListPlace) -> Result<&'v Json, 
 /// The rows with their values at a key.
 pub fn values_at(
     alloc: Global,
+    version: FileVersion,
     json: &Json,
     key: &str,
     place: ListPlace,
-) -> Result<Vec<(RowId, Value)>, Refusal>
-    ensures read { Gives (λ entries. entries.items) result (values_in place (at_key key.now (view json.now))) }
+) -> Result<Vec<(RowName, Value)>, Refusal>
+    ensures read { Gives (λ entries. entries.items) result (values_in version place (at_key key.now (view json.now))) }
     ensures rises { IfOk result (λ entries. T (map.is_sorted row_cmp entries.items)) }
 {
-    values_of(alloc, place, list_at(json, key, place)?)
+    values_of(alloc, version, place, list_at(json, key, place)?)
 }
 
 /// The rows with their new states that an operation wrote.
 pub fn writes_at(
     alloc: Global,
+    version: FileVersion,
     json: &Json,
     place: ListPlace,
-) -> Result<Vec<(RowId, State)>, Refusal>
-    ensures read { Gives (λ entries. new_states entries.items) result (writes_in place (at_key (codes "writes") (view json.now))) }
+) -> Result<Vec<(RowName, State)>, Refusal>
+    ensures read { Gives (λ entries. new_states entries.items) result (writes_in version place (at_key (codes "writes") (view json.now))) }
     ensures rises { IfOk result (λ entries. T (map.is_sorted row_cmp (new_states entries.items))) }
 {
-    writes_of(alloc, place, list_at(json, "writes", place)?)
+    writes_of(alloc, version, place, list_at(json, "writes", place)?)
 }
 
 /// The rows with the versions that an operation saw.
 pub fn view_at(
     alloc: Global,
+    version: FileVersion,
     json: &Json,
     place: ListPlace,
-) -> Result<Vec<(RowId, VersionName)>, Refusal>
-    ensures read { Gives (λ entries. entries.items) result (view_in place (at_key (codes "view") (view json.now))) }
+) -> Result<Vec<(RowName, VersionName)>, Refusal>
+    ensures read { Gives (λ entries. entries.items) result (view_in version place (at_key (codes "view") (view json.now))) }
     ensures rises { IfOk result (λ entries. T (map.is_sorted row_cmp entries.items)) }
 {
-    view_of(alloc, place, list_at(json, "view", place)?)
+    view_of(alloc, version, place, list_at(json, "view", place)?)
 }
 
 /// The rows with their installers.
-pub fn installed_at(alloc: Global, json: &Json) -> Result<Vec<(RowId, Installers)>, Refusal>
-    ensures read { Gives (λ entries. entries.items) result (installed_in (at_key (codes "installed") (view json.now))) }
+pub fn installed_at(
+    alloc: Global,
+    version: FileVersion,
+    json: &Json,
+) -> Result<Vec<(RowName, Installers)>, Refusal>
+    ensures read { Gives (λ entries. entries.items) result (installed_in version (at_key (codes "installed") (view json.now))) }
     ensures rises { IfOk result (λ entries. T (map.is_sorted row_cmp entries.items)) }
 {
-    installed_of(alloc, list_at(json, "installed", ListPlace::Installed)?)
+    installed_of(
+        alloc,
+        version,
+        list_at(json, "installed", ListPlace::Installed)?,
+    )
 }

@@ -14,6 +14,7 @@ use super::keys::{has_keys, items_at, text_at};
 use super::operation::ops_of;
 use crate::entry::txn_of;
 use crate::fault::{FileFault, Limit};
+use crate::file_version::FileVersion;
 use crate::limits::{MAX_OPERATIONS, MAX_TRANSACTIONS};
 use crate::path::Path;
 use crate::refusal::{Refusal, over, wrong};
@@ -47,11 +48,12 @@ fn outcome_of(json: &Json) -> Option<Outcome>
 #[tactic(auto, using(crate::proofs::Counts::too_many, crate::proofs::Counts::few_enough))]
 fn transaction_of(
     alloc: Global,
+    version: FileVersion,
     earlier: &Earlier,
     index: usize,
     json: &Json,
 ) -> Result<Txn, Refusal>
-    ensures read { Gives (λ txn. txn) result (txn_in earlier.now index (view json.now)) }
+    ensures read { Gives (λ txn. txn) result (txn_in version earlier.now index (view json.now)) }
     ensures few { IfOk result (λ txn. length (operations earlier.now) + length txn.ops ≤ max_operations) }
 {
     if !has_keys(json, &["no", "ops", "outcome"]) {
@@ -72,14 +74,14 @@ fn transaction_of(
     if earlier.operations() + items.len() > MAX_OPERATIONS {
         return Err(over(Limit::Operations));
     }
-    let ops = ops_of(alloc, index, no, items)?;
+    let ops = ops_of(alloc, version, index, no, items)?;
     Ok(Txn { no, outcome, ops })
 }
 
 /// The transactions of a history.
 #[tactic(auto, using(crate::proofs::TxnsRead::txn_read, crate::proofs::TxnsRead::txn_fault, crate::proofs::TxnsRead::txns_end, crate::proofs::Counts::items_count))]
-pub fn txns_of(alloc: Global, json: &Json) -> Result<Txns, Refusal>
-    ensures { Gives (λ txns. txns) result (txns_in (at_key (codes "transactions") (view json.now))) }
+pub fn txns_of(alloc: Global, version: FileVersion, json: &Json) -> Result<Txns, Refusal>
+    ensures { Gives (λ txns. txns) result (txns_in version (at_key (codes "transactions") (view json.now))) }
 {
     let Some(items) = items_at(json, "transactions") else {
         return Err(wrong(Path::Transactions));
@@ -89,7 +91,7 @@ pub fn txns_of(alloc: Global, json: &Json) -> Result<Txns, Refusal>
     }
     let mut txns = Earlier::with_capacity(alloc, items.len())?;
     for (index, item) in items.iter().enumerate() {
-        let txn = transaction_of(alloc, &txns, index, item)?;
+        let txn = transaction_of(alloc, version, &txns, index, item)?;
         txns.push(txn)?;
     }
     Ok(txns.into_txns())

@@ -5,10 +5,10 @@ ghost use Rattle.serde_json.specs.Data.{string};
 ghost use Rattle.serde_json.specs.View.{view};
 ghost use Rattle.lab_script.specs.Limits.{StatementPrints};
 ghost use Rattle.lab_script.specs.Printed.{printed_statement};
-ghost use Rattle.lab_script.specs.Script.{SpellsStatement};
-ghost use Rattle.lab_history.specs.FileOf.{outcome_text, IsListOf, IsOperation, IsTransaction};
+ghost use Rattle.lab_history.specs.FileOf.{outcome_text, IsListOf, SpellsIn, IsOperation, IsTransaction};
 ghost use Rattle.lab_history.specs.HistoryRules.{operations, OpKeeps, OpsKeep};
 ghost use Rattle.lab_history.specs.Tree.{list_tree, op_tree, txn_tree};
+ghost use Rattle.lab_history.specs.declared.file_version.FileVersion.TheVariants.{Two};
 
 use crate::operation::Op;
 use crate::transaction::{Outcome, Txn};
@@ -22,12 +22,14 @@ use std::alloc::{AllocError, Global};
 fn statement_json(alloc: Global, statement: &Statement) -> Result<Json, NoMemory>
     requires { StatementPrints statement.now }
     ensures value { IfOk result (λ v. view v ≡ string (printed_statement statement.now)) }
-    ensures again { OnOk result (SpellsStatement (printed_statement statement.now) statement.now) }
+    ensures again { OnOk result (SpellsIn Two (printed_statement statement.now) statement.now) }
 {
     let text = match print_statement(alloc, statement) {
         Ok(text) => text,
         Err(PrintFault::NoMemory) => return Err(AllocError),
-        Err(PrintFault::TooDeep | PrintFault::TooLong) => unreachable!(),
+        Err(PrintFault::TooDeep | PrintFault::TooLong | PrintFault::TooManyTables) => {
+            unreachable!()
+        }
     };
     let Ok(text) = String::from_utf8(text) else {
         // what is printed is ASCII
@@ -39,7 +41,7 @@ fn statement_json(alloc: Global, statement: &Statement) -> Result<Json, NoMemory
 fn operation_json(alloc: Global, op: &Op) -> Result<Json, NoMemory>
     requires { OpKeeps op.now }
     ensures value { IfOk result (λ v. view v ≡ op_tree op.now) }
-    ensures file { OnOk result (IsOperation (op_tree op.now) op.now) }
+    ensures file { OnOk result (IsOperation Two (op_tree op.now) op.now) }
 {
     json!(in alloc; {
         "rows": rows_json(alloc, op.rows.entries())?,
@@ -52,7 +54,7 @@ fn operation_json(alloc: Global, op: &Op) -> Result<Json, NoMemory>
 fn operations_json(alloc: Global, ops: &[Op]) -> Result<Json, NoMemory>
     requires { OpsKeep ops.now }
     ensures value { IfOk result (λ v. view v ≡ list_tree op_tree ops.now) }
-    ensures file { OnOk result (IsListOf IsOperation (list_tree op_tree ops.now) ops.now) }
+    ensures file { OnOk result (IsListOf (IsOperation Two) (list_tree op_tree ops.now) ops.now) }
 {
     let mut values = Vec::with_capacity(alloc, ops.len())?;
     for op in ops {
@@ -73,7 +75,7 @@ fn outcome_json(alloc: Global, outcome: Outcome) -> Result<Json, NoMemory>
 fn transaction_json(alloc: Global, txn: &Txn) -> Result<Json, NoMemory>
     requires { OpsKeep txn.now.ops }
     ensures value { IfOk result (λ v. view v ≡ txn_tree txn.now) }
-    ensures file { OnOk result (IsTransaction (txn_tree txn.now) txn.now) }
+    ensures file { OnOk result (IsTransaction Two (txn_tree txn.now) txn.now) }
 {
     json!(in alloc; {
         "no": txn_number_json(txn.no),
@@ -86,7 +88,7 @@ fn transaction_json(alloc: Global, txn: &Txn) -> Result<Json, NoMemory>
 pub fn transactions_json(alloc: Global, txns: &[Txn]) -> Result<Json, NoMemory>
     requires { OpsKeep (operations txns.now) }
     ensures value { IfOk result (λ v. view v ≡ list_tree txn_tree txns.now) }
-    ensures file { OnOk result (IsListOf IsTransaction (list_tree txn_tree txns.now) txns.now) }
+    ensures file { OnOk result (IsListOf (IsTransaction Two) (list_tree txn_tree txns.now) txns.now) }
 {
     let mut values = Vec::with_capacity(alloc, txns.len())?;
     for txn in txns {

@@ -1,4 +1,4 @@
-//! The lists of a history as JSON values. Each list is what the format says of it.
+//! The lists of a history as JSON values. Each list is what version 2 of the format says of it.
 
 ghost use Rattle.std.specs.Prelude.{◌≡◌, true, Some, map, IfOk, OnOk};
 ghost use Rattle.std.specs.List.{list_all};
@@ -11,11 +11,12 @@ ghost use Rattle.lab_history.specs.HistoryRules.{is_listed, has_installer};
 ghost use Rattle.lab_history.specs.Tree.{natural_tree, value_tree, written_tree, list_tree, pair_tree, map_tree, version_tree, view_tree};
 ghost use Rattle.lab_history.specs.VersionName.{state_value, new_states};
 ghost use Rattle.lab_history.specs.declared.operation.VersionName.TheVariants.{Of};
+ghost use Rattle.lab_history.specs.declared.file_version.FileVersion.TheVariants.{Two};
 
 use crate::member::key_json;
 use crate::operation::{State, VersionName, View};
 use crate::transaction::{Installed, Installers};
-use lab_table::{NoMemory, RowId, Table, TxnNo, Value};
+use lab_table::{NoMemory, RowName, Table, TxnNo, Value};
 use serde_json::Value as Json;
 use std::alloc::Global;
 
@@ -44,18 +45,19 @@ fn state_json(state: State) -> Json
     }
 }
 
-fn row_json(alloc: Global, row: &(RowId, Value)) -> Result<Json, NoMemory>
+fn row_json(alloc: Global, row: &(RowName, Value)) -> Result<Json, NoMemory>
     ensures value { IfOk result (λ v. view v ≡ pair_tree value_tree row.now) }
-    ensures file { OnOk result (IsPair value_in (pair_tree value_tree row.now) row.now) }
+    ensures file { OnOk result (IsPair Two value_in (pair_tree value_tree row.now) row.now) }
 {
-    let pair = vec![in alloc; key_json(row.0), value_json(row.1)]?;
+    let (table, id) = key_json(alloc, row.0)?;
+    let pair = vec![in alloc; table, id, value_json(row.1)]?;
     Ok(Json::Array(pair))
 }
 
 /// Rows with their values.
-pub fn rows_json(alloc: Global, rows: &[(RowId, Value)]) -> Result<Json, NoMemory>
+pub fn rows_json(alloc: Global, rows: &[(RowName, Value)]) -> Result<Json, NoMemory>
     ensures value { IfOk result (λ v. view v ≡ list_tree (pair_tree value_tree) rows.now) }
-    ensures file { OnOk result (IsListOf (IsPair value_in) (list_tree (pair_tree value_tree) rows.now) rows.now) }
+    ensures file { OnOk result (IsListOf (IsPair Two value_in) (list_tree (pair_tree value_tree) rows.now) rows.now) }
 {
     let mut values = Vec::with_capacity(alloc, rows.len())?;
     for row in rows {
@@ -67,23 +69,24 @@ pub fn rows_json(alloc: Global, rows: &[(RowId, Value)]) -> Result<Json, NoMemor
 /// The rows of a table.
 pub fn table_json(alloc: Global, table: &Table) -> Result<Json, NoMemory>
     ensures value { IfOk result (λ v. view v ≡ map_tree value_tree table.now) }
-    ensures file { OnOk result (IsMapOf (IsPair value_in) (map_tree value_tree table.now) table.now) }
+    ensures file { OnOk result (IsMapOf (IsPair Two value_in) (map_tree value_tree table.now) table.now) }
 {
     rows_json(alloc, table.rows())
 }
 
-fn write_json(alloc: Global, write: &(RowId, State)) -> Result<Json, NoMemory>
+fn write_json(alloc: Global, write: &(RowName, State)) -> Result<Json, NoMemory>
     ensures value { IfOk result (λ v. view v ≡ pair_tree written_tree (write.now.0, state_value write.now.1)) }
-    ensures file { OnOk result (IsPair written_in (pair_tree written_tree (write.now.0, state_value write.now.1)) (write.now.0, state_value write.now.1)) }
+    ensures file { OnOk result (IsPair Two written_in (pair_tree written_tree (write.now.0, state_value write.now.1)) (write.now.0, state_value write.now.1)) }
 {
-    let pair = vec![in alloc; key_json(write.0), state_json(write.1)]?;
+    let (table, id) = key_json(alloc, write.0)?;
+    let pair = vec![in alloc; table, id, state_json(write.1)]?;
     Ok(Json::Array(pair))
 }
 
 /// Written rows with their new states.
-pub fn writes_json(alloc: Global, writes: &[(RowId, State)]) -> Result<Json, NoMemory>
+pub fn writes_json(alloc: Global, writes: &[(RowName, State)]) -> Result<Json, NoMemory>
     ensures value { IfOk result (λ v. view v ≡ list_tree (pair_tree written_tree) (new_states writes.now)) }
-    ensures file { OnOk result (IsListOf (IsPair written_in) (list_tree (pair_tree written_tree) (new_states writes.now)) (new_states writes.now)) }
+    ensures file { OnOk result (IsListOf (IsPair Two written_in) (list_tree (pair_tree written_tree) (new_states writes.now)) (new_states writes.now)) }
 {
     let mut values = Vec::with_capacity(alloc, writes.len())?;
     for write in writes {
@@ -92,12 +95,13 @@ pub fn writes_json(alloc: Global, writes: &[(RowId, State)]) -> Result<Json, NoM
     Ok(Json::Array(values))
 }
 
-fn version_json(alloc: Global, id: RowId, txn: TxnNo, op: u32) -> Result<Json, NoMemory>
+fn version_json(alloc: Global, row: RowName, txn: TxnNo, op: u32) -> Result<Json, NoMemory>
     requires { is_listed (Of txn op) ≡ true }
-    ensures value { IfOk result (λ v. view v ≡ version_tree id txn op) }
-    ensures file { OnOk result (IsVersion (version_tree id txn op) (id, Of txn op)) }
+    ensures value { IfOk result (λ v. view v ≡ version_tree row txn op) }
+    ensures file { OnOk result (IsVersion Two (version_tree row txn op) (row, Of txn op)) }
 {
-    let version = vec![in alloc; key_json(id), txn_number_json(txn), Json::from(op)]?;
+    let (table, id) = key_json(alloc, row)?;
+    let version = vec![in alloc; table, id, txn_number_json(txn), Json::from(op)]?;
     Ok(Json::Array(version))
 }
 
@@ -105,7 +109,7 @@ fn version_json(alloc: Global, id: RowId, txn: TxnNo, op: u32) -> Result<Json, N
 pub fn view_json(alloc: Global, seen: &View) -> Result<Json, NoMemory>
     requires { list_all is_listed (finite.values seen.now) ≡ true }
     ensures value { IfOk result (λ v. view v ≡ view_tree seen.now) }
-    ensures file { OnOk result (IsMapOf IsVersion (view_tree seen.now) seen.now) }
+    ensures file { OnOk result (IsMapOf (IsVersion Two) (view_tree seen.now) seen.now) }
 {
     let entries = seen.entries();
     let mut values = Vec::with_capacity(alloc, entries.len())?;
@@ -130,13 +134,14 @@ fn installers_json(alloc: Global, installers: &[TxnNo]) -> Result<Json, NoMemory
     Ok(Json::Array(values))
 }
 
-fn installed_row_json(alloc: Global, row: &(RowId, Installers)) -> Result<Json, NoMemory>
+fn installed_row_json(alloc: Global, row: &(RowName, Installers)) -> Result<Json, NoMemory>
     requires { has_installer row.now.1 ≡ true }
     ensures value { IfOk result (λ v. view v ≡ pair_tree (list_tree natural_tree) row.now) }
-    ensures file { OnOk result (IsInstalled (pair_tree (list_tree natural_tree) row.now) row.now) }
+    ensures file { OnOk result (IsInstalled Two (pair_tree (list_tree natural_tree) row.now) row.now) }
 {
+    let (table, id) = key_json(alloc, row.0)?;
     let installers = installers_json(alloc, row.1.as_slice())?;
-    let pair = vec![in alloc; key_json(row.0), installers]?;
+    let pair = vec![in alloc; table, id, installers]?;
     Ok(Json::Array(pair))
 }
 
@@ -144,7 +149,7 @@ fn installed_row_json(alloc: Global, row: &(RowId, Installers)) -> Result<Json, 
 pub fn installed_json(alloc: Global, installed: &Installed) -> Result<Json, NoMemory>
     requires { list_all has_installer (finite.values installed.now) ≡ true }
     ensures value { IfOk result (λ v. view v ≡ map_tree (list_tree natural_tree) installed.now) }
-    ensures file { OnOk result (IsMapOf IsInstalled (map_tree (list_tree natural_tree) installed.now) installed.now) }
+    ensures file { OnOk result (IsMapOf (IsInstalled Two) (map_tree (list_tree natural_tree) installed.now) installed.now) }
 {
     let rows = installed.entries();
     let mut values = Vec::with_capacity(alloc, rows.len())?;

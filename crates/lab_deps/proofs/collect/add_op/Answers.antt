@@ -1,5 +1,5 @@
 use Rattle.std.proofs.Common.{◌≡◌, sym, ap, ◌∙◌, subst}
-use Rattle.std.specs.Prelude.{None, Some, OnOk}
+use Rattle.std.specs.Prelude.{None, Some}
 use Rattle.std.specs.Map.{lookup}
 use Rattle.lab_table.specs.Row.{row_test}
 use Rattle.lab_deps.specs.EdgesByRow.{rows_of}
@@ -14,11 +14,11 @@ returns-in-None-get g c =
     subst (Grows g.S.EdgeSink.handed c.args.sink.now c.args.sink.now) (sym (found_nowhere c.args.history.now c.args.txn c.args.op.now c.in-Some.row c.in-Some.ensures none))
     (grows_none g.S.EdgeSink.handed c.args.sink.now)
 
-pub returns-in-Some-get : goal.returns-in-Some-get
-returns-in-Some-get g c =
+pub returns-in_ok-add_at_row-in-Some-get : goal.returns-in_ok-add_at_row-in-Some-get
+returns-in_ok-add_at_row-in-Some-get g c =
     let h = c.args.history.now in
     let row = c.in-Some.row in
     let vs = c.in-Some-get.versions.now in
     let there : lookup (row_test row) (rows_of h) ≡ Some vs = ap (lookup (row_test row)) (sym c.requires) ∙ sym c.in-Some-get.ensures.value in
     let is = sym (found_there h c.args.txn c.args.op.now row c.in-Some.ensures vs there) in
-    subst (λ es. OnOk c.add_at_row.result (Grows g.S.EdgeSink.handed c.args.sink.now c.add_at_row.new.sink es)) is c.add_at_row.ensures
+    subst (Grows g.S.EdgeSink.handed c.args.sink.now c.add_at_row.new.sink) is c.in_ok-add_at_row-in-Some-get.ensures

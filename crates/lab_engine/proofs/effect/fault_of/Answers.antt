@@ -1,11 +1,12 @@
-use Rattle.std.proofs.Common.{◌≡◌, ◌∙◌, sym, subst, false, T}
-use Rattle.std.specs.Prelude.{MatchOption}
+use Rattle.std.proofs.Common.{◌≡◌, ◌∙◌, sym, ap, subst, false, T}
+use Rattle.std.specs.Prelude.{MatchOption, is_some}
 use Rattle.std.specs.FinMap.{is_sorted, entries_sorted}
 use Rattle.lab_table.specs.Row.{Row, row_cmp}
 use Rattle.lab_table.specs.Statement.{fails}
+use Rattle.lab_engine.specs.Log.{Version}
 use Rattle.lab_engine.specs.Sight.{version_in}
 use Rattle.lab_engine.specs.Effect.{IsEffectFault}
-use Rattle.lab_engine.proofs.FailingRows.{update_runs, update_fails}
+use Rattle.lab_engine.proofs.FailingRows.{insert_fails, insert_runs, update_runs, update_fails}
 use Rattle.lab_engine.proofs.effect.fault_of.Goals as goal
 
 pub first_candidate_failing-requires : goal.first_candidate_failing-requires
@@ -22,3 +23,13 @@ pub returns-in_ok-id-in-None-clause-fault : goal.returns-in_ok-id-in-None-clause
 returns-in_ok-id-in-None-clause-fault c =
     update_fails c.args.statement.now c.args.seen.now c.entries.result.now c.in_ok-id-in-None.id (sym c.is_update.ensures ∙ c.if-not-is_update.false) c.entries.ensures
     (sym c.first_candidate_failing.ensures ∙ c.in_ok-id-in-None.was)
+
+pub returns-else-is_some-clause-fault : goal.returns-else-is_some-clause-fault
+returns-else-is_some-clause-fault c =
+    insert_runs c.args.statement.now c.args.seen.now _ (sym c.in-Some.ensures)
+    (ap (λ (v : Version). is_some v.state) (sym c.version_seen.ensures) ∙ sym c.is_some.ensures ∙ c.if-is_some.false)
+
+pub returns-then-is_some-clause-fault : goal.returns-then-is_some-clause-fault
+returns-then-is_some-clause-fault c =
+    insert_fails c.args.statement.now c.args.seen.now _ (sym c.in-Some.ensures)
+    (ap (λ (v : Version). is_some v.state) (sym c.version_seen.ensures) ∙ sym c.is_some.ensures ∙ c.if-is_some.true)

@@ -4,5 +4,6 @@ use Rattle.lab_history.specs.Faults.{◌>>=◌}
 use Rattle.lab_history.specs.Entries.{installers_from}
 use Rattle.lab_history.proofs.entry.numbers_of.Given as goal
 
-abbrev pub invariant-loop-at : goal.invariant-loop-at
-invariant-loop-at l = (installers_from l.index l.at (items_view (drop l.at l.numbers)) >>= λ ns. Ok (l.found.items ++ ns)) ≡ installers_from l.index 0 (items_view l.numbers)
+abbrev pub invariant-loop-place : goal.invariant-loop-place
+invariant-loop-place l =
+    (installers_from l.index l.part l.place (items_view (drop l.place l.numbers)) >>= λ ns. Ok (l.found.items ++ ns)) ≡ installers_from l.index l.part 0 (items_view l.numbers)

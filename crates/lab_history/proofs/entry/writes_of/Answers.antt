@@ -7,7 +7,7 @@ use Rattle.lab_history.proofs.entry.writes_of.Goals as goal
 
 pub returns-clause-read : goal.returns-clause-read
 returns-clause-read c =
-    subst (λ r. Gives (λ entries. new_states entries.items) c.entries_of.result r) (sym (states_read c.args.place (view c.args.json.now)))
+    subst (λ r. Gives (λ entries. new_states entries.items) c.entries_of.result r) (sym (states_read c.args.version c.args.place (view c.args.json.now)))
     (gives_more (λ entries. entries.items) new_states c.entries_of.result _ c.entries_of.ensures.read)
 
 pub returns-clause-rises : goal.returns-clause-rises

@@ -1,5 +1,7 @@
+use Rattle.std.proofs.Common.{◌≡◌}
+use Rattle.lab_script.specs.Tables.{tables_so_far}
 use Rattle.lab_script.proofs.FirstFault.{IsReadTo}
 use Rattle.lab_script.proofs.parse.parse_script.Given as goal
 
 abbrev pub invariant-loop-line : goal.invariant-loop-line
-invariant-loop-line l = IsReadTo l.fn.text l.number l.line-iterator l.script
+invariant-loop-line l = IsReadTo l.fn.text l.number l.line-iterator l.script × (l.tables ≡ tables_so_far l.script)

@@ -1,11 +1,12 @@
 use Rattle.std.proofs.Common.{rules}
 use Rattle.std.proofs.lemmas.List.Sorted.{IsPartitionPoint-from_clause}
+use Rattle.lab_table.specs.Row.{numbered}
 use Rattle.lab_table.specs.Running.{comes_after}
 use Rattle.lab_table.proofs.Searching.{parted, point_is}
 use Rattle.lab_table.proofs.by_row.place_numbered.Goals as goal
 
 pub returns-clause-value : goal.returns-clause-value
 returns-clause-value g c =
-    point_is (comes_after c.args.number) c.args.entries.now c.partition_point.result c.partition_point.ensures.bound
-    (IsPartitionPoint-from_clause (comes_after c.args.number) c.args.entries.now c.partition_point.result c.partition_point.ensures.partitioned (parted c.args.number c.args.entries.now c.requires)
+    point_is (comes_after (numbered c.args.table c.args.number)) c.args.entries.now c.partition_point.result c.partition_point.ensures.bound
+    (IsPartitionPoint-from_clause (comes_after (numbered c.args.table c.args.number)) c.args.entries.now c.partition_point.result c.partition_point.ensures.partitioned (parted (numbered c.args.table c.args.number) c.args.entries.now c.requires)
     (λ a r f' called. (search rules, search rules)))

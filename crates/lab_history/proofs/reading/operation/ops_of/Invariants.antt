@@ -7,4 +7,4 @@ use Rattle.lab_history.proofs.reading.operation.ops_of.Given as goal
 abbrev pub invariant-loop-index : goal.invariant-loop-index
 invariant-loop-index l =
     (length l.ops.items ≡ l.index)
-    × (read_on l.txn l.number l.ops.items l.index l.items ≡ ops_from l.txn l.number 0 (items_view l.items))
+    × (read_on l.version l.txn l.number l.ops.items l.index l.items ≡ ops_from l.version l.txn l.number 0 (items_view l.items))

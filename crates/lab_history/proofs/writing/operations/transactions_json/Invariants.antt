@@ -3,6 +3,7 @@ use Rattle.lab_history.specs.FileOf.{IsTransaction}
 use Rattle.lab_history.specs.Tree.{txn_tree}
 use Rattle.lab_history.proofs.WrittenLists.{Written}
 use Rattle.lab_history.proofs.writing.operations.transactions_json.Given as goal
+use Rattle.lab_history.specs.declared.file_version.FileVersion.TheVariants.{Two}
 
 abbrev pub invariant-loop-txn : goal.invariant-loop-txn
-invariant-loop-txn l = Written txn_tree IsTransaction l.values.items (take l.txn-index l.txns)
+invariant-loop-txn l = Written txn_tree (IsTransaction Two) l.values.items (take l.txn-index l.txns)

@@ -1,0 +1,14 @@
+use Rattle.std.proofs.Common.{◌∙◌, ap}
+use Rattle.std.specs.Prelude.{option_and_then}
+use Rattle.std.specs.FinMap.{entries}
+use Rattle.lab_history.specs.RunningTables.{rows_within}
+use Rattle.lab_history.proofs.CountedTables.{states_met}
+use Rattle.lab_history.proofs.tables.Tables.with_op.Goals as goal
+
+pub returns : goal.returns
+returns c =
+    let op = c.args.op.now in
+    let view = c.in_ok-with_rows.ensures ∙ ap (rows_within c.in_ok-with.field-0) c.entries.ensures ∙ ap (option_and_then (λ more. rows_within more (entries op.view))) c.in_ok-with.ensures in
+    let rows = c.in_ok-with_rows-2.ensures ∙ ap (rows_within c.in_ok-with_rows.field-0) c.entries-2.ensures ∙ ap (option_and_then (λ most. rows_within most (entries op.rows))) view in
+    let met = c.in_ok-with_rows-2.field-0 in
+    c.with_rows-3.ensures ∙ states_met met c.entries-3.result.now ∙ ap (rows_within met) c.entries-3.ensures ∙ ap (option_and_then (λ most. rows_within most (entries op.writes))) rows

@@ -1,0 +1,16 @@
+use Rattle.std.proofs.Common.{◌≡◌, ◌∷◌, ◌++◌, [], ap, sym, ◌∙◌, rules, drop}
+use Rattle.std.proofs.lemmas.List.{drop_all}
+use Rattle.lab_script.specs.Printed.{printed_named_row, printed_named_rows, named_rows_or}
+use Rattle.lab_script.proofs.Joined.{all_joined, followed}
+use Rattle.lab_script.proofs.spelling.put_named_rows.Goals as goal
+
+pub returns : goal.returns
+returns c =
+    let first = c.in-Some.first.now in
+    let rest = c.in-Some.rest.now in
+    let start = c.args.out.now.items in
+    let whole : c.args.rows.now ≡ first ∷ rest = c.in-Some.ensures.cases.0 in
+    let none : printed_named_rows (drop c.loop-row.row-index rest) ≡ [] = ap printed_named_rows (drop_all c.loop-row.row-index rest c.loop-row-test.false) in
+    let put : c.put_named_row.new.out.items ≡ start ++ (printed_named_row first.0 first.1) = search rules in
+    all_joined start _ (printed_named_row first.0 first.1) (printed_named_rows rest) _ none (c.loop-row.invariant ∙ ap (λ text. text ++ followed (printed_named_rows rest)) put)
+    ∙ ap (λ rows. start ++ named_rows_or c.args.none.now rows) (sym whole)
