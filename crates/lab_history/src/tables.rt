@@ -76,7 +76,10 @@ impl Tables {
     {
         let mut tables = self;
         for entry in entries {
-            tables = tables.with(entry.0.table)?;
+            // Most rows are of a table that was met.
+            if !tables.has(entry.0.table) {
+                tables = tables.with(entry.0.table)?;
+            }
         }
         Some(tables)
     }

@@ -13,7 +13,8 @@ use Rattle.lab_judge.specs.Judgement.{IsExactJudgement}
 use Rattle.lab_judge.specs.Promises.{IsPromised}
 use Rattle.lab_judge.specs.declared.report.Report.{Report}
 use Rattle.lab_matrix.specs.Listings.{usual_setup, case_script, listing}
-use Rattle.lab_matrix.specs.Matrix.{IsCell, IsRow, AreCells}
+use Rattle.lab_matrix.specs.Matrix.{IsCell, IsRow, AreCells, KeepsPromises, cell_of}
+use Rattle.lab_matrix.specs.EnginePromise.{Says, promise_of}
 use Rattle.lab_matrix.specs.declared.cells.Row.{Row}
 use Rattle.lab_matrix.specs.declared.cells.Matrix.{Matrix}
 use Rattle.lab_matrix.specs.declared.name.CaseName.{CaseName}
@@ -65,3 +66,12 @@ each_case m g0 g1a g1b g1c otv pmp p4 g_single g2_item g2 name.P4 at = p4 at
 each_case m g0 g1a g1b g1c otv pmp p4 g_single g2_item g2 name.GSingle at = g_single at
 each_case m g0 g1a g1b g1c otv pmp p4 g_single g2_item g2 name.G2Item at = g2_item at
 each_case m g0 g1a g1b g1c otv pmp p4 g_single g2_item g2 name.G2 at = g2 at
+
+-- the cells of a matrix say what is promised
+said : (at : Level) (report : Report) → IsPromised at report → Says (promise_of at) report
+said level.Locking report promised = promised
+said level.Committed report promised = promised
+said level.Snapshot report promised = promised
+
+pub promises_kept : (m : Matrix) → AreCells m → KeepsPromises m
+promises_kept m cells case at = said at (cell_of m case at) (cells case at).promised

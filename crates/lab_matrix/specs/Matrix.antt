@@ -11,6 +11,7 @@ use Rattle.lab_judge.specs.Judgement.{IsExactJudgement}
 use Rattle.lab_judge.specs.Promises.{IsPromised}
 use Rattle.lab_judge.specs.declared.report.Report.{Report}
 use Rattle.lab_matrix.specs.Listings.{usual_setup, listing}
+use Rattle.lab_matrix.specs.EnginePromise.{Says, promise_of}
 use Rattle.lab_matrix.specs.declared.name.CaseName.{CaseName}
 use Rattle.lab_matrix.specs.declared.name.CaseName.TheVariants as name
 use Rattle.lab_matrix.specs.declared.cells.Row.{Row}
@@ -58,6 +59,10 @@ IsRow case row = (level : Level) → IsCell case level (report_at row level)
 -- each cell is
 abbrev pub AreCells : Matrix → Type 0
 AreCells matrix = (case : CaseName) (level : Level) → IsCell case level (cell_of matrix case level)
+
+-- each cell says what the engine of its level promises
+abbrev pub KeepsPromises : Matrix → Type 0
+KeepsPromises matrix = (case : CaseName) (level : Level) → Says (promise_of level) (cell_of matrix case level)
 
 -- a refusal is true: the play of that case at that level has no recording, and memory wasn't wanting for it
 abbrev pub IsMatrixFault : MatrixFault → Type 0

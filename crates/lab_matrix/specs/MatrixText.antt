@@ -1,6 +1,7 @@
 -- The text of the matrix.
 use Rattle.std.specs.Prelude.{ℕ, ◌-◌, List, [], ◌++◌, length, replicate, codes}
 use Rattle.lab_script.specs.Printed.{newline}
+use Rattle.lab_engine.specs.declared.event.Level.TheVariants as level
 use Rattle.lab_judge.specs.ReportText.{grade_name}
 use Rattle.lab_judge.specs.declared.places.Places.{Places}
 use Rattle.lab_judge.specs.declared.places.Places.TheVariants as places
@@ -9,6 +10,7 @@ use Rattle.lab_matrix.specs.declared.name.CaseName.{CaseName}
 use Rattle.lab_matrix.specs.declared.name.CaseName.TheVariants as name
 use Rattle.lab_matrix.specs.declared.cells.Matrix.{Matrix}
 use Rattle.lab_matrix.specs.declared.cells.Row.{Row}
+use Rattle.lab_matrix.specs.EnginePromise.{promise_name, promise_of}
 
 -- the name of a case
 abbrev pub case_name : CaseName → List ℕ
@@ -49,8 +51,14 @@ row_line case row = padded 10 (case_name case) ++ padded 12 (cell_text row.locki
 abbrev pub heading : List ℕ
 heading = codes "case      locking     committed   snapshot" ++ newline
 
--- the matrix: the line of the columns, and a line for each case
+-- the last line: what each engine promises of every run
+abbrev pub promised_line : List ℕ
+promised_line =
+    padded 10 (codes "promised") ++ padded 12 (promise_name (promise_of level.Locking)) ++ padded 12 (promise_name (promise_of level.Committed))
+    ++ promise_name (promise_of level.Snapshot) ++ newline
+
+-- the matrix: the line of the columns, a line for each case, and the line of what is promised
 abbrev pub matrix_text : Matrix → List ℕ
 matrix_text m =
     heading ++ row_line name.G0 m.g0 ++ row_line name.G1a m.g1a ++ row_line name.G1b m.g1b ++ row_line name.G1c m.g1c ++ row_line name.Otv m.otv
-    ++ row_line name.Pmp m.pmp ++ row_line name.P4 m.p4 ++ row_line name.GSingle m.g_single ++ row_line name.G2Item m.g2_item ++ row_line name.G2 m.g2
+    ++ row_line name.Pmp m.pmp ++ row_line name.P4 m.p4 ++ row_line name.GSingle m.g_single ++ row_line name.G2Item m.g2_item ++ row_line name.G2 m.g2 ++ promised_line

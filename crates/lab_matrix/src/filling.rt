@@ -1,7 +1,7 @@
 //! Filling the matrix: each case is played on each engine, and judged.
 
 ghost use Rattle.std.specs.Prelude.{◌≡◌, IfOk, IfErr};
-ghost use Rattle.lab_matrix.specs.Matrix.{IsCell, IsRow, AreCells, IsMatrixFault};
+ghost use Rattle.lab_matrix.specs.Matrix.{IsCell, IsRow, AreCells, KeepsPromises, IsMatrixFault};
 
 use crate::cells::{Matrix, Row};
 use crate::name::{CaseName, case};
@@ -86,11 +86,12 @@ fn row_of_case(alloc: Global, name: CaseName) -> Result<Row, MatrixFault>
 }
 
 /// The judgement of each case on each engine: of the recording of a scripted play of the case's script at the engine's
-/// level.
+/// level. Each says what the engine of its level promises (`promise`).
 ///
 /// Refused where a play has no recording (2), which is true then, or a growth was refused (1).
 pub fn matrix(alloc: Global) -> Result<Matrix, MatrixFault>
     ensures cells { IfOk result AreCells }
+    ensures promised { IfOk result KeepsPromises }
     ensures fault { IfErr result IsMatrixFault }
 {
     Ok(Matrix {

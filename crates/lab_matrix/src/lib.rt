@@ -1,14 +1,18 @@
-//! The ten cases, and what each engine lets happen in them.
+//! The ten cases, what each engine lets happen in them, and what it promises of every run.
 #![tactic(auto)]
 
 mod cases;
 mod cells;
+mod engine_promise;
 mod filling;
 mod matrix_text;
 mod name;
 mod parts;
+mod promised;
 
 pub use cells::{Matrix, Row};
+pub use engine_promise::Promise;
 pub use filling::{MatrixFault, matrix};
 pub use matrix_text::print_matrix;
 pub use name::{CaseName, case, cases_print};
+pub use promised::promise;

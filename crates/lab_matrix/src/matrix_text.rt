@@ -2,10 +2,12 @@
 
 ghost use Rattle.std.specs.Prelude.{◌≡◌, ◌-◌, ◌++◌, length, IfOk, OnOk};
 ghost use Rattle.lab_script.specs.Printed.{newline};
-ghost use Rattle.lab_matrix.specs.MatrixText.{cell_text, heading, matrix_text, padded, row_line, snapshot_mark, spaces};
+ghost use Rattle.lab_matrix.specs.MatrixText.{cell_text, heading, matrix_text, padded, promised_line, row_line, snapshot_mark, spaces};
 
 use crate::cells::{Matrix, Row};
 use crate::name::CaseName;
+use crate::promised::promise;
+use lab_engine::Level;
 use lab_judge::{Places, Report};
 use lab_table::NoMemory;
 use std::alloc::Global;
@@ -16,8 +18,8 @@ const CASE_WIDTH: usize = 10;
 /// The width of the column of an engine.
 const CELL_WIDTH: usize = 12;
 
-/// The matrix as a text: a line of the columns, and a line for each case with its level on each engine, and `SI` where
-/// the history is a snapshot run. NoMemory where a growth was refused.
+/// The matrix as a text: a line of the columns, a line for each case with its level on each engine, and `SI` where the
+/// history is a snapshot run, and a line of what each engine promises. NoMemory where a growth was refused.
 pub fn print_matrix(alloc: Global, matrix: &Matrix) -> Result<Vec<u8>, NoMemory>
     ensures { IfOk result (λ text. text.items ≡ matrix_text matrix.now) }
 {
@@ -33,6 +35,7 @@ pub fn print_matrix(alloc: Global, matrix: &Matrix) -> Result<Vec<u8>, NoMemory>
     put_row(&mut text, CaseName::GSingle, &matrix.g_single)?;
     put_row(&mut text, CaseName::G2Item, &matrix.g2_item)?;
     put_row(&mut text, CaseName::G2, &matrix.g2)?;
+    put_promised(&mut text)?;
     Ok(text)
 }
 
@@ -50,6 +53,18 @@ fn put_row(out: &mut Vec<u8>, case: CaseName, row: &Row) -> Result<(), NoMemory>
     put_cell(out, &row.locking, CELL_WIDTH)?;
     put_cell(out, &row.committed, CELL_WIDTH)?;
     put_last_cell(out, &row.snapshot)?;
+    Ok(())
+}
+
+/// The line of what each engine promises.
+fn put_promised(out: &mut Vec<u8>) -> Result<(), NoMemory>
+    ensures { OnOk result (out.new.items ≡ out.old.items ++ promised_line) }
+{
+    put_padded(out, "promised", CASE_WIDTH)?;
+    put_padded(out, promise(Level::Locking).name(), CELL_WIDTH)?;
+    put_padded(out, promise(Level::Committed).name(), CELL_WIDTH)?;
+    out.extend_from_slice(promise(Level::Snapshot).name().as_bytes())?;
+    out.push(b'\n')?;
     Ok(())
 }
 

@@ -64,6 +64,7 @@ impl<'a> Parser<'a> {
     }
 
     /// Takes this token, if it is the first.
+    #[inline(always)]
     pub fn took(&mut self, token: Token) -> bool
         ensures gives { MatchBool result (after token self.old ≡ Some self.new) ((after token self.old ≡ None) × (self.new ≡ self.old)) }
         ensures shorter { MatchBool result (length self.new < length self.old) (length self.new ≤ length self.old) }
@@ -82,6 +83,7 @@ impl<'a> Parser<'a> {
     }
 
     /// Takes this token, which must be the first.
+    #[inline]
     pub fn expect(&mut self, token: Token) -> Result<(), Refusal>
         ensures gives { Gives (λ x. self.new) result (after token self.old) }
         ensures reads { Comes (λ x. self.new) result self.new (token_read token self.old) }

@@ -93,6 +93,7 @@ pub fn is_blank(byte: u8) -> bool
 
 impl Word {
     /// A number for each word, names alike.
+    #[inline(always)]
     fn number(&self) -> u8
         ensures { result ≡ word_number self.now }
     {
@@ -126,6 +127,7 @@ impl Word {
     }
 
     /// The name that a word is, and nothing for another.
+    #[inline(always)]
     fn name(&self) -> &[u8]
         ensures { result.now ≡ word_name self.now }
     {
@@ -138,6 +140,7 @@ impl Word {
 
 impl Token {
     /// A number for each token, digits alike.
+    #[inline(always)]
     fn number(&self) -> u8
         ensures { result ≡ token_number self.now }
     {
@@ -163,6 +166,7 @@ impl Token {
     }
 
     /// The number that digits spell, and 0 for another token.
+    #[inline(always)]
     fn digits(&self) -> u32
         ensures { result ≡ token_digits self.now }
     {
@@ -173,6 +177,7 @@ impl Token {
     }
 
     /// The name of a table that a token is, and nothing for another.
+    #[inline(always)]
     fn name(&self) -> &[u8]
         ensures { result.now ≡ token_name self.now }
     {
@@ -188,6 +193,8 @@ impl PartialEq for Token {
 
     ghost laws = { partial_equiv_from_equiv tokens_equiv };
 
+    // Inlined, since most tokens are compared with one that is known at the call, which leaves little to compare.
+    #[inline(always)]
     fn eq(&self, other: &Token) -> bool {
         self.number() == other.number()
             && self.digits() == other.digits()

@@ -1,0 +1,139 @@
+//! Plays by threads, whose reports say what the matrix promises.
+
+use lab_engine::{Level, Recording};
+use lab_judge::{Finding, Places, Report, Serial, judge_recording};
+use lab_locking::LockEngine;
+use lab_matrix::{CaseName, Promise, case, promise};
+use lab_script::{Script, parse_script};
+use lab_session::{Gate, play_free};
+use lab_table::Session;
+use lab_versions::{CommittedEngine, SnapshotEngine};
+use std::alloc::Global;
+use std::sync::Wait;
+use std::test::Fail;
+use std::thread::Threads;
+
+/// How often each script is played on each engine. Threads meet otherwise each time.
+const PLAYS: usize = 20;
+
+/// Two transactions that read and write rows of one number in two tables.
+const TWO_TABLES: &[u8] = b"setup (1, 10), stock (1, 5);
+begin; -- T1
+begin; -- T2
+select * from test where id = 1; -- T1
+select * from stock where id = 1; -- T2
+update stock set value = 6 where id = 1; -- T1
+update test set value = 11 where id = 1; -- T2
+commit; -- T1
+commit; -- T2
+";
+
+/// A gate that lets every line pass.
+struct OpenGate;
+
+impl Gate for OpenGate {
+    fn before(&self, _session: Session, _index: usize) {}
+
+    fn after(&self, _session: Session, _index: usize) {}
+}
+
+/// A recording of a play by threads on a fresh engine of this level.
+fn played<T: Threads + Wait + Sync>(
+    rt: &T,
+    alloc: Global,
+    script: &Script,
+    level: Level,
+) -> Option<Recording> {
+    let setup = script.setup.copy(alloc).ok()?;
+    match level {
+        Level::Locking => {
+            play_free(rt, alloc, LockEngine::new(alloc, setup), script, &OpenGate).ok()
+        }
+        Level::Committed => {
+            let engine = CommittedEngine::new(alloc, setup);
+            play_free(rt, alloc, engine, script, &OpenGate).ok()
+        }
+        Level::Snapshot => {
+            let engine = SnapshotEngine::new(alloc, setup);
+            play_free(rt, alloc, engine, script, &OpenGate).ok()
+        }
+    }
+}
+
+fn is_absent(finding: &Finding) -> bool {
+    matches!(finding, Finding::Absent)
+}
+
+/// Whether a report says what is promised.
+fn says(promise: Promise, report: &Report) -> bool {
+    match promise {
+        Promise::Serializable => matches!(&report.serial, Serial::Yes(_)),
+        Promise::NoG1 => {
+            is_absent(report.g0())
+                && is_absent(report.g1a())
+                && is_absent(report.g1b())
+                && is_absent(report.g1c())
+        }
+        Promise::SnapshotRun => matches!(&report.snapshot, Places::Yes(_)),
+    }
+}
+
+/// In how many of the plays of a script at a level the report says what is promised.
+fn kept<T: Threads + Wait + Sync>(
+    rt: &T,
+    alloc: Global,
+    script: &Script,
+    level: Level,
+) -> Option<usize> {
+    let mut kept = 0;
+    for _ in 0..PLAYS {
+        let recording = played(rt, alloc, script, level)?;
+        let report = judge_recording(alloc, &recording).ok()?;
+        kept += usize::from(says(promise(level), &report));
+    }
+    Some(kept)
+}
+
+/// The same at each level.
+fn kept_at_each<T: Threads + Wait + Sync>(
+    rt: &T,
+    alloc: Global,
+    script: &Script,
+) -> [Option<usize>; 3] {
+    [
+        kept(rt, alloc, script, Level::Locking),
+        kept(rt, alloc, script, Level::Committed),
+        kept(rt, alloc, script, Level::Snapshot),
+    ]
+}
+
+#[test]
+fn free_plays_of_the_cases_keep_what_is_promised(rt: HostRuntime) -> Result<(), Fail> {
+    let alloc = rt.alloc();
+    for name in [
+        CaseName::G0,
+        CaseName::G1a,
+        CaseName::G1b,
+        CaseName::G1c,
+        CaseName::Otv,
+        CaseName::Pmp,
+        CaseName::P4,
+        CaseName::GSingle,
+        CaseName::G2Item,
+        CaseName::G2,
+    ] {
+        let script = case(alloc, name)?;
+        assert_eq!(rt; kept_at_each(&rt, alloc, &script), [Some(PLAYS); 3], "of {}", name.name());
+    }
+    Ok(())
+}
+
+#[test]
+fn free_plays_over_two_tables_keep_what_is_promised(rt: HostRuntime) -> Result<(), Fail> {
+    let alloc = rt.alloc();
+    let Ok(script) = parse_script(alloc, TWO_TABLES) else {
+        return Err(Fail::from("a script"));
+    };
+    assert_eq!(rt; kept_at_each(&rt, alloc, &script), [Some(PLAYS); 3]);
+    Ok(())
+}
