@@ -8,7 +8,7 @@ ghost use Rattle.std.specs.Ordering.{is_gt};
 ghost use Rattle.lab_table.specs.Row.{row_cmp, numbered};
 ghost use Rattle.lab_table.specs.Running.{comes_after};
 
-use lab_table::{RowName, TableName, entry_numbered, place_of};
+use lab_table::{RowName, TableName, entry_numbered, is_behind, place_of};
 
 /// The value of a row in a list whose rows rise strictly, looked for at a place first; and a place at which the row
 /// stands, or would.
@@ -52,16 +52,6 @@ pub fn entry_within<V>(
         }
     }
     entry_numbered(entries, table, number)
-}
-
-/// Whether the row of this number and table comes after a row.
-fn is_behind(table: TableName, number: u32, row: RowName) -> bool
-    ensures { result ≡ is_gt (row_cmp (numbered table number) row) }
-{
-    table
-        .cmp(&row.table)
-        .then(number.cmp(&row.id.number()))
-        .is_gt()
 }
 
 /// The value of a row, where this is its place.

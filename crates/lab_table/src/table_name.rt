@@ -205,7 +205,10 @@ fn is_reserved(text: &[u8]) -> bool
 fn are_same(a: [u8; 16], b: [u8; 16]) -> bool
     ensures { result ≡ table_name_eq a b }
 {
-    u8x16::from_array(a).simd_ne(u8x16::from_array(b)).to_bitmask() == 0
+    u8x16::from_array(a)
+        .simd_ne(u8x16::from_array(b))
+        .to_bitmask()
+        == 0
 }
 
 impl PartialEq for TableName {
