@@ -9,7 +9,7 @@ use Rattle.std.specs.declared.cmp.Ordering.TheVariants.{Less, Equal, Greater}
 use Rattle.lab_table.specs.Row.{Row, row_cmp}
 use Rattle.lab_table.specs.TableName.{table_name_cmp, table_name_eq}
 
-apart_stays : (r other : Ordering) → is_eq r ≡ false → ordering_then r other ≡ r
+pub apart_stays : (r other : Ordering) → is_eq r ≡ false → ordering_then r other ≡ r
 apart_stays Less other apart = refl
 apart_stays Equal other apart = absurd cc
 apart_stays Greater other apart = refl

@@ -9,6 +9,7 @@ ghost use Rattle.std.specs.Hash as fed;
 ghost use Rattle.std.specs.Hash.{same_Alike};
 ghost use Rattle.lab_table.specs.Words.{is_reserved};
 ghost use Rattle.lab_table.specs.Padded.{padded, is_nonzero};
+ghost use Rattle.lab_table.specs.Differences.{differences};
 ghost use Rattle.lab_table.specs.TableName.{is_name_letter, is_table_name, in_lower_case, table_name_cmp, table_name_eq};
 
 use crate::memory::NoMemory;
@@ -200,15 +201,33 @@ fn is_reserved(text: &[u8]) -> bool
     }
 }
 
-/// Whether all bytes are the same. They are compared at once: names of tables are compared wherever rows are.
+/// A bit for each byte in which two names differ, the first at the lowest. All bytes are compared at once: names of tables
+/// are compared wherever rows are.
 #[inline(always)]
-fn are_same(a: [u8; 16], b: [u8; 16]) -> bool
-    ensures { result ≡ table_name_eq a b }
+fn differing(a: [u8; 16], b: [u8; 16]) -> u64
+    ensures { result ≡ differences a b }
 {
     u8x16::from_array(a)
         .simd_ne(u8x16::from_array(b))
         .to_bitmask()
-        == 0
+}
+
+fn are_same(a: [u8; 16], b: [u8; 16]) -> bool
+    ensures { result ≡ table_name_eq a b }
+{
+    differing(a, b) == 0
+}
+
+/// The order of two names' bytes: the first in which they differ decides.
+fn order_of(a: [u8; 16], b: [u8; 16]) -> Ordering
+    ensures { result ≡ table_name_cmp a b }
+{
+    let differing = differing(a, b);
+    if differing == 0 {
+        return Ordering::Equal;
+    }
+    let place = differing.trailing_zeros() as usize;
+    a[place].cmp(&b[place])
 }
 
 impl PartialEq for TableName {
@@ -244,10 +263,8 @@ impl Ord for TableName {
 
     ghost matches_eq = { texts_ties };
 
-    // Not inlined, so that the order of rows, which asks for it where tables differ, stays small enough to be.
-    #[inline(never)]
     fn cmp(&self, other: &TableName) -> Ordering {
-        self.bytes.cmp(&other.bytes)
+        order_of(self.bytes, other.bytes)
     }
 }
 
