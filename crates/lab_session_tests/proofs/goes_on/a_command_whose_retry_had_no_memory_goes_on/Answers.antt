@@ -52,3 +52,6 @@ seat = search (sendable, seat_inside)
 -- src/goes_on.rt:185:26
 pub join-ours-requires-send-F : goal.join-ours-requires-send-F
 join-ours-requires-send-F g c κs within = search (sendable, crosses, lab, seat) depth 40 fits 20000
+
+pub join-ours-requires-send-A : goal.join-ours-requires-send-A
+join-ours-requires-send-A g c κs within = search (sendable, crosses, seat) depth 40 fits 20000
