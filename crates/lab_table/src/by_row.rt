@@ -160,8 +160,19 @@ fn place_numbered<V>(entries: &[(RowName, V)], table: TableName, number: u32) ->
     if are_in(entries, table) {
         place_among(entries, table, number)
     } else {
-        entries.partition_point(|entry| is_behind(table, number, entry.0))
+        place_in_tables(entries, table, number)
     }
+}
+
+/// The same of a list whose rows may be of several tables.
+// Not inlined, so that lists of one table pay nothing for it.
+#[inline(never)]
+fn place_in_tables<V>(entries: &[(RowName, V)], table: TableName, number: u32) -> usize
+    requires { T (map.is_sorted row_cmp entries.now) }
+    ensures value { result ≡ prefix_len (comes_after (numbered table number)) entries.now }
+    ensures bound { result ≤ length entries.now }
+{
+    entries.partition_point(|entry| is_behind(table, number, entry.0))
 }
 
 /// Whether the rows of a list, which rise strictly, are all of a table: the first and the last are.

@@ -23,6 +23,7 @@ impl Statement {
 
     /// Whether a row in this state, None where it is absent, matches the statement. An absent row matches none, and an
     /// insert matches the row that it adds.
+    #[inline(always)]
     pub fn matches(&self, row: RowName, state: Option<Value>) -> bool
         ensures { result ≡ matches self.now row state }
     {
@@ -50,6 +51,7 @@ impl Statement {
     }
 
     /// What the statement lists of a row in this state: its value, if any.
+    #[inline(always)]
     pub fn listed(&self, row: RowName, state: Option<Value>) -> Option<Value>
         ensures { result ≡ listed self.now row state }
     {
@@ -137,6 +139,7 @@ impl Statement {
 }
 
 /// Whether a row with this value is one of the table, and what stands behind `where` is true of it; without a `where` it is.
+#[inline(always)]
 pub fn is_selected(table: TableName, pred: &Option<Pred>, row: RowName, value: Value) -> bool
     ensures { result ≡ picks table pred.now row value }
 {
@@ -144,6 +147,7 @@ pub fn is_selected(table: TableName, pred: &Option<Pred>, row: RowName, value: V
 }
 
 /// Whether what stands behind `where` is true of a row of this number and with this value.
+#[inline(always)]
 fn is_true_of(pred: &Option<Pred>, id: RowId, value: Value) -> bool
     ensures { result ≡ where_holds pred.now id value }
 {
@@ -154,6 +158,7 @@ fn is_true_of(pred: &Option<Pred>, id: RowId, value: Value) -> bool
 }
 
 /// The value of a row of the table, where what stands behind `where` is true of it.
+#[inline(always)]
 fn selected_value(
     table: TableName,
     pred: &Option<Pred>,
