@@ -49,3 +49,4 @@ pub mod LimitOrder
 pub mod DoneTransactions
 pub mod RecordedCommits
 pub mod RecordedViews
+mod Shown

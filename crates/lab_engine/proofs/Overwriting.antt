@@ -15,6 +15,7 @@ use Rattle.lab_engine.specs.EachRow.{overwritten_version}
 use Rattle.lab_engine.proofs.Holding.{absent}
 use Rattle.lab_table.proofs.OneRow.{absent_unwritten, not_written, reader_writes_none}
 use Rattle.lab_engine.proofs.Narrowing.{others_off}
+use Rattle.lab_engine.proofs.Shown.{shown_written, written_same}
 
 -- what stays of a row's version
 abbrev Stays : Statement → Row → Option Version → Version → Type 0
@@ -30,12 +31,14 @@ stays s row (Some v) = at (would_write s row v.state) refl
     at false is = (absent_unwritten s row v.state is ∙ sym is, λ h. absurd (true≢false (sym h ∙ is)))
 
 -- versions of what is seen, without those that the statement wouldn't overwrite
-pub shows_written : (level : Level) (setup : Table) (past : Past) (txn : Txn) (s : Statement) (sees shown : Listed) → IsSight level setup past txn sees
+pub shows_written : (level : Level) (setup : Table) (past : Past) (txn : Txn) (s : Statement) (sees shown : Listed) → IsSight s level setup past txn sees
     → ((row : Row) → get shown row ≡ option_and_then (overwritten_version s row) (get sees row)) → ShowsWritten level setup past txn s shown
 shows_written level setup past txn s sees shown sight is row =
-    let kept = stays s row (get sees row) in (
-      ap (λ o. would_write s row (unwrap_or o absent).state) (is row) ∙ kept.0 ∙ ap (λ v. would_write s row v.state) (sight row),
-      λ h. ap (λ o. unwrap_or o absent) (is row) ∙ kept.1 (ap (λ v. would_write s row v.state) (sight row) ∙ h) ∙ sight row,
+    let version = seen level setup past txn row in
+    let kept = stays s row (get sees row) in
+    let writes : would_write s row (version_in sees row).state ≡ would_write s row version.state = ap is_some (shown_written s row (version_in sees row) version (sight row)) in (
+      ap (λ o. would_write s row (unwrap_or o absent).state) (is row) ∙ kept.0 ∙ writes,
+      λ h. ap (λ o. unwrap_or o absent) (is row) ∙ kept.1 (writes ∙ h) ∙ written_same s row (version_in sees row) version (sight row) h,
     )
 
 -- a statement that only lists writes nothing

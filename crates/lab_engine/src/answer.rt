@@ -104,7 +104,7 @@ pub fn run_statement<R: Rules>(
     let shown = shown_to(alloc, rules.level(), setup, situation, running, statement)?;
     let on = blockers(alloc, rules, setup, situation, session, &shown, statement)?;
     if on.as_slice().is_empty() {
-        let seen = seen_by(alloc, rules.level(), setup, situation, running)?;
+        let seen = seen_by(alloc, rules.level(), setup, situation, running, statement)?;
         return unblocked(alloc, statement, &seen);
     }
     match deadlock(alloc, rules, setup, situation, session, &on)? {

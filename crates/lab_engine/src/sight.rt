@@ -2,11 +2,10 @@
 
 ghost use Rattle.std.specs.Prelude.{◌≡◌, ℕ, Some, length, IfOk};
 ghost use Rattle.std.specs.FinMap as map;
-ghost use Rattle.std.specs.Option.{option_or};
 ghost use Rattle.lab_table.specs.Row.{Row};
 ghost use Rattle.lab_engine.specs.Log.{Past, Txn, active, commits, last_installed, seen, sight};
 ghost use Rattle.lab_engine.specs.Situation.{Describes, IsRunning};
-ghost use Rattle.lab_engine.specs.Sight.{IsSight, ShowsWritten, listed_version};
+ghost use Rattle.lab_engine.specs.Sight.{IsSight, ShowsWritten};
 
 use crate::event::Level;
 use crate::situation::{RunningTxn, Situation};
@@ -15,64 +14,40 @@ use lab_history::VersionName;
 use lab_table::{NoMemory, RowName, Statement, Table};
 use std::alloc::Global;
 
-/// The versions of the table's rows, with these over them. NoMemory where a growth was refused.
-fn over_table(alloc: Global, setup: &Table, over: &Versions) -> Result<Versions, NoMemory>
-    ensures { IfOk result (λ made. (row : Row) → map.get made row ≡ option_or (map.get over.now row) (listed_version (map.get setup.now row))) }
-{
-    let mut made = Versions::of_table(alloc, setup)?;
-    made.overlay(alloc, over)?;
-    Ok(made)
-}
-
-/// The committed versions that an active transaction of this level sees, over the setup's.
-fn committed_seen(
-    alloc: Global,
+/// The committed versions that an active transaction of this level sees.
+fn committed_seen<'s>(
     level: Level,
-    setup: &Table,
-    situation: &Situation,
-    running: &RunningTxn,
-) -> Result<Versions, NoMemory>
+    situation: &'s Situation,
+    running: &'s RunningTxn,
+) -> &'s Versions
     ensures { (past : Past) (session : ℕ) (txn : Txn) → Describes past situation.now → active past session ≡ Some txn → IsRunning txn running.now
-        → IfOk result (λ made. (row : Row) → map.get made row ≡ option_or (last_installed (commits (sight level past txn)) row) (listed_version (map.get setup.now row))) }
+        → (row : Row) → map.get result.now row ≡ last_installed (commits (sight level past txn)) row }
 {
     match level {
-        Level::Locking => over_table(alloc, setup, &situation.committed),
-        Level::Committed => over_table(alloc, setup, &situation.committed),
-        Level::Snapshot => over_table(alloc, setup, &running.installed),
+        Level::Locking => &situation.committed,
+        Level::Committed => &situation.committed,
+        Level::Snapshot => &running.installed,
     }
 }
 
-/// The versions that an active transaction sees: its own last ones over those committed now,
-/// or at snapshot over those committed at its begin, over the setup's. NoMemory where a growth was refused.
+/// What a statement of an active transaction is shown of the versions that this sees: its own last ones over those
+/// committed now, or at snapshot over those committed at its begin, over the setup's that match the statement.
+/// NoMemory where a growth was refused.
 pub fn seen_by(
     alloc: Global,
     level: Level,
     setup: &Table,
     situation: &Situation,
     running: &RunningTxn,
+    statement: &Statement,
 ) -> Result<Versions, NoMemory>
-    ensures { (past : Past) (session : ℕ) (txn : Txn) → Describes past situation.now → active past session ≡ Some txn → IsRunning txn running.now → IfOk result (IsSight level setup.now past txn) }
+    ensures { (past : Past) (session : ℕ) (txn : Txn) → Describes past situation.now → active past session ≡ Some txn → IsRunning txn running.now
+        → IfOk result (IsSight statement.now level setup.now past txn) }
 {
-    let mut seen = committed_seen(alloc, level, setup, situation, running)?;
+    let mut seen = Versions::matching(alloc, statement, setup)?;
+    seen.overlay(alloc, committed_seen(level, situation, running))?;
     seen.overlay(alloc, &running.last)?;
     Ok(seen)
-}
-
-/// The installed version of a row that an active transaction of this level sees, if any was installed.
-fn installed_seen(
-    level: Level,
-    situation: &Situation,
-    running: &RunningTxn,
-    row: RowName,
-) -> Option<Version>
-    ensures { (past : Past) (session : ℕ) (txn : Txn) → Describes past situation.now → active past session ≡ Some txn → IsRunning txn running.now
-        → result ≡ last_installed (commits (sight level past txn)) row }
-{
-    match level {
-        Level::Locking => situation.committed.get(row),
-        Level::Committed => situation.committed.get(row),
-        Level::Snapshot => running.installed.get(row),
-    }
 }
 
 /// The version of one row that an active transaction sees.
@@ -89,7 +64,7 @@ fn row_seen(
     if let Some(version) = running.last.get(row) {
         return version;
     }
-    match installed_seen(level, situation, running, row) {
+    match committed_seen(level, situation, running).get(row) {
         Some(version) => version,
         None => Version {
             name: VersionName::Initial,
@@ -120,7 +95,7 @@ pub fn shown_to(
             Versions::only(alloc, row, version)
         }
         None => {
-            let seen = seen_by(alloc, level, setup, situation, running)?;
+            let seen = seen_by(alloc, level, setup, situation, running, statement)?;
             seen.overwritten_by(alloc, statement)
         }
     }

@@ -7,7 +7,7 @@ ghost use Rattle.std.specs.FinMap as map;
 ghost use Rattle.std.specs.Option.{option_or};
 ghost use Rattle.lab_table.specs.Row.{Row, row_cmp};
 ghost use Rattle.lab_engine.specs.EachRow.{with_row, each_row, overwritten_version};
-ghost use Rattle.lab_engine.specs.Sight.{listed_version, comes_after};
+ghost use Rattle.lab_engine.specs.Sight.{listed_version, matching_version, comes_after};
 ghost use Rattle.lab_history.specs.VersionName.{state_value};
 ghost use Rattle.lab_engine.specs.Merging.{initial_entry, written_entry, written_version, insert_each, merged, without_row};
 
@@ -62,6 +62,26 @@ impl Versions {
         Ok(Versions {
             by_row: ByRow::from_rising(initial_entries(alloc, table.rows())?),
         })
+    }
+
+    /// The initial version of each row of the table that matches a statement: where the statement names a row, no other
+    /// one is looked at. NoMemory where a growth was refused.
+    pub fn matching(
+        alloc: Global,
+        statement: &Statement,
+        table: &Table,
+    ) -> Result<Versions, NoMemory>
+        ensures { IfOk result (λ made. (row : Row) → map.get made row ≡ option_and_then (matching_version statement.now row) (map.get table.now row)) }
+    {
+        match statement.named_row() {
+            None => Ok(Versions {
+                by_row: ByRow::from_rising(entries_matching(alloc, statement, table.rows())?),
+            }),
+            Some(row) => match named_matching(statement, row, table.get(row)) {
+                None => Ok(Versions::new(alloc)),
+                Some(version) => Versions::only(alloc, row, version),
+            },
+        }
     }
 
     /// The versions that an operation wrote. NoMemory where a growth was refused.
@@ -177,6 +197,46 @@ fn initial_entries(
                 },
             )
         })
+        .collect(alloc)
+}
+
+/// The initial version of a row with this value, where it matches a statement.
+fn version_matching(statement: &Statement, row: RowName, value: Value) -> Option<Version>
+    ensures { result ≡ matching_version statement.now row value }
+{
+    if statement.matches(row, Some(value)) {
+        Some(Version {
+            name: VersionName::Initial,
+            state: Some(value),
+        })
+    } else {
+        None
+    }
+}
+
+/// The same of a row that may be absent.
+fn named_matching(statement: &Statement, row: RowName, state: Option<Value>) -> Option<Version>
+    ensures { result ≡ option_and_then (matching_version statement.now row) state }
+{
+    version_matching(statement, row, state?)
+}
+
+fn entry_matching(statement: &Statement, entry: &(RowName, Value)) -> Option<(RowName, Version)>
+    ensures { result ≡ with_row entry.now.0 (matching_version statement.now entry.now.0 entry.now.1) }
+{
+    let version = version_matching(statement, entry.0, entry.1)?;
+    Some((entry.0, version))
+}
+
+fn entries_matching(
+    alloc: Global,
+    statement: &Statement,
+    rows: &[(RowName, Value)],
+) -> Result<Vec<(RowName, Version)>, NoMemory>
+    ensures { IfOk result (λ v. v.items ≡ each_row (matching_version statement.now) rows.now) }
+{
+    rows.iter()
+        .filter_map(|entry| entry_matching(statement, entry))
         .collect(alloc)
 }
 

@@ -11,8 +11,8 @@ returns-then-is_empty g c =
     let shows : ShowsWritten g.R.Rules.kind c.args.setup.now (past_of c.args.log.now) t.0 c.args.statement.now c.in_ok-shown.shown =
     subst (λ level. ShowsWritten level c.args.setup.now (past_of c.args.log.now) t.0 c.args.statement.now c.in_ok-shown.shown) c.level.ensures
     (c.in_ok-shown.ensures (past_of c.args.log.now) c.args.session t.0 c.requires.situation t.1 t.2) in
-    let sight : IsSight g.R.Rules.kind c.args.setup.now (past_of c.args.log.now) t.0 c.in_ok-seen.seen =
-    subst (λ level. IsSight level c.args.setup.now (past_of c.args.log.now) t.0 c.in_ok-seen.seen) c.level-then-is_empty.ensures
+    let sight : IsSight c.args.statement.now g.R.Rules.kind c.args.setup.now (past_of c.args.log.now) t.0 c.in_ok-seen.seen =
+    subst (λ level. IsSight c.args.statement.now level c.args.setup.now (past_of c.args.log.now) t.0 c.in_ok-seen.seen) c.level-then-is_empty.ensures
     (c.in_ok-seen.ensures (past_of c.args.log.now) c.args.session t.0 c.requires.situation t.1 t.2) in
     let blockers = c.in_ok-on.ensures (past_of c.args.log.now) t.0 c.requires.situation t.1 shows in
     let empty = none_empty c.as_slice.result.now c.in_ok-on.on c.as_slice.ensures c.if-is_empty.ensures in

@@ -1,0 +1,120 @@
+-- What a statement is shown of the versions that are seen: as much as its effect and its refusal rest on.
+use Rattle.std.proofs.Common.{◌≡◌, ◌∙◌, refl, sym, ap, ℤ, Bool, true, false, cond, List, ℕ, inl, inr}
+use Rattle.std.specs.Prelude.{Option, Some, None, unwrap_or, option_and_then, option_map, is_some}
+use Rattle.std.specs.Option.{option_or}
+use Rattle.std.specs.FinMap.{get, insert, empty, get-insert, get-empty}
+use Rattle.lab_table.specs.Row.{Row, row_cmp, row_eq, rows_total, numbered}
+use Rattle.lab_table.specs.Table.{State, Table}
+use Rattle.lab_table.specs.Statement.{may_match, selects, matched, listed, written, fails, would_write, kind_selects, kind_matched, kind_would_write, applied}
+use Rattle.lab_table.specs.declared.statement.Statement.{Statement}
+use Rattle.lab_table.specs.declared.statement.StatementKind.{StatementKind}
+use Rattle.lab_table.specs.declared.statement.StatementKind.TheVariants.{Select, Update, Insert, Delete}
+use Rattle.std.proofs.lemmas.Bool.{true≢false, false≢true}
+use Rattle.lab_table.proofs.Maps.{same_row, row_eq_self}
+use Rattle.lab_table.proofs.OneRow.{no_match}
+use Rattle.lab_table.proofs.Statements.{listed_alike, written_alike, fails_alike}
+use Rattle.lab_history.specs.declared.operation.VersionName.TheVariants.{Initial}
+use Rattle.lab_engine.specs.Log.{Version}
+use Rattle.lab_engine.specs.Rules.{in_view}
+use Rattle.lab_engine.specs.Sight.{Listed, initially, matching_version, listed_version, IsShown}
+use Rattle.lab_engine.proofs.Narrowing.{others_off}
+
+abbrev none : Option Version
+none = None
+
+-- ---- the initial versions that match
+
+-- where a statement can't match a row, there is none
+ruled_out : (s : Statement) (row : Row) → may_match s row ≡ false → (state : State) → option_and_then (matching_version s row) state ≡ None
+ruled_out s row off None = refl
+ruled_out s row off (Some value) = ap (λ b. listed_version (cond b (Some value) None)) (no_match s row off (Some value))
+
+module _ (s : Statement) (row : Row) (only : (other : Row) → may_match s other ≡ true → other ≡ row) (table : Table) where
+  -- of all rows but the one that the statement names there is none
+  others_none : (other : Row) → row_eq other row ≡ false → option_and_then (matching_version s other) (get table other) ≡ None
+  others_none other apart =
+      ruled_out s other (others_off s row only other (λ same. false≢true (sym apart ∙ ap (λ r. row_eq r row) same ∙ row_eq_self row))) (get table other)
+
+  module _ (version : Option Version) (is : option_and_then (matching_version s row) (get table row) ≡ version) where
+    -- so there is that of the row, if any
+    one_matching : (q : Row) → cond (row_eq q row) version None ≡ option_and_then (matching_version s q) (get table q)
+    one_matching q = by (row_eq q row) refl
+      where
+        by : (b : Bool) → row_eq q row ≡ b → cond b version None ≡ option_and_then (matching_version s q) (get table q)
+        by true same = sym is ∙ ap (λ r. option_and_then (matching_version s r) (get table r)) (sym (same_row q row same))
+        by false apart = sym (others_none q apart)
+
+  pub none_matching : option_and_then (matching_version s row) (get table row) ≡ None → (made : Listed) → made ≡ empty → (q : Row) → get made q ≡ option_and_then (matching_version s q) (get table q)
+  none_matching is made new q =
+      ap (λ m. get m q) new ∙ get-empty row_cmp q ∙ either (row_eq q row) ∙ one_matching None is q
+    where
+      either : (b : Bool) → none ≡ cond b none none
+      either true = refl
+      either false = refl
+
+  pub some_matching : (version : Version) → option_and_then (matching_version s row) (get table row) ≡ Some version → (made : Listed) → made ≡ insert empty row version
+      → (q : Row) → get made q ≡ option_and_then (matching_version s q) (get table q)
+  some_matching version is made new q =
+      ap (λ m. get m q) new ∙ get-insert rows_total empty row version q ∙ ap (λ (o : Option Version). cond (row_eq q row) (Some version) o) (get-empty row_cmp q)
+      ∙ one_matching (Some version) is q
+
+-- ---- what is shown
+
+-- an initial version is left out where it doesn't match
+initial_shown : (s : Statement) (row : Row) (state : State) → IsShown s row (unwrap_or (option_and_then (matching_version s row) state) (initially None)) (initially state)
+initial_shown s row None = inl refl
+initial_shown s row (Some value) = by (selects s row value) refl
+  where
+    by : (b : Bool) → selects s row value ≡ b → IsShown s row (unwrap_or (listed_version (cond b (Some value) None)) (initially None)) (initially (Some value))
+    by true is = inl refl
+    by false off = inr (refl, value, refl, ap (λ b. cond b (Some value) None) off)
+
+-- the own version, else the installed one, else the initial one
+pub first_shown : (s : Statement) (row : Row) (own installed : Option Version) (state : State)
+    → IsShown s row (unwrap_or (option_or own (option_or installed (option_and_then (matching_version s row) state))) (initially None)) (unwrap_or own (unwrap_or installed (initially state)))
+first_shown s row (Some v) installed state = inl refl
+first_shown s row None (Some v) state = inl refl
+first_shown s row None None state = initial_shown s row state
+
+module _ (s : Statement) (row : Row) (shown sees : Version) where
+  pub shown_view : IsShown s row shown sees → in_view shown.name ≡ in_view sees.name
+  shown_view (inl same) = ap (λ (v : Version). in_view v.name) same
+  shown_view (inr (out, value, is, off)) = ap (λ (v : Version). in_view v.name) out ∙ sym (ap (λ (v : Version). in_view v.name) is)
+
+  pub shown_listed : IsShown s row shown sees → listed s row shown.state ≡ listed s row sees.state
+  shown_listed (inl same) = ap (λ (v : Version). listed s row v.state) same
+  shown_listed (inr (out, value, is, off)) =
+      ap (λ (v : Version). listed s row v.state) out ∙ listed_alike s row None (Some value) (sym off) ∙ sym (ap (λ (v : Version). listed s row v.state) is)
+
+  pub shown_written : IsShown s row shown sees → written s row shown.state ≡ written s row sees.state
+  shown_written (inl same) = ap (λ (v : Version). written s row v.state) same
+  shown_written (inr (out, value, is, off)) =
+      ap (λ (v : Version). written s row v.state) out ∙ written_alike s row None (Some value) (sym off) ∙ sym (ap (λ (v : Version). written s row v.state) is)
+
+  pub shown_fails : IsShown s row shown sees → fails s row shown.state ≡ fails s row sees.state
+  shown_fails (inl same) = ap (λ (v : Version). fails s row v.state) same
+  shown_fails (inr (out, value, is, off)) =
+      ap (λ (v : Version). fails s row v.state) out ∙ fails_alike s row None (Some value) (sym off) ∙ sym (ap (λ (v : Version). fails s row v.state) is)
+
+-- what a delete leaves
+abbrev removed : State
+removed = None
+
+-- a row that is present and doesn't match isn't written
+unwritten_kind : (table : List ℕ) (kind : StatementKind) (row : Row) (value : ℤ) → kind_matched table kind row (Some value) ≡ None → kind_would_write table kind row (Some value) ≡ false
+unwritten_kind table (Select pred) row value off = refl
+unwritten_kind table (Update expr pred) row value off = ap (λ o. is_some (option_map (λ old. Some (applied expr old)) o)) off
+unwritten_kind table (Insert id new) row value off = by (row_eq row (numbered table id)) off
+  where
+    by : (b : Bool) → cond b (Some value) None ≡ None → is_some (cond b (Some (Some new)) None) ≡ false
+    by true e = absurd cc
+    by false e = refl
+unwritten_kind table (Delete pred) row value off = ap (λ (o : State). is_some (option_map (λ (old : ℤ). removed) o)) off
+
+pub unwritten : (s : Statement) (row : Row) (value : ℤ) → matched s row (Some value) ≡ None → would_write s row (Some value) ≡ false
+unwritten s = unwritten_kind s.table s.kind
+
+-- so a row that is written is shown as it is seen
+pub written_same : (s : Statement) (row : Row) (shown sees : Version) → IsShown s row shown sees → would_write s row sees.state ≡ true → shown ≡ sees
+written_same s row shown sees (inl same) writes = same
+written_same s row shown sees (inr (out, value, is, off)) writes = absurd (true≢false (sym writes ∙ ap (λ (v : Version). would_write s row v.state) is ∙ unwritten s row value off))
