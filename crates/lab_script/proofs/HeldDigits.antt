@@ -20,7 +20,7 @@ held_alike n m (b ∷ bs) same =
     ]
 
 -- one more digit of a number
-pub held_on : (n digit next i : ℕ) (bs text : List ℕ) → held_from (whole (token.Digits n)) (drop i bs) ≡ held_from (whole (token.Digits 0)) text → i < length bs → is_ascii_digit (get_or bs i 0) ≡ true
-    → digit ≡ get_or bs i 0 - 48 → next ≡ min (10 * n + digit) 1000000001 → held_from (whole (token.Digits next)) (drop (i + 1) bs) ≡ held_from (whole (token.Digits 0)) text
-held_on n digit next i bs text so_far lt q d is =
+pub held_on : (n digit next before i : ℕ) (bs text : List ℕ) → held_from (whole (token.Digits n)) (drop i bs) ≡ held_from (whole (token.Digits before)) text → i < length bs → is_ascii_digit (get_or bs i 0) ≡ true
+    → digit ≡ get_or bs i 0 - 48 → next ≡ min (10 * n + digit) 1000000001 → held_from (whole (token.Digits next)) (drop (i + 1) bs) ≡ held_from (whole (token.Digits before)) text
+held_on n digit next before i bs text so_far lt q d is =
     held_alike next (10 * n + (get_or bs i 0 - 48)) (drop (i + 1) bs) (omega arith) ∙ sym (ap (map held) (digits_on n i bs lt q)) ∙ so_far

@@ -43,16 +43,6 @@ letters_run (b ∷ bs) word =
           ∙ ap (word_then word (b ∷ bs)) (no_more is_letter b bs isnt)
     ]
 
--- blanks don't matter
-pub blanks_run : (bs : List ℕ) → tokens bs ≡ tokens (drop (prefix_len is_blank bs) bs)
-blanks_run [] = refl
-blanks_run (b ∷ bs) =
-    elim (cases_Bool (is_blank b)) [
-      | inl is ↦ ap (λ (v : Bool). tokens_from (cond v gap (cond (is_letter b) (letters (to_ascii_lowercase b ∷ [])) (cond (is_ascii_digit b) (whole (token.Digits (b - 48))) (whole (mark b))))) bs) is
-          ∙ blanks_run bs ∙ ap (λ (k : ℕ). tokens (drop k (b ∷ bs))) (one_more is_blank b bs is)
-      | inr isnt ↦ ap (λ (k : ℕ). tokens (drop k (b ∷ bs))) (no_more is_blank b bs isnt)
-    ]
-
 -- what stands behind them is none of them
 pub front_stops : (p : ℕ → Bool) (bs : List ℕ) (b : ℕ) (after : List ℕ) → drop (prefix_len p bs) bs ≡ b ∷ after → p b ≡ false
 front_stops p [] b after e = absurd cc
@@ -73,12 +63,6 @@ second false false x y z p q = absurd cc
 third : {A : Type 0} (u v w : Bool) (t x y z : A) → u ≡ false → v ≡ false → w ≡ true → cond u t (cond v x (cond w y z)) ≡ y
 third false v w t x y z r p q = second v w x y z p q
 third true v w t x y z r p q = absurd cc
-
-last : {A : Type 0} (u v w : Bool) (t x y z : A) → u ≡ false → v ≡ false → w ≡ false → cond u t (cond v x (cond w y z)) ≡ z
-last false false false t x y z r p q = refl
-last true v w t x y z r p q = absurd cc
-last false true w t x y z r p q = absurd cc
-last false false true t x y z r p q = absurd cc
 
 from_part : (bs : List ℕ) (p q : Part) → p ≡ q → tokens_from p bs ≡ tokens_from q bs
 from_part bs p q e = ap (λ (x : Part). tokens_from x bs) e
@@ -102,10 +86,6 @@ pub digits_begin : (b : ℕ) (bs : List ℕ) → is_blank b ≡ false → is_let
 digits_begin b bs p q r =
     from_part bs _ _ (third (is_blank b) (is_letter b) (is_ascii_digit b) gap (letters (to_ascii_lowercase b ∷ [])) (whole (token.Digits (b - 48))) (whole (mark b)) p q r)
     ∙ ap (λ (n : ℕ). tokens_from (whole (token.Digits n)) bs) (sym (first_of_digits b)) ∙ sym (digit_goes_on 0 b bs r)
-
-pub mark_begins : (b : ℕ) (bs : List ℕ) → is_blank b ≡ false → is_letter b ≡ false → is_ascii_digit b ≡ false → tokens (b ∷ bs) ≡ tokens_from (whole (mark b)) bs
-mark_begins b bs p q r =
-    from_part bs _ _ (last (is_blank b) (is_letter b) (is_ascii_digit b) gap (letters (to_ascii_lowercase b ∷ [])) (whole (token.Digits (b - 48))) (whole (mark b)) p q r)
 
 pub digits_on : (n i : ℕ) (bs : List ℕ) → i < length bs → is_ascii_digit (get_or bs i 0) ≡ true
     → tokens_from (whole (token.Digits n)) (drop i bs) ≡ tokens_from (whole (token.Digits (10 * n + (get_or bs i 0 - 48)))) (drop (i + 1) bs)
@@ -138,6 +118,10 @@ others b p q =
     (either (b == 43) token.Plus _ (record { ends = λ n. refl; kept = refl })
     (either (b == 45) token.Minus _ (record { ends = λ n. refl; kept = refl }) (record { ends = λ n. refl; kept = refl }))))))))))
 
+-- a comma is a token by itself
+pub comma_begins : (b : ℕ) (bs : List ℕ) → b ≡ 44 → held_tokens (b ∷ bs) ≡ token.Comma ∷ held_tokens bs
+comma_begins b bs is = rw is (ap (map held) (whole_run token.Comma bs (λ n. refl)))
+
 mark_run : (b : ℕ) (bs : List ℕ) → (b == 60) ≡ false → (b == 62) ≡ false → held_from (whole (mark b)) bs ≡ mark b ∷ held_tokens bs
 mark_run b bs p q =
     let still = others b p q in
@@ -158,26 +142,8 @@ pub whole_word : (bs text rest : List ℕ) (len : ℕ) (word : Word) → len ≡
     → word ≡ word_named (map to_ascii_lowercase text) → held_from (letters []) bs ≡ token.Word word ∷ held_tokens rest
 whole_word bs text rest len word p q r e = ap (map held) (word_run bs text rest len word p q r e)
 
-skipped : (bs mid : List ℕ) (k : ℕ) → k ≡ prefix_len is_blank bs → mid ≡ drop k bs → tokens bs ≡ tokens mid
-skipped bs mid k p q = rw (q, p) (blanks_run bs)
-
-not_blank : (bs mid after : List ℕ) (k b : ℕ) → k ≡ prefix_len is_blank bs → mid ≡ drop k bs → mid ≡ b ∷ after → is_blank b ≡ false
-not_blank bs mid after k b p q r = front_stops is_blank bs b after (ap (λ (n : ℕ). drop n bs) (sym p) ∙ sym q ∙ r)
-
-pub found_none : (bs mid : List ℕ) (k : ℕ) → k ≡ prefix_len is_blank bs → mid ≡ drop k bs → mid ≡ [] → tokens bs ≡ []
-found_none bs mid k p q r = skipped bs mid k p q ∙ ap tokens r
-
-pub found_word : (bs mid after : List ℕ) (k b : ℕ) (r : List Token) → k ≡ prefix_len is_blank bs → mid ≡ drop k bs → mid ≡ b ∷ after → is_letter b ≡ true
-    → held_from (letters []) mid ≡ r → held_tokens bs ≡ r
-found_word bs mid after k b r p q e is h =
-    ap (map held) (skipped bs mid k p q ∙ ap tokens e ∙ word_begins b after (not_blank bs mid after k b p q e) is ∙ ap (tokens_from (letters [])) (sym e)) ∙ h
-
-pub found_digits : (bs mid after : List ℕ) (k b : ℕ) (r : List Token) → k ≡ prefix_len is_blank bs → mid ≡ drop k bs → mid ≡ b ∷ after → is_letter b ≡ false
-    → is_ascii_digit b ≡ true → held_from (whole (token.Digits 0)) mid ≡ r → held_tokens bs ≡ r
-found_digits bs mid after k b r p q e isnt is h =
-    ap (map held) (skipped bs mid k p q ∙ ap tokens e ∙ digits_begin b after (not_blank bs mid after k b p q e) isnt is ∙ ap (tokens_from (whole (token.Digits 0))) (sym e)) ∙ h
-
-pub found_mark : (bs mid after : List ℕ) (k b : ℕ) (r : List Token) → k ≡ prefix_len is_blank bs → mid ≡ drop k bs → mid ≡ b ∷ after → is_letter b ≡ false
-    → is_ascii_digit b ≡ false → held_from (whole (mark b)) after ≡ r → held_tokens bs ≡ r
-found_mark bs mid after k b r p q e isnt isnt' h =
-    ap (map held) (skipped bs mid k p q ∙ ap tokens e ∙ mark_begins b after (not_blank bs mid after k b p q e) isnt isnt') ∙ h
+-- a token put behind those found, which begins what is left
+pub placed : (now found : List Token) (t : Token) (rest text after : List ℕ) → now ≡ found ++ t ∷ [] → found ++ held_tokens rest ≡ held_tokens text → held_tokens rest ≡ t ∷ held_tokens after
+    → now ++ held_tokens after ≡ held_tokens text
+placed now found t rest text after p q r =
+    ap (λ (ts : List Token). ts ++ held_tokens after) p ∙ append_assoc found (t ∷ []) (held_tokens after) ∙ ap (λ (ts : List Token). found ++ ts) (sym r) ∙ q

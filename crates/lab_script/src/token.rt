@@ -1,13 +1,13 @@
 //! The tokens of a line's code.
 
-ghost use Rattle.std.specs.Prelude.{◌≡◌, ◌≤◌, ◌∷◌, [], ◌++◌, length, map, IfOk, OnOk, IfSome, MatchOption, ◌<◌, IsTrue, ◌↔◌, ◌≢◌, List, slice_get, Some, if◌then◌else◌};
+ghost use Rattle.std.specs.Prelude.{◌≡◌, ◌≤◌, ◌∷◌, [], ◌++◌, length, map, IfOk, OnOk, ◌<◌, IsTrue, ◌↔◌, ◌≢◌, List, slice_get, Some, if◌then◌else◌};
 ghost use Rattle.std.specs.Str.{bytes_eq};
 ghost use Rattle.std.specs.List.{prefix_len};
 ghost use Rattle.std.specs.Char.{to_ascii_lowercase};
 ghost use Rattle.lab_table.specs.TableName.{is_table_name};
 ghost use Rattle.lab_script.specs.declared.token.Token.TheVariants as token;
 ghost use Rattle.lab_script.specs.declared.token.Word.TheVariants as words;
-ghost use Rattle.lab_script.specs.Token.{letters, whole, is_letter, is_blank, word_named, tokens, mark};
+ghost use Rattle.lab_script.specs.Token.{letters, whole, is_letter, is_blank, word_named, mark};
 ghost use Rattle.lab_script.specs.HeldTokens.{held_from, held_tokens};
 ghost use Rattle.lab_script.specs.Reading.{is_token, token_digits, token_name, token_number, tokens_equiv, word_name, word_number};
 ghost use Rattle.std.specs.Cmp.{partial_equiv_from_equiv};
@@ -287,30 +287,35 @@ pub fn blanks_len(bytes: &[u8]) -> usize
 
 /// The word at the front, and what follows it.
 #[tactic(auto, using(crate::proofs::Tokens::letters_run))]
-fn word_at(bytes: &[u8]) -> (Token, &[u8])
-    ensures { held_from (letters []) bytes.now ≡ result.0 ∷ held_tokens result.1.now }
+fn word_at(bytes: &[u8]) -> (Word, &[u8])
+    ensures value { held_from (letters []) bytes.now ≡ token.Word result.0 ∷ held_tokens result.1.now }
+    ensures within { length result.1.now ≤ length bytes.now }
 {
     let (text, rest) = bytes.split_at(letters_len(bytes));
-    (Token::Word(Word::named(text)), rest)
+    (Word::named(text), rest)
 }
 
-/// The digits at the front, and what follows them.
-fn digits_at(bytes: &[u8]) -> (Token, &[u8])
-    ensures { held_from (whole (token.Digits 0)) bytes.now ≡ result.0 ∷ held_tokens result.1.now }
+/// The digits at the front, behind digits that spell this number, and what follows them.
+#[inline(always)]
+fn digits_at(number: u32, bytes: &[u8]) -> (u32, &[u8])
+    requires { number ≤ 1000000001 }
+    ensures value { held_from (whole (token.Digits number)) bytes.now ≡ token.Digits result.0 ∷ held_tokens result.1.now }
+    ensures within { length result.1.now ≤ length bytes.now }
 {
-    let mut number: u64 = 0;
+    let mut number = u64::from(number);
     for (i, byte) in bytes.iter().enumerate() {
         if !byte.is_ascii_digit() {
-            return (Token::Digits(number as u32), &bytes[i..]);
+            return (number as u32, &bytes[i..]);
         }
         number = (10 * number + u64::from(*byte - b'0')).min(TOO_LARGE);
     }
-    (Token::Digits(number as u32), &[])
+    (number as u32, &[])
 }
 
 /// The token that `<` begins, and what follows it.
 fn less_at(after: &[u8]) -> (Token, &[u8])
-    ensures { held_from (whole token.Less) after.now ≡ result.0 ∷ held_tokens result.1.now }
+    ensures value { held_from (whole token.Less) after.now ≡ result.0 ∷ held_tokens result.1.now }
+    ensures within { length result.1.now ≤ length after.now }
 {
     match after {
         [] => (Token::Less, after),
@@ -328,7 +333,8 @@ fn less_at(after: &[u8]) -> (Token, &[u8])
 
 /// The token that `>` begins, and what follows it.
 fn greater_at(after: &[u8]) -> (Token, &[u8])
-    ensures { held_from (whole token.Greater) after.now ≡ result.0 ∷ held_tokens result.1.now }
+    ensures value { held_from (whole token.Greater) after.now ≡ result.0 ∷ held_tokens result.1.now }
+    ensures within { length result.1.now ≤ length after.now }
 {
     match after {
         [b'=', rest @ ..] => (Token::AtLeast, rest),
@@ -358,7 +364,8 @@ fn mark_of(byte: u8) -> Token
 
 /// The mark that begins with this byte, and what follows it.
 fn mark_at(first: u8, after: &[u8]) -> (Token, &[u8])
-    ensures { held_from (whole (mark first)) after.now ≡ result.0 ∷ held_tokens result.1.now }
+    ensures value { held_from (whole (mark first)) after.now ≡ result.0 ∷ held_tokens result.1.now }
+    ensures within { length result.1.now ≤ length after.now }
 {
     if first == b'<' {
         less_at(after)
@@ -366,25 +373,6 @@ fn mark_at(first: u8, after: &[u8]) -> (Token, &[u8])
         greater_at(after)
     } else {
         (mark_of(first), after)
-    }
-}
-
-/// The token at the front, and what follows it.
-fn token_at(bytes: &[u8]) -> Option<(Token, &[u8])>
-    ensures { MatchOption result (tokens bytes.now ≡ []) (λ found. held_tokens bytes.now ≡ found.0 ∷ held_tokens found.1.now) }
-{
-    let (_, rest) = bytes.split_at(blanks_len(bytes));
-    match rest.split_first() {
-        None => None,
-        Some((first, after)) => {
-            if is_letter(*first) {
-                Some(word_at(rest))
-            } else if first.is_ascii_digit() {
-                Some(digits_at(rest))
-            } else {
-                Some(mark_at(*first, after))
-            }
-        }
     }
 }
 
@@ -399,14 +387,33 @@ pub fn tokens_of(alloc: Global, text: &[u8]) -> Result<Vec<Token>, NoMemory>
 
 /// Puts the tokens of a text, with a number past every range as `TOO_LARGE`, in place of what was found before;
 /// NoMemory where a growth was refused.
+#[tactic(auto, using(crate::proofs::Tokens::comma_begins))]
 pub fn tokens_into(found: &mut Vec<Token>, text: &[u8]) -> Result<(), NoMemory>
     ensures { OnOk result (found.new.items ≡ held_tokens text.now) }
 {
     found.clear();
     let mut rest = text;
-    while let Some((token, after)) = token_at(rest) {
-        found.push(token)?;
-        rest = after;
+    // Each branch pushes its own token, so that none is copied on its way. Digits and commas are told first, since the
+    // longest texts are lists of numbers.
+    while let Some((first, after)) = rest.split_first() {
+        if first.is_ascii_digit() {
+            let (number, behind) = digits_at(u32::from(*first - b'0'), after);
+            found.push(Token::Digits(number))?;
+            rest = behind;
+        } else if *first == b',' {
+            found.push(Token::Comma)?;
+            rest = after;
+        } else if is_blank(*first) {
+            rest = after;
+        } else if is_letter(*first) {
+            let (word, behind) = word_at(rest);
+            found.push(Token::Word(word))?;
+            rest = behind;
+        } else {
+            let (mark, behind) = mark_at(*first, after);
+            found.push(mark)?;
+            rest = behind;
+        }
     }
     Ok(())
 }

@@ -1,9 +1,9 @@
-use Rattle.std.proofs.Common.{◌≡◌, ◌++◌, length}
+use Rattle.std.proofs.Common.{◌≡◌, ◌++◌, ◌+◌, length}
 use Rattle.lab_script.specs.HeldTokens.{held_tokens}
 use Rattle.lab_script.proofs.token.tokens_into.Given as goal
 
-abbrev pub invariant-loop-token : goal.invariant-loop-token
-invariant-loop-token l = l.found.items ++ held_tokens l.rest ≡ held_tokens l.fn.text
+abbrev pub invariant-loop-first : goal.invariant-loop-first
+invariant-loop-first l = l.found.items ++ held_tokens l.rest ≡ held_tokens l.fn.text
 
-abbrev pub decreases-loop-token : goal.decreases-loop-token
-decreases-loop-token l = length (held_tokens l.rest)
+abbrev pub decreases-loop-first : goal.decreases-loop-first
+decreases-loop-first l = length (held_tokens l.rest) + length l.rest
