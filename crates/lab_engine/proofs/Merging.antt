@@ -1,5 +1,5 @@
 -- Sorted lists of rows with their versions, two of which are merged.
-use Rattle.std.proofs.Common.{◌≡◌, ℕ, zero, suc, ◌+◌, true, false, cond, T, [], ◌∷◌, ◌++◌, take, drop, Option, Some, refl, sym, ap, ◌∙◌, subst, append_assoc, one-add}
+use Rattle.std.proofs.Common.{◌≡◌, ℕ, zero, suc, ◌+◌, true, false, cond, T, [], ◌∷◌, ◌++◌, take, drop, Option, Some, None, Bool, is_some, refl, sym, ap, ◌∙◌, subst, append_assoc, one-add}
 use Rattle.std.specs.Bool.{⊤}
 use Rattle.std.specs.Option.{option_or}
 use Rattle.std.specs.List.{prefix_len}
@@ -9,6 +9,7 @@ use Rattle.std.specs.declared.cmp.Ordering.TheVariants.{Less, Equal, Greater}
 use Rattle.std.specs.FinMap.{find, is_sorted, get, from_sorted, insert, put, entries, entries_sorted, get-entries, get-from_sorted, get-insert}
 use Rattle.std.specs.FinMap.Entries.{below_all, by_order, is_sorted-put, find-put}
 use Rattle.lab_table.specs.Row.{Row, row_cmp, row_eq, rows_total, rows_apart, row_test}
+use Rattle.std.proofs.lemmas.Bool.{false≢true}
 use Rattle.lab_table.proofs.Maps.{find_below, same_row}
 use Rattle.lab_table.proofs.Putting.{is_own}
 use Rattle.lab_table.proofs.Tests.{both}
@@ -16,7 +17,7 @@ use Rattle.lab_table.proofs.Orderings.{is_less, turned, turned_back}
 use Rattle.lab_table.proofs.SortedRows.{lower}
 use Rattle.lab_engine.specs.Log.{Version}
 use Rattle.lab_engine.specs.Sight.{Listed, comes_after}
-use Rattle.lab_engine.specs.Merging.{merged, without_row, insert_each}
+use Rattle.lab_engine.specs.Merging.{merged, without_row, insert_each, insert_missing}
 use Rattle.lab_engine.proofs.VersionLists.{Entries}
 
 -- a version before those that come after the row, in the place of the row's own if it is there
@@ -160,3 +161,42 @@ each_inserted row versions (e ∷ over) h =
 pub cover_found : (old above : Listed) (seen : Entries) (row : Row) → seen ≡ entries above → get (insert_each old seen) row ≡ option_or (get above row) (get old row)
 cover_found old above seen row is =
     ap (λ l. get (insert_each old l) row) is ∙ each_inserted row old (entries above) (entries_sorted above) ∙ ap (λ o. option_or o (get old row)) (sym (get-entries above row))
+
+-- putting those that are missing: a row is found as before, else as the entries have it
+each_missing : (row : Row) (versions : Listed) (under : Entries) → get (insert_missing versions under) row ≡ option_or (get versions row) (find row_cmp row under)
+each_missing row versions [] = sym (or_none (get versions row))
+  where
+    or_none : (o : Option Version) → option_or o None ≡ o
+    or_none (Some v) = refl
+    or_none None = refl
+each_missing row versions (e ∷ under) = by (is_some (get versions e.0)) refl (λ m. each_missing row m under)
+  where
+    here : row_eq row e.0 ≡ true → get versions row ≡ get versions e.0
+    here same = ap (get versions) (same_row row e.0 same)
+
+    by : (b : Bool) → is_some (get versions e.0) ≡ b → ((m : Listed) → get (insert_missing m under) row ≡ option_or (get m row) (find row_cmp row under))
+        → get (insert_missing (cond b versions (insert versions e.0 e.1)) under) row ≡ option_or (get versions row) (find row_cmp row (e ∷ under))
+    by true there rest = rest versions ∙ known (row_eq row e.0) refl
+      where
+        known : (t : Bool) → row_eq row e.0 ≡ t → option_or (get versions row) (find row_cmp row under) ≡ option_or (get versions row) (cond t (Some e.1) (find row_cmp row under))
+        known true same = found (get versions row) (ap is_some (here same) ∙ there)
+          where
+            found : (o : Option Version) → is_some o ≡ true → option_or o (find row_cmp row under) ≡ option_or o (Some e.1)
+            found (Some v) is = refl
+            found None is = absurd (false≢true is)
+        known false apart = refl
+    by false missing rest =
+        rest (insert versions e.0 e.1) ∙ ap (λ o. option_or o (find row_cmp row under)) (get-insert rows_total versions e.0 e.1 row) ∙ new (row_eq row e.0) refl
+      where
+        new : (t : Bool) → row_eq row e.0 ≡ t → option_or (cond t (Some e.1) (get versions row)) (find row_cmp row under) ≡ option_or (get versions row) (cond t (Some e.1) (find row_cmp row under))
+        new true same = absent (get versions row) (ap is_some (here same) ∙ missing)
+          where
+            absent : (o : Option Version) → is_some o ≡ false → Some e.1 ≡ option_or o (Some e.1)
+            absent (Some v) is = absurd (false≢true (sym is))
+            absent None is = refl
+        new false apart = refl
+
+-- a row is found as versions have it, else as those that were put under them
+pub under_found : (above old : Listed) (seen : Entries) (row : Row) → seen ≡ entries old → get (insert_missing above seen) row ≡ option_or (get above row) (get old row)
+under_found above old seen row is =
+    ap (λ l. get (insert_missing above l) row) is ∙ each_missing row above (entries old) ∙ ap (option_or (get above row)) (sym (get-entries old row))

@@ -1,5 +1,5 @@
 -- Sorted lists of rows with their versions.
-use Rattle.std.specs.Prelude.{cond, ℤ, Option, Some, None, List, [], ◌∷◌, ◌++◌, take, drop}
+use Rattle.std.specs.Prelude.{cond, is_some, ℤ, Option, Some, None, List, [], ◌∷◌, ◌++◌, take, drop}
 use Rattle.std.specs.List.{prefix_len}
 use Rattle.std.specs.FinMap as map
 use Rattle.lab_table.specs.Row.{Row, row_test}
@@ -38,3 +38,8 @@ merged under (e ∷ over) = take (prefix_len (comes_after e.0) under) under ++ e
 abbrev pub insert_each : Listed → List (Row × Version) → Listed
 insert_each versions [] = versions
 insert_each versions (e ∷ es) = insert_each (map.insert versions e.0 e.1) es
+
+-- with those entries whose rows have no version yet
+abbrev pub insert_missing : Listed → List (Row × Version) → Listed
+insert_missing versions [] = versions
+insert_missing versions (e ∷ es) = insert_missing (cond (is_some (map.get versions e.0)) versions (map.insert versions e.0 e.1)) es

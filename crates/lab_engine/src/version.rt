@@ -9,14 +9,15 @@ ghost use Rattle.lab_table.specs.Row.{Row, row_cmp};
 ghost use Rattle.lab_engine.specs.EachRow.{with_row, each_row, overwritten_version};
 ghost use Rattle.lab_engine.specs.Sight.{listed_version, matching_version, comes_after};
 ghost use Rattle.lab_history.specs.VersionName.{state_value};
-ghost use Rattle.lab_engine.specs.Merging.{initial_entry, written_entry, written_version, insert_each, merged, without_row};
+ghost use Rattle.lab_engine.specs.Merging.{initial_entry, written_entry, written_version, insert_each, insert_missing, merged, without_row};
 
 use lab_history::{State, VersionName, Writes};
 use lab_table::{ByRow, NoMemory, RowName, Statement, Table, Value};
 use std::alloc::Global;
 use std::marker::Model;
 
-/// So many versions are put one by one, each by halving; more are merged by a walk through both lists.
+/// So many versions are put one by one, each by halving, over others or under them; more are merged by a walk through both
+/// lists.
 const FEW: usize = 8;
 
 /// A version of a row: its name, and the row's value in it, or None where the row is absent.
@@ -155,10 +156,29 @@ impl Versions {
         let entries = over.entries();
         if entries.len() <= FEW {
             self.put_each(alloc, entries)?;
+        } else if self.entries().len() <= FEW {
+            *self = over.with_missing(alloc, self.entries())?;
         } else {
             *self = self.overlaid_with(alloc, over)?;
         }
         Ok(())
+    }
+
+    /// These versions, and of the entries those whose rows have none here. NoMemory where a growth was refused.
+    fn with_missing(
+        &self,
+        alloc: Global,
+        entries: &[(RowName, Version)],
+    ) -> Result<Versions, NoMemory>
+        ensures { IfOk result (λ made. made ≡ insert_missing self.now entries.now) }
+    {
+        let mut made = self.copy(alloc)?;
+        for entry in entries {
+            if made.get(entry.0).is_none() {
+                made.put(alloc, entry.0, entry.1)?;
+            }
+        }
+        Ok(made)
     }
 
     fn put_each(&mut self, alloc: Global, entries: &[(RowName, Version)]) -> Result<(), NoMemory>
