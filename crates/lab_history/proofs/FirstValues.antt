@@ -29,9 +29,20 @@ apart_first Greater b h = refl
 pub same_first : (n : ℕ) (b : Ordering) → is_eq (ordering_then (nat_cmp n n) b) ≡ is_eq b
 same_first n b = ap (λ r. is_eq (ordering_then r b)) (tied_itself nat_cmp_total n)
 
--- pairs with one row first are told apart by their seconds
-pub same_first_row : (row : Row) (b : Ordering) → is_eq (ordering_then (row_cmp row row) b) ≡ is_eq b
-same_first_row row b = ap (λ r. is_eq (ordering_then r b)) (tied_itself rows_total row)
+-- pairs with different second parts differ
+pub apart_second : (a b : Ordering) → is_eq b ≡ false → is_eq (ordering_then a b) ≡ false
+apart_second Less b h = refl
+apart_second Equal b h = h
+apart_second Greater b h = refl
+
+-- pairs with one row second are told apart by their firsts
+pub same_second_row : (a : Ordering) (row : Row) → is_eq (ordering_then a (row_cmp row row)) ≡ is_eq a
+same_second_row a row = ap (λ r. is_eq (ordering_then a r)) (tied_itself rows_total row) ∙ first_left a
+  where
+    first_left : (a : Ordering) → is_eq (ordering_then a Equal) ≡ is_eq a
+    first_left Less = refl
+    first_left Equal = refl
+    first_left Greater = refl
 
 -- nothing comes second
 pub or_none : {A : Type 0} (x : Option A) → option_or x None ≡ x

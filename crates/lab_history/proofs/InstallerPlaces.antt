@@ -8,22 +8,22 @@ use Rattle.std.specs.Ordering.{nat_cmp, is_eq}
 use Rattle.lab_table.specs.Row.{Row, row_cmp}
 use Rattle.lab_table.proofs.Maps.{same_row, find_below}
 use Rattle.lab_table.proofs.Tests.{both}
-use Rattle.lab_history.specs.Index.{row_txn_cmp, placed_from, placed}
+use Rattle.lab_history.specs.Index.{txn_row_cmp, placed_from, placed}
 use Rattle.lab_history.specs.Keyed.{value_at}
 use Rattle.lab_history.specs.Version.{place_in}
-use Rattle.lab_history.proofs.FirstValues.{same_number, other_row, apart_first, same_first_row, or_none, value_at-append}
+use Rattle.lab_history.proofs.FirstValues.{same_number, other_row, apart_second, same_second_row, or_none, value_at-append}
 use Rattle.lab_history.proofs.LastWrites.{counted, uncounted}
 
 module _ (row : Row) (n : ℕ) where
   -- the first entry for the row and the transaction
-  abbrev first_at : List ((Row × ℕ) × ℕ) → Option ℕ
-  first_at ps = value_at row_txn_cmp ps (row, n)
+  abbrev first_at : List ((ℕ × Row) × ℕ) → Option ℕ
+  first_at ps = value_at txn_row_cmp ps (n, row)
 
   -- among the row's installers the first with the number is found
   from_own : (place : ℕ) (ns : List ℕ) → first_at (placed_from row place ns) ≡ option_map (λ j. place + j) (place_in ns n)
   from_own place [] = refl
   from_own place (m ∷ ms) =
-      ap (λ b. cond b (Some (place + 1)) (first_at (placed_from row (place + 1) ms))) (same_first_row row (nat_cmp m n) ∙ same_number m n)
+      ap (λ b. cond b (Some (place + 1)) (first_at (placed_from row (place + 1) ms))) (same_second_row (nat_cmp m n) row ∙ same_number m n)
       ∙ either (from_own (place + 1) ms ∙ counted place (place_in ms n)) (m == n)
     where
       either : first_at (placed_from row (place + 1) ms) ≡ option_map (λ j. place + j) (option_map (λ j. suc j) (place_in ms n))
@@ -35,7 +35,7 @@ module _ (row : Row) (n : ℕ) where
   from_other : (other : Row) (place : ℕ) → is_eq (row_cmp other row) ≡ false → (ns : List ℕ) → first_at (placed_from other place ns) ≡ None
   from_other other place apart [] = refl
   from_other other place apart (m ∷ ms) =
-      ap (λ b. cond b (Some (place + 1)) (first_at (placed_from other (place + 1) ms))) (apart_first (row_cmp other row) (nat_cmp m n) apart)
+      ap (λ b. cond b (Some (place + 1)) (first_at (placed_from other (place + 1) ms))) (apart_second (nat_cmp m n) (row_cmp other row) apart)
       ∙ from_other other (place + 1) apart ms
 
   -- a transaction's place among a row's installers is found
@@ -43,7 +43,7 @@ module _ (row : Row) (n : ℕ) where
   place_found [] h = refl
   place_found (e ∷ es) h =
       let parts = both (below_all row_cmp e.0 es) (is_sorted row_cmp es) h in
-      value_at-append row_txn_cmp (row, n) (placed_from e.0 0 e.1) (placed es) ∙ at parts.0 (place_found es parts.1) (is_eq (row_cmp row e.0)) refl
+      value_at-append txn_row_cmp (n, row) (placed_from e.0 0 e.1) (placed es) ∙ at parts.0 (place_found es parts.1) (is_eq (row_cmp row e.0)) refl
     where
       at : T (below_all row_cmp e.0 es) → first_at (placed es) ≡ place_in (unwrap_or (find row_cmp row es) []) n
           → (b : Bool) → is_eq (row_cmp row e.0) ≡ b → option_or (first_at (placed_from e.0 0 e.1)) (first_at (placed es)) ≡ place_in (unwrap_or (cond b (Some e.1) (find row_cmp row es)) []) n

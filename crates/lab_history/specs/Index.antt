@@ -15,15 +15,11 @@ use Rattle.lab_history.specs.declared.transaction.Txn.{Txn}
 abbrev pub txn_row_cmp : ℕ × Row → ℕ × Row → Ordering
 txn_row_cmp a b = ordering_then (nat_cmp a.0 b.0) (row_cmp a.1 b.1)
 
--- the order by row and transaction
-abbrev pub row_txn_cmp : Row × ℕ → Row × ℕ → Ordering
-row_txn_cmp a b = ordering_then (row_cmp a.0 b.0) (nat_cmp a.1 b.1)
-
 -- an index finds what a history has: each transaction by its number, its last write of each row, and its place among the row's installers
 pub record IsIndexOf (index : Index) (h : History) : Type 0 where
   pub numbers : (n : ℕ) → option_and_then (λ place. slice_get h.txns place) (value_at nat_cmp index.numbers n) ≡ find_txn h.txns n
   pub last_writes : (n : ℕ) (row : Row) → value_at txn_row_cmp index.last_writes (n, row) ≡ last_write (ops_of h n) row
-  pub places : (row : Row) (n : ℕ) → value_at row_txn_cmp index.places (row, n) ≡ place_in (installers h row) n
+  pub places : (row : Row) (n : ℕ) → value_at txn_row_cmp index.places (n, row) ≡ place_in (installers h row) n
 
 -- the numbers of transactions with their places, counted on from one
 abbrev pub numbers_from : ℕ → List Txn → List (ℕ × ℕ)
@@ -46,11 +42,11 @@ written [] = []
 written (t ∷ ts) = written_from t.no 0 t.ops ++ written ts
 
 -- the installers of a row with their places, counted on from one
-abbrev pub placed_from : Row → ℕ → List ℕ → List ((Row × ℕ) × ℕ)
+abbrev pub placed_from : Row → ℕ → List ℕ → List ((ℕ × Row) × ℕ)
 placed_from row place [] = []
-placed_from row place (n ∷ ns) = ((row, n), place + 1) ∷ placed_from row (place + 1) ns
+placed_from row place (n ∷ ns) = ((n, row), place + 1) ∷ placed_from row (place + 1) ns
 
 -- the installers of all rows
-abbrev pub placed : List (Row × List ℕ) → List ((Row × ℕ) × ℕ)
+abbrev pub placed : List (Row × List ℕ) → List ((ℕ × Row) × ℕ)
 placed [] = []
 placed (e ∷ es) = placed_from e.0 0 e.1 ++ placed es

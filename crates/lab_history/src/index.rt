@@ -20,8 +20,9 @@ pub struct Index {
     pub numbers: Keyed<TxnNo, usize>,
     /// The last operation of a transaction that writes a row, counted from 1.
     pub last_writes: Keyed<(TxnNo, RowName), u32>,
-    /// The place of a transaction among the installers of a row, counted from 1.
-    pub places: Keyed<(RowName, TxnNo), usize>,
+    /// The place of a transaction among the installers of a row, counted from 1. The transaction comes first, so that
+    /// most steps of a look-up compare numbers alone.
+    pub places: Keyed<(TxnNo, RowName), usize>,
 }
 
 impl Index {
@@ -101,7 +102,7 @@ fn add_writes(
 fn places_of(
     alloc: Global,
     installed: &[(RowName, Installers)],
-) -> Result<Vec<((RowName, TxnNo), usize)>, NoMemory>
+) -> Result<Vec<((TxnNo, RowName), usize)>, NoMemory>
     ensures { IfOk result (λ places. places.items ≡ placed installed.now) }
 {
     let mut places = Vec::new(alloc);
@@ -113,14 +114,14 @@ fn places_of(
 
 /// Adds the installers of a row.
 fn add_places(
-    places: &mut Vec<((RowName, TxnNo), usize)>,
+    places: &mut Vec<((TxnNo, RowName), usize)>,
     row: RowName,
     installers: &[TxnNo],
 ) -> Result<(), NoMemory>
     ensures { OnOk result (places.new.items ≡ places.old.items ++ placed_from row 0 installers.now) }
 {
     for (index, txn) in installers.iter().enumerate() {
-        places.push(((row, *txn), index + 1))?;
+        places.push(((*txn, row), index + 1))?;
     }
     Ok(())
 }

@@ -43,7 +43,7 @@ impl History {
     pub fn installer_place(&self, row: RowName, txn: TxnNo) -> Option<usize>
         ensures { result ≡ place_in (installers self.now row) txn }
     {
-        self.index().places.get((row, txn))
+        self.index().places.get((txn, row))
     }
 
     fn initial_state(&self, row: RowName) -> State

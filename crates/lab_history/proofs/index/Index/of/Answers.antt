@@ -2,7 +2,7 @@ use Rattle.std.proofs.Common.{◌∙◌, sym, ap, []}
 use Rattle.std.specs.FinMap.{entries, entries_sorted, get-entries}
 use Rattle.std.specs.Ordering.{nat_cmp}
 use Rattle.std.specs.Prelude.{reverse, slice_get, option_and_then, unwrap_or}
-use Rattle.lab_history.specs.Index.{txn_row_cmp, row_txn_cmp, numbers_from, written, placed}
+use Rattle.lab_history.specs.Index.{txn_row_cmp, numbers_from, written, placed}
 use Rattle.lab_history.specs.Keyed.{value_at}
 use Rattle.lab_history.specs.Version.{place_in}
 use Rattle.lab_history.proofs.TxnPlaces.{txn_found}
@@ -22,6 +22,6 @@ returns c =
           c.in_ok-last_writes.ensures (n, row) ∙ ap (λ es. value_at txn_row_cmp es (n, row)) (c.in_ok-last_writes_of.ensures ∙ ap (λ ts. reverse (written ts)) txns)
           ∙ last_found n row h.txns c.requires.distinct;
       places = λ row n.
-          c.in_ok-places.ensures (row, n) ∙ ap (λ es. value_at row_txn_cmp es (row, n)) (c.in_ok-places_of.ensures ∙ ap placed c.entries.ensures)
+          c.in_ok-places.ensures (n, row) ∙ ap (λ es. value_at txn_row_cmp es (n, row)) (c.in_ok-places_of.ensures ∙ ap placed c.entries.ensures)
           ∙ place_found row n (entries h.installed) (entries_sorted h.installed) ∙ ap (λ o. place_in (unwrap_or o []) n) (sym (get-entries h.installed row));
     }
