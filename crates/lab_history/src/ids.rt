@@ -1,6 +1,6 @@
 //! How many different ids the lists of a history name.
 
-ghost use Rattle.std.specs.Prelude.{◌≡◌, nat_le, length, IfOk, OnOk};
+ghost use Rattle.std.specs.Prelude.{◌≡◌, ◌≤◌, nat_le, length, IfOk, OnOk};
 ghost use Rattle.std.specs.BTreeSet.{insert_key};
 ghost use Rattle.lab_table.specs.Row.{row_cmp};
 ghost use Rattle.lab_table.specs.Placed.{is_row_at};
@@ -56,10 +56,12 @@ impl Ids {
         self.seen.entries().len() <= MAX_IDS
     }
 
-    /// Adds a row, which is looked for at this place first, and answers the place behind it.
+    /// Adds a row and answers the place behind it. It is looked for first where it is likely to stand, seen from this
+    /// place.
     fn add(&mut self, place: usize, row: RowName) -> Result<usize, NoMemory>
         ensures { OnOk result (self.new ≡ insert_key row_cmp self.old row) }
     {
+        let place = likely_place(self.seen.entries(), place, row);
         if stands_at(self.seen.entries(), place, row) {
             return Ok(place + 1);
         }
@@ -70,7 +72,7 @@ impl Ids {
         Ok(place + 1)
     }
 
-    /// Rows that rise mostly follow one another here too.
+    /// Rows of a list rise, so each is looked for behind the one before it.
     fn add_rows<X>(&mut self, entries: &[(RowName, X)]) -> Result<(), NoMemory>
         ensures { OnOk result (self.new ≡ with_rows self.old entries.now) }
     {
@@ -111,6 +113,17 @@ impl Ids {
             }
         }
         Ok(true)
+    }
+}
+
+/// Where a row stands if those from a place up to it are of one table and leave no number out, as most rows of a history
+/// do. It is a guess, which costs less than halving.
+fn likely_place(entries: &[(RowName, ())], place: usize, row: RowName) -> usize
+    ensures { place ≤ result }
+{
+    match entries.get(place) {
+        Some(entry) => place + row.id.number().saturating_sub(entry.0.id.number()) as usize,
+        None => place,
     }
 }
 
