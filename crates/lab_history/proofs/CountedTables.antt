@@ -1,10 +1,10 @@
 -- Tables that were met one by one are as many as there are different ones, and a fifth ends the walk.
 use Rattle.std.proofs.Common.{◌≡◌, ℕ, ◌+◌, ◌≤◌, ◌<◌, ◌⊎◌, inl, inr, map, Bool, true, false, cond, ◌||◌, List, [], ◌∷◌, ◌++◌, length, suc, Option, Some, None, refl, sym, ap, subst, ◌∙◌, arith, one-add}
 use Rattle.std.specs.Prelude.{nat_le, nat_lt, is_some, option_and_then, if◌then◌else◌}
-use Rattle.std.specs.List.{list_any, AllByRecursion, IsDistinct, flat_map}
+use Rattle.std.specs.List.{list_any, list_all, AllByRecursion, IsDistinct, flat_map}
 use Rattle.std.specs.Set.{distinct_count, unique_keys}
 use Rattle.std.specs.Cmp.Lexicographic.{nat_list_eq_equiv, bytes_decides}
-use Rattle.std.proofs.lemmas.Bool.{ltb-true, ltb-false, le-leb, lt-leb, or_parts}
+use Rattle.std.proofs.lemmas.Bool.{ltb-true, ltb-false, le-leb, lt-leb, or_parts, and_parts}
 use Rattle.std.proofs.lemmas.List.{length-append, map-append}
 use Rattle.std.proofs.lemmas.List.Folds.{list_any-append}
 use Rattle.std.proofs.lemmas.Map.Made.{length-from_keys}
@@ -12,7 +12,8 @@ use Rattle.std.proofs.lemmas.Grind.{flat_map-append}
 use Rattle.std.proofs.Math.Bool.{or_assoc, or-false}
 use Rattle.lab_table.specs.TableName.{table_name_eq}
 use Rattle.std.specs.FinMap.{entries, keys}
-use Rattle.lab_table.specs.Row.{Row}
+use Rattle.lab_table.specs.Row.{Row, of_table}
+use Rattle.lab_table.specs.Placed.{is_of}
 use Rattle.lab_history.specs.History.{History}
 use Rattle.lab_history.specs.declared.operation.Op.{Op}
 use Rattle.lab_history.specs.declared.operation.State.{State}
@@ -165,6 +166,15 @@ then_within met (x ∷ xs) ys = on_some (with_table met x) _ _ (λ more. then_wi
 rows_met : {X : Type 0} (met : Names) (es : List (Row × X)) → rows_within met es ≡ tables_within met (tables_of (map (λ e. e.0) es))
 rows_met met [] = refl
 rows_met met (e ∷ es) = on_some (with_table met e.0.table) _ _ (λ more. rows_met more es)
+
+-- rows of a table that was met add nothing
+pub one_met : {X : Type 0} (met : Names) (table : List ℕ) → is_met table met ≡ true → (es : List (Row × X)) → list_all (is_of table) es ≡ true → rows_within met es ≡ Some met
+one_met met table is [] all = refl
+one_met met table is (e ∷ es) all =
+    let parts = and_parts (is_of table e) (list_all (is_of table) es) all in
+    let first : is_met e.0.table met ≡ true = ap (λ n. is_met n met) (of_table table e.0 parts.0) ∙ is in
+    ap (λ b. option_and_then (λ more. rows_within more es) (if b then Some met else if nat_lt (length met) 4 then Some (met ++ e.0.table ∷ []) else None)) first
+    ∙ one_met met table is es parts.1
 
 -- the rows of states are those of the new states
 pub states_met : (met : Names) (es : List (Row × State)) → rows_within met es ≡ rows_within met (new_states es)

@@ -1,7 +1,9 @@
 //! How many different tables the lists and statements of a history name.
 
-ghost use Rattle.std.specs.Prelude.{◌≡◌, [], nat_le};
+ghost use Rattle.std.specs.Prelude.{◌≡◌, [], T, true, Some, nat_le};
 ghost use Rattle.std.specs.List.{list_any};
+ghost use Rattle.std.specs.FinMap as map;
+ghost use Rattle.lab_table.specs.Row.{row_cmp};
 ghost use Rattle.lab_table.specs.TableName.{table_name_eq};
 ghost use Rattle.lab_history.specs.HistoryRules.{named_tables, distinct_tables};
 ghost use Rattle.lab_history.specs.Limits.{max_tables};
@@ -71,12 +73,31 @@ impl Tables {
         Some(self)
     }
 
+    /// Whether the rows of a list, which rise strictly, are all of one table that was met: the first and the last are.
+    fn has_all<X>(&self, entries: &[(RowName, X)]) -> bool
+        requires { T (map.is_sorted row_cmp entries.now) }
+        ensures { result ≡ true → rows_within self.now entries.now ≡ Some self.now }
+    {
+        match entries.first() {
+            None => true,
+            Some(first) => match entries.last() {
+                None => true,
+                Some(last) => first.0.table == last.0.table && self.has(first.0.table),
+            },
+        }
+    }
+
+    /// These and those of the rows of a list, which rise strictly.
     fn with_rows<X>(self, entries: &[(RowName, X)]) -> Option<Tables>
+        requires { T (map.is_sorted row_cmp entries.now) }
         ensures { result ≡ rows_within self entries.now }
     {
+        // Most lists are of one table that was met, and then no row between the first and the last is looked at.
+        if self.has_all(entries) {
+            return Some(self);
+        }
         let mut tables = self;
         for entry in entries {
-            // Most rows are of a table that was met.
             if !tables.has(entry.0.table) {
                 tables = tables.with(entry.0.table)?;
             }

@@ -1,9 +1,20 @@
-use Rattle.std.proofs.Common.{◌∙◌, ap}
+use Rattle.std.proofs.Common.{T, ◌∙◌, sym, ap, subst}
 use Rattle.std.specs.Prelude.{option_and_then}
-use Rattle.std.specs.FinMap.{entries}
+use Rattle.std.specs.FinMap.{entries, entries_sorted, is_sorted}
+use Rattle.lab_table.specs.Row.{row_cmp}
 use Rattle.lab_history.specs.RunningTables.{rows_within}
+use Rattle.lab_history.proofs.NewStates.{new_states_sorted}
 use Rattle.lab_history.proofs.CountedTables.{states_met}
 use Rattle.lab_history.proofs.tables.Tables.with_op.Goals as goal
+
+pub with_rows-requires : goal.with_rows-requires
+with_rows-requires c = subst (λ es. T (is_sorted row_cmp es)) (sym c.entries.ensures) (entries_sorted c.args.op.now.view)
+
+pub with_rows-requires-2 : goal.with_rows-requires-2
+with_rows-requires-2 c = subst (λ es. T (is_sorted row_cmp es)) (sym c.entries-2.ensures) (entries_sorted c.args.op.now.rows)
+
+pub with_rows-requires-3 : goal.with_rows-requires-3
+with_rows-requires-3 c = subst T (new_states_sorted c.entries-3.result.now) (subst (λ es. T (is_sorted row_cmp es)) (sym c.entries-3.ensures) (entries_sorted c.args.op.now.writes))
 
 pub returns : goal.returns
 returns c =
