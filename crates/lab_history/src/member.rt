@@ -87,6 +87,7 @@ pub fn key_json(alloc: Global, row: RowName) -> Result<(Json, Json), NoMemory>
 }
 
 /// The row of a key that is an id.
+#[inline(always)]
 fn plain_row(place: ListPlace, index: usize, id: &Json) -> Result<RowName, Refusal>
     ensures { Gives (λ row. row) result (plain_in place index (view id.now)) }
 {
@@ -97,6 +98,8 @@ fn plain_row(place: ListPlace, index: usize, id: &Json) -> Result<RowName, Refus
 }
 
 /// The row of a key that is a table's name and an id.
+// Not inlined, so that a key that is an id stays cheap to read.
+#[inline(never)]
 fn full_row(
     alloc: Global,
     place: ListPlace,
@@ -116,6 +119,7 @@ fn full_row(
 }
 
 /// The row of a key, by its first and its last part.
+#[inline(always)]
 pub fn key_of(
     alloc: Global,
     version: FileVersion,
@@ -133,6 +137,7 @@ pub fn key_of(
 }
 
 /// What has to be at a place.
+#[inline(always)]
 pub fn required<X>(found: Option<X>, path: Path) -> Result<X, Refusal>
     ensures { Gives (λ x. x) result (spec_required path found) }
 {
