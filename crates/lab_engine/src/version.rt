@@ -67,7 +67,7 @@ impl Versions {
 
     /// The initial version of each row of the table that matches a statement: where the statement names a row, no other
     /// one is looked at. NoMemory where a growth was refused.
-    pub fn matching(
+    pub(crate) fn matching(
         alloc: Global,
         statement: &Statement,
         table: &Table,

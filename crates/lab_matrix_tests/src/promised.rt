@@ -123,7 +123,12 @@ fn free_plays_of_the_cases_keep_what_is_promised(rt: HostRuntime) -> Result<(), 
         CaseName::G2,
     ] {
         let script = case(alloc, name)?;
-        assert_eq!(rt; kept_at_each(&rt, alloc, &script), [Some(PLAYS); 3], "of {}", name.name());
+        assert_eq!(rt;
+            kept_at_each(&rt, alloc, &script),
+            [Some(PLAYS); 3],
+            "of {}",
+            name.name()
+        );
     }
     Ok(())
 }
