@@ -154,10 +154,11 @@ impl Versions {
         ensures { IfOk result (λ _. (row : Row) → map.get self.new row ≡ option_or (map.get over.now row) (map.get self.old row)) }
     {
         let entries = over.entries();
-        if entries.len() <= FEW {
-            self.put_each(alloc, entries)?;
-        } else if self.entries().len() <= FEW {
+        let own = self.entries().len();
+        if own <= FEW && own < entries.len() {
             *self = over.with_missing(alloc, self.entries())?;
+        } else if entries.len() <= FEW {
+            self.put_each(alloc, entries)?;
         } else {
             *self = self.overlaid_with(alloc, over)?;
         }

@@ -87,7 +87,8 @@ pub fn key_json(alloc: Global, row: RowName) -> Result<(Json, Json), NoMemory>
 }
 
 /// The row of a key that is an id.
-#[inline(always)]
+// Not inlined either: a name of a table that a call answers is copied as a whole, and not byte by byte.
+#[inline(never)]
 fn plain_row(place: ListPlace, index: usize, id: &Json) -> Result<RowName, Refusal>
     ensures { Gives (λ row. row) result (plain_in place index (view id.now)) }
 {

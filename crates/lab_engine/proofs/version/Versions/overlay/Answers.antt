@@ -9,4 +9,4 @@ returns-in_ok-put_each c = λ row.
 
 pub returns-in_ok-self : goal.returns-in_ok-self
 returns-in_ok-self c = λ row.
-    ap (λ m. get m row) c.in_ok-self.ensures ∙ under_found c.args.over.now c.args.self.now c.entries-then-entries-le-FEW-2.result.now row c.entries-then-entries-le-FEW-2.ensures
+    ap (λ m. get m row) c.in_ok-self.ensures ∙ under_found c.args.over.now c.args.self.now c.entries.result.now row c.entries.ensures
