@@ -78,32 +78,33 @@ fn says(promise: Promise, report: &Report) -> bool {
     }
 }
 
-/// In how many of the plays of a script at a level the report says what is promised.
-fn kept<T: Threads + Wait + Sync>(
+/// Whether the report of each of so many plays of a script at a level says what is promised.
+fn is_kept<T: Threads + Wait + Sync>(
     rt: &T,
     alloc: Global,
     script: &Script,
     level: Level,
-) -> Option<usize> {
-    let mut kept = 0;
+) -> Option<bool> {
     for _ in 0..PLAYS {
         let recording = played(rt, alloc, script, level)?;
         let report = judge_recording(alloc, &recording).ok()?;
-        kept += usize::from(says(promise(level), &report));
+        if !says(promise(level), &report) {
+            return Some(false);
+        }
     }
-    Some(kept)
+    Some(true)
 }
 
 /// The same at each level.
-fn kept_at_each<T: Threads + Wait + Sync>(
+fn is_kept_at_each<T: Threads + Wait + Sync>(
     rt: &T,
     alloc: Global,
     script: &Script,
-) -> [Option<usize>; 3] {
+) -> [Option<bool>; 3] {
     [
-        kept(rt, alloc, script, Level::Locking),
-        kept(rt, alloc, script, Level::Committed),
-        kept(rt, alloc, script, Level::Snapshot),
+        is_kept(rt, alloc, script, Level::Locking),
+        is_kept(rt, alloc, script, Level::Committed),
+        is_kept(rt, alloc, script, Level::Snapshot),
     ]
 }
 
@@ -124,8 +125,8 @@ fn free_plays_of_the_cases_keep_what_is_promised(rt: HostRuntime) -> Result<(), 
     ] {
         let script = case(alloc, name)?;
         assert_eq!(rt;
-            kept_at_each(&rt, alloc, &script),
-            [Some(PLAYS); 3],
+            is_kept_at_each(&rt, alloc, &script),
+            [Some(true); 3],
             "of {}",
             name.name()
         );
@@ -139,6 +140,6 @@ fn free_plays_over_two_tables_keep_what_is_promised(rt: HostRuntime) -> Result<(
     let Ok(script) = parse_script(alloc, TWO_TABLES) else {
         return Err(Fail::from("a script"));
     };
-    assert_eq!(rt; kept_at_each(&rt, alloc, &script), [Some(PLAYS); 3]);
+    assert_eq!(rt; is_kept_at_each(&rt, alloc, &script), [Some(true); 3]);
     Ok(())
 }
