@@ -1,18 +1,11 @@
 -- An entry of a sorted list has the value of its row.
-use Rattle.std.proofs.Common.{◌≡◌, ℕ, zero, suc, ◌+◌, ◌<◌, Bool, true, false, cond, T, Option, Some, List, [], ◌∷◌, length, get_or, drop, refl, sym, ap, ◌∙◌, subst, one-add, add-one}
+use Rattle.std.proofs.Common.{◌≡◌, ℕ, zero, suc, ◌+◌, ◌<◌, Bool, true, false, cond, T, Option, Some, List, [], ◌∷◌, length, get_or, drop, refl, sym, ap, ◌∙◌, subst, add-one}
 use Rattle.std.specs.Prelude.{slice_get}
-use Rattle.std.specs.List.{prefix_len}
-use Rattle.std.specs.Cmp.{Equal-is}
-use Rattle.std.specs.Ordering.{is_gt}
-use Rattle.std.specs.declared.cmp.Ordering.TheVariants.{Less}
 use Rattle.std.specs.FinMap.{FinMap, find, get, entries, entries_sorted, is_sorted, get-entries}
 use Rattle.std.specs.FinMap.Entries.{below_all}
-use Rattle.std.proofs.lemmas.Option.{none-some, same_Some, slice_get_read, slice_get_within, get_or_from_slice_get}
+use Rattle.std.proofs.lemmas.Option.{none-some, same_Some, slice_get_read}
 use Rattle.lab_table.specs.Row.{Row, row_cmp, row_eq}
 use Rattle.lab_table.proofs.Maps.{find_below, same_row, row_eq_self}
-use Rattle.lab_table.specs.Running.{comes_after}
-use Rattle.lab_table.proofs.Orderings.{turned_back}
-use Rattle.lab_table.proofs.SortedRows.{below_at}
 use Rattle.lab_table.proofs.Tests.{both}
 use Rattle.lab_deps.specs.Passes.{first_entry, first_value}
 
@@ -33,17 +26,6 @@ module _ {A : Type 0} where
   at_entry (x ∷ es) (suc i) e sorted g =
       let parts = both (below_all row_cmp x.0 es) (is_sorted row_cmp es) sorted in
       behind x es e.0 e.1 parts.0 (at_entry es i e parts.1 g)
-
-  -- a row stands behind those that it comes after
-  pub place_is : (es : List (Row × A)) (i : ℕ) (e : Row × A) → T (is_sorted row_cmp es) → slice_get es i ≡ Some e → prefix_len (comes_after e.0) es ≡ i
-  place_is [] i e sorted g = absurd (none-some e g)
-  place_is (x ∷ es) zero e sorted g =
-      ap (λ r. cond (is_gt r) (1 + prefix_len (comes_after e.0) es) 0) (ap (λ y. row_cmp y.0 x.0) (sym (same_Some x e g)) ∙ (Equal-is (row_cmp x.0 x.0)).0 (row_eq_self x.0))
-  place_is (x ∷ es) (suc i) e sorted g =
-      let parts = both (below_all row_cmp x.0 es) (is_sorted row_cmp es) sorted in
-      let below : row_cmp x.0 e.0 ≡ Less =
-      ap (λ y. row_cmp x.0 y.0) (sym (get_or_from_slice_get es i e e g)) ∙ below_at x.0 es i e parts.0 (slice_get_within es i e g) in
-      ap (λ r. cond (is_gt r) (1 + prefix_len (comes_after e.0) es) 0) (turned_back x.0 e.0 below) ∙ one-add (prefix_len (comes_after e.0) es) ∙ ap (λ n. suc n) (place_is es i e parts.1 g)
 
   -- where an entry fails a test, what is found from it on is found behind it
   next_value : (test : Row → A → Bool) (es : List (Row × A)) (i : ℕ) (e : Row × A) → slice_get es i ≡ Some e → test e.0 e.1 ≡ false → first_value test (drop i es) ≡ first_value test (drop (suc i) es)

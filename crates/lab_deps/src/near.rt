@@ -12,6 +12,7 @@ use lab_table::{RowName, TableName, entry_numbered, is_behind, place_of};
 
 /// The value of a row in a list whose rows rise strictly, looked for at a place first; and a place at which the row
 /// stands, or would.
+#[inline(always)]
 pub fn value_near<V: Copy>(
     entries: &[(RowName, V)],
     near: usize,
@@ -20,21 +21,13 @@ pub fn value_near<V: Copy>(
     requires { T (map.is_sorted row_cmp entries.now) }
     ensures { result.0 ≡ map.find row_cmp row entries.now }
 {
-    let place = place_near(entries, near, row);
-    (value_at(entries, place, row), place)
-}
-
-/// How many entries stand before a row, which is looked for at a place first.
-fn place_near<V>(entries: &[(RowName, V)], near: usize, row: RowName) -> usize
-    requires { T (map.is_sorted row_cmp entries.now) }
-    ensures { result ≡ prefix_len (comes_after row) entries.now }
-{
     if let Some(entry) = entries.get(near) {
         if row == entry.0 {
-            return near;
+            return (Some(entry.1), near);
         }
     }
-    place_of(entries, row)
+    let place = place_of(entries, row);
+    (value_at(entries, place, row), place)
 }
 
 /// The entry of the row of this number and table in a list whose rows rise strictly; one beyond the last isn't looked for.

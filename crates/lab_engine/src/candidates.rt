@@ -8,7 +8,11 @@ ghost use Rattle.lab_engine.specs.Candidates.{own_first, own_entries, AreCandida
 use crate::version::Version;
 use lab_table::{RowName, Statement, place_of};
 
-/// Of entries by rising row those whose rows a statement may match: where it names a row, at most that row's.
+/// So few entries are looked at without asking whether the statement names a row.
+const FEW: usize = 8;
+
+/// Of entries by rising row those whose rows a statement may match: where there are many and it names a row, at most that
+/// row's.
 pub fn candidates<'e>(
     statement: &Statement,
     entries: &'e [(RowName, Version)],
@@ -16,6 +20,9 @@ pub fn candidates<'e>(
     requires { T (map.is_sorted row_cmp entries.now) }
     ensures { AreCandidates statement.now entries.now result.now }
 {
+    if entries.len() <= FEW {
+        return entries;
+    }
     match statement.named_row() {
         None => entries,
         Some(row) => own_entry(entries, row),
