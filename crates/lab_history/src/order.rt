@@ -5,7 +5,7 @@ ghost use Rattle.std.specs.FinMap as map;
 ghost use Rattle.lab_table.specs.Row.{row_cmp};
 ghost use Rattle.lab_history.specs.Entries as entry;
 
-use lab_table::RowName;
+use lab_table::{RowName, is_behind};
 
 /// Whether a row comes after the one before it, if there is one.
 pub fn follows(before: Option<RowName>, row: RowName) -> bool
@@ -13,7 +13,7 @@ pub fn follows(before: Option<RowName>, row: RowName) -> bool
 {
     match before {
         None => true,
-        Some(before) => before < row,
+        Some(before) => is_behind(row.table, row.id.number(), before),
     }
 }
 

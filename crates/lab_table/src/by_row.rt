@@ -131,6 +131,7 @@ fn is_numbered(row: RowName, table: TableName, number: u32) -> bool
 }
 
 /// Whether the row of this number and table comes after a row. No row has a number that isn't from 1 to 999,999.
+#[inline(always)]
 pub fn is_behind(table: TableName, number: u32, row: RowName) -> bool
     ensures { result ≡ is_gt (row_cmp (numbered table number) row) }
 {

@@ -58,7 +58,7 @@ impl PartialEq for RowName {
 
     ghost laws = { partial_equiv_from_equiv rows_equiv };
 
-    #[inline(always)]
+    #[inline]
     fn eq(&self, other: &RowName) -> bool {
         // Rows of one table are told apart by their numbers, at less cost.
         self.id == other.id && self.table == other.table
@@ -88,7 +88,7 @@ impl Ord for RowName {
 
     ghost matches_eq = { rows_tested };
 
-    #[inline(always)]
+    #[inline]
     fn cmp(&self, other: &RowName) -> Ordering {
         // Most rows that are compared are of one table, and whether they are is told at less cost than how tables stand.
         if self.table == other.table {
