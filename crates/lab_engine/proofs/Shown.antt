@@ -1,8 +1,8 @@
 -- What a statement is shown of the versions that are seen: as much as its effect and its refusal rest on.
-use Rattle.std.proofs.Common.{◌≡◌, ◌∙◌, refl, sym, ap, ℤ, Bool, true, false, cond, List, ℕ, inl, inr}
+use Rattle.std.proofs.Common.{◌≡◌, ◌∙◌, refl, sym, ap, subst, ℤ, Bool, true, false, cond, List, ℕ, inl, inr}
 use Rattle.std.specs.Prelude.{Option, Some, None, unwrap_or, option_and_then, option_map, is_some}
 use Rattle.std.specs.Option.{option_or}
-use Rattle.std.specs.FinMap.{get, insert, empty, get-insert, get-empty}
+use Rattle.std.specs.FinMap.{get, insert, get-insert}
 use Rattle.lab_table.specs.Row.{Row, row_cmp, row_eq, rows_total, numbered}
 use Rattle.lab_table.specs.Table.{State, Table}
 use Rattle.lab_table.specs.Statement.{may_match, selects, matched, listed, written, fails, would_write, kind_selects, kind_matched, kind_would_write, applied}
@@ -19,8 +19,10 @@ use Rattle.lab_engine.specs.Rules.{in_view}
 use Rattle.lab_engine.specs.Sight.{Listed, initially, matching_version, listed_version, IsShown}
 use Rattle.lab_engine.proofs.Narrowing.{others_off}
 
-abbrev none : Option Version
-none = None
+-- nothing under a version changes it
+or_none : (o : Option Version) → option_or o None ≡ o
+or_none (Some v) = refl
+or_none None = refl
 
 -- ---- the initial versions that match
 
@@ -35,28 +37,44 @@ module _ (s : Statement) (row : Row) (only : (other : Row) → may_match s other
   others_none other apart =
       ruled_out s other (others_off s row only other (λ same. false≢true (sym apart ∙ ap (λ r. row_eq r row) same ∙ row_eq_self row))) (get table other)
 
-  module _ (version : Option Version) (is : option_and_then (matching_version s row) (get table row) ≡ version) where
-    -- so there is that of the row, if any
-    one_matching : (q : Row) → cond (row_eq q row) version None ≡ option_and_then (matching_version s q) (get table q)
-    one_matching q = by (row_eq q row) refl
+  -- the initial version of a row that has none above, and nothing where it has one
+  abbrev missing : Listed → Option Version
+  missing above = cond (is_some (get above row)) None (option_and_then (matching_version s row) (get table row))
+
+  module _ (above made : Listed) where
+    -- of what may stand under the versions above there is nothing but that
+    abbrev Covers : Row → Type 0
+    Covers q = get made q ≡ option_or (get above q) (option_and_then (matching_version s q) (get table q))
+
+    -- of another row
+    apart_found : (q : Row) → row_eq q row ≡ false → get made q ≡ get above q → Covers q
+    apart_found q apart same = same ∙ sym (ap (option_or (get above q)) (others_none q apart) ∙ or_none (get above q))
+
+    pub copied : missing above ≡ None → made ≡ above → (q : Row) → Covers q
+    copied nothing same q = by (row_eq q row) refl
       where
-        by : (b : Bool) → row_eq q row ≡ b → cond b version None ≡ option_and_then (matching_version s q) (get table q)
-        by true same = sym is ∙ ap (λ r. option_and_then (matching_version s r) (get table r)) (sym (same_row q row same))
-        by false apart = sym (others_none q apart)
+        -- of the row itself, which has a version above, or else none at all
+        own : (o initial : Option Version) → cond (is_some o) None initial ≡ None → o ≡ option_or o initial
+        own (Some v) initial is = refl
+        own None initial is = sym is
 
-  pub none_matching : option_and_then (matching_version s row) (get table row) ≡ None → (made : Listed) → made ≡ empty → (q : Row) → get made q ≡ option_and_then (matching_version s q) (get table q)
-  none_matching is made new q =
-      ap (λ m. get m q) new ∙ get-empty row_cmp q ∙ either (row_eq q row) ∙ one_matching None is q
-    where
-      either : (b : Bool) → none ≡ cond b none none
-      either true = refl
-      either false = refl
+        by : (b : Bool) → row_eq q row ≡ b → Covers q
+        by true is = subst Covers (sym (same_row q row is)) (ap (λ m. get m row) same ∙ own (get above row) _ nothing)
+        by false apart = apart_found q apart (ap (λ m. get m q) same)
 
-  pub some_matching : (version : Version) → option_and_then (matching_version s row) (get table row) ≡ Some version → (made : Listed) → made ≡ insert empty row version
-      → (q : Row) → get made q ≡ option_and_then (matching_version s q) (get table q)
-  some_matching version is made new q =
-      ap (λ m. get m q) new ∙ get-insert rows_total empty row version q ∙ ap (λ (o : Option Version). cond (row_eq q row) (Some version) o) (get-empty row_cmp q)
-      ∙ one_matching (Some version) is q
+    pub added : (version : Version) → missing above ≡ Some version → made ≡ insert above row version → (q : Row) → Covers q
+    added version found new q = by (row_eq q row) refl
+      where
+        found_as : (t : Bool) → row_eq q row ≡ t → get made q ≡ cond t (Some version) (get above q)
+        found_as t is = ap (λ m. get m q) new ∙ get-insert rows_total above row version q ∙ ap (λ b. cond b (Some version) (get above q)) is
+
+        own : (o initial : Option Version) → cond (is_some o) None initial ≡ Some version → Some version ≡ option_or o initial
+        own (Some v) initial is = absurd cc
+        own None initial is = sym is
+
+        by : (b : Bool) → row_eq q row ≡ b → Covers q
+        by true is = found_as true is ∙ own (get above row) _ found ∙ sym (ap (λ r. option_or (get above r) (option_and_then (matching_version s r) (get table r))) (same_row q row is))
+        by false apart = apart_found q apart (found_as false apart)
 
 -- ---- what is shown
 

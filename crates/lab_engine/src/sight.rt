@@ -44,8 +44,8 @@ pub fn seen_by(
     ensures { (past : Past) (session : ℕ) (txn : Txn) → Describes past situation.now → active past session ≡ Some txn → IsRunning txn running.now
         → IfOk result (IsSight statement.now level setup.now past txn) }
 {
-    let mut seen = Versions::matching(alloc, statement, setup)?;
-    seen.overlay(alloc, committed_seen(level, situation, running))?;
+    let installed = committed_seen(level, situation, running);
+    let mut seen = installed.over_matching(alloc, statement, setup)?;
     seen.overlay(alloc, &running.last)?;
     Ok(seen)
 }

@@ -1,6 +1,6 @@
 //! The versions of rows.
 
-ghost use Rattle.std.specs.Prelude.{◌≡◌, T, ◌≤◌, length, option_and_then, IfOk, OnErr};
+ghost use Rattle.std.specs.Prelude.{◌≡◌, T, ◌≤◌, length, cond, None, is_some, option_and_then, IfOk, OnErr};
 ghost use Rattle.std.specs.Prelude as list;
 ghost use Rattle.std.specs.List.{prefix_len};
 ghost use Rattle.std.specs.FinMap as map;
@@ -65,24 +65,46 @@ impl Versions {
         })
     }
 
-    /// The initial version of each row of the table that matches a statement: where the statement names a row, no other
-    /// one is looked at. NoMemory where a growth was refused.
-    pub(crate) fn matching(
+    /// These versions, over the initial one of each row of the table that matches a statement: where the statement names
+    /// a row, no other one is looked at. NoMemory where a growth was refused.
+    pub(crate) fn over_matching(
+        &self,
         alloc: Global,
         statement: &Statement,
         table: &Table,
     ) -> Result<Versions, NoMemory>
+        ensures { IfOk result (λ made. (row : Row) → map.get made row
+            ≡ option_or (map.get self.now row) (option_and_then (matching_version statement.now row) (map.get table.now row))) }
+    {
+        let Some(row) = statement.named_row() else {
+            let mut made = Versions::matching(alloc, statement, table)?;
+            made.overlay(alloc, self)?;
+            return Ok(made);
+        };
+        let mut made = self.copy(alloc)?;
+        if let Some(version) = self.matching_at(statement, row, table) {
+            made.put(alloc, row, version)?;
+        }
+        Ok(made)
+    }
+
+    /// The initial version of a row that has none here, where it matches a statement.
+    fn matching_at(&self, statement: &Statement, row: RowName, table: &Table) -> Option<Version>
+        ensures { result ≡ cond (is_some (map.get self.now row)) None (option_and_then (matching_version statement.now row) (map.get table.now row)) }
+    {
+        match self.get(row) {
+            Some(_) => None,
+            None => version_matching(statement, row, table.get(row)?),
+        }
+    }
+
+    /// The initial version of each row of the table that matches a statement. NoMemory where a growth was refused.
+    fn matching(alloc: Global, statement: &Statement, table: &Table) -> Result<Versions, NoMemory>
         ensures { IfOk result (λ made. (row : Row) → map.get made row ≡ option_and_then (matching_version statement.now row) (map.get table.now row)) }
     {
-        match statement.named_row() {
-            None => Ok(Versions {
-                by_row: ByRow::from_rising(entries_matching(alloc, statement, table.rows())?),
-            }),
-            Some(row) => match named_matching(statement, row, table.get(row)) {
-                None => Ok(Versions::new(alloc)),
-                Some(version) => Versions::only(alloc, row, version),
-            },
-        }
+        Ok(Versions {
+            by_row: ByRow::from_rising(entries_matching(alloc, statement, table.rows())?),
+        })
     }
 
     /// The versions that an operation wrote. NoMemory where a growth was refused.
@@ -233,13 +255,6 @@ fn version_matching(statement: &Statement, row: RowName, value: Value) -> Option
     } else {
         None
     }
-}
-
-/// The same of a row that may be absent.
-fn named_matching(statement: &Statement, row: RowName, state: Option<Value>) -> Option<Version>
-    ensures { result ≡ option_and_then (matching_version statement.now row) state }
-{
-    version_matching(statement, row, state?)
 }
 
 fn entry_matching(statement: &Statement, entry: &(RowName, Value)) -> Option<(RowName, Version)>

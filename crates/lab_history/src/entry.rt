@@ -219,7 +219,7 @@ fn entries_of<E: Entry>(
     let mut before = None;
     for (index, member) in members.as_slice().iter().enumerate() {
         let entry = E::read(alloc, version, place, index, member)?;
-        if !follows(before, entry.0) {
+        if !follows(&before, &entry.0) {
             return Err(Refusal::Fault(FileFault::Unsorted {
                 path: Path::List(place),
             }));

@@ -5,15 +5,17 @@ ghost use Rattle.std.specs.FinMap as map;
 ghost use Rattle.lab_table.specs.Row.{row_cmp};
 ghost use Rattle.lab_history.specs.Entries as entry;
 
-use lab_table::{RowName, is_behind};
+use lab_table::RowName;
 
 /// Whether a row comes after the one before it, if there is one.
-pub fn follows(before: Option<RowName>, row: RowName) -> bool
-    ensures { result ≡ entry.follows before row }
+// Not inlined, so that rows are compared where they stand: else their names are taken apart byte by byte.
+#[inline(never)]
+pub fn follows(before: &Option<RowName>, row: &RowName) -> bool
+    ensures { result ≡ entry.follows before.now row.now }
 {
     match before {
         None => true,
-        Some(before) => is_behind(row.table, row.id.number(), before),
+        Some(before) => before < row,
     }
 }
 
@@ -24,7 +26,7 @@ pub fn rises<X>(entries: &[(RowName, X)]) -> bool
 {
     let mut before = None;
     for (row, _) in entries {
-        if !follows(before, *row) {
+        if !follows(&before, row) {
             return false;
         }
         before = Some(*row);

@@ -13,9 +13,8 @@ returns c past session txn describes is_active running row =
     let own : Option Version = version_by txn row in
     let installed : Option Version = last_installed (commits (sight c.args.level past txn)) row in
     let initial : Option Version = option_and_then (matching_version s row) (get c.args.setup.now row) in
-    let found : get c.overlay-2.new.self row ≡ option_or own (option_or installed initial) =
-    c.in_ok-overlay-2.ensures row
-    ∙ ap (λ o. option_or o (get c.overlay.new.self row)) (running.last row)
-    ∙ ap (option_or own) (c.in_ok-overlay.ensures row ∙ ap (λ o. option_or o (get c.in_ok-seen.seen row)) (c.committed_seen.ensures past session txn describes is_active running row)
-    ∙ ap (option_or installed) (c.in_ok-seen.ensures row)) in
+    let found : get c.overlay.new.self row ≡ option_or own (option_or installed initial) =
+    c.in_ok-overlay.ensures row
+    ∙ ap (λ o. option_or o (get c.in_ok-seen.seen row)) (running.last row)
+    ∙ ap (option_or own) (c.in_ok-seen.ensures row ∙ ap (λ o. option_or o initial) (c.committed_seen-installed.ensures past session txn describes is_active running row)) in
     subst (λ o. IsShown s row (unwrap_or o (initially None)) (seen c.args.level c.args.setup.now past txn row)) (sym found) (first_shown s row own installed (get c.args.setup.now row))
