@@ -1,6 +1,6 @@
 //! What a statement does to the rows that a transaction sees.
 
-ghost use Rattle.std.specs.Prelude.{◌≡◌, ◌≢◌, T, false, Some, None, ◌∷◌, [], IfOk, IfErr, IfSome, MatchOption};
+ghost use Rattle.std.specs.Prelude.{◌≡◌, ◌≢◌, T, false, Some, None, is_some, ◌∷◌, [], length, filter, IfOk, IfErr, IfSome, MatchOption};
 ghost use Rattle.std.specs.FinMap as map;
 ghost use Rattle.lab_table.specs.Row.{Row, row_cmp};
 ghost use Rattle.lab_table.specs.Statement.{listed, written, fails};
@@ -68,10 +68,24 @@ fn names(
 ) -> Result<Vec<(RowName, VersionName)>, NoMemory>
     ensures { IfOk result (λ v. v.items ≡ each_row (λ row version. in_view version.name) entries.now) }
 {
+    // A log keeps its views, so each gets the room that it fills and no more.
+    let mut named = Vec::with_capacity(alloc, named_count(entries))?;
+    for entry in entries {
+        if let Some(listed) = name_at(entry) {
+            named.push(listed)?;
+        }
+    }
+    Ok(named)
+}
+
+/// How many of these versions a view lists.
+fn named_count(entries: &[(RowName, Version)]) -> usize
+    ensures { result ≡ length (filter (λ entry. is_some (with_row entry.0 (in_view entry.1.name))) entries.now) }
+{
     entries
         .iter()
-        .filter_map(|entry| name_at(entry))
-        .collect(alloc)
+        .filter(|entry| name_at(entry).is_some())
+        .count()
 }
 
 /// The view of these versions: those that the setup doesn't have.
