@@ -83,7 +83,7 @@ impl<'a> Parser<'a> {
     }
 
     /// Takes this token, which must be the first.
-    #[inline]
+    #[inline(always)]
     pub fn expect(&mut self, token: Token) -> Result<(), Refusal>
         ensures gives { Gives (λ x. self.new) result (after token self.old) }
         ensures reads { Comes (λ x. self.new) result self.new (token_read token self.old) }
