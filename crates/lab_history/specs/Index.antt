@@ -1,19 +1,15 @@
 -- What an index has of a history.
 use Rattle.std.specs.Prelude.{◌≡◌, ℕ, ◌+◌, option_and_then, List, [], ◌∷◌, ◌++◌, slice_get}
 use Rattle.std.specs.FinMap as finite
-use Rattle.std.specs.Ordering.{nat_cmp, ordering_then}
-use Rattle.std.specs.declared.cmp.Ordering.{Ordering}
-use Rattle.lab_table.specs.Row.{Row, row_cmp}
+use Rattle.std.specs.Ordering.{nat_cmp}
+use Rattle.lab_table.specs.Row.{Row}
 use Rattle.lab_history.specs.History.{History}
 use Rattle.lab_history.specs.Keyed.{value_at}
+pub use Rattle.lab_history.specs.TxnRow.{txn_row_cmp}
 use Rattle.lab_history.specs.Version.{find_txn, ops_of, last_write, installers, place_in}
 use Rattle.lab_history.specs.declared.index.Index.{Index}
 use Rattle.lab_history.specs.declared.operation.Op.{Op}
 use Rattle.lab_history.specs.declared.transaction.Txn.{Txn}
-
--- the order by transaction and row
-abbrev pub txn_row_cmp : ℕ × Row → ℕ × Row → Ordering
-txn_row_cmp a b = ordering_then (nat_cmp a.0 b.0) (row_cmp a.1 b.1)
 
 -- an index finds what a history has: each transaction by its number, its last write of each row, and its place among the row's installers
 pub record IsIndexOf (index : Index) (h : History) : Type 0 where

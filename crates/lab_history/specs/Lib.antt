@@ -22,6 +22,7 @@ pub mod ValueAt
 pub mod PlaceShape
 pub mod FaultOf
 pub mod Keyed
+pub mod TxnRow
 pub mod Index
 pub mod Tree
 pub mod PathText

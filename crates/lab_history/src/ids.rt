@@ -58,6 +58,7 @@ impl Ids {
 
     /// Adds a row and answers the place behind it. It is looked for first where it is likely to stand, seen from this
     /// place.
+    #[inline]
     fn add(&mut self, place: usize, row: RowName) -> Result<usize, NoMemory>
         ensures { OnOk result (self.new ≡ insert_key row_cmp self.old row) }
     {

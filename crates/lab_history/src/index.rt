@@ -10,6 +10,7 @@ use crate::keyed::Keyed;
 use crate::operation::{Op, Writes};
 use crate::parts::Parts;
 use crate::transaction::{Installers, Txn};
+use crate::txn_row::TxnRow;
 use lab_table::{NoMemory, RowName, TxnNo};
 use std::alloc::Global;
 
@@ -19,10 +20,9 @@ pub struct Index {
     /// The places of the transactions by their numbers, counted from 0.
     pub numbers: Keyed<TxnNo, usize>,
     /// The last operation of a transaction that writes a row, counted from 1.
-    pub last_writes: Keyed<(TxnNo, RowName), u32>,
-    /// The place of a transaction among the installers of a row, counted from 1. The transaction comes first, so that
-    /// most steps of a look-up compare numbers alone.
-    pub places: Keyed<(TxnNo, RowName), usize>,
+    pub last_writes: Keyed<TxnRow, u32>,
+    /// The place of a transaction among the installers of a row, counted from 1.
+    pub places: Keyed<TxnRow, usize>,
 }
 
 impl Index {
@@ -55,7 +55,7 @@ fn numbers_of(alloc: Global, txns: &[Txn]) -> Result<Vec<(TxnNo, usize)>, NoMemo
 }
 
 /// The rows that the transactions write with the numbers of the operations, later ones first.
-fn last_writes_of(alloc: Global, txns: &[Txn]) -> Result<Vec<((TxnNo, RowName), u32)>, NoMemory>
+fn last_writes_of(alloc: Global, txns: &[Txn]) -> Result<Vec<(TxnRow, u32)>, NoMemory>
     requires { length (operations txns.now) ≤ max_operations }
     ensures { IfOk result (λ writes. writes.items ≡ reverse (written txns.now)) }
 {
@@ -68,11 +68,7 @@ fn last_writes_of(alloc: Global, txns: &[Txn]) -> Result<Vec<((TxnNo, RowName), 
 }
 
 /// Adds the rows that a transaction's operations write.
-fn add_ops(
-    writes: &mut Vec<((TxnNo, RowName), u32)>,
-    txn: TxnNo,
-    ops: &[Op],
-) -> Result<(), NoMemory>
+fn add_ops(writes: &mut Vec<(TxnRow, u32)>, txn: TxnNo, ops: &[Op]) -> Result<(), NoMemory>
     requires { length ops.now ≤ max_operations }
     ensures { OnOk result (writes.new.items ≡ writes.old.items ++ written_from txn 0 ops.now) }
 {
@@ -84,7 +80,7 @@ fn add_ops(
 
 /// Adds the rows that an operation writes.
 fn add_writes(
-    writes: &mut Vec<((TxnNo, RowName), u32)>,
+    writes: &mut Vec<(TxnRow, u32)>,
     txn: TxnNo,
     op: u32,
     written: &Writes,
@@ -93,7 +89,7 @@ fn add_writes(
 {
     let entries = written.entries();
     for (row, _) in entries {
-        writes.push(((txn, *row), op))?;
+        writes.push((TxnRow { txn, row: *row }, op))?;
     }
     Ok(())
 }
@@ -102,7 +98,7 @@ fn add_writes(
 fn places_of(
     alloc: Global,
     installed: &[(RowName, Installers)],
-) -> Result<Vec<((TxnNo, RowName), usize)>, NoMemory>
+) -> Result<Vec<(TxnRow, usize)>, NoMemory>
     ensures { IfOk result (λ places. places.items ≡ placed installed.now) }
 {
     let mut places = Vec::new(alloc);
@@ -114,14 +110,14 @@ fn places_of(
 
 /// Adds the installers of a row.
 fn add_places(
-    places: &mut Vec<((TxnNo, RowName), usize)>,
+    places: &mut Vec<(TxnRow, usize)>,
     row: RowName,
     installers: &[TxnNo],
 ) -> Result<(), NoMemory>
     ensures { OnOk result (places.new.items ≡ places.old.items ++ placed_from row 0 installers.now) }
 {
     for (index, txn) in installers.iter().enumerate() {
-        places.push(((*txn, row), index + 1))?;
+        places.push((TxnRow { txn: *txn, row }, index + 1))?;
     }
     Ok(())
 }

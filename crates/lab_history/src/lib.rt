@@ -36,6 +36,7 @@ mod reading;
 mod refusal;
 mod tables;
 mod transaction;
+mod txn_row;
 mod writing;
 
 pub use fault::{FileFault, Limit, WriteFault};

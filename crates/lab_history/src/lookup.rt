@@ -10,6 +10,7 @@ ghost use Rattle.lab_history.specs.VersionName.{state_value};
 use crate::history::History;
 use crate::operation::{Op, State, VersionName};
 use crate::transaction::Txn;
+use crate::txn_row::TxnRow;
 use lab_table::{RowName, TxnNo};
 
 impl History {
@@ -36,14 +37,14 @@ impl History {
     pub fn last_write(&self, txn: TxnNo, row: RowName) -> Option<u32>
         ensures { result ≡ last_write (ops_of self.now txn) row }
     {
-        self.index().last_writes.get((txn, row))
+        self.index().last_writes.get(TxnRow { txn, row })
     }
 
     /// The place of a transaction among the installers of a row, counted from 1, or None where it isn't among them.
     pub fn installer_place(&self, row: RowName, txn: TxnNo) -> Option<usize>
         ensures { result ≡ place_in (installers self.now row) txn }
     {
-        self.index().places.get((txn, row))
+        self.index().places.get(TxnRow { txn, row })
     }
 
     fn initial_state(&self, row: RowName) -> State
