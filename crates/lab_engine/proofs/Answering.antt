@@ -5,7 +5,6 @@ use Rattle.std.proofs.Common.{refl}
 use Rattle.std.specs.Prelude.{MatchOption, Result, IfOk, Contains, true, false, ◌==◌}
 use Rattle.std.specs.declared.alloc.AllocError.{AllocError}
 use Rattle.lab_table.specs.Table.{Table, Rows, Writes}
-use Rattle.lab_table.specs.Statement.{listed, written, fails}
 use Rattle.lab_history.specs.VersionName.{View}
 use Rattle.lab_table.specs.declared.statement.Statement.{Statement}
 use Rattle.lab_table.specs.declared.statement.Command.TheVariants.{Run}
@@ -21,8 +20,8 @@ use Rattle.lab_engine.specs.Effect.{IsEffectOn, IsRefusalOn, IsResultOn}
 use Rattle.lab_engine.specs.WaitsFor.{AreBlockers}
 use Rattle.lab_table.specs.declared.statement.Command.{Command}
 use Rattle.lab_engine.specs.declared.event.LogEvent.{LogEvent}
-use Rattle.lab_engine.specs.Log.{seen, Past, Version, Txn, past_of, active, waiting, asked, begun}
-use Rattle.lab_engine.specs.Rules.{Gives, MayAsk, Asks, IsFree, IsCircle, IsEffect, MayCommit, in_view}
+use Rattle.lab_engine.specs.Log.{seen, Past, Txn, past_of, active, waiting, asked, begun}
+use Rattle.lab_engine.specs.Rules.{Gives, MayAsk, Asks, IsFree, IsCircle, IsEffect, MayCommit}
 use Rattle.lab_engine.specs.Answer.{MayGive, Answers}
 use Rattle.lab_engine.specs.LeastCircle.{IsLeastCircle}
 use Rattle.lab_engine.proofs.EventBounds.{begun_at_most}

@@ -3,9 +3,9 @@ use Rattle.std.proofs.Common.{◌≡◌, ◌∙◌, refl, sym, ap, subst, ℤ, B
 use Rattle.std.specs.Prelude.{Option, Some, None, unwrap_or, option_and_then, option_map, is_some}
 use Rattle.std.specs.Option.{option_or}
 use Rattle.std.specs.FinMap.{get, insert, get-insert}
-use Rattle.lab_table.specs.Row.{Row, row_cmp, row_eq, rows_total, numbered}
+use Rattle.lab_table.specs.Row.{Row, row_eq, rows_total, numbered}
 use Rattle.lab_table.specs.Table.{State, Table}
-use Rattle.lab_table.specs.Statement.{may_match, selects, matched, listed, written, fails, would_write, kind_selects, kind_matched, kind_would_write, applied}
+use Rattle.lab_table.specs.Statement.{may_match, selects, matched, listed, written, fails, would_write, kind_matched, kind_would_write, applied}
 use Rattle.lab_table.specs.declared.statement.Statement.{Statement}
 use Rattle.lab_table.specs.declared.statement.StatementKind.{StatementKind}
 use Rattle.lab_table.specs.declared.statement.StatementKind.TheVariants.{Select, Update, Insert, Delete}
@@ -13,7 +13,6 @@ use Rattle.std.proofs.lemmas.Bool.{true≢false, false≢true}
 use Rattle.lab_table.proofs.Maps.{same_row, row_eq_self}
 use Rattle.lab_table.proofs.OneRow.{no_match}
 use Rattle.lab_table.proofs.Statements.{listed_alike, written_alike, fails_alike}
-use Rattle.lab_history.specs.declared.operation.VersionName.TheVariants.{Initial}
 use Rattle.lab_engine.specs.Log.{Version}
 use Rattle.lab_engine.specs.Rules.{in_view}
 use Rattle.lab_engine.specs.Sight.{Listed, initially, matching_version, listed_version, IsShown}

@@ -1,5 +1,4 @@
 use Rattle.std.proofs.Common.{◌∙◌, sym, ap}
-use Rattle.std.specs.FinMap.{get}
 use Rattle.lab_engine.specs.declared.event.Level.{Level}
 use Rattle.lab_engine.specs.Log.{commits, last_installed, sight}
 use Rattle.lab_engine.proofs.sight.committed_seen.Goals as goal

@@ -1,6 +1,6 @@
 use Rattle.std.proofs.Common.{◌≡◌, true, ap, ◌∙◌, sym, subst}
 use Rattle.std.specs.Prelude.{IfSome}
-use Rattle.std.specs.FinMap.{insert, get}
+use Rattle.std.specs.FinMap.{insert}
 use Rattle.lab_table.specs.Row.{Row}
 use Rattle.lab_table.specs.Statement.{may_match}
 use Rattle.lab_engine.proofs.Shown.{copied, added}
