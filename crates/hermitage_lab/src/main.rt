@@ -10,7 +10,10 @@ ghost use Rattle.clap.specs.declared.error.kind.ErrorKind.TheVariants.{DisplayHe
 
 use crate::told::told;
 use clap::ArgMatches;
-use lab_commands::{RunFault, batch, case, judge, matrix, run, run_free, serial, status};
+use lab_case_commands::{case, matrix};
+use lab_commands::{batch, judge, run, run_free, serial};
+use lab_picture::{Phenomenon, picture};
+use lab_streams::{Ending, RunFault, status};
 use std::alloc::{AllocError, Global};
 use std::io::{ErrorKind, Read, Write};
 use std::process::ExitCode;
@@ -63,6 +66,11 @@ fn file_names<'a>(alloc: Global, matches: &'a ArgMatches<'_>) -> Result<Vec<&'a 
     Ok(names)
 }
 
+/// The exit status of how a subcommand ended; a fault stays one.
+fn ended(ending: Result<Ending, RunFault>) -> Result<u8, RunFault> {
+    Ok(status(Ok(ending?)))
+}
+
 /// Runs `batch`, and answers the exit status. A file that couldn't be read counts as a read that failed.
 fn run_batch<T: Files + Threads + Sync, W: Write>(
     rt: &T,
@@ -87,46 +95,96 @@ fn run_case<W: Write>(
     let Some(name) = matches.get_str("NAME").and_then(words::case_of) else {
         return Ok(WORDS_REFUSED);
     };
-    Ok(status(Ok(case(alloc, name, writer)?)))
+    ended(case(alloc, name, writer))
 }
 
 /// Runs `run`, and answers the exit status.
-fn run_play<T: Threads + Wait + Sync, R: Read, W: Write>(
+fn run_play<T: Threads + Wait + Sync, R: Read, W: Write, N: Write>(
     rt: &T,
     alloc: Global,
     reader: &mut R,
     writer: &mut W,
+    notes: &mut N,
     matches: &ArgMatches<'_>,
 ) -> Result<u8, RunFault> {
     let Some(level) = matches.get_str("engine").and_then(words::level_of) else {
         return Ok(WORDS_REFUSED);
     };
     let history = matches.get_flag("history");
-    let ending = if matches.get_flag("free") {
-        run_free(rt, alloc, reader, writer, level, history)?
+    if matches.get_flag("free") {
+        ended(run_free(rt, alloc, reader, writer, notes, level, history))
     } else {
-        run(alloc, reader, writer, level, history)?
-    };
-    Ok(status(Ok(ending)))
+        ended(run(alloc, reader, writer, notes, level, history))
+    }
+}
+
+/// Runs `picture`, and answers the exit status.
+fn run_picture<R: Read, W: Write, N: Write>(
+    alloc: Global,
+    reader: &mut R,
+    writer: &mut W,
+    notes: &mut N,
+    matches: &ArgMatches<'_>,
+) -> Result<u8, RunFault> {
+    let asked = matches.get_str("phenomenon").and_then(Phenomenon::named);
+    ended(picture(alloc, reader, writer, notes, asked))
 }
 
 /// Runs a subcommand, and answers the exit status.
-fn run_words<T: Files + Threads + Wait + Sync, R: Read, W: Write>(
+fn run_words<T: Files + Threads + Wait + Sync, R: Read, W: Write, N: Write>(
     rt: &T,
     alloc: Global,
     reader: &mut R,
     writer: &mut W,
+    notes: &mut N,
     matches: &ArgMatches<'_>,
 ) -> Result<u8, RunFault> {
     match matches.subcommand() {
-        Some(("serial", _)) => Ok(status(Ok(serial(alloc, reader, writer)?))),
-        Some(("run", more)) => run_play(rt, alloc, reader, writer, more),
-        Some(("judge", _)) => Ok(status(Ok(judge(alloc, reader, writer)?))),
+        Some(("serial", _)) => ended(serial(alloc, reader, writer, notes)),
+        Some(("run", more)) => run_play(rt, alloc, reader, writer, notes, more),
+        Some(("judge", _)) => ended(judge(alloc, reader, writer, notes)),
         Some(("batch", more)) => run_batch(rt, alloc, writer, more),
         Some(("case", more)) => run_case(alloc, writer, more),
-        Some(("matrix", _)) => Ok(status(Ok(matrix(alloc, writer)?))),
+        Some(("matrix", _)) => ended(matrix(alloc, writer)),
+        Some(("picture", more)) => run_picture(alloc, reader, writer, notes, more),
         _ => Ok(WORDS_REFUSED),
     }
+}
+
+/// Whether a subcommand reads standard input.
+fn reads_input(word: &str) -> bool {
+    matches!(word, "serial" | "run" | "judge" | "picture")
+}
+
+/// Says on standard error what to type where a subcommand that reads standard input was given a file's name.
+fn note_words(rt: &HostRuntime, given: &[String]) {
+    let [_, word, middle @ .., last] = given else {
+        return;
+    };
+    let takes_name = match middle.last() {
+        Some(option) => matches!(option.as_str(), "--engine" | "--phenomenon"),
+        None => false,
+    };
+    if takes_name || last.starts_with("-") || !reads_input(word.as_str()) {
+        return;
+    }
+    let _ = rt.eprint("\nit reads standard input: hermitage_lab ");
+    let _ = rt.eprint(word.as_str());
+    for option in middle {
+        let _ = rt.eprint(" ");
+        let _ = rt.eprint(option.as_str());
+    }
+    let _ = rt.eprint(" < ");
+    let _ = rt.eprintln(last.as_str());
+}
+
+/// What words that name no run come to: `explain`, and what to type instead.
+fn refused(rt: &HostRuntime, error: &clap::Error, given: &[String]) -> Result<u8, RunFault> {
+    let status = explain(rt, error)?;
+    if status == WORDS_REFUSED {
+        note_words(rt, given);
+    }
+    Ok(status)
 }
 
 fn main(rt: HostRuntime) -> ExitCode {
@@ -139,8 +197,15 @@ fn main(rt: HostRuntime) -> ExitCode {
         return ExitCode::from(told(&rt, RunFault::NoMemory));
     };
     let ended = match command.try_get_matches_from(given.as_slice()) {
-        Ok(matches) => run_words(&rt, rt.alloc(), &mut rt.stdin(), &mut rt.stdout(), &matches),
-        Err(error) => explain(&rt, &error),
+        Ok(matches) => run_words(
+            &rt,
+            rt.alloc(),
+            &mut rt.stdin(),
+            &mut rt.stdout(),
+            &mut rt.stderr(),
+            &matches,
+        ),
+        Err(error) => refused(&rt, &error, &given),
     };
     match ended {
         Ok(status) => ExitCode::from(status),

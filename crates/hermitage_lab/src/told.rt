@@ -1,9 +1,9 @@
 //! What standard error is told where a run has no answer.
 
 ghost use Rattle.std.specs.Prelude.{◌≡◌};
-ghost use Rattle.lab_commands.specs.Status.{fault_status};
+ghost use Rattle.lab_streams.specs.Status.{fault_status};
 
-use lab_commands::{RunFault, status};
+use lab_streams::{RunFault, status};
 
 /// Says in one line on standard error why a run didn't write its text, and answers the exit status. Where that line
 /// can't be written either, the status alone tells it.

@@ -1,5 +1,10 @@
 //! The words that the program takes.
 
+ghost use Rattle.std.specs.Prelude.{◌≡◌};
+ghost use Rattle.std.specs.Str.{bytes_eq};
+ghost use Rattle.lab_matrix.specs.MatrixText.{case_name};
+ghost use Rattle.hermitage_lab.specs.Words.{level_named, case_named};
+
 use clap::{Arg, ArgAction, Command};
 use lab_engine::Level;
 use lab_matrix::CaseName;
@@ -48,7 +53,7 @@ and then the ten lines of the report, as `judge` writes them. Where the input is
 is refused, writes one line that says so, as `line 3: NoSession` or `play: OverLimit entries`. With
 `--history` it writes a history file, of version 2, in place of log and report.
 
-    hermitage_lab run --engine snapshot < examples/write_skew.txt
+    hermitage_lab run --engine snapshot < examples/both_doctors_leave.txt
 
 The engines are `locking` (strict locks of rows and predicates), `committed` (each statement sees what
 has committed) and `snapshot` (each transaction sees what had committed at its begin; the first committer
@@ -73,7 +78,7 @@ file, writes one line that names its first fault, as `file: NotJson`.
 A file of version 2 has rows of up to four named tables, and one of version 1 rows of the table `test`
 alone; `run` writes version 2. Rows of `test` are told without their table.
 
-    hermitage_lab run --engine committed --history < examples/write_skew.txt > history.json
+    hermitage_lab run --engine committed --history < examples/both_doctors_leave.txt > history.json
     hermitage_lab judge < history.json";
 
 const BATCH: &str = "Judges many history files";
@@ -104,83 +109,128 @@ const MATRIX: &str = "Plays and judges each case on each engine";
 
 const MATRIX_WHOLE: &str = "\
 Plays each of the ten cases on each engine, judges the recordings, and writes a line for each case: the
-level that its history meets on the engine, and `SI` where it is a snapshot run.";
+level that its history meets on the engine, and `SI` where it is a snapshot run. The last line,
+`promised  PL-3  PL-2  SI`, is what each engine promises of every run.";
+
+const PICTURE: &str = "Draws a judgement of a history file";
+
+const PICTURE_WHOLE: &str = "\
+Draws a judgement of the history of a file, which it judges as `judge` does.
+
+Reads a history file from standard input, and writes a picture in SVG to standard output: a column for
+each transaction of the serial verdict, in its order or along the walk that leads back, its operations
+with the rows that they listed, and an arrow for each dependency of the walk between the operations that
+make it, dashed for an anti-dependency; or the operation and the version that a fault names. Where the
+input is no history file, writes one line that names its first fault.
+
+    hermitage_lab picture < examples/g2_item_write_skew.json > picture.svg";
+
+const PHENOMENON: &str = "Draws what is found of a phenomenon in place of the serial verdict";
+
+/// The version, and what the program was proved with.
+const VERSION: &str = "1.0.0, proved with rattle-kit-13f logic dac8208d650f15bf";
 
 /// The cases that the program has, as words.
 pub static CASES: [&str; 10] = [
     "G0", "G1a", "G1b", "G1c", "OTV", "PMP", "P4", "G-single", "G2-item", "G2",
 ];
 
-static CASE_NAMES: [CaseName; 10] = [
-    CaseName::G0,
-    CaseName::G1a,
-    CaseName::G1b,
-    CaseName::G1c,
-    CaseName::Otv,
-    CaseName::Pmp,
-    CaseName::P4,
-    CaseName::GSingle,
-    CaseName::G2Item,
-    CaseName::G2,
-];
+/// The phenomena that a picture may be asked of, as words.
+static PHENOMENA: [&str; 7] = ["G0", "G1a", "G1b", "G1c", "G-single", "G2-item", "G2"];
 
 /// The engines that the program has, as words.
 pub static ENGINES: [&str; 3] = ["locking", "committed", "snapshot"];
 
-static LEVELS: [Level; 3] = [Level::Locking, Level::Committed, Level::Snapshot];
-
-/// The word for the engine of a level.
-fn engine_name(level: Level) -> &'static str {
-    match level {
-        Level::Locking => "locking",
-        Level::Committed => "committed",
-        Level::Snapshot => "snapshot",
-    }
+/// Whether two words are the same.
+fn is_word(word: &str, name: &str) -> bool
+    ensures { result ≡ bytes_eq word.now name.now }
+{
+    word.as_bytes() == name.as_bytes()
 }
 
 /// The level of the engine of this name; None where there is no such engine.
-pub fn level_of(engine: &str) -> Option<Level> {
-    for level in &LEVELS {
-        if engine_name(*level) == engine {
-            return Some(*level);
-        }
+pub fn level_of(engine: &str) -> Option<Level>
+    ensures { result ≡ level_named engine.now }
+{
+    if is_word(engine, "locking") {
+        Some(Level::Locking)
+    } else if is_word(engine, "committed") {
+        Some(Level::Committed)
+    } else if is_word(engine, "snapshot") {
+        Some(Level::Snapshot)
+    } else {
+        None
     }
-    None
+}
+
+/// Whether a word is the name of a case.
+fn names(word: &str, case: CaseName) -> bool
+    ensures { result ≡ bytes_eq word.now (case_name case) }
+{
+    is_word(word, case.name())
 }
 
 /// The case of this name; None where there is no such case.
-pub fn case_of(word: &str) -> Option<CaseName> {
-    for name in &CASE_NAMES {
-        if name.name() == word {
-            return Some(*name);
-        }
+pub fn case_of(word: &str) -> Option<CaseName>
+    ensures { result ≡ case_named word.now }
+{
+    if names(word, CaseName::G0) {
+        Some(CaseName::G0)
+    } else if names(word, CaseName::G1a) {
+        Some(CaseName::G1a)
+    } else if names(word, CaseName::G1b) {
+        Some(CaseName::G1b)
+    } else if names(word, CaseName::G1c) {
+        Some(CaseName::G1c)
+    } else if names(word, CaseName::Otv) {
+        Some(CaseName::Otv)
+    } else if names(word, CaseName::Pmp) {
+        Some(CaseName::Pmp)
+    } else if names(word, CaseName::P4) {
+        Some(CaseName::P4)
+    } else if names(word, CaseName::GSingle) {
+        Some(CaseName::GSingle)
+    } else if names(word, CaseName::G2Item) {
+        Some(CaseName::G2Item)
+    } else if names(word, CaseName::G2) {
+        Some(CaseName::G2)
+    } else {
+        None
     }
-    None
 }
 
-/// The words of `run`.
-fn run_words<'a>(alloc: Global) -> Result<Command<'a>, AllocError> {
-    let engine = Arg::new(alloc, "engine")
+/// The word that names an engine.
+fn engine_word<'a>(alloc: Global) -> Arg<'a> {
+    Arg::new(alloc, "engine")
         .long("engine")
         .help(ENGINE)
         .required(true)
         .action(ArgAction::Set)
-        .value_parser(ENGINES.as_slice());
-    let free = Arg::new(alloc, "free")
-        .long("free")
-        .help(FREE)
-        .action(ArgAction::SetTrue);
-    let history = Arg::new(alloc, "history")
-        .long("history")
-        .help(HISTORY)
-        .action(ArgAction::SetTrue);
-    Command::new(alloc, "run")
-        .about(RUN)
-        .long_about(RUN_WHOLE)
+        .value_parser(ENGINES.as_slice())
+}
+
+/// A word that is there or not.
+fn flag<'a>(alloc: Global, name: &'a str, help: &'a str) -> Arg<'a> {
+    Arg::new(alloc, name)
+        .long(name)
+        .help(help)
+        .action(ArgAction::SetTrue)
+}
+
+/// A subcommand without its own words.
+fn plain_command<'a>(alloc: Global, name: &'a str, about: &'a str, whole: &'a str) -> Command<'a> {
+    Command::new(alloc, name)
+        .about(about)
+        .long_about(whole)
         .after_help(STATUSES)
-        .arg(engine)?
-        .arg(free)?
-        .arg(history)
+}
+
+/// The words of `run`.
+fn run_words<'a>(alloc: Global) -> Result<Command<'a>, AllocError> {
+    plain_command(alloc, "run", RUN, RUN_WHOLE)
+        .arg(engine_word(alloc))?
+        .arg(flag(alloc, "free", FREE))?
+        .arg(flag(alloc, "history", HISTORY))
 }
 
 /// The words of `batch`.
@@ -190,11 +240,7 @@ fn batch_words<'a>(alloc: Global) -> Result<Command<'a>, AllocError> {
         .required(true)
         .num_args(1..)
         .action(ArgAction::Append);
-    Command::new(alloc, "batch")
-        .about(BATCH)
-        .long_about(BATCH_WHOLE)
-        .after_help(STATUSES)
-        .arg(files)
+    plain_command(alloc, "batch", BATCH, BATCH_WHOLE).arg(files)
 }
 
 /// The words of `case`.
@@ -204,35 +250,46 @@ fn case_words<'a>(alloc: Global) -> Result<Command<'a>, AllocError> {
         .required(true)
         .action(ArgAction::Set)
         .value_parser(CASES.as_slice());
-    Command::new(alloc, "case")
-        .about(CASE)
-        .long_about(CASE_WHOLE)
+    plain_command(alloc, "case", CASE, CASE_WHOLE).arg(name)
+}
+
+/// The words of `picture`.
+fn picture_words<'a>(alloc: Global) -> Result<Command<'a>, AllocError> {
+    let phenomenon = Arg::new(alloc, "phenomenon")
+        .long("phenomenon")
+        .help(PHENOMENON)
+        .action(ArgAction::Set)
+        .value_parser(PHENOMENA.as_slice());
+    plain_command(alloc, "picture", PICTURE, PICTURE_WHOLE).arg(phenomenon)
+}
+
+/// The program's command, without its subcommands.
+fn program<'a>(alloc: Global) -> Command<'a> {
+    Command::new(alloc, "hermitage_lab")
+        .version(VERSION)
+        .about(ABOUT)
         .after_help(STATUSES)
-        .arg(name)
+        .subcommand_required(true)
+}
+
+/// A command and one more subcommand, where there was memory for that.
+fn with<'a>(
+    command: Command<'a>,
+    more: Result<Command<'a>, AllocError>,
+) -> Result<Command<'a>, AllocError> {
+    command.subcommand(more?)
 }
 
 /// The command line: a subcommand, and its own words. NoMemory where a growth was refused.
 pub fn words<'a>(alloc: Global) -> Result<Command<'a>, AllocError> {
-    let serial = Command::new(alloc, "serial")
-        .about(SERIAL)
-        .long_about(SERIAL_WHOLE)
-        .after_help(STATUSES);
-    let judge = Command::new(alloc, "judge")
-        .about(JUDGE)
-        .long_about(JUDGE_WHOLE)
-        .after_help(STATUSES);
-    let matrix = Command::new(alloc, "matrix")
-        .about(MATRIX)
-        .long_about(MATRIX_WHOLE)
-        .after_help(STATUSES);
-    Command::new(alloc, "hermitage_lab")
-        .about(ABOUT)
-        .after_help(STATUSES)
-        .subcommand_required(true)
-        .subcommand(serial)?
-        .subcommand(run_words(alloc)?)?
-        .subcommand(judge)?
-        .subcommand(batch_words(alloc)?)?
-        .subcommand(case_words(alloc)?)?
-        .subcommand(matrix)
+    let serial = plain_command(alloc, "serial", SERIAL, SERIAL_WHOLE);
+    let command = program(alloc).subcommand(serial)?;
+    let command = with(command, run_words(alloc))?;
+    let judge = plain_command(alloc, "judge", JUDGE, JUDGE_WHOLE);
+    let command = command.subcommand(judge)?;
+    let command = with(command, batch_words(alloc))?;
+    let command = with(command, case_words(alloc))?;
+    let matrix = plain_command(alloc, "matrix", MATRIX, MATRIX_WHOLE);
+    let command = command.subcommand(matrix)?;
+    with(command, picture_words(alloc))
 }

@@ -5,7 +5,7 @@ use crate::judge::{ABORTED_READ, CUT_FILE};
 use crate::run::{HISTORY, LEFT_OPEN};
 use crate::serial::{NO_SESSION, TWO_SESSIONS};
 use crate::streams::{Endless, Sink, Source};
-use lab_commands::{RunFault, status};
+use lab_streams::{RunFault, status};
 use std::alloc::{AllocError, Global};
 use std::test::Fail;
 

@@ -1,7 +1,7 @@
 //! Tests of the subcommands' functions: what no contract says, and what the program itself can't show.
 //!
 //! For each subcommand a table of inputs and outputs; and streams that give little at a time, are interrupted, fail or
-//! never end, and memory that is refused.
+//! never end, and memory that is refused. And a call beside them, which no subcommand makes: a transcript's copy.
 #![tactic(auto)]
 
 #[cfg(test)]
@@ -16,3 +16,5 @@ mod run;
 mod serial;
 #[cfg(test)]
 mod streams;
+#[cfg(test)]
+mod transcript;

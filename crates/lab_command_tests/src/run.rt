@@ -2,8 +2,9 @@
 
 use crate::case::{Case, Subcommand, check};
 use crate::streams::{Sink, Source};
-use lab_commands::{run_free, status};
+use lab_commands::run_free;
 use lab_engine::Level;
+use lab_streams::status;
 use std::test::Fail;
 
 /// The history file of a play.
@@ -65,8 +66,18 @@ fn run_free_writes_what_is_due(rt: HostRuntime) -> Result<(), Fail> {
             return Err(Fail::from("a case of another subcommand"));
         };
         let mut reader = Source::new(case.input, 5, 3, 0);
+        reader.interrupted_between = true;
         let mut writer = Sink::new(rt.alloc(), 2, 0);
-        let run = run_free(&rt, rt.alloc(), &mut reader, &mut writer, level, history);
+        let mut notes = Sink::new(rt.alloc(), 9_000, 0);
+        let run = run_free(
+            &rt,
+            rt.alloc(),
+            &mut reader,
+            &mut writer,
+            &mut notes,
+            level,
+            history,
+        );
         assert_eq!(rt; writer.text.as_slice(), case.text, "of {:?}", case.input);
         assert_eq!(rt; status(run), case.status, "of {:?}", case.input);
     }

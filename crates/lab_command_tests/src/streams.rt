@@ -3,13 +3,15 @@
 use std::alloc::Global;
 use std::io::{Error, ErrorKind, Read, Result as IoResult, Write};
 
-/// A reader of some bytes: so many at a call, after some calls that are interrupted; one call fails.
+/// A reader of some bytes: so many at a call, after some calls that are interrupted; each second call may be interrupted
+/// too, also between the bytes; one call fails.
 #[derive(Drop)]
 pub struct Source<'a> {
     rest: &'a [u8],
     step: usize,
     interrupted: u32,
     fails_at: u32,
+    pub interrupted_between: bool,
     pub calls: u32,
 }
 
@@ -20,15 +22,21 @@ impl<'a> Source<'a> {
             step,
             interrupted,
             fails_at,
+            interrupted_between: false,
             calls: 0,
         }
+    }
+
+    /// Whether the call that is made is an interrupted one.
+    fn is_interrupted(&self) -> bool {
+        self.calls <= self.interrupted || (self.interrupted_between && self.calls % 2 == 0)
     }
 }
 
 impl<'a> Read for Source<'a> {
     fn read(&mut self, buf: &mut [u8]) -> IoResult<usize> {
         self.calls = self.calls.saturating_add(1);
-        if self.calls <= self.interrupted {
+        if self.is_interrupted() {
             return Err(Error::from(ErrorKind::Interrupted));
         }
         if self.calls == self.fails_at {

@@ -1,8 +1,7 @@
-pub mod FileFaults
+mod JudgedFiles
 mod PlaysPrint
 mod Refusals
-pub mod Taken
 mod WholeScripts
-mod ScriptsPrint
 mod OneAnswer
 mod OneTranscript
+mod OneRun

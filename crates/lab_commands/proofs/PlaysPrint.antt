@@ -23,7 +23,7 @@ use Rattle.lab_engine.specs.Recording.{Line, given, lines_by, next_line, Follows
 use Rattle.lab_engine.proofs.LockSteps.{none_some}
 use Rattle.lab_session.specs.LogText.{AllPrint, SomeEvent}
 use Rattle.lab_session.specs.Play.{given_lines, IsLegalPlay}
-use Rattle.lab_commands.proofs.ScriptsPrint.{not_deep, not_long}
+use Rattle.lab_streams.proofs.ScriptsPrint.{not_deep, not_long}
 use Rattle.std.proofs.lemmas.Option.{same_Some}
 
 -- ---- what waits

@@ -7,8 +7,8 @@ use Rattle.lab_script.specs.Fault.{IsFaultOf}
 use Rattle.lab_script.specs.Script.{Spells}
 use Rattle.lab_engine.specs.RecordedLog.{RecordedLog}
 use Rattle.lab_session.specs.declared.fault.PlayFault.{PlayFault}
-use Rattle.lab_commands.specs.declared.ending.Ending.{Ending}
-use Rattle.lab_commands.specs.Input.{read_of, max_input_bytes}
+use Rattle.lab_streams.specs.declared.ending.Ending.{Ending}
+use Rattle.lab_streams.specs.Input.{read_of, max_input_bytes}
 use Rattle.lab_commands.specs.Serial.{IsRefused, IsSerialAnswer}
 use Rattle.lab_commands.specs.Playing.{IsRunAnswer}
 

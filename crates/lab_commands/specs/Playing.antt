@@ -1,11 +1,12 @@
 -- What `run` says of an input.
-use Rattle.std.specs.Prelude.{◌≡◌, ◌≢◌, ℕ, ◌<◌, ◌⊎◌, List, ◌++◌, length, Bool, true, false}
+use Rattle.std.specs.Prelude.{◌≡◌, ◌≢◌, ℕ, ◌<◌, ◌≤◌, ◌⊎◌, Ok, List, ◌++◌, length, Bool, true, false}
 use Rattle.serde_json.specs.Written.{compact_text}
 use Rattle.lab_script.specs.declared.script.Script.{Script}
 use Rattle.lab_script.specs.Printed.{newline}
 use Rattle.lab_script.specs.Script.{Spells}
 use Rattle.lab_script.specs.Limits.{IsDeep, IsLong}
 use Rattle.lab_history.specs.History.{History}
+use Rattle.lab_history.specs.FirstPartsFault.{checked}
 use Rattle.lab_history.specs.Tree.{tree_of}
 use Rattle.lab_history.specs.declared.fault.FileFault.TheVariants.{OverLimit}
 use Rattle.lab_history.specs.declared.fault.Limit.TheVariants.{Bytes, Statement}
@@ -25,16 +26,18 @@ use Rattle.lab_judge.specs.Judgement.{IsExactJudgement}
 use Rattle.lab_judge.specs.ReportText.{report_text}
 use Rattle.lab_judge.specs.FileFaultText.{file_fault_text}
 use Rattle.lab_judge.specs.declared.report.Report.{Report}
-use Rattle.lab_commands.specs.declared.ending.Ending.{Ending}
-use Rattle.lab_commands.specs.declared.ending.Ending.TheVariants.{Done, Refused}
+use Rattle.lab_streams.specs.declared.ending.Ending.{Ending}
+use Rattle.lab_streams.specs.declared.ending.Ending.TheVariants.{Done, Refused}
 use Rattle.lab_commands.specs.Serial.{IsRefused}
 
--- a recording of a script that is played by one thread, at a level: its log is legal and follows the script to its end
+-- a recording of a script that is played by one thread, at a level: its log is legal and follows the script to its end,
+-- and its history has no fault
 pub record IsScriptedPlay (level : Level) (script : Script) (recording : RecordedLog) : Type 0 where
   pub at_level : recording.level ≡ level
   pub on_setup : recording.setup ≡ script.setup
   pub play : IsLegalPlay level script.setup (given_lines script.lines) recording.log
   pub history : IsRecording script.setup (past_of recording.log) recording.history
+  pub whole : checked recording.history ≡ Ok tt
 
 -- why such a play has no recording
 abbrev pub IsScriptedRefusal : Level → Script → PlayFault → Type 0
@@ -58,7 +61,7 @@ IsUntold recording play_fault.Full = ⊥
 
 -- why such a play has no recording, or nothing is told of the one that it has
 abbrev pub IsFreeRefusal : Level → Script → PlayFault → Type 0
-IsFreeRefusal level script fault = IsFreeFault (given_lines script.lines) fault ⊎ ((recording : RecordedLog) × IsFreePlay level script recording × IsUntold recording fault)
+IsFreeRefusal level script fault = IsFreeFault level script.setup (given_lines script.lines) fault ⊎ ((recording : RecordedLog) × IsFreePlay level script recording × IsUntold recording fault)
 
 -- the text of a history's file
 abbrev pub file_text : History → List ℕ
@@ -71,9 +74,9 @@ pub record IsLogAnswer (recording : RecordedLog) (text : List ℕ) (ending : End
   pub text_is : text ≡ log_text recording.log ++ report_text report
   pub done : ending ≡ Done
 
--- the text is the file of what was recorded and a newline, or the line that says that the file would be too long
+-- the text is the file of what was recorded and a newline, where it isn't too long, or the line that says that it would be
 pub data IsHistoryAnswer (recording : RecordedLog) (text : List ℕ) (ending : Ending) : Type 0 where
-  written : text ≡ file_text recording.history ++ newline → ending ≡ Done → IsHistoryAnswer recording text ending
+  written : length (file_text recording.history) ≤ max_file_bytes → text ≡ file_text recording.history ++ newline → ending ≡ Done → IsHistoryAnswer recording text ending
   too_long : max_file_bytes < length (file_text recording.history) → text ≡ file_fault_text (OverLimit Bytes) → ending ≡ Refused → IsHistoryAnswer recording text ending
 
 -- what is told of a recording: its history where that is asked for, else its log

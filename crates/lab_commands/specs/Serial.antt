@@ -6,8 +6,8 @@ use Rattle.lab_script.specs.declared.script.Script.{Script}
 use Rattle.lab_script.specs.Fault.{IsFaultOf, fault_text}
 use Rattle.lab_script.specs.Script.{Spells}
 use Rattle.lab_script.specs.Transcript.{transcript}
-use Rattle.lab_commands.specs.declared.ending.Ending.{Ending}
-use Rattle.lab_commands.specs.declared.ending.Ending.TheVariants.{Done, Refused}
+use Rattle.lab_streams.specs.declared.ending.Ending.{Ending}
+use Rattle.lab_streams.specs.declared.ending.Ending.TheVariants.{Done, Refused}
 
 -- the input spells a script, and the text is its transcript
 pub record IsTranscribed (input text : List ℕ) (ending : Ending) : Type 0 where

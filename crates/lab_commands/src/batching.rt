@@ -4,11 +4,9 @@ ghost use Rattle.std.specs.Prelude.{◌≡◌, ◌⊎◌, ◌++◌, IfOk, IfErr,
 ghost use Rattle.std.specs.Io.KnownBytes.{Keeps};
 ghost use Rattle.lab_commands.specs.Batching.{part_text, part_status};
 
-use crate::ending::{Ending, RunFault, status};
-use crate::input::read_input;
-use crate::output::write_text;
 use lab_history::FileFault;
 use lab_judge::{Report, judge_all, print_file_fault, print_report};
+use lab_streams::{Ending, RunFault, read_input, status, write_text};
 use lab_table::NoMemory;
 use std::alloc::{AllocError, Global};
 use std::io::{ErrorKind, Write};

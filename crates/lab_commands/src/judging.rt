@@ -4,14 +4,13 @@ ghost use Rattle.std.specs.Prelude.{◌≡◌, ◌≢◌, ◌⊎◌, List, ℕ, 
 ghost use Rattle.std.specs.Io.KnownBytes.{Appends, Keeps};
 ghost use Rattle.lab_history.specs.History.{History as Held};
 ghost use Rattle.lab_judge.specs.Judgement.{IsExactJudgement};
-ghost use Rattle.lab_commands.specs.HistoryFile.{HoldsHistory, IsFileFault};
+ghost use Rattle.lab_streams.specs.HistoryFile.{HoldsHistory, IsFileFault};
 ghost use Rattle.lab_commands.specs.Judging.{IsJudgeAnswer};
 
-use crate::ending::{Ending, RunFault};
-use crate::input::read_input;
-use crate::output::{Answer, write_text};
+use lab_hints::note_file;
 use lab_history::FileFault;
 use lab_judge::{Report, judge_bytes, print_file_fault, print_report};
+use lab_streams::{Answer, Ending, RunFault, read_input, write_text};
 use lab_table::NoMemory;
 use std::alloc::{AllocError, Global};
 use std::io::{Read, Write};
@@ -46,11 +45,13 @@ fn answer(alloc: Global, input: &[u8]) -> Result<Answer, NoMemory>
 /// A file of more than 8,388,608 bytes is refused, whatever it holds.
 ///
 /// The input is read before the first write. `Unread` where it can't be read, `NoMemory` where a growth was refused,
-/// and then nothing is written; `Unwritten` where a write fails.
-pub fn judge<R: Read, W: Write>(
+/// and then nothing is written; `Unwritten` where a write fails. Behind the answer `notes` is given a hint where the file is
+/// refused; what fails there is let go.
+pub fn judge<R: Read, W: Write, N: Write>(
     alloc: Global,
     reader: &mut R,
     writer: &mut W,
+    notes: &mut N,
 ) -> Result<Ending, RunFault>
     ensures written { IfOk result (λ ending. IfSome (R.remaining reader.old) (λ input.
         (text : List ℕ) × Appends (W.contents writer.old) (W.contents writer.new) text × IsJudgeAnswer input text ending)) }
@@ -59,5 +60,11 @@ pub fn judge<R: Read, W: Write>(
     let input = read_input(alloc, reader)?;
     let answer = answer(alloc, input.as_slice())?;
     write_text(writer, answer.text.as_slice())?;
+    note_file(
+        alloc,
+        input.as_slice(),
+        answer.ending == Ending::Refused,
+        notes,
+    );
     Ok(answer.ending)
 }

@@ -5,16 +5,15 @@ ghost use Rattle.std.specs.Io.KnownBytes.{Appends, Keeps};
 ghost use Rattle.lab_script.specs.Limits.{ScriptPrints};
 ghost use Rattle.lab_commands.specs.Playing.{IsScriptedPlay, IsScriptedRefusal, IsRunAnswer, IsRecordingAnswer};
 
-use crate::ending::{Ending, RunFault};
-use crate::input::read_input;
-use crate::output::{Answer, write_text};
 use crate::recording_answer::{history_answer, log_answer};
 use lab_engine::{Level, Recording};
+use lab_hints::note_play;
 use lab_locking::LockEngine;
 use lab_script::{
     PrintFault, Script, ScriptFault, first_bytes_tell_a_script, parse_script, print_script_fault,
 };
 use lab_session::{PlayFault, play_script, print_play_fault};
+use lab_streams::{Answer, Ending, RunFault, read_input, write_text};
 use lab_table::NoMemory;
 use lab_versions::{CommittedEngine, SnapshotEngine};
 use std::alloc::{AllocError, Global};
@@ -58,8 +57,14 @@ fn answer_of(
 }
 
 /// What there is to say of an input: what its recording tells, or the line of the first fault of the script or of the
-/// fault of its play.
-fn answer(alloc: Global, input: &[u8], level: Level, history: bool) -> Result<Answer, NoMemory>
+/// fault of its play, which is noted.
+fn answer(
+    alloc: Global,
+    input: &[u8],
+    level: Level,
+    history: bool,
+    why: &mut Option<PlayFault>,
+) -> Result<Answer, NoMemory>
     ensures { IfOk result (λ answer. IsRunAnswer (IsScriptedPlay level) (IsScriptedRefusal level) history input.now answer.text.items answer.ending) }
 {
     let script = match parse_script(alloc, input) {
@@ -75,10 +80,13 @@ fn answer(alloc: Global, input: &[u8], level: Level, history: bool) -> Result<An
     match played(alloc, &script, level) {
         Ok(recording) => answer_of(alloc, &script, level, &recording, history),
         Err(PlayFault::NoMemory) => Err(AllocError),
-        Err(fault) => Ok(Answer {
-            text: print_play_fault(alloc, &fault)?,
-            ending: Ending::Refused,
-        }),
+        Err(fault) => {
+            *why = Some(fault);
+            Ok(Answer {
+                text: print_play_fault(alloc, &fault)?,
+                ending: Ending::Refused,
+            })
+        }
     }
 }
 
@@ -87,11 +95,13 @@ fn answer(alloc: Global, input: &[u8], level: Level, history: bool) -> Result<An
 /// is no script, or its play is refused, or its history has no file, it writes the line of that fault alone.
 ///
 /// The input is read before the first write. `Unread` where it can't be read, `NoMemory` where a growth was refused,
-/// and then nothing is written; `Unwritten` where a write fails.
-pub fn run<R: Read, W: Write>(
+/// and then nothing is written; `Unwritten` where a write fails. Behind the answer `notes` is given a hint where the input
+/// or its play is refused, or no transaction begins in it; what fails there is let go.
+pub fn run<R: Read, W: Write, N: Write>(
     alloc: Global,
     reader: &mut R,
     writer: &mut W,
+    notes: &mut N,
     level: Level,
     history: bool,
 ) -> Result<Ending, RunFault>
@@ -102,7 +112,10 @@ pub fn run<R: Read, W: Write>(
 {
     first_bytes_tell_a_script();
     let input = read_input(alloc, reader)?;
-    let answer = answer(alloc, input.as_slice(), level, history)?;
+    let mut why = None;
+    let answer = answer(alloc, input.as_slice(), level, history, &mut why)?;
     write_text(writer, answer.text.as_slice())?;
+    let is_refused = answer.ending == Ending::Refused;
+    note_play(alloc, input.as_slice(), is_refused, why, notes);
     Ok(answer.ending)
 }

@@ -5,17 +5,16 @@ ghost use Rattle.std.specs.Io.KnownBytes.{Appends, Keeps};
 ghost use Rattle.lab_engine.specs.RecordedLog.{RecordedLog};
 ghost use Rattle.lab_commands.specs.Playing.{IsFreePlay, IsFreeRefusal, IsUntold, IsRunAnswer, IsRecordingAnswer};
 
-use crate::ending::{Ending, RunFault};
-use crate::input::read_input;
-use crate::output::{Answer, write_text};
 use crate::recording_answer::{history_answer, log_answer};
 use lab_engine::{Level, Recording};
+use lab_hints::note_play;
 use lab_history::Limit;
 use lab_locking::LockEngine;
 use lab_script::{
     PrintFault, Script, ScriptFault, first_bytes_tell_a_script, parse_script, print_script_fault,
 };
 use lab_session::{Gate, PlayFault, play_free, print_play_fault};
+use lab_streams::{Answer, Ending, RunFault, read_input, write_text};
 use lab_table::{NoMemory, Session};
 use lab_versions::{CommittedEngine, SnapshotEngine};
 use std::alloc::{AllocError, Global};
@@ -98,13 +97,14 @@ fn play_answer<T: Threads + Wait + Sync>(
 }
 
 /// What there is to say of an input: what its recording tells, or the line of the first fault of the script or of the
-/// fault of its play.
+/// fault of its play, which is noted.
 fn answer<T: Threads + Wait + Sync>(
     rt: &T,
     alloc: Global,
     input: &[u8],
     level: Level,
     history: bool,
+    why: &mut Option<PlayFault>,
 ) -> Result<Answer, NoMemory>
     ensures { IfOk result (λ answer. IsRunAnswer (IsFreePlay level) (IsFreeRefusal level) history input.now answer.text.items answer.ending) }
 {
@@ -121,19 +121,23 @@ fn answer<T: Threads + Wait + Sync>(
     match play_answer(rt, alloc, &script, level, history) {
         Ok(answer) => Ok(answer),
         Err(PlayFault::NoMemory) => Err(AllocError),
-        Err(fault) => Ok(Answer {
-            text: print_play_fault(alloc, &fault)?,
-            ending: Ending::Refused,
-        }),
+        Err(fault) => {
+            *why = Some(fault);
+            Ok(Answer {
+                text: print_play_fault(alloc, &fault)?,
+                ending: Ending::Refused,
+            })
+        }
     }
 }
 
 /// As `run`, by one thread for each session that has lines, in whichever order they come; it waits for its threads.
-pub fn run_free<T: Threads + Wait + Sync, R: Read, W: Write>(
+pub fn run_free<T: Threads + Wait + Sync, R: Read, W: Write, N: Write>(
     rt: &T,
     alloc: Global,
     reader: &mut R,
     writer: &mut W,
+    notes: &mut N,
     level: Level,
     history: bool,
 ) -> Result<Ending, RunFault>
@@ -144,7 +148,10 @@ pub fn run_free<T: Threads + Wait + Sync, R: Read, W: Write>(
 {
     first_bytes_tell_a_script();
     let input = read_input(alloc, reader)?;
-    let answer = answer(rt, alloc, input.as_slice(), level, history)?;
+    let mut why = None;
+    let answer = answer(rt, alloc, input.as_slice(), level, history, &mut why)?;
     write_text(writer, answer.text.as_slice())?;
+    let is_refused = answer.ending == Ending::Refused;
+    note_play(alloc, input.as_slice(), is_refused, why, notes);
     Ok(answer.ending)
 }

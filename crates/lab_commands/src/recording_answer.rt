@@ -5,13 +5,12 @@ ghost use Rattle.lab_script.specs.Limits.{IsDeep, IsLong};
 ghost use Rattle.lab_session.specs.LogText.{SomeEvent};
 ghost use Rattle.lab_commands.specs.Playing.{IsLogAnswer, IsHistoryAnswer};
 
-use crate::ending::Ending;
-use crate::output::Answer;
 use lab_engine::Recording;
 use lab_history::{FileFault, Limit, WriteFault, write_history};
 use lab_judge::{judge_recording, print_file_fault, print_report};
 use lab_script::PrintFault;
 use lab_session::print_log;
+use lab_streams::{Answer, Ending};
 use lab_table::NoMemory;
 use std::alloc::{AllocError, Global};
 

@@ -6,12 +6,11 @@ ghost use Rattle.lab_script.specs.Limits.{ScriptPrints};
 ghost use Rattle.lab_script.specs.Transcript.{transcript};
 ghost use Rattle.lab_commands.specs.Serial.{IsSerialAnswer};
 
-use crate::ending::{Ending, RunFault};
-use crate::input::read_input;
-use crate::output::{Answer, write_text};
+use lab_hints::note_script;
 use lab_script::{
     Script, ScriptFault, first_bytes_tell_a_script, parse_script, print_script_fault, run_serial,
 };
+use lab_streams::{Answer, Ending, RunFault, read_input, write_text};
 use lab_table::NoMemory;
 use std::alloc::{AllocError, Global};
 use std::io::{Read, Write};
@@ -48,11 +47,13 @@ fn answer(alloc: Global, input: &[u8]) -> Result<Answer, NoMemory>
 /// order of their begins; or the line of the first fault where the input is no script.
 ///
 /// The input is read before the first write. `Unread` where it can't be read, `NoMemory` where a growth was
-/// refused, and then nothing is written; `Unwritten` where a write fails.
-pub fn serial<R: Read, W: Write>(
+/// refused, and then nothing is written; `Unwritten` where a write fails. Behind the answer `notes` is given a hint where
+/// the input is refused, or no transaction begins in it; what fails there is let go.
+pub fn serial<R: Read, W: Write, N: Write>(
     alloc: Global,
     reader: &mut R,
     writer: &mut W,
+    notes: &mut N,
 ) -> Result<Ending, RunFault>
     ensures written { IfOk result (λ ending. IfSome (R.remaining reader.old) (λ input.
         (text : List ℕ) × Appends (W.contents writer.old) (W.contents writer.new) text × IsSerialAnswer input text ending)) }
@@ -62,5 +63,11 @@ pub fn serial<R: Read, W: Write>(
     let input = read_input(alloc, reader)?;
     let answer = answer(alloc, input.as_slice())?;
     write_text(writer, answer.text.as_slice())?;
+    note_script(
+        alloc,
+        input.as_slice(),
+        answer.ending == Ending::Refused,
+        notes,
+    );
     Ok(answer.ending)
 }

@@ -23,6 +23,12 @@ test_of (from ∷ to ∷ kinds ∷ rest) = fits from to kinds
 pub least_told : (a b c x y z : ℕ) (es : List Edge) (found : Option Edge) → ◌≡◌ {A = List ℕ} (a ∷ b ∷ c ∷ []) (x ∷ y ∷ z ∷ []) → IsLeast (fits a b c) es found → IsLeast (fits x y z) es found
 least_told a b c x y z es found same l = subst (λ ns. IsLeast (test_of ns) es found) same l
 
+pub told_from : (a b c x y z : ℕ) → ◌≡◌ {A = List ℕ} (a ∷ b ∷ c ∷ []) (x ∷ y ∷ z ∷ []) → a ≡ x
+told_from a b c x y z same = cc
+
+pub told_to : (a b c x y z : ℕ) → ◌≡◌ {A = List ℕ} (a ∷ b ∷ c ∷ []) (x ∷ y ∷ z ∷ []) → b ≡ y
+told_to a b c x y z same = cc
+
 -- whether an edge is less than another is an order
 edges_rank : IsStrictWeakOrder (λ x y. is_lt (edge_cmp x y))
 edges_rank = ranks_by edges_total (λ e. e)

@@ -1,4 +1,4 @@
--- The least edge that is found for two transactions is the least between them.
+-- What the least edge from one transaction to another has.
 use Rattle.std.proofs.Common.{◌≡◌, ℕ, true, false, ◌==◌, ◌&&◌, Option, Some, None, List, refl, sym, ap, ◌∙◌, subst}
 use Rattle.std.specs.Prelude.{Contains, IfSome}
 use Rattle.std.specs.Ordering.{is_lt}
@@ -8,16 +8,11 @@ use Rattle.lab_deps.specs.KindBits.{has_bit}
 use Rattle.lab_deps.specs.LeastEdge.{fits, comes_first, IsLeast}
 use Rattle.lab_deps.specs.declared.edge.Edge.{Edge}
 
--- some edges, among which are all those from one transaction to another
-pub record HasBetween (all part : List Edge) (n m : ℕ) : Type 0 where
-  pub there : (e : Edge) → Contains part e → Contains all e
-  pub back : (e : Edge) → Contains all e → e.from ≡ n → e.to ≡ m → Contains part e
-
 if_found : (found : Option Edge) (P : Edge → Type 0) → ((e : Edge) → found ≡ Some e → P e) → IfSome found P
 if_found None P f = tt
 if_found (Some e) P f = f e refl
 
-module _ (all part : List Edge) (n m kinds : ℕ) (between : HasBetween all part n m) (found : Option Edge) (l : IsLeast (fits n m kinds) part found) where
+module _ (all : List Edge) (n m kinds : ℕ) (found : Option Edge) (l : IsLeast (fits n m kinds) all found) where
   -- what an edge that fits has
   parts : (e : Edge) → fits n m kinds e ≡ true → (e.from ≡ n) × (e.to ≡ m) × (has_bit kinds e.kind ≡ true)
   parts e fit =
@@ -26,7 +21,7 @@ module _ (all part : List Edge) (n m kinds : ℕ) (between : HasBetween all part
       (eqb-true e.from n first.0, eqb-true e.to m second.0, second.1)
 
   pub found_there : IfSome found (Contains all)
-  found_there = if_found found (Contains all) (λ e is. between.there e (l.there e is).0)
+  found_there = if_found found (Contains all) (λ e is. (l.there e is).0)
 
   pub found_from : IfSome found (λ e. e.from ≡ n)
   found_from = if_found found (λ e. e.from ≡ n) (λ e is. (parts e (l.there e is).1).0)
@@ -39,7 +34,7 @@ module _ (all part : List Edge) (n m kinds : ℕ) (between : HasBetween all part
 
   not_first : (e : Edge) → Contains all e → e.from ≡ n → e.to ≡ m → has_bit kinds e.kind ≡ true → comes_first e found ≡ false
   not_first e there from to kind =
-      l.least e (between.back e there from to)
+      l.least e there
       (and_from (e.from == n) (e.to == m && has_bit kinds e.kind) (eq-eqb e.from n from) (and_from (e.to == m) (has_bit kinds e.kind) (eq-eqb e.to m to) kind))
 
   pub found_least : IfSome found (λ least. (e : Edge) → Contains all e → e.from ≡ n → e.to ≡ m → has_bit kinds e.kind ≡ true → is_lt (edge_cmp e least) ≡ false)

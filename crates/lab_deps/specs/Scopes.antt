@@ -5,7 +5,6 @@ use Rattle.std.specs.FinMap as map
 use Rattle.lab_table.specs.Row.{Row}
 use Rattle.lab_history.specs.History.{History}
 use Rattle.lab_deps.specs.Collected.{neighbours_at, all_edges}
-use Rattle.lab_deps.specs.EdgesByRow.{rows_of, found_of_two}
 use Rattle.lab_deps.specs.KindBits.{has_bit, bits_of, edge_of}
 use Rattle.lab_deps.specs.Soundness.{IsSound, Stands}
 use Rattle.lab_deps.specs.declared.edge.Edge.{Edge}
@@ -13,7 +12,6 @@ use Rattle.lab_deps.specs.declared.edge.Kind.{Kind}
 use Rattle.lab_deps.specs.declared.fault.LocalFault.TheVariants.{InstallOrder}
 use Rattle.lab_deps.specs.declared.scope.Scope.{Scope}
 use Rattle.lab_deps.specs.declared.scope.Scope.TheVariants.{All, Writes}
-use Rattle.lab_deps.specs.declared.versions.Version.{Version}
 
 -- what has to be so of a history
 abbrev pub Allows : Scope → History → Type 0
@@ -25,13 +23,7 @@ abbrev pub edges_in : Scope → History → List Edge
 edges_in All h = all_edges h
 edges_in Writes h = flat_map neighbours_at (map.entries h.installed)
 
--- those among which the ones between two transactions are found
-abbrev pub found_between : Scope → History → ℕ → ℕ → List Edge
-found_between All h n m = found_of_two h n m
-found_between Writes h n m = flat_map neighbours_at (map.entries h.installed)
-
--- the versions of each row are known, and cells tell of each two transactions which kinds of edges there are
-pub record IsKnown (scope : Scope) (h : History) (rows : List (Row × List Version)) (ps : List ℕ) (w : ℕ) (cs : List ℕ) : Type 0 where
+-- cells tell of each two transactions which kinds of edges there are
+pub record IsKnown (scope : Scope) (h : History) (ps : List ℕ) (w : ℕ) (cs : List ℕ) : Type 0 where
   pub allowed : Allows scope h
-  pub versions : rows ≡ rows_of h
   pub exact : (from to : ℕ) (kind : Kind) → (has_bit (bits_of ps w cs from to) kind ≡ true) ↔ ((row : Row) × Contains (edges_in scope h) (edge_of from to kind row))

@@ -63,6 +63,11 @@ impl Arrows {
         })
     }
 
+    /// What its memory is from.
+    pub fn allocator(&self) -> Global {
+        *self.cells.allocator()
+    }
+
     /// The bits of the kinds from one transaction to another.
     pub fn bits(&self, from: TxnNo, to: TxnNo) -> u8
         ensures { result ≡ bits_of self.now.places.items self.now.width self.now.cells.items from to }

@@ -2,16 +2,16 @@
 
 ghost use Rattle.std.specs.Prelude.{◌≡◌, OnOk};
 ghost use Rattle.lab_deps.specs.EdgesByRow.{rows_of};
-ghost use Rattle.lab_deps.specs.Scopes.{edges_in, found_between};
+ghost use Rattle.lab_deps.specs.Scopes.{edges_in};
 ghost use Rattle.lab_deps.specs.Sinks.{Grows};
 
-use crate::collect::{add_edges_of_two, add_edges_of_txns};
+use crate::collect::add_edges_of_txns;
 use crate::sink::EdgeSink;
 use crate::versions::Versions;
 use crate::writes::add_neighbours_of_rows;
 use indexmap::IndexMap;
 use lab_history::History;
-use lab_table::{NoMemory, RowName, TxnNo};
+use lab_table::{NoMemory, RowName};
 
 /// Which dependencies are meant.
 #[derive(Clone, Copy)]
@@ -34,24 +34,6 @@ pub fn add_edges<S: EdgeSink>(
 {
     match scope {
         Scope::All => add_edges_of_txns(sink, history, rows),
-        Scope::Writes => add_neighbours_of_rows(sink, history),
-    }
-}
-
-/// Hands a sink those that may be between two transactions; NoMemory where a growth was refused.
-pub fn add_edges_between<S: EdgeSink>(
-    sink: &mut S,
-    history: &History,
-    scope: Scope,
-    rows: &IndexMap<RowName, Versions>,
-    from: TxnNo,
-    to: TxnNo,
-) -> Result<(), NoMemory>
-    requires { rows.now.entries ≡ rows_of history.now }
-    ensures { OnOk result (Grows S.handed sink.old sink.new (found_between scope history.now from to)) }
-{
-    match scope {
-        Scope::All => add_edges_of_two(sink, history, rows, from, to),
         Scope::Writes => add_neighbours_of_rows(sink, history),
     }
 }

@@ -6,6 +6,7 @@ use lab_deps::{Edge, Kind, LocalFault, Unsound, check_local, edges};
 use lab_history::{History, read_history};
 use lab_table::RowName;
 use std::alloc::Global;
+use std::process::Abort;
 use std::test::Fail;
 
 /// What both bodies answer.
@@ -27,16 +28,29 @@ fn walked(alloc: Global, history: &History) -> Result<Vec<Edge>, Unsound> {
     }
 }
 
-/// The edges of a sound history of this text, by both bodies.
-pub fn edges_by_both(alloc: Global, text: &[u8]) -> Result<Both, Fail> {
-    let Ok(history) = read_history(alloc, text) else {
-        return Err(Fail::from("a history"));
-    };
-    let paired = edges_by_pairs(alloc, &history)?;
-    match walked(alloc, &history) {
-        Ok(walked) => Ok(Both { walked, paired }),
-        Err(_) => Err(Fail::from("a sound history")),
+/// The edges of a sound history, by both bodies.
+fn both_of(alloc: Global, history: &History) -> Result<Both, &'static str> {
+    let walked = walked(alloc, history).ok().ok_or("a sound history")?;
+    match edges_by_pairs(alloc, history) {
+        Ok(paired) => Ok(Both { walked, paired }),
+        Err(_) => {
+            drop(walked);
+            Err("memory")
+        }
     }
+}
+
+/// The edges of a sound history of this text, by both bodies; or else what there isn't.
+pub fn edges_by_both(alloc: Global, text: &[u8]) -> Result<Both, &'static str> {
+    let history = read_history(alloc, text).ok().ok_or("a history")?;
+    let both = both_of(alloc, &history);
+    drop(history);
+    both
+}
+
+/// Fails where both bodies don't answer the same edges.
+pub fn shows_the_same(rt: &impl Abort, found: &Both, text: &str) {
+    assert!(rt; found.paired == found.walked, "{text}");
 }
 
 /// Two transactions write the same two rows, each first where the other is second.
@@ -70,69 +84,115 @@ fn spelled(edge: Edge) -> (u32, u32, Kind, u32) {
     )
 }
 
-#[test]
-fn histories_with_their_edges(rt: HostRuntime) -> Result<(), Fail> {
-    for (text, expected) in [
-        (
-            TWO_ORDERS,
-            &[
-                (1, 2, Kind::Write, 1),
-                (1, 2, Kind::ItemAnti, 2),
-                (2, 1, Kind::Write, 2),
-                (2, 1, Kind::ItemAnti, 1),
-            ][..],
-        ),
-        (
-            BEFORE_AND_AFTER,
-            &[
-                (1, 2, Kind::ItemAnti, 1),
-                (2, 3, Kind::Write, 1),
-                (2, 3, Kind::ItemRead, 1),
-                (3, 1, Kind::ItemRead, 2),
-            ][..],
-        ),
-        (
-            REBORN,
-            &[
-                (1, 2, Kind::Write, 3),
-                (1, 2, Kind::ItemRead, 3),
-                (1, 2, Kind::PredicateRead, 3),
-                (1, 2, Kind::PredicateAnti, 3),
-                (1, 3, Kind::PredicateRead, 3),
-                (1, 3, Kind::PredicateAnti, 3),
-                (2, 3, Kind::Write, 3),
-                (2, 3, Kind::PredicateRead, 3),
-                (2, 3, Kind::PredicateAnti, 3),
-            ][..],
-        ),
-    ] {
-        let found = edges_by_both(rt.alloc(), text.as_bytes())?;
-        assert_eq!(rt; found.walked.len(), expected.len(), "{text}");
-        for (edge, due) in found.walked.iter().zip(expected) {
-            assert_eq!(rt; spelled(*edge), *due, "{text}");
+/// Fails where the edges of a history of this text aren't these.
+fn shows_edges(
+    rt: &impl Abort,
+    alloc: Global,
+    text: &str,
+    expected: &[(u32, u32, Kind, u32)],
+) -> Result<(), Fail> {
+    let found = edges_by_both(alloc, text.as_bytes())?;
+    shows(rt, &found, text, expected);
+    drop(found);
+    is_told_to(rt, alloc, text)
+}
+
+/// Whether the edges are these.
+fn are_due(edges: &[Edge], expected: &[(u32, u32, Kind, u32)]) -> bool {
+    for (edge, due) in edges.iter().zip(expected) {
+        if spelled(*edge) != *due {
+            return false;
         }
-        assert_eq!(rt; found.paired.as_slice(), found.walked.as_slice(), "{text}");
-        assert!(rt; is_told(rt.alloc(), text.as_bytes())?, "{text}");
     }
+    edges.len() == expected.len()
+}
+
+/// Fails where both bodies don't answer these edges.
+fn shows(rt: &impl Abort, found: &Both, text: &str, expected: &[(u32, u32, Kind, u32)]) {
+    assert!(rt; are_due(&found.walked, expected), "{text}");
+    shows_the_same(rt, found, text);
+}
+
+/// Fails where what is told of each two transactions isn't what the edges are.
+pub fn is_told_to(rt: &impl Abort, alloc: Global, text: &str) -> Result<(), Fail> {
+    assert!(rt; is_told(alloc, text.as_bytes())?, "{text}");
     Ok(())
+}
+
+#[test]
+fn edges_of_two_orders(rt: HostRuntime) -> Result<(), Fail> {
+    shows_edges(
+        &rt,
+        rt.alloc(),
+        TWO_ORDERS,
+        &[
+            (1, 2, Kind::Write, 1),
+            (1, 2, Kind::ItemAnti, 2),
+            (2, 1, Kind::Write, 2),
+            (2, 1, Kind::ItemAnti, 1),
+        ],
+    )
+}
+
+#[test]
+fn edges_of_a_read_before_and_after(rt: HostRuntime) -> Result<(), Fail> {
+    shows_edges(
+        &rt,
+        rt.alloc(),
+        BEFORE_AND_AFTER,
+        &[
+            (1, 2, Kind::ItemAnti, 1),
+            (2, 3, Kind::Write, 1),
+            (2, 3, Kind::ItemRead, 1),
+            (3, 1, Kind::ItemRead, 2),
+        ],
+    )
+}
+
+#[test]
+fn edges_of_a_row_that_is_born_anew(rt: HostRuntime) -> Result<(), Fail> {
+    shows_edges(
+        &rt,
+        rt.alloc(),
+        REBORN,
+        &[
+            (1, 2, Kind::Write, 3),
+            (1, 2, Kind::ItemRead, 3),
+            (1, 2, Kind::PredicateRead, 3),
+            (1, 2, Kind::PredicateAnti, 3),
+            (1, 3, Kind::PredicateRead, 3),
+            (1, 3, Kind::PredicateAnti, 3),
+            (2, 3, Kind::Write, 3),
+            (2, 3, Kind::PredicateRead, 3),
+            (2, 3, Kind::PredicateAnti, 3),
+        ],
+    )
+}
+
+/// Whether the edges are these, each between transactions and at row 1 of a table.
+fn are_of_tables(edges: &[Edge], expected: &[(u32, u32, Kind, &str)]) -> bool {
+    for (edge, (from, to, kind, table)) in edges.iter().zip(expected) {
+        if spelled(*edge) != (*from, *to, *kind, 1)
+            || edge.row.table.as_bytes() != table.as_bytes()
+        {
+            return false;
+        }
+    }
+    edges.len() == expected.len()
 }
 
 #[test]
 fn a_history_over_two_tables(rt: HostRuntime) -> Result<(), Fail> {
     let found = edges_by_both(rt.alloc(), TWO_TABLES.as_bytes())?;
-    let expected = [
+    let due = [
         (1, 2, Kind::ItemAnti, "test"),
         (2, 1, Kind::ItemAnti, "stock"),
         (2, 3, Kind::ItemRead, "test"),
     ];
-    assert_eq!(rt; found.walked.len(), expected.len());
-    for (edge, (from, to, kind, table)) in found.walked.iter().zip(expected) {
-        assert_eq!(rt; spelled(*edge), (from, to, kind, 1));
-        assert_eq!(rt; edge.row.table.as_bytes(), table.as_bytes());
-    }
-    assert_eq!(rt; found.paired.as_slice(), found.walked.as_slice());
-    assert!(rt; is_told(rt.alloc(), TWO_TABLES.as_bytes())?);
-    Ok(())
+    assert!(rt; are_of_tables(&found.walked, &due));
+    shows_the_same(&rt, &found, TWO_TABLES);
+    drop(found);
+    is_told_to(&rt, rt.alloc(), TWO_TABLES)
 }
 
 /// Where a fault is of rows that aren't listed as is due: the numbers of the transaction and the operation, and the row.
@@ -143,20 +203,25 @@ fn differing(fault: LocalFault) -> Option<(u32, u32, RowName)> {
     }
 }
 
-/// The fault of a history of this text.
-fn fault_of(alloc: Global, text: &[u8]) -> Result<LocalFault, Fail> {
-    let Ok(history) = read_history(alloc, text) else {
-        return Err(Fail::from("a history"));
-    };
-    match walked(alloc, &history) {
-        Err(Unsound::Fault(fault)) => Ok(fault),
-        _ => Err(Fail::from("a fault")),
+/// The fault of a history.
+fn fault_in(alloc: Global, history: &History) -> Option<LocalFault> {
+    match walked(alloc, history).err()? {
+        Unsound::Fault(fault) => Some(fault),
+        Unsound::NoMemory => None,
     }
+}
+
+/// The fault of a history of this text.
+fn fault_of(alloc: Global, text: &[u8]) -> Option<LocalFault> {
+    let history = read_history(alloc, text).ok()?;
+    let fault = fault_in(alloc, &history);
+    drop(history);
+    fault
 }
 
 #[test]
 fn a_row_of_the_first_table_is_not_listed(rt: HostRuntime) -> Result<(), Fail> {
-    let fault = fault_of(rt.alloc(), UNLISTED.as_bytes())?;
+    let fault = fault_of(rt.alloc(), UNLISTED.as_bytes()).ok_or("a fault")?;
     let (txn, op, row) = differing(fault).ok_or("rows that differ")?;
     assert_eq!(rt; (txn, op, row.id.number()), (1, 1, 2));
     assert_eq!(rt; row.table.as_bytes(), b"stock".as_slice());

@@ -8,6 +8,8 @@ mod alike;
 #[cfg(test)]
 mod chain;
 #[cfg(test)]
+mod inputs;
+#[cfg(test)]
 mod made;
 #[cfg(test)]
 mod pairs;
@@ -18,6 +20,14 @@ mod refusal;
 #[cfg(test)]
 mod refused;
 #[cfg(test)]
+mod refused_calls;
+#[cfg(test)]
+mod refused_edges;
+#[cfg(test)]
+mod refused_statements;
+#[cfg(test)]
 mod refused_steps;
+#[cfg(test)]
+mod refused_versions;
 #[cfg(test)]
 mod told;

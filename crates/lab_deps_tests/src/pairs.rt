@@ -18,17 +18,23 @@ struct Reading {
 /// The edges by rising from, to, kind and row, each once.
 pub fn edges_by_pairs(alloc: Global, history: &History) -> Result<Vec<Edge>, NoMemory> {
     let mut edges = Vec::new(alloc);
-    for (row, installers) in history.installed().entries() {
-        add_neighbours(&mut edges, *row, installers.as_slice())?;
-        for txn in history.txns().as_slice() {
-            if txn.outcome == Outcome::Committed {
-                add_txn(&mut edges, history, *row, txn.no, txn.ops.as_slice())?;
-            }
-        }
-    }
+    add_all(&mut edges, history)?;
     edges.sort()?;
     edges.dedup();
     Ok(edges)
+}
+
+/// Adds the edges at each row, some more than once.
+fn add_all(edges: &mut Vec<Edge>, history: &History) -> Result<(), NoMemory> {
+    for (row, installers) in history.installed().entries() {
+        add_neighbours(edges, *row, installers.as_slice())?;
+        for txn in history.txns().as_slice() {
+            if txn.outcome == Outcome::Committed {
+                add_txn(edges, history, *row, txn.no, txn.ops.as_slice())?;
+            }
+        }
+    }
+    Ok(())
 }
 
 /// Adds the edges between neighbours in a row's list.

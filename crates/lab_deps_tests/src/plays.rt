@@ -2,8 +2,8 @@
 
 ghost use Rattle.std.specs.Prelude.{◌≡◌, []};
 
-use crate::alike::edges_by_both;
-use lab_engine::Engine;
+use crate::alike::{Both, edges_by_both};
+use lab_engine::{Engine, Recording};
 use lab_history::write_history;
 use lab_locking::LockEngine;
 use lab_script::{Script, parse_script};
@@ -12,79 +12,144 @@ use lab_versions::{CommittedEngine, SnapshotEngine};
 use std::alloc::{AllocError, Global};
 use std::test::Fail;
 
-/// The line that a number chooses: a command of one of three sessions on one of three rows of one of two tables. A commit
+/// A command that a number chooses, and its remark: `@` stands for a table, `#` for a row, and `$` for a session. A commit
 /// begins anew.
-fn line(alloc: Global, number: u32) -> Result<String, AllocError> {
-    let session = (number >> 4) % 3 + 1;
-    let row = (number >> 8) % 3 + 1;
-    let table = if (number >> 12) % 4 == 0 {
-        "stock"
-    } else {
-        "test"
-    };
-    let command = match (number >> 16) % 11 {
-        0 | 1 => format!(in alloc; "commit; -- T{session}\nbegin")?,
-        2 => format!(in alloc; "select * from {table}")?,
-        3 => format!(in alloc; "select * from {table} where value % 3 = 1")?,
-        4 => format!(in alloc; "select * from {table} where id = {row}")?,
-        5 => format!(in alloc; "select * from {table} where id = {row} and value > 12")?,
-        6 => format!(in alloc; "select * from {table} where id in ({row}, 3)")?,
-        7 => format!(in alloc; "update {table} set value = value + {row} where id = {row}")?,
-        8 => format!(in alloc; "update {table} set value = value + 2 where value < 25")?,
-        9 => format!(in alloc; "delete from {table} where id = {row}")?,
-        _ => format!(in alloc; "insert into {table} (id, value) values ({row}, {row}7)")?,
-    };
-    format!(in alloc; "{command}; -- T{session}\n")
+fn command(number: u32) -> &'static [u8] {
+    match number {
+        0 | 1 => b"commit; -- T$\nbegin; -- T$\n",
+        2 => b"select * from @; -- T$\n",
+        3 => b"select * from @ where value % 3 = 1; -- T$\n",
+        4 => b"select * from @ where id = #; -- T$\n",
+        5 => b"select * from @ where id = # and value > 12; -- T$\n",
+        6 => b"select * from @ where id in (#, 3); -- T$\n",
+        7 => b"update @ set value = value + # where id = #; -- T$\n",
+        8 => b"update @ set value = value + 2 where value < 25; -- T$\n",
+        9 => b"delete from @ where id = #; -- T$\n",
+        _ => b"insert into @ (id, value) values (#, #7); -- T$\n",
+    }
 }
 
-/// The script that a seed chooses: all sessions begin, then come 30 lines, and then all commit.
-fn made(alloc: Global, seed: u32) -> Result<String, AllocError> {
-    let mut text = String::from_str(
-        alloc,
-        "setup (1, 10), (2, 20), (3, 30), stock (2, 21), stock (3, 31);\nbegin; -- T1\nbegin; -- T2\nbegin; -- T3\n",
-    )?;
+/// One of three numbers.
+fn digit(number: u32) -> &'static [u8] {
+    match number {
+        0 => b"1",
+        1 => b"2",
+        _ => b"3",
+    }
+}
+
+/// Adds the line that a number chooses: a command of one of three sessions on one of three rows of one of two tables.
+fn add_line(text: &mut Vec<u8>, number: u32) -> Result<(), AllocError> {
+    let session = digit((number >> 4) % 3);
+    let row = digit((number >> 8) % 3);
+    let table: &[u8] = if (number >> 12) % 4 == 0 {
+        b"stock"
+    } else {
+        b"test"
+    };
+    for byte in command((number >> 16) % 11) {
+        match *byte {
+            b'$' => text.extend_from_slice(session)?,
+            b'#' => text.extend_from_slice(row)?,
+            b'@' => text.extend_from_slice(table)?,
+            other => text.push(other)?,
+        }
+    }
+    Ok(())
+}
+
+/// Adds 30 lines that a seed chooses.
+fn add_lines(text: &mut Vec<u8>, seed: u32) -> Result<(), AllocError> {
     let mut number = seed;
     for _ in 0..30 {
         number = number.wrapping_mul(1_664_525).wrapping_add(1_013_904_223);
-        text.push_str(&line(alloc, number)?)?;
+        add_line(text, number)?;
     }
-    text.push_str("commit; -- T1\ncommit; -- T2\ncommit; -- T3\n")?;
+    Ok(())
+}
+
+const BEGINS: &[u8] = b"setup (1, 10), (2, 20), (3, 30), stock (2, 21), stock (3, 31);
+begin; -- T1
+begin; -- T2
+begin; -- T3
+";
+
+/// The script that a seed chooses: all sessions begin, then come 30 lines, and then all commit.
+fn made(alloc: Global, seed: u32) -> Result<Vec<u8>, AllocError> {
+    let mut text = Vec::from_slice(alloc, BEGINS)?;
+    add_lines(&mut text, seed)?;
+    text.extend_from_slice(b"commit; -- T1\ncommit; -- T2\ncommit; -- T3\n")?;
     Ok(text)
 }
 
-/// How many edges the history of a play has, by both bodies.
-fn edges_of_play<E: Engine + Drop>(alloc: Global, engine: E, script: &Script) -> Result<usize, Fail>
-    requires { E.events engine ≡ [] }
-{
-    let Ok(played) = play_script(alloc, engine, script) else {
-        return Err(Fail::from("a recording"));
-    };
-    let Ok(text) = write_history(alloc, played.history()) else {
-        return Err(Fail::from("a text"));
-    };
-    let found = edges_by_both(alloc, &text)?;
+/// How many edges both bodies find, where they find the same.
+fn count(found: &Both) -> Result<usize, &'static str> {
     if found.walked == found.paired {
         Ok(found.walked.len())
     } else {
-        Err(Fail::from("the same edges by both"))
+        Err("the same edges by both")
     }
+}
+
+/// How many edges the history of this text has, by both bodies; or else what there isn't.
+fn edges_in(alloc: Global, text: &[u8]) -> Result<usize, &'static str> {
+    let found = edges_by_both(alloc, text)?;
+    let edges = count(&found);
+    drop(found);
+    edges
+}
+
+/// How many edges the history of a recording has, by both bodies.
+fn edges_of(alloc: Global, recording: &Recording) -> Result<usize, &'static str> {
+    match write_history(alloc, recording.history()) {
+        Ok(text) => edges_in(alloc, &text),
+        Err(_) => Err("a text"),
+    }
+}
+
+/// The same of a play.
+fn edges_of_play<E: Engine + Drop>(
+    alloc: Global,
+    engine: E,
+    script: &Script,
+) -> Result<usize, &'static str>
+    requires { E.events engine ≡ [] }
+{
+    let played = play_script(alloc, engine, script)
+        .ok()
+        .ok_or("a recording")?;
+    let edges = edges_of(alloc, &played);
+    drop(played);
+    edges
+}
+
+/// How many edges the plays of a script on the three engines have together.
+fn edges_of_plays(alloc: Global, script: &Script) -> Result<usize, &'static str> {
+    let setup = script.setup.copy(alloc).ok().ok_or("memory")?;
+    let locking = edges_of_play(alloc, LockEngine::new(alloc, setup), script)?;
+    let setup = script.setup.copy(alloc).ok().ok_or("memory")?;
+    let committed = edges_of_play(alloc, CommittedEngine::new(alloc, setup), script)?;
+    let setup = script.setup.copy(alloc).ok().ok_or("memory")?;
+    let snapshot = edges_of_play(alloc, SnapshotEngine::new(alloc, setup), script)?;
+    Ok(locking.wrapping_add(committed).wrapping_add(snapshot))
+}
+
+/// How many edges the plays of the script that a seed chooses have together.
+fn edges_of_seed(alloc: Global, seed: u32) -> Result<usize, &'static str> {
+    let text = made(alloc, seed).ok().ok_or("memory")?;
+    let script = parse_script(alloc, &text).ok();
+    drop(text);
+    let script = script.ok_or("a script")?;
+    let edges = edges_of_plays(alloc, &script);
+    drop(script);
+    edges
 }
 
 #[test]
 fn histories_of_plays(rt: HostRuntime) -> Result<(), Fail> {
-    let alloc = rt.alloc();
     let mut edges = 0usize;
     for seed in 0..67u32 {
-        let text = made(alloc, seed)?;
-        let Ok(script) = parse_script(alloc, text.as_bytes()) else {
-            return Err(Fail::from("a script"));
-        };
-        let locking = LockEngine::new(alloc, script.setup.copy(alloc)?);
-        let committed = CommittedEngine::new(alloc, script.setup.copy(alloc)?);
-        let snapshot = SnapshotEngine::new(alloc, script.setup.copy(alloc)?);
-        edges = edges.wrapping_add(edges_of_play(alloc, locking, &script)?);
-        edges = edges.wrapping_add(edges_of_play(alloc, committed, &script)?);
-        edges = edges.wrapping_add(edges_of_play(alloc, snapshot, &script)?);
+        edges = edges.wrapping_add(edges_of_seed(rt.alloc(), seed)?);
     }
     assert!(rt; edges > 1_000, "{edges}");
     Ok(())

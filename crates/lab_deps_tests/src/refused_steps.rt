@@ -1,6 +1,9 @@
 //! Engines whose steps and retries have each of their growths refused in turn: log and sessions are as before, and the
 //! same call with memory answers as if nothing had been.
 
+ghost use Rattle.std.specs.Prelude.{◌<◌, length};
+ghost use Rattle.lab_engine.specs.Limits.{max_events};
+
 use crate::refusal::{refuse, was_refused};
 use lab_engine::{Engine, EngineFault, Level, LogEvent, MAX_EVENTS, Outcome};
 use lab_locking::LockEngine;
@@ -8,6 +11,7 @@ use lab_script::{Line, Script, parse_script};
 use lab_table::{NoMemory, Session};
 use lab_versions::{CommittedEngine, SnapshotEngine};
 use std::alloc::{AllocError, Global};
+use std::process::Abort;
 use std::test::Fail;
 
 /// Two transactions update one row.
@@ -96,6 +100,28 @@ fn said_of_both<E: Engine>(engine: &E) -> Option<[(bool, bool, bool); 2]> {
     Some([first, second])
 }
 
+/// Whether there was an answer, which the log tells.
+fn logged(answer: Result<Outcome, NoMemory>) -> Result<(), NoMemory> {
+    drop(answer?);
+    Ok(())
+}
+
+/// Retries the retryable session.
+fn retry_turn<E: Engine>(alloc: Global, engine: &mut E) -> Result<(), NoMemory>
+    requires { length (E.events engine.old) < max_events }
+{
+    match engine.retryable() {
+        Some(session) => {
+            if engine.is_waiting(session) {
+                logged(engine.retry(alloc, session))
+            } else {
+                Err(AllocError)
+            }
+        }
+        None => Err(AllocError),
+    }
+}
+
 /// Takes the turn of the event at a place: the retry, or a line's step.
 fn turn<E: Engine>(
     alloc: Global,
@@ -103,21 +129,12 @@ fn turn<E: Engine>(
     lines: &[Line],
     waits: bool,
     place: usize,
-) -> Result<Outcome, NoMemory> {
+) -> Result<(), NoMemory> {
     if engine.log().len() >= MAX_EVENTS {
         return Err(AllocError);
     }
     if waits && place == RETRY {
-        return match engine.retryable() {
-            Some(session) => {
-                if engine.is_waiting(session) {
-                    engine.retry(alloc, session)
-                } else {
-                    Err(AllocError)
-                }
-            }
-            None => Err(AllocError),
-        };
+        return retry_turn(alloc, engine);
     }
     let line = if waits && place > RETRY {
         place - 1
@@ -125,12 +142,57 @@ fn turn<E: Engine>(
         place
     };
     match lines.get(line) {
-        Some(line) => engine.step(alloc, line.session, &line.command),
+        Some(line) => logged(engine.step(alloc, line.session, &line.command)),
         None => Err(AllocError),
     }
 }
 
-/// Takes a fresh engine's turn at a place with a growth refused, and says whether one was.
+/// Takes the turns of the events before a place.
+fn turns_before<E: Engine>(
+    alloc: Global,
+    engine: &mut E,
+    lines: &[Line],
+    waits: bool,
+    place: usize,
+) -> Result<(), NoMemory> {
+    for before in 0..place {
+        turn(alloc, engine, lines, waits, before)?;
+    }
+    Ok(())
+}
+
+/// Takes an engine's turn at a place with a growth refused, and says whether one was; or else what isn't as it has to be.
+fn is_turn_refused<E: Engine>(
+    alloc: Global,
+    engine: &mut E,
+    lines: &[Line],
+    waits: bool,
+    place: usize,
+    growth: u16,
+) -> Result<bool, &'static str> {
+    let events = if waits { WAITING } else { CONFLICTING };
+    let before = said_of_both(engine);
+    refuse(alloc, growth);
+    let answer = turn(alloc, engine, lines, waits, place);
+    let refused = was_refused(alloc);
+    if answer.is_err() {
+        if !refused {
+            return Err("an answer");
+        }
+        if !has_told(engine.log(), place, events) || said_of_both(engine) != before {
+            return Err("all as before");
+        }
+        turn(alloc, engine, lines, waits, place)
+            .ok()
+            .ok_or("memory")?;
+    }
+    if !has_told(engine.log(), place.wrapping_add(1), events) {
+        return Err("the answer of a fresh engine");
+    }
+    Ok(refused)
+}
+
+/// The same of a fresh engine, which takes the turns before that.
 fn is_refused<E: Engine + Drop>(
     alloc: Global,
     engine: E,
@@ -138,29 +200,14 @@ fn is_refused<E: Engine + Drop>(
     waits: bool,
     place: usize,
     growth: u16,
-) -> Result<bool, Fail> {
-    let events = if waits { WAITING } else { CONFLICTING };
+) -> Result<bool, &'static str> {
     let mut engine = engine;
-    for before in 0..place {
-        turn(alloc, &mut engine, lines, waits, before)?;
-    }
-    let before = said_of_both(&engine);
-    refuse(alloc, growth);
-    let answer = turn(alloc, &mut engine, lines, waits, place);
-    let refused = was_refused(alloc);
-    if answer.is_err() {
-        if !refused {
-            return Err(Fail::from("an answer"));
-        }
-        if !has_told(engine.log(), place, events) || said_of_both(&engine) != before {
-            return Err(Fail::from("all as before"));
-        }
-        turn(alloc, &mut engine, lines, waits, place)?;
-    }
-    if !has_told(engine.log(), place.wrapping_add(1), events) {
-        return Err(Fail::from("the answer of a fresh engine"));
-    }
-    Ok(refused)
+    let refused = match turns_before(alloc, &mut engine, lines, waits, place) {
+        Ok(()) => is_turn_refused(alloc, &mut engine, lines, waits, place, growth),
+        Err(_) => Err("memory"),
+    };
+    drop(engine);
+    refused
 }
 
 /// The same at a level.
@@ -170,8 +217,8 @@ fn is_refused_at(
     script: &Script,
     place: usize,
     growth: u16,
-) -> Result<bool, Fail> {
-    let setup = script.setup.copy(alloc)?;
+) -> Result<bool, &'static str> {
+    let setup = script.setup.copy(alloc).ok().ok_or("memory")?;
     let lines = script.lines.as_slice();
     match level {
         Level::Locking => {
@@ -207,25 +254,52 @@ fn is_refused_at(
     }
 }
 
-#[test]
-fn a_step_that_is_refused_memory_leaves_the_engine(rt: HostRuntime) -> Result<(), Fail> {
-    let alloc = rt.alloc();
-    let script = parse_script(alloc, TWO_UPDATES).ok().ok_or("a script")?;
-    for (level, events) in [
-        (Level::Locking, 7usize),
-        (Level::Committed, 7),
-        (Level::Snapshot, 6),
-    ] {
-        for place in 0..events {
-            let mut answered = false;
-            for growth in 1..1_000u16 {
-                if !is_refused_at(alloc, level, &script, place, growth)? {
-                    answered = true;
-                    break;
-                }
-            }
-            assert!(rt; answered, "{level:?}, event {place}");
+/// Fails where a turn isn't right with one of its growths refused, or has no last growth.
+fn shows_turn(
+    rt: &impl Abort,
+    alloc: Global,
+    level: Level,
+    script: &Script,
+    place: usize,
+) -> Result<(), &'static str> {
+    let mut answered = false;
+    for growth in 1..1_000u16 {
+        if !is_refused_at(alloc, level, script, place, growth)? {
+            answered = true;
+            break;
         }
     }
+    assert!(rt; answered, "{level:?}, event {place}");
+    Ok(())
+}
+
+/// The same of the turns of so many events.
+fn shows_turns(
+    rt: &impl Abort,
+    alloc: Global,
+    level: Level,
+    script: &Script,
+    events: usize,
+) -> Result<(), &'static str> {
+    for place in 0..events {
+        shows_turn(rt, alloc, level, script, place)?;
+    }
+    Ok(())
+}
+
+/// The same at each level.
+fn shows_levels(rt: &impl Abort, alloc: Global, script: &Script) -> Result<(), &'static str> {
+    shows_turns(rt, alloc, Level::Locking, script, 7)?;
+    shows_turns(rt, alloc, Level::Committed, script, 7)?;
+    shows_turns(rt, alloc, Level::Snapshot, script, 6)
+}
+
+#[test]
+fn a_step_that_is_refused_memory_leaves_the_engine(rt: HostRuntime) -> Result<(), Fail> {
+    let script = parse_script(rt.alloc(), TWO_UPDATES);
+    let script = script.ok().ok_or("a script")?;
+    let shown = shows_levels(&rt, rt.alloc(), &script);
+    drop(script);
+    shown?;
     Ok(())
 }

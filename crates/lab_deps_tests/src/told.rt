@@ -7,16 +7,20 @@ use lab_deps::{Dependencies, Edge, Kind, Kinds, Sound, check_local};
 use lab_history::{History, Txn, read_history};
 use lab_table::{NoMemory, TxnNo};
 use std::alloc::Global;
-use std::test::Fail;
 
 /// Whether what is told of each two transactions of a sound history of this text is what its edges are.
-pub fn is_told(alloc: Global, text: &[u8]) -> Result<bool, Fail> {
-    let Ok(history) = read_history(alloc, text) else {
-        return Err(Fail::from("a history"));
-    };
-    match check_local(alloc, &history) {
-        Ok(sound) => Ok(is_told_of(alloc, &history, &sound)?),
-        Err(_) => Err(Fail::from("a sound history")),
+pub fn is_told(alloc: Global, text: &[u8]) -> Result<bool, &'static str> {
+    let history = read_history(alloc, text).ok().ok_or("a history")?;
+    let told = is_told_in(alloc, &history);
+    drop(history);
+    told
+}
+
+/// Whether it is so of a sound history.
+fn is_told_in(alloc: Global, history: &History) -> Result<bool, &'static str> {
+    match check_local(alloc, history) {
+        Ok(sound) => is_told_of(alloc, history, &sound).ok().ok_or("memory"),
+        Err(_) => Err("a sound history"),
     }
 }
 
@@ -24,10 +28,24 @@ pub fn is_told(alloc: Global, text: &[u8]) -> Result<bool, Fail> {
 fn is_told_of(alloc: Global, history: &History, sound: &Sound) -> Result<bool, NoMemory>
     requires { IsSound history.now }
 {
-    let edges = edges_by_pairs(alloc, history)?;
     let found = Dependencies::of(alloc, history, sound)?;
-    for txn in history.txns().as_slice() {
-        if !is_told_from(&found, &edges, txn.no, history.txns().as_slice())? {
+    let told = is_told_by(alloc, &found, history);
+    drop(found);
+    told
+}
+
+/// Whether it is so of these dependencies.
+fn is_told_by(alloc: Global, found: &Dependencies, history: &History) -> Result<bool, NoMemory> {
+    let edges = edges_by_pairs(alloc, history)?;
+    let told = are_told(found, &edges, history.txns().as_slice());
+    drop(edges);
+    told
+}
+
+/// Whether it is so of each two of these transactions.
+fn are_told(found: &Dependencies, edges: &[Edge], txns: &[Txn]) -> Result<bool, NoMemory> {
+    for txn in txns {
+        if !is_told_from(found, edges, txn.no, txns)? {
             return Ok(false);
         }
     }
@@ -49,6 +67,15 @@ fn is_told_from(
     Ok(true)
 }
 
+/// The kinds of edges.
+static KINDS: [Kind; 5] = [
+    Kind::Write,
+    Kind::ItemRead,
+    Kind::PredicateRead,
+    Kind::ItemAnti,
+    Kind::PredicateAnti,
+];
+
 /// Whether it is so of each kind between two transactions.
 fn is_told_between(
     found: &Dependencies,
@@ -56,22 +83,27 @@ fn is_told_between(
     from: TxnNo,
     to: TxnNo,
 ) -> Result<bool, NoMemory> {
-    for kind in [
-        Kind::Write,
-        Kind::ItemRead,
-        Kind::PredicateRead,
-        Kind::ItemAnti,
-        Kind::PredicateAnti,
-    ] {
-        let due = first_of(edges, from, to, kind);
-        if found.kinds(from, to).has(kind) != due.is_some() {
-            return Ok(false);
-        }
-        if found.least(from, to, Kinds::none().and(kind))? != due {
+    for kind in &KINDS {
+        if !is_told_of_kind(found, edges, from, to, *kind)? {
             return Ok(false);
         }
     }
     Ok(true)
+}
+
+/// Whether it is so of a kind between two transactions.
+fn is_told_of_kind(
+    found: &Dependencies,
+    edges: &[Edge],
+    from: TxnNo,
+    to: TxnNo,
+    kind: Kind,
+) -> Result<bool, NoMemory> {
+    let due = first_of(edges, from, to, kind);
+    if found.kinds(from, to).has(kind) != due.is_some() {
+        return Ok(false);
+    }
+    Ok(found.least(from, to, Kinds::none().and(kind))? == due)
 }
 
 /// The first of these edges that is between two transactions and of a kind.

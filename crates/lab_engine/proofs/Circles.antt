@@ -1,7 +1,8 @@
 -- Circles of sessions, each blocked by the next, as walks along the graph of who waits for whom.
-use Rattle.std.proofs.Common.{◌≡◌, ℕ, suc, ◌+◌, ◌≤◌, refl, sym, subst, ◌∙◌, arith, Bool, true, false, List, [], ◌∷◌, inl, inr, length}
-use Rattle.std.specs.Prelude.{IsTrue, Option, Some, None, Result, Ok, Err, IfOk, IfSome, MatchOption, Contains}
-use Rattle.std.proofs.lemmas.Bool.{both_ways, cases_eq}
+use Rattle.std.proofs.Common.{◌≡◌, ◌≢◌, ℕ, zero, suc, ◌+◌, ◌≤◌, refl, sym, subst, ◌∙◌, arith, Bool, true, false, List, [], ◌∷◌, inl, inr, length}
+use Rattle.std.specs.Prelude.{◌==◌, IsTrue, Option, Some, None, Result, Ok, Err, IfOk, IfSome, MatchOption, Contains}
+use Rattle.std.specs.List.{list_any}
+use Rattle.std.proofs.lemmas.Bool.{both_ways, cases_eq, eq-eqb, or_left, or_right}
 use Rattle.lab_table.specs.Table.{Table}
 use Rattle.lab_table.specs.declared.statement.Statement.{Statement}
 use Rattle.lab_engine.specs.declared.event.Level.{Level}
@@ -45,20 +46,31 @@ walk_of : (level : Level) (setup : Table) (past : Past) (waits : List Wait) (goa
 walk_of level setup past waits goal [] waiter asked all own chain = own goal chain
 walk_of level setup past waits goal (next ∷ rest) waiter asked all own (b, s, is, chain) = (own next b, walk_of level setup past waits goal rest next s all (all next s is) chain)
 
+-- who is in a list is found there
+found_in : (xs : List ℕ) (x : ℕ) → Contains xs x → list_any (λ m. m == x) xs ≡ true
+found_in [] x (k, lt, is) = absurd (omega arith)
+found_in (y ∷ xs) x (zero, lt, is) = or_left _ _ (eq-eqb y x is)
+found_in (y ∷ xs) x (suc k, lt, is) = or_right _ _ (found_in xs x (k, omega arith, is))
+
+-- where a session isn't in a list, nobody in the list is that session
+apart_from : (session : ℕ) (rest : List ℕ) (next : ℕ) → list_any (λ m. m == session) rest ≡ false → Contains rest next → next ≢ session
+apart_from session rest next none there same = both_ways _ none (found_in rest session (subst (Contains rest) same there))
+
 -- a round of the graph with what a session asks for is a circle
 round_circle : (level : Level) (setup : Table) (past : Past) (waits : List Wait) (session : ℕ) (s : Statement) → AreWaitsWith level setup past session s waits
     → (circle : List ℕ) → IsRound waits session circle → IsCircle level setup past session s circle
 round_circle level setup past waits session s h [] round = round
-round_circle level setup past waits session s h (first ∷ rest) (own, walk, avoids) = (
+round_circle level setup past waits session s h (first ∷ rest) (own, walk, once) = (
   own,
+  once,
   chain_of level setup past waits session rest session s
-      (λ next c other. (h.1 next other (λ same. avoids (subst (Contains rest) same c))).0) (λ other. (h.0 other).0) walk,
+      (λ next c other. (h.1 next other (apart_from session rest next (subst (λ k. list_any (λ m. m == k) rest ≡ false) own once.0) c)).0) (λ other. (h.0 other).0) walk,
 )
 
 -- a circle is a walk of it
 circle_walk : (level : Level) (setup : Table) (past : Past) (waits : List Wait) (session : ℕ) (s : Statement) → AreWaitsWith level setup past session s waits → MayAsk past session s
     → (first : ℕ) (rest : List ℕ) → IsCircle level setup past session s (first ∷ rest) → IsWalk waits session rest session
-circle_walk level setup past waits session s h may first rest (own, chain) = walk_of level setup past waits session rest session s all (λ other. (h.0 other).1) chain
+circle_walk level setup past waits session s h may first rest (own, once, chain) = walk_of level setup past waits session rest session s all (λ other. (h.0 other).1) chain
   where
     all : (next : ℕ) (t : Statement) → waiting past next ≡ Some t → (other : ℕ) → BlockedBy level setup past next t other → IsTrue (waits_for waits next other)
     all next t is other b = elim (cases_eq next session) [
@@ -108,13 +120,15 @@ deadlock_is level setup past waits session s h may (Err e) found shortest least 
 pub released_retryable : (level : Level) (setup : Table) (past : Past) (waits : List Wait) (session : ℕ) (s : Statement) → AreWaits level setup past waits → waiting past session ≡ Some s
     → IsReleased waits session → IsRetryable level setup past session
 released_retryable level setup past waits session s h is (inl nobody) = (s, is, inl (λ other b. both_ways _ (nobody other) ((h session other).1 (s, is, b))))
-released_retryable level setup past waits session s h is (inr (rest, walk)) = (
+released_retryable level setup past waits session s h is (inr ([], round)) = absurd round
+released_retryable level setup past waits session s h is (inr (first ∷ rest, (own, walk, once))) = (
   s,
   is,
   inr (
-    session ∷ rest,
+    first ∷ rest,
     (
-      refl,
+      own,
+      once,
       chain_of level setup past waits session rest session s (λ next c other. (h next other).0)
           (λ other w. let held = (h session other).0 w in subst (λ t. BlockedBy level setup past session t other) (same_Some held.0 s (sym held.1 ∙ is)) held.2) walk,
     ),
@@ -134,4 +148,7 @@ retryable_released level setup past waits session h (s, is, inl free) = inl nobo
     nobody other = at other (waits_for waits session other) refl
 retryable_released level setup past waits session h (s, is, inr ([], c)) = absurd c
 retryable_released level setup past waits session h (s, is, inr (first ∷ rest, c)) =
-    inr (rest, walk_of level setup past waits session rest session s (λ next t waits_with other b. (h next other).1 (t, waits_with, b)) (λ other b. (h session other).1 (s, is, b)) c.1)
+    inr (
+      first ∷ rest,
+      (c.0, walk_of level setup past waits session rest session s (λ next t waits_with other b. (h next other).1 (t, waits_with, b)) (λ other b. (h session other).1 (s, is, b)) c.2, c.1),
+    )

@@ -27,7 +27,7 @@ mod RisingLists
 mod LeastRows
 mod InsertOrUpdate
 mod AnswerKinds
-mod OneOutcome
+pub mod OneOutcome
 mod OneStep
 mod WaitLayers
 pub mod Rising
@@ -50,3 +50,4 @@ pub mod DoneTransactions
 pub mod RecordedCommits
 pub mod RecordedViews
 mod Shown
+pub mod OneRecording

@@ -82,7 +82,7 @@ module _ (level : Level) (setup : Table) (past : Past) (session : ℕ) (txn : Tx
 
     circle_blocks : (circle : List ℕ) → IsCircle level setup past session s circle → (other : ℕ) × BlockedBy level setup past session s other
     circle_blocks [] c = absurd c
-    circle_blocks (first ∷ rest) (own, chain) = chain_blocks rest session chain
+    circle_blocks (first ∷ rest) (own, once, chain) = chain_blocks rest session chain
 
     -- what somebody blocks isn't free
     not_free : (outcome : Outcome) → IsFree level setup past session s → HeldAnswer level setup past session s outcome → ⊥

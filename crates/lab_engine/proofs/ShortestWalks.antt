@@ -1,18 +1,20 @@
 -- Turns of a search back from a goal: each reaches those that are one step further from it.
 use Rattle.std.proofs.Common.{◌≡◌, ℕ, suc, ◌+◌, ◌≤◌, ◌<◌, refl, ap, subst, ◌∙◌, sym, arith, Bool, true, false, cond, List, [], ◌∷◌, ◌++◌, length}
 use Rattle.std.specs.Prelude.{◌==◌, IsTrue}
-use Rattle.std.specs.List.{All}
-use Rattle.std.proofs.lemmas.Bool.{eqb-true, both_ways}
+use Rattle.std.specs.List.{All, list_any}
+use Rattle.std.proofs.lemmas.Bool.{eqb-true, both_ways, or_parts}
+use Rattle.lab_history.specs.HistoryRules.{AllDistinct}
 use Rattle.lab_engine.specs.declared.circle.WaitEdge.{WaitEdge}
 use Rattle.lab_engine.specs.declared.waits.Wait.{Wait}
 use Rattle.lab_engine.specs.WaitsFor.{waits_for, IsWalk}
 use Rattle.lab_engine.specs.WaitEdges.{is_reached, trail, IsNewWaitEdge, AreWaitEdges}
-use Rattle.lab_engine.proofs.Walks.{goal_reached, more_edges}
+use Rattle.lab_engine.proofs.Walks.{goal_reached, more_edges, off_trail}
 
--- after so many turns: no trail has more sessions, all whose walk to the goal is shorter are reached, and no walk from the goal back to it is
+-- after so many turns: no trail has more sessions, nobody is on one twice, all whose walk to the goal is shorter are reached, and no walk from the goal back to it is
 pub record IsSearched (graph : List Wait) (goal : ℕ) (edges : List WaitEdge) (turns : ℕ) : Type 0 where
   pub lead : AreWaitEdges graph goal edges
   pub short : (session : ℕ) → length (trail edges session) ≤ turns
+  pub once : (session : ℕ) → AllDistinct (trail edges session)
   pub all : (session : ℕ) (rest : List ℕ) → IsWalk graph session rest goal → length rest < turns → IsTrue (is_reached edges goal session)
   pub none : (rest : List ℕ) → IsWalk graph goal rest goal → turns ≤ length rest
 
@@ -45,6 +47,27 @@ trails_grow waits goal turns edges (edge ∷ new) all short session = at (trails
     at rest true = let le : length (trail (new ++ edges) edge.next) ≤ turns = next_short in omega (arith, le)
     at rest false = rest
 
+-- nobody is on one twice
+trails_once : (waits : List Wait) (goal : ℕ) (edges new : List WaitEdge) → All (IsNewWaitEdge waits edges goal) new → ((session : ℕ) → AllDistinct (trail edges session))
+    → (session : ℕ) → AllDistinct (trail (new ++ edges) session)
+trails_once waits goal edges [] all once session = once session
+trails_once waits goal edges (edge ∷ new) all once session = at (trails_once waits goal edges new behind once session) (edge.session == session) refl
+  where
+    behind : All (IsNewWaitEdge waits edges goal) new
+    behind k d lt = all (suc k) d (omega arith)
+
+    first : IsNewWaitEdge waits edges goal edge
+    first = all 0 edge (omega arith)
+
+    unreached : (edge.session == session) ≡ true → list_any (λ e. e.session == session) edges ≡ false
+    unreached q = subst (λ k. list_any (λ (e : WaitEdge). e.session == k) edges ≡ false) (eqb-true edge.session session q) (or_parts (edge.session == goal) (list_any (λ (e : WaitEdge). e.session == edge.session) edges) first.new).1
+
+    at : AllDistinct (trail (new ++ edges) session) → (own : Bool) → (edge.session == session) ≡ own
+        → AllDistinct (cond own (session ∷ trail (new ++ edges) edge.next) (trail (new ++ edges) session))
+    at rest true q = subst (λ t. AllDistinct (session ∷ t)) (sym (trail_skips waits goal edges new behind edge.next first.reached))
+        (off_trail edges edge.next session (unreached q), once edge.next)
+    at rest false q = rest
+
 -- where a turn finds nobody, nobody who isn't reached waits for one who is
 pub nobody_new : (waits : List Wait) (edges new : List WaitEdge) (goal : ℕ) → new ≡ []
     → ((session other : ℕ) → IsTrue (waits_for waits session other) → IsTrue (is_reached edges goal other) → IsTrue (is_reached (new ++ edges) goal session))
@@ -63,6 +86,7 @@ pub search_goes_on : (waits : List Wait) (goal turns : ℕ) (edges new : List Wa
 search_goes_on waits goal turns edges new h fresh all none = record {
   lead = more_edges waits goal edges new h.lead fresh;
   short = trails_grow waits goal turns edges new fresh h.short;
+  once = trails_once waits goal edges new fresh h.once;
   all = reached;
   none = longer;
 }

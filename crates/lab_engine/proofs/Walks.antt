@@ -2,10 +2,11 @@
 use Rattle.std.proofs.Common.{◌≡◌, ℕ, zero, suc, ◌≤◌, refl, ap, subst, ◌∙◌, arith, Bool, true, false, cond, ◌||◌, ◌&&◌, List, [], ◌∷◌, ◌++◌, ◌⊎◌, inl, inr, length, take}
 use Rattle.std.specs.Prelude.{◌==◌, ◌↔◌, not, IsTrue, IfSome, Option, Some, None, is_some}
 use Rattle.std.specs.List.{All, Contains, list_any}
-use Rattle.std.proofs.lemmas.Bool.{eq-eqb, eqb-true, eqb-false, ne_eqb, both_ways, or_cases, or_parts, or_right, and_parts, and_from}
+use Rattle.std.proofs.lemmas.Bool.{eq-eqb, eqb-true, eqb-false, ne_eqb, both_ways, or_cases, or_parts, or_left, or_right, and_parts, and_from}
 use Rattle.std.proofs.lemmas.List.Folds.{list_any-append}
 use Rattle.std.proofs.lemmas.List.{take_all}
 use Rattle.lab_engine.specs.declared.circle.WaitEdge.{WaitEdge}
+use Rattle.lab_history.specs.HistoryRules.{AllDistinct}
 use Rattle.lab_engine.specs.declared.waits.Wait.{Wait}
 use Rattle.lab_engine.specs.WaitsFor.{waits_for, IsWalk, IsRound}
 use Rattle.lab_engine.specs.Released.{IsReleased}
@@ -57,23 +58,37 @@ trail_walks waits goal (edge ∷ edges) session at h first there = by (λ s a w 
     by rest true q = (first, rest at edge.next (subst (λ k. IsTrue (waits_for waits k edge.next)) (eqb-true edge.session at q) h.0.waits) h.0.reached)
     by rest false q = rest session at first (subst (λ b. IsTrue (at == goal || (b || list_any (λ edge. edge.session == at) edges))) q there)
 
--- nor do they pass the goal
-pub trail_avoids : (waits : List Wait) (goal : ℕ) (edges : List WaitEdge) (at : ℕ) → AreWaitEdges waits goal edges → Contains (trail edges at) goal → ⊥
-trail_avoids waits goal [] at h (k, lt, is) = absurd (omega arith)
-trail_avoids waits goal (edge ∷ edges) at h in_it = by (λ a. trail_avoids waits goal edges a h.1) (edge.session == at) refl in_it
+-- who is on the way has a hop
+pub trail_hops : (edges : List WaitEdge) (at session : ℕ) → IsTrue (list_any (λ m. m == session) (trail edges at)) → IsTrue (list_any (λ edge. edge.session == session) edges)
+trail_hops [] at session h = h
+trail_hops (edge ∷ edges) at session h = by (λ k. trail_hops edges k session) (edge.session == at) refl h
   where
-    first : (edge.session == at) ≡ true → at ≡ goal → ⊥
-    first q same = eqb-false edge.session goal h.0.apart (eqb-true edge.session at q ∙ same)
+    by : ((k : ℕ) → IsTrue (list_any (λ m. m == session) (trail edges k)) → IsTrue (list_any (λ e. e.session == session) edges)) → (own : Bool) → (edge.session == at) ≡ own
+        → IsTrue (list_any (λ m. m == session) (cond own (at ∷ trail edges edge.next) (trail edges at))) → IsTrue (edge.session == session || list_any (λ e. e.session == session) edges)
+    by rest true q t = elim (or_cases (at == session) (list_any (λ m. m == session) (trail edges edge.next)) t) [
+      | inl p ↦ or_left _ _ (ap (λ k. k == session) (eqb-true edge.session at q) ∙ p)
+      | inr p ↦ or_right _ _ (rest edge.next p)
+    ]
+    by rest false q t = or_right _ _ (rest at t)
 
-    by : ((a : ℕ) → Contains (trail edges a) goal → ⊥) → (own : Bool) → (edge.session == at) ≡ own → Contains (cond own (at ∷ trail edges edge.next) (trail edges at)) goal → ⊥
-    by rest true q (zero, lt, is) = first q is
-    by rest true q (suc k, lt, is) = rest edge.next (k, omega arith, is)
-    by rest false q c = rest at c
+-- where a session has no hop it isn't on the way
+pub off_trail : (edges : List WaitEdge) (at session : ℕ) → list_any (λ edge. edge.session == session) edges ≡ false → list_any (λ m. m == session) (trail edges at) ≡ false
+off_trail edges at session none = by (list_any (λ m. m == session) (trail edges at)) refl
+  where
+    by : (b : Bool) → list_any (λ m. m == session) (trail edges at) ≡ b → b ≡ false
+    by true q = absurd (both_ways _ none (trail_hops edges at session q))
+    by false q = refl
+
+-- the goal has no hop
+pub goal_rests : (waits : List Wait) (goal : ℕ) (edges : List WaitEdge) → AreWaitEdges waits goal edges → list_any (λ edge. edge.session == goal) edges ≡ false
+goal_rests waits goal [] h = refl
+goal_rests waits goal (edge ∷ edges) h = ap (λ b. b || list_any (λ (e : WaitEdge). e.session == goal) edges) h.0.apart ∙ goal_rests waits goal edges h.1
 
 -- one who waits for a session that is reached stands on a circle with those on the way
-pub trail_round : (waits : List Wait) (goal : ℕ) (edges : List WaitEdge) (first : ℕ) → AreWaitEdges waits goal edges → IsTrue (waits_for waits goal first) → IsTrue (is_reached edges goal first)
-    → IsRound waits goal (goal ∷ trail edges first)
-trail_round waits goal edges first h waits_on there = (refl, trail_walks waits goal edges goal first h waits_on there, trail_avoids waits goal edges first h)
+pub trail_round : (waits : List Wait) (goal : ℕ) (edges : List WaitEdge) (first : ℕ) → AreWaitEdges waits goal edges → AllDistinct (trail edges first) → IsTrue (waits_for waits goal first)
+    → IsTrue (is_reached edges goal first) → IsRound waits goal (goal ∷ trail edges first)
+trail_round waits goal edges first h once waits_on there =
+    (refl, trail_walks waits goal edges goal first h waits_on there, (off_trail edges first goal (goal_rests waits goal edges h), once))
 
 -- what is reached stays so behind more hops
 pub stays_reached : (new edges : List WaitEdge) (goal session : ℕ) → IsTrue (is_reached edges goal session) → IsTrue (is_reached (new ++ edges) goal session)
@@ -139,6 +154,6 @@ round_or_none waits session None other held round none = ((λ h. absurd (both_wa
   where
     from : IsReleased waits session → IsTrue false
     from (inl nobody) = absurd (both_ways _ (nobody other) held)
-    from (inr (rest, walk)) = absurd (none refl rest walk)
-round_or_none waits session (Some []) other held round none = absurd round
-round_or_none waits session (Some (first ∷ rest)) other held round none = ((λ h. inr (rest, round.1)), (λ h. refl))
+    from (inr ([], round)) = absurd round
+    from (inr (first ∷ rest, round)) = absurd (none refl rest round.1)
+round_or_none waits session (Some circle) other held round none = ((λ h. inr (circle, round)), (λ h. refl))

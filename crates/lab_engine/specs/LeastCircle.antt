@@ -35,3 +35,8 @@ NamesLeastOf level setup past session command outcome = (s : Statement) → comm
 -- so it is of the statement that a session waits with
 abbrev pub NamesLeastOfWaiting : Level → Table → Past → ℕ → Outcome → Type 0
 NamesLeastOfWaiting level setup past session outcome = (s : Statement) → waiting past session ≡ Some s → NamesLeastCircle level setup past session s outcome
+
+-- so it is of each event of a log
+abbrev pub AllNameLeast : Level → Table → Past → Type 0
+AllNameLeast level setup [] = ⊤
+AllNameLeast level setup (event ∷ past) = AllNameLeast level setup past × NamesLeastOf level setup past event.session event.command event.outcome

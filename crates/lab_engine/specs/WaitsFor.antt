@@ -4,6 +4,7 @@ use Rattle.std.specs.List.{list_any}
 use Rattle.std.specs.List.Sorted.{IsStrictlyIncreasing}
 use Rattle.lab_table.specs.Table.{Table}
 use Rattle.lab_table.specs.declared.statement.Statement.{Statement}
+use Rattle.lab_history.specs.HistoryRules.{AllDistinct}
 use Rattle.lab_engine.specs.declared.event.Level.{Level}
 use Rattle.lab_engine.specs.declared.waits.Wait.{Wait}
 use Rattle.lab_engine.specs.Log.{Past, waiting}
@@ -18,10 +19,10 @@ abbrev pub IsWalk : List Wait → ℕ → List ℕ → ℕ → Type 0
 IsWalk waits session [] goal = IsTrue (waits_for waits session goal)
 IsWalk waits session (next ∷ rest) goal = IsTrue (waits_for waits session next) × IsWalk waits next rest goal
 
--- a list is a circle: it begins with this session, which isn't in it again, and goes from it back to it
+-- a list is a circle: it begins with this session, goes from it back to it, and nobody stands in it twice
 abbrev pub IsRound : List Wait → ℕ → List ℕ → Type 0
 IsRound waits session [] = ⊥
-IsRound waits session (first ∷ rest) = (first ≡ session) × IsWalk waits session rest session × ¬ Contains rest session
+IsRound waits session (first ∷ rest) = (first ≡ session) × IsWalk waits session rest session × AllDistinct (first ∷ rest)
 
 -- these are the sessions that block a session's statement, by rising number
 pub record AreBlockers (level : Level) (setup : Table) (past : Past) (session : ℕ) (s : Statement) (on : List ℕ) : Type 0 where

@@ -43,7 +43,7 @@ pub use journal::Journal;
 pub use laws::{law_of_begins, law_of_commits, law_of_locks, law_of_numbers, law_of_records};
 pub use pending::{holds_write, version_seen};
 pub use recording::{RecordFault, Recording};
-pub use recording_laws::{law_of_installers, law_of_views};
+pub use recording_laws::{law_of_installers, law_of_views, recording_unique};
 pub use rules::{Conflict, Rules};
 pub use situation::{RunningTxn, SessionState, Situation};
 pub use version::{Version, Versions};

@@ -55,7 +55,8 @@ fn alike_statements(alloc: Global, a: &Statement, b: &Statement) -> Option<bool>
     Some(text == print_statement(alloc, b).ok()?)
 }
 
-fn alike_commands(alloc: Global, a: &Command, b: &Command) -> Option<bool> {
+/// Whether two commands are the same; statements are where they have one text. None where memory is refused.
+pub fn alike_commands(alloc: Global, a: &Command, b: &Command) -> Option<bool> {
     match (a, b) {
         (Command::Run(statement), Command::Run(other)) => alike_statements(alloc, statement, other),
         (Command::Begin, Command::Begin) => Some(true),

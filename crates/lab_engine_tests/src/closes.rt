@@ -2,41 +2,21 @@
 
 ghost use Rattle.std.specs.Prelude.{◌≡◌, []};
 
+use crate::handed::{Handed, Spoil, handed_over};
 use crate::listings::{LISTINGS, listing};
-use crate::plain_close::{is_answered, plain_fault};
+use crate::plain_close::plain_fault;
 use lab_engine::{Engine, EngineFault, LogEvent, Outcome};
 use lab_locking::LockEngine;
-use lab_script::{Script, parse_script};
-use lab_session::{Bench, CloseFault, Lab, Seat};
-use lab_table::{Command, NoMemory, Session, Table};
+use lab_script::{Line, Script, parse_script};
+use lab_session::{Bench, CloseFault};
+use lab_table::{Session, Table};
 use lab_versions::{CommittedEngine, SnapshotEngine};
 use std::alloc::Global;
+use std::process::Abort;
 use std::sync::Wait;
 use std::test::Fail;
 
-/// How the seats come to differ from the log.
-#[derive(Clone, Copy)]
-enum Spoil {
-    Nothing,
-    /// A command isn't given.
-    LeftOut,
-    /// A command is given twice.
-    GivenTwice,
-    /// A command is given behind the next one.
-    Exchanged,
-    /// Another session has a command before it, so that what follows has other places.
-    Moved,
-    /// Row 1 has another value at the begin.
-    OtherValue,
-    /// A seat isn't handed in.
-    SeatMissing,
-    /// A second seat of a session is handed in.
-    SeatRepeated,
-    /// Seats of more sessions are handed in.
-    MoreSeats,
-}
-
-const SPOILS: [Spoil; 9] = [
+static SPOILS: [Spoil; 9] = [
     Spoil::Nothing,
     Spoil::LeftOut,
     Spoil::GivenTwice,
@@ -95,129 +75,33 @@ fn benched<E: Engine + Drop>(alloc: Global, engine: E, script: &Script) -> Optio
     requires { E.events engine ≡ [] }
 {
     let mut bench = Bench::new(engine);
-    for line in script.lines.as_slice() {
+    let ran = run_lines(alloc, &mut bench, script.lines.as_slice());
+    ran.and(Some(bench))
+}
+
+/// Gives a bench these lines; None where memory is refused.
+fn run_lines<E: Engine + Drop>(alloc: Global, bench: &mut Bench<E>, lines: &[Line]) -> Option<()> {
+    for line in lines {
         if !bench.is_waiting(line.session) {
-            bench.step(alloc, line.session, &line.command).ok()?;
+            drop(bench.step(alloc, line.session, &line.command).ok()?);
         }
         if let Some(session) = bench.retryable() {
-            if bench.is_waiting(session) {
-                bench.retry(alloc, session).ok()?;
-            }
+            retry(alloc, bench, session)?;
         }
     }
-    Some(bench)
+    Some(())
 }
 
-/// The events of a log that a lab is to run, by their index; past its end for a command of another session.
-fn plan(alloc: Global, count: usize, spoil: Spoil, at: usize) -> Result<Vec<usize>, NoMemory> {
-    let mut plan = Vec::new(alloc);
-    for index in 0..count {
-        if index != at {
-            plan.push(index)?;
-            continue;
-        }
-        match spoil {
-            Spoil::LeftOut => {}
-            Spoil::GivenTwice => plan.extend_from_slice(&[index, index])?,
-            Spoil::Moved => plan.extend_from_slice(&[count, index])?,
-            _ => plan.push(index)?,
-        }
+/// Retries a session where it waits.
+fn retry<E: Engine + Drop>(alloc: Global, bench: &mut Bench<E>, session: Session) -> Option<()> {
+    if bench.is_waiting(session) {
+        drop(bench.retry(alloc, session).ok()?);
     }
-    if let Spoil::Exchanged = spoil {
-        if at < plan.len().saturating_sub(1) {
-            plan.swap(at, at + 1);
-        }
-    }
-    Ok(plan)
-}
-
-/// The session and the command of an answered event, or else a command that session 9 has in its place.
-fn asked(alloc: Global, event: Option<&LogEvent>) -> Option<(Session, Command)> {
-    match event {
-        Some(event) if is_answered(&event.outcome) => {
-            Some((event.session, event.command.copy(alloc).ok()?))
-        }
-        _ => Some((Session::new(9)?, Command::Commit)),
-    }
-}
-
-/// The seats of nine sessions, after a lab has run what is planned. It ends where a command would wait, as the shadow
-/// says, which runs the same.
-fn seated<R: Wait, E: Engine + Drop>(
-    rt: &R,
-    alloc: Global,
-    engine: E,
-    shadow: E,
-    log: &[LogEvent],
-    plan: &[usize],
-) -> Option<Vec<Seat>>
-    requires engine { E.events engine ≡ [] }
-    requires shadow { E.events shadow ≡ [] }
-{
-    let mut shadow = Bench::new(shadow);
-    let (lab, mut seats) = Lab::start(alloc, engine, 9).ok()?;
-    for index in plan {
-        let (session, command) = asked(alloc, log.get(*index))?;
-        let receipt = shadow.step(alloc, session, &command).ok()?;
-        let place = usize::from(session.number()) - 1;
-        if !is_answered(&receipt.outcome) || place >= seats.len() {
-            break;
-        }
-        let seat = lab.submit(rt, alloc, seats.remove(place), command).ok()?;
-        seats.insert(place, seat).ok()?;
-    }
-    Some(seats)
-}
-
-/// A new seat of the session at a place.
-fn spare(alloc: Global, place: usize) -> Option<Seat> {
-    let engine = SnapshotEngine::new(alloc, Table::new(alloc));
-    let (_lab, mut seats) = Lab::start(alloc, engine, 9).ok()?;
-    if place < seats.len() {
-        Some(seats.remove(place))
-    } else {
-        None
-    }
-}
-
-/// Seats, and their sessions.
-#[derive(Drop)]
-struct Handed {
-    owners: Vec<Session>,
-    seats: Vec<Seat>,
-}
-
-/// What is handed in of the seats of nine sessions.
-fn hand_in(alloc: Global, seats: Vec<Seat>, spoil: Spoil, at: usize) -> Option<Handed> {
-    let mut seats = seats;
-    let mut owners = Vec::new(alloc);
-    for number in 1..10u8 {
-        owners.push(Session::new(number)?).ok()?;
-    }
-    let place = at % 3;
-    match spoil {
-        Spoil::MoreSeats => {}
-        _ => {
-            seats.truncate(3);
-            owners.truncate(3);
-        }
-    }
-    match spoil {
-        Spoil::SeatMissing if place < seats.len() && place < owners.len() => {
-            seats.remove(place);
-            owners.remove(place);
-        }
-        Spoil::SeatRepeated => {
-            seats.push(spare(alloc, place)?).ok()?;
-            owners.push(Session::new(place as u8 + 1)?).ok()?;
-        }
-        _ => {}
-    }
-    Some(Handed { owners, seats })
+    Some(())
 }
 
 /// Why a bench isn't closed, by its own body and by the plainer one.
-#[derive(Drop)]
+#[derive(Clone, Copy)]
 struct Both {
     closed: Option<CloseFault>,
     plain: Option<CloseFault>,
@@ -248,25 +132,87 @@ fn end_by_both<R: Wait, E: Engine + Drop>(
     requires shadow { E.events engines.2 ≡ [] }
 {
     let (of_bench, engine, shadow) = engines;
-    let bench = benched(alloc, of_bench, script)?;
-    let recording = bench.close(alloc, 0, &[]).ok()?;
-    let log = recording.log();
-    let plan = plan(alloc, log.len(), spoil, at).ok()?;
-    let seats = seated(rt, alloc, engine, shadow, log, &plan)?;
-    let handed = hand_in(alloc, seats, spoil, at)?;
+    let Some(bench) = benched(alloc, of_bench, script) else {
+        drop(engine);
+        drop(shadow);
+        return None;
+    };
+    let both = close_by_both(rt, alloc, &bench, engine, shadow, spoil, at);
+    drop(bench);
+    both
+}
+
+/// A bench, closed with the seats of a lab of three sessions.
+fn close_by_both<R: Wait, E: Engine + Drop>(
+    rt: &R,
+    alloc: Global,
+    bench: &Bench<E>,
+    engine: E,
+    shadow: E,
+    spoil: Spoil,
+    at: usize,
+) -> Option<Both>
+    requires engine { E.events engine ≡ [] }
+    requires shadow { E.events shadow ≡ [] }
+{
+    let Some(recording) = bench.close(alloc, 0, &[]).ok() else {
+        drop(engine);
+        drop(shadow);
+        return None;
+    };
+    let handed = handed_over(rt, alloc, engine, shadow, recording.log(), spoil, at);
+    let both = closed_by_both(alloc, bench, recording.log(), handed);
+    drop(recording);
+    both
+}
+
+/// How a bench is closed with what is handed in.
+fn closed_by_both<E: Engine + Drop>(
+    alloc: Global,
+    bench: &Bench<E>,
+    log: &[LogEvent],
+    handed: Option<Handed>,
+) -> Option<Both> {
+    let handed = handed?;
+    let closed = bench.close(alloc, 3, &handed.seats).err();
+    let plain = plain_fault(alloc, log, 3, &handed.owners, &handed.seats);
+    drop(handed);
     Some(Both {
-        closed: bench.close(alloc, 3, &handed.seats).err(),
-        plain: plain_fault(alloc, log, 3, &handed.owners, &handed.seats),
+        closed,
+        plain,
         deadlocks: has_deadlock(log),
     })
 }
 
 /// The table that a lab begins with.
-fn start(alloc: Global, script: &Script, other: &Script, spoil: Spoil) -> Option<Table> {
+fn start(alloc: Global, script: &Script, spoil: Spoil) -> Option<Table> {
     match spoil {
-        Spoil::OtherValue => other.setup.copy(alloc).ok(),
+        Spoil::OtherValue => other_table(alloc),
         _ => script.setup.copy(alloc).ok(),
     }
+}
+
+/// The table where row 1 has another value.
+fn other_table(alloc: Global) -> Option<Table> {
+    let other = parse_script(alloc, OTHER).ok()?;
+    let table = other.setup.copy(alloc).ok();
+    drop(other);
+    table
+}
+
+/// What a bench, a lab and its shadow begin with.
+#[derive(Drop)]
+struct Tables {
+    bench: Table,
+    lab: Table,
+    shadow: Table,
+}
+
+fn tables_of(alloc: Global, script: &Script, spoil: Spoil) -> Option<Tables> {
+    let bench = script.setup.copy(alloc).ok()?;
+    let lab = start(alloc, script, spoil)?;
+    let shadow = start(alloc, script, spoil)?;
+    Some(Tables { bench, lab, shadow })
 }
 
 /// The same on the engine that a number names.
@@ -279,49 +225,98 @@ fn both_on<R: Wait>(
     at: usize,
 ) -> Option<Both> {
     let script = parse_script(alloc, text).ok()?;
-    let other = parse_script(alloc, OTHER).ok()?;
-    let of_bench = script.setup.copy(alloc).ok()?;
-    let of_lab = start(alloc, &script, &other, spoil)?;
-    let of_shadow = start(alloc, &script, &other, spoil)?;
+    let both = both_of(rt, alloc, number, &script, spoil, at);
+    drop(script);
+    both
+}
+
+fn both_of<R: Wait>(
+    rt: &R,
+    alloc: Global,
+    number: u32,
+    script: &Script,
+    spoil: Spoil,
+    at: usize,
+) -> Option<Both> {
+    let tables = tables_of(alloc, script, spoil)?;
     match number {
-        0 => {
-            let engines = (
-                LockEngine::new(alloc, of_bench),
-                LockEngine::new(alloc, of_lab),
-                LockEngine::new(alloc, of_shadow),
-            );
-            end_by_both(rt, alloc, &script, engines, spoil, at)
-        }
-        1 => {
-            let engines = (
-                CommittedEngine::new(alloc, of_bench),
-                CommittedEngine::new(alloc, of_lab),
-                CommittedEngine::new(alloc, of_shadow),
-            );
-            end_by_both(rt, alloc, &script, engines, spoil, at)
-        }
-        _ => {
-            let engines = (
-                SnapshotEngine::new(alloc, of_bench),
-                SnapshotEngine::new(alloc, of_lab),
-                SnapshotEngine::new(alloc, of_shadow),
-            );
-            end_by_both(rt, alloc, &script, engines, spoil, at)
-        }
+        0 => on_locking(rt, alloc, script, tables, spoil, at),
+        1 => on_committed(rt, alloc, script, tables, spoil, at),
+        _ => on_snapshot(rt, alloc, script, tables, spoil, at),
     }
 }
 
-/// Whether both bodies answer alike at the end of each run of a script; where nothing is spoiled, nothing but for a
-/// deadlock. What is spoiled stands at the events from an index on.
+fn on_locking<R: Wait>(
+    rt: &R,
+    alloc: Global,
+    script: &Script,
+    tables: Tables,
+    spoil: Spoil,
+    at: usize,
+) -> Option<Both> {
+    let Tables { bench, lab, shadow } = tables;
+    let engines = (
+        LockEngine::new(alloc, bench),
+        LockEngine::new(alloc, lab),
+        LockEngine::new(alloc, shadow),
+    );
+    end_by_both(rt, alloc, script, engines, spoil, at)
+}
+
+fn on_committed<R: Wait>(
+    rt: &R,
+    alloc: Global,
+    script: &Script,
+    tables: Tables,
+    spoil: Spoil,
+    at: usize,
+) -> Option<Both> {
+    let Tables { bench, lab, shadow } = tables;
+    let engines = (
+        CommittedEngine::new(alloc, bench),
+        CommittedEngine::new(alloc, lab),
+        CommittedEngine::new(alloc, shadow),
+    );
+    end_by_both(rt, alloc, script, engines, spoil, at)
+}
+
+fn on_snapshot<R: Wait>(
+    rt: &R,
+    alloc: Global,
+    script: &Script,
+    tables: Tables,
+    spoil: Spoil,
+    at: usize,
+) -> Option<Both> {
+    let Tables { bench, lab, shadow } = tables;
+    let engines = (
+        SnapshotEngine::new(alloc, bench),
+        SnapshotEngine::new(alloc, lab),
+        SnapshotEngine::new(alloc, shadow),
+    );
+    end_by_both(rt, alloc, script, engines, spoil, at)
+}
+
+/// Whether both bodies answer alike at the end of a run; where nothing is spoiled, nothing but for a deadlock.
+fn is_alike<R: Wait>(
+    rt: &R,
+    alloc: Global,
+    number: u32,
+    text: &[u8],
+    spoil: Spoil,
+    at: usize,
+) -> Option<bool> {
+    let both = both_on(rt, alloc, number, text, spoil, at)?;
+    let is_due = !matches!(spoil, Spoil::Nothing) || both.closed.is_some() == both.deadlocks;
+    Some(is_due && both.closed == both.plain)
+}
+
+/// Whether it is so at the end of each run of a script. What is spoiled stands at the events from an index on.
 fn are_alike<R: Wait>(rt: &R, alloc: Global, text: &[u8], from: usize, to: usize) -> Option<bool> {
     for number in 0..3u32 {
-        for spoil in SPOILS {
+        for spoil in &SPOILS {
             for at in from..to {
-                let both = both_on(rt, alloc, number, text, spoil, at)?;
-                if both.closed != both.plain {
-                    return Some(false);
-                }
-                if matches!(spoil, Spoil::Nothing) && both.closed.is_some() != both.deadlocks {
+                if !is_alike(rt, alloc, number, text, *spoil, at)? {
                     return Some(false);
                 }
             }
@@ -346,40 +341,34 @@ fn runs_end_as_by_a_plainer_body(rt: HostRuntime) -> Result<(), Fail> {
     Ok(())
 }
 
-/// How the plain script's run ends on the locking engine.
-fn ended<R: Wait>(
+/// Fails where the plain script's run doesn't end so on the locking engine.
+fn shows_end<R: Wait + Abort>(
     rt: &R,
     alloc: Global,
     spoil: Spoil,
     at: usize,
-) -> Result<Option<CloseFault>, Fail> {
-    let Some(both) = both_on(rt, alloc, 0, PLAIN, spoil, at) else {
-        return Err(Fail::from("a run"));
-    };
-    Ok(both.closed)
+    due: Option<CloseFault>,
+) -> Result<(), &'static str> {
+    let both = both_on(rt, alloc, 0, PLAIN, spoil, at).ok_or("a run")?;
+    assert_eq!(rt; both.closed, due);
+    Ok(())
 }
 
 #[test]
 fn spoiled_seats_are_told(rt: HostRuntime) -> Result<(), Fail> {
-    let alloc = rt.alloc();
     let one = Session::new(1).ok_or("a session")?;
     let two = Session::new(2).ok_or("a session")?;
     let differs = |session, place| Some(CloseFault::ReceiptDiffers { session, place });
-    assert_eq!(rt; ended(&rt, alloc, Spoil::Nothing, 0)?, None);
-    assert_eq!(rt; ended(&rt, alloc, Spoil::LeftOut, 1)?, differs(one, 2));
-    assert_eq!(rt; ended(&rt, alloc, Spoil::LeftOut, 5)?, differs(two, 3));
-    assert_eq!(rt; ended(&rt, alloc, Spoil::GivenTwice, 5)?, differs(two, 4));
-    assert_eq!(rt; ended(&rt, alloc, Spoil::Exchanged, 2)?, differs(two, 1));
-    assert_eq!(rt; ended(&rt, alloc, Spoil::Moved, 4)?, differs(one, 3));
-    assert_eq!(rt; ended(&rt, alloc, Spoil::OtherValue, 0)?, differs(one, 2));
-    let session = two;
-    assert_eq!(rt;
-        ended(&rt, alloc, Spoil::SeatMissing, 1)?,
-        Some(CloseFault::SeatMissing { session })
-    );
-    assert_eq!(rt;
-        ended(&rt, alloc, Spoil::SeatRepeated, 1)?,
-        Some(CloseFault::SeatRepeated { session })
-    );
+    let missing = Some(CloseFault::SeatMissing { session: two });
+    let repeated = Some(CloseFault::SeatRepeated { session: two });
+    shows_end(&rt, rt.alloc(), Spoil::Nothing, 0, None)?;
+    shows_end(&rt, rt.alloc(), Spoil::LeftOut, 1, differs(one, 2))?;
+    shows_end(&rt, rt.alloc(), Spoil::LeftOut, 5, differs(two, 3))?;
+    shows_end(&rt, rt.alloc(), Spoil::GivenTwice, 5, differs(two, 4))?;
+    shows_end(&rt, rt.alloc(), Spoil::Exchanged, 2, differs(two, 1))?;
+    shows_end(&rt, rt.alloc(), Spoil::Moved, 4, differs(one, 3))?;
+    shows_end(&rt, rt.alloc(), Spoil::OtherValue, 0, differs(one, 2))?;
+    shows_end(&rt, rt.alloc(), Spoil::SeatMissing, 1, missing)?;
+    shows_end(&rt, rt.alloc(), Spoil::SeatRepeated, 1, repeated)?;
     Ok(())
 }

@@ -5,15 +5,15 @@ ghost use Rattle.std.specs.Prelude.{◌≡◌, []};
 use crate::alike::{alike_logs, alike_outcomes};
 use crate::listings::{LISTINGS, listing};
 use crate::plain::PlainEngine;
-use crate::plain_recording::plain_history;
-use crate::recordings::same_text;
-use lab_engine::{Engine, Level, Recording};
+use crate::recordings::is_plain;
+use lab_engine::{Engine, Level, LogEvent, Outcome, Recording};
 use lab_locking::LockEngine;
-use lab_script::{Script, parse_script};
+use lab_script::{Line, Script, parse_script};
 use lab_session::play_script;
-use lab_table::{Command, NoMemory, Session};
+use lab_table::{Command, NoMemory, Session, Table};
 use lab_versions::{CommittedEngine, SnapshotEngine};
 use std::alloc::Global;
+use std::process::Abort;
 use std::test::Fail;
 
 /// Each row of a script in `test` has a number below this one; of `stock` there are rows 1 and 2.
@@ -80,6 +80,17 @@ fn made_script(alloc: Global, seed: u32) -> Result<Vec<u8>, NoMemory> {
     Ok(text)
 }
 
+/// Whether two answers are alike; None where one of them had no memory.
+fn alike_answers(outcome: Option<Outcome>, due: Option<Outcome>) -> Option<bool> {
+    let alike = match (&outcome, &due) {
+        (Some(outcome), Some(due)) => Some(alike_outcomes(outcome, due)),
+        _ => None,
+    };
+    drop(outcome);
+    drop(due);
+    alike
+}
+
 /// Whether both answer alike to a command of a session, and find the same session retryable then.
 fn step_alike<E: Engine>(
     alloc: Global,
@@ -91,9 +102,9 @@ fn step_alike<E: Engine>(
     if engine.log().len() >= 100_000 {
         return None;
     }
-    let outcome = engine.step(alloc, session, command).ok()?;
-    let due = plain.step(alloc, session, command)?;
-    Some(alike_outcomes(&outcome, &due) && engine.retryable() == plain.retryable(alloc)?)
+    let outcome = engine.step(alloc, session, command).ok();
+    let alike = alike_answers(outcome, plain.step(alloc, session, command))?;
+    Some(alike && engine.retryable() == plain.retryable(alloc)?)
 }
 
 /// The same of a retry of a session that waits.
@@ -106,9 +117,9 @@ fn retry_alike<E: Engine>(
     if engine.log().len() >= 100_000 || !engine.is_waiting(session) {
         return None;
     }
-    let outcome = engine.retry(alloc, session).ok()?;
-    let due = plain.retry(alloc, session)?;
-    Some(alike_outcomes(&outcome, &due) && engine.retryable() == plain.retryable(alloc)?)
+    let outcome = engine.retry(alloc, session).ok();
+    let alike = alike_answers(outcome, plain.retry(alloc, session))?;
+    Some(alike && engine.retryable() == plain.retryable(alloc)?)
 }
 
 /// The same of all that is done at a line: at two of three lines the retryable session is retried; the command is
@@ -137,51 +148,79 @@ fn line_alike<E: Engine>(
     Some(true)
 }
 
-/// Whether an engine answers as a plain one, event for event, and both have the same log in the end.
-fn runs_alike<E: Engine + Drop>(alloc: Global, engine: E, script: &Script) -> Option<bool> {
-    let mut engine = engine;
-    let setup = engine.setup().copy(alloc).ok()?;
-    let mut plain = PlainEngine::new(alloc, engine.level(), setup, BELOW)?;
-    for (place, line) in script.lines.as_slice().iter().enumerate() {
-        if !line_alike(
-            alloc,
-            &mut engine,
-            &mut plain,
-            place,
-            line.session,
-            &line.command,
-        )? {
+/// Whether an engine answers as a plain one to these lines, event for event, and both have the same log in the end.
+fn lines_alike<E: Engine>(
+    alloc: Global,
+    engine: &mut E,
+    plain: &mut PlainEngine,
+    lines: &[Line],
+) -> Option<bool> {
+    for (place, line) in lines.iter().enumerate() {
+        if !line_alike(alloc, engine, plain, place, line.session, &line.command)? {
             return Some(false);
         }
     }
     alike_logs(alloc, engine.log(), &plain.log)
 }
 
-/// What a plain engine logs that is given the calls of a recording: a retry where it finds a session retryable, and else
-/// the event's command.
-fn followed(alloc: Global, recording: &Recording) -> Option<PlainEngine> {
-    let setup = recording.setup().copy(alloc).ok()?;
-    let mut plain = PlainEngine::new(alloc, recording.level(), setup, BELOW)?;
-    for event in recording.log() {
-        match plain.retryable(alloc)? {
-            Some(session) => plain.retry(alloc, session)?,
-            None => plain.step(alloc, event.session, &event.command)?,
-        };
-    }
-    Some(plain)
+/// A plain engine of this level on a copy of this table.
+fn plain_engine(alloc: Global, level: Level, setup: &Table) -> Option<PlainEngine> {
+    PlainEngine::new(alloc, level, setup.copy(alloc).ok()?, BELOW)
 }
 
-/// Whether a play of a script has the log of a plain engine, and the history of that log.
+/// The same of a script.
+fn runs_alike<E: Engine + Drop>(alloc: Global, engine: E, script: &Script) -> Option<bool> {
+    let mut engine = engine;
+    let Some(plain) = plain_engine(alloc, engine.level(), engine.setup()) else {
+        drop(engine);
+        return None;
+    };
+    let mut plain = plain;
+    let alike = lines_alike(alloc, &mut engine, &mut plain, script.lines.as_slice());
+    drop(engine);
+    drop(plain);
+    alike
+}
+
+/// Gives a plain engine the calls of a log: a retry where it finds a session retryable, and else the event's command.
+fn follow(alloc: Global, plain: &mut PlainEngine, log: &[LogEvent]) -> Option<()> {
+    for event in log {
+        let answer = match plain.retryable(alloc)? {
+            Some(session) => plain.retry(alloc, session),
+            None => plain.step(alloc, event.session, &event.command),
+        };
+        drop(answer?);
+    }
+    Some(())
+}
+
+/// Whether a plain engine that is given a recording's calls has its log then, and the history of that log is its
+/// history.
+fn follows_alike(alloc: Global, plain: &mut PlainEngine, recording: &Recording) -> Option<bool> {
+    follow(alloc, plain, recording.log())?;
+    if !alike_logs(alloc, recording.log(), &plain.log)? {
+        return Some(false);
+    }
+    is_plain(alloc, recording.history(), &plain.setup, &plain.log, BELOW)
+}
+
+/// Whether it is so of a plain engine of the recording's level and table.
+fn is_followed(alloc: Global, recording: &Recording) -> Option<bool> {
+    let plain = plain_engine(alloc, recording.level(), recording.setup())?;
+    let mut plain = plain;
+    let alike = follows_alike(alloc, &mut plain, recording);
+    drop(plain);
+    alike
+}
+
+/// Whether it is so of the play of a script.
 fn plays_alike<E: Engine + Drop>(alloc: Global, engine: E, script: &Script) -> Option<bool>
     requires { E.events engine ≡ [] }
 {
     let recording = play_script(alloc, engine, script).ok()?;
-    let plain = followed(alloc, &recording)?;
-    let history = plain_history(alloc, &plain.setup, &plain.log, BELOW)?;
-    Some(
-        alike_logs(alloc, recording.log(), &plain.log)?
-            && same_text(alloc, recording.history(), &history)?,
-    )
+    let alike = is_followed(alloc, &recording);
+    drop(recording);
+    alike
 }
 
 /// The scripts by their numbers: the listings, and behind them those that are made.
@@ -189,44 +228,75 @@ fn script_of(alloc: Global, number: u32) -> Option<Script> {
     if number < LISTINGS {
         return parse_script(alloc, listing(number)).ok();
     }
-    parse_script(alloc, &made_script(alloc, number - LISTINGS).ok()?).ok()
+    let text = made_script(alloc, number - LISTINGS).ok()?;
+    let script = parse_script(alloc, &text).ok();
+    drop(text);
+    script
+}
+
+/// Whether the locking engine runs and plays a script as a plain one.
+fn locking_alike(alloc: Global, script: &Script) -> Option<bool> {
+    let engine = LockEngine::new(alloc, script.setup.copy(alloc).ok()?);
+    if !runs_alike(alloc, engine, script)? {
+        return Some(false);
+    }
+    let engine = LockEngine::new(alloc, script.setup.copy(alloc).ok()?);
+    plays_alike(alloc, engine, script)
+}
+
+/// Whether the committed engine runs and plays a script as a plain one.
+fn committed_alike(alloc: Global, script: &Script) -> Option<bool> {
+    let engine = CommittedEngine::new(alloc, script.setup.copy(alloc).ok()?);
+    if !runs_alike(alloc, engine, script)? {
+        return Some(false);
+    }
+    let engine = CommittedEngine::new(alloc, script.setup.copy(alloc).ok()?);
+    plays_alike(alloc, engine, script)
+}
+
+/// Whether the snapshot engine runs and plays a script as a plain one.
+fn snapshot_alike(alloc: Global, script: &Script) -> Option<bool> {
+    let engine = SnapshotEngine::new(alloc, script.setup.copy(alloc).ok()?);
+    if !runs_alike(alloc, engine, script)? {
+        return Some(false);
+    }
+    let engine = SnapshotEngine::new(alloc, script.setup.copy(alloc).ok()?);
+    plays_alike(alloc, engine, script)
+}
+
+/// Whether the engine of a level runs and plays the script of a number as a plain one.
+fn is_alike(alloc: Global, level: Level, number: u32) -> Option<bool> {
+    let script = script_of(alloc, number)?;
+    let alike = match level {
+        Level::Locking => locking_alike(alloc, &script),
+        Level::Committed => committed_alike(alloc, &script),
+        Level::Snapshot => snapshot_alike(alloc, &script),
+    };
+    drop(script);
+    alike
+}
+
+/// Fails where it isn't so of each script.
+fn shows_alike(rt: &impl Abort, alloc: Global, level: Level) {
+    for number in 0..LISTINGS + 200 {
+        assert_eq!(rt; is_alike(alloc, level, number), Some(true), "{number}");
+    }
 }
 
 #[test]
 fn the_locking_engine_answers_as_a_plain_one(rt: HostRuntime) -> Result<(), Fail> {
-    let alloc = rt.alloc();
-    for number in 0..LISTINGS + 200 {
-        let script = script_of(alloc, number).ok_or("a script")?;
-        let engine = LockEngine::new(alloc, script.setup.copy(alloc)?);
-        assert_eq!(rt; runs_alike(alloc, engine, &script), Some(true), "{number}");
-        let engine = LockEngine::new(alloc, script.setup.copy(alloc)?);
-        assert_eq!(rt; plays_alike(alloc, engine, &script), Some(true), "{number}");
-    }
+    shows_alike(&rt, rt.alloc(), Level::Locking);
     Ok(())
 }
 
 #[test]
 fn the_committed_engine_answers_as_a_plain_one(rt: HostRuntime) -> Result<(), Fail> {
-    let alloc = rt.alloc();
-    for number in 0..LISTINGS + 200 {
-        let script = script_of(alloc, number).ok_or("a script")?;
-        let engine = CommittedEngine::new(alloc, script.setup.copy(alloc)?);
-        assert_eq!(rt; runs_alike(alloc, engine, &script), Some(true), "{number}");
-        let engine = CommittedEngine::new(alloc, script.setup.copy(alloc)?);
-        assert_eq!(rt; plays_alike(alloc, engine, &script), Some(true), "{number}");
-    }
+    shows_alike(&rt, rt.alloc(), Level::Committed);
     Ok(())
 }
 
 #[test]
 fn the_snapshot_engine_answers_as_a_plain_one(rt: HostRuntime) -> Result<(), Fail> {
-    let alloc = rt.alloc();
-    for number in 0..LISTINGS + 200 {
-        let script = script_of(alloc, number).ok_or("a script")?;
-        let engine = SnapshotEngine::new(alloc, script.setup.copy(alloc)?);
-        assert_eq!(rt; runs_alike(alloc, engine, &script), Some(true), "{number}");
-        let engine = SnapshotEngine::new(alloc, script.setup.copy(alloc)?);
-        assert_eq!(rt; plays_alike(alloc, engine, &script), Some(true), "{number}");
-    }
+    shows_alike(&rt, rt.alloc(), Level::Snapshot);
     Ok(())
 }

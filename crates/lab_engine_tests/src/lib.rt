@@ -8,6 +8,8 @@ mod closes;
 #[cfg(test)]
 mod engines;
 #[cfg(test)]
+mod handed;
+#[cfg(test)]
 mod listings;
 #[cfg(test)]
 mod plain;

@@ -38,10 +38,14 @@ pub fn rows_below(alloc: Global, below: u32) -> Option<Vec<RowName>> {
 impl PlainEngine {
     /// An engine that has done nothing yet, on rows of `test` that have a number below this one, and two of `stock`.
     pub fn new(alloc: Global, level: Level, setup: Table, below: u32) -> Option<PlainEngine> {
+        let Some(rows) = rows_below(alloc, below) else {
+            drop(setup);
+            return None;
+        };
         Some(PlainEngine {
             level,
             setup,
-            rows: rows_below(alloc, below)?,
+            rows,
             log: Vec::new(alloc),
         })
     }
@@ -53,13 +57,20 @@ impl PlainEngine {
         } else {
             self.answer(alloc, session, command)?
         };
-        self.note(alloc, session, command.copy(alloc).ok()?, outcome)
+        let Ok(command) = command.copy(alloc) else {
+            drop(outcome);
+            return None;
+        };
+        self.note(alloc, session, command, outcome)
     }
 
     /// Runs the waiting statement of a session anew, and logs the answer.
     pub fn retry(&mut self, alloc: Global, session: Session) -> Option<Outcome> {
         let command = Command::Run(waiting(&self.log, session)?.copy(alloc).ok()?);
-        let outcome = self.answer(alloc, session, &command)?;
+        let Some(outcome) = self.answer(alloc, session, &command) else {
+            drop(command);
+            return None;
+        };
         self.note(alloc, session, command, outcome)
     }
 
@@ -70,15 +81,13 @@ impl PlainEngine {
         command: Command,
         outcome: Outcome,
     ) -> Option<Outcome> {
-        let answer = outcome.copy(alloc).ok()?;
-        self.log
-            .push(LogEvent {
-                session,
-                command,
-                outcome,
-            })
-            .ok()?;
-        Some(answer)
+        let answer = outcome.copy(alloc).ok();
+        let event = LogEvent {
+            session,
+            command,
+            outcome,
+        };
+        self.log.push(event).ok().and(answer)
     }
 
     /// What the rules answer to a command of a session that doesn't wait, or waits with this command.

@@ -1,87 +1,19 @@
 //! A plain body of a run's end, which walks the log anew for each seat.
 
-use lab_engine::{EngineFault, LogEvent, Outcome};
-use lab_script::print_statement;
+use crate::alike::{alike_commands, alike_outcomes};
+use lab_engine::{LogEvent, Outcome};
 use lab_session::{Call, CloseFault, Seat};
-use lab_table::{Command, Session, Statement};
+use lab_table::Session;
 use std::alloc::Global;
 
 pub fn is_answered(outcome: &Outcome) -> bool {
     !matches!(outcome, Outcome::Waits { .. })
 }
 
-/// Whether two statements have one text.
-fn same_statement(alloc: Global, a: &Statement, b: &Statement) -> bool {
-    let Ok(one) = print_statement(alloc, a) else {
-        return false;
-    };
-    let Ok(other) = print_statement(alloc, b) else {
-        return false;
-    };
-    one.as_slice() == other.as_slice()
-}
-
-fn same_command(alloc: Global, a: &Command, b: &Command) -> bool {
-    match (a, b) {
-        (Command::Begin, Command::Begin) => true,
-        (Command::Commit, Command::Commit) => true,
-        (Command::Abort, Command::Abort) => true,
-        (Command::Run(one), Command::Run(other)) => same_statement(alloc, one, other),
-        _ => false,
-    }
-}
-
-fn same_fault(a: &EngineFault, b: &EngineFault) -> bool {
-    match (a, b) {
-        (EngineFault::DuplicateKey { id: one }, EngineFault::DuplicateKey { id: other }) => {
-            *one == *other
-        }
-        (EngineFault::OutOfRange { id: one }, EngineFault::OutOfRange { id: other }) => {
-            *one == *other
-        }
-        (EngineFault::Deadlock { circle: one }, EngineFault::Deadlock { circle: other }) => {
-            one.as_slice() == other.as_slice()
-        }
-        (
-            EngineFault::WriteConflict { row, by },
-            EngineFault::WriteConflict {
-                row: other_row,
-                by: other_by,
-            },
-        ) => *row == *other_row && *by == *other_by,
-        (EngineFault::NoTransaction, EngineFault::NoTransaction) => true,
-        (EngineFault::AlreadyBegun, EngineFault::AlreadyBegun) => true,
-        (EngineFault::Busy, EngineFault::Busy) => true,
-        _ => false,
-    }
-}
-
-fn same_outcome(a: &Outcome, b: &Outcome) -> bool {
-    match (a, b) {
-        (Outcome::Begun(one), Outcome::Begun(other)) => *one == *other,
-        (
-            Outcome::Rows { view, rows, writes },
-            Outcome::Rows {
-                view: other_view,
-                rows: other_rows,
-                writes: other_writes,
-            },
-        ) => {
-            view.entries() == other_view.entries()
-                && rows.entries() == other_rows.entries()
-                && writes.entries() == other_writes.entries()
-        }
-        (Outcome::Committed, Outcome::Committed) => true,
-        (Outcome::Aborted, Outcome::Aborted) => true,
-        (Outcome::Refused(one), Outcome::Refused(other)) => same_fault(one, other),
-        _ => false,
-    }
-}
-
 fn is_call_at(alloc: Global, call: &Call, place: usize, event: &LogEvent) -> bool {
     call.receipt.place == place
-        && same_command(alloc, &call.command, &event.command)
-        && same_outcome(&call.receipt.outcome, &event.outcome)
+        && alike_commands(alloc, &call.command, &event.command) == Some(true)
+        && alike_outcomes(&call.receipt.outcome, &event.outcome)
 }
 
 /// The first place, counted from 1, at which a list isn't the calls of a session in a log.

@@ -34,6 +34,15 @@ pub fn ends(fault: &EngineFault) -> bool {
 /// The operations of the transaction with this number.
 fn ops_of(alloc: Global, log: &[LogEvent], number: TxnNo) -> Result<Vec<Op>, NoMemory> {
     let mut ops = Vec::new(alloc);
+    add_ops(alloc, &mut ops, log, number).and(Ok(ops))
+}
+
+fn add_ops(
+    alloc: Global,
+    ops: &mut Vec<Op>,
+    log: &[LogEvent],
+    number: TxnNo,
+) -> Result<(), NoMemory> {
     for (place, event) in log.iter().enumerate() {
         if active(&log[..place], event.session) == Some(number) {
             if let Some(op) = op_of(alloc, event)? {
@@ -41,7 +50,7 @@ fn ops_of(alloc: Global, log: &[LogEvent], number: TxnNo) -> Result<Vec<Op>, NoM
             }
         }
     }
-    Ok(ops)
+    Ok(())
 }
 
 fn op_of(alloc: Global, event: &LogEvent) -> Result<Option<Op>, NoMemory> {
@@ -51,11 +60,16 @@ fn op_of(alloc: Global, event: &LogEvent) -> Result<Option<Op>, NoMemory> {
     let Command::Run(statement) = &event.command else {
         return Ok(None);
     };
+    // The statement comes last, since it is the largest to let go.
+    let view = view.copy(alloc)?;
+    let rows = rows.copy(alloc)?;
+    let writes = writes.copy(alloc)?;
+    let statement = statement.copy(alloc)?;
     Ok(Some(Op {
-        statement: statement.copy(alloc)?,
-        view: view.copy(alloc)?,
-        rows: rows.copy(alloc)?,
-        writes: writes.copy(alloc)?,
+        statement,
+        view,
+        rows,
+        writes,
     }))
 }
 
@@ -75,6 +89,15 @@ fn commits(alloc: Global, log: &[LogEvent]) -> Result<Vec<TxnNo>, NoMemory> {
 /// The transactions in order of their begins.
 fn txns(alloc: Global, log: &[LogEvent], commits: &[TxnNo]) -> Result<Vec<Txn>, NoMemory> {
     let mut txns = Vec::new(alloc);
+    add_txns(alloc, &mut txns, log, commits).and(Ok(txns))
+}
+
+fn add_txns(
+    alloc: Global,
+    txns: &mut Vec<Txn>,
+    log: &[LogEvent],
+    commits: &[TxnNo],
+) -> Result<(), NoMemory> {
     for event in log {
         if let Outcome::Begun(no) = &event.outcome {
             let outcome = if commits.contains(no) {
@@ -82,14 +105,15 @@ fn txns(alloc: Global, log: &[LogEvent], commits: &[TxnNo]) -> Result<Vec<Txn>, 
             } else {
                 End::Aborted
             };
+            let ops = Ops::new(ops_of(alloc, log, *no)?);
             txns.push(Txn {
                 no: *no,
                 outcome,
-                ops: Ops::new(ops_of(alloc, log, *no)?),
+                ops,
             })?;
         }
     }
-    Ok(txns)
+    Ok(())
 }
 
 /// What a transaction's last write of a row left, if it wrote the row.
@@ -105,37 +129,119 @@ fn last_write(txns: &[Txn], number: TxnNo, row: RowName) -> Option<State> {
     state
 }
 
-/// Each of these rows with the transactions that installed it, and the table that they leave.
+/// The transactions that installed a row, in order.
+fn installers(
+    alloc: Global,
+    txns: &[Txn],
+    commits: &[TxnNo],
+    row: RowName,
+) -> Result<Vec<TxnNo>, NoMemory> {
+    let mut numbers = Vec::new(alloc);
+    for number in commits {
+        if last_write(txns, *number, row).is_some() {
+            numbers.push(*number)?;
+        }
+    }
+    Ok(numbers)
+}
+
+/// Adds each of these rows that was installed, with the transactions that did.
+fn add_installed(
+    alloc: Global,
+    entries: &mut Vec<(RowName, Installers)>,
+    txns: &[Txn],
+    commits: &[TxnNo],
+    rows: &[RowName],
+) -> Result<(), NoMemory> {
+    for row in rows {
+        let numbers = installers(alloc, txns, commits, *row)?;
+        if !numbers.is_empty() {
+            entries.push((*row, Installers::new(numbers)))?;
+        }
+    }
+    Ok(())
+}
+
+/// These rows that were installed, with the transactions that did.
 fn installed(
+    alloc: Global,
+    txns: &[Txn],
+    commits: &[TxnNo],
+    rows: &[RowName],
+) -> Option<Installed> {
+    let mut entries = Vec::new(alloc);
+    let added = add_installed(alloc, &mut entries, txns, commits, rows);
+    Installed::from_entries(added.and(Ok(entries)).ok()?).ok()
+}
+
+/// The state of a row after these commits.
+fn state_after(setup: &Table, txns: &[Txn], commits: &[TxnNo], row: RowName) -> State {
+    let mut state = match setup.get(row) {
+        None => State::Absent,
+        Some(value) => State::Present(value),
+    };
+    for number in commits {
+        if let Some(written) = last_write(txns, *number, row) {
+            state = written;
+        }
+    }
+    state
+}
+
+/// Adds each of these rows that is there after these commits.
+fn add_values(
+    alloc: Global,
+    table: &mut Table,
+    setup: &Table,
+    txns: &[Txn],
+    commits: &[TxnNo],
+    rows: &[RowName],
+) -> Result<(), NoMemory> {
+    for row in rows {
+        if let State::Present(value) = state_after(setup, txns, commits, *row) {
+            table.add(alloc, *row, value)?;
+        }
+    }
+    Ok(())
+}
+
+/// The table of these rows after these commits.
+fn end_table(
     alloc: Global,
     setup: &Table,
     txns: &[Txn],
     commits: &[TxnNo],
     rows: &[RowName],
-) -> Result<(Vec<(RowName, Installers)>, Table), NoMemory> {
-    let mut entries = Vec::new(alloc);
+) -> Option<Table> {
     let mut table = Table::new(alloc);
-    for row in rows {
-        let row = *row;
-        let mut numbers = Vec::new(alloc);
-        let mut value = setup.get(row);
-        for number in commits {
-            if let Some(state) = last_write(txns, *number, row) {
-                numbers.push(*number)?;
-                value = match state {
-                    State::Absent => None,
-                    State::Present(value) => Some(value),
-                };
-            }
-        }
-        if let Some(value) = value {
-            table.add(alloc, row, value)?;
-        }
-        if !numbers.is_empty() {
-            entries.push((row, Installers::new(numbers)))?;
-        }
-    }
-    Ok((entries, table))
+    let added = add_values(alloc, &mut table, setup, txns, commits, rows);
+    added.and(Ok(table)).ok()
+}
+
+/// The history that a log tells, of these rows, with the transactions that committed in order. None where memory is
+/// refused.
+fn history_of(
+    alloc: Global,
+    setup: &Table,
+    log: &[LogEvent],
+    commits: &[TxnNo],
+    rows: &[RowName],
+) -> Option<History> {
+    let txns = txns(alloc, log, commits).ok()?;
+    let initial = setup.copy(alloc).ok();
+    let end_table = end_table(alloc, setup, &txns, commits, rows);
+    let installed = installed(alloc, &txns, commits, rows);
+    let Some(((initial, end_table), installed)) = initial.zip(end_table).zip(installed) else {
+        drop(txns);
+        return None;
+    };
+    let parts = Parts {
+        initial,
+        txns: Txns::new(txns),
+        installed,
+        end_table,
+    };
+    History::from_parts(alloc, parts).ok()
 }
 
 /// The history that a log tells, of rows of `test` that have a number below this one, and two of `stock`. None where
@@ -148,13 +254,5 @@ pub fn plain_history(
 ) -> Option<History> {
     let rows = rows_below(alloc, below)?;
     let commits = commits(alloc, log).ok()?;
-    let txns = txns(alloc, log, &commits).ok()?;
-    let (entries, end_table) = installed(alloc, setup, &txns, &commits, &rows).ok()?;
-    let parts = Parts {
-        initial: setup.copy(alloc).ok()?,
-        txns: Txns::new(txns),
-        installed: Installed::from_entries(entries).ok()?,
-        end_table,
-    };
-    History::from_parts(alloc, parts).ok()
+    history_of(alloc, setup, log, &commits, &rows)
 }

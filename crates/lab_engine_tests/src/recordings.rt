@@ -3,12 +3,12 @@
 ghost use Rattle.std.specs.Prelude.{◌≡◌, []};
 
 use crate::plain_recording::plain_history;
-use lab_engine::{Engine, Recording};
+use lab_engine::{Engine, LogEvent};
 use lab_history::{History, write_history};
 use lab_locking::LockEngine;
 use lab_script::{Script, parse_script};
 use lab_session::play_script;
-use lab_table::NoMemory;
+use lab_table::{NoMemory, Table};
 use lab_versions::{CommittedEngine, SnapshotEngine};
 use std::alloc::Global;
 use std::test::Fail;
@@ -47,43 +47,69 @@ fn made_script(alloc: Global, seed: u32) -> Result<Vec<u8>, NoMemory> {
 }
 
 /// Whether two histories have one text.
-pub fn same_text(alloc: Global, a: &History, b: &History) -> Option<bool> {
+fn same_text(alloc: Global, a: &History, b: &History) -> Option<bool> {
     let one = write_history(alloc, a).ok()?;
     let other = write_history(alloc, b).ok()?;
     Some(one.as_slice() == other.as_slice())
 }
 
-/// Whether the plainer body finds the history of a recording in its log.
-fn is_plain(alloc: Global, recording: &Recording) -> Option<bool> {
-    let plain = plain_history(alloc, recording.setup(), recording.log(), 5)?;
-    same_text(alloc, recording.history(), &plain)
+/// Whether the plainer body finds a history in a log, of rows of `test` that have a number below this one.
+pub fn is_plain(
+    alloc: Global,
+    history: &History,
+    setup: &Table,
+    log: &[LogEvent],
+    below: u32,
+) -> Option<bool> {
+    let plain = plain_history(alloc, setup, log, below)?;
+    let same = same_text(alloc, history, &plain);
+    drop(plain);
+    same
 }
 
-/// The same of the play of a script on an engine.
+/// Whether it finds the history of a play in the play's log.
 fn plays_plain<E: Engine + Drop>(alloc: Global, engine: E, script: &Script) -> Option<bool>
     requires { E.events engine ≡ [] }
 {
-    is_plain(alloc, &play_script(alloc, engine, script).ok()?)
+    let recording = play_script(alloc, engine, script).ok()?;
+    let plain = is_plain(
+        alloc,
+        recording.history(),
+        recording.setup(),
+        recording.log(),
+        5,
+    );
+    drop(recording);
+    plain
 }
 
 /// The same on each engine.
-fn each_plain(alloc: Global, seed: u32) -> Option<bool> {
-    let script = parse_script(alloc, &made_script(alloc, seed).ok()?).ok()?;
+fn each_plain(alloc: Global, script: &Script) -> Option<bool> {
     let locking = LockEngine::new(alloc, script.setup.copy(alloc).ok()?);
+    let locking = plays_plain(alloc, locking, script)?;
     let committed = CommittedEngine::new(alloc, script.setup.copy(alloc).ok()?);
+    let committed = plays_plain(alloc, committed, script)?;
     let snapshot = SnapshotEngine::new(alloc, script.setup.copy(alloc).ok()?);
-    Some(
-        plays_plain(alloc, locking, &script)?
-            && plays_plain(alloc, committed, &script)?
-            && plays_plain(alloc, snapshot, &script)?,
-    )
+    let snapshot = plays_plain(alloc, snapshot, script)?;
+    Some(locking && committed && snapshot)
+}
+
+/// The same of the script of a seed.
+fn seed_plain(alloc: Global, seed: u32) -> Option<bool> {
+    let text = made_script(alloc, seed).ok()?;
+    let script = parse_script(alloc, &text).ok();
+    drop(text);
+    let script = script?;
+    let plain = each_plain(alloc, &script);
+    drop(script);
+    plain
 }
 
 #[test]
 fn recordings_are_those_of_a_plainer_body(rt: HostRuntime) -> Result<(), Fail> {
     let alloc = rt.alloc();
     for seed in 0..40 {
-        assert_eq!(rt; each_plain(alloc, seed), Some(true));
+        assert_eq!(rt; seed_plain(alloc, seed), Some(true));
     }
     Ok(())
 }

@@ -1,7 +1,10 @@
 -- A case's play at a level, in the words of the matrix.
-use Rattle.std.proofs.Common.{◌≡◌, ap, ◌∙◌, subst}
+use Rattle.std.proofs.Common.{◌≡◌, ◌<◌, ℕ, suc, inl, inr, Ok, refl, sym, ap, ◌∙◌, subst, arith}
+use Rattle.std.specs.Prelude.{◌==◌, if◌then◌else◌}
+use Rattle.std.proofs.lemmas.Bool.{cases_lt}
 use Rattle.lab_table.specs.Table.{Table}
 use Rattle.lab_script.specs.declared.script.Script.{Script}
+use Rattle.lab_history.specs.FirstPartsFault.{checked}
 use Rattle.lab_engine.specs.declared.event.Level.{Level}
 use Rattle.lab_engine.specs.declared.event.Level.TheVariants as level
 use Rattle.lab_engine.specs.RecordedLog.{RecordedLog}
@@ -13,8 +16,10 @@ use Rattle.lab_judge.specs.Judgement.{IsExactJudgement}
 use Rattle.lab_judge.specs.Promises.{IsPromised}
 use Rattle.lab_judge.specs.declared.report.Report.{Report}
 use Rattle.lab_matrix.specs.Listings.{usual_setup, case_script, listing}
-use Rattle.lab_matrix.specs.Matrix.{IsCell, IsRow, AreCells, KeepsPromises, cell_of}
+use Rattle.lab_matrix.specs.Matrix.{IsCell, IsRow, AreCells, KeepsPromises, IsRecorded, case_place, level_place, Precedes, IsCellFault, IsRowFault, IsMatrixFault, cell_of}
 use Rattle.lab_matrix.specs.EnginePromise.{Says, promise_of}
+use Rattle.lab_matrix.specs.declared.filling.MatrixFault.{MatrixFault}
+use Rattle.lab_matrix.specs.declared.filling.MatrixFault.TheVariants.{NoMemory, Play}
 use Rattle.lab_matrix.specs.declared.cells.Row.{Row}
 use Rattle.lab_matrix.specs.declared.cells.Matrix.{Matrix}
 use Rattle.lab_matrix.specs.declared.name.CaseName.{CaseName}
@@ -32,13 +37,14 @@ module _ (case : CaseName) (at kind : Level) (opening : Table) (script : Script)
 
   -- a judgement of the recording of its play is the case's cell
   pub cell_is : (recording : RecordedLog) (report : Report) → recording.level ≡ kind → recording.setup ≡ opening → IsLegalPlay kind opening (given_lines script.lines) recording.log
-      → IsRecording opening (past_of recording.log) recording.history → IsExactJudgement recording.history report → IsPromised recording.level report → IsCell case at report
-  cell_is recording report same on play history judged promised = record {
+      → IsRecording opening (past_of recording.log) recording.history → checked recording.history ≡ Ok tt → IsExactJudgement recording.history report → IsPromised recording.level report → IsCell case at report
+  cell_is recording report same on play history whole judged promised = record {
     recording = recording;
     level_is = same ∙ kind_is;
     setup_is = on ∙ on_usual;
     play = moved (λ k t s. IsLegalPlay k t (given_lines s.lines) recording.log) play;
     history = moved (λ k t s. IsRecording t (past_of recording.log) recording.history) history;
+    whole = whole;
     judged = judged;
     promised = subst (λ k. IsPromised k report) (same ∙ kind_is) promised;
   }
@@ -75,3 +81,98 @@ said level.Snapshot report promised = promised
 
 pub promises_kept : (m : Matrix) → AreCells m → KeepsPromises m
 promises_kept m cells case at = said at (cell_of m case at) (cells case at).promised
+
+-- a cell's play has a recording
+pub recorded : (case : CaseName) (at : Level) (report : Report) → IsCell case at report → IsRecorded case at
+recorded case at report cell = record { log = cell.recording.log; told = cell.recording.history; play = cell.play; history = cell.history; whole = cell.whole }
+
+-- a refusal of a cell is the first of its row, where the levels before it have their recordings
+pub first_of_row : (case : CaseName) (at : Level) (fault : MatrixFault) → ((level : Level) → level_place level < level_place at → IsRecorded case level) → IsCellFault case at fault → IsRowFault case fault
+first_of_row case at NoMemory before is = tt
+first_of_row case at (Play own level fault) before (own_is, level_is, faulty) =
+    (own_is, faulty, subst (λ l. (k : Level) → level_place k < level_place l → IsRecorded case k) (sym level_is) before)
+
+-- nothing stands before the first level
+pub none_before : (case : CaseName) (level : Level) → level_place level < 0 → IsRecorded case level
+none_before case level before = absurd (omega (arith, before))
+
+-- the first level stands before the second
+pub one_before : (case : CaseName) → IsRecorded case level.Locking → (at : Level) → level_place at < 1 → IsRecorded case at
+one_before case locking level.Locking before = locking
+one_before case locking level.Committed before = absurd (omega (arith, before))
+one_before case locking level.Snapshot before = absurd (omega (arith, before))
+
+-- and both before the third
+pub two_before : (case : CaseName) → IsRecorded case level.Locking → IsRecorded case level.Committed → (at : Level) → level_place at < 2 → IsRecorded case at
+two_before case locking committed level.Locking before = locking
+two_before case locking committed level.Committed before = committed
+two_before case locking committed level.Snapshot before = absurd (omega (arith, before))
+
+-- the case at a place
+case_at : ℕ → CaseName
+case_at place =
+    if place == 0 then name.G0
+    else if place == 1 then name.G1a
+    else if place == 2 then name.G1b
+    else if place == 3 then name.G1c
+    else if place == 4 then name.Otv
+    else if place == 5 then name.Pmp
+    else if place == 6 then name.P4
+    else if place == 7 then name.GSingle
+    else if place == 8 then name.G2Item
+    else name.G2
+
+at_its_place : (case : CaseName) → case_at (case_place case) ≡ case
+unfolding case_at
+at_its_place name.G0 = refl
+at_its_place name.G1a = refl
+at_its_place name.G1b = refl
+at_its_place name.G1c = refl
+at_its_place name.Otv = refl
+at_its_place name.Pmp = refl
+at_its_place name.P4 = refl
+at_its_place name.GSingle = refl
+at_its_place name.G2Item = refl
+at_its_place name.G2 = refl
+
+-- the level at a place
+level_at : ℕ → Level
+level_at place = if place == 0 then level.Locking else if place == 1 then level.Committed else level.Snapshot
+
+level_at_its_place : (at : Level) → level_at (level_place at) ≡ at
+unfolding level_at
+level_at_its_place level.Locking = refl
+level_at_its_place level.Committed = refl
+level_at_its_place level.Snapshot = refl
+
+-- a place is that of one case
+pub same_place : (case other : CaseName) → case_place case ≡ case_place other → case ≡ other
+same_place case other same = sym (at_its_place case) ∙ ap case_at same ∙ at_its_place other
+
+-- and one of one level
+pub same_level : (at other : Level) → level_place at ≡ level_place other → at ≡ other
+same_level at other same = sym (level_at_its_place at) ∙ ap level_at same ∙ level_at_its_place other
+
+-- the plays of all cases before a place have recordings
+abbrev pub RecordedBefore : ℕ → Type 0
+RecordedBefore place = (case : CaseName) (at : Level) → case_place case < place → IsRecorded case at
+
+pub before_first : RecordedBefore 0
+before_first case at before = absurd (omega (arith, before))
+
+-- so have those before the next one, where those of a row have
+pub before_next : (own : CaseName) (row : Row) → RecordedBefore (case_place own) → IsRow own row → RecordedBefore (suc (case_place own))
+before_next own row before cells case at low = elim (cases_lt (case_place case) (case_place own)) [
+  | inl less ↦ before case at less
+  | inr above ↦
+      subst (λ c. IsRecorded c at) (sym (same_place case own (omega (arith, above, low)))) (recorded own at _ (cells at))
+]
+
+-- a refusal that is the first of a row is the first of the matrix, where the rows before it have their recordings
+pub first_of_all : (own : CaseName) (fault : MatrixFault) → RecordedBefore (case_place own) → IsRowFault own fault → IsMatrixFault fault
+first_of_all own NoMemory before is = tt
+first_of_all own (Play case level fault) before (case_is, faulty, earlier) = (faulty, λ other at precedes. earlier_one other at precedes)
+  where
+    earlier_one : (other : CaseName) (at : Level) → Precedes other at case level → IsRecorded other at
+    earlier_one other at (inl less) = before other at (subst (λ c. case_place other < case_place c) case_is less)
+    earlier_one other at (inr (same, lower)) = subst (λ c. IsRecorded c at) (sym (same ∙ case_is)) (earlier at lower)

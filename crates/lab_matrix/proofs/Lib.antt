@@ -2,3 +2,4 @@ mod Setups
 mod CasesPrint
 mod CasePlays
 mod Padding
+pub mod OneMatrix

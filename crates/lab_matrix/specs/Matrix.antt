@@ -1,11 +1,15 @@
 -- What stands in the matrix: for each case and each level the judgement of a recording.
-use Rattle.std.specs.Prelude.{◌≡◌, ◌≢◌}
+use Rattle.std.specs.Prelude.{◌≡◌, ◌≢◌, ◌⊎◌, ◌<◌, ℕ, List, Ok}
+use Rattle.lab_history.specs.History.{History}
+use Rattle.lab_history.specs.FirstPartsFault.{checked}
 use Rattle.lab_engine.specs.declared.event.Level.{Level}
 use Rattle.lab_engine.specs.declared.event.Level.TheVariants as level
+use Rattle.lab_engine.specs.declared.event.LogEvent.{LogEvent}
 use Rattle.lab_engine.specs.RecordedLog.{RecordedLog}
 use Rattle.lab_engine.specs.Log.{past_of}
 use Rattle.lab_engine.specs.Recording.{IsRecording}
 use Rattle.lab_session.specs.Play.{given_lines, IsLegalPlay, IsScriptedFault}
+use Rattle.lab_session.specs.declared.fault.PlayFault.{PlayFault}
 use Rattle.lab_session.specs.declared.fault.PlayFault.TheVariants as play_fault
 use Rattle.lab_judge.specs.Judgement.{IsExactJudgement}
 use Rattle.lab_judge.specs.Promises.{IsPromised}
@@ -19,13 +23,14 @@ use Rattle.lab_matrix.specs.declared.cells.Matrix.{Matrix}
 use Rattle.lab_matrix.specs.declared.filling.MatrixFault.{MatrixFault}
 use Rattle.lab_matrix.specs.declared.filling.MatrixFault.TheVariants.{NoMemory, Play}
 
--- the report is the judgement of a recording at the level, with the setup of the cases, whose log is legal and follows the case's script to its end; and it says what the level promises
+-- the report is the judgement of a recording at the level, with the setup of the cases, whose log is legal and follows the case's script to its end, and whose history has no fault; and it says what the level promises
 pub record IsCell (case : CaseName) (level : Level) (report : Report) : Type 0 where
   pub recording : RecordedLog
   pub level_is : recording.level ≡ level
   pub setup_is : recording.setup ≡ usual_setup
   pub play : IsLegalPlay level usual_setup (given_lines (listing case)) recording.log
   pub history : IsRecording usual_setup (past_of recording.log) recording.history
+  pub whole : checked recording.history ≡ Ok tt
   pub judged : IsExactJudgement recording.history report
   pub promised : IsPromised level report
 
@@ -64,7 +69,52 @@ AreCells matrix = (case : CaseName) (level : Level) → IsCell case level (cell_
 abbrev pub KeepsPromises : Matrix → Type 0
 KeepsPromises matrix = (case : CaseName) (level : Level) → Says (promise_of level) (cell_of matrix case level)
 
--- a refusal is true: the play of that case at that level has no recording, and memory wasn't wanting for it
+-- the play of a case at a level has a recording
+pub record IsRecorded (case : CaseName) (level : Level) : Type 0 where
+  pub log : List LogEvent
+  pub told : History
+  pub play : IsLegalPlay level usual_setup (given_lines (listing case)) log
+  pub history : IsRecording usual_setup (past_of log) told
+  pub whole : checked told ≡ Ok tt
+
+-- the cases in their order
+abbrev pub case_place : CaseName → ℕ
+case_place name.G0 = 0
+case_place name.G1a = 1
+case_place name.G1b = 2
+case_place name.G1c = 3
+case_place name.Otv = 4
+case_place name.Pmp = 5
+case_place name.P4 = 6
+case_place name.GSingle = 7
+case_place name.G2Item = 8
+case_place name.G2 = 9
+
+-- the levels in their order
+abbrev pub level_place : Level → ℕ
+level_place level.Locking = 0
+level_place level.Committed = 1
+level_place level.Snapshot = 2
+
+-- a cell stands before another: in the row of an earlier case, or at an earlier level of the same one
+abbrev pub Precedes : CaseName → Level → CaseName → Level → Type 0
+Precedes case at other level = (case_place case < case_place other) ⊎ ((case ≡ other) × (level_place at < level_place level))
+
+-- the play of a case at a level has no recording, and memory wasn't wanting for it
+abbrev pub IsUnrecorded : CaseName → Level → PlayFault → Type 0
+IsUnrecorded case level fault = (fault ≢ play_fault.NoMemory) × IsScriptedFault level usual_setup (given_lines (listing case)) fault
+
+-- a refusal is that of a case at a level
+abbrev pub IsCellFault : CaseName → Level → MatrixFault → Type 0
+IsCellFault own at NoMemory = Unit {0}
+IsCellFault own at (Play case level fault) = (case ≡ own) × (level ≡ at) × IsUnrecorded case level fault
+
+-- a refusal is the first of a row
+abbrev pub IsRowFault : CaseName → MatrixFault → Type 0
+IsRowFault own NoMemory = Unit {0}
+IsRowFault own (Play case level fault) = (case ≡ own) × IsUnrecorded case level fault × ((at : Level) → level_place at < level_place level → IsRecorded own at)
+
+-- a refusal is true: the play of that case at that level has no recording, and that of each cell before it has
 abbrev pub IsMatrixFault : MatrixFault → Type 0
 IsMatrixFault NoMemory = Unit {0}
-IsMatrixFault (Play case level fault) = (fault ≢ play_fault.NoMemory) × IsScriptedFault level usual_setup (given_lines (listing case)) fault
+IsMatrixFault (Play case level fault) = IsUnrecorded case level fault × ((other : CaseName) (at : Level) → Precedes other at case level → IsRecorded other at)

@@ -1,13 +1,15 @@
 //! Filling the matrix: each case is played on each engine, and judged.
 
-ghost use Rattle.std.specs.Prelude.{◌≡◌, IfOk, IfErr};
-ghost use Rattle.lab_matrix.specs.Matrix.{IsCell, IsRow, AreCells, KeepsPromises, IsMatrixFault};
+ghost use Rattle.std.specs.Prelude.{◌≡◌, [], IfOk, IfErr};
+ghost use Rattle.lab_matrix.specs.Listings.{case_script};
+ghost use Rattle.lab_matrix.specs.Matrix.{IsCell, IsRow, AreCells, KeepsPromises, IsCellFault, IsRowFault, IsMatrixFault};
 
 use crate::cells::{Matrix, Row};
 use crate::name::{CaseName, case};
-use lab_engine::Level;
+use lab_engine::{Engine, Level};
 use lab_judge::{Report, judge_recording};
 use lab_locking::LockEngine;
+use lab_script::Script;
 use lab_session::{PlayFault, play_script};
 use lab_versions::{CommittedEngine, SnapshotEngine};
 use std::alloc::{AllocError, Global};
@@ -36,47 +38,61 @@ impl From<AllocError> for MatrixFault {
     }
 }
 
-/// A case, played on the engine of a level and judged.
-macro_rules! cell {
-    ($alloc:ident; $name:ident; $level:ident; $engine:ident) => {{
-        let script = case($alloc, $name)?;
-        let engine = $engine::new($alloc, script.setup.copy($alloc)?);
-        match play_script($alloc, engine, &script) {
-            Ok(recording) => Ok(judge_recording($alloc, &recording)?),
-            Err(PlayFault::NoMemory) => Err(MatrixFault::NoMemory),
-            Err(fault) => Err(MatrixFault::Play {
-                case: $name,
-                level: Level::$level,
-                fault,
-            }),
-        }
-    }};
+/// A case's script, played on an engine that has done nothing yet, and judged.
+fn judged<E: Engine + Drop>(
+    alloc: Global,
+    name: CaseName,
+    script: &Script,
+    engine: E,
+) -> Result<Report, MatrixFault>
+    requires fresh { E.events engine ≡ [] }
+    requires script { script.now ≡ case_script name }
+    requires setup { E.opening engine ≡ script.now.setup }
+    ensures cell { IfOk result (IsCell name (E.kind engine)) }
+    ensures fault { IfErr result (IsCellFault name (E.kind engine)) }
+{
+    let level = engine.level();
+    match play_script(alloc, engine, script) {
+        Ok(recording) => Ok(judge_recording(alloc, &recording)?),
+        Err(PlayFault::NoMemory) => Err(MatrixFault::NoMemory),
+        Err(fault) => Err(MatrixFault::Play {
+            case: name,
+            level,
+            fault,
+        }),
+    }
 }
 
 fn at_locking(alloc: Global, name: CaseName) -> Result<Report, MatrixFault>
     ensures cell { IfOk result (IsCell name Level.Locking) }
-    ensures fault { IfErr result IsMatrixFault }
+    ensures fault { IfErr result (IsCellFault name Level.Locking) }
 {
-    cell!(alloc; name; Locking; LockEngine)
+    let script = case(alloc, name)?;
+    let engine = LockEngine::new(alloc, script.setup.copy(alloc)?);
+    judged(alloc, name, &script, engine)
 }
 
 fn at_committed(alloc: Global, name: CaseName) -> Result<Report, MatrixFault>
     ensures cell { IfOk result (IsCell name Level.Committed) }
-    ensures fault { IfErr result IsMatrixFault }
+    ensures fault { IfErr result (IsCellFault name Level.Committed) }
 {
-    cell!(alloc; name; Committed; CommittedEngine)
+    let script = case(alloc, name)?;
+    let engine = CommittedEngine::new(alloc, script.setup.copy(alloc)?);
+    judged(alloc, name, &script, engine)
 }
 
 fn at_snapshot(alloc: Global, name: CaseName) -> Result<Report, MatrixFault>
     ensures cell { IfOk result (IsCell name Level.Snapshot) }
-    ensures fault { IfErr result IsMatrixFault }
+    ensures fault { IfErr result (IsCellFault name Level.Snapshot) }
 {
-    cell!(alloc; name; Snapshot; SnapshotEngine)
+    let script = case(alloc, name)?;
+    let engine = SnapshotEngine::new(alloc, script.setup.copy(alloc)?);
+    judged(alloc, name, &script, engine)
 }
 
 fn row_of_case(alloc: Global, name: CaseName) -> Result<Row, MatrixFault>
     ensures row { IfOk result (IsRow name) }
-    ensures fault { IfErr result IsMatrixFault }
+    ensures fault { IfErr result (IsRowFault name) }
 {
     Ok(Row {
         locking: at_locking(alloc, name)?,
@@ -88,7 +104,8 @@ fn row_of_case(alloc: Global, name: CaseName) -> Result<Row, MatrixFault>
 /// The judgement of each case on each engine: of the recording of a scripted play of the case's script at the engine's
 /// level. Each says what the engine of its level promises (`promise`).
 ///
-/// Refused where a play has no recording (2), which is true then, or a growth was refused (1).
+/// Refused where a play has no recording (2), which is then true of the first such case, in their order and in that of the
+/// levels; or where a growth was refused (1).
 pub fn matrix(alloc: Global) -> Result<Matrix, MatrixFault>
     ensures cells { IfOk result AreCells }
     ensures promised { IfOk result KeepsPromises }

@@ -78,7 +78,28 @@ fn says(promise: Promise, report: &Report) -> bool {
     }
 }
 
-/// Whether the report of each of so many plays of a script at a level says what is promised.
+/// Whether a recording's report says what is promised at a level.
+fn is_said(alloc: Global, recording: &Recording, level: Level) -> Option<bool> {
+    let report = judge_recording(alloc, recording).ok()?;
+    let said = says(promise(level), &report);
+    drop(report);
+    Some(said)
+}
+
+/// The same of a play of a script.
+fn is_kept_once<T: Threads + Wait + Sync>(
+    rt: &T,
+    alloc: Global,
+    script: &Script,
+    level: Level,
+) -> Option<bool> {
+    let recording = played(rt, alloc, script, level)?;
+    let said = is_said(alloc, &recording, level);
+    drop(recording);
+    said
+}
+
+/// The same of each of so many plays of it.
 fn is_kept<T: Threads + Wait + Sync>(
     rt: &T,
     alloc: Global,
@@ -86,9 +107,7 @@ fn is_kept<T: Threads + Wait + Sync>(
     level: Level,
 ) -> Option<bool> {
     for _ in 0..PLAYS {
-        let recording = played(rt, alloc, script, level)?;
-        let report = judge_recording(alloc, &recording).ok()?;
-        if !says(promise(level), &report) {
+        if !is_kept_once(rt, alloc, script, level)? {
             return Some(false);
         }
     }
@@ -108,6 +127,18 @@ fn is_kept_at_each<T: Threads + Wait + Sync>(
     ]
 }
 
+/// The same of the case of a name.
+fn case_is_kept_at_each<T: Threads + Wait + Sync>(
+    rt: &T,
+    alloc: Global,
+    name: CaseName,
+) -> Option<[Option<bool>; 3]> {
+    let script = case(alloc, name).ok()?;
+    let kept = is_kept_at_each(rt, alloc, &script);
+    drop(script);
+    Some(kept)
+}
+
 #[test]
 fn free_plays_of_the_cases_keep_what_is_promised(rt: HostRuntime) -> Result<(), Fail> {
     let alloc = rt.alloc();
@@ -123,10 +154,9 @@ fn free_plays_of_the_cases_keep_what_is_promised(rt: HostRuntime) -> Result<(), 
         CaseName::G2Item,
         CaseName::G2,
     ] {
-        let script = case(alloc, name)?;
         assert_eq!(rt;
-            is_kept_at_each(&rt, alloc, &script),
-            [Some(true); 3],
+            case_is_kept_at_each(&rt, alloc, name),
+            Some([Some(true); 3]),
             "of {}",
             name.name()
         );
@@ -136,10 +166,10 @@ fn free_plays_of_the_cases_keep_what_is_promised(rt: HostRuntime) -> Result<(), 
 
 #[test]
 fn free_plays_over_two_tables_keep_what_is_promised(rt: HostRuntime) -> Result<(), Fail> {
-    let alloc = rt.alloc();
-    let Ok(script) = parse_script(alloc, TWO_TABLES) else {
-        return Err(Fail::from("a script"));
-    };
-    assert_eq!(rt; is_kept_at_each(&rt, alloc, &script), [Some(true); 3]);
+    let script = parse_script(rt.alloc(), TWO_TABLES);
+    let script = script.ok().ok_or("a script")?;
+    let kept = is_kept_at_each(&rt, rt.alloc(), &script);
+    drop(script);
+    assert_eq!(rt; kept, [Some(true); 3]);
     Ok(())
 }

@@ -1,4 +1,4 @@
-//! Tests of orders: which of several right ones is answered, which no contract says; and calls that are refused memory.
+//! Tests of orders: that which is answered beside that of a plainer body; and calls that are refused memory.
 #![tactic(auto)]
 
 #[cfg(test)]

@@ -8,6 +8,7 @@ use crate::comparing::{graph_of, parts};
 use crate::refusal::{refuse, was_refused};
 use lab_order::{Graph, NoMemory, order, path, reaching};
 use std::alloc::Global;
+use std::process::Abort;
 use std::test::Fail;
 
 /// A call, on four nodes of which the first three are a circle, or on a chain, or on a new graph.
@@ -23,6 +24,14 @@ enum Call {
     Reaching,
 }
 
+/// Whether a graph has this order or circle.
+fn has_order(alloc: Global, graph: &Graph, due: (bool, &[u32])) -> Result<bool, NoMemory> {
+    let ordered = order(alloc, graph)?;
+    let right = parts(&ordered) == due;
+    drop(ordered);
+    Ok(right)
+}
+
 /// Adds an arrow from node 5 to node 0 of six, where that needs a growth. Where it is refused, the graph has the order
 /// that it had before, and takes the arrow then.
 fn is_added(alloc: Global, growth: u16, graph: &mut Graph, before: &[u32]) -> Result<bool, NoMemory>
@@ -31,16 +40,54 @@ fn is_added(alloc: Global, growth: u16, graph: &mut Graph, before: &[u32]) -> Re
     refuse(alloc, growth);
     let refusal = graph.add(alloc, 5, 0).err();
     if refusal.is_some() {
-        if parts(&order(alloc, graph)?) != (true, before) {
+        if !has_order(alloc, graph, (true, before))? {
             return Ok(false);
         }
         graph.add(alloc, 5, 0)?;
     }
-    let added = parts(&order(alloc, graph)?) == (true, &[1, 2, 3, 4, 5, 0][..]);
+    let added = has_order(alloc, graph, (true, &[1, 2, 3, 4, 5, 0][..]))?;
     match refusal {
         Some(refusal) if added => Err(refusal),
         _ => Ok(added),
     }
+}
+
+/// Calls that make a graph or change one.
+fn is_right_of_new(alloc: Global, growth: u16, call: Call) -> Result<bool, NoMemory> {
+    match call {
+        Call::New => {
+            let graph = Graph::new(alloc, 4)?;
+            let right = has_order(alloc, &graph, (true, &[0, 1, 2, 3][..]));
+            drop(graph);
+            right
+        }
+        Call::FirstArrow => {
+            let mut graph = Graph::new(alloc, 6)?;
+            let added = is_added(alloc, growth, &mut graph, &[0, 1, 2, 3, 4, 5]);
+            drop(graph);
+            added
+        }
+        _ => {
+            let mut graph = graph_of(alloc, 6, &[(1, 0), (2, 0), (3, 0), (4, 0)])?;
+            let added = is_added(alloc, growth, &mut graph, &[1, 2, 3, 4, 0, 5]);
+            drop(graph);
+            added
+        }
+    }
+}
+
+/// Whether a path goes along these nodes.
+fn is_path(path: Option<Vec<u32>>, due: Option<&[u32]>) -> bool {
+    let right = path.as_deref() == due;
+    drop(path);
+    right
+}
+
+/// Whether the nodes that reach another one are these.
+fn are_reaching(reaching: Vec<bool>, due: &[bool]) -> bool {
+    let right = reaching.as_slice() == due;
+    drop(reaching);
+    right
 }
 
 /// Makes a call, and says whether it answers what it is to answer.
@@ -54,58 +101,59 @@ fn is_right(
     requires { nodes_of circle.now ≡ 4 }
 {
     match call {
-        Call::New => {
-            let graph = Graph::new(alloc, 4)?;
-            Ok(parts(&order(alloc, &graph)?) == (true, &[0, 1, 2, 3][..]))
-        }
-        Call::FirstArrow => {
-            let mut graph = Graph::new(alloc, 6)?;
-            is_added(alloc, growth, &mut graph, &[0, 1, 2, 3, 4, 5])
-        }
-        Call::FifthArrow => {
-            let mut graph = graph_of(alloc, 6, &[(1, 0), (2, 0), (3, 0), (4, 0)])?;
-            is_added(alloc, growth, &mut graph, &[1, 2, 3, 4, 0, 5])
-        }
-        Call::Order => Ok(parts(&order(alloc, chain)?) == (true, &[3, 2, 1, 0][..])),
-        Call::Circle => Ok(parts(&order(alloc, circle)?) == (false, &[0, 1, 2][..])),
-        Call::Path => Ok(path(alloc, circle, 0, 2)?.as_deref() == Some(&[0, 1, 2][..])),
-        Call::NoPath => Ok(path(alloc, circle, 0, 3)?.is_none()),
-        Call::Reaching => {
-            Ok(reaching(alloc, circle, 2)?.as_slice() == &[true, true, true, false][..])
-        }
+        Call::New | Call::FirstArrow | Call::FifthArrow => is_right_of_new(alloc, growth, call),
+        Call::Order => has_order(alloc, chain, (true, &[3, 2, 1, 0][..])),
+        Call::Circle => has_order(alloc, circle, (false, &[0, 1, 2][..])),
+        Call::Path => Ok(is_path(path(alloc, circle, 0, 2)?, Some(&[0, 1, 2][..]))),
+        Call::NoPath => Ok(is_path(path(alloc, circle, 0, 3)?, None)),
+        Call::Reaching => Ok(are_reaching(
+            reaching(alloc, circle, 2)?,
+            &[true, true, true, false][..],
+        )),
     }
 }
 
+/// Fails where a call isn't right with one of its growths refused, or has no last growth.
+fn shows_right(rt: &impl Abort, alloc: Global, call: Call, chain: &Graph, circle: &Graph)
+    requires { nodes_of circle.now ≡ 4 }
+{
+    let mut answered = false;
+    for growth in 1..1_000u16 {
+        refuse(alloc, growth);
+        let right = is_right(alloc, growth, call, chain, circle);
+        let refused = was_refused(alloc);
+        // Memory may be wanting only where a growth was refused.
+        assert!(rt; right.unwrap_or(refused), "{call:?}, at growth {growth}");
+        if !refused {
+            answered = true;
+            break;
+        }
+    }
+    assert!(rt; answered, "{call:?}");
+}
+
+static CALLS: [Call; 8] = [
+    Call::New,
+    Call::FirstArrow,
+    Call::FifthArrow,
+    Call::Order,
+    Call::Circle,
+    Call::Path,
+    Call::NoPath,
+    Call::Reaching,
+];
+
 #[test]
 fn calls_that_are_refused_memory_answer_so(rt: HostRuntime) -> Result<(), Fail> {
-    let alloc = rt.alloc();
-    let chain = graph_of(alloc, 4, &[(3, 2), (2, 1), (1, 0)])?;
-    let circle = graph_of(alloc, 4, &[(0, 1), (1, 2), (2, 0)])?;
-    for call in [
-        Call::New,
-        Call::FirstArrow,
-        Call::FifthArrow,
-        Call::Order,
-        Call::Circle,
-        Call::Path,
-        Call::NoPath,
-        Call::Reaching,
-    ] {
-        let mut answered = false;
-        for growth in 1..1_000u16 {
-            refuse(alloc, growth);
-            let right = is_right(alloc, growth, call, &chain, &circle);
-            let refused = was_refused(alloc);
-            match right {
-                Ok(right) => assert!(rt; right, "{call:?}, at growth {growth}"),
-                Err(_) => assert!(rt; refused, "{call:?}, at growth {growth}"),
-            }
-            if !refused {
-                answered = true;
-                break;
-            }
-        }
-        assert!(rt; answered, "{call:?}");
+    let chain = graph_of(rt.alloc(), 4, &[(3, 2), (2, 1), (1, 0)])?;
+    let Ok(circle) = graph_of(rt.alloc(), 4, &[(0, 1), (1, 2), (2, 0)]) else {
+        drop(chain);
+        return Err(Fail::from("a circle"));
+    };
+    for call in &CALLS {
+        shows_right(&rt, rt.alloc(), *call, &chain, &circle);
     }
+    drop(chain);
+    drop(circle);
     Ok(())
 }

@@ -1,16 +1,16 @@
 -- In a sound history each dependency has its arrow, between the operations that make it.
-use Rattle.std.proofs.Common.{◌≡◌, ℕ, zero, suc, ◌+◌, ◌-◌, ◌<◌, ◌≤◌, ◌==◌, Bool, true, false, ◌&&◌, cond, Option, Some, None, is_some, List, refl, sym, ap, subst, ◌∙◌, arith}
+use Rattle.std.proofs.Common.{◌≡◌, ℕ, zero, suc, ◌+◌, ◌-◌, ◌<◌, ◌≤◌, ◌==◌, Bool, true, ◌&&◌, Option, Some, None, is_some, List, refl, sym, ap, subst, ◌∙◌, arith}
 use Rattle.std.specs.Prelude.{slice_get, nat_le, nat_lt}
 use Rattle.std.specs.FinMap as map
 use Rattle.std.proofs.lemmas.Bool.{false≢true, eqb-true, eq-eqb, leb-true, le-leb, ltb-true, lt-ltb, and_parts, and_from}
-use Rattle.std.proofs.lemmas.Option.{none-some, same_Some}
+use Rattle.std.proofs.lemmas.Option.{none-some}
 use Rattle.lab_table.specs.Row.{Row}
 use Rattle.lab_table.proofs.Tests.{some_of}
 use Rattle.lab_history.specs.History.{History}
-use Rattle.lab_history.specs.Version.{IsOp, ops_of, op_at, viewed, installers, place_in, last_write, writes_row}
+use Rattle.lab_history.specs.Version.{ops_of, op_at, viewed, installers, place_in, last_write}
 use Rattle.lab_history.specs.declared.operation.Op.{Op}
 use Rattle.lab_history.proofs.Greatest.{last_is_greatest}
-use Rattle.lab_deps.specs.Edges.{IsEdge, Depends, place_of, changes, InstallsAt, Lists}
+use Rattle.lab_deps.specs.Edges.{IsEdge, Depends, place_of, changes, InstallsAt}
 use Rattle.lab_deps.specs.Soundness.{IsSound}
 use Rattle.lab_deps.specs.declared.edge.Edge.{Edge}
 use Rattle.lab_deps.specs.declared.edge.Kind.{Kind}
@@ -19,8 +19,8 @@ use Rattle.lab_deps.proofs.Places.{place_there}
 use Rattle.lab_judge.proofs.SeenVersions.{committed_at, writes_at, installed_at, same_place}
 use Rattle.lab_picture.specs.declared.drawing.Arrow.{Arrow}
 use Rattle.lab_picture.specs.declared.drawing.Tie.TheVariants.{Dependency}
-use Rattle.lab_picture.specs.Making.{anti_first, reader_of, writer_of, ties, ties_at, makes, first_op, reading_op, writing_op, from_of, to_of, arrow_between, arrow_of}
-use Rattle.lab_picture.specs.ArrowLaws.{SeesAt, MakesAt, MakesFirst, WritesLast, LeadsBetween, IsArrowOf}
+use Rattle.lab_picture.specs.Making.{anti_first, reader_of, ties, ties_at, makes, reading_op, writing_op, from_of, to_of, arrow_between, arrow_of}
+use Rattle.lab_picture.specs.ArrowLaws.{MakesAt, MakesFirst, WritesLast, LeadsBetween, IsArrowOf}
 use Rattle.lab_picture.proofs.FirstOps.{IsFirst, found_first}
 
 -- what an operation makes, where its version and the writer's have these places

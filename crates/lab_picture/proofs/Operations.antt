@@ -1,5 +1,5 @@
 -- What is known of the operations of one of a history's transactions.
-use Rattle.std.proofs.Common.{◌≡◌, ℕ, ◌≤◌, ◌==◌, true, false, cond, Some, List, [], ◌∷◌, length, length-append, arith}
+use Rattle.std.proofs.Common.{ℕ, ◌≤◌, ◌==◌, true, false, cond, Some, List, [], ◌∷◌, length, length-append, arith}
 use Rattle.lab_history.specs.History.{History}
 use Rattle.lab_history.specs.HistoryRules.{Keeps, OpsKeep, operations}
 use Rattle.lab_history.specs.Version.{find_txn, ops_in, ops_of}

@@ -8,3 +8,4 @@ pub mod Boxes
 pub mod Columns
 pub mod Arrows
 pub mod Svg
+pub mod Picture

@@ -4,7 +4,8 @@
 //! finding names, an arrow between two operations for each dependency of its walk, or the version that a fault names.
 //! [`print_drawing`] gives a drawing its text, in SVG.
 //!
-//! Which drawing is made is a definition over history and report (`drawing_of`), and so is its text (`svg_of`).
+//! Which drawing is made is a definition over history and report (`drawing_of`), and so is its text (`svg_of`). [`picture`]
+//! is the subcommand of the program: it reads a history file, and writes the picture of a judgement of its history.
 #![tactic(auto)]
 
 mod arrows;
@@ -16,6 +17,7 @@ mod fault_drawing;
 mod laws;
 mod layout;
 mod making;
+mod picturing;
 mod route;
 mod sketch;
 mod states;
@@ -24,6 +26,9 @@ mod text;
 
 pub use asked::Phenomenon;
 pub use drawing::{Arrow, Drawing, Spot, Tie};
-pub use laws::{an_escaped_text_has_no_markup, each_dependency_has_its_arrow};
+pub use laws::{
+    an_escaped_text_has_no_markup, each_dependency_has_its_arrow, picture_answer_unique,
+};
+pub use picturing::picture;
 pub use sketch::draw;
 pub use svg::print_drawing;

@@ -1,18 +1,24 @@
 -- From what the threads of a free play hand on to the calls of each session in the log.
-use Rattle.std.proofs.Common.{◌≡◌, ℕ, suc, ◌+◌, ◌≤◌, refl, sym, ap, subst, ◌∙◌, arith, Bool, true, false, cond, ◌&&◌, List, [], ◌∷◌, ◌++◌, map}
-use Rattle.std.specs.Prelude.{◌==◌, None}
+use Rattle.std.proofs.Common.{◌≡◌, ◌≢◌, ℕ, zero, suc, ◌+◌, ◌≤◌, ◌<◌, length, refl, sym, ap, subst, ◌∙◌, arith, Bool, true, false, cond, ◌&&◌, List, [], ◌∷◌, ◌++◌, map}
+use Rattle.std.specs.Prelude.{◌==◌, None, filter, slice_index_or}
+use Rattle.std.proofs.lemmas.Bool.{both_ways, eq-eqb}
+use Rattle.lab_script.specs.declared.script.Line.{Line as ScriptLine}
 use Rattle.std.specs.List.{All}
 use Rattle.std.proofs.lemmas.Bool.Decides.{eqb_tells}
 use Rattle.std.proofs.lemmas.List.Elements.{All-map, All-append}
 use Rattle.std.proofs.lemmas.List.Sums.{sum_by-cons}
 use Rattle.std.proofs.Common.{inl, inr}
+use Rattle.lab_table.specs.Table.{Table}
+use Rattle.lab_engine.specs.declared.event.Level.{Level}
 use Rattle.lab_engine.specs.declared.event.LogEvent.{LogEvent}
+use Rattle.lab_engine.specs.Log.{past_of}
+use Rattle.lab_engine.specs.OverLimit.{BreaksLimit}
 use Rattle.lab_engine.specs.Recording.{Line, is_answer, calls}
 use Rattle.lab_session.specs.declared.free.Ended.{Ended}
 use Rattle.lab_session.specs.declared.fault.CloseFault.{CloseFault}
 use Rattle.lab_session.specs.declared.fault.CloseFault.TheVariants.{NoMemory, SeatMissing, ReceiptDiffers, OverLimit, SeatRepeated}
 use Rattle.lab_session.specs.Seats.{Seated, call_at, calls_behind, placed_calls}
-use Rattle.lab_session.specs.Play.{commands_called, AreCommandsOf, unclosed_fault}
+use Rattle.lab_session.specs.Play.{given_lines, commands_of, commands_called, AreCommandsOf, unclosed_fault}
 use Rattle.lab_session.specs.Closing.{seats_of, AreClosed, IsLabCloseFault}
 use Rattle.lab_session.specs.Free.{commands_in, IsPlayedSeat, IsEnded, AllPlayed, AllSessionsPlayed, IsFreeFault}
 
@@ -54,10 +60,33 @@ closed_played lines log seats closed played session low high =
     let own : AreCommandsOf session lines (commands_in seat.calls) = subst (λ s. AreCommandsOf s lines (commands_in seat.calls)) at.1 at.2.0 in
     subst (AreCommandsOf session lines) (ap commands_in (at.2.1 at.1) ∙ same_commands session 0 log) own
 
+-- a session that has a line has commands
+pub lined : (session : ℕ) (lines : List ScriptLine) (i : ℕ) (line : ScriptLine) → i < length lines → line ≡ slice_index_or lines i line → line.session ≡ session
+    → commands_of session (given_lines lines) ≢ []
+lined session [] i line few is own none = absurd (omega (arith, few))
+lined session (first ∷ lines) zero line few is own none = at (first.session == session) (eq-eqb first.session session (ap (λ (l : ScriptLine). l.session) (sym is) ∙ own)) none
+  where
+    at : (b : Bool) → b ≡ true → map (λ (l : Line). l.1) (cond b ((first.session, first.command) ∷ filter (λ (l : Line). l.0 == session) (given_lines lines)) (filter (λ (l : Line). l.0 == session) (given_lines lines))) ≡ [] → ⊥
+    at true q h = absurd (omega (arith, ap length h))
+    at false q h = absurd (both_ways _ refl q)
+lined session (first ∷ lines) (suc i) line few is own none = at (lined session lines i line (omega (arith, few)) is own) (first.session == session) none
+  where
+    at : commands_of session (given_lines lines) ≢ [] → (b : Bool) → map (λ (l : Line). l.1) (cond b ((first.session, first.command) ∷ filter (λ (l : Line). l.0 == session) (given_lines lines)) (filter (λ (l : Line). l.0 == session) (given_lines lines))) ≡ [] → ⊥
+    at rest true h = absurd (omega (arith, ap length h))
+    at rest false h = rest h
+
 -- why a free play has no recording, where its lab isn't closed
-pub unclosed_free : (lines : List Line) (seats : List Seated) → AllPlayed lines seats → (fault : CloseFault) → IsLabCloseFault 9 seats fault → IsFreeFault lines (unclosed_fault fault)
-unclosed_free lines seats played NoMemory h = tt
-unclosed_free lines seats played (SeatMissing session) h = tt
-unclosed_free lines seats played (ReceiptDiffers session place) h = tt
-unclosed_free lines seats played (OverLimit which) h = let run = h.0 in (run, h.1, closed_played lines run.log seats h.2.0 played, h.2.1)
-unclosed_free lines seats played (SeatRepeated session) h = tt
+pub unclosed_free : (level : Level) (setup : Table) (lines : List Line) (seats : List Seated) → AllPlayed lines seats → (fault : CloseFault) → IsLabCloseFault level setup 9 seats fault
+    → IsFreeFault level setup lines (unclosed_fault fault)
+unclosed_free level setup lines seats played NoMemory h = tt
+unclosed_free level setup lines seats played (SeatMissing session) h = tt
+unclosed_free level setup lines seats played (ReceiptDiffers session place) h = tt
+unclosed_free level setup lines seats played (OverLimit which) (run, at_level, on_setup, sound, (closed, breaks)) = record {
+  run = run;
+  at_level = at_level;
+  on_setup = on_setup;
+  sound = sound;
+  played = closed_played lines run.log seats closed played;
+  breaks = subst (λ s. BreaksLimit s (past_of run.log) which) on_setup breaks;
+}
+unclosed_free level setup lines seats played (SeatRepeated session) h = tt

@@ -10,17 +10,21 @@ use Rattle.lab_table.specs.declared.statement.Command.TheVariants.{Run}
 use Rattle.lab_table.proofs.Members.{first_member}
 use Rattle.lab_table.proofs.Tests.{slice_get-middle}
 use Rattle.lab_engine.specs.declared.event.Level.{Level}
+use Rattle.lab_engine.specs.declared.event.EngineFault.TheVariants.{Busy}
 use Rattle.lab_engine.specs.declared.event.Outcome.{Outcome}
 use Rattle.lab_engine.specs.declared.event.Outcome.TheVariants.{Begun, Rows as Listed, Committed, Aborted, Waits, Refused}
 use Rattle.lab_engine.specs.declared.event.LogEvent.{LogEvent}
 use Rattle.lab_engine.specs.Log.{Past, past_of, asked, waiting}
 use Rattle.lab_engine.specs.Rules.{BlockedBy, IsFree, IsCircle, Permitted}
-use Rattle.lab_engine.specs.Engine.{IsStep, IsRetry}
+use Rattle.lab_engine.specs.Engine.{Appends, IsStep, IsRetry}
 use Rattle.lab_engine.specs.Recording.{is_answer, NoneRetryable, IsLeastRetryable}
+use Rattle.lab_engine.proofs.LockSteps.{none_some}
 use Rattle.lab_engine.proofs.Runs.{past_of-push}
 use Rattle.lab_session.specs.declared.bench.Receipt.{Receipt}
 use Rattle.lab_session.specs.declared.seat.Call.{Call}
-use Rattle.lab_session.specs.Seats.{Seated, GrowsBy, last_outcome}
+use Rattle.lab_engine.specs.Journal.{EngineRun}
+use Rattle.lab_session.specs.Bench.{IsSoundRun}
+use Rattle.lab_session.specs.Seats.{Seated, IsLogged, GrowsBy, last_outcome}
 
 -- what the last of the calls was answered
 last_is : (calls : List Call) (call : Call) → last_outcome (calls ++ call ∷ []) ≡ Some call.receipt.outcome
@@ -36,6 +40,20 @@ grown seat command receipt before calls holds same is answered =
     let call : Call = record { command = command; receipt = receipt } in
     let all : calls ≡ seat.calls ++ call ∷ [] = is ∙ ap (λ l. l ++ call ∷ []) same in
     record { session = refl; calls = all; answered = answered; reply = ap last_outcome all ∙ last_is seat.calls call }
+
+-- the receipt of an event that was appended
+pub logged : (level : Level) (setup : Table) (old : List LogEvent) (new : EngineRun) (session : ℕ) (command : Command) (receipt : Receipt) → Appends level setup old new.log session command receipt.outcome
+    → receipt.place ≡ length new.log → IsSoundRun new → IsLogged session receipt
+logged level setup old new session command receipt appends place sound = record {
+  run = new;
+  sound = sound;
+  earlier = old;
+  event = record { session = session; command = command; outcome = receipt.outcome };
+  log_is = appends.0;
+  place_is = place;
+  session_is = refl;
+  outcome_is = refl;
+}
 
 -- only one session is the least
 one_least : (level : Level) (setup : Table) (past : Past) (session other : ℕ) → IsLeastRetryable level setup past session → IsLeastRetryable level setup past other → session ≡ other
@@ -92,6 +110,21 @@ unanswered_waits level setup old new session command (Waits on) ((is, permitted)
     subst (λ past. IsSome (waiting past session)) (sym (ap past_of is ∙ past_of-push old event))
     (subst (λ b. IsSome (cond b (asked command) (waiting (past_of old) session))) (sym (eq-eqb session session refl)) (ap is_some (ap asked asks.command_is)))
 unanswered_waits level setup old new session command (Refused fault) step un = absurd (both_ways true un refl)
+
+-- a command that isn't answered asks for a statement
+pub unanswered_asks : (level : Level) (setup : Table) (old new : List LogEvent) (session : ℕ) (command : Command) (outcome : Outcome) → IsStep level setup old new session command outcome
+    → is_answer outcome ≡ false → asked command ≢ None
+unanswered_asks level setup old new session command (Begun n) step un = absurd (both_ways true un refl)
+unanswered_asks level setup old new session command (Listed view rows writes) step un = absurd (both_ways true un refl)
+unanswered_asks level setup old new session command Committed step un = absurd (both_ways true un refl)
+unanswered_asks level setup old new session command Aborted step un = absurd (both_ways true un refl)
+unanswered_asks level setup old new session command (Waits on) ((is, permitted), busy) un = λ none. none_some _ (sym none ∙ ap asked permitted.2.command_is)
+unanswered_asks level setup old new session command (Refused fault) step un = absurd (both_ways true un refl)
+
+-- what was retried isn't told Busy
+pub not_told_busy : (level : Level) (setup : Table) (old new : List LogEvent) (seat after : Seated) (command : Command) (receipt : Receipt) → IsRetry level setup old new seat.session receipt.outcome
+    → GrowsBy seat after command receipt → last_outcome after.calls ≢ Some (Refused Busy)
+not_told_busy level setup old new seat after command receipt retry grows told = retry.3 (same_Some receipt.outcome (Refused Busy) (sym grows.reply ∙ told))
 
 -- the retry of a retryable session is answered
 pub retry_answers : (level : Level) (setup : Table) (old new : List LogEvent) (session : ℕ) (outcome : Outcome) → IsLeastRetryable level setup (past_of old) session

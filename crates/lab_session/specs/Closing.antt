@@ -1,6 +1,8 @@
 -- When the seats of a run have what its log says, and why a run isn't closed.
 use Rattle.std.specs.Prelude.{◌≡◌, ℕ, ◌≤◌, ◌<◌, ◌==◌, List, count_by, Contains}
 use Rattle.std.specs.List.{All}
+use Rattle.lab_table.specs.Table.{Table}
+use Rattle.lab_engine.specs.declared.event.Level.{Level}
 use Rattle.lab_engine.specs.declared.event.LogEvent.{LogEvent}
 use Rattle.lab_engine.specs.declared.recording.RecordFault.{RecordFault}
 use Rattle.lab_engine.specs.declared.recording.RecordFault.TheVariants as record_fault
@@ -67,9 +69,9 @@ IsCloseFault sessions run seats (SeatMissing session) = NoneRepeated seats × Is
 IsCloseFault sessions run seats (ReceiptDiffers session place) = NoneRepeated seats × NoneMissing sessions seats × IsLeastDiffering run.log seats session place
 IsCloseFault sessions run seats (OverLimit which) = AreClosed sessions run.log seats × BreaksLimit run.setup (past_of run.log) which
 
--- a refusal to close is right of some bench
-abbrev pub IsLabCloseFault : ℕ → List Seated → CloseFault → Type 0
-IsLabCloseFault sessions seats fault = (run : EngineRun) × IsSoundRun run × IsCloseFault sessions run seats fault
+-- a refusal to close is right of some bench at this level and on this setup
+abbrev pub IsLabCloseFault : Level → Table → ℕ → List Seated → CloseFault → Type 0
+IsLabCloseFault level setup sessions seats fault = (run : EngineRun) × (run.level ≡ level) × (run.setup ≡ setup) × IsSoundRun run × IsCloseFault sessions run seats fault
 
 -- why a run isn't closed, where the log has no recording
 abbrev pub close_fault_of : RecordFault → CloseFault

@@ -1,18 +1,22 @@
 -- What the threads of a free play hand on.
-use Rattle.std.specs.Prelude.{◌≡◌, ◌≢◌, ℕ, ◌≤◌, List, [], ◌∷◌, ◌++◌, Option, Some, None, IfSome, map}
+use Rattle.std.specs.Prelude.{◌≡◌, ◌≢◌, ℕ, ◌≤◌, ◌<◌, List, [], ◌∷◌, ◌++◌, Option, Some, None, IfSome, map, length, take, slice_index_or}
 use Rattle.std.specs.List.{All}
+use Rattle.lab_table.specs.Table.{Table}
 use Rattle.lab_table.specs.declared.statement.Command.{Command}
+use Rattle.lab_engine.specs.declared.event.Level.{Level}
 use Rattle.lab_engine.specs.declared.event.LogEvent.{LogEvent}
 use Rattle.lab_engine.specs.Log.{past_of}
 use Rattle.lab_engine.specs.Journal.{EngineRun}
 use Rattle.lab_engine.specs.Recording.{Line}
 use Rattle.lab_engine.specs.OverLimit.{BreaksLimit}
+use Rattle.lab_history.specs.declared.fault.Limit.{Limit}
 use Rattle.lab_session.specs.declared.seat.Call.{Call}
 use Rattle.lab_session.specs.declared.fault.LabFault.{LabFault}
 use Rattle.lab_session.specs.declared.fault.LabFault.TheVariants.{NothingWaiting}
 use Rattle.lab_session.specs.Seats.{Seated}
 use Rattle.lab_session.specs.Bench.{IsSoundRun, IsFull}
 use Rattle.lab_session.specs.Waiting.{TellsFull}
+use Rattle.lab_session.specs.declared.free.Ended.{Ended}
 use Rattle.lab_session.specs.declared.fault.PlayFault.{PlayFault}
 use Rattle.lab_session.specs.declared.fault.PlayFault.TheVariants.{NoMemory, OverLimit, Close, NoThread, Full}
 use Rattle.lab_session.specs.Play.{AreCommandsOf, IsPlayed}
@@ -29,6 +33,15 @@ IsPlayedSeat lines seat = AreCommandsOf seat.session lines (commands_in seat.cal
 pub record HasOneMore (old new : Seated) (command : Command) : Type 0 where
   pub session : new.session ≡ old.session
   pub commands : commands_in new.calls ≡ commands_in old.calls ++ command ∷ []
+
+-- a fault is that of the first thread that has one
+pub record IsFirstOf (ended : List Ended) (fault : LabFault) : Type 0 where
+  pub place : ℕ
+  pub one : Ended
+  pub within : place < length ended
+  pub stands : one ≡ slice_index_or ended place one
+  pub has : one.fault ≡ Some fault
+  pub before : All (λ e. e.fault ≡ None) (take place ended)
 
 -- a seat that has given nothing
 abbrev pub IsUnused : Seated → Type 0
@@ -59,10 +72,19 @@ IsStop (Close fault) = ⊥
 IsStop NoThread = Unit {0}
 IsStop Full = (run : EngineRun) × IsFull run
 
--- why a free play has no recording: the legal log of such a play breaks a limit, or a legal log is full; what seats of a lock's log say, and which threads were given, no definition says
-abbrev pub IsFreeFault : List Line → PlayFault → Type 0
-IsFreeFault lines NoMemory = Unit {0}
-IsFreeFault lines (OverLimit which) = (run : EngineRun) × IsSoundRun run × AllSessionsPlayed lines run.log × BreaksLimit run.setup (past_of run.log) which
-IsFreeFault lines (Close fault) = Unit {0}
-IsFreeFault lines NoThread = Unit {0}
-IsFreeFault lines Full = (run : EngineRun) × IsFull run
+-- a legal log of such a play at a level and on a setup, which breaks a limit
+pub record IsOverLimit (level : Level) (setup : Table) (lines : List Line) (which : Limit) : Type 0 where
+  pub run : EngineRun
+  pub at_level : run.level ≡ level
+  pub on_setup : run.setup ≡ setup
+  pub sound : IsSoundRun run
+  pub played : AllSessionsPlayed lines run.log
+  pub breaks : BreaksLimit setup (past_of run.log) which
+
+-- why a free play has no recording: a log of such a play breaks a limit, or a legal log is full; what seats of a lock's log say, and which threads were given, no definition says
+abbrev pub IsFreeFault : Level → Table → List Line → PlayFault → Type 0
+IsFreeFault level setup lines NoMemory = Unit {0}
+IsFreeFault level setup lines (OverLimit which) = IsOverLimit level setup lines which
+IsFreeFault level setup lines (Close fault) = Unit {0}
+IsFreeFault level setup lines NoThread = Unit {0}
+IsFreeFault level setup lines Full = (run : EngineRun) × IsFull run

@@ -6,7 +6,7 @@ use Rattle.lab_engine.specs.Journal.{EngineRun}
 use Rattle.lab_engine.specs.Log.{past_of}
 use Rattle.lab_engine.specs.Recording.{is_answer, IsLeastRetryable}
 use Rattle.lab_session.specs.declared.bench.Receipt.{Receipt}
-use Rattle.lab_session.specs.Seats.{Seated, GrowsBy}
+use Rattle.lab_session.specs.Seats.{Seated, IsLogged, GrowsBy}
 
 -- a seat that holds a command, in the place of one that it held
 abbrev pub holding : Seated → Command → Seated
@@ -21,6 +21,7 @@ pub record IsAsked (old new : EngineRun) (seat after : Seated) (command : Comman
   pub receipt : Receipt
   pub step : IsStep old.level old.setup old.log new.log seat.session command receipt.outcome
   pub place : receipt.place ≡ length new.log
+  pub logged : IsLogged seat.session receipt
   pub answer : is_answer receipt.outcome ≡ answered
   pub listed : answered ≡ true → GrowsBy seat after command receipt
   pub kept : answered ≡ true → after.holds ≡ seat.holds
@@ -32,6 +33,7 @@ pub record IsRetried (old new : EngineRun) (seat after : Seated) : Type 0 where
   pub receipt : Receipt
   pub retry : IsRetry old.level old.setup old.log new.log seat.session receipt.outcome
   pub place : receipt.place ≡ length new.log
+  pub logged : IsLogged seat.session receipt
   pub command : Command
   pub held : seat.holds ≡ Some command
   pub listed : GrowsBy seat after command receipt

@@ -1,10 +1,13 @@
 -- What a play by one thread knows after each event.
 use Rattle.std.specs.Prelude.{◌≡◌, ℕ, ◌≤◌, ◌<◌, Bool, List, [], ◌∷◌, ◌++◌, false, length, drop, slice_index_or, ⊤}
+use Rattle.lab_table.specs.Table.{Table}
 use Rattle.lab_table.specs.declared.statement.Command.{Command}
+use Rattle.lab_engine.specs.declared.event.Level.{Level}
 use Rattle.lab_engine.specs.declared.event.Outcome.{Outcome}
 use Rattle.lab_engine.specs.declared.event.LogEvent.{LogEvent}
 use Rattle.lab_engine.specs.Log.{Past, past_of}
 use Rattle.lab_engine.specs.Recording.{Line, given, lines_by, next_line, AllFollowScript}
+use Rattle.lab_engine.specs.LeastCircle.{NamesLeastOf, AllNameLeast}
 use Rattle.lab_engine.specs.Journal.{EngineRun}
 use Rattle.lab_script.specs.declared.script.Line.{Line as ScriptLine}
 use Rattle.lab_script.specs.Ranges.{SessionInRange}
@@ -25,14 +28,16 @@ abbrev pub AllOfSessions : Past → Type 0
 AllOfSessions [] = ⊤
 AllOfSessions (event ∷ past) = AllOfSessions past × SessionInRange event.session
 
--- a log has one more event, of this session and command
-abbrev pub HasMore : List LogEvent → List LogEvent → ℕ → Command → Type 0
-HasMore old new session command = (outcome : Outcome) × (new ≡ old ++ record { session = session; command = command; outcome = outcome } ∷ [])
+-- a log has one more event, of this session and command, which names the least circle where it names one
+abbrev pub HasMore : Level → Table → List LogEvent → List LogEvent → ℕ → Command → Type 0
+HasMore level setup old new session command = (outcome : Outcome) × (new ≡ old ++ record { session = session; command = command; outcome = outcome } ∷ [])
+    × NamesLeastOf level setup (past_of old) session command outcome
 
 -- a play that has followed a script so far, with how many lines each session has given
 pub record IsUnderWay (run : EngineRun) (lines : List Line) (counts : List ℕ) : Type 0 where
   pub sound : IsSoundRun run
   pub follows : AllFollowScript run.level run.setup lines (past_of run.log)
+  pub least : AllNameLeast run.level run.setup (past_of run.log)
   pub of_sessions : AllOfSessions (past_of run.log)
   pub counted : AreCounts (given (past_of run.log)) counts
 

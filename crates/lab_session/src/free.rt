@@ -1,11 +1,11 @@
 //! Playing a script by one thread for each session.
 
-ghost use Rattle.std.specs.Prelude.{◌≡◌, ◌≢◌, ◌≤◌, ℕ, [], ◌++◌, map, None, false, OnOk, IfOk, IfErr, IfSome, IfNone};
+ghost use Rattle.std.specs.Prelude.{◌≡◌, ◌≢◌, ◌≤◌, ℕ, [], ◌++◌, map, None, false, true, OnOk, IfOk, IfErr, IfSome, IfNone};
 ghost use Rattle.std.specs.List.{All};
 ghost use Rattle.lab_engine.specs.RecordedLog.{IsSoundRecord};
 ghost use Rattle.lab_session.specs.Waiting.{TellsFull};
 ghost use Rattle.lab_session.specs.Play.{given_lines, commands_of};
-ghost use Rattle.lab_session.specs.Free.{IsUnused, HasOneMore, IsPlayedSeat, IsRefusal, IsEnded, AllPlayed, IsStop, AllSessionsPlayed, IsFreeFault};
+ghost use Rattle.lab_session.specs.Free.{IsFirstOf, IsUnused, HasOneMore, IsPlayedSeat, IsRefusal, IsEnded, AllPlayed, IsStop, AllSessionsPlayed, IsFreeFault};
 
 use crate::fault::{LabFault, PlayFault, refused_play, unclosed};
 use crate::kept::{Kept, Origin};
@@ -148,7 +148,8 @@ fn play_session<E: Engine + Drop, G: Gate, R: Wait>(
     lines: &[Line],
     gate: &G,
 ) -> Ended
-    requires { IsUnused seat }
+    requires unused { IsUnused seat }
+    requires lined { commands_of seat.session (given_lines lines.now) ≢ [] }
     ensures { IsEnded (given_lines lines.now) result.seat result.fault }
 {
     match give_lines(rt, alloc, lab, seat, lines, gate) {
@@ -164,8 +165,10 @@ fn play_session<E: Engine + Drop, G: Gate, R: Wait>(
     }
 }
 
+/// Whether a line is the session's.
 fn has_lines(lines: &[Line], session: Session) -> bool
-    ensures { result ≡ false → commands_of session (given_lines lines.now) ≡ [] }
+    ensures none { result ≡ false → commands_of session (given_lines lines.now) ≡ [] }
+    ensures some { result ≡ true → commands_of session (given_lines lines.now) ≢ [] }
 {
     for line in lines {
         if line.session == session {
@@ -255,6 +258,7 @@ fn play_threads<'x, E: Engine + Drop + Send, G: Gate + Sync, R: Threads + Wait +
 /// The first fault of the threads.
 fn first_fault(ended: &[Ended]) -> Option<LabFault>
     requires { All (λ e. IsRefusal e.fault) ended.now }
+    ensures first { IfSome result (IsFirstOf ended.now) }
     ensures none { IfNone result (All (λ e. e.fault ≡ None) ended.now) }
     ensures some { IfSome result (λ fault. fault ≢ LabFault.NothingWaiting) }
     ensures full { IfSome result TellsFull }
@@ -301,7 +305,7 @@ fn play_from<O: Origin + Send, E: Engine + Drop + Send, G: Gate + Sync, R: Threa
     ensures level { IfOk result (λ recording. recording.level ≡ O.level) }
     ensures setup { IfOk result (λ recording. recording.setup ≡ O.setup) }
     ensures played { IfOk result (λ recording. AllSessionsPlayed (given_lines script.now.lines) recording.log) }
-    ensures fault { IfErr result (IsFreeFault (given_lines script.now.lines)) }
+    ensures fault { IfErr result (IsFreeFault O.level O.setup (given_lines script.now.lines)) }
 {
     let engine: Kept<E, O> = Kept::new(engine);
     let (lab, seats) = Lab::start(alloc, engine, 9)?;
@@ -341,7 +345,7 @@ pub fn play_free<E: Engine + Drop + Send, G: Gate + Sync, R: Threads + Wait + Sy
     ensures level { IfOk result (λ recording. recording.level ≡ E.kind engine) }
     ensures setup { IfOk result (λ recording. recording.setup ≡ E.opening engine) }
     ensures played { IfOk result (λ recording. AllSessionsPlayed (given_lines script.now.lines) recording.log) }
-    ensures fault { IfErr result (IsFreeFault (given_lines script.now.lines)) }
+    ensures fault { IfErr result (IsFreeFault (E.kind engine) (E.opening engine) (given_lines script.now.lines)) }
 {
     play_from::<Brand, E, G, R>(rt, alloc, engine, script, gate)
 }

@@ -1,9 +1,14 @@
 //! A bench that threads share, and the seats of its sessions.
 
-ghost use Rattle.std.specs.Prelude.{◌≡◌, ◌≢◌, ◌≤◌, ℕ, None, Some, [], true, map, IsSome, IfOk, IfErr};
+ghost use Rattle.std.specs.Prelude.{◌≡◌, ◌≢◌, ◌≤◌, ℕ, None, Some, [], true, map, is_some, IsSome, IfOk, IfErr};
+ghost use Rattle.lab_engine.specs.declared.event.EngineFault.TheVariants.{Busy};
+ghost use Rattle.lab_engine.specs.declared.event.Outcome.TheVariants.{Refused};
+ghost use Rattle.lab_engine.specs.Journal.{EngineRun};
+ghost use Rattle.lab_engine.specs.Log.{past_of, active, asked as asks_for};
 ghost use Rattle.lab_engine.specs.Recording.{numbers_from};
 ghost use Rattle.lab_engine.specs.RecordedLog.{IsSoundRecord};
-ghost use Rattle.lab_session.specs.Seats.{new_seat, GrowsBy};
+ghost use Rattle.lab_session.specs.Bench.{IsSoundRun};
+ghost use Rattle.lab_session.specs.Seats.{new_seat, last_outcome, IsLogged, GrowsBy};
 ghost use Rattle.lab_session.specs.Closing.{AreClosed, IsLabCloseFault};
 ghost use Rattle.lab_session.specs.Waiting.{still_waits, handed_back, RestsOrHolds, TellsFull};
 
@@ -96,8 +101,9 @@ impl<E: Engine + Drop> Lab<E> {
         seat: Seat,
     ) -> Result<Seat, (Seat, LabFault)>
         requires { IsSome seat.holds }
-        ensures answered { IfOk result (λ s. (command : _) × (r : _) × (seat.holds ≡ Some command) × GrowsBy seat s command r) }
+        ensures answered { IfOk result (λ s. (command : _) × (r : _) × (seat.holds ≡ Some command) × GrowsBy seat s command r × IsLogged seat.session r) }
         ensures holds { IfOk result (λ s. s.holds ≡ None) }
+        ensures apart { IfOk result (λ s. last_outcome s.calls ≢ Some (Refused Busy)) }
         ensures seat { IfErr result (λ e. e.0 ≡ seat) }
         ensures waiting { IfErr result (λ e. still_waits e.1 ≡ true) }
         ensures full { IfErr result (λ e. TellsFull e.1) }
@@ -123,7 +129,8 @@ impl<E: Engine + Drop> Lab<E> {
     }
 
     /// Steps a command of a seat's session, and waits until it is answered. The seat's list then has it with its
-    /// receipt.
+    /// receipt, which is that of an event of the session. Where the answer is Busy, and where no statement was asked
+    /// for, the seat holds what it held.
     ///
     /// Refused, for want of memory (1) or where the log has 100,000 events (2), the seat is handed back with its list
     /// as it was. Where the fault says `waiting` the command waits in the lab and the seat holds it, in the place of one
@@ -135,8 +142,10 @@ impl<E: Engine + Drop> Lab<E> {
         seat: Seat,
         command: Command,
     ) -> Result<Seat, (Seat, LabFault)>
-        ensures answered { IfOk result (λ s. (r : _) × GrowsBy seat s command r) }
+        ensures answered { IfOk result (λ s. (r : _) × GrowsBy seat s command r × IsLogged seat.session r) }
         ensures holds { IfOk result (λ s. RestsOrHolds seat.holds s.holds) }
+        ensures busy { IfOk result (λ s. last_outcome s.calls ≡ Some (Refused Busy) → s.holds ≡ seat.holds) }
+        ensures at_once { IfOk result (λ s. asks_for command ≡ None → s.holds ≡ seat.holds) }
         ensures seat { IfErr result (λ e. e.0 ≡ handed_back seat command e.1) }
         ensures fault { IfErr result (λ e. e.1 ≢ LabFault.NothingWaiting) }
         ensures full { IfErr result (λ e. TellsFull e.1) }
@@ -167,7 +176,7 @@ impl<E: Engine + Drop> Lab<E> {
         alloc: Global,
         seat: Seat,
     ) -> Result<Seat, (Seat, LabFault)>
-        ensures answered { IfOk result (λ s. (command : _) × (r : _) × (seat.holds ≡ Some command) × GrowsBy seat s command r) }
+        ensures answered { IfOk result (λ s. (command : _) × (r : _) × (seat.holds ≡ Some command) × GrowsBy seat s command r × IsLogged seat.session r) }
         ensures holds { IfOk result (λ s. s.holds ≡ None) }
         ensures seat { IfErr result (λ e. e.0 ≡ seat) }
         ensures nothing { IfErr result (λ e. e.1 ≡ LabFault.NothingWaiting → seat.holds ≡ None) }
@@ -202,7 +211,9 @@ impl<E: Engine + Drop> Lab<E> {
     }
 
     /// Whether a session has an active transaction.
-    pub(crate) fn is_active<R: Wait>(&self, rt: &R, session: Session) -> bool {
+    pub(crate) fn is_active<R: Wait>(&self, rt: &R, session: Session) -> bool
+        ensures { (run : EngineRun) × IsSoundRun run × (result ≡ is_some (active (past_of run.log) session)) }
+    {
         self.bench.lock(rt).is_active(session)
     }
 
@@ -219,7 +230,7 @@ impl<E: Engine + Drop> Lab<E> {
         ensures setup { IfOk result (λ recording. (engine : _) × (recording.setup ≡ E.opening engine)) }
         ensures lab { IfErr result (λ e. e.0 ≡ self) }
         ensures seats { IfErr result (λ e. e.1 ≡ seats) }
-        ensures fault { IfErr result (λ e. IsLabCloseFault self seats.items e.2) }
+        ensures fault { IfErr result (λ e. (engine : _) × IsLabCloseFault (E.kind engine) (E.opening engine) self seats.items e.2) }
     {
         let Lab {
             bench,

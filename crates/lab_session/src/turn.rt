@@ -2,9 +2,13 @@
 
 ghost use Rattle.std.specs.Prelude.{◌≡◌, ◌≢◌, None, Some, true, false, length, IsSome, IfOk, IfErr, OnErr, IfSome, IfNone, Err};
 ghost use Rattle.lab_engine.specs.Limits.{max_events};
-ghost use Rattle.lab_engine.specs.Log.{past_of, waiting};
+ghost use Rattle.lab_engine.specs.declared.event.EngineFault.TheVariants.{Busy};
+ghost use Rattle.lab_engine.specs.declared.event.Outcome.TheVariants.{Refused};
+ghost use Rattle.lab_engine.specs.Log.{past_of, waiting, asked as asks_for};
 ghost use Rattle.lab_engine.specs.Recording.{IsLeastRetryable};
+ghost use Rattle.lab_session.specs.Bench.{IsFull};
 ghost use Rattle.lab_session.specs.Waiting.{still_waits, lab_fault_of, TellsFull};
+ghost use Rattle.lab_session.specs.Seats.{last_outcome};
 ghost use Rattle.lab_session.specs.Turns.{resting, IsAsked, IsRetried};
 
 use crate::bench::{Bench, BenchFault};
@@ -41,6 +45,7 @@ pub(crate) fn asked<E: Engine>(
 ) -> Result<Progress, (Command, LabFault)>
     ensures asked { IfOk result (λ progress. IsAsked bench.old bench.new seat.old seat.new command progress.answered) }
     ensures waits { IfOk result (λ progress. progress.answered ≡ false → IsSome (waiting (past_of bench.new.log) seat.old.session)) }
+    ensures asks { IfOk result (λ progress. progress.answered ≡ false → asks_for command ≢ None) }
     ensures level { bench.new.level ≡ bench.old.level }
     ensures setup { bench.new.setup ≡ bench.old.setup }
     ensures log { OnErr result (bench.new.log ≡ bench.old.log) }
@@ -125,6 +130,7 @@ pub(crate) fn retried<E: Engine>(
 ) -> Result<Option<Change>, LabFault>
     requires { IsSome seat.old.holds }
     ensures retried { IfOk result (λ done. IfSome done (λ change. IsRetried bench.old bench.new seat.old seat.new)) }
+    ensures apart { IfOk result (λ done. IfSome done (λ change. last_outcome seat.new.calls ≢ Some (Refused Busy))) }
     ensures not_due { IfOk result (λ done. IfNone done (¬ IsLeastRetryable bench.old.level bench.old.setup (past_of bench.old.log) seat.old.session)) }
     ensures same_log { IfOk result (λ done. IfNone done (bench.new.log ≡ bench.old.log)) }
     ensures same_seat { IfOk result (λ done. IfNone done (seat.new ≡ seat.old)) }
@@ -162,6 +168,7 @@ pub(crate) fn retried<E: Engine>(
 pub(crate) fn ended<E: Engine>(bench: &Bench<E>) -> LabFault
     ensures waiting { still_waits result ≡ true }
     ensures told { TellsFull result }
+    ensures room { result ≡ LabFault.NoMemory true → ¬ IsFull bench.now }
 {
     if bench.is_full() {
         LabFault::Full { waiting: true }

@@ -1,39 +1,69 @@
 //! The recording of a recording's log.
 
-use lab_engine::Recording;
+ghost use Rattle.std.specs.Prelude.{IfSome};
+ghost use Rattle.lab_engine.specs.Log.{past_of};
+ghost use Rattle.lab_engine.specs.Rules.{IsLegal};
+
+use lab_engine::{MAX_EVENTS, Recording};
 use lab_history::write_history;
 use lab_script::parse_script;
 use lab_session::play_script;
 use lab_versions::SnapshotEngine;
+use std::alloc::Global;
 use std::test::Fail;
 
 const SCRIPT: &[u8] =
     b"setup (1, 10);\nbegin; -- T1\nupdate test set value = value + 1 where id = 1; -- T1\ncommit; -- T1\n";
 
+/// The recording of a play of the script.
+fn played(alloc: Global) -> Option<Recording>
+    ensures { IfSome result (λ r. IsLegal r.level r.setup (past_of r.log)) }
+{
+    let script = parse_script(alloc, SCRIPT).ok()?;
+    let Ok(setup) = script.setup.copy(alloc) else {
+        drop(script);
+        return None;
+    };
+    let played = play_script(alloc, SnapshotEngine::new(alloc, setup), &script).ok();
+    drop(script);
+    played
+}
+
+/// The recording of a recording's log.
+fn recorded_again(alloc: Global, played: &Recording) -> Option<Recording>
+    requires { IsLegal played.now.level played.now.setup (past_of played.now.log) }
+{
+    if played.log().len() > MAX_EVENTS {
+        return None;
+    }
+    Recording::of(alloc, played.level(), played.setup(), played.log()).ok()
+}
+
+/// Whether two recordings of three events have histories of the same text.
+fn are_alike(alloc: Global, one: &Recording, other: &Recording) -> Option<bool> {
+    if one.log().len() != 3 || other.log().len() != 3 {
+        return Some(false);
+    }
+    let text = write_history(alloc, one.history()).ok()?;
+    let again = write_history(alloc, other.history()).ok()?;
+    Some(text == again)
+}
+
+/// Whether a recording and that of its log have histories of the same text.
+fn is_recorded_alike(alloc: Global, played: &Recording) -> Option<bool>
+    requires { IsLegal played.now.level played.now.setup (past_of played.now.log) }
+{
+    let again = recorded_again(alloc, played)?;
+    let are_alike = are_alike(alloc, played, &again);
+    drop(again);
+    are_alike
+}
+
 #[test]
 fn a_log_gives_its_recording_again(rt: HostRuntime) -> Result<(), Fail> {
-    let alloc = rt.alloc();
-    let Ok(script) = parse_script(alloc, SCRIPT) else {
-        return Err(Fail::from("a script"));
-    };
-    let engine = SnapshotEngine::new(alloc, script.setup.copy(alloc)?);
-    let Ok(played) = play_script(alloc, engine, &script) else {
-        return Err(Fail::from("a recording"));
-    };
-    let Ok(text) = write_history(alloc, played.history()) else {
-        return Err(Fail::from("a text"));
-    };
-    assert_eq!(rt; played.log().len(), 3);
-    if played.log().len() > 100_000 {
-        return Err(Fail::from("a short log"));
-    }
-    let Ok(again) = Recording::of(alloc, played.level(), played.setup(), played.log()) else {
-        return Err(Fail::from("the recording again"));
-    };
-    let Ok(text_again) = write_history(alloc, again.history()) else {
-        return Err(Fail::from("the text again"));
-    };
-    assert_eq!(rt; again.log().len(), 3);
-    assert_eq!(rt; text.as_slice(), text_again.as_slice());
+    let played = played(rt.alloc()).ok_or("a recording")?;
+    let is_alike = is_recorded_alike(rt.alloc(), &played);
+    drop(played);
+    assert!(rt; is_alike == Some(true));
     Ok(())
 }

@@ -249,6 +249,32 @@ fn play_counted<R: Threads + Wait + Sync, E: Engine + Drop + Send>(
 }
 
 /// The same on the engine of a level.
+fn play_on<R: Threads + Wait + Sync>(
+    rt: &R,
+    alloc: Global,
+    level: Level,
+    setup: Table,
+    refuses: bool,
+    script: &Script,
+    gate: &Forcing,
+) -> Result<Recording, PlayFault> {
+    match level {
+        Level::Locking => {
+            let engine = LockEngine::new(alloc, setup);
+            play_counted(rt, alloc, engine, refuses, script, gate)
+        }
+        Level::Committed => {
+            let engine = CommittedEngine::new(alloc, setup);
+            play_counted(rt, alloc, engine, refuses, script, gate)
+        }
+        Level::Snapshot => {
+            let engine = SnapshotEngine::new(alloc, setup);
+            play_counted(rt, alloc, engine, refuses, script, gate)
+        }
+    }
+}
+
+/// The same of the script above.
 fn play_at<R: Threads + Wait + Sync>(
     rt: &R,
     alloc: Global,
@@ -257,52 +283,90 @@ fn play_at<R: Threads + Wait + Sync>(
     gate: &Forcing,
 ) -> Option<Result<Recording, PlayFault>> {
     let script = parse_script(alloc, SCRIPT).ok()?;
-    let setup = script.setup.copy(alloc).ok()?;
-    Some(match level {
-        Level::Locking => {
-            let engine = LockEngine::new(alloc, setup);
-            play_counted(rt, alloc, engine, refuses, &script, gate)
-        }
-        Level::Committed => {
-            let engine = CommittedEngine::new(alloc, setup);
-            play_counted(rt, alloc, engine, refuses, &script, gate)
-        }
-        Level::Snapshot => {
-            let engine = SnapshotEngine::new(alloc, setup);
-            play_counted(rt, alloc, engine, refuses, &script, gate)
-        }
-    })
+    let Ok(setup) = script.setup.copy(alloc) else {
+        drop(script);
+        return None;
+    };
+    let played = play_on(rt, alloc, level, setup, refuses, &script, gate);
+    drop(script);
+    Some(played)
+}
+
+/// The recording of a play at a level.
+fn recording_at<R: Threads + Wait + Sync>(
+    rt: &R,
+    alloc: Global,
+    level: Level,
+    gate: &Forcing,
+) -> Option<Recording> {
+    play_at(rt, alloc, level, false, gate)?.ok()
+}
+
+/// The text of the log of a recording of this level.
+fn text_of(alloc: Global, level: Level, recording: &Recording) -> Option<Vec<u8>> {
+    if recording.level() != level {
+        return None;
+    }
+    print_log(alloc, recording).ok()
+}
+
+/// The text of the log of a play at a level.
+fn text_at<R: Threads + Wait + Sync>(
+    rt: &R,
+    alloc: Global,
+    level: Level,
+    gate: &Forcing,
+) -> Option<Vec<u8>> {
+    let recording = recording_at(rt, alloc, level, gate)?;
+    let text = text_of(alloc, level, &recording);
+    drop(recording);
+    text
+}
+
+/// Whether a play at a level has this log, with so many events before session 1's commit. And how many calls of its gate
+/// came in their place.
+fn forced<R: Threads + Wait + Sync>(
+    rt: &R,
+    alloc: Global,
+    level: Level,
+    before_commit: u32,
+    due: &[u8],
+) -> Option<(bool, u32)> {
+    let gate = Forcing::new(alloc, before_commit).ok()?;
+    let text = text_at(rt, alloc, level, &gate);
+    let in_place = gate.in_place.load(Ordering::SeqCst);
+    drop(gate);
+    let text = text?;
+    Some((text.as_slice() == due, in_place))
 }
 
 #[test]
 fn a_forced_play_has_the_log_of_its_level(rt: HostRuntime) -> Result<(), Fail> {
-    let alloc = rt.alloc();
     for (level, before_commit, due) in ALL_DUE {
-        let gate = Forcing::new(alloc, before_commit)?;
-        let Some(played) = play_at(&rt, alloc, level, false, &gate) else {
-            return Err(Fail::from("a play"));
-        };
-        let recording = played.ok().ok_or("a recording")?;
-        let text = print_log(alloc, &recording).ok().ok_or("a text")?;
-        assert_eq!(rt; text.as_slice(), due);
-        assert_eq!(rt; recording.level(), level);
+        let played = forced(&rt, rt.alloc(), level, before_commit, due);
         // Twice round each of the seven lines.
-        assert_eq!(rt; gate.in_place.load(Ordering::SeqCst), 14);
+        assert_eq!(rt; played, Some((true, 14)));
     }
     Ok(())
+}
+
+/// Why a play at locking is refused whose first retry has no memory.
+fn fault_of<R: Threads + Wait + Sync>(rt: &R, alloc: Global, gate: &Forcing) -> Option<PlayFault> {
+    play_at(rt, alloc, Level::Locking, true, gate)?.err()
 }
 
 /// Session 2's select waits, and its retry has no memory.
 #[test]
 fn a_forced_play_without_memory_ends(rt: HostRuntime) -> Result<(), Fail> {
     let gate = Forcing::new(rt.alloc(), 4)?;
-    let Some(played) = play_at(&rt, rt.alloc(), Level::Locking, true, &gate) else {
-        return Err(Fail::from("a play"));
-    };
-    assert_eq!(rt; played.err(), Some(PlayFault::NoMemory));
+    let fault = fault_of(&rt, rt.alloc(), &gate);
+    let in_place = gate.in_place.load(Ordering::SeqCst);
+    let events = gate.counts.events.load(Ordering::SeqCst);
+    drop(gate);
+    assert_eq!(rt; fault, Some(PlayFault::NoMemory));
     // Twice round each line of session 1, and round the first two of session 2.
-    assert_eq!(rt; gate.in_place.load(Ordering::SeqCst), 10);
+    assert_eq!(rt; in_place, 10);
     // Five up to the commit; and then session 2 goes on once with its select, and aborts.
-    assert_eq!(rt; gate.counts.events.load(Ordering::SeqCst), 7);
+    assert_eq!(rt; events, 7);
     Ok(())
 }

@@ -2,13 +2,17 @@
 
 ghost use Rattle.std.specs.Prelude.{◌≡◌, []};
 
-use lab_engine::{Engine, EngineFault, Outcome};
+use lab_engine::{Engine, EngineFault, Level, LogEvent, Outcome};
 use lab_locking::LockEngine;
-use lab_session::{Bench, BenchFault};
-use lab_table::{Command, Session, Table};
+use lab_script::{Line, Lines, Script};
+use lab_session::{Bench, BenchFault, Gate, PlayFault, play_free, play_script};
+use lab_table::{Command, NoMemory, Session, Table};
 use lab_versions::{CommittedEngine, SnapshotEngine};
-use std::alloc::Global;
+use std::alloc::{AllocError, Global};
+use std::sync::Wait;
+use std::sync::atomic::{AtomicBool, Ordering};
 use std::test::Fail;
+use std::thread::{Threads, yield_now};
 
 /// Whether a commit that no transaction is there for is logged at this place.
 fn is_refused<E: Engine>(
@@ -66,5 +70,177 @@ fn a_full_log_of_the_snapshot_engine(rt: HostRuntime) -> Result<(), Fail> {
     let alloc = rt.alloc();
     let engine = SnapshotEngine::new(alloc, Table::new(alloc));
     assert_eq!(rt; fills(alloc, engine), Some(true));
+    Ok(())
+}
+
+/// A begin of one session, and of another so many commits that no transaction is there for that the log has no room for
+/// the last.
+fn too_many(alloc: Global, one: Session, other: Session) -> Option<Vec<Line>> {
+    let mut lines = Vec::with_capacity(alloc, 100_002).ok()?;
+    for place in 0..100_002u32 {
+        let line = if place == 0 {
+            Line {
+                session: one,
+                command: Command::Begin,
+                text_line: 2,
+            }
+        } else {
+            Line {
+                session: other,
+                command: Command::Commit,
+                text_line: 3,
+            }
+        };
+        if lines.push(line).ok().is_none() {
+            drop(lines);
+            return None;
+        }
+    }
+    Some(lines)
+}
+
+/// A script of these lines over an empty table.
+fn script_of(alloc: Global, one: u8, other: u8) -> Option<Script> {
+    let lines = too_many(alloc, Session::new(one)?, Session::new(other)?)?;
+    Some(Script {
+        setup: Table::new(alloc),
+        lines: Lines::new(lines),
+    })
+}
+
+/// An engine that refuses a session each command for want of memory.
+#[derive(Drop)]
+struct Refusing {
+    engine: LockEngine,
+    session: u8,
+}
+
+impl Engine for Refusing {
+    ghost events = { λ e. ⟦<LockEngine as Engine>⟧.events e.engine };
+
+    ghost opening = { λ e. ⟦<LockEngine as Engine>⟧.opening e.engine };
+
+    ghost kind = { λ e. ⟦<LockEngine as Engine>⟧.kind e.engine };
+
+    fn level(&self) -> Level {
+        self.engine.level()
+    }
+
+    fn setup(&self) -> &Table {
+        self.engine.setup()
+    }
+
+    fn log(&self) -> &[LogEvent] {
+        self.engine.log()
+    }
+
+    fn is_active(&self, session: Session) -> bool {
+        self.engine.is_active(session)
+    }
+
+    fn is_waiting(&self, session: Session) -> bool {
+        self.engine.is_waiting(session)
+    }
+
+    fn step(
+        &mut self,
+        alloc: Global,
+        session: Session,
+        command: &Command,
+    ) -> Result<Outcome, NoMemory> {
+        if session.number() == self.session {
+            return Err(AllocError);
+        }
+        self.engine.step(alloc, session, command)
+    }
+
+    fn retry(&mut self, alloc: Global, session: Session) -> Result<Outcome, NoMemory> {
+        self.engine.retry(alloc, session)
+    }
+
+    fn retryable(&self) -> Option<Session> {
+        self.engine.retryable()
+    }
+}
+
+/// Holds all but one session until that one's first line was refused.
+struct Behind {
+    session: u8,
+    refused: AtomicBool,
+}
+
+impl Drop for Behind {
+    fn drop(self) {
+        let Behind {
+            session: _,
+            refused: _,
+        } = self;
+    }
+}
+
+const MAX_TURNS: u32 = 20_000_000;
+
+impl Gate for Behind {
+    fn before(&self, session: Session, _index: usize) {
+        if session.number() == self.session {
+            return;
+        }
+        for _ in 0..MAX_TURNS {
+            if self.refused.load(Ordering::SeqCst) {
+                return;
+            }
+            yield_now();
+        }
+    }
+
+    fn after(&self, session: Session, _index: usize) {
+        if session.number() == self.session {
+            self.refused.store(true, Ordering::SeqCst);
+        }
+    }
+}
+
+/// Why a free play has no recording in which one session is refused memory, and another then fills the log.
+fn fault_of<R: Threads + Wait + Sync>(
+    rt: &R,
+    alloc: Global,
+    refused: u8,
+    filling: u8,
+) -> Option<PlayFault> {
+    let script = script_of(alloc, refused, filling)?;
+    let engine = Refusing {
+        engine: LockEngine::new(alloc, Table::new(alloc)),
+        session: refused,
+    };
+    let gate = Behind {
+        session: refused,
+        refused: AtomicBool::new(false),
+    };
+    let fault = play_free(rt, alloc, engine, &script, &gate).err();
+    drop(script);
+    drop(gate);
+    fault
+}
+
+#[test]
+fn a_free_play_tells_the_fault_of_its_least_session(rt: HostRuntime) -> Result<(), Fail> {
+    let alloc = rt.alloc();
+    assert_eq!(rt; fault_of(&rt, alloc, 2, 1), Some(PlayFault::Full));
+    assert_eq!(rt; fault_of(&rt, alloc, 1, 2), Some(PlayFault::NoMemory));
+    Ok(())
+}
+
+/// Why a play by one thread of such a script has no recording.
+fn scripted_fault(alloc: Global) -> Option<PlayFault> {
+    let script = script_of(alloc, 1, 2)?;
+    let engine = LockEngine::new(alloc, Table::new(alloc));
+    let fault = play_script(alloc, engine, &script).err();
+    drop(script);
+    fault
+}
+
+#[test]
+fn a_play_whose_log_is_full_says_so(rt: HostRuntime) -> Result<(), Fail> {
+    assert_eq!(rt; scripted_fault(rt.alloc()), Some(PlayFault::Full));
     Ok(())
 }

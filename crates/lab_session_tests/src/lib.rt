@@ -1,4 +1,7 @@
 //! Tests of sessions: what no contract says of locks and threads, and what the program can't show.
+//!
+//! Where a function ends early while it owns something large, as a seat, a lab, a script or a recording, it gives that to
+//! `drop` by name: a drop that the compiler writes at the exit makes the function's proof several times as dear.
 #![tactic(auto)]
 
 #[cfg(test)]

@@ -1,11 +1,15 @@
 //! Free play by several threads.
 
-use lab_script::parse_script;
+use lab_engine::Recording;
+use lab_script::{Script, parse_script};
 use lab_session::{Gate, play_free};
 use lab_table::Session;
 use lab_versions::SnapshotEngine;
+use std::alloc::Global;
+use std::sync::Wait;
 use std::sync::atomic::{AtomicBool, Ordering};
 use std::test::Fail;
+use std::thread::Threads;
 
 const MAX_TURNS: u32 = 200_000_000;
 
@@ -39,22 +43,40 @@ impl Gate for Meeting {
     fn after(&self, _session: Session, _index: usize) {}
 }
 
+/// The recording of a play with a gate.
+fn played<R: Threads + Wait + Sync>(
+    rt: &R,
+    alloc: Global,
+    script: &Script,
+    gate: &Meeting,
+) -> Option<Recording> {
+    let setup = script.setup.copy(alloc).ok()?;
+    let engine = SnapshotEngine::new(alloc, setup);
+    play_free(rt, alloc, engine, script, gate).ok()
+}
+
+/// How many events a play of two begins has.
+fn events<R: Threads + Wait + Sync>(rt: &R, alloc: Global, gate: &Meeting) -> Option<usize> {
+    let script = parse_script(alloc, b"setup ();\nbegin; -- T1\nbegin; -- T2\n").ok()?;
+    let played = played(rt, alloc, &script, gate);
+    drop(script);
+    let recording = played?;
+    let events = recording.log().len();
+    drop(recording);
+    Some(events)
+}
+
 #[test]
 fn two_threads_are_in_their_first_command_at_once(rt: HostRuntime) -> Result<(), Fail> {
-    let alloc = rt.alloc();
-    let Ok(script) = parse_script(alloc, b"setup ();\nbegin; -- T1\nbegin; -- T2\n") else {
-        return Err(Fail::from("a script"));
-    };
     let gate = Meeting {
         here: [AtomicBool::new(false), AtomicBool::new(false)],
         missed: AtomicBool::new(false),
     };
-    let engine = SnapshotEngine::new(alloc, script.setup.copy(alloc)?);
-    let Ok(recording) = play_free(&rt, alloc, engine, &script, &gate) else {
-        return Err(Fail::from("a recording"));
-    };
-    assert!(rt; !gate.missed.load(Ordering::SeqCst));
+    let events = events(&rt, rt.alloc(), &gate);
+    let missed = gate.missed.load(Ordering::SeqCst);
+    drop(gate);
+    assert!(rt; !missed);
     // Two begins, and the aborts of what is left active.
-    assert_eq!(rt; recording.log().len(), 4);
+    assert_eq!(rt; events, Some(4));
     Ok(())
 }

@@ -8,65 +8,77 @@ use lab_history::{
 };
 use lab_table::{Expr, RowId, RowName, Statement, StatementKind, Table, TableName, TxnNo, Value};
 use std::alloc::Global;
+use std::process::Abort;
 use std::test::Fail;
 
-fn row(number: u32) -> Result<RowName, Fail> {
-    Ok(RowName::in_test(RowId::new(number).ok_or("a row")?))
+fn row(number: u32) -> Option<RowName> {
+    Some(RowName::in_test(RowId::new(number)?))
 }
 
 /// The table of this number: `test` at 1, and `b`, `c` and so on behind it.
-fn table_name(alloc: Global, number: u32) -> Result<TableName, Fail> {
+fn table_name(alloc: Global, number: u32) -> Option<TableName> {
     if number <= 1 {
-        return Ok(TableName::test());
+        return Some(TableName::test());
     }
     let letter = [b'a' + number.min(26) as u8 - 1];
-    Ok(TableName::new(alloc, &letter)?.ok_or("a table")?)
+    TableName::new(alloc, &letter).ok()?
 }
 
-fn txn_no(number: u32) -> Result<TxnNo, Fail> {
-    Ok(TxnNo::new(number).ok_or("a transaction")?)
+/// The initial version, or that of this operation of transaction 1.
+fn version(op: Option<u32>) -> Option<VersionName> {
+    match op {
+        None => Some(VersionName::Initial),
+        Some(op) => {
+            let txn = TxnNo::new(1)?;
+            Some(VersionName::Of { txn, op })
+        }
+    }
+}
+
+fn view_of(alloc: Global, version: VersionName) -> Option<View> {
+    let entries = vec![in alloc; (row(1)?, version)].ok()?;
+    View::from_entries(entries).ok()
+}
+
+fn rows_of(alloc: Global, value: Value) -> Option<Rows> {
+    let entries = vec![in alloc; (row(1)?, value)].ok()?;
+    Rows::from_entries(entries).ok()
+}
+
+fn writes_of(alloc: Global, value: Value) -> Option<Writes> {
+    let entries = vec![in alloc; (row(2)?, State::Present(value))].ok()?;
+    Writes::from_entries(entries).ok()
+}
+
+/// An update of a table that saw this version of row 1, and wrote row 2.
+fn update(alloc: Global, value: Value, version: VersionName, table: TableName) -> Option<Op> {
+    let lists = view_of(alloc, version).zip(rows_of(alloc, value));
+    let ((view, rows), writes) = lists.zip(writes_of(alloc, value))?;
+    let kind = StatementKind::Update {
+        expr: Expr::Plus(value),
+        pred: None,
+    };
+    Some(Op {
+        statement: Statement { table, kind },
+        view,
+        rows,
+        writes,
+    })
 }
 
 /// A transaction with one update of a table, which saw row 1 as this operation of transaction 1 left it, or as it was
 /// initially.
-fn txn(alloc: Global, number: u32, op: Option<u32>, table: TableName) -> Result<Txn, Fail> {
-    let value = Value::new(i64::from(number)).ok_or("a value")?;
-    let version = match op {
-        None => VersionName::Initial,
-        Some(op) => VersionName::Of {
-            txn: txn_no(1)?,
-            op,
-        },
-    };
-    let (Ok(view), Ok(rows), Ok(writes)) = (
-        View::from_entries(vec![in alloc; (row(1)?, version)]?),
-        Rows::from_entries(vec![in alloc; (row(1)?, value)]?),
-        Writes::from_entries(vec![in alloc; (row(2)?, State::Present(value))]?),
-    ) else {
-        return Err(Fail::from("a view, rows and writes"));
-    };
-    let op = Op {
-        statement: Statement {
-            table,
-            kind: StatementKind::Update {
-                expr: Expr::Plus(value),
-                pred: None,
-            },
-        },
-        view,
-        rows,
-        writes,
-    };
+fn txn(alloc: Global, number: u32, op: Option<u32>, table: TableName) -> Option<Txn> {
+    let no = TxnNo::new(number)?;
+    let value = Value::new(i64::from(number))?;
+    let op = update(alloc, value, version(op)?, table)?;
+    let ops = Ops::new(vec![in alloc; op].ok()?);
     let outcome = if number % 2 == 0 {
         Outcome::Aborted
     } else {
         Outcome::Committed
     };
-    Ok(Txn {
-        no: txn_no(number)?,
-        outcome,
-        ops: Ops::new(vec![in alloc; op]?),
-    })
+    Some(Txn { no, outcome, ops })
 }
 
 /// Rows 1 to a number; transactions 1 to a number and one more, which see this operation; and so many installers of
@@ -82,30 +94,56 @@ struct Shape {
     installers: usize,
 }
 
-fn parts(alloc: Global, shape: Shape) -> Result<Parts, Fail> {
-    let value = Value::new(0).ok_or("a value")?;
-    let mut initial = Table::new(alloc);
+/// Adds the rows of `test`, and one of each other table but the last.
+fn add_rows(alloc: Global, table: &mut Table, shape: Shape) -> Option<()> {
+    let value = Value::new(0)?;
     for number in 1..=shape.rows {
-        initial.add(alloc, row(number)?, value)?;
+        table.add(alloc, row(number)?, value).ok()?;
     }
     for number in 2..shape.tables {
         let mut row = row(1)?;
         row.table = table_name(alloc, number)?;
-        initial.add(alloc, row, value)?;
+        table.add(alloc, row, value).ok()?;
     }
-    let mut txns = Vec::new(alloc);
+    Some(())
+}
+
+fn initial(alloc: Global, shape: Shape) -> Option<Table> {
+    let mut table = Table::new(alloc);
+    add_rows(alloc, &mut table, shape).and(Some(table))
+}
+
+fn end_table(alloc: Global) -> Option<Table> {
+    let mut table = Table::new(alloc);
+    let added = table.add(alloc, row(2)?, Value::new(7)?);
+    added.ok().and(Some(table))
+}
+
+fn add_txns(alloc: Global, txns: &mut Vec<Txn>, shape: Shape) -> Option<()> {
     for number in 1..=shape.txns {
-        txns.push(txn(alloc, number, shape.op, TableName::test())?)?;
+        txns.push(txn(alloc, number, shape.op, TableName::test())?)
+            .ok()?;
     }
     let table = table_name(alloc, shape.tables)?;
-    txns.push(txn(alloc, shape.last, shape.op, table)?)?;
-    let installers = Installers::new(vec![in alloc; txn_no(1)?; shape.installers]?);
-    let Ok(installed) = Installed::from_entries(vec![in alloc; (row(1)?, installers)]?) else {
-        return Err(Fail::from("installers"));
-    };
-    let mut end_table = Table::new(alloc);
-    end_table.add(alloc, row(2)?, Value::new(7).ok_or("a value")?)?;
-    Ok(Parts {
+    txns.push(txn(alloc, shape.last, shape.op, table)?).ok()
+}
+
+fn txns(alloc: Global, shape: Shape) -> Option<Vec<Txn>> {
+    let mut txns = Vec::new(alloc);
+    add_txns(alloc, &mut txns, shape).and(Some(txns))
+}
+
+fn installed(alloc: Global, shape: Shape) -> Option<Installed> {
+    let numbers = vec![in alloc; TxnNo::new(1)?; shape.installers].ok()?;
+    let entry = (row(1)?, Installers::new(numbers));
+    Installed::from_entries(vec![in alloc; entry].ok()?).ok()
+}
+
+fn parts(alloc: Global, shape: Shape) -> Option<Parts> {
+    let tables = initial(alloc, shape).zip(end_table(alloc));
+    let lists = installed(alloc, shape).zip(txns(alloc, shape));
+    let ((initial, end_table), (installed, txns)) = tables.zip(lists)?;
+    Some(Parts {
         initial,
         txns: Txns::new(txns),
         installed,
@@ -122,6 +160,9 @@ const USUAL: Shape = Shape {
     installers: 1,
 };
 
+/// The view of the first transaction's first operation.
+const VIEW: ListPlace = ListPlace::View { txn: 0, op: 0 };
+
 fn wrong(place: ListPlace) -> Option<FileFault> {
     let path = Path::Member {
         list: place,
@@ -134,19 +175,47 @@ fn over(which: Limit) -> Option<FileFault> {
     Some(FileFault::OverLimit { which })
 }
 
+/// Whether the parts came back as they were, where there is a fault; and the fault.
+fn came_back(
+    alloc: Global,
+    made: &Result<History, (Parts, FileFault)>,
+    given: &Parts,
+) -> (bool, Option<FileFault>) {
+    match made {
+        Ok(_) => (true, None),
+        Err((parts, fault)) => (alike_parts(alloc, parts, given), Some(*fault)),
+    }
+}
+
+/// The same of the history of these parts.
+fn made_of(alloc: Global, parts: Parts, given: &Parts) -> (bool, Option<FileFault>) {
+    let made = History::from_parts(alloc, parts);
+    let answer = came_back(alloc, &made, given);
+    drop(made);
+    answer
+}
+
+/// The same of a shape.
+fn made(alloc: Global, shape: Shape) -> Option<(bool, Option<FileFault>)> {
+    let (parts, given) = parts(alloc, shape).zip(parts(alloc, shape))?;
+    let answer = made_of(alloc, parts, &given);
+    drop(given);
+    Some(answer)
+}
+
 #[test]
 fn parts_that_are_no_history(rt: HostRuntime) -> Result<(), Fail> {
-    let repeated = FileFault::RepeatedTxn { no: txn_no(1)? };
-    let view = wrong(ListPlace::View { txn: 0, op: 0 });
+    let no = TxnNo::new(1).ok_or("a transaction")?;
+    let repeated = FileFault::RepeatedTxn { no };
     for (tables, rows, txns, last, op, installers, expected) in [
         (1, 1_000, 999, 1_000, Some(1), 1, None),
         (1, 1_001, 1, 2, Some(1), 1, over(Limit::Ids)),
         (1, 2, 1_000, 1, Some(1), 1, over(Limit::Transactions)),
         (1, 2, 3, 1, Some(1), 1, Some(repeated)),
-        (1, 2, 1, 2, None, 1, view),
-        (1, 2, 1, 2, Some(0), 1, view),
+        (1, 2, 1, 2, None, 1, wrong(VIEW)),
+        (1, 2, 1, 2, Some(0), 1, wrong(VIEW)),
         (1, 2, 1, 2, Some(10_000), 1, None),
-        (1, 2, 1, 2, Some(10_001), 1, view),
+        (1, 2, 1, 2, Some(10_001), 1, wrong(VIEW)),
         (1, 2, 1, 2, Some(1), 0, wrong(ListPlace::Installed)),
         (4, 996, 1, 2, Some(1), 1, None),
         (4, 999, 1, 2, Some(1), 1, over(Limit::Ids)),
@@ -162,38 +231,42 @@ fn parts_that_are_no_history(rt: HostRuntime) -> Result<(), Fail> {
             op,
             installers,
         };
-        let given = parts(rt.alloc(), shape)?;
-        let fault = match &History::from_parts(rt.alloc(), parts(rt.alloc(), shape)?) {
-            Ok(_) => None,
-            Err((parts, fault)) => {
-                assert!(rt; alike_parts(rt.alloc(), parts, &given), "{shape:?}");
-                Some(*fault)
-            }
-        };
-        assert_eq!(rt; fault, expected, "{shape:?}");
+        let made = made(rt.alloc(), shape);
+        assert_eq!(rt; made, Some((true, expected)), "{shape:?}");
     }
     Ok(())
 }
 
-#[test]
-fn parts_that_are_refused_memory_come_back(rt: HostRuntime) -> Result<(), Fail> {
-    let given = parts(rt.alloc(), USUAL)?;
+/// Whether a history is made of parts with a growth refused, or they come back for want of memory; and whether a growth
+/// was refused.
+fn tried(alloc: Global, growth: u16, given: &Parts) -> Option<(bool, bool)> {
+    let parts = parts(alloc, USUAL)?;
+    refuse(alloc, growth);
+    let made = History::from_parts(alloc, parts);
+    let refused = was_refused(alloc);
+    let (came_back, fault) = came_back(alloc, &made, given);
+    drop(made);
+    let right = came_back && (fault.is_none() || refused && fault == Some(FileFault::NoMemory));
+    Some((right, refused))
+}
+
+/// Fails where it isn't so at each growth.
+fn shows_tried(rt: &impl Abort, alloc: Global, given: &Parts) -> Result<(), &'static str> {
     for growth in 1..1_000u16 {
-        let parts = parts(rt.alloc(), USUAL)?;
-        refuse(rt.alloc(), growth);
-        let made = History::from_parts(rt.alloc(), parts);
-        let refused = was_refused(rt.alloc());
-        if let Err((parts, fault)) = &made {
-            assert!(rt; refused, "at growth {growth}");
-            assert_eq!(rt; *fault, FileFault::NoMemory);
-            assert!(rt;
-                alike_parts(rt.alloc(), parts, &given),
-                "at growth {growth}"
-            );
-        }
+        let (right, refused) = tried(alloc, growth, given).ok_or("parts")?;
+        assert!(rt; right, "at growth {growth}");
         if !refused {
             return Ok(());
         }
     }
-    Err(Fail::from("no end of growths"))
+    Err("no end of growths")
+}
+
+#[test]
+fn parts_that_are_refused_memory_come_back(rt: HostRuntime) -> Result<(), Fail> {
+    let given = parts(rt.alloc(), USUAL).ok_or("parts")?;
+    let shown = shows_tried(&rt, rt.alloc(), &given);
+    drop(given);
+    shown?;
+    Ok(())
 }

@@ -5,8 +5,8 @@ use lab_script::{
     print_transcript, run_serial,
 };
 use lab_table::{
-    Col, Command, NoMemory, Numbers, Pred, PredKind, RowId, RowName, Session, Statement,
-    StatementKind, Table, TableName, Value,
+    Col, Command, Numbers, Pred, PredKind, RowId, RowName, Session, Statement, StatementKind,
+    Table, TableName, Value,
 };
 use std::alloc::Global;
 use std::test::Fail;
@@ -19,66 +19,128 @@ fn select_of(table: TableName, pred: Option<Pred>) -> Statement {
 }
 
 /// `select * from test where not not .. id in (1, 1, ..)`: 31 bytes, 4 for each `not` and 3 for each number.
-fn select(alloc: Global, nots: usize, numbers: usize) -> Result<Statement, Fail> {
-    let one = Value::new(1).ok_or("a value")?;
-    let numbers = Numbers::new(vec![in alloc; one; numbers]?);
+fn select(alloc: Global, nots: usize, numbers: usize) -> Option<Statement> {
+    let one = Value::new(1)?;
+    let numbers = Numbers::new(vec![in alloc; one; numbers].ok()?);
     let col = Col::Id;
     let mut pred = Pred {
         kind: PredKind::OneOf { col, numbers },
     };
     for _ in 0..nots {
         pred = Pred {
-            kind: PredKind::Not(Box::new(alloc, pred)?),
+            kind: PredKind::Not(Box::new(alloc, pred).ok()?),
         };
     }
-    Ok(select_of(TableName::test(), Some(pred)))
+    Some(select_of(TableName::test(), Some(pred)))
 }
 
-/// A table of so many rows from row 100 on, all 0 but the last.
-fn table(alloc: Global, count: u32, last: i64) -> Result<Table, Fail> {
-    let mut table = Table::new(alloc);
+/// Adds so many rows from row 100 on, all 0 but the last.
+fn add_rows(alloc: Global, table: &mut Table, count: u32, last: i64) -> Option<()> {
     for index in 0..count.min(1_000) {
         let value = if index + 1 == count { last } else { 0 };
-        let id = RowId::new(100 + index).ok_or("a row")?;
-        table.add(
-            alloc,
-            RowName::in_test(id),
-            Value::new(value).ok_or("a value")?,
-        )?;
+        let row = RowName::in_test(RowId::new(100 + index)?);
+        table.add(alloc, row, Value::new(value)?).ok()?;
     }
-    Ok(table)
+    Some(())
 }
 
-fn put(lines: &mut Lines, command: Command) -> Result<(), Fail> {
-    let session = Session::new(1).ok_or("a session")?;
+/// The table of these rows.
+fn table(alloc: Global, count: u32, last: i64) -> Option<Table> {
+    let mut table = Table::new(alloc);
+    add_rows(alloc, &mut table, count, last).and(Some(table))
+}
+
+fn put(lines: &mut Lines, command: Command) -> Option<()> {
+    let Some(session) = Session::new(1) else {
+        drop(command);
+        return None;
+    };
     let text_line = 0;
-    lines.push(Line {
-        session,
-        command,
-        text_line,
-    })?;
-    Ok(())
+    lines
+        .push(Line {
+            session,
+            command,
+            text_line,
+        })
+        .ok()
+}
+
+fn put_begins(lines: &mut Lines, count: usize) -> Option<()> {
+    for _ in 0..count {
+        put(lines, Command::Begin)?;
+    }
+    Some(())
+}
+
+/// Adds a select from each table whose name is one of the first letters.
+fn put_selects(alloc: Global, lines: &mut Lines, letters: u8) -> Option<()> {
+    for number in 0..letters.min(26) {
+        let name = TableName::new(alloc, &[b'a' + number]).ok()??;
+        put(lines, Command::Run(select_of(name, None)))?;
+    }
+    Some(())
 }
 
 /// A script of so many begins and this statement.
-fn script(alloc: Global, begins: usize, statement: Statement) -> Result<Script, Fail> {
+fn script(alloc: Global, begins: usize, statement: Statement) -> Option<Script> {
     let mut lines = Lines::new(Vec::new(alloc));
-    for _ in 0..begins {
-        put(&mut lines, Command::Begin)?;
-    }
-    put(&mut lines, Command::Run(statement))?;
+    let put = match put_begins(&mut lines, begins) {
+        Some(()) => put(&mut lines, Command::Run(statement)),
+        None => {
+            drop(statement);
+            None
+        }
+    };
     let setup = Table::new(alloc);
-    Ok(Script { setup, lines })
+    put.and(Some(Script { setup, lines }))
 }
 
-fn transcript(alloc: Global, script: &Script) -> Result<Option<PrintFault>, NoMemory> {
-    let output = run_serial(alloc, script)?;
-    Ok(print_transcript(alloc, &output).err())
+/// Why a script's transcript isn't printed.
+fn transcript(alloc: Global, script: &Script) -> Option<Option<PrintFault>> {
+    let output = run_serial(alloc, script).ok()?;
+    let fault = print_transcript(alloc, &output).err();
+    drop(output);
+    Some(fault)
+}
+
+/// Whether a script has this fault, and its transcript that one.
+fn has_faults(
+    alloc: Global,
+    script: Script,
+    fault: Option<PrintFault>,
+    of_transcript: Option<PrintFault>,
+) -> bool {
+    let right = print_script(alloc, &script).err() == fault
+        && transcript(alloc, &script) == Some(of_transcript);
+    drop(script);
+    right
+}
+
+/// Whether a statement's text is as long as this, or it has none by this fault.
+fn is_long(alloc: Global, statement: &Statement, expected: Result<usize, PrintFault>) -> bool {
+    let length = print_statement(alloc, statement).map(|text| text.len());
+    length == expected && check_statement(statement).err() == expected.err()
+}
+
+/// Whether it is so of a select, also in a script where no transaction has begun, whose transcript shows nothing of it,
+/// and behind a begin.
+fn is_long_throughout(
+    alloc: Global,
+    nots: usize,
+    numbers: usize,
+    expected: Result<usize, PrintFault>,
+) -> Option<bool> {
+    let fault = expected.err();
+    let statement = select(alloc, nots, numbers)?;
+    let is_long = is_long(alloc, &statement, expected);
+    let left_out = has_faults(alloc, script(alloc, 0, statement)?, fault, None);
+    let statement = select(alloc, nots, numbers)?;
+    let shown = has_faults(alloc, script(alloc, 1, statement)?, fault, fault);
+    Some(is_long && left_out && shown)
 }
 
 #[test]
 fn statements_past_their_limits_are_not_printed(rt: HostRuntime) -> Result<(), Fail> {
-    let alloc = rt.alloc();
     for (nots, numbers, expected) in [
         (16, 1, Ok(98)),
         (17, 1, Err(PrintFault::TooDeep)),
@@ -89,23 +151,39 @@ fn statements_past_their_limits_are_not_printed(rt: HostRuntime) -> Result<(), F
         (300, 1, Err(PrintFault::TooDeep)),
         (17, 400, Err(PrintFault::TooDeep)),
     ] {
-        let statement = select(alloc, nots, numbers)?;
-        let fault = expected.err();
-        let length = print_statement(alloc, &statement).map(|text| text.len());
-        assert_eq!(rt; length, expected, "{nots} {numbers}");
-        assert_eq!(rt; check_statement(&statement).err(), fault);
-        let left_out = script(alloc, 0, statement)?;
-        assert_eq!(rt; print_script(alloc, &left_out).err(), fault);
-        assert_eq!(rt; transcript(alloc, &left_out)?, None);
-        let shown = script(alloc, 1, select(alloc, nots, numbers)?)?;
-        assert_eq!(rt; transcript(alloc, &shown)?, fault, "{nots} {numbers}");
+        let so = is_long_throughout(rt.alloc(), nots, numbers, expected);
+        assert_eq!(rt; so, Some(true), "{nots} {numbers}");
     }
     Ok(())
 }
 
+/// A script of a table of so many rows, so many begins, a select from `test`, and one from each of so many tables.
+fn script_of(alloc: Global, rows: u32, last: i64, begins: usize, letters: u8) -> Option<Script> {
+    let setup = table(alloc, rows, last)?;
+    let Some(script) = script(alloc, begins, select_of(TableName::test(), None)) else {
+        drop(setup);
+        return None;
+    };
+    let Script { lines, .. } = script;
+    let mut lines = lines;
+    let put = put_selects(alloc, &mut lines, letters);
+    put.and(Some(Script { setup, lines }))
+}
+
+/// Whether its text is as long as this, or it has none by this fault.
+fn is_script_long(
+    alloc: Global,
+    script: Option<Script>,
+    expected: Result<usize, PrintFault>,
+) -> Option<bool> {
+    let script = script?;
+    let length = print_script(alloc, &script).map(|text| text.len());
+    drop(script);
+    Some(length == expected)
+}
+
 #[test]
 fn scripts_past_their_limits_are_not_printed(rt: HostRuntime) -> Result<(), Fail> {
-    let alloc = rt.alloc();
     // 399 rows with a last value of six digits have a setup line of 4,000 bytes; a begin has 13 with its newline,
     // the statement 26, and one of a table whose name is a letter 23.
     for (rows, last, begins, letters, expected) in [
@@ -116,14 +194,9 @@ fn scripts_past_their_limits_are_not_printed(rt: HostRuntime) -> Result<(), Fail
         (0, 0, 0, 3, Ok(10 + 26 + 3 * 23)),
         (0, 0, 0, 4, Err(PrintFault::TooManyTables)),
     ] {
-        let mut script = script(alloc, begins, select_of(TableName::test(), None))?;
-        for number in 0..letters {
-            let name = TableName::new(alloc, &[b'a' + number])?.ok_or("a table")?;
-            put(&mut script.lines, Command::Run(select_of(name, None)))?;
-        }
-        script.setup = table(alloc, rows, last)?;
-        let length = print_script(alloc, &script).map(|text| text.len());
-        assert_eq!(rt; length, expected, "{rows} {last} {begins} {letters}");
+        let script = script_of(rt.alloc(), rows, last, begins, letters);
+        let long = is_script_long(rt.alloc(), script, expected);
+        assert_eq!(rt; long, Some(true), "{rows} {last} {begins} {letters}");
     }
     Ok(())
 }

@@ -3,73 +3,123 @@
 
 use crate::alike::alike_operations;
 use crate::refusal::{refuse, was_refused};
-use lab_history::{FileFault, History, WriteFault, read_history, write_history};
+use lab_history::{FileFault, History, Op, WriteFault, read_history, write_history};
 use lab_script::{
-    PrintFault, ScriptFault, parse_script, parse_statement, print_script, print_script_fault,
-    print_statement, print_transcript, run_serial,
+    PrintFault, Script, ScriptFault, parse_script, parse_statement, print_script,
+    print_script_fault, print_statement, print_transcript, run_serial,
 };
-use lab_table::{Command, Table, TableFault};
+use lab_table::{Command, Statement, Table, TableFault};
 use std::alloc::Global;
+use std::process::Abort;
 use std::test::Fail;
 
 /// The table of a setup.
-fn table(alloc: Global, setup: &str) -> Result<Table, Fail> {
-    let script = parse_script(alloc, setup.as_bytes()).ok().ok_or("a setup")?;
-    Ok(script.setup)
+fn table(alloc: Global, setup: &str) -> Option<Table> {
+    let script = parse_script(alloc, setup.as_bytes()).ok()?;
+    let Script { setup, .. } = script;
+    Some(setup)
+}
+
+/// Runs a statement on a copy of a table with a growth refused. Whether the copy is as it has to be then, and whether a
+/// growth was refused.
+fn ran(
+    alloc: Global,
+    growth: u16,
+    statement: &Statement,
+    before: &Table,
+    after: &Table,
+) -> Option<(bool, bool)> {
+    let mut table = before.copy(alloc).ok()?;
+    refuse(alloc, growth);
+    let fault = table.run(alloc, statement).err();
+    let refused = was_refused(alloc);
+    let right = match fault {
+        None => table.rows() == after.rows(),
+        Some(fault) => { refused && fault == TableFault::NoMemory && table.rows() == before.rows() }
+    };
+    drop(table);
+    Some((right, refused))
+}
+
+/// Fails where it isn't so at each growth.
+fn shows_runs(
+    rt: &impl Abort,
+    alloc: Global,
+    text: &str,
+    statement: &Statement,
+    before: &Table,
+    after: &Table,
+) -> Result<(), &'static str> {
+    for growth in 1..100u16 {
+        let (right, refused) = ran(alloc, growth, statement, before, after).ok_or("a table")?;
+        assert!(rt; right, "{text}, at growth {growth}");
+        if !refused {
+            return Ok(());
+        }
+    }
+    Err("no end of growths")
+}
+
+/// Fails where it isn't so of the statement and the setup of these texts.
+fn shows_text(
+    rt: &impl Abort,
+    alloc: Global,
+    before: &Table,
+    text: &str,
+    after: &str,
+) -> Result<(), &'static str> {
+    let after = table(alloc, after).ok_or("a setup")?;
+    let Some(statement) = parse_statement(alloc, text.as_bytes()).ok() else {
+        drop(after);
+        return Err("a statement");
+    };
+    let shown = shows_runs(rt, alloc, text, &statement, before, &after);
+    drop(statement);
+    drop(after);
+    shown
+}
+
+/// Statements, and the setup of the table that each leaves.
+const RUNS: [(&str, &str); 6] = [
+    (
+        "select * from test",
+        "setup (1, 10), (2, 20), (3, 30), stock (3, 24)",
+    ),
+    (
+        "update test set value = 7 where id > 2",
+        "setup (1, 10), (2, 20), (3, 7), stock (3, 24)",
+    ),
+    (
+        "delete from test where value < 25",
+        "setup (3, 30), stock (3, 24)",
+    ),
+    ("delete from stock", "setup (1, 10), (2, 20), (3, 30)"),
+    (
+        "insert into test (id, value) values (9, 90)",
+        "setup (1, 10), (2, 20), (3, 30), (9, 90), stock (3, 24)",
+    ),
+    (
+        "insert into stock (id, value) values (2, 90)",
+        "setup (1, 10), (2, 20), (3, 30), stock (2, 90), stock (3, 24)",
+    ),
+];
+
+/// Fails where it isn't so of each.
+fn shows_texts(rt: &impl Abort, alloc: Global, before: &Table) -> Result<(), &'static str> {
+    for (text, after) in RUNS {
+        shows_text(rt, alloc, before, text, after)?;
+    }
+    Ok(())
 }
 
 #[test]
 fn a_table_that_is_refused_memory_is_as_before(rt: HostRuntime) -> Result<(), Fail> {
-    let alloc = rt.alloc();
     // Four rows, so that a fifth needs a growth.
-    let before = table(alloc, "setup (1, 10), (2, 20), (3, 30), stock (3, 24)")?;
-    for (text, after) in [
-        (
-            "select * from test",
-            "setup (1, 10), (2, 20), (3, 30), stock (3, 24)",
-        ),
-        (
-            "update test set value = 7 where id > 2",
-            "setup (1, 10), (2, 20), (3, 7), stock (3, 24)",
-        ),
-        (
-            "delete from test where value < 25",
-            "setup (3, 30), stock (3, 24)",
-        ),
-        ("delete from stock", "setup (1, 10), (2, 20), (3, 30)"),
-        (
-            "insert into test (id, value) values (9, 90)",
-            "setup (1, 10), (2, 20), (3, 30), (9, 90), stock (3, 24)",
-        ),
-        (
-            "insert into stock (id, value) values (2, 90)",
-            "setup (1, 10), (2, 20), (3, 30), stock (2, 90), stock (3, 24)",
-        ),
-    ] {
-        let statement = parse_statement(alloc, text.as_bytes())
-            .ok()
-            .ok_or("a statement")?;
-        let after = table(alloc, after)?;
-        let mut succeeded = false;
-        for growth in 1..100u16 {
-            let mut table = before.copy(alloc)?;
-            refuse(alloc, growth);
-            let fault = table.run(alloc, &statement).err();
-            let refused = was_refused(alloc);
-            if fault.is_some() {
-                assert!(rt; refused, "{text}, at growth {growth}");
-                assert_eq!(rt; fault, Some(TableFault::NoMemory), "{text}");
-                assert_eq!(rt; table.rows(), before.rows(), "{text}");
-            } else {
-                assert_eq!(rt; table.rows(), after.rows(), "{text}");
-            }
-            if !refused {
-                succeeded = true;
-                break;
-            }
-        }
-        assert!(rt; succeeded, "{text}");
-    }
+    let before = table(rt.alloc(), "setup (1, 10), (2, 20), (3, 30), stock (3, 24)");
+    let before = before.ok_or("a setup")?;
+    let shown = shows_texts(&rt, rt.alloc(), &before);
+    drop(before);
+    shown?;
     Ok(())
 }
 
@@ -77,32 +127,83 @@ fn a_table_that_is_refused_memory_is_as_before(rt: HostRuntime) -> Result<(), Fa
 const EVERY_KIND: &str =
     "update test set value = value - 1 where not value % 3 = -1 and (id in (3, -1, 3) or value <= 10)";
 
-/// The text of a command's copy.
-fn copied(alloc: Global, command: &Command) -> Result<Vec<u8>, PrintFault> {
-    match command.copy(alloc)? {
-        Command::Run(statement) => print_statement(alloc, &statement),
+/// The text of a copied statement.
+fn text_of(alloc: Global, command: &Command) -> Result<Vec<u8>, PrintFault> {
+    match command {
+        Command::Run(statement) => print_statement(alloc, statement),
         _ => Ok(Vec::new(alloc)),
     }
+}
+
+/// The text of a command's copy.
+fn copied(alloc: Global, command: &Command) -> Result<Vec<u8>, PrintFault> {
+    let copy = command.copy(alloc)?;
+    let text = text_of(alloc, &copy);
+    drop(copy);
+    text
+}
+
+/// The transcript of a script.
+fn transcript(alloc: Global, script: &Script) -> Result<Vec<u8>, PrintFault> {
+    let output = run_serial(alloc, script)?;
+    let text = print_transcript(alloc, &output);
+    drop(output);
+    text
+}
+
+/// The text of a script, with its transcript.
+fn with_transcript(alloc: Global, script: &Script) -> Result<Vec<u8>, PrintFault> {
+    let mut printed = print_script(alloc, script)?;
+    printed.extend_from_slice(&transcript(alloc, script)?)?;
+    Ok(printed)
 }
 
 /// A text of a script, printed, with its transcript; or the line of its fault.
 fn printed(alloc: Global, text: &[u8]) -> Result<Vec<u8>, PrintFault> {
     match parse_script(alloc, text) {
         Ok(script) => {
-            let mut printed = print_script(alloc, &script)?;
-            let transcript = print_transcript(alloc, &run_serial(alloc, &script)?)?;
-            printed.extend_from_slice(&transcript)?;
-            Ok(printed)
+            let printed = with_transcript(alloc, &script);
+            drop(script);
+            printed
         }
         Err(ScriptFault::NoMemory) => Err(PrintFault::NoMemory),
         Err(fault) => Ok(print_script_fault(alloc, &fault)?),
     }
 }
 
+/// Whether a text was made with a growth refused, or there was no memory where one was.
+fn is_right(made: &Result<Vec<u8>, PrintFault>, expected: &str, refused: bool) -> bool {
+    match made {
+        Ok(text) => text.as_slice() == expected.as_bytes(),
+        Err(fault) => refused && *fault == PrintFault::NoMemory,
+    }
+}
+
+/// Fails where it isn't so at each growth of a text's printing; of no text, of that of a command's copy.
+fn shows_printed(rt: &impl Abort, alloc: Global, command: &Command, text: &str, expected: &str) {
+    let mut succeeded = false;
+    for growth in 1..2_000u16 {
+        refuse(alloc, growth);
+        let made = if text.is_empty() {
+            copied(alloc, command)
+        } else {
+            printed(alloc, text.as_bytes())
+        };
+        let refused = was_refused(alloc);
+        let right = is_right(&made, expected, refused);
+        drop(made);
+        assert!(rt; right, "at growth {growth}");
+        if !refused {
+            succeeded = true;
+            break;
+        }
+    }
+    assert!(rt; succeeded, "{text}");
+}
+
 #[test]
 fn texts_that_are_refused_memory_are_not_made(rt: HostRuntime) -> Result<(), Fail> {
-    let alloc = rt.alloc();
-    let statement = parse_statement(alloc, EVERY_KIND.as_bytes());
+    let statement = parse_statement(rt.alloc(), EVERY_KIND.as_bytes());
     let command = Command::Run(statement.ok().ok_or("a statement")?);
     for (text, expected) in [
         ("", EVERY_KIND),
@@ -112,31 +213,9 @@ fn texts_that_are_refused_memory_are_not_made(rt: HostRuntime) -> Result<(), Fai
             "setup (1, 10), (2, 20);\nbegin; -- T1\nselect * from test where not (id = 1 and (id = 2 or id in (1, 2))); -- T1\ncommit; -- T1\ntxn 1 T1\nselect * from test where not (id = 1 and (id = 2 or id in (1, 2))) -> (2, 20)\ncommit\nend (1, 10), (2, 20)\n",
         ),
     ] {
-        let mut succeeded = false;
-        for growth in 1..2_000u16 {
-            refuse(alloc, growth);
-            let made = if text.is_empty() {
-                copied(alloc, &command)
-            } else {
-                printed(alloc, text.as_bytes())
-            };
-            let refused = was_refused(alloc);
-            match made {
-                Ok(made) => {
-                    assert_eq!(rt; made.as_slice(), expected.as_bytes(), "at growth {growth}");
-                }
-                Err(fault) => {
-                    assert!(rt; refused, "at growth {growth}");
-                    assert_eq!(rt; fault, PrintFault::NoMemory);
-                }
-            }
-            if !refused {
-                succeeded = true;
-                break;
-            }
-        }
-        assert!(rt; succeeded, "{text}");
+        shows_printed(&rt, rt.alloc(), &command, text, expected);
     }
+    drop(command);
     Ok(())
 }
 
@@ -152,15 +231,22 @@ enum Made {
     NoMemory,
 }
 
+/// Whether a history has two transactions.
+fn has_two(history: &History) -> Made {
+    if history.txns().as_slice().len() == 2 {
+        Made::Right
+    } else {
+        Made::Wrong
+    }
+}
+
 /// Reads that file, and looks whether it gives two transactions.
 fn read(alloc: Global) -> Made {
     match read_history(alloc, SHORT_LIFE.as_bytes()) {
         Ok(history) => {
-            if history.txns().as_slice().len() == 2 {
-                Made::Right
-            } else {
-                Made::Wrong
-            }
+            let made = has_two(&history);
+            drop(history);
+            made
         }
         Err(FileFault::NoMemory) => Made::NoMemory,
         Err(_) => Made::Wrong,
@@ -182,6 +268,14 @@ fn written(alloc: Global, history: &History) -> Made {
     }
 }
 
+fn copied_alike(alloc: Global, copy: &Op, operation: &Op) -> Made {
+    if alike_operations(alloc, copy, operation) {
+        Made::Right
+    } else {
+        Made::Wrong
+    }
+}
+
 /// Copies the first transaction's second operation, and looks whether it is alike, for which there is memory again. And
 /// whether a growth was refused.
 fn copied_operation(alloc: Global, history: &History) -> (Made, bool) {
@@ -193,16 +287,12 @@ fn copied_operation(alloc: Global, history: &History) -> (Made, bool) {
     };
     let copy = second.copy(alloc);
     let refused = was_refused(alloc);
-    match copy {
-        Ok(copy) => {
-            if alike_operations(alloc, &copy, second) {
-                (Made::Right, refused)
-            } else {
-                (Made::Wrong, refused)
-            }
-        }
-        Err(_) => (Made::NoMemory, refused),
-    }
+    let made = match &copy {
+        Ok(copy) => copied_alike(alloc, copy, second),
+        Err(_) => Made::NoMemory,
+    };
+    drop(copy);
+    (made, refused)
 }
 
 /// One of the three calls, and whether a growth was refused.
@@ -218,27 +308,32 @@ fn outcome(alloc: Global, history: &History, call: u8) -> (Made, bool) {
     (made, was_refused(alloc))
 }
 
+/// Fails where a call isn't right with one of its growths refused, or has no last growth.
+fn shows_outcome(rt: &impl Abort, alloc: Global, history: &History, call: u8) {
+    let mut succeeded = false;
+    for growth in 1..5_000u16 {
+        refuse(alloc, growth);
+        let (made, refused) = outcome(alloc, history, call);
+        assert!(rt; made != Made::Wrong, "{call}, at growth {growth}");
+        assert!(rt;
+            refused || made == Made::Right,
+            "{call}, at growth {growth}"
+        );
+        if !refused {
+            succeeded = true;
+            break;
+        }
+    }
+    assert!(rt; succeeded, "{call}");
+}
+
 #[test]
 fn histories_that_are_refused_memory_are_not_made(rt: HostRuntime) -> Result<(), Fail> {
-    let whole = read_history(rt.alloc(), SHORT_LIFE.as_bytes())
-        .ok()
-        .ok_or("a history")?;
+    let whole = read_history(rt.alloc(), SHORT_LIFE.as_bytes());
+    let whole = whole.ok().ok_or("a history")?;
     for call in 0..3u8 {
-        let mut succeeded = false;
-        for growth in 1..5_000u16 {
-            refuse(rt.alloc(), growth);
-            let (made, refused) = outcome(rt.alloc(), &whole, call);
-            assert!(rt; made != Made::Wrong, "{call}, at growth {growth}");
-            assert!(rt;
-                refused || made == Made::Right,
-                "{call}, at growth {growth}"
-            );
-            if !refused {
-                succeeded = true;
-                break;
-            }
-        }
-        assert!(rt; succeeded, "{call}");
+        shows_outcome(&rt, rt.alloc(), &whole, call);
     }
+    drop(whole);
     Ok(())
 }

@@ -7,11 +7,19 @@ use std::test::Fail;
 
 /// The line that tells a text's fault; nothing where it is read.
 fn outcome(alloc: Global, text: &[u8]) -> Result<Vec<u8>, NoMemory> {
-    match parse_statement(alloc, text) {
-        Ok(_) => Ok(Vec::new(alloc)),
-        Err(ScriptFault::NoMemory) => Err(AllocError),
-        Err(fault) => print_script_fault(alloc, &fault),
+    match parse_statement(alloc, text).err() {
+        None => Ok(Vec::new(alloc)),
+        Some(ScriptFault::NoMemory) => Err(AllocError),
+        Some(fault) => print_script_fault(alloc, &fault),
     }
+}
+
+/// Whether this line tells the fault of a text behind so many spaces.
+fn is_told(alloc: Global, spaces: usize, text: &str, fault: &str) -> Result<bool, NoMemory> {
+    let mut code = vec![in alloc; b' '; spaces]?;
+    code.extend_from_slice(text.as_bytes())?;
+    let told = outcome(alloc, &code)?;
+    Ok(told.as_slice() == fault.as_bytes())
 }
 
 #[test]
@@ -40,15 +48,18 @@ fn a_statement_is_code_alone(rt: HostRuntime) -> Result<(), Fail> {
         ),
         (0, "select * from test -- \u{e9}", "line 1: NotAscii\n"),
     ] {
-        let mut code = vec![in rt.alloc(); b' '; spaces]?;
-        code.extend_from_slice(text.as_bytes())?;
-        assert_eq!(rt;
-            outcome(rt.alloc(), &code)?.as_slice(),
-            fault.as_bytes(),
+        assert!(rt;
+            is_told(rt.alloc(), spaces, text, fault)?,
             "{spaces} {text}"
         );
     }
     Ok(())
+}
+
+/// Whether a refusal has these words.
+fn has_words(alloc: Global, fault: TableFault, words: &str) -> Result<bool, NoMemory> {
+    let text = format!(in alloc; "{fault}")?;
+    Ok(text.as_str() == words)
 }
 
 #[test]
@@ -59,7 +70,7 @@ fn refusals_of_a_table_have_words(rt: HostRuntime) -> Result<(), Fail> {
         (TableFault::DuplicateKey { id }, "the row is present"),
         (TableFault::OutOfRange { id }, "a new value is out of range"),
     ] {
-        assert_eq!(rt; format!(in rt.alloc(); "{fault}")?.as_str(), words);
+        assert!(rt; has_words(rt.alloc(), fault, words)?, "{words}");
     }
     Ok(())
 }
@@ -104,22 +115,37 @@ const NAMES: [(&str, bool); 36] = [
     ("in", false),
 ];
 
+/// Whether a table has this name, and is `test` where the name is, as its rows and their copies are.
+fn is_table(table: TableName, id: RowId, name: &str) -> bool {
+    let is_test = name == "test";
+    table.as_bytes() == name.as_bytes()
+        && table.copy() == table
+        && (table == TableName::test()) == is_test
+        && is_row(RowName { table, id }, is_test)
+}
+
+/// Whether a row is of `test` where that is said, as its copy is.
+fn is_row(row: RowName, is_test: bool) -> bool {
+    row.copy() == row && (row == RowName::in_test(row.id)) == is_test
+}
+
+/// Whether the table of a name has it in lower case; nothing where the text is no name.
+fn is_named(alloc: Global, id: RowId, text: &str) -> Result<Option<bool>, NoMemory> {
+    match TableName::new(alloc, text.as_bytes())? {
+        None => Ok(None),
+        Some(table) => {
+            let lower = text.to_ascii_lowercase(alloc)?;
+            Ok(Some(is_table(table, id, lower.as_str())))
+        }
+    }
+}
+
 #[test]
 fn tables_are_named_by_short_words(rt: HostRuntime) -> Result<(), Fail> {
-    let alloc = rt.alloc();
     let id = RowId::new(3).ok_or("a row")?;
     for (text, named) in NAMES {
-        let name = TableName::new(alloc, text.as_bytes())?;
-        assert_eq!(rt; name.is_some(), named, "{text}");
-        if let Some(table) = name {
-            let lower = text.to_ascii_lowercase(alloc)?;
-            assert_eq!(rt; table.as_bytes(), lower.as_bytes());
-            assert_eq!(rt; table == TableName::test(), lower.as_str() == "test");
-            assert_eq!(rt; table.copy(), table, "{text}");
-            let row = RowName { table, id };
-            assert_eq!(rt; row.copy(), row, "{text}");
-            assert_eq!(rt; row == RowName::in_test(id), table == TableName::test());
-        }
+        let due = if named { Some(true) } else { None };
+        assert_eq!(rt; is_named(rt.alloc(), id, text)?, due, "{text}");
     }
     Ok(())
 }

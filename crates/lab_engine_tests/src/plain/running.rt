@@ -13,13 +13,18 @@ impl PlainEngine {
     /// The table that a transaction sees.
     fn table_seen(&self, alloc: Global, txn: &Txn<'_>) -> Option<Table> {
         let mut table = Table::new(alloc);
+        self.add_seen(alloc, txn, &mut table).and(Some(table))
+    }
+
+    /// Adds the rows that a transaction sees.
+    fn add_seen(&self, alloc: Global, txn: &Txn<'_>, table: &mut Table) -> Option<()> {
         for row in &self.rows {
             let version = self.seen(txn, *row);
             if let Some(value) = value_of(version.state) {
                 table.add(alloc, *row, value).ok()?;
             }
         }
-        Some(table)
+        Some(())
     }
 
     /// The versions that a transaction sees, but for the initial ones.
@@ -58,17 +63,24 @@ impl PlainEngine {
         txn: &Txn<'_>,
         statement: &Statement,
     ) -> Option<Outcome> {
-        let mut table = self.table_seen(alloc, txn)?;
-        let rows = match table.run(alloc, statement) {
-            Ok(rows) => rows,
-            Err(fault) => return refused(fault),
+        let table = self.table_seen(alloc, txn)?;
+        let mut table = table;
+        let answer = match table.run(alloc, statement) {
+            Ok(rows) => {
+                let writes = self.writes(alloc, txn, statement, &table);
+                rows_of(self.view(alloc, txn), Rows::from_entries(rows).ok(), writes)
+            }
+            Err(fault) => refused(fault),
         };
-        Some(Outcome::Rows {
-            view: self.view(alloc, txn)?,
-            rows: Rows::from_entries(rows).ok()?,
-            writes: self.writes(alloc, txn, statement, &table)?,
-        })
+        drop(table);
+        answer
     }
+}
+
+/// The answer with these parts; nothing where memory was refused for one of them.
+fn rows_of(view: Option<View>, rows: Option<Rows>, writes: Option<Writes>) -> Option<Outcome> {
+    let ((view, rows), writes) = view.zip(rows).zip(writes)?;
+    Some(Outcome::Rows { view, rows, writes })
 }
 
 /// What is answered where a table refuses a statement; nothing where memory was refused.

@@ -1,8 +1,8 @@
 use Rattle.std.proofs.Common.{subst, ◌∙◌}
 use Rattle.std.specs.Io.KnownBytes.{Appends}
 use Rattle.lab_commands.specs.Judging.{IsJudgeAnswer}
-use Rattle.lab_commands.proofs.FileFaults.{answers_whole}
-use Rattle.lab_commands.proofs.Taken.{said_of_input}
+use Rattle.lab_commands.proofs.JudgedFiles.{answers_whole}
+use Rattle.lab_streams.proofs.Taken.{said_of_input}
 use Rattle.lab_commands.proofs.judging.judge.Goals as goal
 
 pub returns-clause-written : goal.returns-clause-written

@@ -1,4 +1,5 @@
-use Rattle.lab_commands.proofs.FileFaults.{first_fault, held_report}
+use Rattle.lab_streams.proofs.FileFaults.{first_fault}
+use Rattle.lab_commands.proofs.JudgedFiles.{held_report}
 use Rattle.lab_commands.proofs.judging.report_of.Goals as goal
 
 pub returns-clause-report : goal.returns-clause-report

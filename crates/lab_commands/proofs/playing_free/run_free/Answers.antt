@@ -1,7 +1,7 @@
 use Rattle.std.proofs.Common.{subst, ◌∙◌}
 use Rattle.std.specs.Io.KnownBytes.{Appends}
 use Rattle.lab_commands.specs.Playing.{IsRunAnswer, IsFreePlay, IsFreeRefusal}
-use Rattle.lab_commands.proofs.Taken.{said_of_input}
+use Rattle.lab_streams.proofs.Taken.{said_of_input}
 use Rattle.lab_commands.proofs.WholeScripts.{run_whole}
 use Rattle.lab_commands.proofs.playing_free.run_free.Goals as goal
 

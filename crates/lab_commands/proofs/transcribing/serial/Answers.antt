@@ -1,7 +1,7 @@
 use Rattle.std.proofs.Common.{subst, ◌∙◌}
 use Rattle.std.specs.Io.KnownBytes.{Appends}
 use Rattle.lab_commands.specs.Serial.{IsSerialAnswer}
-use Rattle.lab_commands.proofs.Taken.{said_of_input}
+use Rattle.lab_streams.proofs.Taken.{said_of_input}
 use Rattle.lab_commands.proofs.WholeScripts.{serial_whole}
 use Rattle.lab_commands.proofs.transcribing.serial.Goals as goal
 

@@ -21,7 +21,7 @@ some_length n h = omega arith
 pub returns-in-Some-clause-found : goal.returns-in-Some-clause-found
 returns-in-Some-clause-found c =
     subst (IsRound c.args.waits.now c.args.session) (sym (c.in_ok-circle_by.ensures ∙ ap (λ edges. c.args.session ∷ trail edges c.in-Some.first) c.deref-in-Some.ensures.value))
-    (trail_round c.args.waits.now c.args.session c.loop-first.edges.items c.in-Some.first c.loop-first.invariant.1.lead c.in-Some.ensures.waits
+    (trail_round c.args.waits.now c.args.session c.loop-first.edges.items c.in-Some.first c.loop-first.invariant.1.lead (c.loop-first.invariant.1.once c.in-Some.first) c.in-Some.ensures.waits
     (subst (λ edges. IsTrue (is_reached edges c.args.session c.in-Some.first)) c.deref.ensures.value c.in-Some.ensures.reached))
 
 pub returns-in-Some-clause-shortest : goal.returns-in-Some-clause-shortest

@@ -1,4 +1,4 @@
-use Rattle.std.proofs.Common.{◌≡◌, ◌≤◌, drop}
+use Rattle.std.proofs.Common.{◌≡◌, drop}
 use Rattle.lab_picture.specs.Columns.{most_from}
 use Rattle.lab_picture.proofs.columns.most_ops.Given as goal
 

@@ -7,7 +7,7 @@ use Rattle.lab_session.specs.Seats.{Seated, GrowsBy}
 use Rattle.lab_session.specs.Turns.{IsAsked}
 use Rattle.lab_session.specs.Waiting.{TellsFull}
 use Rattle.lab_session.proofs.Filled.{tells_full}
-use Rattle.lab_session.proofs.Turning.{grown, unanswered_waits}
+use Rattle.lab_session.proofs.Turning.{grown, logged, unanswered_waits, unanswered_asks}
 use Rattle.lab_session.proofs.turn.asked.Goals as goal
 
 pub returns-then-not-is_answered-clause-asked : goal.returns-then-not-is_answered-clause-asked
@@ -19,6 +19,7 @@ returns-then-not-is_answered-clause-asked g c =
       receipt = c.in-Ok.receipt;
       step = c.in-Ok.ensures.step;
       place = c.in-Ok.ensures.place;
+      logged = logged c.args.bench.now.level c.args.bench.now.setup c.args.bench.now.log c.step.new.self c.seat.inside.session c.args.command c.in-Ok.receipt c.in-Ok.ensures.step.0 c.in-Ok.ensures.place c.in-Ok.ensures.sound;
       answer = answer;
       listed = λ is. absurd (both_ways false refl is);
       kept = λ is. absurd (both_ways false refl is);
@@ -36,6 +37,7 @@ returns-clause-asked g c =
       receipt = c.in-Ok.receipt;
       step = c.in-Ok.ensures.step;
       place = c.in-Ok.ensures.place;
+      logged = logged c.args.bench.now.level c.args.bench.now.setup c.args.bench.now.log c.step.new.self c.seat.inside.session c.args.command c.in-Ok.receipt c.in-Ok.ensures.step.0 c.in-Ok.ensures.place c.in-Ok.ensures.sound;
       answer = answer;
       listed = λ is. grows;
       kept = λ is. refl;
@@ -51,3 +53,9 @@ returns-then-not-is_answered-clause-waits g c =
 
 pub returns-in-Err-clause-told : goal.returns-in-Err-clause-told
 returns-in-Err-clause-told g c = subst TellsFull (sym c.lab_fault.ensures) (tells_full c.args.bench.now c.in-Err.fault false c.in-Err.ensures.filled)
+
+pub returns-then-not-is_answered-clause-asks : goal.returns-then-not-is_answered-clause-asks
+returns-then-not-is_answered-clause-asks g c =
+    let run = c.args.bench.now in
+    let answer : is_answer c.in-Ok.receipt.outcome ≡ false = search rules in
+    λ is. unanswered_asks run.level run.setup run.log c.step.new.self.log c.seat.inside.session c.args.command c.in-Ok.receipt.outcome c.in-Ok.ensures.step answer

@@ -6,7 +6,7 @@ use Rattle.lab_session.specs.Seats.{Seated, GrowsBy}
 use Rattle.lab_session.specs.Turns.{IsRetried}
 use Rattle.lab_session.specs.Waiting.{TellsFull}
 use Rattle.lab_session.proofs.Filled.{tells_full}
-use Rattle.lab_session.proofs.Turning.{grown, not_least, retry_answers}
+use Rattle.lab_session.proofs.Turning.{grown, logged, not_least, not_told_busy, retry_answers}
 use Rattle.lab_session.proofs.turn.retried.Goals as goal
 
 pub returns-then-ne-clause-not_due : goal.returns-then-ne-clause-not_due
@@ -34,6 +34,7 @@ returns-clause-retried g c =
       receipt = c.in-Ok.receipt;
       retry = c.in-Ok.ensures.retry;
       place = c.in-Ok.ensures.place;
+      logged = logged run.level run.setup run.log c.retry.new.self c.seat.inside.session _ c.in-Ok.receipt c.in-Ok.ensures.retry.2 c.in-Ok.ensures.place c.in-Ok.ensures.sound;
       command = c.in-Some.command;
       held = held;
       listed = grows;
@@ -42,3 +43,16 @@ returns-clause-retried g c =
 
 pub returns-in-Err-clause-told : goal.returns-in-Err-clause-told
 returns-in-Err-clause-told g c = subst TellsFull (sym c.lab_fault.ensures) (tells_full c.args.bench.now c.in-Err.fault true c.in-Err.ensures.filled)
+
+pub returns-clause-apart : goal.returns-clause-apart
+returns-clause-apart g c =
+    let run = c.args.bench.now in
+    let inside : Seated = record { session = c.seat.inside.session; calls = c.seat.inside.calls.items; holds = c.seat.inside.holds } in
+    let after : Seated = record { session = c.seat.inside.session; calls = c.push.new.self.items; holds = c.take.new.self } in
+    let is : c.retryable.result ≡ Some c.seat.inside.session = search rules in
+    let due : IsLeastRetryable run.level run.setup (past_of run.log) c.seat.inside.session =
+    subst (λ r. MatchOption r (NoneRetryable run.level run.setup (past_of run.log)) (IsLeastRetryable run.level run.setup (past_of run.log))) is c.retryable.ensures in
+    let answered : is_answer c.in-Ok.receipt.outcome ≡ true =
+    retry_answers run.level run.setup run.log c.retry.new.self.log c.seat.inside.session c.in-Ok.receipt.outcome due c.in-Ok.ensures.retry in
+    not_told_busy run.level run.setup run.log c.retry.new.self.log inside after c.in-Some.command c.in-Ok.receipt c.in-Ok.ensures.retry
+    (grown inside c.in-Some.command c.in-Ok.receipt c.try_reserve.new.self.items c.push.new.self.items c.take.new.self c.try_reserve.ensures.items c.in-Ok-push.ensures.items answered)

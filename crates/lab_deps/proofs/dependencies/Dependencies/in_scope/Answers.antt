@@ -3,6 +3,5 @@ use Rattle.lab_deps.proofs.dependencies.Dependencies.in_scope.Goals as goal
 pub invariant_of-result : goal.invariant_of-result
 invariant_of-result c = record {
   allowed = c.requires;
-  versions = c.in_ok-rows.ensures;
   exact = c.in_ok-arrows.ensures;
 }

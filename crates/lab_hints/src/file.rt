@@ -1,0 +1,164 @@
+//! What is said of a file that is no history.
+
+use crate::limits::{limit_rule, put_over};
+use crate::path::{put_value, put_wrong_value, value_at};
+use crate::rows::{has_number, items_at, unsorted_place};
+use crate::statement::put_bad_statement;
+use crate::text::{BYTE_ORDER_MARK, Part, line_numbered, put, put_shown};
+use lab_history::{FileFault, Limit, Path};
+use lab_table::{NoMemory, TxnNo};
+use serde_json::{Error, Value as Json};
+use std::alloc::{AllocError, Global};
+
+/// The most bytes that are shown of a text that is no JSON.
+const SHOWN_BYTES: usize = 20;
+
+/// Appends what stands at a line and a column of a text that is no JSON.
+fn put_found_text(
+    out: &mut Vec<u8>,
+    bytes: &[u8],
+    line: usize,
+    column: usize,
+) -> Result<(), NoMemory> {
+    let line = line_numbered(bytes, line).unwrap_or(&[]);
+    let (_, rest) = line.split_at(column.saturating_sub(1).min(line.len()));
+    put(out, &[Part::Say("found '")])?;
+    put_shown(out, rest, SHOWN_BYTES)?;
+    put(out, &[Part::Say("', with which no JSON text goes on")])
+}
+
+/// Appends where a text stops being JSON.
+fn put_no_json(out: &mut Vec<u8>, bytes: &[u8], error: &Error) -> Result<(), NoMemory> {
+    if bytes.is_empty() {
+        return put(out, &[Part::Say("the input is empty")]);
+    }
+    if bytes.starts_with(BYTE_ORDER_MARK) {
+        return put(
+            out,
+            &[Part::Say(
+                "found a byte order mark (EF BB BF) at the front, which is no part of JSON",
+            )],
+        );
+    }
+    let (line, column) = (error.line(), error.column());
+    put(
+        out,
+        &[
+            Part::Say("line "),
+            Part::Number(line as u64),
+            Part::Say(", column "),
+            Part::Number(column as u64),
+            Part::Say(": "),
+        ],
+    )?;
+    if error.is_eof() {
+        put(
+            out,
+            &[Part::Say("the text ends before its JSON value does")],
+        )
+    } else {
+        put_found_text(out, bytes, line, column)
+    }
+}
+
+/// Appends where the transactions with a number stand.
+fn put_repeated(out: &mut Vec<u8>, json: &Json, no: TxnNo) -> Result<(), NoMemory> {
+    put(out, &[Part::Say("found this number at")])?;
+    for (index, txn) in items_at(json, "transactions").iter().enumerate() {
+        if has_number(txn, no) {
+            put(
+                out,
+                &[
+                    Part::Say(" /transactions/"),
+                    Part::Number(index as u64),
+                    Part::Say("/no"),
+                ],
+            )?;
+        }
+    }
+    put(out, &[Part::Say("; each transaction has another")])
+}
+
+/// Appends the first two members of a list of which the second one's row isn't behind the first one's.
+fn put_unsorted(
+    out: &mut Vec<u8>,
+    alloc: Global,
+    json: &Json,
+    path: &Path,
+) -> Result<(), NoMemory> {
+    let Some(members) = value_at(alloc, json, path)?.and_then(Json::as_array) else {
+        return Ok(());
+    };
+    let Some(place) = unsorted_place(members) else {
+        return Ok(());
+    };
+    out.extend_from_slice(&path.print(alloc)?)?;
+    put(
+        out,
+        &[
+            Part::Say("/"),
+            Part::Number(place as u64),
+            Part::Say(": found "),
+        ],
+    )?;
+    put_value(out, alloc, members.get(place))?;
+    put(out, &[Part::Say(" behind ")])?;
+    put_value(out, alloc, members.get(place.saturating_sub(1)))?;
+    let rule = "; rows rise by table and then by id, and none comes twice";
+    put(out, &[Part::Say(rule)])
+}
+
+/// Appends what is said of a fault of a file that is JSON.
+fn put_fault(
+    out: &mut Vec<u8>,
+    alloc: Global,
+    json: &Json,
+    fault: &FileFault,
+) -> Result<(), NoMemory> {
+    match fault {
+        FileFault::NoMemory | FileFault::NotJson => Ok(()),
+        FileFault::WrongFormat { path } => put_wrong_value(out, alloc, json, path),
+        FileFault::WrongVersion { number } => put(
+            out,
+            &[
+                Part::Say("/version: found "),
+                Part::Number(*number),
+                Part::Say("; a history file is of version 2 or 1"),
+            ],
+        ),
+        FileFault::RepeatedTxn { no } => put_repeated(out, json, *no),
+        FileFault::BadStatement { txn, op } => put_bad_statement(out, alloc, json, *txn, *op),
+        FileFault::Unsorted { path } => put_unsorted(out, alloc, json, path),
+        FileFault::OverLimit { which } => put_over(out, alloc, json, *which),
+    }
+}
+
+/// Appends what is said of a fault of a file that isn't too long to be read.
+fn put_read(
+    out: &mut Vec<u8>,
+    alloc: Global,
+    bytes: &[u8],
+    fault: &FileFault,
+) -> Result<(), NoMemory> {
+    match Json::from_slice(alloc, bytes) {
+        Ok(json) => put_fault(out, alloc, &json, fault),
+        Err(error) if error.is_memory() => Err(AllocError),
+        Err(error) => put_no_json(out, bytes, &error),
+    }
+}
+
+/// One line on a file that `read_history` refused with this fault: what was found at the value at fault, and what is wanted
+/// there. Nothing for want of memory.
+/// NoMemory where a growth was refused.
+pub fn file_hint(alloc: Global, bytes: &[u8], fault: &FileFault) -> Result<Vec<u8>, NoMemory> {
+    let mut out = Vec::new(alloc);
+    match fault {
+        FileFault::NoMemory => return Ok(out),
+        FileFault::OverLimit {
+            which: Limit::Bytes,
+        } => put(&mut out, &[Part::Say(limit_rule(Limit::Bytes))])?,
+        _ => put_read(&mut out, alloc, bytes, fault)?,
+    }
+    out.push(b'\n')?;
+    Ok(out)
+}

@@ -1,0 +1,31 @@
+//! Hints: what may be said to people of an input that was refused.
+//!
+//! [`note_script`] shows the faulty line of a script, what was found where and what may stand there, or tells that no
+//! transaction begins in a script; [`note_file`] what was found at the place of a history file that is wrong, and what is
+//! wanted there; [`note_play`] which limit a play came to. They are called once the answer is written, read the input again,
+//! and look themselves for the rest: in a script along a table of the grammar's forms, in a file in the value that it has.
+//!
+//! The texts aren't promised: no contract speaks of them, and they may change from version to version. A hint that finds
+//! less than the fault tells says what the fault's kind says by itself. Each call returns. Want of memory, and a write that
+//! fails, are let go. What is shown of an input is printed ASCII, and short.
+#![tactic(auto)]
+
+mod file;
+mod grammar;
+mod limits;
+mod notes;
+mod path;
+mod play;
+mod position;
+mod rows;
+mod said;
+mod script;
+mod silent;
+mod statement;
+mod stop;
+mod text;
+mod token;
+mod walk;
+mod wanted;
+
+pub use notes::{note_file, note_play, note_script};

@@ -1,0 +1,94 @@
+-- There is one text of the matrix, and where there is no matrix one refusal of it.
+use Rattle.std.proofs.Common.{◌≡◌, inl, inr, sym, ap, subst, ◌∙◌, arith}
+use Rattle.std.proofs.lemmas.Bool.{cases_lt}
+use Rattle.lab_engine.specs.declared.event.Level.{Level}
+use Rattle.lab_engine.specs.declared.event.Level.TheVariants as level
+use Rattle.lab_engine.specs.Log.{past_of}
+use Rattle.lab_engine.specs.Recording.{IsRecording}
+use Rattle.lab_engine.proofs.OneRecording.{one_recording}
+use Rattle.lab_session.specs.Play.{given_lines}
+use Rattle.lab_session.specs.declared.fault.PlayFault.{PlayFault}
+use Rattle.lab_session.proofs.OnePlay.{one_play, no_fault, one_fault}
+use Rattle.lab_judge.specs.Judgement.{IsExactJudgement}
+use Rattle.lab_judge.specs.declared.report.Report.{Report}
+use Rattle.lab_judge.proofs.OneJudgement.{one_judgement}
+use Rattle.lab_matrix.specs.Listings.{usual_setup, listing}
+use Rattle.lab_matrix.specs.Matrix.{IsCell, IsRow, AreCells, IsRecorded, IsUnrecorded, Precedes, case_place, level_place, cell_of}
+use Rattle.lab_matrix.specs.MatrixText.{matrix_text}
+use Rattle.lab_matrix.specs.declared.cells.Matrix.{Matrix}
+use Rattle.lab_matrix.specs.declared.cells.Row.{Row}
+use Rattle.lab_matrix.specs.declared.name.CaseName.{CaseName}
+use Rattle.lab_matrix.specs.declared.name.CaseName.TheVariants as name
+use Rattle.lab_matrix.proofs.CasePlays.{recorded, same_place, same_level}
+
+-- a case has one report at a level
+one_cell : (case : CaseName) (at : Level) (one other : Report) → IsCell case at one → IsCell case at other → one ≡ other
+one_cell case at one other c d =
+    let log : d.recording.log ≡ c.recording.log = one_play at usual_setup (given_lines (listing case)) d.recording.log c.recording.log d.play c.play in
+    let told : d.recording.history ≡ c.recording.history
+    = one_recording usual_setup (past_of c.recording.log) d.recording.history c.recording.history (subst (λ l. IsRecording usual_setup (past_of l) d.recording.history) log d.history) c.history in
+    one_judgement c.recording.history one other c.judged (subst (λ h. IsExactJudgement h other) told d.judged)
+
+-- and one row
+one_row : (case : CaseName) (r s : Row) → IsRow case r → IsRow case s → r ≡ s
+one_row case r s x y =
+    ap (λ l. record { locking = l; committed = r.committed; snapshot = r.snapshot }) (one_cell case level.Locking r.locking s.locking (x level.Locking) (y level.Locking))
+    ∙ ap (λ c. record { locking = s.locking; committed = c; snapshot = r.snapshot }) (one_cell case level.Committed r.committed s.committed (x level.Committed) (y level.Committed))
+    ∙ ap (λ t. record { locking = s.locking; committed = s.committed; snapshot = t }) (one_cell case level.Snapshot r.snapshot s.snapshot (x level.Snapshot) (y level.Snapshot))
+
+-- matrices whose rows are the same have one text
+same_text : (m n : Matrix) → m.g0 ≡ n.g0 → m.g1a ≡ n.g1a → m.g1b ≡ n.g1b → m.g1c ≡ n.g1c → m.otv ≡ n.otv → m.pmp ≡ n.pmp → m.p4 ≡ n.p4 → m.g_single ≡ n.g_single
+    → m.g2_item ≡ n.g2_item → m.g2 ≡ n.g2 → matrix_text m ≡ matrix_text n
+same_text m n g0 g1a g1b g1c otv pmp p4 g_single g2_item g2 = cc
+
+-- so there is one text of the matrix
+pub one_text : (m n : Matrix) → AreCells m → AreCells n → matrix_text m ≡ matrix_text n
+one_text m n x y =
+    same_text m n (one_row name.G0 m.g0 n.g0 (x name.G0) (y name.G0)) (one_row name.G1a m.g1a n.g1a (x name.G1a) (y name.G1a)) (one_row name.G1b m.g1b n.g1b (x name.G1b) (y name.G1b))
+    (one_row name.G1c m.g1c n.g1c (x name.G1c) (y name.G1c)) (one_row name.Otv m.otv n.otv (x name.Otv) (y name.Otv)) (one_row name.Pmp m.pmp n.pmp (x name.Pmp) (y name.Pmp))
+    (one_row name.P4 m.p4 n.p4 (x name.P4) (y name.P4)) (one_row name.GSingle m.g_single n.g_single (x name.GSingle) (y name.GSingle))
+    (one_row name.G2Item m.g2_item n.g2_item (x name.G2Item) (y name.G2Item)) (one_row name.G2 m.g2 n.g2 (x name.G2) (y name.G2))
+
+-- a play that has a recording isn't refused
+pub not_both : (case : CaseName) (at : Level) (fault : PlayFault) → IsRecorded case at → IsUnrecorded case at fault → ⊥
+not_both case at fault r (told, faulty) = no_fault at usual_setup (given_lines (listing case)) r.log r.told r.play r.history r.whole fault told faulty
+
+-- so a matrix excludes a refusal
+pub no_refusal : (m : Matrix) (case : CaseName) (at : Level) (fault : PlayFault) → AreCells m → IsUnrecorded case at fault → ⊥
+no_refusal m case at fault cells = not_both case at fault (recorded case at (cell_of m case at) (cells case at))
+
+-- A refusal that is the first.
+module _ (case other : CaseName) (at under : Level) (fault again : PlayFault) (faulty : IsUnrecorded case at fault) (told : IsUnrecorded other under again)
+    (before : (c : CaseName) (l : Level) → Precedes c l case at → IsRecorded c l) (earlier : (c : CaseName) (l : Level) → Precedes c l other under → IsRecorded c l) where
+  -- neither stands before the other
+  not_before : Precedes case at other under → ⊥
+  not_before p = not_both case at fault (earlier case at p) faulty
+
+  not_behind : Precedes other under case at → ⊥
+  not_behind p = not_both other under again (before other under p) told
+
+  -- so they are of one case
+  one_case : case ≡ other
+  one_case = elim (cases_lt (case_place case) (case_place other)) [
+    | inl less ↦ absurd (not_before (inl less))
+    | inr above ↦ elim (cases_lt (case_place other) (case_place case)) [
+      | inl more ↦ absurd (not_behind (inl more))
+      | inr level ↦ same_place case other (omega (arith, above, level))
+    ]
+  ]
+
+  -- at one level
+  one_level : at ≡ under
+  one_level = elim (cases_lt (level_place at) (level_place under)) [
+    | inl less ↦ absurd (not_before (inr (one_case, less)))
+    | inr above ↦ elim (cases_lt (level_place under) (level_place at)) [
+      | inl more ↦ absurd (not_behind (inr (sym one_case, more)))
+      | inr level ↦ same_level at under (omega (arith, above, level))
+    ]
+  ]
+
+  -- and one fault
+  pub one_refusal : fault ≡ again
+  one_refusal =
+      let moved : IsUnrecorded case at again = subst (λ c. IsUnrecorded c at again) (sym one_case) (subst (λ l. IsUnrecorded other l again) (sym one_level) told) in
+      one_fault at usual_setup (given_lines (listing case)) fault again faulty.0 moved.0 faulty.1 moved.1

@@ -1,0 +1,28 @@
+//! The laws of scripted plays: of one script there is one. The functions have nothing to do: their contracts are the laws.
+
+ghost use Rattle.std.specs.Prelude.{◌≡◌, ◌≢◌, List, Ok};
+ghost use Rattle.lab_table.specs.Table.{Table};
+ghost use Rattle.lab_history.specs.History.{History};
+ghost use Rattle.lab_history.specs.FirstPartsFault.{checked};
+ghost use Rattle.lab_engine.specs.declared.event.Level.{Level};
+ghost use Rattle.lab_engine.specs.declared.event.LogEvent.{LogEvent};
+ghost use Rattle.lab_engine.specs.Log.{past_of};
+ghost use Rattle.lab_engine.specs.Recording.{Line, IsRecording};
+ghost use Rattle.lab_session.specs.Play.{IsLegalPlay, IsScriptedFault};
+ghost use Rattle.lab_session.specs.declared.fault.PlayFault.{PlayFault};
+ghost use Rattle.lab_session.specs.declared.fault.PlayFault.TheVariants as play_fault;
+
+/// A script that one thread plays has one log at a level and on a setup: whoever plays it to its end gets the same events.
+pub fn one_play()
+    ensures { (level : Level) (setup : Table) (lines : List Line) (log other : List LogEvent)
+        → IsLegalPlay level setup lines log → IsLegalPlay level setup lines other → log ≡ other }
+{}
+
+/// A play has a recording or one fault, want of memory aside: no fault is true of a script whose play has a recording
+/// without one, and of any other one fault at most.
+pub fn one_play_fault()
+    ensures recorded { (level : Level) (setup : Table) (lines : List Line) (log : List LogEvent) (h : History) (fault : PlayFault)
+        → IsLegalPlay level setup lines log → IsRecording setup (past_of log) h → checked h ≡ Ok tt → fault ≢ play_fault.NoMemory → IsScriptedFault level setup lines fault → ⊥ }
+    ensures refused { (level : Level) (setup : Table) (lines : List Line) (fault other : PlayFault) → fault ≢ play_fault.NoMemory → other ≢ play_fault.NoMemory
+        → IsScriptedFault level setup lines fault → IsScriptedFault level setup lines other → fault ≡ other }
+{}

@@ -1,7 +1,0 @@
-use denote.Param.Send.{sendable}
-use Rattle.lab_engine.proofs.Crosses.{journal}
-use Rattle.lab_session_tests.proofs.meeting.two_threads_are_in_their_first_command_at_once.Goals as goal
-
--- src/meeting.rt:53:24
-pub play_free-requires-send-E : goal.play_free-requires-send-E
-play_free-requires-send-E c κs = search (sendable, journal)

@@ -1,0 +1,4 @@
+pub mod Taken
+pub mod FileFaults
+pub mod OneFile
+pub mod ScriptsPrint
