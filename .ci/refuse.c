@@ -1,23 +1,41 @@
-/* Refuses growths of memory: preloaded into a program, it stands before the C library's malloc and realloc.
+/* Refuses growths of memory, and counts threads: preloaded into a program, it stands before the C library's malloc,
+ * realloc and pthread_create.
  *
  * In the environment:
  *   REFUSE_AT=N         refuses the program's N-th growth, once
  *   REFUSE_COUNT=K      refuses K growths in a row from that one on; 0: all from it on
  *   REFUSE_LOG=FILE     each refusal adds a byte to this file
  *   REFUSE_DELAY=SEED   holds threads up at random at their growths, so that they meet in other orders
+ *   THREADS_LOG=FILE    each thread that starts adds a byte to this file
  * A test asks for a refusal by blocks of odd sizes, which without this library are ordinary blocks:
  *   MARK + n bytes, n > 0   from now on the n-th growth is refused, once; MARK bytes: none is
  *   ASK bytes               refused where a growth was refused since the last mark */
-#define _GNU_SOURCE
-#include <dlfcn.h>
-#include <errno.h>
-#include <fcntl.h>
-#include <sched.h>
-#include <stdatomic.h>
-#include <stdint.h>
-#include <stdlib.h>
-#include <time.h>
-#include <unistd.h>
+
+/* What is used of the C library, as Linux has it: the kit's compiler comes without its headers. */
+#define NULL ((void *)0)
+#define RTLD_NEXT ((void *)-1l)
+#define ENOMEM 12
+#define O_WRONLY 01
+#define O_APPEND 02000
+typedef unsigned long size_t;
+struct timespec { long tv_sec, tv_nsec; };
+void *dlsym(void *, const char *);
+char *getenv(const char *);
+long atol(const char *);
+unsigned long strtoul(const char *, char **, int);
+int *__errno_location(void);
+int open(const char *, int, ...);
+long write(int, const void *, size_t);
+int close(int);
+int nanosleep(const struct timespec *, struct timespec *);
+int sched_yield(void);
+void _exit(int) __attribute__((noreturn));
+#define errno (*__errno_location())
+
+/* Threads share the numbers below. */
+#define LOAD(x) __atomic_load_n(&(x), __ATOMIC_SEQ_CST)
+#define STORE(x, new) __atomic_store_n(&(x), new, __ATOMIC_SEQ_CST)
+#define REPLACE(x, old, new) __atomic_compare_exchange_n(&(x), &(old), new, 1, __ATOMIC_SEQ_CST, __ATOMIC_SEQ_CST)
 
 #define MARK 5000011ul
 #define ASK 5100003ul
@@ -26,33 +44,38 @@
 
 static void *(*next_malloc)(size_t);
 static void *(*next_realloc)(void *, size_t);
-static _Atomic long to_last;  /* growths up to the last refused one; 0: none is refused */
-static _Atomic long in_a_row; /* so many of them are refused */
-static _Atomic int endless;   /* there is no last one: it is refused again and again */
-static _Atomic long refusals;
-static _Atomic uint64_t draws; /* the state of the delays' generator; 0: nothing is held up */
+/* A thread's handle is a number, and its attributes are handed on unread. */
+typedef int (*creator)(unsigned long *, const void *, void *(*)(void *), void *);
+static creator next_create;
+static long to_last;  /* growths up to the last refused one; 0: none is refused */
+static long in_a_row; /* so many of them are refused */
+static int endless;   /* there is no last one: it is refused again and again */
+static long refusals;
+static unsigned long draws; /* the state of the delays' generator; 0: nothing is held up */
 
 /* Refuses so many growths from the n-th on, or all from there on where `count` is 0. */
 static void arm(long n, long count) {
-    to_last = 0;
-    endless = count == 0;
-    in_a_row = count ? count : 1;
-    to_last = n > 0 ? n + in_a_row - 1 : 0;
+    long more = count ? count : 1;
+    STORE(to_last, 0);
+    STORE(endless, count == 0);
+    STORE(in_a_row, more);
+    STORE(to_last, n > 0 ? n + more - 1 : 0);
 }
 
 __attribute__((constructor)) static void start(void) {
     const char *at = getenv("REFUSE_AT"), *count = getenv("REFUSE_COUNT"), *seed = getenv("REFUSE_DELAY");
     next_malloc = (void *(*)(size_t))dlsym(RTLD_NEXT, "malloc");
     next_realloc = (void *(*)(void *, size_t))dlsym(RTLD_NEXT, "realloc");
+    next_create = (creator)dlsym(RTLD_NEXT, "pthread_create");
     if (at) arm(atol(at), count ? atol(count) : 1);
     /* A factor sets small seeds far apart; a state of 0 would stay 0. */
-    if (seed) draws = (strtoull(seed, NULL, 10) * 0x9e3779b97f4a7c15u) | 1u;
+    if (seed) STORE(draws, (strtoul(seed, NULL, 10) * 0x9e3779b97f4a7c15ul) | 1ul);
 }
 
-static void note(void) {
-    const char *log = getenv("REFUSE_LOG");
+/* Adds a byte to the file that a word of the environment names, if it does. */
+static void note(const char *word) {
+    const char *log = getenv(word);
     int file = log ? open(log, O_WRONLY | O_APPEND) : -1;
-    refusals++;
     if (file >= 0) {
         if (write(file, ".", 1) < 0) _exit(99);
         close(file);
@@ -61,12 +84,13 @@ static void note(void) {
 
 /* Counts a growth, and says whether it is a refused one. */
 static int is_refused(void) {
-    long left = to_last;
+    long left = LOAD(to_last);
     while (left > 0) {
-        long after = left == 1 && endless ? 1 : left - 1;
-        if (atomic_compare_exchange_weak(&to_last, &left, after)) {
-            if (left > in_a_row) return 0;
-            note();
+        long after = left == 1 && LOAD(endless) ? 1 : left - 1;
+        if (REPLACE(to_last, left, after)) {
+            if (left > LOAD(in_a_row)) return 0;
+            __atomic_add_fetch(&refusals, 1, __ATOMIC_SEQ_CST);
+            note("REFUSE_LOG");
             errno = ENOMEM;
             return 1;
         }
@@ -75,21 +99,21 @@ static int is_refused(void) {
 }
 
 /* The next number of the generator, a xorshift. */
-static uint64_t draw(void) {
-    uint64_t last = draws, next;
+static unsigned long draw(void) {
+    unsigned long last = LOAD(draws), next;
     do {
         next = last ^ (last << 13);
         next ^= next >> 7;
         next ^= next << 17;
-    } while (!atomic_compare_exchange_weak(&draws, &last, next));
+    } while (!REPLACE(draws, last, next));
     return next;
 }
 
 /* Now and then lets other threads run, or waits a little. */
 static void hold_up(void) {
-    uint64_t drawn;
+    unsigned long drawn;
     int error = errno;
-    if (!draws) return;
+    if (!LOAD(draws)) return;
     drawn = draw() >> 16;
     if (drawn % 16 == 0) {
         struct timespec pause = {0, (long)(drawn / 16 % NANOSECONDS)};
@@ -103,11 +127,11 @@ static void hold_up(void) {
 void *malloc(size_t size) {
     if (!next_malloc) start();
     if (size >= MARK && size < ASK) {
-        refusals = 0;
+        STORE(refusals, 0);
         arm((long)(size - MARK), 1);
         return next_malloc(16);
     }
-    if (size == ASK) return refusals ? NULL : next_malloc(16);
+    if (size == ASK) return LOAD(refusals) ? NULL : next_malloc(16);
     hold_up();
     return is_refused() ? NULL : next_malloc(size);
 }
@@ -116,4 +140,12 @@ void *realloc(void *block, size_t size) {
     if (!next_realloc) start();
     hold_up();
     return is_refused() ? NULL : next_realloc(block, size);
+}
+
+int pthread_create(unsigned long *thread, const void *how, void *(*run)(void *), void *given) {
+    int error;
+    if (!next_create) start();
+    error = next_create(thread, how, run, given);
+    if (!error) note("THREADS_LOG");
+    return error;
 }

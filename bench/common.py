@@ -9,7 +9,6 @@ import subprocess
 import sys
 
 TOP = os.path.dirname(os.path.dirname(os.path.realpath(__file__)))
-PROGRAM = f"{TOP}/crates/hermitage_lab/out/hermitage_lab"
 # As many tables as an input may have, with names as long as may be. They begin alike, so that names are compared in full.
 TABLES = ("accounts_of_last", "accounts_of_next", "accounts_of_then", "accounts_of_this")
 
@@ -21,9 +20,13 @@ def numbers(seed=1):
         yield seed >> 8
 
 
-def build_product():
-    """Builds the program itself, where it is missing or older than its sources."""
+def product():
+    """The path of the program itself, which is built first where none is built from the sources as they stand."""
     subprocess.run([f"{TOP}/hermitage_lab", "--help"], stdin=subprocess.DEVNULL, stdout=subprocess.DEVNULL, check=True)
+    return subprocess.run([f"{TOP}/programs/find"], stdout=subprocess.PIPE, text=True, check=True).stdout.strip()
+
+
+PROGRAM = product()
 
 
 def below(names, over):
