@@ -1,7 +1,8 @@
-"""Histories made by rule whose dependencies lead round through all transactions, and the report that is due of each.
+"""Histories made by rule whose dependencies lead round, and the report that is due of each.
 
 A ring of N transactions leads from T1 to T2 and so on to TN, and from there back to T1; between other transactions there
-is no dependency. So each walk and each circle that is due has all of them. What is due is written from docs/FORMATS.md."""
+is no dependency. So each walk and each circle that is due has all of them. All are rings but the skew, in which
+transactions miss what many others write. What is due is written from docs/FORMATS.md."""
 import json
 
 PHENOMENA = "G0", "G1a", "G1b", "G1c", "G-single", "G2-item", "G2"
@@ -50,6 +51,17 @@ def round_circle(count):
     return "no " + "".join(f"s{no} c{no} " for no in range(1, count + 1)) + "s1"
 
 
+def circle_from_commit(count):
+    """The circle of a ring whose last transaction, and no other, has to start before the next one's commit."""
+    return "no c1 " + "".join(f"s{no} c{no} " for no in range(2, count)) + f"s{count} c1"
+
+
+def report_but_once(count, dependency):
+    """What is due of a ring with one anti-dependency, by a row that is listed, from the last transaction to the first."""
+    walk = round_walk(count, dependency)
+    return report(f"no {walk}", circle_from_commit(count), dict.fromkeys(("G-single", "G2-item", "G2"), walk), "PL-2")
+
+
 def places_of_readers(count):
     """The places where each transaction has to start before the next one's commit: all but the first and the last commit
     right behind their starts, and those two behind the last start."""
@@ -83,21 +95,47 @@ def overwriting(count):
     return history(rows_of_zero(count), transactions, installed, end), due
 
 
+def update_all(seen):
+    """The operation that adds 1 to all rows. Of each row it sees the version of some transaction, and the value."""
+    view = [[row, writer, 1] for row, (writer, _) in enumerate(seen, 1) if writer]
+    old = [[row, value] for row, (_, value) in enumerate(seen, 1)]
+    return operation("update test set value = value + 1", view, old, [[row, value + 1] for row, value in old])
+
+
 def overwriting_all(count, rows):
     """Each updates all rows, two or more, behind the one before it, but the last one comes first at the last row: G0."""
     transactions = []
     for no in range(1, count + 1):
         # Of each row: which transaction's version is seen, or none, and how many came before.
         seen = [(no - 1, no - 1)] * (rows - 1) + [(0, 0) if no == count else (before(no, count), no)]
-        view = [[row, writer, 1] for row, (writer, _) in enumerate(seen, 1) if writer]
-        old = [[row, value] for row, (_, value) in enumerate(seen, 1)]
-        new = [[row, value + 1] for row, value in old]
-        transactions.append([operation("update test set value = value + 1", view, old, new)])
+        transactions.append([update_all(seen)])
     order = list(range(1, count + 1))
     installed = [[row, order] for row in range(1, rows)] + [[rows, [count, *order[:-1]]]]
     walk = round_walk(count, lambda no: f"ww({rows if no == count else 1})")
     due = report(f"no {walk}", round_circle(count), {"G0": walk, "G1c": walk}, "below PL-1")
     return history(rows_of_zero(rows), transactions, installed, [[row, count] for row in range(1, rows + 1)]), due
+
+
+def overwriting_missed(count, rows):
+    """Each updates all rows, two or more, behind the one before it, but the last one misses what all others made of the
+    last row: G-single."""
+    seen = [[(no - 1, no - 1)] * rows for no in range(1, count + 1)]
+    seen[-1][-1] = 0, 0
+    order, last = list(range(1, count + 1)), [[row, count] for row in range(1, rows)] + [[rows, 1]]
+    due = report_but_once(count, lambda no: f"rw({rows})" if no == count else "ww(1)")
+    transactions = [[update_all(it)] for it in seen]
+    return history(rows_of_zero(rows), transactions, [[row, order] for row in range(1, rows + 1)], last), due
+
+
+def overwriting_then_reading(writers, rows):
+    """Each writer updates all rows, two or more, behind the one before it; a reader behind them sees row 1 as the last one
+    left it, and row 2 as it was at first: G-single."""
+    transactions = [[update_all([(no - 1, no - 1)] * rows)] for no in range(1, writers + 1)]
+    transactions.append([select(1, writers, [[1, writers, 1]]), select(2, 0, ())])
+    steps = {writers: "wr(1)", writers + 1: "rw(2)"}
+    due = report_but_once(writers + 1, lambda no: steps.get(no, "ww(1)"))
+    order, every = list(range(1, writers + 1)), range(1, rows + 1)
+    return history(rows_of_zero(rows), transactions, [[row, order] for row in every], [[row, writers] for row in every]), due
 
 
 def reading(count):
@@ -134,9 +172,7 @@ def reading_but_once(count):
         view = [[no - 1, no - 1, 1 if no == 2 else 2]]
         last = select(count, 0, view) if no == count else update(no, no, 0, view)
         transactions.append([select(no - 1, no - 1, view), last])
-    walk = round_walk(count, lambda no: f"{'rw' if no == count else 'wr'}({no})")
-    circle = "no c1 " + "".join(f"s{no} c{no} " for no in range(2, count)) + f"s{count} c1"
-    due = report(f"no {walk}", circle, dict.fromkeys(("G-single", "G2-item", "G2"), walk), "PL-2")
+    due = report_but_once(count, lambda no: f"{'rw' if no == count else 'wr'}({no})")
     installed = [[row, [row]] for row in range(1, count)] + [[count, [1]]]
     return history(rows_of_zero(count), transactions, installed, [[row, who] for row, (who,) in installed]), due
 
@@ -164,3 +200,42 @@ def finding_none(count):
     walk = round_walk(count, lambda no: f"rw-p({behind(no, count)})")
     due = report(f"no {walk}", places_of_readers(count), {"G2": walk}, "PL-2.99")
     return history([], transactions, [[row, [row]] for row in range(1, count + 1)], end), due
+
+
+def select_range(first, span, rows):
+    """Selects so many of the rows as they were at first, from one on; behind the last of them comes the first."""
+    listed = sorted((first + place - 1) % rows + 1 for place in range(span))
+    last = (first + span - 2) % rows + 1
+    joined = "and" if first <= last else "or"
+    return operation(f"select * from test where id >= {first} {joined} id <= {last}", (), [[row, 0] for row in listed])
+
+
+def places_of_skewed(count, reach):
+    """The places where each has to start before so many behind it commit: the first ones before any commit, then each
+    right before its own commit, and behind the last start the commits of those that it waited for."""
+    starts = [max(no - 1, 2 * no - reach - 2) for no in range(1, count + 1)]
+    ends = [start + 1 for start in starts]
+    ends[:reach] = range(starts[-1] + 1, starts[-1] + 1 + reach)
+    ends[-1] = ends[reach - 1] + 1
+    return "yes " + " ".join(f"T{no} {start}-{end}" for no, (start, end) in enumerate(zip(starts, ends), 1))
+
+
+def skewed(count, selects, span):
+    """Each selects so many ranges of as many rows as there are transactions, from its own row on, and updates that; it
+    sees all as they were at first, and misses what the next `reach` transactions write: G2-item.
+
+    From T1 back to the least that misses it, and so on, is `reach` a step, until one is met that T1 misses. The same way,
+    which is one of the shortest and the only one with numbers so small, leads back from T2, the first that T1 misses. It
+    must be none of those itself, nor the least of them."""
+    reach = selects * span - 1
+    transactions = [
+        [*(select_range((no + span * place - 1) % count + 1, span, count) for place in range(selects)), update(no, 1, 0)]
+        for no in range(1, count + 1)
+    ]
+    back = list(range(count + 1 - reach, 2, -reach))
+    assert 2 < back[-1] <= reach + 1
+    way = "".join(f"rw({no}) T{no} " for no in reversed(back)) + "rw(1) T1"
+    found = dict.fromkeys(("G2-item", "G2"), f"T1 rw(2) T2 {way}")
+    due = report(f"no T1 {way}", places_of_skewed(count, reach), found, "PL-2")
+    rows = range(1, count + 1)
+    return history(rows_of_zero(count), transactions, [[row, [row]] for row in rows], [[row, 1] for row in rows]), due
