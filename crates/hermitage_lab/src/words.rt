@@ -128,7 +128,7 @@ input is no history file, writes one line that names its first fault.
 const PHENOMENON: &str = "Draws what is found of a phenomenon in place of the serial verdict";
 
 /// The version, and what the program was proved with.
-const VERSION: &str = "1.0.0, proved with rattle-kit-13f logic dac8208d650f15bf";
+const VERSION: &str = "1.0.0, proved with rattle-kit-13, logic dac8208d650f15bf";
 
 /// The cases that the program has, as words.
 pub static CASES: [&str; 10] = [
