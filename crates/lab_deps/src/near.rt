@@ -1,6 +1,6 @@
 //! Values of rows that are looked for first where they are likely to stand.
 
-ghost use Rattle.std.specs.Prelude.{◌≡◌, T, option_map};
+ghost use Rattle.std.specs.Prelude.{◌≡◌, T, true, option_map};
 ghost use Rattle.std.specs.Option.{option_copied};
 ghost use Rattle.std.specs.List.{prefix_len};
 ghost use Rattle.std.specs.FinMap as map;
@@ -26,8 +26,36 @@ pub fn value_near<V: Copy>(
             return (Some(entry.1), near);
         }
     }
-    let place = place_of(entries, row);
+    let place = place_near(entries, near, row);
     (value_at(entries, place, row), place)
+}
+
+/// The place of a row in a list whose rows rise strictly, looked at a place first.
+#[inline(always)]
+fn place_near<V>(entries: &[(RowName, V)], near: usize, row: RowName) -> usize
+    requires { T (map.is_sorted row_cmp entries.now) }
+    ensures { result ≡ prefix_len (comes_after row) entries.now }
+{
+    if is_place(entries, near, row) {
+        near
+    } else {
+        place_of(entries, row)
+    }
+}
+
+/// Whether this is found to be the place of a row: it comes after the entry before, and not after the one there.
+#[inline(always)]
+fn is_place<V>(entries: &[(RowName, V)], place: usize, row: RowName) -> bool
+    requires { T (map.is_sorted row_cmp entries.now) }
+    ensures { result ≡ true → place ≡ prefix_len (comes_after row) entries.now }
+{
+    if place > entries.len() {
+        return false;
+    }
+    if place < entries.len() && row > entries[place].0 {
+        return false;
+    }
+    place == 0 || row > entries[place - 1].0
 }
 
 /// The entry of the row of this number and table in a list whose rows rise strictly; one beyond the last isn't looked for.
