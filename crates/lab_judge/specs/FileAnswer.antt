@@ -16,7 +16,7 @@ pub record IsFileRefusal (bytes : List ℕ) (fault : FileFault) : Type 0 where
   pub no_text : length bytes ≤ max_file_bytes → ((d : Data) → IsUtf8 bytes → read_text bytes ≢ Some d) → fault ≡ NotJson
   pub first : (d : Data) → length bytes ≤ max_file_bytes → IsUtf8 bytes → read_text bytes ≡ Some d → history_in d ≡ Err fault
 
--- a judgement of the history that the bytes spell, or a refusal that is true of them
+-- a judgement of the history that the bytes spell, where they aren't too many, or a refusal that is true of them
 abbrev pub IsFileAnswer : List ℕ → Result Report FileFault → Type 0
-IsFileAnswer bytes (Ok report) = IsFileJudgement bytes report
+IsFileAnswer bytes (Ok report) = (length bytes ≤ max_file_bytes) × IsFileJudgement bytes report
 IsFileAnswer bytes (Err fault) = IsFileRefusal bytes fault
