@@ -1,4 +1,6 @@
 mod JudgedFiles
+mod GreatestNumbers
+mod BatchParts
 mod PlaysPrint
 mod Refusals
 mod WholeScripts

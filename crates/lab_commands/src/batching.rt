@@ -1,8 +1,9 @@
 //! The subcommand `batch`: the reports of many files.
 
-ghost use Rattle.std.specs.Prelude.{◌≡◌, ◌⊎◌, ◌++◌, IfOk, IfErr, OnOk};
-ghost use Rattle.std.specs.Io.KnownBytes.{Keeps};
-ghost use Rattle.lab_commands.specs.Batching.{part_text, part_status};
+ghost use Rattle.std.specs.Prelude.{◌≡◌, ◌≢◌, ◌⊎◌, ◌++◌, List, ℕ, Option, length, map, IfOk, IfErr, OnOk};
+ghost use Rattle.std.specs.Io.KnownBytes.{Appends, Keeps};
+ghost use Rattle.std.specs.List.{zip};
+ghost use Rattle.lab_commands.specs.Batching.{IsBatchAnswer, input_of, part_text, part_status};
 
 use lab_history::FileFault;
 use lab_judge::{Report, judge_all, print_file_fault, print_report};
@@ -33,7 +34,10 @@ struct Inputs {
     are_read: Vec<bool>,
 }
 
-fn read_files<T: Files>(rt: &T, alloc: Global, names: &[&str]) -> Result<Inputs, NoMemory> {
+fn read_files<T: Files>(rt: &T, alloc: Global, names: &[&str]) -> Result<Inputs, NoMemory>
+    ensures files { IfOk result (λ inputs. length inputs.files.items ≡ length names.now) }
+    ensures are_read { IfOk result (λ inputs. length inputs.are_read.items ≡ length names.now) }
+{
     let mut files = Vec::with_capacity(alloc, names.len())?;
     let mut are_read = Vec::with_capacity(alloc, names.len())?;
     for name in names {
@@ -74,6 +78,37 @@ fn put_part(
     }
 }
 
+/// What there is to say of files, and the greatest exit status that one of them calls for.
+#[derive(Drop)]
+struct BatchAnswer {
+    text: Vec<u8>,
+    status: u8,
+}
+
+/// What there is to say of the files with these names, of which this was read.
+fn answer<T: Threads + Sync>(
+    rt: &T,
+    alloc: Global,
+    names: &[&str],
+    inputs: &Inputs,
+) -> Result<BatchAnswer, NoMemory>
+    requires files { length inputs.now.files.items ≡ length names.now }
+    requires are_read { length inputs.now.are_read.items ≡ length names.now }
+    ensures { IfOk result (λ answer. IsBatchAnswer (map (λ name. name.now) names.now)
+        (map (λ p. input_of p.0 p.1.items) (zip inputs.now.are_read.items inputs.now.files.items)) answer.text.items answer.status) }
+{
+    let answers = judge_all(rt, alloc, &inputs.files)?;
+    let mut text = Vec::new(alloc);
+    let mut greatest = 0u8;
+    for ((name, is_read), answer) in names.iter().zip(inputs.are_read.iter()).zip(answers.iter()) {
+        greatest = greatest.max(put_part(alloc, &mut text, name, *is_read, answer)?);
+    }
+    Ok(BatchAnswer {
+        text,
+        status: greatest,
+    })
+}
+
 /// Reads each of these files, judges them by as many threads as there are processors, and then writes for each, in
 /// their order, a line `== NAME` and the report of a judgement of its history, the line of its fault, or
 /// `file: unreadable` where it can't be opened or read. Answers the greatest exit status met.
@@ -86,15 +121,13 @@ pub fn batch<T: Files + Threads + Sync, W: Write>(
     names: &[&str],
     writer: &mut W,
 ) -> Result<u8, RunFault>
+    ensures written { IfOk result (λ status. (inputs : List (Option (List ℕ))) × (text : List ℕ)
+        × Appends (W.contents writer.old) (W.contents writer.new) text × IsBatchAnswer (map (λ name. name.now) names.now) inputs text status) }
+    ensures unread_is_told { IfErr result (λ fault. fault ≢ RunFault.Unread) }
     ensures silent { IfErr result (λ fault. (fault ≡ RunFault.Unwritten) ⊎ Keeps (W.contents writer.old) (W.contents writer.new)) }
 {
     let inputs = read_files(rt, alloc, names)?;
-    let answers = judge_all(rt, alloc, &inputs.files)?;
-    let mut text = Vec::new(alloc);
-    let mut greatest = 0u8;
-    for ((name, is_read), answer) in names.iter().zip(inputs.are_read.iter()).zip(answers.iter()) {
-        greatest = greatest.max(put_part(alloc, &mut text, name, *is_read, answer)?);
-    }
-    write_text(writer, &text)?;
-    Ok(greatest)
+    let answer = answer(rt, alloc, names, &inputs)?;
+    write_text(writer, &answer.text)?;
+    Ok(answer.status)
 }
