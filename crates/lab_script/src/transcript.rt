@@ -1,6 +1,6 @@
 //! What a script does where its transactions run whole. After NoMemory, part of what was to be appended may stand there.
 
-ghost use Rattle.std.specs.Prelude.{◌≡◌, ◌++◌, [], None, codes, IfOk, IfErr, OnOk, ◌⊎◌, ◌≢◌, Some};
+ghost use Rattle.std.specs.Prelude.{◌≡◌, ◌++◌, [], None, codes, IfOk, IfErr, OnOk, ◌⊎◌, ◌≢◌, Some, Err};
 ghost use Rattle.lab_script.specs.Printed.{named_rows_or, printed_row_name, printed_statement, rows_or};
 ghost use Rattle.lab_script.specs.TranscriptView.{broken_with, fault_text, limit_broken};
 ghost use Rattle.lab_script.specs.Transcript.{heading_text};
@@ -21,11 +21,15 @@ pub struct Transcript {
 }
 
 impl Model for Transcript {
+    ghost use Rattle.std.specs.Prelude.{◌≢◌, Some};
     ghost use Rattle.lab_script.specs.TranscriptView.{TranscriptView};
+    ghost use Rattle.lab_script.specs.declared.print.PrintFault.TheVariants.{TooManyTables};
 
     ghost Value = { TranscriptView };
 
     ghost view = { λ t. record { text = t.text.items; unprintable = t.unprintable } };
+
+    ghost invariant = { λ t. t.unprintable ≢ Some TooManyTables };
 }
 
 impl Transcript {
@@ -115,6 +119,7 @@ impl Transcript {
         ensures text { IfOk result (λ text. text.items ≡ self.text) }
         ensures printed { OnOk result (self.unprintable ≡ None) }
         ensures fault { IfErr result (λ fault. self.unprintable ≡ Some fault) }
+        ensures few_tables { result ≢ Err PrintFault.TooManyTables }
     {
         let Transcript { text, unprintable } = self;
         if let Some(fault) = unprintable {
@@ -136,6 +141,7 @@ pub fn print_transcript(alloc: Global, output: &Transcript) -> Result<Vec<u8>, P
     ensures text { IfOk result (λ text. text.items ≡ output.now.text) }
     ensures printed { IfOk result (λ text. output.now.unprintable ≡ None) }
     ensures fault { IfErr result (λ fault. (fault ≡ PrintFault.NoMemory) ⊎ (output.now.unprintable ≡ Some fault)) }
+    ensures few_tables { result ≢ Err PrintFault.TooManyTables }
 {
     match output.unprintable {
         None => Ok(Vec::from_slice(alloc, &output.text)?),
