@@ -1,0 +1,285 @@
+"""Plays a script on a database, its sessions line by line, and writes the history of what came of it.
+
+A recorder is this module and a database. The database gives each session a connection of its own, and its answers are
+all that a history has: rows, written values, versions, who waits, and who is refused.
+
+    database.rows()                  what is committed now: a value for each row, and a row is its table and its id
+    database.session()               a session, which
+        .begin(txn)                      begins a transaction
+        .start(txn, statement)           gives a statement, and doesn't wait for it
+        .is_answered()                   returns once the statement is answered (true), or is seen to wait (false)
+        .operation(txn, statement)       the operation that was answered; Refused where the statement was
+        .commit(txn)                     the place in the order of commits, or None if nothing was written; Refused
+        .rollback(txn)
+
+Every row has a version beside its value, in six columns: `txn` and `op` name it, and `old_value`, `old_txn` and `old_op`
+are what it replaced. An update fills them from the right side of its own `set`, where the database has the row that the
+statement is about to change, also where it waited for that row and looked at it again. An insert and a select have
+nothing to replace; a delete leaves a note of its version, which stands for the absent row. What a statement saw of the
+rows that it didn't list is asked otherwise, and the database says how (docs/RECORDING.md, "Recorders").
+"""
+import json
+import sys
+import time
+from dataclasses import dataclass, field
+
+PAUSE = 0.005  # seconds between two looks at who waits
+TRANSACTIONS, OPERATIONS, ROWS, ENTRIES, BYTES = 1000, 10_000, 1000, 200_000, 8_388_608
+NOTHING = "cast(null as integer)"
+COLUMNS = (
+    "id integer primary key, value integer not null check (value between -1000000000 and 1000000000),"
+    " txn integer, op integer, old_value integer, old_txn integer, old_op integer"
+)
+
+
+class Refused(Exception):
+    """The database refused a statement or a commit, and its transaction is aborted."""
+
+
+class Untold(Exception):
+    """What happened can't be told by a history, or can't be known: the run is left out."""
+
+
+class Unreachable(Exception):
+    """The database doesn't answer."""
+
+
+@dataclass
+class Operation:
+    """What a statement did. A version is the numbers of a transaction and an operation, and None for the initial one."""
+
+    statement: object
+    view: dict  # a version for each row
+    rows: dict  # a value for each row
+    writes: dict  # a value for each row, or None
+    remark: str = ""  # what a user has to know of it
+
+    def members(self):
+        return {
+            "statement": self.statement.printed(),
+            "view": [[*row, *version] for row, version in sorted(self.view.items()) if version],
+            "rows": [[*row, value] for row, value in sorted(self.rows.items())],
+            "writes": [[*row, value] for row, value in sorted(self.writes.items())],
+        }
+
+
+@dataclass
+class Transaction:
+    """A transaction counts as aborted until its commit was answered."""
+
+    no: int
+    session: int
+    outcome: str = "aborted"
+    place: int = None  # in the order of commits
+    ops: list = field(default_factory=list)
+    own: dict = field(default_factory=dict)  # the last version of each row that it wrote
+    snapshot: dict = None  # a version for each row, where it has a snapshot of its own
+    is_refused: bool = False
+
+    def next_version(self):
+        return self.no, len(self.ops) + 1
+
+
+def write_of(statement, table, version):
+    """A statement in SQL. It gives the rows that it lists: id, and of the version that it found there value and name;
+    and last the value that it leaves."""
+    no, op = version
+    where = f"where {statement.condition()}"
+    if statement.kind == "select":
+        return f"select id, value, txn, op, {NOTHING} from {table} {where}"
+    if statement.kind == "update":
+        change = f"value = {statement.result()}, old_value = value, old_txn = txn, old_op = op, txn = {no}, op = {op}"
+        return f"update {table} set {change} {where} returning id, old_value, old_txn, old_op, value"
+    if statement.kind == "delete":
+        return f"delete from {table} {where} returning id, value, txn, op, {NOTHING}"
+    row = f"{statement.row[0]}, {statement.row[1]}, {no}, {op}"
+    return f"insert into {table} (id, value, txn, op) values ({row}) returning id, {NOTHING}, {NOTHING}, {NOTHING}, value"
+
+
+def operation_of(txn, statement, listed, seen):
+    """The operation of a statement that listed these rows, as `write_of` has them, and saw these versions. A view has the
+    rows of the statement's table, and of other tables those that the transaction wrote."""
+    found = {}
+    for id, value, no, op, left in listed:
+        if (statement.table, id) in found:
+            raise Untold(f"T{txn.session} finds row {id} of {statement.table} twice, as it was and as it was inserted anew")
+        found[statement.table, id] = value, (no, op) if no else None, left
+    view = {row: version for row, version in seen.items() if row[0] == statement.table or row in txn.own}
+    if statement.kind != "insert":
+        view.update({row: version for row, (_, version, _) in found.items()})
+    rows = {row: value for row, (value, _, _) in found.items() if statement.kind != "insert"}
+    writes = {row: left for row, (_, _, left) in found.items() if statement.kind != "select"}
+    return Operation(statement, view, rows, writes)
+
+
+class Play:
+    """The play of a script: lines are given in their order, and those of a session that waits wait with it."""
+
+    def __init__(self, script, database, is_logged, patience):
+        self.database, self.is_logged, self.patience = database, is_logged, patience
+        self.pending = list(script.commands)
+        self.sessions, self.active, self.waiting = {}, {}, {}
+        self.transactions = []
+
+    def run(self):
+        while self.pending or self.waiting:
+            self.settle()
+            command = self.next()
+            if command:
+                self.give(command)
+            elif self.waiting:
+                self.make_way()
+        for session in sorted(self.active):
+            self.roll_back(session, "the script has ended")
+
+    def next(self):
+        """The first line of a session that doesn't wait."""
+        for place, command in enumerate(self.pending):
+            if command.session not in self.waiting:
+                return self.pending.pop(place)
+        return None
+
+    def settle(self):
+        """Takes answers, until each session that waits has been seen to."""
+        before = None
+        while before != len(self.waiting):
+            before = len(self.waiting)
+            for session in sorted(self.waiting):
+                if self.sessions[session].is_answered():
+                    self.finish(session, self.waiting.pop(session))
+
+    def make_way(self):
+        """Nobody who doesn't wait has a line left: the least active session that doesn't is rolled back. Where all of
+        them wait, the database ends that, or somebody else is in the way."""
+        free = sorted(set(self.active) - set(self.waiting))
+        if free:
+            self.roll_back(free[0], "others wait for it and it has no line left")
+            return
+        until = time.monotonic() + self.patience
+        waiting = len(self.waiting)
+        while len(self.waiting) == waiting:
+            if time.monotonic() > until:
+                line = min(command.line for command in self.waiting.values())
+                raise Unreachable(f"line {line}: its session waits for more than {self.patience} s, and not for the script's")
+            time.sleep(PAUSE)
+            self.settle()
+
+    def give(self, command):
+        number = command.session
+        if (number in self.active) == (command.kind == "begin"):
+            self.tell(command, "left out, its session is " + ("in a transaction" if number in self.active else "in none"))
+        elif command.kind == "begin":
+            self.begin(command)
+        elif command.kind == "commit":
+            self.commit(command)
+        elif command.kind == "abort":
+            self.tell(command, "aborted")
+            self.sessions[number].rollback(self.active.pop(number))
+        else:
+            self.waiting[number] = command
+            self.sessions[number].start(self.active[number], command.statement)
+            if not self.sessions[number].is_answered():
+                self.tell(command, "waits")
+
+    def begin(self, command):
+        number = command.session
+        if number not in self.sessions:
+            self.sessions[number] = self.database.session()
+        txn = Transaction(len(self.transactions) + 1, number)
+        self.transactions.append(txn)
+        self.active[number] = txn
+        self.sessions[number].begin(txn)
+        self.tell(command, f"begun {txn.no}")
+
+    def finish(self, session, command):
+        """Takes the answer to a statement, which is an operation if it was carried out."""
+        txn = self.active[session]
+        try:
+            op = self.sessions[session].operation(txn, command.statement)
+        except Refused as why:
+            txn.is_refused = True
+            self.tell(command, f"refused {why}")
+            return
+        except Untold as what:
+            raise Untold(f"line {command.line}: {what}") from None
+        txn.own.update({row: txn.next_version() for row in op.writes})
+        txn.ops.append(op)
+        if op.remark:
+            self.warn(f"line {command.line}: {op.remark}")
+        rows = ", ".join(f"({id}, {value})" for (_, id), value in sorted(op.rows.items()))
+        self.tell(command, f"rows {rows or 'none'}")
+
+    def commit(self, command):
+        txn = self.active.pop(command.session)
+        try:
+            txn.place = self.sessions[command.session].commit(txn)
+        except Refused as why:
+            self.tell(command, f"refused {why}")
+            return
+        txn.outcome = "committed"
+        self.tell(command, "committed")
+
+    def roll_back(self, session, why):
+        self.sessions[session].rollback(self.active.pop(session))
+        self.say(f"T{session} is rolled back: {why}")
+
+    def tell(self, command, what):
+        self.say(f"line {command.line}: T{command.session} {command.printed()}: {what}")
+
+    def say(self, what):
+        if self.is_logged:
+            self.warn(what)
+
+    def warn(self, what):
+        print(what, file=sys.stderr, flush=True)
+
+
+def installed(transactions):
+    """For each row the committed transactions that wrote it, in the order of their commits."""
+    found = {}
+    committed = [txn for txn in transactions if txn.outcome == "committed" and txn.own]
+    for txn in sorted(committed, key=lambda txn: txn.place):
+        for row in txn.own:
+            found.setdefault(row, []).append(txn.no)
+    return [[*row, numbers] for row, numbers in sorted(found.items())]
+
+
+def history(initial, transactions, end):
+    """The file's object."""
+    return {
+        "format": "hermitage-history",
+        "version": 2,
+        "initial": [[*row, value] for row, value in sorted(initial.items())],
+        "transactions": [
+            {"no": txn.no, "outcome": txn.outcome, "ops": [op.members() for op in txn.ops]} for txn in transactions
+        ],
+        "installed": installed(transactions),
+        "end": [[*row, value] for row, value in sorted(end.items())],
+    }
+
+
+def text_of(whole):
+    """The file of a history that is within the limits of one."""
+    ops = [op for txn in whole["transactions"] for op in txn["ops"]]
+    entries = [entry for op in ops for key in ("view", "rows", "writes") for entry in op[key]]
+    members = entries + whole["initial"] + whole["installed"] + whole["end"]
+    text = json.dumps(whole, separators=(",", ":"), sort_keys=True)
+    counts = {
+        "transactions": (len(whole["transactions"]), TRANSACTIONS),
+        "operations": (len(ops), OPERATIONS),
+        "rows": (len({(table, id) for table, id, *_ in members}), ROWS),
+        "entries": (len(entries), ENTRIES),
+        "bytes": (len(text), BYTES),
+    }
+    for what, (count, most) in counts.items():
+        if count > most:
+            raise Untold(f"the run has {count} {what}, and a history at most {most}")
+    return text
+
+
+def record(script, database, is_logged, patience):
+    """Plays a script on a database that has the tables of its setup, and gives the text of the history."""
+    initial = database.rows()
+    play = Play(script, database, is_logged, patience)
+    play.run()
+    return text_of(history(initial, play.transactions, database.rows()))

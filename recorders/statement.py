@@ -1,0 +1,85 @@
+"""Statements of a script: their printed form, which a history has of them, and their condition in SQL."""
+from dataclasses import dataclass
+
+TEST = "test"
+
+
+@dataclass(frozen=True)
+class Statement:
+    """A statement of one table; `where` is its condition as a tree, or None where it has none."""
+
+    kind: str
+    table: str
+    where: tuple = None
+    change: tuple = None  # of an update: a sign and a number, or no sign and the number that it sets
+    row: tuple = None  # of an insert: the id and the value
+
+    def printed(self):
+        where = f" where {printed(self.where)}" if self.where else ""
+        if self.kind == "select":
+            return f"select * from {self.table}{where}"
+        if self.kind == "update":
+            return f"update {self.table} set value = {self.result()}{where}"
+        if self.kind == "insert":
+            return f"insert into {self.table} (id, value) values ({self.row[0]}, {self.row[1]})"
+        return f"delete from {self.table}{where}"
+
+    def result(self):
+        """What an update sets the value to, as a script has it and SQL too."""
+        sign, number = self.change
+        return f"value {sign} {number}" if sign else str(number)
+
+    def condition(self):
+        """The rows that it matches, in SQL."""
+        return in_sql(self.where) if self.where else "true"
+
+
+@dataclass(frozen=True)
+class Command:
+    """What one session is to do: `begin`, `commit`, `abort`, or a statement."""
+
+    line: int
+    session: int
+    kind: str
+    statement: Statement = None
+
+    def printed(self):
+        return self.statement.printed() if self.statement else self.kind
+
+
+def printed(tree):
+    """A condition in its printed form: parentheses stand only where it needs them."""
+    kind, *parts = tree
+    if kind == "not":
+        return f"not {enclosed(parts[0], ('and', 'or'))}"
+    if kind == "and":
+        return f"{enclosed(parts[0], ('or',))} and {enclosed(parts[1], ('and', 'or'))}"
+    if kind == "or":
+        return f"{printed(parts[0])} or {enclosed(parts[1], ('or',))}"
+    return printed_atom(*tree)
+
+
+def enclosed(tree, kinds):
+    return f"({printed(tree)})" if tree[0] in kinds else printed(tree)
+
+
+def printed_atom(kind, column, *parts):
+    if kind == "in":
+        return f"{column} in ({', '.join(map(str, parts[0]))})"
+    return f"{column} % {parts[0]} = {parts[1]}" if kind == "%" else f"{column} {kind} {parts[0]}"
+
+
+def in_sql(tree):
+    """A condition in SQL, which has no list that holds nothing."""
+    kind, *parts = tree
+    if kind == "not":
+        return f"(not {in_sql(parts[0])})"
+    if kind in ("and", "or"):
+        return f"({in_sql(parts[0])} {kind} {in_sql(parts[1])})"
+    return "false" if kind == "in" and not parts[1] else f"({printed_atom(*tree)})"
+
+
+def printed_setup(setup):
+    """The line of a setup in its printed form."""
+    rows = [f"{'' if table == TEST else table + ' '}({id}, {value})" for (table, id), value in sorted(setup.items())]
+    return f"setup {', '.join(rows) or '()'};"
