@@ -18,14 +18,15 @@ class Parser(argparse.ArgumentParser):
 
 
 def words_of(name, about, epilog, levels):
-    parser = Parser(
-        prog=name, description=about, epilog=epilog, formatter_class=argparse.RawDescriptionHelpFormatter, allow_abbrev=False
+    as_written = argparse.RawDescriptionHelpFormatter
+    parser = Parser(prog=name, description=about, epilog=epilog, formatter_class=as_written, allow_abbrev=False)
+    level = "of each transaction: " + ", ".join(levels)
+    parser.add_argument(
+        "--level", metavar="LEVEL", required=len(levels) > 1, default=levels[0], choices=levels, help=level
     )
-    parser.add_argument("--level", metavar="LEVEL", required=len(levels) > 1, default=levels[0],
-                        choices=levels, help="of each transaction: " + ", ".join(levels))  # fmt: skip
     parser.add_argument("--log", action="store_true", help="say on standard error what each line of the script came to")
-    parser.add_argument("--patience", metavar="SECONDS", type=float, default=PATIENCE,
-                        help="how long to wait where all sessions wait for somebody else (%(default)s)")  # fmt: skip
+    patience = "how long to wait where all sessions wait for somebody else (%(default)s)"
+    parser.add_argument("--patience", metavar="SECONDS", type=float, default=PATIENCE, help=patience)
     return parser
 
 

@@ -14,7 +14,7 @@ CHUNK = 65_536
 
 
 class Psql:
-    """A psql that runs. It is in a session of its own, so that a key that interrupts the recorder doesn't end it first."""
+    """A psql that runs, in a session of its own, so that what interrupts the recorder doesn't end it first."""
 
     def __init__(self, words):
         self.errors = tempfile.TemporaryFile()
@@ -22,8 +22,11 @@ class Psql:
         try:
             self.process = subprocess.Popen(
                 ["psql", "-X", "-A", "-t", "-F", "|", "-w", "-v", "VERBOSITY=terse", *words],
-                stdin=subprocess.PIPE, stdout=subprocess.PIPE, stderr=self.errors, start_new_session=True,
-            )  # fmt: skip
+                stdin=subprocess.PIPE,
+                stdout=subprocess.PIPE,
+                stderr=self.errors,
+                start_new_session=True,
+            )
         except OSError as error:
             raise Unreachable(f"psql can't be run: {error.strerror}") from None
 

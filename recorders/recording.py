@@ -12,7 +12,7 @@ all that a history has: rows, written values, versions, who waits, and who is re
         .commit(txn)                     the place in the order of commits, or None if nothing was written; Refused
         .rollback(txn)
 
-Every row has a version beside its value, in six columns: `txn` and `op` name it, and `old_value`, `old_txn` and `old_op`
+Every row has a version beside its value, in five columns: `txn` and `op` name it, and `old_value`, `old_txn` and `old_op`
 are what it replaced. An update fills them from the right side of its own `set`, where the database has the row that the
 statement is about to change, also where it waited for that row and looked at it again. An insert and a select have
 nothing to replace; a delete leaves a note of its version, which stands for the absent row. What a statement saw of the
@@ -102,7 +102,7 @@ def operation_of(txn, statement, listed, seen):
     found = {}
     for id, value, no, op, left in listed:
         if (statement.table, id) in found:
-            raise Untold(f"T{txn.session} finds row {id} of {statement.table} twice, as it was and as it was inserted anew")
+            raise Untold(f"T{txn.session} finds row {id} of {statement.table} twice, as it was and as inserted anew")
         found[statement.table, id] = value, (no, op) if no else None, left
     view = {row: version for row, version in seen.items() if row[0] == statement.table or row in txn.own}
     if statement.kind != "insert":
@@ -126,7 +126,7 @@ class Play:
             self.settle()
             command = self.next()
             if command:
-                self.give(command)
+                self.at(command, self.give)
             elif self.waiting:
                 self.make_way()
         for session in sorted(self.active):
@@ -144,9 +144,15 @@ class Play:
         before = None
         while before != len(self.waiting):
             before = len(self.waiting)
-            for session in sorted(self.waiting):
-                if self.sessions[session].is_answered():
-                    self.finish(session, self.waiting.pop(session))
+            for _, command in sorted(self.waiting.items()):
+                self.at(command, self.take_answer)
+
+    def at(self, command, call):
+        """Makes a call for a command, and says at which line the play ends where it does."""
+        try:
+            call(command)
+        except (Untold, Unreachable) as what:
+            raise type(what)(f"line {command.line}: {what}") from None
 
     def make_way(self):
         """Nobody who doesn't wait has a line left: the least active session that doesn't is rolled back. Where all of
@@ -160,14 +166,15 @@ class Play:
         while len(self.waiting) == waiting:
             if time.monotonic() > until:
                 line = min(command.line for command in self.waiting.values())
-                raise Unreachable(f"line {line}: its session waits for more than {self.patience} s, and not for the script's")
+                raise Unreachable(f"line {line}: waits for more than {self.patience} s, and for none of the script's sessions")
             time.sleep(PAUSE)
             self.settle()
 
     def give(self, command):
         number = command.session
         if (number in self.active) == (command.kind == "begin"):
-            self.tell(command, "left out, its session is " + ("in a transaction" if number in self.active else "in none"))
+            where = "a transaction" if number in self.active else "none"
+            self.tell(command, f"left out, its session is in {where}")
         elif command.kind == "begin":
             self.begin(command)
         elif command.kind == "commit":
@@ -191,17 +198,19 @@ class Play:
         self.sessions[number].begin(txn)
         self.tell(command, f"begun {txn.no}")
 
-    def finish(self, session, command):
-        """Takes the answer to a statement, which is an operation if it was carried out."""
-        txn = self.active[session]
+    def take_answer(self, command):
+        """Takes the answer to a statement if it is there, which is an operation if the statement was carried out."""
+        session = self.sessions[command.session]
+        if not session.is_answered():
+            return
+        del self.waiting[command.session]
+        txn = self.active[command.session]
         try:
-            op = self.sessions[session].operation(txn, command.statement)
+            op = session.operation(txn, command.statement)
         except Refused as why:
             txn.is_refused = True
             self.tell(command, f"refused {why}")
             return
-        except Untold as what:
-            raise Untold(f"line {command.line}: {what}") from None
         txn.own.update({row: txn.next_version() for row in op.writes})
         txn.ops.append(op)
         if op.remark:

@@ -5,92 +5,164 @@ An edit is a file, a text that it has once, and what stands there instead.
 POSTGRES, RECORDING = "postgres", "recording.py"
 READ_COMMITTED, REPEATABLE_READ, SERIALIZABLE = "read committed", "repeatable read", "serializable"
 ALL = READ_COMMITTED, REPEATABLE_READ, SERIALIZABLE
+OF_SNAPSHOTS = REPEATABLE_READ, SERIALIZABLE
 
 MUTATIONS = (
     (
         "a view has what is committed behind the statement, and not what the snapshot has",
-        (REPEATABLE_READ, SERIALIZABLE),
-        ((POSTGRES, "seen = {**txn.snapshot, **txn.own}", "seen = {**seen_in(self.database.look(self.database.seeing()))[0], **txn.own}"),),
+        OF_SNAPSHOTS,
+        (
+            (
+                POSTGRES,
+                "seen = {**txn.snapshot, **txn.own}",
+                "seen = {**seen_in(self.database.look(self.database.seeing()))[0], **txn.own}",
+            ),
+        ),
     ),
     (
         "a view is read over another connection, without the transaction's own writes",
-        (REPEATABLE_READ, SERIALIZABLE),
-        ((POSTGRES, "seen = {**txn.snapshot, **txn.own}", "seen = txn.snapshot"),),
+        OF_SNAPSHOTS,
+        (
+            (POSTGRES, "seen = {**txn.snapshot, **txn.own}", "seen = txn.snapshot"),
+        ),
     ),
     (
         "a transaction that has no snapshot of its own is taken for one that has",
         (READ_COMMITTED,),
-        ((POSTGRES, 'OF_SNAPSHOTS = "repeatable read"', 'OF_SNAPSHOTS = "read committed", "repeatable read"'),),
+        (
+            (POSTGRES, 'OF_SNAPSHOTS = "repeatable read"', 'OF_SNAPSHOTS = "read committed", "repeatable read"'),
+        ),
     ),
     (
         "the level isn't asked for",
-        (REPEATABLE_READ, SERIALIZABLE),
-        ((POSTGRES, 'f"begin isolation level {self.database.words.level}"', '"begin"'),),
+        OF_SNAPSHOTS,
+        (
+            (POSTGRES, 'f"begin isolation level {self.database.words.level}"', '"begin"'),
+        ),
     ),
     (
         "installers stand by their numbers",
         (READ_COMMITTED,),
-        ((RECORDING, "key=lambda txn: txn.place", "key=lambda txn: txn.no"),),
+        (
+            (RECORDING, "key=lambda txn: txn.place", "key=lambda txn: txn.no"),
+        ),
     ),
     (
         "aborted ones are kept among the installers",
         ALL,
-        ((RECORDING, 'if txn.outcome == "committed" and txn.own]', "if txn.own]"), (RECORDING, "key=lambda txn: txn.place", "key=lambda txn: txn.no")),
+        (
+            (RECORDING, 'if txn.outcome == "committed" and txn.own]', "if txn.own]"),
+            (RECORDING, "key=lambda txn: txn.place", "key=lambda txn: txn.no"),
+        ),
     ),
     (
         "a commit that was refused is noted as one",
-        (REPEATABLE_READ, SERIALIZABLE),
-        ((RECORDING, "        except Refused as why:\n            self.tell(command, f\"refused {why}\")\n            return\n        txn.outcome", "        except Refused:\n            txn.place = len(self.transactions)\n        txn.outcome"),),
+        OF_SNAPSHOTS,
+        (
+            (
+                RECORDING,
+                "        except Refused as why:\n"
+                '            self.tell(command, f"refused {why}")\n'
+                "            return\n"
+                "        txn.outcome",
+                "        except Refused:\n"
+                "            txn.place = len(self.transactions)\n"
+                "        txn.outcome",
+            ),
+        ),
     ),
     (
         "a delete leaves no note, so views don't have it",
         ALL,
-        ((POSTGRES, 'if statement.kind == "delete":\n            note', 'if statement.kind == "none":\n            note'),),
+        (
+            (POSTGRES, 'if statement.kind != "delete":', "if True:"),
+        ),
     ),
     (
         "the version that an update replaced is the one of the statement's snapshot",
         (READ_COMMITTED,),
-        ((RECORDING, 'if statement.kind != "insert":\n        view.update', 'if statement.kind == "select":\n        view.update'),),
+        (
+            (
+                RECORDING,
+                'if statement.kind != "insert":\n'
+                "        view.update",
+                'if statement.kind == "select":\n'
+                "        view.update",
+            ),
+        ),
     ),
     (
         "what a statement passed over when it looked again isn't asked for",
         (READ_COMMITTED,),
-        ((POSTGRES, "for row in passed if statement.kind in CHANGES}", "for row in ()}"),),
+        (
+            (POSTGRES, "for row in passed if statement.kind in CHANGES}", "for row in ()}"),
+        ),
     ),
     (
-        "an insert's view has its row as the snapshot has it, and not as the index met it",
-        (READ_COMMITTED,),
-        ((POSTGRES, 'if statement.kind == "insert":\n            again', 'if statement.kind == "none":\n            again'),),
+        "an insert's view doesn't have its row",
+        ALL,
+        (
+            (
+                POSTGRES,
+                "(statement.table, statement.row[0]): self.met(txn, statement)",
+                "(statement.table, statement.row[0]): None",
+            ),
+        ),
     ),
     (
         "the column op keeps the number of the transaction's first operation",
         ALL,
-        ((RECORDING, "    no, op = version\n", "    no, op = version[0], 1\n"),),
+        (
+            (RECORDING, "    no, op = version\n", "    no, op = version[0], 1\n"),
+        ),
     ),
     (
         "rows are listed with the values that an update left",
         ALL,
-        ((RECORDING, "returning id, old_value, old_txn, old_op, value", "returning id, value, old_txn, old_op, value"),),
+        (
+            (
+                RECORDING,
+                "returning id, old_value, old_txn, old_op, value",
+                "returning id, value, old_txn, old_op, value",
+            ),
+        ),
     ),
     (
         "an update that leaves the value as it is isn't noted as a write",
         ALL,
-        ((RECORDING, 'found.items() if statement.kind != "select"}', 'found.items() if statement.kind != "select" and left != found[row][0]}'),),
+        (
+            (
+                RECORDING,
+                'found.items() if statement.kind != "select"}',
+                'found.items() if statement.kind != "select" and left != found[row][0]}',
+            ),
+        ),
     ),
     (
         "the end is read before the first transaction",
         ALL,
-        ((RECORDING, "    initial = database.rows()\n", "    initial = end = database.rows()\n"), (RECORDING, "play.transactions, database.rows())", "play.transactions, end)")),
+        (
+            (RECORDING, "    initial = database.rows()\n", "    initial = end = database.rows()\n"),
+            (RECORDING, "play.transactions, database.rows())", "play.transactions, end)"),
+        ),
     ),
     (
         "the server gets another result than the script has",
         ALL,
-        ((RECORDING, "change = f\"value = {statement.result()},", "change = f\"value = 1 + {statement.result()},"),),
+        (
+            (RECORDING, 'change = f"value = {statement.result()},', 'change = f"value = 1 + {statement.result()},'),
+        ),
     ),
     (
         "the server gets another condition than the script has",
-        ALL,
-        ((RECORDING, 'where = f"where {statement.condition()}"', 'where = f"where {statement.condition()} and id <> 2"'),),
+        OF_SNAPSHOTS,
+        (
+            (
+                RECORDING,
+                'where = f"where {statement.condition()}"',
+                'where = f"where {statement.condition()} and id <> 2"',
+            ),
+        ),
     ),
 )
 

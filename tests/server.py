@@ -9,9 +9,7 @@ import tempfile
 import time
 
 USERS = "postgres", "nobody"  # who runs the server where the tests are root's, which it refuses
-SETTINGS = {
-    "listen_addresses": "", "fsync": "off", "deadlock_timeout": "20ms", "max_connections": "80", "autovacuum": "off",
-}  # fmt: skip
+SETTINGS = {"listen_addresses": "", "fsync": "off", "deadlock_timeout": "20ms", "max_connections": "80"}
 PATIENCE = 60
 ASIDE = "\nThe server says:\n"
 
@@ -31,10 +29,9 @@ class Server:
         self.room = tempfile.mkdtemp(prefix="lab", dir="/tmp" if os.path.isdir("/tmp") else None)
         self.process = None
         self.owner = {}
-        self.environment = {**os.environ, "PATH": f"{folder}:{os.environ['PATH']}", "PGHOST": self.room, "PGUSER": "lab",
-                            "PGDATABASE": "postgres", "PGPORT": "5432"}  # fmt: skip
-        for name in ("PGSERVICE", "PGOPTIONS", "PGPASSWORD", "PGHOSTADDR", "PGSSLMODE"):
-            self.environment.pop(name, None)
+        own = {"PGHOST": self.room, "PGPORT": "5432", "PGUSER": "lab", "PGDATABASE": "postgres"}
+        others = {name: value for name, value in os.environ.items() if not name.startswith("PG")}
+        self.environment = {**others, "PATH": f"{folder}:{os.environ['PATH']}", **own}
 
     def give_away(self):
         """Root's folder goes to the user who runs the server."""
@@ -56,9 +53,8 @@ class Server:
             settings = {**SETTINGS, "unix_socket_directories": self.room}
             words = [f"{self.folder}/postgres", "-D", data, *(f"--{name}={value}" for name, value in settings.items())]
             with open(log, "wb") as out:
-                self.process = subprocess.Popen(
-                    words, stdin=subprocess.DEVNULL, stdout=out, stderr=out, cwd=self.room, start_new_session=True, **self.owner
-                )
+                streams = {"stdin": subprocess.DEVNULL, "stdout": out, "stderr": out}
+                self.process = subprocess.Popen(words, cwd=self.room, start_new_session=True, **streams, **self.owner)
             self.wait_for(log)
         except BaseException:
             self.__exit__()
