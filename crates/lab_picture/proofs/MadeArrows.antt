@@ -1,4 +1,4 @@
--- In a sound history each dependency has its arrow, between the operations that make it.
+-- Where rows are installed by their committed writers each dependency has its arrow, between the operations that make it.
 use Rattle.std.proofs.Common.{◌≡◌, ℕ, zero, suc, ◌+◌, ◌-◌, ◌<◌, ◌≤◌, ◌==◌, Bool, true, ◌&&◌, Option, Some, None, is_some, List, refl, sym, ap, subst, ◌∙◌, arith}
 use Rattle.std.specs.Prelude.{slice_get, nat_le, nat_lt}
 use Rattle.std.specs.FinMap as map
@@ -11,17 +11,18 @@ use Rattle.lab_history.specs.Version.{ops_of, op_at, viewed, installers, place_i
 use Rattle.lab_history.specs.declared.operation.Op.{Op}
 use Rattle.lab_history.proofs.Greatest.{last_is_greatest}
 use Rattle.lab_deps.specs.Edges.{IsEdge, Depends, place_of, changes, InstallsAt}
-use Rattle.lab_deps.specs.Soundness.{IsSound}
+use Rattle.lab_deps.specs.Soundness.{Stands}
 use Rattle.lab_deps.specs.declared.edge.Edge.{Edge}
 use Rattle.lab_deps.specs.declared.edge.Kind.{Kind}
 use Rattle.lab_deps.specs.declared.edge.Kind.TheVariants.{Write, ItemRead, PredicateRead, ItemAnti, PredicateAnti}
+use Rattle.lab_deps.specs.declared.fault.LocalFault.TheVariants.{InstallOrder}
 use Rattle.lab_deps.proofs.Places.{place_there}
-use Rattle.lab_judge.proofs.SeenVersions.{committed_at, writes_at, installed_at, same_place}
 use Rattle.lab_picture.specs.declared.drawing.Arrow.{Arrow}
 use Rattle.lab_picture.specs.declared.drawing.Tie.TheVariants.{Dependency}
 use Rattle.lab_picture.specs.Making.{anti_first, reader_of, ties, ties_at, makes, reading_op, writing_op, from_of, to_of, arrow_between, arrow_of}
 use Rattle.lab_picture.specs.ArrowLaws.{MakesAt, MakesFirst, WritesLast, LeadsBetween, IsArrowOf}
 use Rattle.lab_picture.proofs.FirstOps.{IsFirst, found_first}
+use Rattle.lab_picture.proofs.InstalledRows.{wrote, one_found}
 
 -- what an operation makes, where its version and the writer's have these places
 tied : (h : History) (kind : Kind) (row : Row) (op : Op) (seen own : Option ℕ) (s o : ℕ) → seen ≡ Some s → own ≡ Some o → ties_at h kind row op seen own ≡ ties h kind row op s o
@@ -34,17 +35,15 @@ both_placed h kind row op None own t = absurd (false≢true t)
 both_placed h kind row op (Some s) None t = absurd (false≢true t)
 both_placed h kind row op (Some s) (Some o) t = (s, o, refl, refl, t)
 
-module _ (h : History) (sound : IsSound h) where
+module _ (h : History) (installed : (row : Row) → Stands h (InstallOrder row) → ⊥) where
   -- the place of an installer is the only one at which it stands
   place_is : (row : Row) (p n : ℕ) → InstallsAt h row p n → place_in (installers h row) n ≡ Some (suc p)
-  place_is row p n at =
-      let found = installed_at h sound row n (committed_at h sound row p n at) (writes_at h sound row p n at) in
-      found.1 ∙ ap (λ q. Some (suc q)) (sym (same_place h sound row p found.0 n at found.2))
+  place_is row p n at = one_found h installed row p n at
 
   -- an installer has a last write of the row
   wrote_last : (row : Row) (p n : ℕ) → InstallsAt h row p n → (k : ℕ) × (writing_op h n row ≡ Some k) × WritesLast h n row k
   wrote_last row p n at =
-      let k = some_of (last_write (ops_of h n) row) (writes_at h sound row p n at) in
+      let k = some_of (last_write (ops_of h n) row) (wrote h installed row p n at) in
       (k.0, k.1, last_is_greatest (ops_of h n) row k.0 k.1)
 
   -- an operation's number is one more than its place

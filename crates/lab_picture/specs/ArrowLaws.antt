@@ -1,5 +1,5 @@
 -- Between which operations the arrow of a dependency leads.
-use Rattle.std.specs.Prelude.{◌≡◌, ℕ, suc, ◌<◌, ◌≤◌, true, Some}
+use Rattle.std.specs.Prelude.{◌≡◌, ℕ, suc, ◌<◌, ◌≤◌, true, Option, Some, None, List, Contains}
 use Rattle.lab_table.specs.Row.{Row}
 use Rattle.lab_history.specs.History.{History}
 use Rattle.lab_history.specs.Version.{IsOp, IsLastWrite, ops_of, viewed}
@@ -8,6 +8,12 @@ use Rattle.lab_deps.specs.Edges.{place_of, changes, InstallsAt, Lists}
 use Rattle.lab_deps.specs.declared.edge.Edge.{Edge}
 use Rattle.lab_deps.specs.declared.edge.Kind.{Kind}
 use Rattle.lab_deps.specs.declared.edge.Kind.TheVariants.{Write, ItemRead, PredicateRead, ItemAnti, PredicateAnti}
+use Rattle.lab_judge.specs.declared.report.Finding.TheVariants.{Walk}
+use Rattle.lab_judge.specs.declared.report.Report.{Report}
+use Rattle.lab_judge.specs.declared.serial.Serial.TheVariants.{NoCycle}
+use Rattle.lab_picture.specs.Asked.{finding_of}
+use Rattle.lab_picture.specs.Sketch.{Sketch}
+use Rattle.lab_picture.specs.declared.asked.Phenomenon.{Phenomenon}
 use Rattle.lab_picture.specs.declared.drawing.Arrow.{Arrow}
 use Rattle.lab_picture.specs.declared.drawing.Tie.TheVariants.{Dependency}
 
@@ -46,3 +52,16 @@ pub record IsArrowOf (h : History) (e : Edge) (a : Arrow) : Type 0 where
   pub tie_is : a.tie ≡ Dependency e.kind
   pub row_is : a.row ≡ e.row
   pub leads : LeadsBetween h e e.kind a.from.op a.to.op
+
+-- the walk that a report names in its serial verdict, or in what it finds of a phenomenon
+abbrev pub NamesWalk : Report → Option Phenomenon → List Edge → Type 0
+NamesWalk report None walk = report.serial ≡ NoCycle walk
+NamesWalk report (Some phenomenon) walk = finding_of phenomenon report ≡ Walk walk
+
+-- a drawing has the arrow of the dependency
+abbrev pub DrawsArrow : History → Sketch → Edge → Type 0
+DrawsArrow h d e = (a : Arrow) × Contains d.arrows a × IsArrowOf h e a
+
+-- and it leads from the last write of one transaction to that of another
+abbrev pub DrawsWrites : History → Sketch → Edge → Type 0
+DrawsWrites h d e = (a : Arrow) × Contains d.arrows a × IsArrowOf h e a × WritesLast h e.from e.row a.from.op × WritesLast h e.to e.row a.to.op

@@ -1,7 +1,9 @@
 pub mod Asked
 pub mod Making
-pub mod ArrowLaws
+pub mod Installs
+pub mod InstallLaws
 pub mod Sketch
+pub mod ArrowLaws
 pub mod Text
 pub mod Layout
 pub mod Boxes

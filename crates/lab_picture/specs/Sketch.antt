@@ -4,7 +4,7 @@ use Rattle.std.specs.List.{list_any}
 use Rattle.std.specs.Fmt.{decimal}
 use Rattle.lab_table.specs.Row.{Row}
 use Rattle.lab_history.specs.History.{History}
-use Rattle.lab_history.specs.Version.{ops_of, op_at, viewed, version_state, installers}
+use Rattle.lab_history.specs.Version.{ops_of, op_at, viewed, version_state, last_write, installers}
 use Rattle.lab_history.specs.declared.operation.VersionName.{VersionName}
 use Rattle.lab_history.specs.declared.operation.VersionName.TheVariants.{Initial, Of}
 use Rattle.lab_deps.specs.declared.edge.Edge.{Edge}
@@ -20,10 +20,12 @@ use Rattle.lab_picture.specs.declared.drawing.Spot.{Spot}
 use Rattle.lab_picture.specs.declared.drawing.Arrow.{Arrow}
 use Rattle.lab_picture.specs.declared.drawing.Tie.TheVariants.{Version}
 use Rattle.lab_picture.specs.declared.asked.Phenomenon.{Phenomenon}
+use Rattle.lab_picture.specs.declared.installs.Misplaced.{Misplaced}
 use Rattle.lab_picture.specs.Asked.{phenomenon_name, finding_of}
+use Rattle.lab_picture.specs.Installs.{misplaced_of, misplaced_text}
 use Rattle.lab_picture.specs.Making.{arrows_of}
 
--- a drawing: transactions from left to right with all their operations, arrows between operations, the operation that a fault is at, the line of the report that is drawn, and a note
+-- a drawing: transactions from left to right with all their operations, arrows between operations, the operation that a fault is at or about, the line of the report that is drawn, and a note
 pub record Sketch : Type 0 where
   pub columns : List ℕ
   pub arrows : List Arrow
@@ -105,9 +107,32 @@ of_place h about n k row = record {
   note = version_note (seen_at h n k row) (is_some (writer_at h row (seen_at h n k row)));
 }
 
+-- the columns of a row: the transactions that installed it
+abbrev pub installer_columns : History → Row → List ℕ
+installer_columns h row = with_columns [] (installers h row)
+
 -- a row: the transactions that installed it
 abbrev pub of_row : History → List ℕ → Row → Sketch
-of_row h about row = record { columns = with_columns [] (installers h row); arrows = []; marked = None; about = about; note = [] }
+of_row h about row = record { columns = installer_columns h row; arrows = []; marked = None; about = about; note = [] }
+
+-- a transaction's last write of a row, where it wrote the row
+abbrev pub last_spot : History → Row → ℕ → Option Spot
+last_spot h row n = option_map (λ k. record { txn = n; op = k }) (last_write (ops_of h n) row)
+
+-- a row and a transaction that is out of place among its installers: those and that one, whose last write of the row is marked
+abbrev pub of_misplaced : History → List ℕ → Row → Misplaced → Sketch
+of_misplaced h about row found = record {
+  columns = with_column (installer_columns h row) found.txn;
+  arrows = [];
+  marked = last_spot h row found.txn;
+  about = about;
+  note = misplaced_text found;
+}
+
+-- a row whose installers aren't its committed writers
+abbrev pub of_installs : History → List ℕ → Row → Option Misplaced → Sketch
+of_installs h about row None = of_row h about row
+of_installs h about row (Some found) = of_misplaced h about row found
 
 -- a fault: its place or its row
 abbrev pub of_fault : History → List ℕ → LocalFault → Sketch
@@ -118,7 +143,7 @@ of_fault h about (fault.OwnWriteMissed n k row) = of_place h about n k row
 of_fault h about (fault.LaterThanOwn n k row) = of_place h about n k row
 of_fault h about (fault.RowsDiffer n k row) = of_place h about n k row
 of_fault h about (fault.WritesDiffer n k row) = of_place h about n k row
-of_fault h about (fault.InstallOrder row) = of_row h about row
+of_fault h about (fault.InstallOrder row) = of_installs h about row (misplaced_of h row)
 of_fault h about (fault.EndDiffers row) = of_row h about row
 
 -- a serial verdict, with this line

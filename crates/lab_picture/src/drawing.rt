@@ -36,11 +36,12 @@ pub struct Drawing {
     pub columns: Vec<TxnNo>,
     /// The arrows between their operations.
     pub arrows: Vec<Arrow>,
-    /// The operation that a fault is at.
+    /// The operation that a fault is at, or the last write of a row by the transaction that is out of place among its
+    /// installers.
     pub marked: Option<Spot>,
     /// What is drawn: the line of the report.
     pub about: Vec<u8>,
-    /// The version that a fault is about.
+    /// The version that a fault is about, or who is out of place among a row's installers.
     pub note: Vec<u8>,
 }
 

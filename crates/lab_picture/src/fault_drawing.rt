@@ -1,10 +1,11 @@
 //! The drawing of a fault.
 
 ghost use Rattle.std.specs.Prelude.{◌≡◌, ◌++◌, IfOk, OnOk};
-ghost use Rattle.lab_history.specs.Version.{installers};
-ghost use Rattle.lab_picture.specs.Sketch.{with_column, blank, of_place, of_row, of_fault, seen_at, written_by, writer_at, spot_text, version_text, version_note};
+ghost use Rattle.lab_picture.specs.Installs.{misplaced_of};
+ghost use Rattle.lab_picture.specs.Sketch.{with_column, blank, of_place, of_row, of_misplaced, of_installs, of_fault, installer_columns, last_spot, seen_at, written_by, writer_at, spot_text, version_text, version_note};
 
 use crate::drawing::{Arrow, Drawing, Spot, Tie};
+use crate::installs::{Misplaced, installers_of, misplaced_of, put_misplaced};
 use crate::states::{ops_of, viewed};
 use crate::text::put_number;
 use lab_deps::LocalFault;
@@ -150,6 +151,18 @@ pub fn of_place(
     }
 }
 
+/// The transactions that installed a row, in their order, each once.
+fn installer_columns(alloc: Global, history: &History, row: RowName) -> Result<Vec<TxnNo>, NoMemory>
+    ensures { IfOk result (λ columns. columns.items ≡ installer_columns history.now row) }
+{
+    let mut columns = Vec::new(alloc);
+    let installers = installers_of(history, row);
+    for txn in installers {
+        add_column(&mut columns, *txn)?;
+    }
+    Ok(columns)
+}
+
 /// The drawing of a fault of a row: the transactions that installed it.
 fn of_row(
     alloc: Global,
@@ -159,13 +172,8 @@ fn of_row(
 ) -> Result<Drawing, NoMemory>
     ensures { IfOk result (λ drawing. drawing ≡ of_row history.now about.items row) }
 {
-    let mut columns = Vec::new(alloc);
-    let installers = installers_of(history, row);
-    for txn in installers {
-        add_column(&mut columns, *txn)?;
-    }
     Ok(Drawing {
-        columns,
+        columns: installer_columns(alloc, history, row)?,
         arrows: Vec::new(alloc),
         marked: None,
         about,
@@ -173,13 +181,52 @@ fn of_row(
     })
 }
 
-/// The transactions that installed a row, in order.
-fn installers_of(history: &History, row: RowName) -> &[TxnNo]
-    ensures { result.now ≡ installers history.now row }
+/// A transaction's last write of a row, where it wrote the row.
+fn last_spot(history: &History, row: RowName, txn: TxnNo) -> Option<Spot>
+    ensures { result ≡ last_spot history.now row txn }
 {
-    match history.installed().get(row) {
-        None => &[],
-        Some(found) => found.as_slice(),
+    let op = history.last_write(txn, row)?;
+    Some(Spot { txn, op })
+}
+
+/// The drawing of a row and a transaction that is out of place among its installers: those, that transaction, and its last
+/// write of the row.
+fn of_misplaced(
+    alloc: Global,
+    history: &History,
+    about: Vec<u8>,
+    row: RowName,
+    found: Misplaced,
+) -> Result<Drawing, NoMemory>
+    ensures { IfOk result (λ drawing. drawing ≡ of_misplaced history.now about.items row found) }
+{
+    let txn = found.txn;
+    let mut note = Vec::new(alloc);
+    put_misplaced(&mut note, found)?;
+    let mut columns = installer_columns(alloc, history, row)?;
+    add_column(&mut columns, txn)?;
+    let marked = last_spot(history, row, txn);
+    Ok(Drawing {
+        columns,
+        arrows: Vec::new(alloc),
+        marked,
+        about,
+        note,
+    })
+}
+
+/// The drawing of a row whose installers aren't its committed writers.
+fn of_installs(
+    alloc: Global,
+    history: &History,
+    about: Vec<u8>,
+    row: RowName,
+) -> Result<Drawing, NoMemory>
+    ensures { IfOk result (λ drawing. drawing ≡ of_installs history.now about.items row (misplaced_of history.now row)) }
+{
+    match misplaced_of(history, row) {
+        None => of_row(alloc, history, about, row),
+        Some(found) => of_misplaced(alloc, history, about, row, found),
     }
 }
 
@@ -204,7 +251,7 @@ pub fn of_fault(
         LocalFault::LaterThanOwn { txn, op, row } => of_place(alloc, history, about, txn, op, row),
         LocalFault::RowsDiffer { txn, op, row } => of_place(alloc, history, about, txn, op, row),
         LocalFault::WritesDiffer { txn, op, row } => of_place(alloc, history, about, txn, op, row),
-        LocalFault::InstallOrder { row } => of_row(alloc, history, about, row),
+        LocalFault::InstallOrder { row } => of_installs(alloc, history, about, row),
         LocalFault::EndDiffers { row } => of_row(alloc, history, about, row),
     }
 }

@@ -1,23 +1,54 @@
 //! Laws of drawings and of their texts. The functions have nothing to do: their contracts are the laws.
 
-ghost use Rattle.std.specs.Prelude.{◌≡◌, ℕ, true, Some, Option, List};
+ghost use Rattle.std.specs.Prelude.{◌≡◌, ℕ, true, Some, None, Option, List, Contains};
 ghost use Rattle.std.specs.List.{list_all};
+ghost use Rattle.lab_table.specs.Row.{Row};
 ghost use Rattle.lab_history.specs.History.{History as Held};
 ghost use Rattle.lab_deps.specs.Edges.{IsEdge};
-ghost use Rattle.lab_deps.specs.Soundness.{IsSound};
+ghost use Rattle.lab_deps.specs.Soundness.{IsSound, Stands};
 ghost use Rattle.lab_deps.specs.declared.edge.Edge.{Edge as Dependency};
+ghost use Rattle.lab_deps.specs.declared.fault.LocalFault.TheVariants.{InstallOrder};
+ghost use Rattle.lab_judge.specs.Judgement.{IsExactJudgement};
+ghost use Rattle.lab_judge.specs.declared.report.Report.{Report};
+ghost use Rattle.lab_judge.specs.declared.serial.Serial.TheVariants.{NoFault};
 ghost use Rattle.lab_streams.specs.declared.ending.Ending.{Ending};
-ghost use Rattle.lab_picture.specs.ArrowLaws.{IsArrowOf};
+ghost use Rattle.lab_picture.specs.ArrowLaws.{IsArrowOf, NamesWalk, DrawsArrow, DrawsWrites};
+ghost use Rattle.lab_picture.specs.InstallLaws.{NamesOut};
+ghost use Rattle.lab_picture.specs.Installs.{misplaced_text};
 ghost use Rattle.lab_picture.specs.Making.{arrow_of};
 ghost use Rattle.lab_picture.specs.Picture.{IsPictureAnswer};
+ghost use Rattle.lab_picture.specs.Sketch.{drawing_of};
 ghost use Rattle.lab_picture.specs.Text.{escaped, is_plain};
 ghost use Rattle.lab_picture.specs.declared.asked.Phenomenon.{Phenomenon};
+ghost use Rattle.lab_picture.specs.declared.asked.Phenomenon.TheVariants.{G0};
 ghost use Rattle.lab_picture.specs.declared.drawing.Arrow.{Arrow as Drawn};
+ghost use Rattle.lab_picture.specs.declared.installs.Misplaced.{Misplaced};
 
 /// In a sound history each dependency has its arrow, between the operations that make it: the last write of who installs,
 /// and the first operation of who reads that makes the dependency.
 pub fn each_dependency_has_its_arrow()
     ensures { (h : Held) (e : Dependency) → IsSound h → IsEdge h e → (a : Drawn) × (arrow_of h e ≡ Some a) × IsArrowOf h e a }
+{}
+
+/// The same of each history whose rows are installed by their committed writers, each once, whatever else is wrong with it.
+pub fn each_dependency_of_installed_rows_has_its_arrow()
+    ensures { (h : Held) (e : Dependency) → ((row : Row) → ¬ Stands h (InstallOrder row)) → IsEdge h e → (a : Drawn) × (arrow_of h e ≡ Some a) × IsArrowOf h e a }
+{}
+
+/// In the picture of a walk that a judgement names, each dependency of the walk has its arrow. In that of a G0, which is
+/// judged of unsound histories too, it leads from the last write of one transaction to that of another.
+pub fn each_dependency_of_a_walk_is_drawn()
+    ensures drawn { (h : Held) (report : Report) (asked : Option Phenomenon) (walk : List Dependency) → IsExactJudgement h report → NamesWalk report asked walk
+        → (e : Dependency) → Contains walk e → DrawsArrow h (drawing_of h report asked) e }
+    ensures writes { (h : Held) (report : Report) (walk : List Dependency) → IsExactJudgement h report → NamesWalk report (Some G0) walk
+        → (e : Dependency) → Contains walk e → DrawsWrites h (drawing_of h report (Some G0)) e }
+{}
+
+/// The picture of a row whose installers aren't its committed writers names one that is out of place, and how: a writer
+/// that isn't an installer, where there is one.
+pub fn who_is_out_of_place_is_named()
+    ensures { (h : Held) (report : Report) (row : Row) → IsExactJudgement h report → report.serial ≡ NoFault (InstallOrder row)
+        → (found : Misplaced) × ((drawing_of h report None).note ≡ misplaced_text found) × NamesOut h row found }
 {}
 
 /// An escaped text has no byte that begins or ends markup.

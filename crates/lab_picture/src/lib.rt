@@ -14,6 +14,7 @@ mod boxes;
 mod columns;
 mod drawing;
 mod fault_drawing;
+mod installs;
 mod laws;
 mod layout;
 mod making;
@@ -27,7 +28,9 @@ mod text;
 pub use asked::Phenomenon;
 pub use drawing::{Arrow, Drawing, Spot, Tie};
 pub use laws::{
-    an_escaped_text_has_no_markup, each_dependency_has_its_arrow, picture_answer_unique,
+    an_escaped_text_has_no_markup, each_dependency_has_its_arrow,
+    each_dependency_of_a_walk_is_drawn, each_dependency_of_installed_rows_has_its_arrow,
+    picture_answer_unique, who_is_out_of_place_is_named,
 };
 pub use picturing::picture;
 pub use sketch::draw;

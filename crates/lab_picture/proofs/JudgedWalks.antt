@@ -1,0 +1,118 @@
+-- A walk that a report names is closed, and the rows are installed by their committed writers.
+use Rattle.std.proofs.Common.{◌≡◌, ◌<◌, Option, Some, None, List, inl, sym, ◌∙◌, subst, arith}
+use Rattle.lab_table.specs.Row.{Row}
+use Rattle.lab_history.specs.History.{History}
+use Rattle.lab_deps.specs.FaultOrder.{IsFirst, kind_place}
+use Rattle.lab_deps.specs.Soundness.{Stands, IsSound}
+use Rattle.lab_deps.specs.declared.edge.Edge.{Edge}
+use Rattle.lab_deps.specs.declared.fault.LocalFault.{LocalFault}
+use Rattle.lab_deps.specs.declared.fault.LocalFault.TheVariants.{Dangling, AbortedRead, IntermediateRead, OwnWriteMissed, LaterThanOwn, RowsDiffer, WritesDiffer, InstallOrder, EndDiffers}
+use Rattle.lab_judge.specs.Judgement.{IsSerialVerdict, IsExactJudgement, FindsWalk, FindsFault, Judges, JudgesAll, JudgesReads, JudgesNothing, JudgesAtFault, RestsOnOrder}
+use Rattle.lab_judge.specs.Phenomena.{IsClosedWalk, IsG0, IsG1c, IsGSingle, IsG2Item, IsG2}
+use Rattle.lab_judge.specs.declared.report.Finding.{Finding}
+use Rattle.lab_judge.specs.declared.report.Finding.TheVariants.{Absent, Walk, At, NotJudged}
+use Rattle.lab_judge.specs.declared.report.Report.{Report}
+use Rattle.lab_judge.specs.declared.serial.Serial.{Serial}
+use Rattle.lab_judge.specs.declared.serial.Serial.TheVariants as serial
+use Rattle.lab_picture.specs.ArrowLaws.{NamesWalk}
+use Rattle.lab_picture.specs.Asked.{finding_of}
+use Rattle.lab_picture.specs.declared.asked.Phenomenon.{Phenomenon}
+use Rattle.lab_picture.specs.declared.asked.Phenomenon.TheVariants.{G0, G1a, G1b, G1c, GSingle, G2Item, G2}
+
+-- something was judged
+abbrev WasJudged : Finding → Type 0
+WasJudged Absent = Unit {0}
+WasJudged (Walk walk) = Unit {0}
+WasJudged (At n k row) = Unit {0}
+WasJudged NotJudged = ⊥
+
+-- a walk isn't found where nothing was judged
+not_both : (found : Finding) (walk : List Edge) → found ≡ Walk walk → found ≡ NotJudged → ⊥
+not_both found walk is none = subst WasJudged (sym is ∙ none) tt
+
+-- a walk that is found, and whose rows are installed by their committed writers
+pub record IsFound (h : History) (walk : List Edge) : Type 0 where
+  pub closed : IsClosedWalk h walk
+  pub installed : (row : Row) → Stands h (InstallOrder row) → ⊥
+
+module _ (h : History) (report : Report) (walk : List Edge) where
+  -- where all is judged
+  of_all : JudgesAll h report.phenomena report.level → (p : Phenomenon) → finding_of p report ≡ Walk walk → IsClosedWalk h walk
+  of_all j G0 is = (subst (FindsWalk (IsG0 h)) is j.0).0
+  of_all j G1a is = absurd (subst (FindsFault h AbortedRead) is j.1)
+  of_all j G1b is = absurd (subst (FindsFault h IntermediateRead) is j.2)
+  of_all j G1c is = (subst (FindsWalk (IsG1c h)) is j.3).0
+  of_all j GSingle is = (subst (FindsWalk (IsGSingle h)) is j.4).0
+  of_all j G2Item is = (subst (FindsWalk (IsG2Item h)) is j.5).0
+  of_all j G2 is = (subst (FindsWalk (IsG2 h)) is j.6).0
+
+  -- where the only faults are reads of what was never committed
+  of_reads : JudgesReads h report.phenomena report.level → (p : Phenomenon) → finding_of p report ≡ Walk walk → IsClosedWalk h walk
+  of_reads j G0 is = (subst (FindsWalk (IsG0 h)) is j.0).0
+  of_reads j G1a is = absurd (subst (FindsFault h AbortedRead) is j.1)
+  of_reads j G1b is = absurd (subst (FindsFault h IntermediateRead) is j.2)
+  of_reads j G1c is = absurd (not_both (finding_of G1c report) walk is j.3)
+  of_reads j GSingle is = absurd (not_both (finding_of GSingle report) walk is j.4)
+  of_reads j G2Item is = absurd (not_both (finding_of G2Item report) walk is j.5)
+  of_reads j G2 is = absurd (not_both (finding_of G2 report) walk is j.6)
+
+  -- where nothing is
+  of_nothing : JudgesNothing report.phenomena report.level → (p : Phenomenon) → finding_of p report ≡ Walk walk → ⊥
+  of_nothing j G0 is = not_both (finding_of G0 report) walk is j.0
+  of_nothing j G1a is = not_both (finding_of G1a report) walk is j.1
+  of_nothing j G1b is = not_both (finding_of G1b report) walk is j.2
+  of_nothing j G1c is = not_both (finding_of G1c report) walk is j.3
+  of_nothing j GSingle is = not_both (finding_of GSingle report) walk is j.4
+  of_nothing j G2Item is = not_both (finding_of G2Item report) walk is j.5
+  of_nothing j G2 is = not_both (finding_of G2 report) walk is j.6
+
+  -- no row is at fault where a later kind of fault is the first
+  none_before : (f : LocalFault) → IsFirst h f → 1 < kind_place f → (row : Row) → Stands h (InstallOrder row) → ⊥
+  none_before f first later row stands = first.1 (InstallOrder row) stands (inl later)
+
+  of_sound : IsSound h → IsClosedWalk h walk → IsFound h walk
+  of_sound sound closed = record { closed = closed; installed = λ row stands. sound (InstallOrder row) stands }
+
+  of_fault : (f : LocalFault) → IsFirst h f → JudgesAtFault h f report.phenomena report.level → (p : Phenomenon) → finding_of p report ≡ Walk walk → IsFound h walk
+  of_fault (AbortedRead n k row) first j p is = record { closed = of_reads j p is; installed = none_before (AbortedRead n k row) first (omega arith) }
+  of_fault (IntermediateRead n k row) first j p is = record { closed = of_reads j p is; installed = none_before (IntermediateRead n k row) first (omega arith) }
+  of_fault (Dangling n k row) first j p is = absurd (of_nothing j p is)
+  of_fault (OwnWriteMissed n k row) first j p is = absurd (of_nothing j p is)
+  of_fault (LaterThanOwn n k row) first j p is = absurd (of_nothing j p is)
+  of_fault (RowsDiffer n k row) first j p is = absurd (of_nothing j p is)
+  of_fault (WritesDiffer n k row) first j p is = absurd (of_nothing j p is)
+  of_fault (InstallOrder row) first j p is = absurd (of_nothing j p is)
+  of_fault (EndDiffers row) first j p is = absurd (of_nothing j p is)
+
+  of_finding : (s : Serial) → IsSerialVerdict h s → RestsOnOrder h s → Judges h s report.phenomena report.level → (p : Phenomenon) → finding_of p report ≡ Walk walk → IsFound h walk
+  of_finding (serial.Yes order) verdict rests j p is = of_sound rests.0 (of_all j p is)
+  of_finding (serial.NoCycle other) verdict rests j p is = of_sound verdict.0 (of_all j p is)
+  of_finding (serial.NoFault fault) verdict rests j p is = of_fault fault verdict j p is
+
+  -- whatever is asked for
+  pub is_found : IsExactJudgement h report → (asked : Option Phenomenon) → NamesWalk report asked walk → IsFound h walk
+  is_found exact None is = let verdict = subst (IsSerialVerdict h) is exact.judgement.serial in of_sound verdict.0 verdict.1
+  is_found exact (Some p) is = of_finding report.serial exact.judgement.serial exact.order exact.judgement.found p is
+
+  -- a G0 is one of writes alone
+  writes_all : JudgesAll h report.phenomena report.level → finding_of G0 report ≡ Walk walk → IsG0 h walk
+  writes_all j is = subst (FindsWalk (IsG0 h)) is j.0
+
+  writes_fault : (f : LocalFault) → JudgesAtFault h f report.phenomena report.level → finding_of G0 report ≡ Walk walk → IsG0 h walk
+  writes_fault (AbortedRead n k row) j is = subst (FindsWalk (IsG0 h)) is j.0
+  writes_fault (IntermediateRead n k row) j is = subst (FindsWalk (IsG0 h)) is j.0
+  writes_fault (Dangling n k row) j is = absurd (of_nothing j G0 is)
+  writes_fault (OwnWriteMissed n k row) j is = absurd (of_nothing j G0 is)
+  writes_fault (LaterThanOwn n k row) j is = absurd (of_nothing j G0 is)
+  writes_fault (RowsDiffer n k row) j is = absurd (of_nothing j G0 is)
+  writes_fault (WritesDiffer n k row) j is = absurd (of_nothing j G0 is)
+  writes_fault (InstallOrder row) j is = absurd (of_nothing j G0 is)
+  writes_fault (EndDiffers row) j is = absurd (of_nothing j G0 is)
+
+  writes_beside : (s : Serial) → Judges h s report.phenomena report.level → finding_of G0 report ≡ Walk walk → IsG0 h walk
+  writes_beside (serial.Yes order) j is = writes_all j is
+  writes_beside (serial.NoCycle other) j is = writes_all j is
+  writes_beside (serial.NoFault fault) j is = writes_fault fault j is
+
+  pub is_g0 : IsExactJudgement h report → NamesWalk report (Some G0) walk → IsG0 h walk
+  is_g0 exact is = writes_beside report.serial exact.judgement.found is
