@@ -6,7 +6,7 @@ ghost use Rattle.lab_deps.specs.Scopes.{edges_in};
 ghost use Rattle.lab_deps.specs.Sinks.{Grows};
 
 use crate::collect::add_edges_of_txns;
-use crate::sink::EdgeSink;
+use crate::row_sink::RowSink;
 use crate::versions::Versions;
 use crate::writes::add_neighbours_of_rows;
 use indexmap::IndexMap;
@@ -23,7 +23,7 @@ pub enum Scope {
 }
 
 /// Hands a sink the edges that are meant, some of them more than once; NoMemory where a growth was refused.
-pub fn add_edges<S: EdgeSink>(
+pub fn add_edges<S: RowSink>(
     sink: &mut S,
     history: &History,
     scope: Scope,
