@@ -4,7 +4,6 @@ use crate::arrows::Arrows;
 use crate::edge::Edge;
 use crate::reading::Reading;
 use crate::sink::EdgeSink;
-use crate::tests_values::tests_values;
 use crate::versions::Versions;
 use lab_history::History;
 use lab_table::{NoMemory, Statement};
@@ -50,7 +49,7 @@ impl RowSink for Arrows {
         reading: Reading,
         versions: &Versions,
     ) -> Result<(), NoMemory> {
-        if !tests_values(statement) && versions.is_steady() {
+        if !statement.tests_values() && versions.is_steady() {
             let turns = versions.turns();
             return reading.add_edges_at_turns(self, history, statement, versions.as_slice(), turns);
         }
