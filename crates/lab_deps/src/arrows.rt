@@ -4,7 +4,7 @@ ghost use Rattle.std.specs.Prelude.{◌≡◌, ◌≢◌, ◌↔◌, ◌+◌, �
 ghost use Rattle.lab_table.specs.Row.{Row};
 ghost use Rattle.lab_history.specs.declared.transaction.Txn.{Txn as Transaction};
 ghost use Rattle.lab_deps.specs.EdgesByRow.{rows_of};
-ghost use Rattle.lab_deps.specs.KindBits.{bit, has_bit, place, bits_of, edge_of, Tells};
+ghost use Rattle.lab_deps.specs.KindBits.{bit, has_bit, place, bits_at, bits_of, edge_of, Tells};
 ghost use Rattle.lab_deps.specs.Scopes.{Allows, edges_in};
 ghost use Rattle.lab_deps.specs.declared.edge.Kind.{Kind as Way};
 
@@ -68,6 +68,19 @@ impl Arrows {
         *self.cells.allocator()
     }
 
+    /// The bits of the kinds from one place to another.
+    pub fn bits_at(&self, from: u16, to: u16) -> u8
+        ensures { result ≡ bits_at self.now.width self.now.cells.items from to }
+    {
+        if from == 0 {
+            0
+        } else if to == 0 {
+            0
+        } else {
+            self.cell(self.at(from, to))
+        }
+    }
+
     /// The bits of the kinds from one transaction to another.
     pub fn bits(&self, from: TxnNo, to: TxnNo) -> u8
         ensures { result ≡ bits_of self.now.places.items self.now.width self.now.cells.items from to }
@@ -83,7 +96,8 @@ impl Arrows {
         }
     }
 
-    fn place(&self, number: TxnNo) -> u16
+    /// The place of a transaction, counted from 1; 0 where there is no such transaction.
+    pub fn place(&self, number: TxnNo) -> u16
         ensures { result ≡ place self.now.places.items number }
     {
         self.places
