@@ -1,7 +1,8 @@
 -- The arrows of dependencies, two transactions after the other, are those of all dependencies.
-use Rattle.std.proofs.Common.{◌≡◌, ℕ, zero, suc, ◌<◌, ◌==◌, ◌&&◌, Bool, true, false, List, length, refl, sym, subst, arith, inl, inr}
+use Rattle.std.proofs.Common.{◌≡◌, ℕ, zero, suc, ◌+◌, ◌<◌, ◌==◌, ◌&&◌, ◌||◌, Bool, true, false, List, length, refl, sym, ap, ◌∙◌, subst, arith, inl, inr}
 use Rattle.std.specs.Prelude.{Contains}
 use Rattle.std.specs.List.{list_any, All}
+use Rattle.std.proofs.Math.Bool.{or_assoc}
 use Rattle.std.proofs.lemmas.Bool.{false≢true, and_parts, and_from, or_cases, or_left, or_right, eqb-true, eq-eqb, cases_lt}
 use Rattle.std.proofs.lemmas.List.Elements.{All-contains}
 use Rattle.lab_order.specs.Order.{position}
@@ -35,6 +36,10 @@ below_some test (suc n) p lt h = elim (cases_lt p n) [
   | inl less ↦ or_right (test n) (any_below test n) (below_some test n p less h)
   | inr least ↦ let same : p ≡ n = omega (arith, lt, least) in or_left (test n) (any_below test n) (subst (λ k. test k ≡ true) same h)
 ]
+
+-- where none below passes, and neither does the next, none below one more does
+pub none_next : (test : ℕ → Bool) (n : ℕ) → test n ≡ false → any_below test n ≡ false → any_below test (n + 1) ≡ false
+none_next test n here below = let one : n + 1 ≡ suc n = omega arith in ap (any_below test) one ∙ (ap (λ t. t || any_below test n) here ∙ below)
 
 module _ (test : Kind → Bool) (joining : Joining) (nodes : List ℕ) (es : List Edge) (ends : All (HasEnds nodes) es) (a b : ℕ) where
   -- whether an arrow of some two transactions leads from one node to the other
@@ -76,3 +81,23 @@ module _ (test : Kind → Bool) (joining : Joining) (nodes : List ℕ) (es : Lis
 
   pub landed : by_pairs ≡ list_any (lands test joining nodes a b) es
   landed = same_truth by_pairs (list_any (lands test joining nodes a b) es) from_pairs to_pairs
+
+-- where the transactions at two places are looked at, the arrows of the places so far become those with one place more
+module _ (test : Kind → Bool) (joining : Joining) (nodes : List ℕ) (es : List Edge) (a b p q : ℕ) where
+  abbrev here : Bool
+  here = tail joining p == a && head joining q == b
+
+  abbrev so_far : ℕ → Bool
+  so_far n = any_below (landing test joining nodes es a b p) n
+
+  next : so_far (q + 1) ≡ (landing test joining nodes es a b p q || so_far q)
+  next = let one : q + 1 ≡ suc q = omega arith in ap so_far one
+
+  -- where the one depends on the other, the arrow is added
+  pub landed_more : (old new was : Bool) → list_any (ties test nodes p q) es ≡ true → old ≡ (so_far q || was) → new ≡ (here || old) → new ≡ (so_far (q + 1) || was)
+  landed_more old new was tied is added =
+      added ∙ (ap (λ t. here || t) is ∙ (sym (or_assoc here (so_far q) was) ∙ ap (λ t. t || was) (ap (λ t. (t && here) || so_far q) (sym tied) ∙ sym next)))
+
+  -- and else none is
+  pub landed_same : (old was : Bool) → list_any (ties test nodes p q) es ≡ false → old ≡ (so_far q || was) → old ≡ (so_far (q + 1) || was)
+  landed_same old was apart is = is ∙ ap (λ t. t || was) (ap (λ t. (t && here) || so_far q) (sym apart) ∙ sym next)

@@ -1,17 +1,21 @@
 -- Kinds between two transactions, and whether one depends on the other in one of some ways.
-use Rattle.std.proofs.Common.{◌≡◌, ℕ, ◌==◌, ◌&&◌, Bool, true, Some, List, sym, ◌∙◌, subst}
+use Rattle.std.proofs.Common.{◌≡◌, ℕ, ◌<◌, ◌==◌, ◌&&◌, Bool, true, Some, List, length, get_or, slice_index, sym, ◌∙◌, subst}
 use Rattle.std.specs.Prelude.{◌↔◌, Contains, slice_get}
 use Rattle.std.specs.List.{list_any, All}
+use Rattle.std.specs.List.Sorted.{IsStrictlyIncreasing}
 use Rattle.std.proofs.lemmas.Bool.{and_from, eq-eqb}
-use Rattle.std.proofs.lemmas.Option.{same_Some}
+use Rattle.std.proofs.lemmas.Option.{same_Some, slice_get-get_or}
 use Rattle.lab_table.specs.Row.{Row}
 use Rattle.lab_order.specs.Order.{position}
 use Rattle.lab_deps.specs.KindBits.{has_bit, edge_of}
+use Rattle.lab_deps.specs.KindsBetween.{AreKindsTo}
 use Rattle.lab_deps.specs.declared.edge.Edge.{Edge}
 use Rattle.lab_deps.specs.declared.edge.Kind.{Kind}
+use Rattle.lab_deps.specs.declared.kinds.Kinds.{Kinds}
 use Rattle.lab_judge.specs.Graphs.{HasEnds, ties}
 use Rattle.lab_judge.proofs.Joined.{Tie, tie, passes_some}
 use Rattle.lab_judge.proofs.Landings.{same_truth}
+use Rattle.lab_judge.proofs.Numbers.{at_its_place}
 
 module _ (nodes : List ℕ) (es : List Edge) (ends : All (HasEnds nodes) es) (p q from to : ℕ)
     (from_is : slice_get nodes p ≡ Some from) (to_is : slice_get nodes q ≡ Some to) where
@@ -39,3 +43,16 @@ module _ (nodes : List ℕ) (es : List Edge) (ends : All (HasEnds nodes) es) (p 
       (λ h.
       let one : (kind : Kind) × (row : Row) × Contains es (edge_of from to kind row) × (has_bit bits kind ≡ true) = its_kind (has_bit bits) (tie (has_bit bits) nodes es ends p q h) in
       meets.1 (one.0, (told one.0).1 (one.1, one.2), one.3))
+
+-- the kinds in the row of a place say so
+pub row_tied : (nodes : List ℕ) → IsStrictlyIncreasing nodes → (es : List Edge) → All (HasEnds nodes) es → (p q : ℕ) → p < length nodes → (all : List Kinds) → AreKindsTo es nodes (slice_index nodes p) all
+    → q < length all → (d : Kinds) → (bits : ℕ) (result : Bool) → (result ≡ true ↔ ((kind : Kind) × (has_bit (get_or all q d).bits kind ≡ true) × (has_bit bits kind ≡ true)))
+    → result ≡ list_any (ties (has_bit bits) nodes p q) es
+row_tied nodes up es ends p q lt all told less d bits result meets =
+    let from = slice_index nodes p in
+    let to = slice_index nodes q in
+    let within : q < length nodes = subst (λ n. q < n) told.size less in
+    let from_is : slice_get nodes p ≡ Some from = slice_get-get_or nodes p 0 lt in
+    let to_is : slice_get nodes q ≡ Some to = slice_get-get_or nodes q 0 within in
+    tied nodes es ends p q from to from_is to_is (at_its_place nodes up p from from_is) (at_its_place nodes up q to to_is) (get_or all q d).bits bits
+    (told.exact q to (get_or all q d) to_is (slice_get-get_or all q d less)) result meets

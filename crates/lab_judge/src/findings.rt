@@ -1,6 +1,6 @@
 //! Which phenomena a history has, and the level that it meets.
 
-ghost use Rattle.std.specs.Prelude.{◌↔◌, Contains, IfOk};
+ghost use Rattle.std.specs.Prelude.{◌≡◌, ◌↔◌, Contains, IfOk};
 ghost use Rattle.std.specs.List.{All};
 ghost use Rattle.std.specs.List.Sorted.{IsStrictlyIncreasing};
 ghost use Rattle.lab_history.specs.History.{History as Recorded};
@@ -10,7 +10,7 @@ ghost use Rattle.lab_deps.specs.Refusal.{IsAnswer};
 ghost use Rattle.lab_deps.specs.declared.edge.Edge.{Edge as Spelled};
 ghost use Rattle.lab_deps.specs.declared.fault.LocalFault.TheVariants as fault;
 ghost use Rattle.lab_table.specs.Row.{Row};
-ghost use Rattle.lab_judge.specs.Graphs.{HasEnds};
+ghost use Rattle.lab_judge.specs.Graphs.{HasEnds, IsGraphOf};
 ghost use Rattle.lab_judge.specs.LeastWalks.{AreCommitted, IsBackWalk, FindsDue, FindsDueWalks};
 ghost use Rattle.lab_judge.specs.Runs.{HoldsEachOnce};
 ghost use Rattle.lab_judge.specs.declared.allowed.Allowed.TheVariants as allowed;
@@ -28,9 +28,9 @@ use crate::nodes::Nodes;
 use crate::report::{Finding, Grade};
 use closed_walk::{find_circle, find_opened};
 use grade::{grade_of, low_grade_of};
-use lab_deps::{Dependencies, LocalFault};
+use lab_deps::{Dependencies, KindTable, LocalFault};
 use lab_history::History;
-use lab_order::NoMemory;
+use lab_order::{Graph, NoMemory};
 pub(crate) use opening::Opening;
 use reads::{find_aborted_read, find_intermediate_read};
 use std::alloc::Global;
@@ -63,39 +63,68 @@ pub(crate) fn find_none(_history: &History) -> Findings
     }
 }
 
-/// What is found in a sound history with these committed transactions and these dependencies. NoMemory where a growth
-/// was refused.
+/// What is found in a sound history with these committed transactions, these dependencies and the graph of them all.
+/// NoMemory where a growth was refused.
 pub(crate) fn find_in_sound(
     alloc: Global,
     _history: &History,
     nodes: &Nodes,
     edges: &Dependencies<'_>,
+    table: &KindTable<'_, '_>,
+    all: &Graph,
 ) -> Result<Findings, NoMemory>
     requires sound { IsSound _history.now }
     requires nodes { HoldsEachOnce _history.now nodes.now }
     requires rising { IsStrictlyIncreasing nodes.now }
     requires edges { (e : Spelled) → Contains edges.now e ↔ IsEdge _history.now e }
+    requires numbers { table.now.numbers ≡ nodes.now }
+    requires table { table.now.edges ≡ edges.now }
+    requires all { IsGraphOf allowed.All nodes.now edges.now all.now }
     ensures found { IfOk result (λ found. JudgesAll _history.now found.phenomena found.level) }
     ensures walks { IfOk result (λ found. FindsDueWalks _history.now found.phenomena) }
 {
-    find_walks(alloc, nodes, edges)
+    find_walks(alloc, nodes, edges, table, all)
 }
 
 /// What is found in any sound history that has these dependencies. NoMemory where a growth was refused.
-fn find_walks(alloc: Global, nodes: &Nodes, edges: &Dependencies<'_>) -> Result<Findings, NoMemory>
+fn find_walks(
+    alloc: Global,
+    nodes: &Nodes,
+    edges: &Dependencies<'_>,
+    table: &KindTable<'_, '_>,
+    all: &Graph,
+) -> Result<Findings, NoMemory>
     requires ends { All (HasEnds nodes.now) edges.now }
     requires rising { IsStrictlyIncreasing nodes.now }
+    requires numbers { table.now.numbers ≡ nodes.now }
+    requires table { table.now.edges ≡ edges.now }
+    requires all { IsGraphOf allowed.All nodes.now edges.now all.now }
     ensures found { IfOk result (λ found. (h : Recorded) → IsSound h → ((e : Spelled) → Contains edges.now e ↔ IsEdge h e) → JudgesAll h found.phenomena found.level) }
     ensures walks { IfOk result (λ found. (h : Recorded) → AreCommitted h nodes.now → ((e : Spelled) → Contains edges.now e ↔ IsEdge h e) → FindsDueWalks h found.phenomena) }
 {
-    let writes = graph_of(alloc, nodes, edges, Allowed::Writes)?;
-    let flow = graph_of(alloc, nodes, edges, Allowed::Flow)?;
-    let all = graph_of(alloc, nodes, edges, Allowed::All)?;
+    let writes = graph_of(alloc, nodes, table, Allowed::Writes)?;
+    let flow = graph_of(alloc, nodes, table, Allowed::Flow)?;
     let g0 = find_circle(alloc, nodes, edges, Allowed::Writes, &writes)?;
     let g1c = find_circle(alloc, nodes, edges, Allowed::Flow, &flow)?;
-    let g_single = find_opened(alloc, nodes, edges, Allowed::Flow, &flow, Opening::Anti)?;
-    let g2_item = find_opened(alloc, nodes, edges, Allowed::All, &all, Opening::ItemAnti)?;
-    let g2 = find_opened(alloc, nodes, edges, Allowed::All, &all, Opening::Anti)?;
+    let g_single = find_opened(
+        alloc,
+        nodes,
+        edges,
+        table,
+        Allowed::Flow,
+        &flow,
+        Opening::Anti,
+    )?;
+    let g2_item = find_opened(
+        alloc,
+        nodes,
+        edges,
+        table,
+        Allowed::All,
+        all,
+        Opening::ItemAnti,
+    )?;
+    let g2 = find_opened(alloc, nodes, edges, table, Allowed::All, all, Opening::Anti)?;
     let level = grade_of(&g0, &g1c, &g2_item, &g2);
     Ok(Findings {
         phenomena: [
@@ -170,7 +199,8 @@ fn find_listed_circle(alloc: Global, history: &History) -> Result<Finding, NoMem
 {
     let nodes = Nodes::of(alloc, history)?;
     let edges = Dependencies::of_writes(alloc, history)?;
-    let writes = graph_of(alloc, &nodes, &edges, Allowed::Writes)?;
+    let table = edges.table(alloc, nodes.numbers())?;
+    let writes = graph_of(alloc, &nodes, &table, Allowed::Writes)?;
     find_circle(alloc, &nodes, &edges, Allowed::Writes, &writes)
 }
 

@@ -2,12 +2,13 @@
 
 ghost use Rattle.std.specs.Prelude.{◌≡◌, IfOk};
 ghost use Rattle.std.specs.List.{All};
+ghost use Rattle.std.specs.List.Sorted.{IsStrictlyIncreasing};
 ghost use Rattle.lab_judge.specs.Graphs.{HasEnds, IsGraphOf};
 
 use crate::allowed::Allowed;
 use crate::joining::{Joining, add_arrows};
 use crate::nodes::Nodes;
-use lab_deps::Dependencies;
+use lab_deps::KindTable;
 use lab_order::{Graph, NoMemory};
 use std::alloc::Global;
 
@@ -16,18 +17,19 @@ use std::alloc::Global;
 pub(crate) fn graph_of(
     alloc: Global,
     nodes: &Nodes,
-    edges: &Dependencies<'_>,
+    table: &KindTable<'_, '_>,
     allowed: Allowed,
 ) -> Result<Graph, NoMemory>
-    requires { All (HasEnds nodes.now) edges.now }
-    ensures { IfOk result (IsGraphOf allowed nodes.now edges.now) }
+    requires numbers { table.now.numbers ≡ nodes.now }
+    requires rising { IsStrictlyIncreasing nodes.now }
+    requires ends { All (HasEnds nodes.now) table.now.edges }
+    ensures { IfOk result (IsGraphOf allowed nodes.now table.now.edges) }
 {
     let mut graph = Graph::new(alloc, nodes.len())?;
     add_arrows(
         alloc,
         &mut graph,
-        nodes,
-        edges,
+        table,
         allowed.kinds(),
         Joining::Transactions,
     )?;

@@ -2,13 +2,13 @@
 
 ghost use Rattle.std.specs.Prelude.{◌≡◌, ◌<◌, ◌≤◌, ◌||◌, ℕ, length, IfOk};
 ghost use Rattle.std.specs.List.{All, list_any};
+ghost use Rattle.std.specs.List.Sorted.{IsStrictlyIncreasing};
 ghost use Rattle.lab_order.specs.Arrows.{nodes_of, has_arrow};
 ghost use Rattle.lab_deps.specs.KindBits.{has_bit};
-ghost use Rattle.lab_judge.specs.Graphs.{HasEnds, ties};
+ghost use Rattle.lab_judge.specs.Graphs.{HasEnds};
 ghost use Rattle.lab_judge.specs.Joining.{tail, head, nodes_for, lands, landing, any_below};
 
-use crate::nodes::Nodes;
-use lab_deps::{Dependencies, Kinds};
+use lab_deps::{KindTable, Kinds};
 use lab_order::{Graph, NoMemory};
 use std::alloc::Global;
 
@@ -54,18 +54,20 @@ impl Joining {
 pub(crate) fn add_arrows(
     alloc: Global,
     graph: &mut Graph,
-    nodes: &Nodes,
-    edges: &Dependencies<'_>,
+    table: &KindTable<'_, '_>,
     kinds: Kinds,
     joining: Joining,
 ) -> Result<(), NoMemory>
-    requires ends { All (HasEnds nodes.now) edges.now }
-    requires size { nodes_of graph.old ≡ nodes_for joining (length nodes.now) }
+    requires rising { IsStrictlyIncreasing table.now.numbers }
+    requires few { length table.now.numbers ≤ 1000001 }
+    requires ends { All (HasEnds table.now.numbers) table.now.edges }
+    requires size { nodes_of graph.old ≡ nodes_for joining (length table.now.numbers) }
     ensures nodes { nodes_of graph.new ≡ nodes_of graph.old }
-    ensures arrows { IfOk result (λ _. (a b : ℕ) → has_arrow graph.new a b ≡ (list_any (lands (has_bit kinds.bits) joining nodes.now a b) edges.now || has_arrow graph.old a b)) }
+    ensures arrows { IfOk result (λ _. (a b : ℕ) → has_arrow graph.new a b
+        ≡ (list_any (lands (has_bit kinds.bits) joining table.now.numbers a b) table.now.edges || has_arrow graph.old a b)) }
 {
-    for from in 0..nodes.len() {
-        add_arrows_from(alloc, graph, nodes, edges, kinds, joining, from)?;
+    for from in 0..table.len() as u32 {
+        add_arrows_from(alloc, graph, table, kinds, joining, from)?;
     }
     Ok(())
 }
@@ -74,41 +76,25 @@ pub(crate) fn add_arrows(
 fn add_arrows_from(
     alloc: Global,
     graph: &mut Graph,
-    nodes: &Nodes,
-    edges: &Dependencies<'_>,
+    table: &KindTable<'_, '_>,
     kinds: Kinds,
     joining: Joining,
     from: u32,
 ) -> Result<(), NoMemory>
-    requires ends { All (HasEnds nodes.now) edges.now }
-    requires size { nodes_of graph.old ≡ nodes_for joining (length nodes.now) }
-    requires from { from < length nodes.now }
+    requires rising { IsStrictlyIncreasing table.now.numbers }
+    requires few { length table.now.numbers ≤ 1000001 }
+    requires ends { All (HasEnds table.now.numbers) table.now.edges }
+    requires size { nodes_of graph.old ≡ nodes_for joining (length table.now.numbers) }
+    requires from { from < length table.now.numbers }
     ensures nodes { nodes_of graph.new ≡ nodes_of graph.old }
     ensures arrows { IfOk result (λ _. (a b : ℕ) → has_arrow graph.new a b
-        ≡ (any_below (landing (has_bit kinds.bits) joining nodes.now edges.now a b from) (length nodes.now) || has_arrow graph.old a b)) }
+        ≡ (any_below (landing (has_bit kinds.bits) joining table.now.numbers table.now.edges a b from) (length table.now.numbers) || has_arrow graph.old a b)) }
 {
-    for to in 0..nodes.len() {
-        if are_tied(nodes, edges, kinds, from, to) {
-            graph.add(alloc, joining.tail(from), joining.head(to))?;
+    let row = table.row(from);
+    for (to, between) in row.iter().enumerate() {
+        if between.meets(kinds) {
+            graph.add(alloc, joining.tail(from), joining.head(to as u32))?;
         }
     }
     Ok(())
-}
-
-/// Whether the transaction of the second node depends on that of the first in one of these ways.
-pub(crate) fn are_tied(
-    nodes: &Nodes,
-    edges: &Dependencies<'_>,
-    kinds: Kinds,
-    from: u32,
-    to: u32,
-) -> bool
-    requires ends { All (HasEnds nodes.now) edges.now }
-    requires from { from < length nodes.now }
-    requires to { to < length nodes.now }
-    ensures { result ≡ list_any (ties (has_bit kinds.bits) nodes.now from to) edges.now }
-{
-    edges
-        .kinds(nodes.number(from), nodes.number(to))
-        .meets(kinds)
 }

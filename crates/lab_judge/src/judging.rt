@@ -15,6 +15,8 @@ ghost use Rattle.lab_deps.specs.FaultOrder.{IsFirst};
 ghost use Rattle.lab_deps.specs.Refusal.{IsAnswer};
 ghost use Rattle.lab_deps.specs.Soundness.{IsSound};
 ghost use Rattle.lab_deps.specs.declared.edge.Edge.{Edge as Spelled};
+ghost use Rattle.lab_judge.specs.Graphs.{IsGraphOf};
+ghost use Rattle.lab_judge.specs.declared.allowed.Allowed.TheVariants as allowed;
 ghost use Rattle.lab_judge.specs.LeastWalks.{HasDueWalk, FindsDueWalks};
 ghost use Rattle.lab_judge.specs.Phenomena.{IsClosedWalk, NoWalk};
 ghost use Rattle.lab_judge.specs.Runs.{HoldsEachOnce};
@@ -25,17 +27,19 @@ ghost use Rattle.lab_judge.specs.Judgement.{IsExactJudgement, IsSerialVerdict, I
 ghost use Rattle.lab_judge.specs.FileJudgement.{IsFileJudgement};
 ghost use Rattle.lab_judge.specs.Promises.{IsPromised};
 
+use crate::allowed::Allowed;
 use crate::findings::{Findings, find_at_fault, find_in_sound, find_none};
+use crate::graphs::graph_of;
 use crate::nodes::Nodes;
 use crate::places::Places;
 use crate::placing::snapshot_verdict;
 use crate::report::Report;
 use crate::serial::Serial;
 use crate::serializing::serial_verdict;
-use lab_deps::{Dependencies, LocalFault, Sound, Unsound, check_local};
+use lab_deps::{Dependencies, KindTable, LocalFault, Sound, Unsound, check_local};
 use lab_engine::Recording;
 use lab_history::{FileFault, History, read_history};
-use lab_order::NoMemory;
+use lab_order::{Graph, NoMemory};
 use std::alloc::Global;
 
 /// Judges a history: whether it is serializable, whether it is a snapshot run, which phenomena it has, and which level
@@ -110,9 +114,11 @@ fn judge_sound(alloc: Global, history: &History, sound: &Sound) -> Result<Report
 {
     let nodes = Nodes::of(alloc, history)?;
     let edges = Dependencies::of(alloc, history, sound)?;
-    let serial = serial_verdict(alloc, history, &nodes, &edges)?;
-    let snapshot = snapshot_verdict(alloc, history, &nodes, &edges)?;
-    let found = find_beside(alloc, history, &nodes, &edges, &serial)?;
+    let table = edges.table(alloc, nodes.numbers())?;
+    let all = graph_of(alloc, &nodes, &table, Allowed::All)?;
+    let serial = serial_verdict(alloc, history, &nodes, &edges, &all)?;
+    let snapshot = snapshot_verdict(alloc, history, &nodes, &table)?;
+    let found = find_beside(alloc, history, &nodes, &edges, &table, &all, &serial)?;
     Ok(Report {
         serial,
         snapshot,
@@ -128,19 +134,24 @@ fn find_beside(
     history: &History,
     nodes: &Nodes,
     edges: &Dependencies<'_>,
+    table: &KindTable<'_, '_>,
+    all: &Graph,
     serial: &Serial,
 ) -> Result<Findings, NoMemory>
     requires sound { IsSound history.now }
     requires nodes { HoldsEachOnce history.now nodes.now }
     requires rising { IsStrictlyIncreasing nodes.now }
     requires edges { (e : Spelled) → Contains edges.now e ↔ IsEdge history.now e }
+    requires numbers { table.now.numbers ≡ nodes.now }
+    requires table { table.now.edges ≡ edges.now }
+    requires all { IsGraphOf allowed.All nodes.now edges.now all.now }
     requires rests { RestsOnOrder history.now serial.now }
     ensures walks { IfOk result (λ found. FindsDueWalks history.now found.phenomena) }
     ensures found { IfOk result (λ found. JudgesAll history.now found.phenomena found.level) }
 {
     match serial {
         Serial::Yes(_) => Ok(find_none(history)),
-        _ => find_in_sound(alloc, history, nodes, edges),
+        _ => find_in_sound(alloc, history, nodes, edges, table, all),
     }
 }
 

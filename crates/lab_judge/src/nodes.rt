@@ -53,6 +53,13 @@ impl Nodes {
         self.count
     }
 
+    /// The numbers of the transactions, node by node.
+    pub(crate) fn numbers(&self) -> &[TxnNo]
+        ensures { result.now ≡ self.now }
+    {
+        &self.numbers
+    }
+
     /// The node of a transaction, or None where it isn't among them.
     pub(crate) fn node(&self, number: TxnNo) -> Option<u32>
         ensures found { IfSome result (λ node. slice_get self.now node ≡ Some number) }

@@ -4,8 +4,9 @@
 //! it commits. What another reads or overwrites of it commits before that one starts, and what doesn't see another's
 //! write starts before that one commits.
 
-ghost use Rattle.std.specs.Prelude.{◌≡◌, ◌*◌, ℕ, length, IfOk};
+ghost use Rattle.std.specs.Prelude.{◌≡◌, ◌≤◌, ◌*◌, ℕ, IfOk};
 ghost use Rattle.std.specs.List.{All};
+ghost use Rattle.std.specs.List.Sorted.{IsStrictlyIncreasing};
 ghost use Rattle.lab_order.specs.Arrows.{nodes_of, has_arrow};
 ghost use Rattle.lab_judge.specs.Graphs.{HasEnds};
 ghost use Rattle.lab_judge.specs.PlaceGraphs.{spans, IsPlaceGraph};
@@ -14,7 +15,7 @@ use crate::allowed::Allowed;
 use crate::findings::Opening;
 use crate::joining::{Joining, add_arrows};
 use crate::nodes::Nodes;
-use lab_deps::Dependencies;
+use lab_deps::KindTable;
 use lab_order::{Graph, NoMemory};
 use std::alloc::Global;
 
@@ -22,41 +23,30 @@ use std::alloc::Global;
 pub(crate) fn place_graph(
     alloc: Global,
     nodes: &Nodes,
-    edges: &Dependencies<'_>,
+    table: &KindTable<'_, '_>,
 ) -> Result<Graph, NoMemory>
-    requires { All (HasEnds nodes.now) edges.now }
-    ensures { IfOk result (IsPlaceGraph nodes.now edges.now) }
+    requires numbers { table.now.numbers ≡ nodes.now }
+    requires rising { IsStrictlyIncreasing nodes.now }
+    requires ends { All (HasEnds nodes.now) table.now.edges }
+    ensures { IfOk result (IsPlaceGraph nodes.now table.now.edges) }
 {
     let flow = Allowed::Flow.kinds();
     let anti = Opening::Anti.kinds();
-    let mut graph = spans_graph(alloc, nodes)?;
-    add_arrows(
-        alloc,
-        &mut graph,
-        nodes,
-        edges,
-        flow,
-        Joining::CommitToStart,
-    )?;
-    add_arrows(
-        alloc,
-        &mut graph,
-        nodes,
-        edges,
-        anti,
-        Joining::StartToCommit,
-    )?;
+    let mut graph = spans_graph(alloc, nodes.len())?;
+    add_arrows(alloc, &mut graph, table, flow, Joining::CommitToStart)?;
+    add_arrows(alloc, &mut graph, table, anti, Joining::StartToCommit)?;
     Ok(graph)
 }
 
-/// The graph with an arrow from the start to the commit of each transaction, and no other. NoMemory where a growth was
-/// refused.
-fn spans_graph(alloc: Global, nodes: &Nodes) -> Result<Graph, NoMemory>
-    ensures size { IfOk result (λ graph. nodes_of graph ≡ 2 * length nodes.now) }
-    ensures arrows { IfOk result (λ graph. (a b : ℕ) → has_arrow graph a b ≡ spans (length nodes.now) a b) }
+/// The graph with an arrow from the start to the commit of each of so many transactions, and no other. NoMemory where a
+/// growth was refused.
+fn spans_graph(alloc: Global, count: u32) -> Result<Graph, NoMemory>
+    requires { count ≤ 1000001 }
+    ensures size { IfOk result (λ graph. nodes_of graph ≡ 2 * count) }
+    ensures arrows { IfOk result (λ graph. (a b : ℕ) → has_arrow graph a b ≡ spans count a b) }
 {
-    let mut graph = Graph::new(alloc, 2 * nodes.len())?;
-    for place in 0..nodes.len() {
+    let mut graph = Graph::new(alloc, 2 * count)?;
+    for place in 0..count {
         graph.add(alloc, 2 * place, 2 * place + 1)?;
     }
     Ok(graph)

@@ -16,7 +16,7 @@ ghost use Rattle.lab_judge.specs.PlaceGraphs.{point_at, span_in};
 use crate::nodes::Nodes;
 use crate::place_graph::place_graph;
 use crate::places::{Circle, Places, Point, Spans};
-use lab_deps::Dependencies;
+use lab_deps::KindTable;
 use lab_history::History;
 use lab_order::{NoMemory, Ordered, order};
 use lab_table::TxnNo;
@@ -29,18 +29,19 @@ pub(crate) fn snapshot_verdict(
     alloc: Global,
     _history: &History,
     nodes: &Nodes,
-    edges: &Dependencies<'_>,
+    table: &KindTable<'_, '_>,
 ) -> Result<Places, NoMemory>
     requires sound { IsSound _history.now }
     requires nodes { HoldsEachOnce _history.now nodes.now }
     requires rising { IsStrictlyIncreasing nodes.now }
-    requires exact { (e : Spelled) → Contains edges.now e ↔ IsEdge _history.now e }
+    requires numbers { table.now.numbers ≡ nodes.now }
+    requires exact { (e : Spelled) → Contains table.now.edges e ↔ IsEdge _history.now e }
     ensures verdict { IfOk result (IsSnapshotVerdict _history.now) }
     ensures rests { IfOk result (RestsOnPlaces _history.now) }
     ensures places { IfOk result (IsLeastPlacing _history.now) }
     ensures circle { IfOk result (HasBackCircle _history.now) }
 {
-    let graph = place_graph(alloc, nodes, edges)?;
+    let graph = place_graph(alloc, nodes, table)?;
     match order(alloc, &graph)? {
         Ordered::Order(order) => {
             let places = places_in(alloc, 2 * nodes.len(), &order)?;

@@ -10,37 +10,40 @@ ghost use Rattle.lab_judge.specs.Runs.{HoldsEachOnce};
 ghost use Rattle.lab_judge.specs.Judgement.{IsSerialVerdict, RestsOnOrder};
 ghost use Rattle.lab_judge.specs.LeastWalks.{HasDueWalk};
 ghost use Rattle.lab_judge.specs.Verdicts.{IsLeastOrder};
+ghost use Rattle.lab_judge.specs.Graphs.{IsGraphOf};
+ghost use Rattle.lab_judge.specs.declared.allowed.Allowed.TheVariants as allowed;
 
 use crate::allowed::Allowed;
-use crate::graphs::graph_of;
 use crate::nodes::Nodes;
 use crate::serial::{Order, Serial};
 use crate::walks::walk_round;
 use lab_deps::Dependencies;
 use lab_history::History;
-use lab_order::{NoMemory, Ordered, order};
+use lab_order::{Graph, NoMemory, Ordered, order};
 use lab_table::TxnNo;
 use std::alloc::Global;
 
-/// The serial verdict on a sound history with these committed transactions and these dependencies: the least order of the
-/// transactions along which every dependency points forward, or a closed walk. NoMemory where a growth was refused.
+/// The serial verdict on a sound history with these committed transactions, these dependencies and the graph of them all:
+/// the least order of the transactions along which every dependency points forward, or a closed walk. NoMemory where a
+/// growth was refused.
 pub(crate) fn serial_verdict(
     alloc: Global,
     _history: &History,
     nodes: &Nodes,
     edges: &Dependencies<'_>,
+    graph: &Graph,
 ) -> Result<Serial, NoMemory>
     requires sound { IsSound _history.now }
     requires nodes { HoldsEachOnce _history.now nodes.now }
     requires rising { IsStrictlyIncreasing nodes.now }
     requires exact { (e : Spelled) → Contains edges.now e ↔ IsEdge _history.now e }
+    requires graph { IsGraphOf allowed.All nodes.now edges.now graph.now }
     ensures verdict { IfOk result (IsSerialVerdict _history.now) }
     ensures rests { IfOk result (RestsOnOrder _history.now) }
     ensures least { IfOk result (IsLeastOrder _history.now) }
     ensures walk { IfOk result (HasDueWalk _history.now) }
 {
-    let graph = graph_of(alloc, nodes, edges, Allowed::All)?;
-    match order(alloc, &graph)? {
+    match order(alloc, graph)? {
         Ordered::Order(order) => {
             let numbers = numbers_of(alloc, nodes, &order)?;
             Ok(Serial::Yes(Order::new(numbers)))

@@ -20,7 +20,7 @@ use crate::nodes::Nodes;
 use crate::report::Finding;
 use crate::serial::Walk;
 use crate::walks::{walk_along, walk_round};
-use lab_deps::{Dependencies, Edge};
+use lab_deps::{Dependencies, Edge, KindTable};
 use lab_order::{Graph, NoMemory, Ordered, order, path};
 use std::alloc::Global;
 
@@ -53,17 +53,20 @@ pub(crate) fn find_opened(
     alloc: Global,
     nodes: &Nodes,
     edges: &Dependencies<'_>,
+    table: &KindTable<'_, '_>,
     allowed: Allowed,
     graph: &Graph,
     opening: Opening,
 ) -> Result<Finding, NoMemory>
+    requires numbers { table.now.numbers ≡ nodes.now }
+    requires table { table.now.edges ≡ edges.now }
     requires ends { All (HasEnds nodes.now) edges.now }
     requires graph { IsGraphOf allowed nodes.now edges.now graph.now }
     requires rising { IsStrictlyIncreasing nodes.now }
     ensures found { IfOk result (λ finding. (h : History) → ((e : Spelled) → Contains edges.now e ↔ IsEdge h e) → FindsWalk (IsOpenedWalk h opening allowed) finding) }
     ensures due { IfOk result (λ finding. (h : History) → AreCommitted h nodes.now → ((e : Spelled) → Contains edges.now e ↔ IsEdge h e) → FindsDue (IsOpenedRound h opening allowed) finding) }
 {
-    match first_opening(alloc, graph, nodes, edges, opening)? {
+    match first_opening(alloc, graph, nodes, edges, table, opening)? {
         None => Ok(Finding::Absent),
         Some(edge) => {
             let walk = closed_by(alloc, nodes, edges, allowed, graph, &edge)?;

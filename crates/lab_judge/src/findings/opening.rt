@@ -1,6 +1,6 @@
 //! Dependencies that open a walk, and from which a path leads back.
 
-ghost use Rattle.std.specs.Prelude.{◌≡◌, ◌<◌, ℕ, true, false, Contains, None, IfOk, IfSome, length};
+ghost use Rattle.std.specs.Prelude.{◌≡◌, ◌<◌, ◌≤◌, ℕ, true, false, Contains, None, IfOk, IfSome, length};
 ghost use Rattle.std.specs.List.{All, list_any};
 ghost use Rattle.std.specs.List.Sorted.{IsStrictlyIncreasing};
 ghost use Rattle.std.specs.Ordering.{is_lt};
@@ -15,9 +15,8 @@ ghost use Rattle.lab_judge.specs.Graphs.{HasEnds, ties};
 ghost use Rattle.lab_judge.specs.Joining.{any_below};
 ghost use Rattle.lab_judge.specs.Openings.{opens, IsOpening};
 
-use crate::joining::are_tied;
 use crate::nodes::Nodes;
-use lab_deps::{Dependencies, Edge, Kind, Kinds};
+use lab_deps::{Dependencies, Edge, Kind, KindTable, Kinds};
 use lab_order::{Graph, NoMemory, reaching};
 use std::alloc::Global;
 
@@ -50,17 +49,20 @@ pub(crate) fn first_opening(
     graph: &Graph,
     nodes: &Nodes,
     edges: &Dependencies<'_>,
+    table: &KindTable<'_, '_>,
     opening: Opening,
 ) -> Result<Option<Edge>, NoMemory>
     requires nodes { nodes_of graph.now ≡ length nodes.now }
     requires rising { IsStrictlyIncreasing nodes.now }
+    requires numbers { table.now.numbers ≡ nodes.now }
+    requires table { table.now.edges ≡ edges.now }
     requires ends { All (HasEnds nodes.now) edges.now }
     ensures found { IfOk result (λ found. IfSome found (λ e. Contains edges.now e × IsOpening opening graph.now nodes.now e)) }
     ensures first { IfOk result (λ found. IfSome found (λ e. (other : Spelled) → Contains edges.now other → IsOpening opening graph.now nodes.now other → is_lt (edge_cmp other e) ≡ false)) }
     ensures none { IfOk result (λ found. found ≡ None → All (λ e. ¬ IsOpening opening graph.now nodes.now e) edges.now) }
 {
     for from in 0..nodes.len() {
-        if let Some(edge) = first_from(alloc, graph, nodes, edges, opening, from)? {
+        if let Some(edge) = first_from(alloc, graph, nodes, edges, table, opening, from)? {
             return Ok(Some(edge));
         }
     }
@@ -75,12 +77,16 @@ fn first_from(
     graph: &Graph,
     nodes: &Nodes,
     edges: &Dependencies<'_>,
+    table: &KindTable<'_, '_>,
     opening: Opening,
     from: u32,
 ) -> Result<Option<Edge>, NoMemory>
     requires nodes { nodes_of graph.now ≡ length nodes.now }
     requires rising { IsStrictlyIncreasing nodes.now }
+    requires numbers { table.now.numbers ≡ nodes.now }
+    requires table { table.now.edges ≡ edges.now }
     requires ends { All (HasEnds nodes.now) edges.now }
+    requires few { length nodes.now ≤ 1000001 }
     requires from { from < length nodes.now }
     ensures found { IfOk result (λ found. IfSome found (λ e. Contains edges.now e × IsOpening opening graph.now nodes.now e)) }
     ensures from { IfOk result (λ found. IfSome found (λ e. position nodes.now e.from ≡ from)) }
@@ -89,24 +95,26 @@ fn first_from(
     ensures none { IfOk result (λ found. found ≡ None → (e : Spelled) → Contains edges.now e → position nodes.now e.from ≡ from → ¬ IsOpening opening graph.now nodes.now e) }
 {
     let kinds = opening.kinds();
-    if !has_tied(nodes, edges, kinds, from) {
+    if !has_tied(table, kinds, from) {
         return Ok(None);
     }
     let reach = reaching(alloc, graph, from)?;
-    match first_reaching(nodes, edges, kinds, from, &reach) {
+    match first_reaching(table, kinds, from, &reach) {
         None => Ok(None),
         Some(to) => edges.least(nodes.number(from), nodes.number(to), kinds),
     }
 }
 
 /// Whether something depends on the transaction of a node in one of these ways.
-fn has_tied(nodes: &Nodes, edges: &Dependencies<'_>, kinds: Kinds, from: u32) -> bool
-    requires ends { All (HasEnds nodes.now) edges.now }
-    requires from { from < length nodes.now }
-    ensures { result ≡ any_below (λ to. list_any (ties (has_bit kinds.bits) nodes.now from to) edges.now) (length nodes.now) }
+fn has_tied(table: &KindTable<'_, '_>, kinds: Kinds, from: u32) -> bool
+    requires rising { IsStrictlyIncreasing table.now.numbers }
+    requires ends { All (HasEnds table.now.numbers) table.now.edges }
+    requires from { from < length table.now.numbers }
+    ensures { result ≡ any_below (λ to. list_any (ties (has_bit kinds.bits) table.now.numbers from to) table.now.edges) (length table.now.numbers) }
 {
-    for to in 0..nodes.len() {
-        if are_tied(nodes, edges, kinds, from, to) {
+    let row = table.row(from);
+    for between in row {
+        if between.meets(kinds) {
             return true;
         }
     }
@@ -114,23 +122,20 @@ fn has_tied(nodes: &Nodes, edges: &Dependencies<'_>, kinds: Kinds, from: u32) ->
 }
 
 /// The first marked node whose transaction depends on that of a node in one of these ways, or None.
-fn first_reaching(
-    nodes: &Nodes,
-    edges: &Dependencies<'_>,
-    kinds: Kinds,
-    from: u32,
-    reach: &[bool],
-) -> Option<u32>
-    requires ends { All (HasEnds nodes.now) edges.now }
-    requires from { from < length nodes.now }
-    requires marks { length reach.now ≡ length nodes.now }
-    ensures found { IfSome result (λ to. (to < length nodes.now) × (is_marked reach.now to ≡ true) × (list_any (ties (has_bit kinds.bits) nodes.now from to) edges.now ≡ true)) }
-    ensures least { IfSome result (λ to. (k : ℕ) → k < to → is_marked reach.now k ≡ true → list_any (ties (has_bit kinds.bits) nodes.now from k) edges.now ≡ false) }
-    ensures none { result ≡ None → (to : ℕ) → to < length nodes.now → is_marked reach.now to ≡ true → list_any (ties (has_bit kinds.bits) nodes.now from to) edges.now ≡ false }
+fn first_reaching(table: &KindTable<'_, '_>, kinds: Kinds, from: u32, reach: &[bool]) -> Option<u32>
+    requires rising { IsStrictlyIncreasing table.now.numbers }
+    requires few { length table.now.numbers ≤ 1000001 }
+    requires ends { All (HasEnds table.now.numbers) table.now.edges }
+    requires from { from < length table.now.numbers }
+    requires marks { length reach.now ≡ length table.now.numbers }
+    ensures found { IfSome result (λ to. (to < length table.now.numbers) × (is_marked reach.now to ≡ true) × (list_any (ties (has_bit kinds.bits) table.now.numbers from to) table.now.edges ≡ true)) }
+    ensures least { IfSome result (λ to. (k : ℕ) → k < to → is_marked reach.now k ≡ true → list_any (ties (has_bit kinds.bits) table.now.numbers from k) table.now.edges ≡ false) }
+    ensures none { result ≡ None → (to : ℕ) → to < length table.now.numbers → is_marked reach.now to ≡ true → list_any (ties (has_bit kinds.bits) table.now.numbers from to) table.now.edges ≡ false }
 {
-    for to in 0..nodes.len() {
-        if reach[to as usize] && are_tied(nodes, edges, kinds, from, to) {
-            return Some(to);
+    let row = table.row(from);
+    for (to, between) in row.iter().enumerate() {
+        if between.meets(kinds) && reach[to] {
+            return Some(to as u32);
         }
     }
     None

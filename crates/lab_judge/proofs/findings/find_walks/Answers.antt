@@ -1,10 +1,27 @@
-use Rattle.std.proofs.Common.{refl}
+use Rattle.std.proofs.Common.{refl, sym, subst}
+use Rattle.std.specs.List.{All}
+use Rattle.lab_judge.specs.Graphs.{HasEnds, IsGraphOf}
 use Rattle.lab_judge.specs.Judgement.{FindsWalk}
 use Rattle.lab_judge.specs.Phenomena.{NoG1a, NoG1b, IsG0, IsG1c, IsGSingle, IsG2Item, IsG2}
 use Rattle.lab_judge.specs.declared.allowed.Allowed.TheVariants.{Writes, Flow}
 use Rattle.lab_judge.proofs.Levels.{none_aborted, none_intermediate}
 use Rattle.lab_judge.proofs.WalkKinds.{has_all, finds_g0, finds_g1c, finds_g_single, finds_g2_item, finds_g2}
 use Rattle.lab_judge.proofs.findings.find_walks.Goals as goal
+
+pub graph_of-requires-clause-ends : goal.graph_of-requires-clause-ends
+graph_of-requires-clause-ends c = subst (All (HasEnds c.args.nodes.now)) (sym c.requires.table) c.requires.ends
+
+pub graph_of-requires-2-clause-ends : goal.graph_of-requires-2-clause-ends
+graph_of-requires-2-clause-ends c = subst (All (HasEnds c.args.nodes.now)) (sym c.requires.table) c.requires.ends
+
+pub find_circle-requires-clause-graph : goal.find_circle-requires-clause-graph
+find_circle-requires-clause-graph c = subst (λ es. IsGraphOf Writes c.args.nodes.now es c.in_ok-writes.writes) c.requires.table c.in_ok-writes.ensures
+
+pub find_circle-requires-2-clause-graph : goal.find_circle-requires-2-clause-graph
+find_circle-requires-2-clause-graph c = subst (λ es. IsGraphOf Flow c.args.nodes.now es c.in_ok-flow.flow) c.requires.table c.in_ok-flow.ensures
+
+pub find_opened-requires-clause-graph : goal.find_opened-requires-clause-graph
+find_opened-requires-clause-graph c = subst (λ es. IsGraphOf Flow c.args.nodes.now es c.in_ok-flow.flow) c.requires.table c.in_ok-flow.ensures
 
 pub returns-clause-found : goal.returns-clause-found
 returns-clause-found c = λ h sound exact.

@@ -1,8 +1,30 @@
-use Rattle.std.proofs.Common.{◌∙◌}
+use Rattle.std.proofs.Common.{◌≡◌, ◌||◌, ℕ, length, sym, ap, subst, ◌∙◌, arith}
+use Rattle.std.specs.List.{All, list_any}
+use Rattle.std.specs.List.Sorted.{IsStrictlyIncreasing}
+use Rattle.lab_order.specs.Arrows.{has_arrow}
+use Rattle.lab_deps.specs.KindBits.{has_bit}
+use Rattle.lab_judge.specs.Graphs.{HasEnds}
+use Rattle.lab_judge.specs.Joining.{lands}
+use Rattle.lab_judge.specs.declared.joining.Joining.TheVariants.{Transactions}
 use Rattle.lab_judge.proofs.JoinedGraphs.{is_graph}
 use Rattle.lab_judge.proofs.graphs.graph_of.Goals as goal
 
+pub add_arrows-requires-clause-rising : goal.add_arrows-requires-clause-rising
+add_arrows-requires-clause-rising c = subst IsStrictlyIncreasing (sym c.requires.numbers) c.requires.rising
+
+pub add_arrows-requires-clause-ends : goal.add_arrows-requires-clause-ends
+add_arrows-requires-clause-ends c = subst (λ ns. All (HasEnds ns) c.args.table.now.edges) (sym c.requires.numbers) c.requires.ends
+
+pub add_arrows-requires-clause-few : goal.add_arrows-requires-clause-few
+add_arrows-requires-clause-few c = let same = ap length c.requires.numbers in omega (arith, same, c.len.ensures.count, c.len.ensures.few)
+
+pub add_arrows-requires-clause-size : goal.add_arrows-requires-clause-size
+add_arrows-requires-clause-size c = c.in_ok-graph.ensures.nodes ∙ (c.len.ensures.count ∙ ap length (sym c.requires.numbers))
+
 pub returns : goal.returns
 returns c =
-    is_graph c.args.allowed c.args.nodes.now c.args.edges.now c.kinds.result.bits c.kinds.ensures c.in_ok-graph.graph c.add_arrows.new.graph
-    (c.in_ok-add_arrows.ensures.nodes ∙ (c.in_ok-graph.ensures.nodes ∙ c.len.ensures.count)) c.in_ok-graph.ensures.arrows c.in_ok-add_arrows.ensures.arrows
+    let es = c.args.table.now.edges in
+    is_graph c.args.allowed c.args.nodes.now es c.kinds.result.bits c.kinds.ensures c.in_ok-graph.graph c.add_arrows.new.graph
+    (c.in_ok-add_arrows.ensures.nodes ∙ (c.in_ok-graph.ensures.nodes ∙ c.len.ensures.count)) c.in_ok-graph.ensures.arrows
+    (subst (λ ns. (a b : ℕ) → has_arrow c.add_arrows.new.graph a b ≡ (list_any (lands (has_bit c.kinds.result.bits) Transactions ns a b) es || has_arrow c.in_ok-graph.graph a b))
+    c.requires.numbers c.in_ok-add_arrows.ensures.arrows)

@@ -8,9 +8,9 @@ use Rattle.lab_judge.proofs.joining.add_arrows.Goals as goal
 pub returns-clause-arrows : goal.returns-clause-arrows
 returns-clause-arrows c = λ a b.
     let test = has_bit c.args.kinds.bits in
-    let nodes = c.args.nodes.now in
-    let edges = c.args.edges.now in
-    let all : c.loop-from.from ≡ length nodes = omega (arith, c.len-from-end.ensures.count) in
+    let nodes = c.args.table.now.numbers in
+    let edges = c.args.table.now.edges in
+    let all : c.loop-from.from ≡ length nodes = omega (arith, c.len-from-end.ensures, c.requires.few) in
     c.loop-from.invariant.arrows a b
     ∙ (ap (λ k. any_below (λ p. any_below (landing test c.args.joining nodes edges a b p) (length nodes)) k || has_arrow c.args.graph.now a b) all
     ∙ ap (λ t. t || has_arrow c.args.graph.now a b) (landed test c.args.joining nodes edges c.requires.ends a b))

@@ -9,5 +9,5 @@ abbrev pub invariant-loop-from : goal.invariant-loop-from
 invariant-loop-from l = record {
   size : nodes_of l.graph ≡ nodes_of l.initial.graph;
   arrows : (a b : ℕ) → has_arrow l.graph a b
-      ≡ (any_below (λ p. any_below (landing (has_bit l.kinds.bits) l.joining l.nodes l.edges a b p) (length l.nodes)) l.from || has_arrow l.initial.graph a b);
+      ≡ (any_below (λ p. any_below (landing (has_bit l.kinds.bits) l.joining l.table.numbers l.table.edges a b p) (length l.table.numbers)) l.from || has_arrow l.initial.graph a b);
 }

@@ -8,5 +8,5 @@ use Rattle.lab_judge.proofs.joining.add_arrows_from.Given as goal
 abbrev pub invariant-loop-to : goal.invariant-loop-to
 invariant-loop-to l = record {
   size : nodes_of l.graph ≡ nodes_of l.initial.graph;
-  arrows : (a b : ℕ) → has_arrow l.graph a b ≡ (any_below (landing (has_bit l.kinds.bits) l.joining l.nodes l.edges a b l.from) l.to || has_arrow l.initial.graph a b);
+  arrows : (a b : ℕ) → has_arrow l.graph a b ≡ (any_below (landing (has_bit l.kinds.bits) l.joining l.table.numbers l.table.edges a b l.from) l.to || has_arrow l.initial.graph a b);
 }

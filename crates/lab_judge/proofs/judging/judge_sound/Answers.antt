@@ -1,5 +1,35 @@
+use Rattle.std.proofs.Common.{◌↔◌, sym, subst, ◌∙◌}
+use Rattle.std.specs.Prelude.{Contains}
+use Rattle.lab_deps.specs.Edges.{IsEdge}
+use Rattle.lab_deps.specs.declared.edge.Edge.{Edge}
+use Rattle.lab_judge.specs.Graphs.{IsGraphOf}
+use Rattle.lab_judge.specs.declared.allowed.Allowed.TheVariants as allowed
 use Rattle.lab_judge.proofs.Reports.{of_sound}
+use Rattle.lab_judge.proofs.SerialVerdicts.{all_have_ends}
 use Rattle.lab_judge.proofs.judging.judge_sound.Goals as goal
+
+pub graph_of-requires-clause-numbers : goal.graph_of-requires-clause-numbers
+graph_of-requires-clause-numbers c = c.in_ok-table.ensures.numbers ∙ c.numbers.ensures
+
+pub graph_of-requires-clause-ends : goal.graph_of-requires-clause-ends
+graph_of-requires-clause-ends c =
+    all_have_ends c.args.history.now c.in_ok-nodes.nodes c.in_ok-nodes.ensures.once c.in_ok-table.table.edges
+    (λ e there. (c.in_ok-edges.ensures e).0 (subst (λ es. Contains es e) c.in_ok-table.ensures.edges there))
+
+pub serial_verdict-requires-clause-graph : goal.serial_verdict-requires-clause-graph
+serial_verdict-requires-clause-graph c = subst (λ es. IsGraphOf allowed.All c.in_ok-nodes.nodes es c.in_ok-all.all) c.in_ok-table.ensures.edges c.in_ok-all.ensures
+
+pub snapshot_verdict-requires-clause-numbers : goal.snapshot_verdict-requires-clause-numbers
+snapshot_verdict-requires-clause-numbers c = c.in_ok-table.ensures.numbers ∙ c.numbers.ensures
+
+pub snapshot_verdict-requires-clause-exact : goal.snapshot_verdict-requires-clause-exact
+snapshot_verdict-requires-clause-exact c = subst (λ es. (e : Edge) → Contains es e ↔ IsEdge c.args.history.now e) (sym c.in_ok-table.ensures.edges) c.in_ok-edges.ensures
+
+pub find_beside-requires-clause-numbers : goal.find_beside-requires-clause-numbers
+find_beside-requires-clause-numbers c = c.in_ok-table.ensures.numbers ∙ c.numbers.ensures
+
+pub find_beside-requires-clause-all : goal.find_beside-requires-clause-all
+find_beside-requires-clause-all c = subst (λ es. IsGraphOf allowed.All c.in_ok-nodes.nodes es c.in_ok-all.all) c.in_ok-table.ensures.edges c.in_ok-all.ensures
 
 pub returns : goal.returns
 returns c =

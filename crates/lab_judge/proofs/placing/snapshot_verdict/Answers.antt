@@ -14,8 +14,8 @@ use Rattle.lab_judge.proofs.SnapshotVerdicts.{rests, runs}
 use Rattle.lab_judge.proofs.placing.snapshot_verdict.Goals as goal
 use Rattle.lab_deps.proofs.Places.{times_count}
 
-pub place_graph-requires : goal.place_graph-requires
-place_graph-requires c = all_have_ends c.args._history.now c.args.nodes.now c.requires.nodes c.args.edges.now (λ e there. (c.requires.exact e).0 there)
+pub place_graph-requires-clause-ends : goal.place_graph-requires-clause-ends
+place_graph-requires-clause-ends c = all_have_ends c.args._history.now c.args.nodes.now c.requires.nodes c.args.table.now.edges (λ e there. (c.requires.exact e).0 there)
 
 pub places_in-requires-clause-within : goal.places_in-requires-clause-within
 places_in-requires-clause-within c =
@@ -41,7 +41,7 @@ pub returns-in-Order-clause-verdict : goal.returns-in-Order-clause-verdict
 returns-in-Order-clause-verdict c =
     let ordered = subst (IsOrdered c.in_ok-graph.graph) c.in-Order.is c.in_ok-order.ensures.ordered in
     let are = subst (λ l. (node : ℕ) → Contains l node → slice_index c.in_ok-places-in-Order.places.items node ≡ position l node) c.deref.ensures.value c.in_ok-places-in-Order.ensures.places in
-    runs c.args._history.now c.args.nodes.now c.requires.nodes c.args.edges.now c.requires.exact c.in_ok-graph.graph c.in_ok-graph.ensures c.in-Order.order.items ordered
+    runs c.args._history.now c.args.nodes.now c.requires.nodes c.args.table.now.edges c.requires.exact c.in_ok-graph.graph c.in_ok-graph.ensures c.in-Order.order.items ordered
     c.in_ok-places-in-Order.places.items are c.requires.sound c.new.result
     (c.new.ensures ∙ c.in_ok-spans-in-Order.ensures ∙ ap (λ l. map (span_in c.args.nodes.now l) c.args.nodes.now) c.deref-in-Order.ensures.value)
 
@@ -49,7 +49,7 @@ pub returns-in-Order-clause-rests : goal.returns-in-Order-clause-rests
 returns-in-Order-clause-rests c =
     let ordered = subst (IsOrdered c.in_ok-graph.graph) c.in-Order.is c.in_ok-order.ensures.ordered in
     let are = subst (λ l. (node : ℕ) → Contains l node → slice_index c.in_ok-places-in-Order.places.items node ≡ position l node) c.deref.ensures.value c.in_ok-places-in-Order.ensures.places in
-    rests c.args._history.now c.args.nodes.now c.requires.nodes c.args.edges.now c.requires.exact c.in_ok-graph.graph c.in_ok-graph.ensures c.in-Order.order.items ordered
+    rests c.args._history.now c.args.nodes.now c.requires.nodes c.args.table.now.edges c.requires.exact c.in_ok-graph.graph c.in_ok-graph.ensures c.in-Order.order.items ordered
     c.in_ok-places-in-Order.places.items are c.requires.sound c.new.result
     (c.new.ensures ∙ c.in_ok-spans-in-Order.ensures ∙ ap (λ l. map (span_in c.args.nodes.now l) c.args.nodes.now) c.deref-in-Order.ensures.value)
 
@@ -57,7 +57,7 @@ pub returns-in-Order-clause-places : goal.returns-in-Order-clause-places
 returns-in-Order-clause-places c =
     let answered = subst (IsAnswered c.in_ok-graph.graph) c.in-Order.is c.in_ok-order.ensures.least in
     let are = subst (λ l. (node : ℕ) → Contains l node → slice_index c.in_ok-places-in-Order.places.items node ≡ position l node) c.deref.ensures.value c.in_ok-places-in-Order.ensures.places in
-    least_placing c.args._history.now c.args.nodes.now c.requires.rising c.requires.nodes c.args.edges.now c.requires.exact c.in_ok-graph.graph c.in_ok-order.ensures.graph c.in_ok-graph.ensures
+    least_placing c.args._history.now c.args.nodes.now c.requires.rising c.requires.nodes c.args.table.now.edges c.requires.exact c.in_ok-graph.graph c.in_ok-order.ensures.graph c.in_ok-graph.ensures
     c.in-Order.order.items answered c.in_ok-places-in-Order.places.items are c.new.result
     (c.new.ensures ∙ c.in_ok-spans-in-Order.ensures ∙ ap (λ l. map (span_in c.args.nodes.now l) c.args.nodes.now) c.deref-in-Order.ensures.value)
 
@@ -72,7 +72,7 @@ returns-clause-verdict c =
     let circle = subst (IsOrdered c.in_ok-graph.graph) c.in-Circle.is c.in_ok-order.ensures.ordered in
     let made = c.new-in-Circle.ensures ∙ c.in_ok-points-in-Circle.ensures ∙ ap (map (point_at c.args.nodes.now)) c.deref-in-Circle.ensures.value in (
       c.requires.sound,
-      subst (IsCircle c.args._history.now) (sym made) (circle_is c.args._history.now c.args.nodes.now c.requires.nodes c.args.edges.now c.requires.exact c.in_ok-graph.graph
+      subst (IsCircle c.args._history.now) (sym made) (circle_is c.args._history.now c.args.nodes.now c.requires.nodes c.args.table.now.edges c.requires.exact c.in_ok-graph.graph
           c.in_ok-graph.ensures c.in-Circle.circle.items circle),
     )
 
@@ -80,6 +80,6 @@ pub returns-clause-circle : goal.returns-clause-circle
 returns-clause-circle c =
     let circle = subst (IsOrdered c.in_ok-graph.graph) c.in-Circle.is c.in_ok-order.ensures.ordered in
     let answered = subst (IsAnswered c.in_ok-graph.graph) c.in-Circle.is c.in_ok-order.ensures.least in
-    has_back_circle c.args._history.now c.args.nodes.now c.requires.rising c.requires.nodes c.args.edges.now c.requires.exact c.in_ok-graph.graph c.in_ok-order.ensures.graph c.in_ok-graph.ensures
+    has_back_circle c.args._history.now c.args.nodes.now c.requires.rising c.requires.nodes c.args.table.now.edges c.requires.exact c.in_ok-graph.graph c.in_ok-order.ensures.graph c.in_ok-graph.ensures
     c.in-Circle.circle.items (circle_within c.in_ok-graph.graph c.in_ok-order.ensures.graph c.in-Circle.circle.items circle) answered c.new-in-Circle.result
     (c.new-in-Circle.ensures ∙ c.in_ok-points-in-Circle.ensures ∙ ap (map (point_at c.args.nodes.now)) c.deref-in-Circle.ensures.value)

@@ -7,4 +7,4 @@ use Rattle.lab_judge.proofs.findings.opening.first_reaching.Given as goal
 
 -- none so far is marked and depends on it
 abbrev pub invariant-loop-to : goal.invariant-loop-to
-invariant-loop-to l = (to : ℕ) → to < l.to → is_marked l.reach to ≡ true → list_any (ties (has_bit l.kinds.bits) l.nodes l.from to) l.edges ≡ false
+invariant-loop-to l = (to : ℕ) → to < l.to → is_marked l.reach to ≡ true → list_any (ties (has_bit l.kinds.bits) l.table.numbers l.from to) l.table.edges ≡ false
