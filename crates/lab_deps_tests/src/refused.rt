@@ -11,7 +11,7 @@ use std::alloc::Global;
 use std::process::Abort;
 use std::test::Fail;
 
-static CALLS: [Call; 25] = [
+static CALLS: [Call; 26] = [
     Call::ByRowCopy,
     Call::NumbersCopy,
     Call::TableCopy,
@@ -37,6 +37,7 @@ static CALLS: [Call; 25] = [
     Call::Edges,
     Call::DependenciesOf,
     Call::DependenciesOfWrites,
+    Call::DependenciesTable,
 ];
 
 /// Fails where a call that makes a statement isn't right with one of its growths refused, or has no last growth.

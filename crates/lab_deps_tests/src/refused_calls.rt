@@ -41,6 +41,7 @@ pub enum Call {
     Edges,
     DependenciesOf,
     DependenciesOfWrites,
+    DependenciesTable,
 }
 
 /// Whether a copy lists what its original lists.
@@ -250,7 +251,10 @@ pub fn is_right(alloc: Global, growth: u16, call: Call, inputs: &Inputs) -> Resu
         Call::SituationOf | Call::SituationTakeIn | Call::RecordingOf => is_right_of_logs(
             alloc, growth, call, inputs,
         ),
-        Call::CheckLocal | Call::Edges | Call::DependenciesOf | Call::DependenciesOfWrites =>
-            is_right_of_dependencies(alloc, call, inputs),
+        Call::CheckLocal
+        | Call::Edges
+        | Call::DependenciesOf
+        | Call::DependenciesOfWrites
+        | Call::DependenciesTable => is_right_of_dependencies(alloc, call, inputs),
     }
 }

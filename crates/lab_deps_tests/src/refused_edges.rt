@@ -34,6 +34,20 @@ fn are_all(found: Dependencies, named: &Named, kinds: Kinds) -> bool {
     right
 }
 
+/// Whether the table of the two transactions has these kinds from the first to the second, and no others.
+fn are_listed(
+    alloc: Global,
+    found: &Dependencies,
+    named: &Named,
+    kinds: Kinds,
+) -> Result<bool, NoMemory> {
+    let numbers = [named.second, named.first];
+    let table = found.table(alloc, &numbers)?;
+    Ok(table.len() == 2
+        && table.row(0) == [Kinds::none(), Kinds::none()].as_slice()
+        && table.row(1) == [kinds, Kinds::none()].as_slice())
+}
+
 /// Calls on the dependencies of a sound history.
 fn is_right_of_edges(
     alloc: Global,
@@ -45,6 +59,10 @@ fn is_right_of_edges(
     requires { IsSound history.now }
 {
     let writes = Kinds::none().and(Kind::Write);
+    let all = writes
+        .and(Kind::ItemRead)
+        .and(Kind::PredicateRead)
+        .and(Kind::PredicateAnti);
     match call {
         Call::Edges => {
             let found = edges(alloc, history, sound)?;
@@ -53,12 +71,14 @@ fn is_right_of_edges(
             Ok(right)
         }
         Call::DependenciesOf => {
-            let kinds = writes
-                .and(Kind::ItemRead)
-                .and(Kind::PredicateRead)
-                .and(Kind::PredicateAnti);
             let found = Dependencies::of(alloc, history, sound)?;
-            Ok(are_all(found, named, kinds))
+            Ok(are_all(found, named, all))
+        }
+        Call::DependenciesTable => {
+            let found = Dependencies::of(alloc, history, sound)?;
+            let right = are_listed(alloc, &found, named, all);
+            drop(found);
+            right
         }
         _ => {
             let found = Dependencies::of_writes(alloc, history)?;
