@@ -43,9 +43,11 @@ fn are_listed(
 ) -> Result<bool, NoMemory> {
     let numbers = [named.second, named.first];
     let table = found.table(alloc, &numbers)?;
-    Ok(table.len() == 2
-        && table.row(0) == [Kinds::none(), Kinds::none()].as_slice()
-        && table.row(1) == [kinds, Kinds::none()].as_slice())
+    Ok(
+        table.len() == 2
+            && table.row(0) == [Kinds::none(), Kinds::none()].as_slice()
+            && table.row(1) == [kinds, Kinds::none()].as_slice(),
+    )
 }
 
 /// Calls on the dependencies of a sound history.
