@@ -29,7 +29,7 @@ pub fn parts(ordered: &Ordered) -> (bool, &[u32]) {
     }
 }
 
-/// Arrows between nodes below a number, by a linear congruence; if they shall only lead down, there is no circle.
+/// Arrows between nodes below a number, by a linear congruence; if they shall only lead down, there is no cycle.
 fn some_arrows(
     alloc: Global,
     seed: u32,

@@ -1,17 +1,17 @@
-//! Calls with each of their growths refused in turn: they answer want of memory and nothing else, and what they would
-//! change is as it was; or, where they could do without, they answer as ever.
+//! Calls with each of their allocations refused in turn: they answer want of memory and nothing else, and what they
+//! would change is as it was; or, where they could do without, they answer as ever.
 
 ghost use Rattle.std.specs.Prelude.{◌≡◌};
 ghost use Rattle.lab_order.specs.Arrows.{nodes_of};
 
 use crate::comparing::{graph_of, parts};
 use crate::refusal::{refuse, was_refused};
-use lab_order::{Graph, NoMemory, order, path, reaching};
+use lab_order::{Graph, NoMemory, Ways, order, path};
 use std::alloc::Global;
 use std::process::Abort;
 use std::test::Fail;
 
-/// A call, on four nodes of which the first three are a circle, or on a chain, or on a new graph.
+/// A call, on four nodes of which the first three are a cycle, or on a chain, or on a new graph.
 #[derive(Clone, Copy, Debug)]
 enum Call {
     New,
@@ -21,10 +21,10 @@ enum Call {
     Circle,
     Path,
     NoPath,
-    Reaching,
+    Ways,
 }
 
-/// Whether a graph has this order or circle.
+/// Whether a graph has this order or cycle.
 fn has_order(alloc: Global, graph: &Graph, due: (bool, &[u32])) -> Result<bool, NoMemory> {
     let ordered = order(alloc, graph)?;
     let right = parts(&ordered) == due;
@@ -32,8 +32,8 @@ fn has_order(alloc: Global, graph: &Graph, due: (bool, &[u32])) -> Result<bool, 
     Ok(right)
 }
 
-/// Adds an arrow from node 5 to node 0 of six, where that needs a growth. Where it is refused, the graph has the order
-/// that it had before, and takes the arrow then.
+/// Adds an arrow from node 5 to node 0 of six, where that needs an allocation. Where it is refused, the graph has the
+/// order that it had before, and takes the arrow then.
 fn is_added(alloc: Global, growth: u16, graph: &mut Graph, before: &[u32]) -> Result<bool, NoMemory>
     requires { nodes_of graph.old ≡ 6 }
 {
@@ -83,10 +83,12 @@ fn is_path(path: Option<Vec<u32>>, due: Option<&[u32]>) -> bool {
     right
 }
 
-/// Whether the nodes that reach another one are these.
-fn are_reaching(reaching: Vec<bool>, due: &[bool]) -> bool {
-    let right = reaching.as_slice() == due;
-    drop(reaching);
+/// Whether of four nodes the first three lead to the third, and the fourth doesn't.
+fn are_due(ways: Ways<'_>) -> bool
+    requires { nodes_of ways ≡ 4 }
+{
+    let right = ways.lead(0, 2) && ways.lead(1, 2) && ways.lead(2, 2) && !ways.lead(3, 2);
+    drop(ways);
     right
 }
 
@@ -106,14 +108,11 @@ fn is_right(
         Call::Circle => has_order(alloc, circle, (false, &[0, 1, 2][..])),
         Call::Path => Ok(is_path(path(alloc, circle, 0, 2)?, Some(&[0, 1, 2][..]))),
         Call::NoPath => Ok(is_path(path(alloc, circle, 0, 3)?, None)),
-        Call::Reaching => Ok(are_reaching(
-            reaching(alloc, circle, 2)?,
-            &[true, true, true, false][..],
-        )),
+        Call::Ways => Ok(are_due(Ways::of(alloc, circle)?)),
     }
 }
 
-/// Fails where a call isn't right with one of its growths refused, or has no last growth.
+/// Fails where a call isn't right with one of its allocations refused, or has no last allocation.
 fn shows_right(rt: &impl Abort, alloc: Global, call: Call, chain: &Graph, circle: &Graph)
     requires { nodes_of circle.now ≡ 4 }
 {
@@ -122,7 +121,7 @@ fn shows_right(rt: &impl Abort, alloc: Global, call: Call, chain: &Graph, circle
         refuse(alloc, growth);
         let right = is_right(alloc, growth, call, chain, circle);
         let refused = was_refused(alloc);
-        // Memory may be wanting only where a growth was refused.
+        // Memory may be wanting only where an allocation was refused.
         assert!(rt; right.unwrap_or(refused), "{call:?}, at growth {growth}");
         if !refused {
             answered = true;
@@ -140,7 +139,7 @@ static CALLS: [Call; 8] = [
     Call::Circle,
     Call::Path,
     Call::NoPath,
-    Call::Reaching,
+    Call::Ways,
 ];
 
 #[test]

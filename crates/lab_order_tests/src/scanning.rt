@@ -3,7 +3,7 @@
 use lab_order::{NoMemory, Ordered};
 use std::alloc::Global;
 
-/// The order of these nodes along these arrows, or a circle where there is none.
+/// The order of these nodes along these arrows, or a cycle where there is none.
 pub fn scanning_order(
     alloc: Global,
     nodes: u32,
@@ -55,7 +55,7 @@ fn least_before(arrows: &[(u32, u32)], placed: &[u32], node: u32) -> Option<u32>
     least
 }
 
-/// The circle met on the way back from an unplaced node, read forward from its least node.
+/// The cycle met on the way back from an unplaced node, read forward from its least node.
 fn circle_behind(
     alloc: Global,
     arrows: &[(u32, u32)],

@@ -1,0 +1,86 @@
+//! A set of the numbers below a bound.
+
+ghost use Rattle.std.specs.Prelude.{◌≡◌, ◌<◌, ◌==◌, ◌||◌, ℕ, false, get_or, IfOk};
+ghost use Rattle.lab_sets.specs.Sets.{has, room, room_for};
+
+use std::alloc::{AllocError, Global};
+use std::marker::Model;
+
+/// A set of the numbers below a bound.
+#[derive(Debug, Drop)]
+pub struct NumberSet {
+    /// The bit n % 64 of the word n / 64 says whether the set has n.
+    words: Vec<u64>,
+}
+
+impl Model for NumberSet {
+    ghost use Rattle.std.specs.Prelude.{ℕ, List};
+
+    ghost Value = { List ℕ };
+
+    ghost view = { λ s. s.words.items };
+}
+
+impl NumberSet {
+    /// The empty set, for numbers below a bound. AllocError where the memory was refused.
+    pub fn none(alloc: Global, bound: u32) -> Result<NumberSet, AllocError>
+        ensures none { IfOk result (λ set. (n : ℕ) → has set n ≡ false) }
+        ensures room { IfOk result (λ set. room set ≡ room_for bound) }
+    {
+        let words = vec![in alloc; 0; bound as usize / 64 + 1]?;
+        Ok(NumberSet { words })
+    }
+
+    /// A set with the same numbers. AllocError where the memory was refused.
+    pub fn copy(&self, alloc: Global) -> Result<NumberSet, AllocError>
+        ensures { IfOk result (λ set. set ≡ self.now) }
+    {
+        let mut words = Vec::new(alloc);
+        words.extend_from_slice(&self.words)?;
+        Ok(NumberSet { words })
+    }
+
+    /// A word, or 0 where there is none.
+    fn word(&self, place: usize) -> u64
+        ensures { result ≡ get_or self.now place 0 }
+    {
+        self.words.get(place).copied().unwrap_or(0)
+    }
+
+    /// Whether a number is in it.
+    pub fn has(&self, number: u32) -> bool
+        ensures { result ≡ has self.now number }
+    {
+        (self.word(number as usize / 64) >> (number % 64)) & 1 == 1
+    }
+
+    /// Puts a number in.
+    pub fn insert(&mut self, number: u32)
+        requires { number < room self.old }
+        ensures room { room self.new ≡ room self.old }
+        ensures has { (n : ℕ) → has self.new n ≡ (n == number || has self.old n) }
+    {
+        self.words[number as usize / 64] |= 1u64 << (number % 64);
+    }
+
+    /// Puts in what another set has, by 64 numbers at a time.
+    pub fn unite(&mut self, other: &NumberSet)
+        requires { room other.now ≡ room self.old }
+        ensures room { room self.new ≡ room self.old }
+        ensures has { (n : ℕ) → has self.new n ≡ (has self.old n || has other.now n) }
+    {
+        'words: for k in 0..self.words.len() {
+            self.words[k] |= other.words[k];
+        }
+    }
+
+    /// Takes all numbers out.
+    pub fn clear(&mut self)
+        ensures room { room self.new ≡ room self.old }
+        ensures none { (n : ℕ) → has self.new n ≡ false }
+    {
+        'words: for k in 0..self.words.len() {
+            self.words[k] = 0;
+        }
+    }
+}
