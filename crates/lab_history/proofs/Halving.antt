@@ -1,5 +1,6 @@
 -- The first entry of a key in a list that is sorted by keys.
-use Rattle.std.proofs.Common.{◌≡◌, ℕ, zero, suc, ◌≤◌, ◌<◌, Bool, true, false, cond, not, ◌&&◌, List, [], ◌∷◌, length, Option, Some, None, refl, sym, ap, ◌∙◌, arith}
+use Rattle.std.proofs.Common.{◌≡◌, ℕ, zero, suc, ◌-◌, ◌≤◌, ◌<◌, Bool, true, false, cond, not, ◌&&◌, List, [], ◌∷◌, length, Option, Some, None, refl, sym, ap, ◌∙◌, arith}
+use Rattle.std.proofs.lemmas.Bool.{false≢true}
 use Rattle.std.proofs.lemmas.Map.Entries.{lookup-filter-keys}
 use Rattle.std.proofs.lemmas.List.Sorted.{ranks_by, sorted_far}
 use Rattle.std.proofs.lemmas.Option.{slice_get_past, slice_get_read}
@@ -87,6 +88,23 @@ module _ {K V : Type 0} {cmp : K → K → Ordering} (total : IsTotalOrder cmp) 
   -- the entries below the key stand first
   pub parted : (es : List (K × V)) → IsSortedByKey (λ e. e.0) cmp es → IsPartitionedBy below es
   parted es up i j d le lt low = carried total key (slice_index_or es i d).0 (slice_index_or es j d).0 (rises es up i j d le lt) low
+
+  -- the key's place, seen by the entries before and at it
+  pub place_is : (es : List (K × V)) (i : ℕ) → IsSortedByKey (λ e. e.0) cmp es → i ≤ length es
+      → ((d : K × V) → 0 < i → below (slice_index_or es (i - 1) d) ≡ true)
+      → ((d : K × V) → i < length es → below (slice_index_or es i d) ≡ false)
+      → IsPartitionPoint (λ e. below e ≡ true) (λ e. below e ≡ false) es i
+  place_is es i up within front rest = (before, from)
+    where
+      before : (k : ℕ) (d : K × V) → 0 ≤ k → k < i → below (slice_index_or es k d) ≡ true
+      before k d _ l = parted es up k (i - 1) d (omega (arith, l)) (omega (arith, l, within)) (front d (omega (arith, l)))
+
+      from : (k : ℕ) (d : K × V) → i ≤ k → k < length es → below (slice_index_or es k d) ≡ false
+      from k d le l =
+          elim (below (slice_index_or es k d)) as (λ b. below (slice_index_or es k d) ≡ b → b ≡ false) [
+            | true ↦ λ low. absurd (false≢true (sym (rest d (omega (arith, le, l))) ∙ parted es up i k d le l low))
+            | false ↦ λ _. refl
+          ] refl
 
   -- the key is not found behind a key above
   beyond : (a : K) → cmp a key ≡ Greater → (es : List (K × V)) → ((k : ℕ) (d : K × V) → k < length es → is_lt (cmp (slice_index_or es k d).0 a) ≡ false) → value_at cmp es key ≡ None

@@ -5,7 +5,7 @@ use Rattle.lab_table.specs.Row.{Row}
 use Rattle.lab_table.specs.TableName.{test_name}
 use Rattle.lab_history.specs.Member.{Key, plain, full, with_key, row_in}
 use Rattle.lab_history.specs.Entries.{txn_in_number, value_in, written_in}
-use Rattle.lab_history.specs.FileOf.{outcome_text, AreEach, IsListOf, IsPair, IsVersion, IsInstalled, SpellsIn, IsOperation, IsTransaction, IsFileIn, IsFileOf}
+use Rattle.lab_history.specs.FileOf.{outcome_text, AreEach, IsListOf, IsPair, IsVersion, IsInstalled, IsOperation, IsTransaction, IsFileIn, IsFileOf}
 use Rattle.lab_history.specs.Format.{version_said, history_in}
 use Rattle.lab_history.specs.Lift.{each_item, in_list, lift_member, lift_list, lift_op, lift_txn, lift}
 use Rattle.lab_history.specs.History.{History}

@@ -25,7 +25,7 @@ use std::collections::BTreeSet;
 
 impl History {
     /// The history of these parts, or their first fault in the order of a file's walk, with the parts.
-    /// NoMemory, where a growth was refused, may come in place of any other answer.
+    /// NoMemory, where an allocation was refused, may come in place of any other answer.
     pub fn from_parts(alloc: Global, parts: Parts) -> Result<History, (Parts, FileFault)>
         ensures found { IfOk result (λ history. (history ≡ parts) × (checked parts ≡ Ok tt)) }
         ensures back { IfErr result (λ refused. refused.0 ≡ parts) }

@@ -47,7 +47,7 @@ impl Limit {
 /// Why a file or parts are no history.
 #[derive(Clone, Copy, Debug, PartialEq, Eq, Error)]
 pub enum FileFault {
-    /// A growth was refused.
+    /// An allocation was refused.
     #[error("no memory")]
     NoMemory,
     /// The bytes are no JSON text.
@@ -98,7 +98,7 @@ impl<T: Drop> From<AllocFailed<T>> for FileFault {
 /// Why a history has no file.
 #[derive(Clone, Copy, Debug, PartialEq, Eq, Error)]
 pub enum WriteFault {
-    /// A growth was refused.
+    /// An allocation was refused.
     #[error("no memory")]
     NoMemory,
     /// The text would have more than 8,388,608 bytes.

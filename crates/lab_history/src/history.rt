@@ -38,7 +38,7 @@ impl Model for History {
 }
 
 impl History {
-    /// The history of these parts; NoMemory, with the parts as they were, where a growth was refused.
+    /// The history of these parts; NoMemory, with the parts as they were, where an allocation was refused.
     pub(crate) fn assembled(alloc: Global, parts: Parts) -> Result<History, (Parts, NoMemory)>
         requires { Keeps parts }
         ensures ok { IfOk result (λ history. history ≡ parts) }

@@ -8,7 +8,8 @@
 //!
 //! A version of a row is named by the operation that wrote it ([`VersionName`]). `History::version_state` answers what
 //! a version is, `last_write` a transaction's last operation that wrote a row, and `installer_place` the place of a
-//! transaction among those that installed a row; each is found by halving.
+//! transaction among those that installed a row; each is found by halving. `last_write_near` and `installer_place_near`
+//! answer the same, and are told by a [`Hint`] where to look first.
 //!
 //! A file or parts that are refused name their first fault, a [`FileFault`], whose [`Path`] leads to the value that is
 //! wrong. Want of memory may come in place of any other answer, and leaves parts as they were.
@@ -19,6 +20,7 @@ mod entry;
 mod equality;
 mod fault;
 mod file_version;
+mod hint;
 mod history;
 mod ids;
 mod index;
@@ -40,6 +42,7 @@ mod txn_row;
 mod writing;
 
 pub use fault::{FileFault, Limit, WriteFault};
+pub use hint::Hint;
 pub use history::History;
 pub use laws::{
     faults_are_true, history_is_read_from_its_file, last_write_is_the_greatest, place_is_the_first,

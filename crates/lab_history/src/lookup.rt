@@ -7,6 +7,7 @@ ghost use Rattle.std.specs.FinMap as map;
 ghost use Rattle.lab_history.specs.Version.{find_txn, op_at, version_state, last_write, ops_of, installers, place_in};
 ghost use Rattle.lab_history.specs.VersionName.{state_value};
 
+use crate::hint::Hint;
 use crate::history::History;
 use crate::operation::{Op, State, VersionName};
 use crate::transaction::Txn;
@@ -45,6 +46,24 @@ impl History {
         ensures { result ≡ place_in (installers self.now row) txn }
     {
         self.index().places.get(TxnRow { txn, row })
+    }
+
+    /// What `last_write` answers. It is found without halving where look-ups come in runs, of rising rows of one
+    /// transaction or of one row of transactions that follow each other, each with the hint that the one before left.
+    #[inline(always)]
+    pub fn last_write_near(&self, txn: TxnNo, row: RowName, hint: &mut Hint) -> Option<u32>
+        ensures { result ≡ last_write (ops_of self.now txn) row }
+    {
+        self.index().last_writes.get_near(TxnRow { txn, row }, hint)
+    }
+
+    /// What `installer_place` answers. It is found without halving where look-ups come in runs, of rising rows of one
+    /// transaction or of one row of transactions that follow each other, each with the hint that the one before left.
+    #[inline(always)]
+    pub fn installer_place_near(&self, row: RowName, txn: TxnNo, hint: &mut Hint) -> Option<usize>
+        ensures { result ≡ place_in (installers self.now row) txn }
+    {
+        self.index().places.get_near(TxnRow { txn, row }, hint)
     }
 
     fn initial_state(&self, row: RowName) -> State

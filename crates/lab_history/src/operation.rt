@@ -153,7 +153,7 @@ impl View {
         self.by_row.get(row)
     }
 
-    /// A copy; NoMemory where a growth was refused.
+    /// A copy; NoMemory where an allocation was refused.
     pub fn copy(&self, alloc: Global) -> Result<View, NoMemory>
         ensures { IfOk result (λ copy. copy ≡ self.now) }
     {
@@ -201,7 +201,7 @@ impl Rows {
         self.by_row.get(row)
     }
 
-    /// A copy; NoMemory where a growth was refused.
+    /// A copy; NoMemory where an allocation was refused.
     pub fn copy(&self, alloc: Global) -> Result<Rows, NoMemory>
         ensures { IfOk result (λ copy. copy ≡ self.now) }
     {
@@ -248,7 +248,7 @@ impl Writes {
         value_of(&self.entries, row).copied()
     }
 
-    /// A copy; NoMemory where a growth was refused.
+    /// A copy; NoMemory where an allocation was refused.
     pub fn copy(&self, alloc: Global) -> Result<Writes, NoMemory>
         ensures { IfOk result (λ copy. copy ≡ self.now) }
     {
@@ -275,7 +275,7 @@ impl Ops {
 }
 
 impl Op {
-    /// A copy; NoMemory where a growth was refused.
+    /// A copy; NoMemory where an allocation was refused.
     pub fn copy(&self, alloc: Global) -> Result<Op, NoMemory>
         ensures { IfOk result (λ copy. copy ≡ self.now) }
     {

@@ -13,7 +13,7 @@ const MAX_BYTES: usize = 64;
 
 impl Path {
     /// The place as a JSON pointer, as `/transactions/0/ops/2/view/1`; the root is `/`.
-    /// NoMemory where a growth was refused.
+    /// NoMemory where an allocation was refused.
     pub fn print(&self, alloc: Global) -> Result<Vec<u8>, NoMemory>
         ensures { IfOk result (λ text. text.items ≡ path_text self.now) }
     {

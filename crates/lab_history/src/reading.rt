@@ -118,7 +118,7 @@ fn history_in_file(alloc: Global, bytes: &[u8]) -> Result<History, Refusal>
 }
 
 /// The history that a file holds, or the first fault in the order of the file: `OverLimit` of its bytes, `NotJson`,
-/// what is wrong with its parts, and at last `OverLimit` of ids and then of entries. `NoMemory` where a growth was
+/// what is wrong with its parts, and at last `OverLimit` of ids and then of entries. `NoMemory` where an allocation was
 /// refused.
 #[tactic(auto, using(crate::proofs::TextFaults::no_text_fault, crate::proofs::FaultsAreTrue::fault_is_true))]
 pub fn read_history(alloc: Global, bytes: &[u8]) -> Result<History, FileFault>

@@ -42,7 +42,7 @@ fn parts_json(alloc: Global, parts: &Parts) -> Result<Json, NoMemory>
 /// The file of a history, of version 2: compact JSON with the keys of each object in the order of their bytes, without
 /// a newline.
 ///
-/// TooLong where the text would have more than [`MAX_FILE_BYTES`]; NoMemory where a growth was refused.
+/// TooLong where the text would have more than [`MAX_FILE_BYTES`]; NoMemory where an allocation was refused.
 #[tactic(auto, using(crate::proofs::WritableTree::tree_whole, crate::proofs::WritableTree::tree_flat, crate::proofs::FileIsRead::file_is_read))]
 pub fn write_history(alloc: Global, history: &History) -> Result<Vec<u8>, WriteFault>
     ensures text { IfOk result (λ text. text.items ≡ compact_text (tree_of history.now)) }

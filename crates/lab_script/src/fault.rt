@@ -40,7 +40,7 @@ pub enum ScriptFaultKind {
 /// Why a text is no script.
 #[derive(Clone, Copy, Debug, PartialEq, Eq, Error)]
 pub enum ScriptFault {
-    /// A growth was refused.
+    /// An allocation was refused.
     #[error("no memory")]
     NoMemory,
     /// The first faulty line, counted from 1, and what is wrong with it.
@@ -96,7 +96,7 @@ impl ScriptFaultKind {
 }
 
 /// The line that tells a fault, as `line 3: NoSession` and a newline; nothing for want of memory.
-/// NoMemory where a growth was refused.
+/// NoMemory where an allocation was refused.
 pub fn print_script_fault(alloc: Global, fault: &ScriptFault) -> Result<Vec<u8>, NoMemory>
     ensures { IfOk result (λ text. text.items ≡ fault_text fault.now) }
 {

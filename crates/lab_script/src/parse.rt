@@ -21,7 +21,7 @@ use bstr::ByteSlice;
 use std::alloc::Global;
 
 /// The script that a text spells: the setup, then lines of statements with a session in their remarks.
-/// The first faulty line in the text and what is wrong with it, or NoMemory where a growth was refused.
+/// The first faulty line in the text and what is wrong with it, or NoMemory where an allocation was refused.
 /// A text that ends before its setup has NoSetup, at one more than the number of its lines.
 pub fn parse_script(alloc: Global, text: &[u8]) -> Result<Script, ScriptFault>
     ensures found { IfOk result (λ script. Spells text.now script) }

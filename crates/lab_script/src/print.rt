@@ -22,7 +22,7 @@ use thiserror::Error;
 /// Why a value has no printed text.
 #[derive(Clone, Copy, Debug, PartialEq, Eq, Error)]
 pub enum PrintFault {
-    /// A growth was refused.
+    /// An allocation was refused.
     #[error("no memory")]
     NoMemory,
     /// More than 16 parentheses and `not`s of a statement would be open at one place.
@@ -49,7 +49,7 @@ impl From<AllocError> for PrintFault {
 }
 
 /// A statement in printed form, if that keeps the limits of a text.
-/// TooDeep comes before TooLong; NoMemory where a growth was refused.
+/// TooDeep comes before TooLong; NoMemory where an allocation was refused.
 pub fn print_statement(alloc: Global, statement: &Statement) -> Result<Vec<u8>, PrintFault>
     ensures text { IfOk result (λ text. text.items ≡ printed_statement statement.now) }
     // What is printed is read as the same statement again.
@@ -69,7 +69,8 @@ pub fn print_statement(alloc: Global, statement: &Statement) -> Result<Vec<u8>, 
 }
 
 /// A script in printed form, if that keeps the limits of a text; each line ends with a newline.
-/// TooDeep, TooLong and TooManyTables only where the text would break that limit; NoMemory where a growth was refused.
+/// TooDeep, TooLong and TooManyTables only where the text would break that limit; NoMemory where an allocation was
+/// refused.
 pub fn print_script(alloc: Global, script: &Script) -> Result<Vec<u8>, PrintFault>
     ensures text { IfOk result (λ text. text.items ≡ printed_script script.now) }
     // What is printed is read as the same script again, its commands on lines 2, 3 and so on.
@@ -117,8 +118,8 @@ pub fn check_statement(statement: &Statement) -> Result<(), PrintFault>
 }
 
 /// Appends a command in printed form, if that keeps the limits of a text.
-/// TooDeep and TooLong only where it breaks that limit; NoMemory where a growth was refused, and then part of the text
-/// may stand there.
+/// TooDeep and TooLong only where it breaks that limit; NoMemory where an allocation was refused, and then part of the
+/// text may stand there.
 pub fn put_printable(out: &mut Vec<u8>, command: &Command) -> Result<(), PrintFault>
     ensures text { OnOk result (out.new.items ≡ out.old.items ++ printed_command command.now) }
     ensures prints { OnOk result (CommandPrints command.now) }

@@ -48,7 +48,7 @@ impl GrammarFault {
 /// Why reading stopped.
 #[derive(Debug, Drop)]
 pub enum Refusal {
-    /// A growth was refused.
+    /// An allocation was refused.
     NoMemory,
     /// The tokens spell nothing of the grammar.
     Fault(GrammarFault),

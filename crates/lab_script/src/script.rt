@@ -55,7 +55,7 @@ impl Lines {
         items
     }
 
-    /// Adds a line at the end; NoMemory where a growth was refused, and then the lines are unchanged.
+    /// Adds a line at the end; NoMemory where an allocation was refused, and then the lines are unchanged.
     pub fn push(&mut self, line: Line) -> Result<(), NoMemory>
         ensures ok { OnOk result (self.new ≡ self.old ++ line ∷ []) }
         ensures err { OnErr result (self.new ≡ self.old) }
@@ -76,7 +76,7 @@ impl Script {
     ghost use Rattle.std.specs.Prelude.{◌≡◌, OnOk};
     ghost use Rattle.lab_script.specs.Script.{extended};
 
-    /// Adds commands of a session from this line of the text; NoMemory where a growth was refused.
+    /// Adds commands of a session from this line of the text; NoMemory where an allocation was refused.
     pub(crate) fn add(
         &mut self,
         session: Session,

@@ -15,7 +15,7 @@ const SESSIONS: usize = 10;
 
 /// Runs a script's transactions one after another, each whole, in the order of their begins.
 /// A begin inside a transaction and any other command outside of one are left out.
-/// NoMemory where a growth was refused.
+/// NoMemory where an allocation was refused.
 pub fn run_serial(alloc: Global, script: &Script) -> Result<Transcript, NoMemory>
     ensures text { IfOk result (λ output. output.text ≡ transcript script.now) }
     ensures unprintable { IfOk result (λ output. output.unprintable ≡ unprintable script.now) }

@@ -39,7 +39,7 @@ fn put_table_name(out: &mut Vec<u8>, table: TableName) -> Result<(), NoMemory>
 }
 
 /// Appends the name of a row: the number of a row of `test`, and the table's name and the number of another, as `stock 1`.
-/// NoMemory where a growth was refused, and then part of it may stand there.
+/// NoMemory where an allocation was refused, and then part of it may stand there.
 pub fn put_row_name(out: &mut Vec<u8>, row: RowName) -> Result<(), NoMemory>
     ensures { OnOk result (out.new.items ≡ out.old.items ++ printed_row_name row) }
 {
@@ -237,7 +237,7 @@ fn write_row(text: &mut [u8; ROW_BYTES], id: RowId, value: Value) -> usize
     write_byte(text, start, b'(')
 }
 
-/// Appends a row. Its text is built first: one growth and one copy for it.
+/// Appends a row. Its text is built first: one allocation and one copy for it.
 fn put_row(out: &mut Vec<u8>, id: RowId, value: Value) -> Result<(), NoMemory>
     ensures { OnOk result (out.new.items ≡ out.old.items ++ printed_row id value) }
 {
@@ -314,7 +314,7 @@ pub fn put_command(out: &mut Vec<u8>, command: &Command) -> Result<(), NoMemory>
 }
 
 /// Appends rows of one table as a list, without the table's name; `none` where there is no row.
-/// NoMemory where a growth was refused, and then part of the list may stand there.
+/// NoMemory where an allocation was refused, and then part of the list may stand there.
 pub fn put_list(out: &mut Vec<u8>, rows: &[(RowName, Value)]) -> Result<(), NoMemory>
     ensures { OnOk result (out.new.items ≡ out.old.items ++ rows_or (codes "none") rows.now) }
 {

@@ -17,7 +17,7 @@ use std::alloc::Global;
 
 /// The statement that a text spells, on its line 1, with or without a `;`.
 /// The text is code of at most 4,000 bytes, without newline or remark.
-/// What is wrong with it, or NoMemory where a growth was refused.
+/// What is wrong with it, or NoMemory where an allocation was refused.
 #[tactic(auto, using(crate::proofs::StatementRead::none_in))]
 pub fn parse_statement(alloc: Global, text: &[u8]) -> Result<Statement, ScriptFault>
     ensures found { IfOk result (λ statement. SpellsStatement text.now statement) }

@@ -376,7 +376,7 @@ fn mark_at(first: u8, after: &[u8]) -> (Token, &[u8])
     }
 }
 
-/// The tokens of a text, with a number past every range as `TOO_LARGE`; NoMemory where a growth was refused.
+/// The tokens of a text, with a number past every range as `TOO_LARGE`; NoMemory where an allocation was refused.
 pub fn tokens_of(alloc: Global, text: &[u8]) -> Result<Vec<Token>, NoMemory>
     ensures { IfOk result (λ found. found.items ≡ held_tokens text.now) }
 {
@@ -386,7 +386,7 @@ pub fn tokens_of(alloc: Global, text: &[u8]) -> Result<Vec<Token>, NoMemory>
 }
 
 /// Puts the tokens of a text, with a number past every range as `TOO_LARGE`, in place of what was found before;
-/// NoMemory where a growth was refused.
+/// NoMemory where an allocation was refused.
 #[tactic(auto, using(crate::proofs::Tokens::comma_begins))]
 pub fn tokens_into(found: &mut Vec<Token>, text: &[u8]) -> Result<(), NoMemory>
     ensures { OnOk result (found.new.items ≡ held_tokens text.now) }

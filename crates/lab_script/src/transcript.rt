@@ -136,7 +136,7 @@ fn limit_broken(statement: &Statement) -> Option<PrintFault>
 }
 
 /// The text of a transcript, if each statement in it keeps the limits of a text.
-/// TooDeep or TooLong as the first that doesn't, depth first; NoMemory where a growth was refused.
+/// TooDeep or TooLong as the first that doesn't, depth first; NoMemory where an allocation was refused.
 pub fn print_transcript(alloc: Global, output: &Transcript) -> Result<Vec<u8>, PrintFault>
     ensures text { IfOk result (λ text. text.items ≡ output.now.text) }
     ensures printed { IfOk result (λ text. output.now.unprintable ≡ None) }

@@ -8,11 +8,11 @@ use Rattle.std.specs.Prelude.{nat_eq}
 use Rattle.std.specs.declared.cmp.Ordering.{Ordering}
 use Rattle.lab_table.specs.Words.{is_reserved}
 
--- a letter in lower case or a low line
+-- a letter in lower case or a underscore
 abbrev pub is_name_letter : ℕ → Bool
 is_name_letter b = is_ascii_lowercase b || b == 95
 
--- whether a text is the name of a table: 1 to 16 letters in lower case and low lines, which are no word of scripts
+-- whether a text is the name of a table: 1 to 16 letters in lower case and underscores, which are no word of scripts
 abbrev pub is_table_name : List ℕ → Bool
 is_table_name text = nat_le 1 (length text) && nat_le (length text) 16 && list_all is_name_letter text && not (is_reserved text)
 

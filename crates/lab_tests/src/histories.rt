@@ -237,8 +237,8 @@ fn parts_that_are_no_history(rt: HostRuntime) -> Result<(), Fail> {
     Ok(())
 }
 
-/// Whether a history is made of parts with a growth refused, or they come back for want of memory; and whether a growth
-/// was refused.
+/// Whether a history is made of parts with an allocation refused, or they come back for want of memory; and whether an
+/// allocation was refused.
 fn tried(alloc: Global, growth: u16, given: &Parts) -> Option<(bool, bool)> {
     let parts = parts(alloc, USUAL)?;
     refuse(alloc, growth);
@@ -250,7 +250,7 @@ fn tried(alloc: Global, growth: u16, given: &Parts) -> Option<(bool, bool)> {
     Some((right, refused))
 }
 
-/// Fails where it isn't so at each growth.
+/// Fails where it isn't so at each allocation.
 fn shows_tried(rt: &impl Abort, alloc: Global, given: &Parts) -> Result<(), &'static str> {
     for growth in 1..1_000u16 {
         let (right, refused) = tried(alloc, growth, given).ok_or("parts")?;

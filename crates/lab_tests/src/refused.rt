@@ -1,5 +1,5 @@
-//! Calls with each of their growths refused in turn: they answer want of memory, and what they would change is as it
-//! was; or, where they could do without, they answer as ever.
+//! Calls with each of their allocations refused in turn: they answer want of memory, and what they would change is as
+//! it was; or, where they could do without, they answer as ever.
 
 use crate::alike::alike_operations;
 use crate::refusal::{refuse, was_refused};
@@ -20,8 +20,8 @@ fn table(alloc: Global, setup: &str) -> Option<Table> {
     Some(setup)
 }
 
-/// Runs a statement on a copy of a table with a growth refused. Whether the copy is as it has to be then, and whether a
-/// growth was refused.
+/// Runs a statement on a copy of a table with an allocation refused. Whether the copy is as it has to be then, and
+/// whether a allocation was refused.
 fn ran(
     alloc: Global,
     growth: u16,
@@ -41,7 +41,7 @@ fn ran(
     Some((right, refused))
 }
 
-/// Fails where it isn't so at each growth.
+/// Fails where it isn't so at each allocation.
 fn shows_runs(
     rt: &impl Abort,
     alloc: Global,
@@ -114,7 +114,7 @@ fn shows_texts(rt: &impl Abort, alloc: Global, before: &Table) -> Result<(), &'s
 
 #[test]
 fn a_table_that_is_refused_memory_is_as_before(rt: HostRuntime) -> Result<(), Fail> {
-    // Four rows, so that a fifth needs a growth.
+    // Four rows, so that a fifth needs an allocation.
     let before = table(rt.alloc(), "setup (1, 10), (2, 20), (3, 30), stock (3, 24)");
     let before = before.ok_or("a setup")?;
     let shown = shows_texts(&rt, rt.alloc(), &before);
@@ -171,7 +171,7 @@ fn printed(alloc: Global, text: &[u8]) -> Result<Vec<u8>, PrintFault> {
     }
 }
 
-/// Whether a text was made with a growth refused, or there was no memory where one was.
+/// Whether a text was made with an allocation refused, or there was no memory where one was.
 fn is_right(made: &Result<Vec<u8>, PrintFault>, expected: &str, refused: bool) -> bool {
     match made {
         Ok(text) => text.as_slice() == expected.as_bytes(),
@@ -179,7 +179,7 @@ fn is_right(made: &Result<Vec<u8>, PrintFault>, expected: &str, refused: bool) -
     }
 }
 
-/// Fails where it isn't so at each growth of a text's printing; of no text, of that of a command's copy.
+/// Fails where it isn't so at each allocation of a text's printing; of no text, of that of a command's copy.
 fn shows_printed(rt: &impl Abort, alloc: Global, command: &Command, text: &str, expected: &str) {
     let mut succeeded = false;
     for growth in 1..2_000u16 {
@@ -277,7 +277,7 @@ fn copied_alike(alloc: Global, copy: &Op, operation: &Op) -> Made {
 }
 
 /// Copies the first transaction's second operation, and looks whether it is alike, for which there is memory again. And
-/// whether a growth was refused.
+/// whether an allocation was refused.
 fn copied_operation(alloc: Global, history: &History) -> (Made, bool) {
     let [first, ..] = history.txns().as_slice() else {
         return (Made::Wrong, false);
@@ -295,7 +295,7 @@ fn copied_operation(alloc: Global, history: &History) -> (Made, bool) {
     (made, refused)
 }
 
-/// One of the three calls, and whether a growth was refused.
+/// One of the three calls, and whether an allocation was refused.
 fn outcome(alloc: Global, history: &History, call: u8) -> (Made, bool) {
     if call == 2 {
         return copied_operation(alloc, history);
@@ -308,7 +308,7 @@ fn outcome(alloc: Global, history: &History, call: u8) -> (Made, bool) {
     (made, was_refused(alloc))
 }
 
-/// Fails where a call isn't right with one of its growths refused, or has no last growth.
+/// Fails where a call isn't right with one of its allocations refused, or has no last allocation.
 fn shows_outcome(rt: &impl Abort, alloc: Global, history: &History, call: u8) {
     let mut succeeded = false;
     for growth in 1..5_000u16 {
