@@ -1,7 +1,7 @@
 -- Where a row comes and goes, found version by version.
-use Rattle.std.proofs.Common.{◌≡◌, ◌⊎◌, ◌<◌, ◌≤◌, ◌-◌, ◌+◌, ℕ, suc, true, false, cond, Some, List, [], ◌∷◌, ◌++◌, length, refl, sym, ap, ◌∙◌, subst, arith, inl, inr}
+use Rattle.std.proofs.Common.{◌≡◌, ◌⊎◌, ◌<◌, ◌≤◌, ◌-◌, ◌+◌, ℕ, suc, Bool, true, false, cond, Some, List, [], ◌∷◌, ◌++◌, length, refl, sym, ap, ◌∙◌, subst, arith, inl, inr}
 use Rattle.std.specs.Prelude.{Contains, slice_get, is_some}
-use Rattle.std.proofs.lemmas.Bool.{cases_eq}
+use Rattle.std.proofs.lemmas.Bool.{cases_eq, false≢true}
 use Rattle.std.proofs.lemmas.List.Elements.{Contains-append_left, Contains-append_right}
 use Rattle.std.proofs.lemmas.Option.{slice_get_within}
 use Rattle.lab_table.proofs.Members.{first_member}
@@ -9,7 +9,12 @@ use Rattle.lab_deps.specs.Edges.{differ}
 use Rattle.lab_deps.specs.Turns.{HasTurns, state_in, turn_at}
 use Rattle.lab_deps.specs.declared.versions.Version.{Version}
 use Rattle.lab_deps.proofs.AtTurns.{less_one}
-use Rattle.lab_deps.proofs.ByPairs.{no_different}
+
+pub no_different : (a b : Bool) → differ a b ≡ false → a ≡ b
+no_different true true none = refl
+no_different false false none = refl
+no_different true false none = absurd (false≢true (sym none))
+no_different false true none = absurd (false≢true (sym none))
 
 -- the turns before a place are among these
 abbrev pub HasTurnsBefore : ℕ → List ℕ → List Version → Type 0

@@ -1,11 +1,11 @@
 -- The kinds between the transactions of a list, read by their places.
-use Rattle.std.proofs.Common.{◌≡◌, ◌↔◌, ℕ, true, Some, List, map, length, sym, ap, ◌∙◌, subst}
+use Rattle.std.proofs.Common.{◌≡◌, ◌↔◌, ◌≤◌, ◌+◌, ◌*◌, ◌==◌, ℕ, Bool, true, false, cond, Some, List, [], map, length, get_or, drop, sym, refl, ap, ◌∙◌, subst, arith}
 use Rattle.std.specs.Prelude.{Contains, slice_get, option_map}
-use Rattle.std.proofs.lemmas.List.{length-map}
+use Rattle.std.proofs.lemmas.List.{length-map, get_or-drop, get_or_past}
 use Rattle.std.proofs.lemmas.Option.{same_Some, slice_get-map}
 use Rattle.lab_table.specs.Row.{Row}
-use Rattle.lab_deps.specs.KindBits.{has_bit, place, bits_at, bits_of, edge_of}
-use Rattle.lab_deps.specs.KindsBetween.{AreKindsTo, AreKindsBetween}
+use Rattle.lab_deps.specs.KindBits.{has_bit, place, bits_at, bits_of, cells_from, column_of, edge_of}
+use Rattle.lab_deps.specs.KindsBetween.{AreKindsTo, IsTold}
 use Rattle.lab_deps.specs.declared.edge.Edge.{Edge}
 use Rattle.lab_deps.specs.declared.edge.Kind.{Kind}
 use Rattle.lab_deps.specs.declared.kinds.Kinds.{Kinds}
@@ -14,28 +14,26 @@ use Rattle.lab_deps.specs.declared.kinds.Kinds.{Kinds}
 made_at : {A B : Type 0} (f : A → B) (xs : List A) (k : ℕ) (x : A) → slice_get xs k ≡ Some x → slice_get (map f xs) k ≡ Some (f x)
 made_at f xs k x here = slice_get-map f xs k ∙ ap (option_map f) here
 
--- the kinds between two places
-abbrev pub kinds_at : ℕ → List ℕ → ℕ → ℕ → Kinds
-kinds_at w cs i j = record { bits = bits_at w cs i j }
+-- in the column of a transaction stand the bits of the kinds to it
+cell_is : (ps : List ℕ) (w : ℕ) (cs : List ℕ) (i n : ℕ) → get_or (cells_from w cs i) (column_of ps cs n) 0 ≡ bits_at w cs i (place ps n)
+cell_is ps w cs i n = at (i == 0) (place ps n == 0)
+  where
+    at : (b c : Bool) → get_or (cond b [] (drop (i * w) cs)) (cond c (length cs) (place ps n)) 0 ≡ cond b 0 (cond c 0 (get_or cs (i * w + place ps n) 0))
+    at true c = get_or_past [] (cond c (length cs) (place ps n)) 0 (omega arith)
+    at false true = get_or-drop (i * w) cs (length cs) 0 ∙ get_or_past cs (i * w + length cs) 0 (omega arith)
+    at false false = get_or-drop (i * w) cs (place ps n) 0
 
-module _ (es : List Edge) (ps : List ℕ) (w : ℕ) (cs : List ℕ)
-    (exact : (from to : ℕ) (kind : Kind) → (has_bit (bits_of ps w cs from to) kind ≡ true) ↔ ((row : Row) × Contains es (edge_of from to kind row))) (numbers : List ℕ) where
-  row_is : (from : ℕ) → AreKindsTo es numbers from (map (kinds_at w cs (place ps from)) (map (place ps) numbers))
+-- the kinds from a place in one of some columns
+abbrev pub kinds_in : ℕ → List ℕ → ℕ → ℕ → Kinds
+kinds_in w cs i column = record { bits = get_or (cells_from w cs i) column 0 }
+
+module _ (es : List Edge) (numbers ps : List ℕ) (w : ℕ) (cs columns : List ℕ) (told : IsTold es numbers ps w cs columns) where
+  pub row_is : (from : ℕ) → AreKindsTo es numbers from (map (kinds_in w cs (place ps from)) columns)
   row_is from = record {
-    size = length-map (map (place ps) numbers) (kinds_at w cs (place ps from)) ∙ length-map numbers (place ps);
+    size = length-map columns (kinds_in w cs (place ps from)) ∙ (ap length told.columns ∙ length-map numbers (column_of ps cs));
     exact = λ k to kinds here there kind.
-        let made = made_at (kinds_at w cs (place ps from)) (map (place ps) numbers) k (place ps to) (made_at (place ps) numbers k to here) in
-        let is : kinds ≡ kinds_at w cs (place ps from) (place ps to) = same_Some kinds (kinds_at w cs (place ps from) (place ps to)) (sym there ∙ made) in
-        subst (λ (s : Kinds). (has_bit s.bits kind ≡ true) ↔ ((row : Row) × Contains es (edge_of from to kind row))) (sym is) (exact from to kind);
-  }
-
-  abbrev row_of : ℕ → List Kinds
-  row_of i = map (kinds_at w cs i) (map (place ps) numbers)
-
-  pub rows_are : AreKindsBetween es numbers (map row_of (map (place ps) numbers))
-  rows_are = record {
-    size = length-map (map (place ps) numbers) row_of ∙ length-map numbers (place ps);
-    exact = λ k from all here there.
-        let made = made_at row_of (map (place ps) numbers) k (place ps from) (made_at (place ps) numbers k from here) in
-        subst (AreKindsTo es numbers from) (sym (same_Some all (row_of (place ps from)) (sym there ∙ made))) (row_is from);
+        let column : slice_get columns k ≡ Some (column_of ps cs to) = ap (λ l. slice_get l k) told.columns ∙ made_at (column_of ps cs) numbers k to here in
+        let made = made_at (kinds_in w cs (place ps from)) columns k (column_of ps cs to) column in
+        let is : kinds ≡ kinds_in w cs (place ps from) (column_of ps cs to) = same_Some kinds (kinds_in w cs (place ps from) (column_of ps cs to)) (sym there ∙ made) in
+        subst (λ b. (has_bit b kind ≡ true) ↔ ((row : Row) × Contains es (edge_of from to kind row))) (sym (ap (λ (s : Kinds). s.bits) is ∙ cell_is ps w cs (place ps from) to)) (told.exact from to kind);
   }

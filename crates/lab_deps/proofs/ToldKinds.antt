@@ -46,7 +46,7 @@ bit_set c k = eq-eqb (bit_and (bit_or c (bit k)) (bit k)) (bit k) (and_or_self (
 pub bit_other : (c : ℕ) (k j : Kind) → bit_and (bit k) (bit j) ≡ 0 → has_bit (bit_or c (bit k)) j ≡ has_bit c j
 bit_other c k j off = ap (λ x. x == bit j) (and_or_apart (bit j) c (bit k) off)
 
-bit_kept : (c : ℕ) (k j : Kind) → has_bit c j ≡ true → has_bit (bit_or c (bit k)) j ≡ true
+pub bit_kept : (c : ℕ) (k j : Kind) → has_bit c j ≡ true → has_bit (bit_or c (bit k)) j ≡ true
 bit_kept c k j has =
     elim (kinds_apart k j) [
       | inl same ↦ subst (λ i. has_bit (bit_or c (bit k)) i ≡ true) same (bit_set c k)

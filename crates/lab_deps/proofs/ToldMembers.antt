@@ -6,7 +6,7 @@ use Rattle.lab_deps.specs.EdgesByRow.{HasMembersOf}
 use Rattle.lab_deps.specs.KindBits.{edge_of, Tells}
 use Rattle.lab_deps.specs.declared.edge.Edge.{Edge}
 
-after_same : (es fs gs : List Edge) → ((e : Edge) → Contains fs e → Contains gs e) → (e : Edge) → Contains (es ++ fs) e → Contains (es ++ gs) e
+pub after_same : (es fs gs : List Edge) → ((e : Edge) → Contains fs e → Contains gs e) → (e : Edge) → Contains (es ++ fs) e → Contains (es ++ gs) e
 after_same es fs gs same e has =
     elim (Contains-append_cases es fs e has) [
       | inl before ↦ Contains-append_left es gs e before

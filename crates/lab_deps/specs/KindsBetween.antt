@@ -1,7 +1,7 @@
 -- The kinds of dependencies between the transactions of a list, by their places there.
-use Rattle.std.specs.Prelude.{◌≡◌, ◌↔◌, ℕ, Some, true, List, length, slice_get, Contains}
+use Rattle.std.specs.Prelude.{◌≡◌, ◌↔◌, ℕ, Some, true, List, map, length, slice_get, Contains}
 use Rattle.lab_table.specs.Row.{Row}
-use Rattle.lab_deps.specs.KindBits.{has_bit, edge_of}
+use Rattle.lab_deps.specs.KindBits.{has_bit, bits_of, column_of, edge_of}
 use Rattle.lab_deps.specs.declared.edge.Edge.{Edge}
 use Rattle.lab_deps.specs.declared.edge.Kind.{Kind}
 use Rattle.lab_deps.specs.declared.kinds.Kinds.{Kinds}
@@ -20,7 +20,7 @@ pub record AreKindsTo (es : List Edge) (numbers : List ℕ) (from : ℕ) (all : 
   pub size : length all ≡ length numbers
   pub exact : (place to : ℕ) (kinds : Kinds) → slice_get numbers place ≡ Some to → slice_get all place ≡ Some kinds → AreKinds es from to kinds
 
--- and these those from each of the list
-pub record AreKindsBetween (es : List Edge) (numbers : List ℕ) (rows : List (List Kinds)) : Type 0 where
-  pub size : length rows ≡ length numbers
-  pub exact : (place from : ℕ) (all : List Kinds) → slice_get numbers place ≡ Some from → slice_get rows place ≡ Some all → AreKindsTo es numbers from all
+-- cells tell of each two transactions which kinds there are, and the columns are those of the list's transactions
+pub record IsTold (es : List Edge) (numbers ps : List ℕ) (w : ℕ) (cs all : List ℕ) : Type 0 where
+  pub exact : (from to : ℕ) (kind : Kind) → (has_bit (bits_of ps w cs from to) kind ≡ true) ↔ ((row : Row) × Contains es (edge_of from to kind row))
+  pub columns : all ≡ map (column_of ps cs) numbers

@@ -1,21 +1,21 @@
 //! Which kinds of dependencies there are between the transactions of a history.
 
-ghost use Rattle.std.specs.Prelude.{◌≡◌, ◌≢◌, ◌↔◌, ◌+◌, ◌*◌, ℕ, true, [], get_or, set, bit_or, Contains, IfOk};
-ghost use Rattle.lab_table.specs.Row.{Row};
+ghost use Rattle.std.specs.Prelude.{◌≡◌, ◌≢◌, ◌<◌, ◌+◌, ◌*◌, ◌++◌, ◌∷◌, [], true, ℕ, List, get_or, set, bit_or, Contains, IfOk};
 ghost use Rattle.lab_history.specs.declared.transaction.Txn.{Txn as Transaction};
-ghost use Rattle.lab_deps.specs.EdgesByRow.{rows_of};
-ghost use Rattle.lab_deps.specs.KindBits.{bit, has_bit, place, bits_at, bits_of, edge_of, Tells};
-ghost use Rattle.lab_deps.specs.Scopes.{Allows, edges_in};
-ghost use Rattle.lab_deps.specs.declared.edge.Kind.{Kind as Way};
+ghost use Rattle.lab_deps.specs.CellGains.{CellsGain, IsBetween, IsOfSet, IsOfTable, IsOfTableAt};
+ghost use Rattle.lab_sets.specs.Sets.{has};
+ghost use Rattle.lab_deps.specs.KindBits.{bit, has_bit, place, bits_at, bits_of, Tells};
+ghost use Rattle.lab_deps.specs.Numbering.{HasPlaces};
+ghost use Rattle.lab_deps.specs.declared.edge.Edge.{Edge as Spelled};
+
+mod row;
 
 use crate::edge::{Edge, Kind};
-use crate::scope::{Scope, add_edges};
-use crate::sink::EdgeSink;
-use crate::txn_places::places_of;
-use crate::versions::Versions;
-use indexmap::IndexMap;
+use crate::set_table::SetTable;
+use crate::txn_places::{place_in, places_of};
 use lab_history::History;
-use lab_table::{NoMemory, RowName, TxnNo};
+use lab_sets::NumberSet;
+use lab_table::{NoMemory, TxnNo};
 use std::alloc::Global;
 
 /// Which kinds of dependencies there are between each two transactions.
@@ -29,27 +29,11 @@ pub struct Arrows {
     cells: Vec<u8>,
 }
 
-/// The kinds of those dependencies of a history that are meant. NoMemory where a growth was refused.
-pub fn arrows_of(
-    alloc: Global,
-    history: &History,
-    scope: Scope,
-    rows: &IndexMap<RowName, Versions>,
-) -> Result<Arrows, NoMemory>
-    requires allowed { Allows scope history.now }
-    requires versions { rows.now.entries ≡ rows_of history.now }
-    ensures { IfOk result (λ arrows. (from to : ℕ) (kind : Way) →
-        has_bit (bits_of arrows.places.items arrows.width arrows.cells.items from to) kind ≡ true ↔ ((row : Row) × Contains (edges_in scope history.now) (edge_of from to kind row))) }
-{
-    let mut arrows = Arrows::none(alloc, history)?;
-    add_edges(&mut arrows, history, scope, rows)?;
-    Ok(arrows)
-}
-
 impl Arrows {
     /// No dependencies between a history's transactions. NoMemory where a growth was refused.
-    fn none(alloc: Global, history: &History) -> Result<Arrows, NoMemory>
+    pub fn none(alloc: Global, history: &History) -> Result<Arrows, NoMemory>
         ensures told { IfOk result (λ arrows. Tells arrows.places.items arrows.width arrows.cells.items arrows.places.items []) }
+        ensures places { IfOk result (λ arrows. HasPlaces history.now arrows.places.items) }
         ensures placed { IfOk result (λ arrows. (t : Transaction) → Contains history.now.txns t → place arrows.places.items t.no ≢ 0) }
     {
         let txns = history.txns().as_slice();
@@ -100,10 +84,7 @@ impl Arrows {
     pub fn place(&self, number: TxnNo) -> u16
         ensures { result ≡ place self.now.places.items number }
     {
-        self.places
-            .get(number.number() as usize)
-            .copied()
-            .unwrap_or(0)
+        place_in(&self.places, number)
     }
 
     /// Where the cell of two places stands.
@@ -119,6 +100,105 @@ impl Arrows {
         self.cells.get(at).copied().unwrap_or(0)
     }
 
+    /// One more than there are places.
+    pub fn width(&self) -> u16
+        ensures { result ≡ self.now.width }
+    {
+        self.width
+    }
+
+    /// Sets the bit of a kind in the cells between each place and those that its set has, of which it is the first or the
+    /// second.
+    pub fn add_table(&mut self, table: &SetTable, kind: Kind, first: bool)
+        ensures places { self.new.places.items ≡ self.old.places.items }
+        ensures width { self.new.width ≡ self.old.width }
+        ensures cells { CellsGain self.old.width (IsOfTable kind first table.now self.old.width) self.old.cells.items self.new.cells.items }
+    {
+        for one in 0..self.width {
+            self.add_at(table, one, kind, first);
+        }
+    }
+
+    /// The same of one place.
+    fn add_at(&mut self, table: &SetTable, one: u16, kind: Kind, first: bool)
+        requires { one < self.old.width }
+        ensures places { self.new.places.items ≡ self.old.places.items }
+        ensures width { self.new.width ≡ self.old.width }
+        ensures cells { CellsGain self.old.width (IsOfTableAt kind first table.now self.old.width one) self.old.cells.items self.new.cells.items }
+    {
+        match table.get(one) {
+            None => (),
+            Some(set) => self.add_set(set, one, kind, first),
+        }
+    }
+
+    /// The same of one place and its set.
+    fn add_set(&mut self, set: &NumberSet, one: u16, kind: Kind, first: bool)
+        requires { one < self.old.width }
+        ensures places { self.new.places.items ≡ self.old.places.items }
+        ensures width { self.new.width ≡ self.old.width }
+        ensures cells { CellsGain self.old.width (IsOfSet kind first set.now self.old.width one) self.old.cells.items self.new.cells.items }
+    {
+        for other in 0..self.width {
+            self.mark_in(set, one, other, kind, first);
+        }
+    }
+
+    /// The same of one place and another one.
+    fn mark_in(&mut self, set: &NumberSet, one: u16, other: u16, kind: Kind, first: bool)
+        requires one { one < self.old.width }
+        requires other { other < self.old.width }
+        ensures places { self.new.places.items ≡ self.old.places.items }
+        ensures width { self.new.width ≡ self.old.width }
+        ensures cells { CellsGain self.old.width (λ i j k. (has set.now other ≡ true) × IsBetween kind first one other i j k) self.old.cells.items self.new.cells.items }
+    {
+        if !set.has(other as u32) {
+            return;
+        }
+        self.mark_between(one, other, kind, first);
+    }
+
+    /// Sets the bit of a kind in the cell between two places, if these aren't the same. The one is the first or the second.
+    fn mark_between(&mut self, one: u16, other: u16, kind: Kind, first: bool)
+        requires one { one < self.old.width }
+        requires other { other < self.old.width }
+        ensures places { self.new.places.items ≡ self.old.places.items }
+        ensures width { self.new.width ≡ self.old.width }
+        ensures cells { CellsGain self.old.width (IsBetween kind first one other) self.old.cells.items self.new.cells.items }
+    {
+        if one == other {
+            return;
+        }
+        if first {
+            self.mark_pair(one, other, kind);
+            return;
+        }
+        self.mark_pair(other, one, kind);
+    }
+
+    /// Sets the bit of a kind in the cell of two places.
+    fn mark_pair(&mut self, from: u16, to: u16, kind: Kind)
+        requires from { from < self.old.width }
+        requires to { to < self.old.width }
+        ensures places { self.new.places.items ≡ self.old.places.items }
+        ensures width { self.new.width ≡ self.old.width }
+        ensures cells { CellsGain self.old.width (λ i j k. (k ≡ kind) × (i ≡ from) × (j ≡ to)) self.old.cells.items self.new.cells.items }
+    {
+        let at = self.at(from, to);
+        self.mark(at, kind);
+    }
+
+    /// Sets an edge's bit.
+    pub fn mark_edge(&mut self, edge: Edge)
+        ensures places { self.new.places.items ≡ self.old.places.items }
+        ensures width { self.new.width ≡ self.old.width }
+        ensures told { (made : List ℕ) (es : List Spelled) → Tells self.old.places.items self.old.width self.old.cells.items made es
+            → Tells self.old.places.items self.old.width self.new.cells.items made (es ++ edge ∷ []) }
+    {
+        let at = self.at(self.place(edge.from), self.place(edge.to));
+        self.mark(at, edge.kind);
+    }
+
     /// Sets the bit of a kind in a cell.
     fn mark(&mut self, at: usize, kind: Kind)
         ensures places { self.new.places.items ≡ self.old.places.items }
@@ -128,17 +208,6 @@ impl Arrows {
         if at < self.cells.len() {
             self.cells[at] |= bit(kind);
         }
-    }
-}
-
-/// Keeps of each edge its kind.
-impl EdgeSink for Arrows {
-    ghost handed = { λ a made es. Tells a.places.items a.width a.cells.items made es };
-
-    fn take(&mut self, edge: Edge) -> Result<(), NoMemory> {
-        let at = self.at(self.place(edge.from), self.place(edge.to));
-        self.mark(at, edge.kind);
-        Ok(())
     }
 }
 

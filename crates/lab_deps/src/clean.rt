@@ -13,6 +13,7 @@ ghost use Rattle.lab_deps.specs.Passes as pass;
 
 use crate::due::{lists_due, writes_due};
 use crate::fine::sees_fine;
+use crate::lookup::Hints;
 use lab_history::{History, Op, Outcome, Txn, VersionName};
 use lab_table::{RowName, TxnNo};
 
@@ -45,9 +46,10 @@ fn are_clean(history: &History, txn: TxnNo, ops: &[Op]) -> bool
     requires few { length ops.now ≤ max_operations }
     ensures { result ≡ true → fine.AreClean history.now txn ops.now }
 {
+    let mut hints = Hints::new();
     let mut known: &[(RowName, VersionName)] = &[];
     for (index, op) in ops.iter().enumerate() {
-        if !is_clean_op(history, txn, index as u32 + 1, known, op) {
+        if !is_clean_op(history, txn, index as u32 + 1, known, op, &mut hints) {
             return false;
         }
         known = op.view.entries();
@@ -62,6 +64,7 @@ fn is_clean_op(
     number: u32,
     known: &[(RowName, VersionName)],
     op: &Op,
+    hints: &mut Hints,
 ) -> bool
     requires committed { IsCommitted history.now txn }
     requires sorted { T (map.is_sorted row_cmp known.now) }
@@ -69,7 +72,7 @@ fn is_clean_op(
     ensures clean { result ≡ true → fine.IsCleanOp history.now txn number op.now }
     ensures known { result ≡ true → (row : Row) (v : Named) → map.get op.now.view row ≡ Some v → fine.is_fine history.now txn (number + 1) row v ≡ true }
 {
-    if !sees_fine(history, txn, number, known, op) {
+    if !sees_fine(history, txn, number, known, op, hints) {
         return false;
     }
     if !lists_due(history, op) {

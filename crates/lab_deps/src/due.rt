@@ -10,11 +10,12 @@ ghost use Rattle.lab_deps.specs.Passes as pass;
 ghost use Rattle.lab_deps.specs.declared.kind.OpFault.TheVariants as kind;
 
 use crate::broken::{is_extra, is_unlisted, viewed};
-use crate::effect::{change_differs, is_same, state_of};
+use crate::effect::{change_differs, is_same, state_near, state_of};
 use crate::kind::OpFault;
 use crate::near::value_near;
 use crate::passes::broken_row;
 use crate::relevant_rows::only_row;
+use crate::span::within;
 use crate::unlisted::unlisted_row;
 use lab_history::{History, Op, State};
 use lab_table::{RowName, Statement, TxnNo, Value};
@@ -52,13 +53,13 @@ fn lists_seen(history: &History, op: &Op) -> bool
     ensures { result ≡ true → (n k : ℕ) → pass.seen_row kind.RowsDiffer history.now n k op.now ≡ None }
 {
     let mut near = 0;
+    let mut written = 0;
     let entries = op.view.entries();
     for entry in entries {
         let found = value_near(op.rows.entries(), near, entry.0);
         near = found.1.wrapping_add(1);
-        let due = op
-            .statement
-            .listed(entry.0, state_of(history, entry.0, entry.1));
+        let state = state_near(history, entry.0, entry.1, &mut written);
+        let due = op.statement.listed(entry.0, state);
         if !is_same(found.0, due) {
             return false;
         }
@@ -92,12 +93,12 @@ fn lists_unseen(history: &History, op: &Op) -> bool
     }
 }
 
-/// The same, where all rows are looked at.
+/// The same, where all rows between the statement's bounds are looked at.
 fn lists_initial(history: &History, op: &Op) -> bool
     ensures { result ≡ true → pass.first_value (test.is_unlisted op.now) (map.entries history.now.initial) ≡ None }
 {
     let mut near = 0;
-    let entries = history.initial().rows();
+    let entries = within(&op.statement, history.initial().rows());
     for entry in entries {
         if op.statement.matches(entry.0, Some(entry.1)) {
             let found = value_near(op.view.entries(), near, entry.0);

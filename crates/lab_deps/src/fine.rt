@@ -10,7 +10,7 @@ ghost use Rattle.lab_deps.specs.Fine as fine;
 ghost use Rattle.lab_deps.specs.Passes.{first_value};
 
 use crate::broken::precedes;
-use crate::lookup::{is_last, version_state};
+use crate::lookup::{Hints, is_last, version_state_near};
 use crate::near::value_near;
 use lab_history::{History, Op, VersionName};
 use lab_table::{RowName, TxnNo};
@@ -23,6 +23,7 @@ pub fn sees_fine(
     number: u32,
     known: &[(RowName, VersionName)],
     op: &Op,
+    hints: &mut Hints,
 ) -> bool
     requires sorted { T (map.is_sorted row_cmp known.now) }
     requires known { (row : Row) (v : Named) → map.find row_cmp row known.now ≡ Some v → fine.is_fine history.now txn number row v ≡ true }
@@ -33,7 +34,7 @@ pub fn sees_fine(
     for entry in entries {
         let found = value_near(known, near, entry.0);
         near = found.1.wrapping_add(1);
-        if !(is_same(found.0, entry.1) || is_fine(history, txn, number, entry.0, entry.1)) {
+        if !(is_same(found.0, entry.1) || is_fine(history, txn, number, entry.0, entry.1, hints)) {
             return false;
         }
     }
@@ -57,27 +58,43 @@ pub fn is_same(found: Option<VersionName>, version: VersionName) -> bool
 }
 
 /// Whether a version is found to be one that an operation of a transaction may see.
-fn is_fine(history: &History, reader: TxnNo, number: u32, row: RowName, seen: VersionName) -> bool
+fn is_fine(
+    history: &History,
+    reader: TxnNo,
+    number: u32,
+    row: RowName,
+    seen: VersionName,
+    hints: &mut Hints,
+) -> bool
     ensures { result ≡ true → fine.is_fine history.now reader number row seen ≡ true }
 {
     match seen {
         VersionName::Initial => true,
         VersionName::Of { txn, op } => {
             if txn == reader {
-                op < number && version_state(history, row, seen).is_some()
+                op < number && version_state_near(history, row, seen, &mut hints.written).is_some()
             } else {
-                is_last(history, txn, op, row) && is_clear(history, reader, txn, row)
+                is_last(history, txn, op, row, hints) && is_clear(history, reader, txn, row, hints)
             }
         }
     }
 }
 
 /// Whether a transaction doesn't stand before another one among a row's installers.
-fn is_clear(history: &History, reader: TxnNo, writer: TxnNo, row: RowName) -> bool
+fn is_clear(
+    history: &History,
+    reader: TxnNo,
+    writer: TxnNo,
+    row: RowName,
+    hints: &mut Hints,
+) -> bool
     ensures { result ≡ fine.is_clear history.now reader writer row }
 {
-    match history.installer_place(row, reader) {
+    match history.installer_place_near(row, reader, &mut hints.own) {
         None => true,
-        Some(place) => !precedes(Some(place), history.installer_place(row, writer)),
+        Some(place) => !precedes(
+            Some(place),
+            history.installer_place_near(row, writer, &mut hints.seen),
+        ),
     }
 }

@@ -2,13 +2,40 @@
 
 ghost use Rattle.std.specs.Prelude.{◌≡◌, true, option_map};
 ghost use Rattle.std.specs.Option.{option_copied};
+ghost use Rattle.std.specs.FinMap as map;
 ghost use Rattle.lab_history.specs.Version.{find_txn, op_at, version_state, last_write, ops_of, WritesAt};
 ghost use Rattle.lab_history.specs.VersionName.{state_value};
 ghost use Rattle.lab_deps.specs.Passes.{is_at};
 ghost use Rattle.lab_deps.specs.Fine.{is_last};
 
-use lab_history::{History, Op, Outcome, State, Txn, VersionName};
+use crate::near::value_near;
+use lab_history::{Hint, History, Op, Outcome, State, Txn, VersionName};
 use lab_table::{RowName, TxnNo};
+
+/// Where the next look-ups are likely to find what they look for.
+#[derive(Clone, Copy)]
+pub struct Hints {
+    /// The places of a reader among installers.
+    pub own: Hint,
+    /// The places of those whose versions it sees.
+    pub seen: Hint,
+    /// Last writes.
+    pub last: Hint,
+    /// The place of a row among what an operation writes.
+    pub written: usize,
+}
+
+impl Hints {
+    /// The hints for the first look-ups.
+    pub fn new() -> Hints {
+        Hints {
+            own: Hint::new(),
+            seen: Hint::new(),
+            last: Hint::new(),
+            written: 0,
+        }
+    }
+}
 
 /// The transaction with this number, if there is one. Where numbers follow each other it is looked for by its own.
 pub fn txn_of(history: &History, number: TxnNo) -> Option<&Txn>
@@ -30,12 +57,45 @@ pub fn txn_of(history: &History, number: TxnNo) -> Option<&Txn>
 pub fn version_state(history: &History, row: RowName, version: VersionName) -> Option<State>
     ensures { option_map state_value result ≡ version_state history.now row version }
 {
+    let mut near = 0;
+    version_state_near(history, row, version, &mut near)
+}
+
+/// The same, where the row is looked for at a place of what the version's operation writes first, and at the next one.
+/// The place is then the row's.
+pub fn version_state_near(
+    history: &History,
+    row: RowName,
+    version: VersionName,
+    near: &mut usize,
+) -> Option<State>
+    ensures { option_map state_value result ≡ version_state history.now row version }
+{
     match version {
         VersionName::Initial => history.version_state(row, version),
         VersionName::Of { txn, op } => {
             let found = txn_of(history, txn)?;
-            op_of(found.ops.as_slice(), op)?.writes.get(row)
+            written_near(op_of(found.ops.as_slice(), op)?, row, near)
         }
+    }
+}
+
+/// What an operation writes to a row, looked for at a place first, and at the next one.
+fn written_near(op: &Op, row: RowName, near: &mut usize) -> Option<State>
+    ensures { option_map state_value result ≡ map.get op.now.writes row }
+{
+    let entries = op.writes.entries();
+    let found = value_near(entries, nearer(entries, *near, row), row);
+    *near = found.1;
+    found.0
+}
+
+/// The place behind this one, where the row stands there; else this.
+fn nearer<V>(entries: &[(RowName, V)], place: usize, row: RowName) -> usize {
+    let next = place.wrapping_add(1);
+    match entries.get(next) {
+        None => place,
+        Some(entry) => { if entry.0 == row { next } else { place } }
     }
 }
 
@@ -47,38 +107,45 @@ fn op_of(ops: &[Op], number: u32) -> Option<&Op>
 }
 
 /// Whether an operation of a committed transaction is found to be the transaction's last that writes a row.
-pub fn is_last(history: &History, txn: TxnNo, op: u32, row: RowName) -> bool
+pub fn is_last(history: &History, txn: TxnNo, op: u32, row: RowName, hints: &mut Hints) -> bool
     ensures { result ≡ true → is_last history.now txn op row ≡ true }
 {
     match txn_of(history, txn) {
         None => false,
         Some(found) => match found.outcome {
             Outcome::Aborted => false,
-            Outcome::Committed => is_last_of(history, txn, found.ops.as_slice(), op, row),
+            Outcome::Committed => is_last_of(history, txn, found.ops.as_slice(), op, row, hints),
         },
     }
 }
 
 /// The same of a transaction with these operations.
 #[tactic(auto, using(crate::proofs::LastOperations::ends_with))]
-fn is_last_of(history: &History, txn: TxnNo, ops: &[Op], op: u32, row: RowName) -> bool
+fn is_last_of(
+    history: &History,
+    txn: TxnNo,
+    ops: &[Op],
+    op: u32,
+    row: RowName,
+    hints: &mut Hints,
+) -> bool
     requires { ops_of history.now txn ≡ ops.now }
     ensures { result ≡ true → is_at (last_write ops.now row) op ≡ true }
 {
     if ops.len() == op as usize {
-        writes_at(ops, op, row)
+        writes_at(ops, op, row, &mut hints.written)
     } else {
-        is_number(history.last_write(txn, row), op)
+        is_number(history.last_write_near(txn, row, &mut hints.last), op)
     }
 }
 
 /// Whether the operation with this number writes a row.
-fn writes_at(ops: &[Op], number: u32, row: RowName) -> bool
+fn writes_at(ops: &[Op], number: u32, row: RowName, near: &mut usize) -> bool
     ensures { result ≡ true → WritesAt ops.now number row }
 {
     match op_of(ops, number) {
         None => false,
-        Some(op) => op.writes.get(row).is_some(),
+        Some(op) => written_near(op, row, near).is_some(),
     }
 }
 

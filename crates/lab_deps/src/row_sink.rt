@@ -1,6 +1,5 @@
 //! What takes all that a reader has to do with a row's versions at once.
 
-use crate::arrows::Arrows;
 use crate::edge::Edge;
 use crate::reading::Reading;
 use crate::sink::EdgeSink;
@@ -13,6 +12,7 @@ use lab_table::{NoMemory, Statement};
 pub trait RowSink: EdgeSink {
     ghost use Rattle.std.specs.Prelude.{OnOk};
     ghost use Rattle.lab_deps.specs.EdgesByRow.{walked};
+    ghost use Rattle.lab_deps.specs.Numbering.{FitsVersions, where_fits};
     ghost use Rattle.lab_deps.specs.Sinks.{Grows};
 
     /// Hands it all that a reader has to do with a row's versions; NoMemory where a growth was refused.
@@ -23,7 +23,7 @@ pub trait RowSink: EdgeSink {
         reading: Reading,
         versions: &Versions,
     ) -> Result<(), NoMemory>
-        ensures { OnOk result (Grows Self.handed self.old self.new (walked history.now statement.now reading versions.now)) };
+        ensures { OnOk result (Grows (where_fits (FitsVersions versions.now) Self.handed) self.old self.new (walked history.now statement.now reading versions.now)) };
 }
 
 /// A list takes them along the versions.
@@ -36,34 +36,5 @@ impl RowSink for Vec<Edge> {
         versions: &Versions,
     ) -> Result<(), NoMemory> {
         reading.add_edges(self, history, statement, versions)
-    }
-}
-
-/// Where a statement doesn't look at values, the versions are enough at which the row comes or goes; and where there are
-/// few changes, it is asked once for each of them.
-impl RowSink for Arrows {
-    fn take_walked(
-        &mut self,
-        history: &History,
-        statement: &Statement,
-        reading: Reading,
-        versions: &Versions,
-    ) -> Result<(), NoMemory> {
-        if !statement.tests_values() && versions.is_steady() {
-            let turns = versions.turns();
-            return reading.add_edges_at_turns(self, history, statement, versions.as_slice(), turns);
-        }
-        let pairs = versions.pairs();
-        if pairs.complete {
-            reading.add_edges_by_pairs(
-                self,
-                history,
-                statement,
-                versions.as_slice(),
-                pairs.items.as_slice(),
-            )
-        } else {
-            reading.add_edges(self, history, statement, versions)
-        }
     }
 }

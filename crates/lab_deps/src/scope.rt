@@ -2,6 +2,7 @@
 
 ghost use Rattle.std.specs.Prelude.{◌≡◌, OnOk};
 ghost use Rattle.lab_deps.specs.EdgesByRow.{rows_of};
+ghost use Rattle.lab_deps.specs.Numbering.{HasPlaces, where_fits};
 ghost use Rattle.lab_deps.specs.Scopes.{edges_in};
 ghost use Rattle.lab_deps.specs.Sinks.{Grows};
 
@@ -30,7 +31,7 @@ pub fn add_edges<S: RowSink>(
     rows: &IndexMap<RowName, Versions>,
 ) -> Result<(), NoMemory>
     requires { rows.now.entries ≡ rows_of history.now }
-    ensures { OnOk result (Grows S.handed sink.old sink.new (edges_in scope history.now)) }
+    ensures { OnOk result (Grows (where_fits (HasPlaces history.now) S.handed) sink.old sink.new (edges_in scope history.now)) }
 {
     match scope {
         Scope::All => add_edges_of_txns(sink, history, rows),

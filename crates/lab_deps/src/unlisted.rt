@@ -11,6 +11,7 @@ ghost use Rattle.lab_deps.specs.Passes as pass;
 use crate::broken::is_unlisted;
 use crate::near::entry_within;
 use crate::row::least;
+use crate::span::within;
 use lab_history::{History, Op};
 use lab_table::{RowName, Value};
 
@@ -27,11 +28,11 @@ pub fn unlisted_row(history: &History, op: &Op) -> Option<RowName>
     }
 }
 
-/// The same, where all rows are looked at.
+/// The same, where all rows between the statement's bounds are looked at.
 fn first_unlisted(history: &History, op: &Op) -> Option<RowName>
     ensures { result ≡ pass.first_value (test.is_unlisted op.now) (map.entries history.now.initial) }
 {
-    let entries = history.initial().rows();
+    let entries = within(&op.statement, history.initial().rows());
     for entry in entries {
         if is_unlisted(op, entry.0, entry.1) {
             return Some(entry.0);

@@ -1,10 +1,12 @@
 //! The values of a row's versions, each once.
 
-ghost use Rattle.std.specs.Prelude.{◌≡◌, ℕ, true, Some, [], map, slice_get, IfOk};
+ghost use Rattle.std.specs.Prelude.{◌≡◌, ◌++◌, ℕ, Bool, true, Some, [], map, slice_get, OnOk, IfOk};
+ghost use Rattle.lab_deps.specs.Edges.{differ};
 ghost use Rattle.lab_table.specs.Statement.{matches};
 ghost use Rattle.lab_deps.specs.EdgesByRow.{answers_of, AreValuesOf};
 
 use crate::effect::is_same;
+use crate::reading::differ;
 use crate::versions::Version;
 use indexmap::IndexMap;
 use lab_table::{NoMemory, RowName, Statement, Value};
@@ -30,6 +32,52 @@ impl Values {
             Ok(found)
         } else {
             Ok(Values::none(alloc))
+        }
+    }
+
+    /// The numbers of the versions' values.
+    pub fn numbers(&self) -> &[u8]
+        ensures { result.now ≡ self.now.places.items }
+    {
+        &self.places
+    }
+
+    /// How many values there are.
+    pub fn count(&self) -> usize {
+        self.values.len()
+    }
+
+    /// Whether the value with a number comes before the one with another, as an absent row does before all.
+    pub fn is_before(&self, number: usize, other: usize) -> bool {
+        match (self.values.get(number), self.values.get(other)) {
+            (Some(Some(value)), Some(Some(other))) => value.number() < other.number(),
+            (Some(None), Some(Some(_))) => true,
+            _ => false,
+        }
+    }
+
+    /// Asks a statement whether it takes each value otherwise than the first one. NoMemory where a growth was refused.
+    pub fn ask(
+        &self,
+        answers: &mut Vec<bool>,
+        statement: &Statement,
+        row: RowName,
+    ) -> Result<(), NoMemory>
+        ensures { OnOk result ((first : Bool) × (answers.new.items ≡ map (λ value. differ first (matches statement.now row value)) self.now.values.items)) }
+    {
+        answers.clear();
+        match self.values.split_first() {
+            None => Ok(()),
+            Some((value, others)) => {
+                answers.push(false)?;
+                ask_others(
+                    answers,
+                    statement,
+                    row,
+                    statement.matches(row, *value),
+                    others,
+                )
+            }
         }
     }
 
@@ -157,4 +205,20 @@ impl Values {
             },
         }
     }
+}
+
+/// Asks a statement whether it takes each of these values otherwise than is said.
+fn ask_others(
+    answers: &mut Vec<bool>,
+    statement: &Statement,
+    row: RowName,
+    first: bool,
+    values: &[Option<Value>],
+) -> Result<(), NoMemory>
+    ensures { OnOk result (answers.new.items ≡ answers.old.items ++ map (λ value. differ first (matches statement.now row value)) values.now) }
+{
+    for value in values {
+        answers.push(differ(first, statement.matches(row, *value)))?;
+    }
+    Ok(())
 }

@@ -1,5 +1,5 @@
-//! Calls of the libraries with each of their growths refused in turn: they answer want of memory and nothing else, and
-//! what they would change is as it was; or, where they could do without, they answer as ever.
+//! Calls of the libraries with each of their allocations refused in turn: they answer want of memory and nothing else,
+//! and what they would change is as it was; or, where they could do without, they answer as ever.
 
 use crate::inputs::{Inputs, given};
 use crate::refusal::was_refused;
@@ -40,7 +40,8 @@ static CALLS: [Call; 26] = [
     Call::DependenciesTable,
 ];
 
-/// Fails where a call that makes a statement isn't right with one of its growths refused, or has no last growth.
+/// Fails where a call that makes a statement isn't right with one of its allocations refused, or has no last
+/// allocation.
 fn shows_made(rt: &impl Abort, alloc: Global, call: u8, statement: &Statement) {
     let mut answered = false;
     for growth in 1..500u16 {
@@ -65,13 +66,13 @@ fn statements_that_are_refused_memory_are_not_made(rt: HostRuntime) -> Result<()
     Ok(())
 }
 
-/// Fails where a call isn't right with one of its growths refused, or has no last growth.
+/// Fails where a call isn't right with one of its allocations refused, or has no last allocation.
 fn shows_right(rt: &impl Abort, alloc: Global, call: Call, inputs: &Inputs) {
     let mut answered = false;
     for growth in 1..2_000u16 {
         let right = is_right(alloc, growth, call, inputs);
         let refused = was_refused(alloc);
-        // Memory may be wanting only where a growth was refused.
+        // Memory may be wanting only where an allocation was refused.
         assert!(rt; right.unwrap_or(refused), "{call:?}, at growth {growth}");
         if !refused {
             answered = true;

@@ -1,5 +1,5 @@
-//! Calls of the libraries up to the dependencies, with a growth refused: each says whether it answers what it is to
-//! answer.
+//! Calls of the libraries up to the dependencies, with an allocation refused: each says whether it answers what it is
+//! to answer.
 
 use crate::inputs::{Inputs, Lists, Named, delete};
 use crate::refusal::refuse;
@@ -227,7 +227,7 @@ fn is_right_of_logs(
     }
 }
 
-/// Makes a call with a growth refused, and says whether it answers what it is to answer.
+/// Makes a call with an allocation refused, and says whether it answers what it is to answer.
 pub fn is_right(alloc: Global, growth: u16, call: Call, inputs: &Inputs) -> Result<bool, NoMemory> {
     refuse(alloc, growth);
     match call {

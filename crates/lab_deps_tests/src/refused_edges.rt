@@ -1,10 +1,11 @@
-//! Calls on the dependencies of a history, with a growth refused: each says whether it answers what it is to answer.
+//! Calls on the dependencies of a history, with an allocation refused: each says whether it answers what it is to
+//! answer.
 
 ghost use Rattle.lab_deps.specs.Soundness.{IsSound};
 
 use crate::inputs::{Inputs, Named};
 use crate::refused_calls::Call;
-use lab_deps::{Dependencies, Edge, Kind, Kinds, Sound, check_local, edges};
+use lab_deps::{Dependencies, Edge, Kind, KindRow, Kinds, Sound, check_local, edges};
 use lab_history::History;
 use lab_table::NoMemory;
 use std::alloc::Global;
@@ -45,9 +46,14 @@ fn are_listed(
     let table = found.table(alloc, &numbers)?;
     Ok(
         table.len() == 2
-            && table.row(0) == [Kinds::none(), Kinds::none()].as_slice()
-            && table.row(1) == [kinds, Kinds::none()].as_slice(),
+            && is_row(table.row(0), Kinds::none(), Kinds::none())
+            && is_row(table.row(1), kinds, Kinds::none()),
     )
+}
+
+/// Whether a row has these kinds to the two transactions of its list.
+fn is_row(row: KindRow<'_>, first: Kinds, second: Kinds) -> bool {
+    row.len() == 2 && row.kinds(0) == first && row.kinds(1) == second
 }
 
 /// Calls on the dependencies of a sound history.

@@ -1,4 +1,4 @@
-//! Statements that are made with a growth refused: read, copied, or with their condition copied.
+//! Statements that are made with an allocation refused: read, copied, or with their condition copied.
 
 use crate::refusal::{refuse, was_refused};
 use lab_script::{ScriptFault, parse_statement, print_statement};
@@ -49,7 +49,7 @@ fn is_every_kind(alloc: Global, statement: &Statement) -> bool {
     }
 }
 
-/// Whether a call made the statement of every kind, or found no memory where a growth was refused.
+/// Whether a call made the statement of every kind, or found no memory where an allocation was refused.
 fn is_right(alloc: Global, made: &Result<Statement, ScriptFault>, refused: bool) -> bool {
     match made {
         Ok(statement) => is_every_kind(alloc, statement),
@@ -57,7 +57,8 @@ fn is_right(alloc: Global, made: &Result<Statement, ScriptFault>, refused: bool)
     }
 }
 
-/// Makes a call with a growth refused, and says whether it answers what it is to answer, and whether a growth was refused.
+/// Makes a call with an allocation refused, and says whether it answers what it is to answer, and whether an allocation
+/// was refused.
 pub fn tried(alloc: Global, growth: u16, call: u8, statement: &Statement) -> (bool, bool) {
     refuse(alloc, growth);
     let made = made_statement(alloc, call, statement);

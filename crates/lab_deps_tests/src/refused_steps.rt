@@ -1,5 +1,5 @@
-//! Engines whose steps and retries have each of their growths refused in turn: log and sessions are as before, and the
-//! same call with memory answers as if nothing had been.
+//! Engines whose steps and retries have each of their allocations refused in turn: log and sessions are as before, and
+//! the same call with memory answers as if nothing had been.
 
 ghost use Rattle.std.specs.Prelude.{◌<◌, length};
 ghost use Rattle.lab_engine.specs.Limits.{max_events};
@@ -161,7 +161,8 @@ fn turns_before<E: Engine>(
     Ok(())
 }
 
-/// Takes an engine's turn at a place with a growth refused, and says whether one was; or else what isn't as it has to be.
+/// Takes an engine's turn at a place with an allocation refused, and says whether one was; or else what isn't as it has
+/// to be.
 fn is_turn_refused<E: Engine>(
     alloc: Global,
     engine: &mut E,
@@ -254,7 +255,7 @@ fn is_refused_at(
     }
 }
 
-/// Fails where a turn isn't right with one of its growths refused, or has no last growth.
+/// Fails where a turn isn't right with one of its allocations refused, or has no last allocation.
 fn shows_turn(
     rt: &impl Abort,
     alloc: Global,

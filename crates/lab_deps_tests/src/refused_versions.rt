@@ -1,4 +1,5 @@
-//! Calls on what an engine keeps of versions, with a growth refused: each says whether it answers what it is to answer.
+//! Calls on what an engine keeps of versions, with an allocation refused: each says whether it answers what it is to
+//! answer.
 
 use crate::inputs::{Inputs, Named, delete};
 use crate::refusal::refuse;

@@ -1,8 +1,9 @@
 //! The kinds of dependencies between the transactions of a list, by their places there.
 
-ghost use Rattle.std.specs.Prelude.{◌≡◌, ◌<◌, ℕ, length, map, slice_index, IfOk};
-ghost use Rattle.lab_deps.specs.KindBits.{place, bits_at};
+ghost use Rattle.std.specs.Prelude.{◌≡◌, ◌<◌, ℕ, get_or, length, map, slice_index, IfOk};
+ghost use Rattle.lab_deps.specs.KindBits.{column_of};
 ghost use Rattle.lab_deps.specs.KindsBetween.{AreKindsTo};
+ghost use Rattle.lab_deps.specs.declared.kinds.Kinds.{Kinds as Told};
 
 use crate::arrows::Arrows;
 use crate::dependencies::Dependencies;
@@ -11,19 +12,38 @@ use lab_table::{NoMemory, TxnNo};
 use std::alloc::Global;
 use std::marker::Model;
 
-/// The kinds from one transaction to each of a list.
+/// The kinds from one transaction to each of a list, read where they are kept.
 #[derive(Drop)]
-struct KindRow {
-    all: Vec<Kinds>,
+pub struct KindRow<'t> {
+    cells: &'t [u8],
+    columns: &'t [usize],
 }
 
-impl Model for KindRow {
-    ghost use Rattle.std.specs.Prelude.{List};
+impl<'t> Model for KindRow<'t> {
+    ghost use Rattle.std.specs.Prelude.{List, get_or, map};
     ghost use Rattle.lab_deps.specs.declared.kinds.Kinds.{Kinds};
 
     ghost Value = { List Kinds };
 
-    ghost view = { λ r. r.all.items };
+    ghost view = { λ r. map (λ column. record { bits = get_or r.cells.now column 0 }) r.columns.now };
+}
+
+impl<'t> KindRow<'t> {
+    /// How many transactions the list has.
+    pub fn len(&self) -> usize
+        ensures { result ≡ length self.now }
+    {
+        self.columns.len()
+    }
+
+    /// The kinds to the transaction at a place of the list, counted from 0.
+    pub fn kinds(&self, to: usize) -> Kinds
+        requires { to < length self.now }
+        ensures { (d : Told) → result ≡ get_or self.now to d }
+    {
+        let bits = self.cells.get(self.columns[to]).copied().unwrap_or(0);
+        Kinds { bits }
+    }
 }
 
 /// The kinds of dependencies between each two transactions of a list: who asks for those of many pairs looks up no
@@ -31,18 +51,19 @@ impl Model for KindRow {
 #[derive(Drop)]
 pub struct KindTable<'a, 'h> {
     edges: &'a Dependencies<'h>,
+    arrows: &'a Arrows,
     numbers: &'a [TxnNo],
-    rows: Vec<KindRow>,
+    columns: Vec<usize>,
 }
 
 impl<'a, 'h> Model for KindTable<'a, 'h> {
-    ghost use Rattle.lab_deps.specs.KindsBetween.{KindsBetween, AreKindsBetween};
+    ghost use Rattle.lab_deps.specs.KindsBetween.{KindsBetween, IsTold};
 
     ghost Value = { KindsBetween };
 
     ghost view = { λ t. record { numbers = t.numbers.now; edges = t.edges.now } };
 
-    ghost invariant = { λ t. AreKindsBetween t.edges.now t.numbers.now t.rows.items };
+    ghost invariant = { λ t. IsTold t.edges.now t.numbers.now t.arrows.now.places.items t.arrows.now.width t.arrows.now.cells.items t.columns.items };
 }
 
 impl<'a, 'h> KindTable<'a, 'h> {
@@ -54,11 +75,15 @@ impl<'a, 'h> KindTable<'a, 'h> {
     }
 
     /// The kinds from the transaction at a place of the list, counted from 0, to each of the list.
-    pub fn row(&self, from: u32) -> &[Kinds]
+    pub fn row(&self, from: u32) -> KindRow<'_>
         requires { from < length self.now.numbers }
-        ensures { AreKindsTo self.now.edges self.now.numbers (slice_index self.now.numbers from) result.now }
+        ensures { AreKindsTo self.now.edges self.now.numbers (slice_index self.now.numbers from) result }
     {
-        self.rows[from as usize].all.as_slice()
+        let place = self.arrows.place(self.numbers[from as usize]);
+        KindRow {
+            cells: self.arrows.cells_from(place),
+            columns: self.columns.as_slice(),
+        }
     }
 }
 
@@ -72,46 +97,22 @@ impl<'h> Dependencies<'h> {
         ensures numbers { IfOk result (λ table. table.numbers ≡ numbers.now) }
         ensures edges { IfOk result (λ table. table.edges ≡ self.now) }
     {
-        let places = places_of(alloc, &self.arrows, numbers)?;
-        let rows = rows_of(alloc, &self.arrows, &places)?;
+        let columns = columns_of(alloc, &self.arrows, numbers)?;
         Ok(KindTable {
             edges: self,
+            arrows: &self.arrows,
             numbers,
-            rows,
+            columns,
         })
     }
 }
 
-/// The places of these transactions. NoMemory where a growth was refused.
-fn places_of(alloc: Global, arrows: &Arrows, numbers: &[TxnNo]) -> Result<Vec<u16>, NoMemory>
-    ensures { IfOk result (λ places. places.items ≡ map (place arrows.now.places.items) numbers.now) }
+/// The columns of these transactions. NoMemory where a growth was refused.
+fn columns_of(alloc: Global, arrows: &Arrows, numbers: &[TxnNo]) -> Result<Vec<usize>, NoMemory>
+    ensures { IfOk result (λ columns. columns.items ≡ map (column_of arrows.now.places.items arrows.now.cells.items) numbers.now) }
 {
     numbers
         .iter()
-        .map(|number| arrows.place(*number))
+        .map(|number| arrows.column(*number))
         .collect(alloc)
-}
-
-/// The kinds from each of these places to each of them. NoMemory where a growth was refused.
-fn rows_of(alloc: Global, arrows: &Arrows, places: &[u16]) -> Result<Vec<KindRow>, NoMemory>
-    ensures { IfOk result (λ rows. rows.items ≡ map (λ from. map (λ to. record { bits = bits_at arrows.now.width arrows.now.cells.items from to }) places.now) places.now) }
-{
-    let mut rows = Vec::with_capacity(alloc, places.len())?;
-    for from in places {
-        rows.push(row_of(alloc, arrows, *from, places)?)?;
-    }
-    Ok(rows)
-}
-
-/// The kinds from a place to each of these. NoMemory where a growth was refused.
-fn row_of(alloc: Global, arrows: &Arrows, from: u16, places: &[u16]) -> Result<KindRow, NoMemory>
-    ensures { IfOk result (λ row. row ≡ map (λ to. record { bits = bits_at arrows.now.width arrows.now.cells.items from to }) places.now) }
-{
-    let all = places
-        .iter()
-        .map(|to| Kinds {
-            bits: arrows.bits_at(from, *to),
-        })
-        .collect(alloc)?;
-    Ok(KindRow { all })
 }

@@ -1,18 +1,22 @@
 use Rattle.std.proofs.Common.{◌≡◌, sym, ap, ◌∙◌, subst}
-use Rattle.std.specs.Prelude.{None, Some}
+use Rattle.std.specs.Prelude.{None, Some, Contains}
 use Rattle.std.specs.Map.{lookup}
+use Rattle.std.proofs.lemmas.Map.Views.{Contains-from_lookup}
 use Rattle.lab_table.specs.Row.{row_test}
+use Rattle.lab_table.proofs.Maps.{tested_same}
 use Rattle.lab_deps.specs.EdgesByRow.{rows_of}
 use Rattle.lab_deps.specs.Sinks.{Grows}
+use Rattle.lab_deps.proofs.FittingRows.{fits_rows}
 use Rattle.lab_deps.proofs.OpsOfOneRow.{found_there, found_nowhere}
-use Rattle.lab_deps.proofs.Sinking.{grows_none}
+use Rattle.lab_deps.specs.Numbering.{HasPlaces, FitsVersions, where_fits}
+use Rattle.lab_deps.proofs.Sinking.{grows_none, fits_more}
 use Rattle.lab_deps.proofs.collect.add_op.Goals as goal
 
 pub returns-in-None-get : goal.returns-in-None-get
 returns-in-None-get g c =
     let none : lookup (row_test c.in-Some.row) (rows_of c.args.history.now) ≡ None = ap (lookup (row_test c.in-Some.row)) (sym c.requires) ∙ sym c.in-None-get.ensures.value in
-    subst (Grows g.S.EdgeSink.handed c.args.sink.now c.args.sink.now) (sym (found_nowhere c.args.history.now c.args.txn c.args.op.now c.in-Some.row c.in-Some.ensures none))
-    (grows_none g.S.EdgeSink.handed c.args.sink.now)
+    subst (Grows (where_fits (HasPlaces c.args.history.now) g.S.EdgeSink.handed) c.args.sink.now c.args.sink.now) (sym (found_nowhere c.args.history.now c.args.txn c.args.op.now c.in-Some.row c.in-Some.ensures none))
+    (grows_none (where_fits (HasPlaces c.args.history.now) g.S.EdgeSink.handed) c.args.sink.now)
 
 pub returns-in_ok-add_at_row-in-Some-get : goal.returns-in_ok-add_at_row-in-Some-get
 returns-in_ok-add_at_row-in-Some-get g c =
@@ -20,5 +24,7 @@ returns-in_ok-add_at_row-in-Some-get g c =
     let row = c.in-Some.row in
     let vs = c.in-Some-get.versions.now in
     let there : lookup (row_test row) (rows_of h) ≡ Some vs = ap (lookup (row_test row)) (sym c.requires) ∙ sym c.in-Some-get.ensures.value in
+    let among : Contains (rows_of h) (row, vs) = Contains-from_lookup tested_same row vs (rows_of h) there in
     let is = sym (found_there h c.args.txn c.args.op.now row c.in-Some.ensures vs there) in
-    subst (Grows g.S.EdgeSink.handed c.args.sink.now c.add_at_row.new.sink) is c.in_ok-add_at_row-in-Some-get.ensures
+    subst (Grows (where_fits (HasPlaces h) g.S.EdgeSink.handed) c.args.sink.now c.add_at_row.new.sink) is
+    (fits_more g.S.EdgeSink.handed (FitsVersions vs) (HasPlaces h) (λ ps has. fits_rows h ps has row vs among) c.args.sink.now c.add_at_row.new.sink _ c.in_ok-add_at_row-in-Some-get.ensures)

@@ -1,14 +1,23 @@
 use Rattle.std.proofs.Common.{◌≡◌, T, ◌∙◌, false, not, sym, ap, subst}
-use Rattle.std.specs.FinMap.{find, entries_sorted, is_sorted, get-entries}
+use Rattle.std.specs.FinMap.{find, entries, entries_sorted, is_sorted, get-entries}
 use Rattle.lab_table.specs.Row.{row_cmp}
 use Rattle.lab_deps.specs.Broken.{is_unlisted}
+use Rattle.lab_deps.specs.Passes.{first_value}
 use Rattle.lab_deps.proofs.NearValues.{passed}
+use Rattle.lab_deps.proofs.Spans.{unlisted_within}
 use Rattle.lab_deps.proofs.DueRows.{seen_not_unlisted, unmatched_not_unlisted}
 use Rattle.lab_deps.proofs.due.lists_initial.Goals as goal
 use Rattle.lab_deps.proofs.due.lists_initial.Goals.{then-matches+else-is_none, else-is_none-via-then-is_none+else-is_unlisted, else-is_none-via-else-is_none, else-matches}
 
 pub value_near-found-requires : goal.value_near-found-requires
 value_near-found-requires c = subst (λ es. T (is_sorted row_cmp es)) (sym c.entries.ensures) (entries_sorted c.args.op.now.view)
+
+pub within-entries-requires : goal.within-entries-requires
+within-entries-requires c = subst (λ es. T (is_sorted row_cmp es)) (sym (c.rows.ensures ∙ ap entries c.initial.ensures)) (entries_sorted c.args.history.now.initial)
+
+pub loop-entry-init : goal.loop-entry-init
+loop-entry-init c =
+    unlisted_within c.args.op.now c.within-entries.result.now c.rows.result.now c.within-entries.ensures ∙ ap (first_value (is_unlisted c.args.op.now)) (c.rows.ensures ∙ ap entries c.initial.ensures)
 
 pub loop-entry-preserved : goal.loop-entry-preserved
 loop-entry-preserved c =
@@ -24,4 +33,4 @@ loop-entry-preserved c =
           ]
       | else-matches w ↦ unmatched_not_unlisted op e.0 e.1 (sym c.matches.ensures ∙ w.if-matches.false)
     ] in
-    passed (is_unlisted op) c.rows-entries.result.now c.loop-entry.entry-index e _ c.loop-entry-test.true c.entry-item.is fails c.loop-entry.invariant
+    passed (is_unlisted op) c.within-entries.result.now c.loop-entry.entry-index e _ c.loop-entry-test.true c.entry-item.is fails c.loop-entry.invariant

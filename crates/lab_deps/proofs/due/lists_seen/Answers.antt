@@ -16,6 +16,6 @@ loop-entry-preserved c = λ n k.
     let op = c.args.op.now in
     let e = c.entry-item.result in
     passed (breaks_at kind.RowsDiffer h n k op) c.entries-entries.result.now c.loop-entry.entry-index e _ c.loop-entry-test.true c.entry-item.is
-    (seen_due h op n k e.0 e.1 _ _ _ (c.value_near-found.ensures ∙ ap (find row_cmp e.0) c.entries.ensures ∙ sym (get-entries op.rows e.0)) c.listed-due.ensures c.state_of.ensures
+    (seen_due h op n k e.0 e.1 _ _ _ (c.value_near-found.ensures ∙ ap (find row_cmp e.0) c.entries.ensures ∙ sym (get-entries op.rows e.0)) c.listed-due.ensures c.state_near-state.ensures
     (sym c.is_same.ensures ∙ c.if-not-is_same.false))
     (c.loop-entry.invariant n k)

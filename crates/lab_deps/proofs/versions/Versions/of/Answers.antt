@@ -1,6 +1,6 @@
 use Rattle.std.proofs.Common.{subst}
 use Rattle.lab_deps.specs.EdgesByRow.{AreValuesOf}
-use Rattle.lab_deps.specs.Pairs.{HasChanges}
+use Rattle.lab_deps.specs.KeptTurnings.{AreTurnings}
 use Rattle.lab_deps.specs.Turns.{HasTurns}
 use Rattle.lab_deps.proofs.versions.Versions.of.Goals as goal
 
@@ -9,6 +9,6 @@ invariant_of-result c = (
   subst (AreValuesOf c.in_ok-values.values.values.items c.in_ok-values.values.places.items) c.deref.ensures.value c.in_ok-values.ensures,
   (
     subst (HasTurns c.in_ok-turns.turns.items) c.deref-2.ensures.value c.in_ok-turns.ensures,
-    λ whole. subst (HasChanges c.in_ok-pairs.pairs.items.items) c.deref-3.ensures.value (c.in_ok-pairs.ensures whole),
+    subst (AreTurnings c.in_ok-turnings.turnings.items c.in_ok-values.values.places.items) c.deref-3.ensures.value c.in_ok-turnings.ensures,
   ),
 )

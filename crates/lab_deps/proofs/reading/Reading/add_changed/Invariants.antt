@@ -1,8 +1,0 @@
-use Rattle.std.proofs.Common.{drop}
-use Rattle.std.specs.List.{flat_map}
-use Rattle.lab_deps.specs.Pairs.{changed_at}
-use Rattle.lab_deps.proofs.Sinking.{Leads}
-use Rattle.lab_deps.proofs.reading.Reading.add_changed.Given as goal
-
-abbrev pub invariant-loop-place : goal.invariant-loop-place
-invariant-loop-place g l = Leads g.S.EdgeSink.handed l.initial.sink l.sink (flat_map (changed_at l.self l.versions) (drop l.place-index l.places)) (flat_map (changed_at l.self l.versions) l.places)
