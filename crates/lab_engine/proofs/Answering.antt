@@ -55,7 +55,7 @@ begun_below log n is room =
 
 -- ---- statements
 
--- what a search for a circle found
+-- what a search for a cycle found
 abbrev Searched : Level → Table → Past → ℕ → Statement → Option (List ℕ) → Type 0
 Searched level setup past session s found = MatchOption found ((circle : List ℕ) → ¬ IsCircle level setup past session s circle) (IsLeastCircle level setup past session s)
 
@@ -109,7 +109,7 @@ module _ (level : Level) (setup : Table) (past : Past) (session : ℕ) (s : Stat
         let has : Contains [] other = subst (λ (l : List ℕ). Contains l other) none ((blockers.are other).1 blocked) in
         absurd (omega (arith, has.1))
 
-    -- it waits where no circle was found
+    -- it waits where no cycle was found
     pub waits_answers : on ≢ [] → (found : Option (List ℕ)) → found ≡ None → Searched level setup past session s found → Answers level setup past session (Run s) (Waits on)
     waits_answers some found is searched =
         ((s, txn, asks, blockers.rising, blockers.are, some, subst (Searched level setup past session s) is searched), (λ eq. cc), λ t run circle eq. cc)

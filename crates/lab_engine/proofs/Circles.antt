@@ -1,4 +1,4 @@
--- Circles of sessions, each blocked by the next, as walks along the graph of who waits for whom.
+-- Cycles of sessions, each blocked by the next, as walks along the graph of who waits for whom.
 use Rattle.std.proofs.Common.{◌≡◌, ◌≢◌, ℕ, zero, suc, ◌+◌, ◌≤◌, refl, sym, subst, ◌∙◌, arith, Bool, true, false, List, [], ◌∷◌, inl, inr, length}
 use Rattle.std.specs.Prelude.{◌==◌, IsTrue, Option, Some, None, Result, Ok, Err, IfOk, IfSome, MatchOption, Contains}
 use Rattle.std.specs.List.{list_any}
@@ -56,7 +56,7 @@ found_in (y ∷ xs) x (suc k, lt, is) = or_right _ _ (found_in xs x (k, omega ar
 apart_from : (session : ℕ) (rest : List ℕ) (next : ℕ) → list_any (λ m. m == session) rest ≡ false → Contains rest next → next ≢ session
 apart_from session rest next none there same = both_ways _ none (found_in rest session (subst (Contains rest) same there))
 
--- a round of the graph with what a session asks for is a circle
+-- a round of the graph with what a session asks for is a cycle
 round_circle : (level : Level) (setup : Table) (past : Past) (waits : List Wait) (session : ℕ) (s : Statement) → AreWaitsWith level setup past session s waits
     → (circle : List ℕ) → IsRound waits session circle → IsCircle level setup past session s circle
 round_circle level setup past waits session s h [] round = round
@@ -67,7 +67,7 @@ round_circle level setup past waits session s h (first ∷ rest) (own, walk, onc
       (λ next c other. (h.1 next other (apart_from session rest next (subst (λ k. list_any (λ m. m == k) rest ≡ false) own once.0) c)).0) (λ other. (h.0 other).0) walk,
 )
 
--- a circle is a walk of it
+-- a cycle is a walk of it
 circle_walk : (level : Level) (setup : Table) (past : Past) (waits : List Wait) (session : ℕ) (s : Statement) → AreWaitsWith level setup past session s waits → MayAsk past session s
     → (first : ℕ) (rest : List ℕ) → IsCircle level setup past session s (first ∷ rest) → IsWalk waits session rest session
 circle_walk level setup past waits session s h may first rest (own, once, chain) = walk_of level setup past waits session rest session s all (λ other. (h.0 other).1) chain
@@ -80,13 +80,13 @@ circle_walk level setup past waits session s h may first rest (own, once, chain)
       | inr apart ↦ (h.1 next other apart).1 (t, is, b)
     ]
 
--- of the graph's walks from the session back to it none is shorter than a circle, and none of its length comes before it
+-- of the graph's walks from the session back to it none is shorter than a cycle, and none of its length comes before it
 pub record IsLeastRound (waits : List Wait) (session : ℕ) (circle : List ℕ) : Type 0 where
   pub round : IsRound waits session circle
   pub shortest : (rest : List ℕ) → IsWalk waits session rest session → length circle ≤ 1 + length rest
   pub least : (rest : List ℕ) → IsWalk waits session rest session → length circle ≡ 1 + length rest → NotAfter circle (session ∷ rest)
 
--- such a circle is the least on which the session stands
+-- such a cycle is the least on which the session stands
 least_circle : (level : Level) (setup : Table) (past : Past) (waits : List Wait) (session : ℕ) (s : Statement) → AreWaitsWith level setup past session s waits → MayAsk past session s
     → (circle : List ℕ) → IsLeastRound waits session circle → IsLeastCircle level setup past session s circle
 least_circle level setup past waits session s h may circle l = record { is_circle = round_circle level setup past waits session s h circle l.round; shortest = shortest; least = least }

@@ -75,7 +75,7 @@ module _ (level : Level) (setup : Table) (past : Past) (session : ℕ) (txn : Tx
     one_held one other (inr (circle, h, is)) (inr (circle', k, alike)) =
         is ∙ ap (λ (c : List ℕ). Refused (Deadlock c)) (one_least_circle level setup past session s circle circle' h k) ∙ sym alike
 
-    -- the first step of a circle goes to one who blocks the statement
+    -- the first step of a cycle goes to one who blocks the statement
     chain_blocks : (rest : List ℕ) (goal : ℕ) → IsChain level setup past session s rest goal → (other : ℕ) × BlockedBy level setup past session s other
     chain_blocks [] goal c = (goal, c)
     chain_blocks (next ∷ rest) goal c = (next, c.0)

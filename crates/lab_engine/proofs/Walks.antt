@@ -84,7 +84,7 @@ pub goal_rests : (waits : List Wait) (goal : ℕ) (edges : List WaitEdge) → Ar
 goal_rests waits goal [] h = refl
 goal_rests waits goal (edge ∷ edges) h = ap (λ b. b || list_any (λ (e : WaitEdge). e.session == goal) edges) h.0.apart ∙ goal_rests waits goal edges h.1
 
--- one who waits for a session that is reached stands on a circle with those on the way
+-- one who waits for a session that is reached stands on a cycle with those on the way
 pub trail_round : (waits : List Wait) (goal : ℕ) (edges : List WaitEdge) (first : ℕ) → AreWaitEdges waits goal edges → AllDistinct (trail edges first) → IsTrue (waits_for waits goal first)
     → IsTrue (is_reached edges goal first) → IsRound waits goal (goal ∷ trail edges first)
 trail_round waits goal edges first h once waits_on there =
@@ -147,7 +147,7 @@ not_held (wait ∷ waits) session h other = at (not_held waits session) (wait.se
     at rest true (o ∷ on) h = absurd (both_ways _ h (ap (λ b. b || list_any (λ (w : Wait). w.session == session && not (length w.on == 0)) waits) (filled o on)))
     at rest false on h = rest h other
 
--- one who waits for somebody is released exactly where a circle is found
+-- one who waits for somebody is released exactly where a cycle is found
 pub round_or_none : (waits : List Wait) (session : ℕ) (found : Option (List ℕ)) (other : ℕ) → IsTrue (waits_for waits session other) → IfSome found (IsRound waits session)
     → (found ≡ None → (rest : List ℕ) → ¬ IsWalk waits session rest session) → IsTrue (is_some found) ↔ IsReleased waits session
 round_or_none waits session None other held round none = ((λ h. absurd (both_ways _ refl h)), from)

@@ -19,7 +19,7 @@ use Rattle.lab_engine.specs.declared.situation.Situation.{Situation}
 abbrev pub MayGive : Past → ℕ → Command → Type 0
 MayGive past session command = (waiting past session ≡ None) ⊎ ((s : Statement) × (waiting past session ≡ Some s) × (command ≡ Run s))
 
--- an outcome is permitted, isn't Busy, and names the least circle where it names one
+-- an outcome is permitted, isn't Busy, and names the least cycle where it names one
 abbrev pub Answers : Level → Table → Past → ℕ → Command → Outcome → Type 0
 Answers level setup past session command outcome = Permitted level setup past session command outcome × (outcome ≢ Refused Busy)
     × NamesLeastOf level setup past session command outcome

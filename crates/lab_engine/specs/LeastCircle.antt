@@ -1,4 +1,4 @@
--- Of several circles, the one that is told.
+-- Of several cycles, the one that is told.
 use Rattle.std.specs.Prelude.{◌≡◌, ◌⊎◌, ℕ, ◌<◌, ◌≤◌, Some, List, [], ◌∷◌, length, ⊤}
 use Rattle.lab_table.specs.Table.{Table}
 use Rattle.lab_table.specs.declared.statement.Statement.{Statement}
@@ -17,14 +17,14 @@ NotAfter [] other = ⊤
 NotAfter (n ∷ ns) [] = ⊥
 NotAfter (n ∷ ns) (m ∷ ms) = (n < m) ⊎ ((n ≡ m) × NotAfter ns ms)
 
--- of the circles on which a session stands that asks for a statement, one than which none is shorter, and of those of
+-- of the cycles on which a session stands that asks for a statement, one than which none is shorter, and of those of
 -- its length the least, session by session from the front
 pub record IsLeastCircle (level : Level) (setup : Table) (past : Past) (session : ℕ) (s : Statement) (circle : List ℕ) : Type 0 where
   pub is_circle : IsCircle level setup past session s circle
   pub shortest : (other : List ℕ) → IsCircle level setup past session s other → length circle ≤ length other
   pub least : (other : List ℕ) → IsCircle level setup past session s other → length other ≡ length circle → NotAfter circle other
 
--- where an outcome refuses a session's statement as a deadlock, its circle is the least
+-- where an outcome refuses a session's statement as a deadlock, its cycle is the least
 abbrev pub NamesLeastCircle : Level → Table → Past → ℕ → Statement → Outcome → Type 0
 NamesLeastCircle level setup past session s outcome = (circle : List ℕ) → outcome ≡ Refused (Deadlock circle) → IsLeastCircle level setup past session s circle
 

@@ -91,7 +91,7 @@ is_answer (Refused fault) = true
 abbrev pub calls : ℕ → List LogEvent → List LogEvent
 calls session log = filter (λ event. event.session == session && is_answer event.outcome) log
 
--- a waiting session whose statement is free, or stands on a circle
+-- a waiting session whose statement is free, or stands on a cycle
 abbrev pub IsRetryable : Level → Table → Past → ℕ → Type 0
 IsRetryable level setup past session = (s : Statement) × (waiting past session ≡ Some s)
     × (IsFree level setup past session s ⊎ ((circle : List ℕ) × IsCircle level setup past session s circle))

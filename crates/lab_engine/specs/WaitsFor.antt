@@ -19,7 +19,7 @@ abbrev pub IsWalk : List Wait → ℕ → List ℕ → ℕ → Type 0
 IsWalk waits session [] goal = IsTrue (waits_for waits session goal)
 IsWalk waits session (next ∷ rest) goal = IsTrue (waits_for waits session next) × IsWalk waits next rest goal
 
--- a list is a circle: it begins with this session, goes from it back to it, and nobody stands in it twice
+-- a list is a cycle: it begins with this session, goes from it back to it, and nobody stands in it twice
 abbrev pub IsRound : List Wait → ℕ → List ℕ → Type 0
 IsRound waits session [] = ⊥
 IsRound waits session (first ∷ rest) = (first ≡ session) × IsWalk waits session rest session × AllDistinct (first ∷ rest)

@@ -26,7 +26,7 @@ use lab_table::{Command, NoMemory, Session, Statement, Table, TxnNo};
 use std::alloc::{AllocError, Global};
 
 /// What the rules answer to a command of a session that doesn't wait, or waits with this command.
-/// NoMemory where a growth was refused.
+/// NoMemory where an allocation was refused.
 pub fn answer_to<R: Rules>(
     alloc: Global,
     rules: &R,
@@ -84,7 +84,7 @@ fn without_transaction(
 }
 
 /// What the rules answer to a statement of an active transaction.
-/// NoMemory where a growth was refused.
+/// NoMemory where an allocation was refused.
 pub fn run_statement<R: Rules>(
     alloc: Global,
     rules: &R,
@@ -113,7 +113,7 @@ pub fn run_statement<R: Rules>(
     }
 }
 
-/// What a statement that nobody blocks answers on what is seen. NoMemory where a growth was refused.
+/// What a statement that nobody blocks answers on what is seen. NoMemory where an allocation was refused.
 fn unblocked(alloc: Global, statement: &Statement, seen: &Versions) -> Result<Outcome, NoMemory>
     ensures { IfOk result (IsResultOn (version_in seen.now) statement.now) }
 {

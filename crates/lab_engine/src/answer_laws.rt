@@ -11,7 +11,7 @@ ghost use Rattle.lab_engine.specs.Log.{Past};
 ghost use Rattle.lab_engine.specs.LeastCircle.{IsLeastCircle};
 ghost use Rattle.lab_engine.specs.Answered.{StepsTo, RetriesTo};
 
-/// A session that asks for a statement stands on one least circle at most.
+/// A session that asks for a statement stands on one least cycle at most.
 pub fn least_circle_unique()
     ensures { (level : Level) (setup : Table) (past : Past) (session : ℕ) (s : Statement) (circle other : List ℕ)
         → IsLeastCircle level setup past session s circle → IsLeastCircle level setup past session s other → circle ≡ other }

@@ -48,7 +48,7 @@ impl Chains {
         }
     }
 
-    /// Puts a version at the end of a row's chain. NoMemory where a growth was refused.
+    /// Puts a version at the end of a row's chain. NoMemory where an allocation was refused.
     fn add(
         &mut self,
         alloc: Global,

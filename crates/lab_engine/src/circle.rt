@@ -1,6 +1,6 @@
-//! Circles of sessions that wait for each other.
+//! Cycles of sessions that wait for each other.
 //!
-//! A circle is a walk from a session back to it, which is looked for from its end. Each turn reaches those that wait for
+//! A cycle is a walk from a session back to it, which is looked for from its end. Each turn reaches those that wait for
 //! one reached by an earlier turn, so the first walk that is found is a shortest one. Each goes on to the least such
 //! session, so the walk is the least of the shortest.
 
@@ -75,7 +75,7 @@ fn next_of(waits: &[Wait], edges: &[WaitEdge], goal: Session, session: Session) 
     least
 }
 
-/// The hops of all that aren't reached and wait for one that is. NoMemory where a growth was refused.
+/// The hops of all that aren't reached and wait for one that is. NoMemory where an allocation was refused.
 fn next_layer(
     alloc: Global,
     waits: &[Wait],
@@ -100,8 +100,8 @@ fn next_layer(
     Ok(layer)
 }
 
-/// The circle from a session on that waits for the first of these. From there the hops lead on, each to one behind it.
-/// NoMemory where a growth was refused.
+/// The cycle from a session on that waits for the first of these. From there the hops lead on, each to one behind it.
+/// NoMemory where an allocation was refused.
 fn circle_by(
     alloc: Global,
     edges: &[WaitEdge],
@@ -122,8 +122,8 @@ fn circle_by(
     Ok(Sessions::new(circle))
 }
 
-/// A circle from this session on, than which none is shorter, and of those of its length the least in its list; or None
-/// where there is none. NoMemory where a growth was refused.
+/// A cycle from this session on, than which none is shorter, and of those of its length the least in its list; or None
+/// where there is none. NoMemory where an allocation was refused.
 pub fn shortest_circle(
     alloc: Global,
     waits: &[Wait],

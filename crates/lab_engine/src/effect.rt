@@ -34,7 +34,7 @@ pub struct Effect {
 /// Why a statement didn't run.
 #[derive(Clone, Copy, Debug, PartialEq, Eq)]
 pub enum EffectFault {
-    /// A growth of memory was refused.
+    /// An allocation of memory was refused.
     NoMemory,
     /// The row that the insert adds is present.
     DuplicateKey { id: RowName },

@@ -39,7 +39,7 @@ pub enum EngineFault {
     DuplicateKey { id: RowName },
     /// Refusal 3: the update would give a row a value out of range. The row named is the least such.
     OutOfRange { id: RowName },
-    /// Refusal 4: the sessions wait in a circle, from the asking one on: each is blocked by the next, and the last by
+    /// Refusal 4: the sessions wait in a cycle, from the asking one on: each is blocked by the next, and the last by
     /// the first.
     Deadlock { circle: Sessions },
     /// Refusal 5, of a commit: another transaction has installed a row that this one wrote, since its begin. The row
@@ -100,7 +100,7 @@ impl Sessions {
         &self.items
     }
 
-    /// A copy; NoMemory where a growth was refused.
+    /// A copy; NoMemory where an allocation was refused.
     pub fn copy(&self, alloc: Global) -> Result<Sessions, NoMemory>
         ensures { IfOk result (λ copy. copy ≡ self.now) }
     {
@@ -111,7 +111,7 @@ impl Sessions {
 }
 
 impl EngineFault {
-    /// A copy; NoMemory where a growth was refused.
+    /// A copy; NoMemory where an allocation was refused.
     pub fn copy(&self, alloc: Global) -> Result<EngineFault, NoMemory>
         ensures { IfOk result (λ copy. copy ≡ self.now) }
     {
@@ -132,7 +132,7 @@ impl EngineFault {
 }
 
 impl Outcome {
-    /// A copy; NoMemory where a growth was refused.
+    /// A copy; NoMemory where an allocation was refused.
     pub fn copy(&self, alloc: Global) -> Result<Outcome, NoMemory>
         ensures { IfOk result (λ copy. copy ≡ self.now) }
     {

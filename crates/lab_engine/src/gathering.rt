@@ -44,7 +44,7 @@ pub struct Gathering {
 }
 
 impl Gathering {
-    /// What these events tell, the oldest first. NoMemory where a growth was refused.
+    /// What these events tell, the oldest first. NoMemory where an allocation was refused.
     pub fn of(alloc: Global, log: &[LogEvent]) -> Result<Gathering, NoMemory>
         requires few { length log.now ≤ max_events }
         requires legal { (level : Level) × (setup : PlainTable) × IsLegal level setup (past_of log.now) }

@@ -118,7 +118,7 @@ fn grouped(
     Ok(entries)
 }
 
-/// Those who installed each row, in order of commits. NoMemory where a growth was refused.
+/// Those who installed each row, in order of commits. NoMemory where an allocation was refused.
 pub fn installed_of(alloc: Global, installs: Vec<(RowName, TxnNo)>) -> Result<Installed, NoMemory>
     ensures { IfOk result (λ installed. (row : Row) → map.get installed row ≡ if_any (numbers_of row installs.items)) }
 {
@@ -147,7 +147,7 @@ fn all_present(
         .collect(alloc)
 }
 
-/// The setup with the committed versions over it. NoMemory where a growth was refused.
+/// The setup with the committed versions over it. NoMemory where an allocation was refused.
 pub fn end_table(alloc: Global, setup: &Table, committed: &Versions) -> Result<Table, NoMemory>
     ensures { IfOk result (λ table. (row : Row) → map.get table row ≡ (unwrap_or (map.get committed.now row) (initial_version setup.now row)).state) }
 {

@@ -77,7 +77,7 @@ impl<R: Rules> Journal<R> {
 }
 
 /// Where a log leaves its sessions and rows: what is known of that, or else what a pass over the log finds.
-/// NoMemory where a growth was refused.
+/// NoMemory where an allocation was refused.
 fn known_or_found(
     alloc: Global,
     known: Option<Situation>,
@@ -93,7 +93,7 @@ fn known_or_found(
     }
 }
 
-/// An event with what goes with it. NoMemory where a growth was refused.
+/// An event with what goes with it. NoMemory where an allocation was refused.
 fn next_event<R: Rules>(
     alloc: Global,
     rules: &R,
@@ -120,7 +120,7 @@ fn next_event<R: Rules>(
     })
 }
 
-/// What the rules answer to a command, or Busy where the session waits. NoMemory where a growth was refused.
+/// What the rules answer to a command, or Busy where the session waits. NoMemory where an allocation was refused.
 fn step_outcome<R: Rules>(
     alloc: Global,
     rules: &R,
@@ -143,7 +143,7 @@ fn step_outcome<R: Rules>(
 }
 
 /// The event of a step: what the rules answer to a command, or Busy where the session waits.
-/// NoMemory where a growth was refused.
+/// NoMemory where an allocation was refused.
 fn step_event<R: Rules>(
     alloc: Global,
     rules: &R,
@@ -170,7 +170,7 @@ fn step_event<R: Rules>(
 }
 
 /// The event of a retry: what the rules answer to the statement that the session waits with.
-/// NoMemory where a growth was refused.
+/// NoMemory where an allocation was refused.
 fn retry_event<R: Rules>(
     alloc: Global,
     rules: &R,

@@ -32,7 +32,7 @@ fn committed_seen<'s>(
 
 /// What a statement of an active transaction is shown of the versions that this sees: its own last ones over those
 /// committed now, or at snapshot over those committed at its begin, over the setup's that match the statement.
-/// NoMemory where a growth was refused.
+/// NoMemory where an allocation was refused.
 pub fn seen_by(
     alloc: Global,
     level: Level,
@@ -74,7 +74,7 @@ fn row_seen(
 }
 
 /// Of the versions that an active transaction sees, those of rows that its statement would write. A select writes none,
-/// and where the statement names a row, only that is looked up. NoMemory where a growth was refused.
+/// and where the statement names a row, only that is looked up. NoMemory where an allocation was refused.
 pub fn shown_to(
     alloc: Global,
     level: Level,

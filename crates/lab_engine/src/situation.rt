@@ -61,7 +61,7 @@ pub struct Situation {
 }
 
 impl Situation {
-    /// The situation after these events, the oldest first. NoMemory where a growth was refused.
+    /// The situation after these events, the oldest first. NoMemory where an allocation was refused.
     pub fn of(alloc: Global, log: &[LogEvent]) -> Result<Situation, NoMemory>
         requires { length log.now < max_events }
         ensures { IfOk result (Describes (past_of log.now)) }
@@ -150,7 +150,7 @@ impl SessionState {
 
 impl RunningTxn {
     /// A transaction that begins, with so many events before, where these versions are the last that were installed.
-    /// NoMemory where a growth was refused.
+    /// NoMemory where an allocation was refused.
     fn begin(
         alloc: Global,
         number: TxnNo,

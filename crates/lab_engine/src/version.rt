@@ -56,7 +56,7 @@ impl Versions {
         }
     }
 
-    /// The initial version of each row that the table has. NoMemory where a growth was refused.
+    /// The initial version of each row that the table has. NoMemory where an allocation was refused.
     pub fn of_table(alloc: Global, table: &Table) -> Result<Versions, NoMemory>
         ensures { IfOk result (λ made. (row : Row) → map.get made row ≡ listed_version (map.get table.now row)) }
     {
@@ -66,7 +66,7 @@ impl Versions {
     }
 
     /// These versions, over the initial one of each row of the table that matches a statement: where the statement names
-    /// a row, no other one is looked at. NoMemory where a growth was refused.
+    /// a row, no other one is looked at. NoMemory where an allocation was refused.
     pub(crate) fn over_matching(
         &self,
         alloc: Global,
@@ -98,7 +98,7 @@ impl Versions {
         }
     }
 
-    /// The initial version of each row of the table that matches a statement. NoMemory where a growth was refused.
+    /// The initial version of each row of the table that matches a statement. NoMemory where an allocation was refused.
     fn matching(alloc: Global, statement: &Statement, table: &Table) -> Result<Versions, NoMemory>
         ensures { IfOk result (λ made. (row : Row) → map.get made row ≡ option_and_then (matching_version statement.now row) (map.get table.now row)) }
     {
@@ -107,7 +107,7 @@ impl Versions {
         })
     }
 
-    /// The versions that an operation wrote. NoMemory where a growth was refused.
+    /// The versions that an operation wrote. NoMemory where an allocation was refused.
     pub fn written(alloc: Global, writes: &Writes, name: VersionName) -> Result<Versions, NoMemory>
         ensures { IfOk result (λ made. (row : Row) → map.get made row ≡ written_version name (map.get writes.now row)) }
     {
@@ -116,7 +116,7 @@ impl Versions {
         })
     }
 
-    /// This version of a row, and no other. NoMemory where a growth was refused.
+    /// This version of a row, and no other. NoMemory where an allocation was refused.
     pub(crate) fn only(alloc: Global, row: RowName, version: Version) -> Result<Versions, NoMemory>
         ensures { IfOk result (λ made. made ≡ map.insert map.empty row version) }
     {
@@ -139,7 +139,7 @@ impl Versions {
         self.by_row.entries()
     }
 
-    /// A copy. NoMemory where a growth was refused.
+    /// A copy. NoMemory where an allocation was refused.
     pub fn copy(&self, alloc: Global) -> Result<Versions, NoMemory>
         ensures { IfOk result (λ copy. copy ≡ self.now) }
     {
@@ -148,7 +148,7 @@ impl Versions {
         })
     }
 
-    /// Of these versions those that a statement would overwrite. NoMemory where a growth was refused.
+    /// Of these versions those that a statement would overwrite. NoMemory where an allocation was refused.
     pub(crate) fn overwritten_by(
         &self,
         alloc: Global,
@@ -187,7 +187,7 @@ impl Versions {
         Ok(())
     }
 
-    /// These versions, and of the entries those whose rows have none here. NoMemory where a growth was refused.
+    /// These versions, and of the entries those whose rows have none here. NoMemory where an allocation was refused.
     fn with_missing(
         &self,
         alloc: Global,
@@ -214,7 +214,7 @@ impl Versions {
     }
 
     /// These versions with the others' over them: of a row that both have, the other's stays.
-    /// NoMemory where a growth was refused.
+    /// NoMemory where an allocation was refused.
     pub fn overlaid_with(&self, alloc: Global, over: &Versions) -> Result<Versions, NoMemory>
         ensures { IfOk result (λ made. (row : Row) → map.get made row ≡ option_or (map.get over.now row) (map.get self.now row)) }
     {

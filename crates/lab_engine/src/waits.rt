@@ -54,7 +54,7 @@ fn is_blocked_by<R: Rules>(
 }
 
 /// The sessions that block a statement of a session that sees these versions of the rows that the statement would write,
-/// by rising number. NoMemory where a growth was refused.
+/// by rising number. NoMemory where an allocation was refused.
 pub fn blockers<R: Rules>(
     alloc: Global,
     rules: &R,
@@ -78,7 +78,7 @@ pub fn blockers<R: Rules>(
 }
 
 /// Those that block the statement that a session waits with; nobody where it doesn't wait.
-/// NoMemory where a growth was refused.
+/// NoMemory where an allocation was refused.
 fn waits_on<R: Rules>(
     alloc: Global,
     rules: &R,
@@ -108,7 +108,7 @@ fn waits_on<R: Rules>(
 }
 
 /// Who waits for whom: each session whose statement waits and is blocked, by rising number, with those that block it.
-/// NoMemory where a growth was refused.
+/// NoMemory where an allocation was refused.
 pub fn all_waits<R: Rules>(
     alloc: Global,
     rules: &R,
@@ -131,8 +131,8 @@ pub fn all_waits<R: Rules>(
     Ok(waits)
 }
 
-/// The least circle on which a session would stand that asks for a statement which these block; or None where there is
-/// none. NoMemory where a growth was refused.
+/// The least cycle on which a session would stand that asks for a statement which these block; or None where there is
+/// none. NoMemory where an allocation was refused.
 pub fn deadlock<R: Rules>(
     alloc: Global,
     rules: &R,
@@ -161,8 +161,8 @@ fn is_held(waits: &[Wait], session: Session) -> bool
     waits.iter().any(|wait| wait.session == session && !wait.on.as_slice().is_empty())
 }
 
-/// Whether a session's statement waits and may go on: it waits for nobody, or stands on a circle.
-/// NoMemory where a growth was refused.
+/// Whether a session's statement waits and may go on: it waits for nobody, or stands on a cycle.
+/// NoMemory where an allocation was refused.
 fn is_released(alloc: Global, waits: &[Wait], state: &SessionState) -> Result<bool, NoMemory>
     ensures { IfOk result (λ released. IsTrue released ↔ (IsSome state.now.waits × IsReleased waits.now state.now.session)) }
 {
@@ -176,8 +176,8 @@ fn is_released(alloc: Global, waits: &[Wait], state: &SessionState) -> Result<bo
     Ok(circle.is_some())
 }
 
-/// The least session whose waiting statement has nothing in its way, or stands on a circle.
-/// NoMemory where a growth was refused.
+/// The least session whose waiting statement has nothing in its way, or stands on a cycle.
+/// NoMemory where an allocation was refused.
 pub fn retryable<R: Rules>(
     alloc: Global,
     rules: &R,

@@ -19,8 +19,8 @@ use std::test::Fail;
 /// Each row of a script in `test` has a number below this one; of `stock` there are rows 1 and 2.
 const BELOW: u32 = 6;
 
-/// Commands by a number: first those that name a row, of which longer circles are made, then those that look at all rows,
-/// and those of another table.
+/// Commands by a number: first those that name a row, of which longer cycles are made, then those that look at all
+/// rows, and those of another table.
 fn command(number: u32) -> &'static [u8] {
     match number {
         0 => b"begin",

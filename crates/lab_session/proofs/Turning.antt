@@ -77,7 +77,7 @@ some_member : (A : Type 0) (xs : List ℕ) → xs ≢ [] → ((x : ℕ) (rest : 
 some_member A [] apart then = absurd (apart refl)
 some_member A (x ∷ xs) apart then = then x xs refl
 
--- what has nothing in its way, or is in a circle, doesn't wait
+-- what has nothing in its way, or is in a cycle, doesn't wait
 module _ (level : Level) (setup : Table) (past : Past) (session : ℕ) (s : Statement) where
   answers : (outcome : Outcome) → Permitted level setup past session (Run s) outcome → (IsFree level setup past session s ⊎ ((circle : List ℕ) × IsCircle level setup past session s circle))
       → is_answer outcome ≡ true

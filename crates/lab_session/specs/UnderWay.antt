@@ -28,7 +28,7 @@ abbrev pub AllOfSessions : Past → Type 0
 AllOfSessions [] = ⊤
 AllOfSessions (event ∷ past) = AllOfSessions past × SessionInRange event.session
 
--- a log has one more event, of this session and command, which names the least circle where it names one
+-- a log has one more event, of this session and command, which names the least cycle where it names one
 abbrev pub HasMore : Level → Table → List LogEvent → List LogEvent → ℕ → Command → Type 0
 HasMore level setup old new session command = (outcome : Outcome) × (new ≡ old ++ record { session = session; command = command; outcome = outcome } ∷ [])
     × NamesLeastOf level setup (past_of old) session command outcome

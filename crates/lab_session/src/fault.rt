@@ -13,7 +13,7 @@ use std::alloc::{AllocError, AllocFailed};
 /// Why a run wasn't closed. Nothing has changed then.
 #[derive(Clone, Copy, Debug, PartialEq, Eq)]
 pub enum CloseFault {
-    /// Refusal 1: a growth was refused.
+    /// Refusal 1: an allocation was refused.
     NoMemory,
     /// Refusal 2: a session has no seat.
     SeatMissing { session: Session },
@@ -29,7 +29,7 @@ pub enum CloseFault {
 /// Why a call in a lab was refused. Where `waiting` is true the command still waits, and the seat holds it.
 #[derive(Clone, Copy, Debug, PartialEq, Eq)]
 pub enum LabFault {
-    /// Refusal 1: a growth was refused.
+    /// Refusal 1: an allocation was refused.
     NoMemory { waiting: bool },
     /// Refusal 2: the log has 100,000 events.
     Full { waiting: bool },
@@ -40,7 +40,7 @@ pub enum LabFault {
 /// Why a play has no recording.
 #[derive(Clone, Copy, Debug, PartialEq, Eq)]
 pub enum PlayFault {
-    /// Refusal 1: a growth was refused.
+    /// Refusal 1: an allocation was refused.
     NoMemory,
     /// Refusal 2: the recording would have too much of something.
     OverLimit { which: Limit },

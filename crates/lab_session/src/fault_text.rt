@@ -8,7 +8,7 @@ use lab_table::NoMemory;
 use std::alloc::Global;
 
 /// The line that tells a fault, as `play: OverLimit entries` and a newline; nothing for want of memory.
-/// NoMemory where a growth was refused.
+/// NoMemory where an allocation was refused.
 pub fn print_play_fault(alloc: Global, fault: &PlayFault) -> Result<Vec<u8>, NoMemory>
     ensures { IfOk result (λ text. text.items ≡ play_fault_text fault.now) }
 {

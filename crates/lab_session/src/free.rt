@@ -329,10 +329,10 @@ fn play_from<O: Origin + Send, E: Engine + Drop + Send, G: Gate + Sync, R: Threa
 ///
 /// A thread whose call is refused submits no further line. It goes on once with what still waits, submits one abort
 /// and ends, and from then on no thread waits for another: one whose command can't be retried at once ends likewise, so
-/// that a play ends whichever growths are refused. The play then answers the fault of the least session that has one: a
-/// growth was refused (1), or the log has 100,000 events (5). Else the lab is closed with all nine seats, and refused where that is: the recording would have
-/// too much of something (2), or seats and log differ (3). `NoThread` (4) where a thread wasn't given; those that were
-/// end first. The engine is given up then.
+/// that a play ends whichever allocations are refused. The play then answers the fault of the least session that has
+/// one: a allocation was refused (1), or the log has 100,000 events (5). Else the lab is closed with all nine seats,
+/// and refused where that is: the recording would have too much of something (2), or seats and log differ (3).
+/// `NoThread` (4) where a thread wasn't given; those that were end first. The engine is given up then.
 pub fn play_free<E: Engine + Drop + Send, G: Gate + Sync, R: Threads + Wait + Sync>(
     rt: &R,
     alloc: Global,

@@ -73,7 +73,7 @@ fn new_seats(alloc: Global, sessions: u8) -> Result<Vec<Seat>, NoMemory>
 
 impl<E: Engine + Drop> Lab<E> {
     /// A lab of a fresh engine, and a new seat of each session from 1 to `sessions`, which is from 1 to 9. NoMemory
-    /// where a growth was refused; the engine is given up then.
+    /// where an allocation was refused; the engine is given up then.
     pub fn start(alloc: Global, engine: E, sessions: u8) -> Result<(Lab<E>, Vec<Seat>), NoMemory>
         requires fresh { E.events engine ≡ [] }
         requires some { 1 ≤ sessions }

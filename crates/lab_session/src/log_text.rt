@@ -12,7 +12,7 @@ use lab_table::{NoMemory, RowName, Session};
 use std::alloc::Global;
 
 /// The log of a recording, one line for each event, as `T1 commit: committed`, if each of its statements keeps the
-/// limits of a text. TooDeep and TooLong only where one breaks that limit; NoMemory where a growth was refused.
+/// limits of a text. TooDeep and TooLong only where one breaks that limit; NoMemory where an allocation was refused.
 pub fn print_log(alloc: Global, recording: &Recording) -> Result<Vec<u8>, PrintFault>
     ensures text { IfOk result (λ text. text.items ≡ log_text recording.now.log) }
     ensures prints { OnOk result (AllPrint recording.now.log) }
@@ -66,7 +66,7 @@ fn put_sessions(out: &mut Vec<u8>, sessions: &[Session]) -> Result<(), NoMemory>
     Ok(())
 }
 
-/// Appends a circle of sessions, each behind a space.
+/// Appends a cycle of sessions, each behind a space.
 fn put_circle(out: &mut Vec<u8>, circle: &[Session]) -> Result<(), NoMemory>
     ensures { OnOk result (out.new.items ≡ out.old.items ++ flat_map next_text circle.now) }
 {

@@ -1,5 +1,5 @@
-//! Calls with each of their growths refused in turn: they answer want of memory and nothing else, what they would change
-//! is as it was, and the same call with memory answers as if nothing had been.
+//! Calls with each of their allocations refused in turn: they answer want of memory and nothing else, what they would
+//! change is as it was, and the same call with memory answers as if nothing had been.
 
 use crate::refusal::{refuse, was_refused};
 use lab_engine::Recording;
@@ -29,7 +29,7 @@ enum Call {
     Close,
 }
 
-/// Four events, so that a fifth needs a growth.
+/// Four events, so that a fifth needs an allocation.
 const STEPPED: &[u8] = b"setup (1, 10), (2, 20);
 begin; -- T1
 begin; -- T2
@@ -37,7 +37,7 @@ select * from test where id = 1; -- T1
 select * from test where id = 1; -- T1
 ";
 
-/// Session 2 waits, and session 1 ends. Eight events, so that a ninth needs a growth.
+/// Session 2 waits, and session 1 ends. Eight events, so that a ninth needs an allocation.
 const RETRIED: &[u8] = b"setup (1, 10), (2, 20);
 begin; -- T1
 update test set value = 11 where id = 1; -- T1
@@ -140,8 +140,9 @@ fn has_logged(
     Some(front == stood && rest == added)
 }
 
-/// Makes a call on a bench with this growth refused, and where it had no memory once more. Whether a growth was refused;
-/// None where an answer isn't what is due, or the log isn't what stood there after a call that had no memory.
+/// Makes a call on a bench with this allocation refused, and where it had no memory once more. Whether an allocation
+/// was refused; None where an answer isn't what is due, or the log isn't what stood there after a call that had no
+/// memory.
 fn made_right(
     alloc: Global,
     growth: u16,
@@ -240,8 +241,8 @@ fn setup(alloc: Global) -> Option<Table> {
     Some(script.setup)
 }
 
-/// A new lab of two sessions, with this growth refused, and None where it had no memory. And whether a growth was
-/// refused.
+/// A new lab of two sessions, with this allocation refused, and None where it had no memory. And whether an allocation
+/// was refused.
 fn start(alloc: Global, growth: u16, refused: &mut bool) -> Option<(Lab<LockEngine>, Vec<Seat>)> {
     let engine = LockEngine::new(alloc, setup(alloc)?);
     refuse(alloc, growth);
@@ -329,8 +330,8 @@ fn updated_again<R: Wait>(
     lab.submit(rt, alloc, seat, command).ok()
 }
 
-/// Submits session 1's update with this growth refused, and where it had no memory once more. And whether a growth was
-/// refused.
+/// Submits session 1's update with this allocation refused, and where it had no memory once more. And whether an
+/// allocation was refused.
 fn updated<R: Wait>(
     rt: &R,
     alloc: Global,
@@ -398,7 +399,8 @@ fn closed_again(
     lab.close(alloc, seats).ok()
 }
 
-/// Closes a lab with this growth refused, and where it had no memory once more. And whether a growth was refused.
+/// Closes a lab with this allocation refused, and where it had no memory once more. And whether an allocation was
+/// refused.
 fn closed(
     alloc: Global,
     lab: Lab<LockEngine>,
@@ -427,7 +429,7 @@ enum LabCall {
     Close,
 }
 
-/// The recording of a lab's run with a growth of one of its calls refused, and whether one was.
+/// The recording of a lab's run with an allocation of one of its calls refused, and whether one was.
 fn lab_run<R: Wait>(
     rt: &R,
     alloc: Global,
@@ -436,7 +438,7 @@ fn lab_run<R: Wait>(
     refused: &mut bool,
 ) -> Option<Recording> {
     let (mut at_start, mut at_submit, mut at_close) = (false, false, false);
-    // Another call has no growth refused: 0.
+    // Another call has no allocation refused: 0.
     let of = |call| if call == refusing { growth } else { 0 };
     let (lab, mut seats) = started(alloc, of(LabCall::Start), &mut at_start)?;
     let updated = submitted_and_updated(
@@ -478,7 +480,7 @@ T1 select * from test where id = 1: rows (1, 10)
 T1 update test set value = 11 where id = 1: rows (1, 10)
 ";
 
-/// Whether a growth was refused in that run; None where its log isn't what is due.
+/// Whether an allocation was refused in that run; None where its log isn't what is due.
 fn lab_refused_once<R: Wait>(
     rt: &R,
     alloc: Global,

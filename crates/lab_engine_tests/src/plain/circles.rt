@@ -1,4 +1,4 @@
-//! Sessions that wait in a circle, and those that may go on.
+//! Sessions that wait in a cycle, and those that may go on.
 
 use crate::plain::PlainEngine;
 use crate::plain::transactions::{Txn, active, waiting};
@@ -40,7 +40,7 @@ fn closed<'a>(
     None
 }
 
-/// The circle of a session, if it stands on one: all walks from it are tried, the shorter ones first, and of one length
+/// The cycle of a session, if it stands on one: all walks from it are tried, the shorter ones first, and of one length
 /// the least first.
 fn circle(alloc: Global, waits: &[Wait], session: Session) -> Option<Option<Sessions>> {
     let mut walks = vec![in alloc; vec![in alloc; session].ok()?].ok()?;
@@ -53,7 +53,7 @@ fn circle(alloc: Global, waits: &[Wait], session: Session) -> Option<Option<Sess
     Some(None)
 }
 
-/// Whether a session that waits would not wait any more: it waits for nobody, or stands on a circle.
+/// Whether a session that waits would not wait any more: it waits for nobody, or stands on a cycle.
 fn may_go_on(alloc: Global, waits: &[Wait], session: Session) -> Option<bool> {
     for wait in waits {
         if wait.0 == session {
@@ -82,7 +82,7 @@ impl PlainEngine {
         Some(waits)
     }
 
-    /// The answer to a statement: what it does where nobody blocks it, a deadlock where it would close a circle, else
+    /// The answer to a statement: what it does where nobody blocks it, a deadlock where it would close a cycle, else
     /// that it waits.
     pub fn run(&self, alloc: Global, txn: &Txn<'_>, statement: &Statement) -> Option<Outcome> {
         let on = self.blockers(alloc, txn, statement)?;
