@@ -1,6 +1,6 @@
 -- The first edge that opens a walk that leads back.
 use Rattle.std.proofs.Common.{◌≡◌, ℕ, ◌<◌, Bool, true, false, Some, None, Option, Ok, Err, Result, IfOk, List, slice_index, inl, inr, sym, ap, ◌∙◌, subst, arith}
-use Rattle.std.specs.Prelude.{◌↔◌, Contains, IfSome, IsTrue, slice_get}
+use Rattle.std.specs.Prelude.{Contains, IfSome, slice_get}
 use Rattle.std.specs.Cmp.{nat_cmp_is}
 use Rattle.std.specs.List.{All, list_any}
 use Rattle.std.specs.List.Sorted.{IsStrictlyIncreasing}
@@ -14,7 +14,6 @@ use Rattle.lab_table.specs.Row.{row_cmp}
 use Rattle.lab_order.specs.Arrows.{Arrows}
 use Rattle.lab_order.specs.Order.{position}
 use Rattle.lab_order.specs.Path.{Reaches}
-use Rattle.lab_order.specs.Placing.{is_marked}
 use Rattle.lab_deps.specs.EdgeOrder.{kind_place, edge_cmp}
 use Rattle.lab_deps.specs.KindBits.{has_bit}
 use Rattle.lab_deps.specs.declared.edge.Edge.{Edge}
@@ -56,19 +55,19 @@ module _ (opening : Opening) (graph : Arrows) (nodes : List ℕ) (up : IsStrictl
   has_ends : (f : Edge) → Contains es f → HasEnds nodes f
   has_ends f there = All-contains (HasEnds nodes) es f ends there
 
-  -- of the edges that open a walk the first from a node is the least to the first marked one
-  pub first_tied : (bits : ℕ) → ((kind : Kind) → has_bit bits kind ≡ opens opening kind) → (marks : List Bool) → ((n : ℕ) → IsTrue (is_marked marks n) ↔ Reaches graph n from) → (to n m : ℕ)
-      → ((k : ℕ) → k < to → is_marked marks k ≡ true → list_any (ties (has_bit bits) nodes from k) es ≡ false) → slice_get nodes from ≡ Some n → slice_get nodes to ≡ Some m
+  -- of the edges that open a walk the first from a node is the least to the first one that leads back
+  pub first_tied : (bits : ℕ) → ((kind : Kind) → has_bit bits kind ≡ opens opening kind) → (to n m : ℕ)
+      → ((k : ℕ) → k < to → Reaches graph k from → list_any (ties (has_bit bits) nodes from k) es ≡ false) → slice_get nodes from ≡ Some n → slice_get nodes to ≡ Some m
       → (e : Edge) → e.from ≡ n → e.to ≡ m → ((f : Edge) → Contains es f → f.from ≡ n → f.to ≡ m → has_bit bits f.kind ≡ true → is_lt (edge_cmp f e) ≡ false)
       → (f : Edge) → Contains es f → position nodes f.from ≡ from → IsOpening opening graph nodes f → is_lt (edge_cmp f e) ≡ false
-  first_tied bits told marks exact to n m none from_is to_is e begins ended least f there at opened =
+  first_tied bits told to n m none from_is to_is e begins ended least f there at opened =
       let q : ℕ = position nodes f.to in
       let ends_of : HasEnds nodes f = has_ends f there in
       let same_from : f.from ≡ n = same_Some f.from n (sym (stands nodes f.from ends_of.0) ∙ ap (slice_get nodes) at ∙ from_is) in
-      let marked : is_marked marks q ≡ true = (exact q).1 (subst (Reaches graph q) at opened.1) in
+      let back : Reaches graph q from = subst (Reaches graph q) at opened.1 in
       let tied : list_any (ties (has_bit bits) nodes from q) es ≡ true = tied_by opening graph nodes es ends bits told from f there at opened.0 in
       elim (cases_lt q to) [
-        | inl before ↦ absurd (false≢true (sym (none q before marked) ∙ tied))
+        | inl before ↦ absurd (false≢true (sym (none q before back) ∙ tied))
         | inr more ↦ elim (cases_lt to q) [
           | inl after ↦
               let rise : slice_index nodes to < slice_index nodes q = rises nodes up to q after (position_within nodes f.to ends_of.1) in

@@ -82,6 +82,28 @@ module _ (test : Kind → Bool) (joining : Joining) (nodes : List ℕ) (es : Lis
   pub landed : by_pairs ≡ list_any (lands test joining nodes a b) es
   landed = same_truth by_pairs (list_any (lands test joining nodes a b) es) from_pairs to_pairs
 
+  -- the same, the second transactions first
+  abbrev pub by_ends : Bool
+  by_ends = any_below (λ q. any_below (λ p. landing test joining nodes es a b p q) (length nodes)) (length nodes)
+
+  abbrev at_both : ℕ → ℕ → Bool
+  at_both p q = landing test joining nodes es a b p q
+
+  to_ends : by_pairs ≡ true → by_ends ≡ true
+  to_ends h =
+      let first : (p : ℕ) × (p < length nodes) × (any_below (at_both p) (length nodes) ≡ true) = some_below (λ p. any_below (at_both p) (length nodes)) (length nodes) h in
+      let second : (q : ℕ) × (q < length nodes) × (at_both first.0 q ≡ true) = some_below (at_both first.0) (length nodes) first.2 in
+      below_some (λ q. any_below (λ p. at_both p q) (length nodes)) (length nodes) second.0 second.1 (below_some (λ p. at_both p second.0) (length nodes) first.0 first.1 second.2)
+
+  from_ends : by_ends ≡ true → by_pairs ≡ true
+  from_ends h =
+      let first : (q : ℕ) × (q < length nodes) × (any_below (λ p. at_both p q) (length nodes) ≡ true) = some_below (λ q. any_below (λ p. at_both p q) (length nodes)) (length nodes) h in
+      let second : (p : ℕ) × (p < length nodes) × (at_both p first.0 ≡ true) = some_below (λ p. at_both p first.0) (length nodes) first.2 in
+      below_some (λ p. any_below (at_both p) (length nodes)) (length nodes) second.0 second.1 (below_some (at_both second.0) (length nodes) first.0 first.1 second.2)
+
+  pub landed_by_ends : by_ends ≡ list_any (lands test joining nodes a b) es
+  landed_by_ends = same_truth by_ends by_pairs from_ends to_ends ∙ landed
+
 -- where the transactions at two places are looked at, the arrows of the places so far become those with one place more
 module _ (test : Kind → Bool) (joining : Joining) (nodes : List ℕ) (es : List Edge) (a b p q : ℕ) where
   abbrev here : Bool

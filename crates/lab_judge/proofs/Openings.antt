@@ -1,29 +1,21 @@
 -- Edges that open a walk that leads back, and those that don't.
-use Rattle.std.proofs.Common.{◌≡◌, ℕ, ◌<◌, ◌==◌, ◌&&◌, Bool, true, false, Some, List, length, slice_index_or, refl, sym, ap, ◌∙◌, subst}
-use Rattle.std.specs.Prelude.{Contains, IsTrue, ◌↔◌, slice_get}
+use Rattle.std.proofs.Common.{◌≡◌, ℕ, ◌<◌, ◌==◌, ◌&&◌, Bool, true, false, Some, List, length, refl, sym, ap, ◌∙◌, subst}
+use Rattle.std.specs.Prelude.{Contains, slice_get}
 use Rattle.std.specs.List.{All, list_any}
 use Rattle.std.proofs.lemmas.Bool.{false≢true, and_from, eq-eqb}
-use Rattle.std.proofs.lemmas.List.{get_or_read}
 use Rattle.std.proofs.lemmas.List.Elements.{All-contains}
 use Rattle.std.proofs.lemmas.Option.{same_Some}
 use Rattle.lab_order.specs.Arrows.{Arrows}
 use Rattle.lab_order.specs.Path.{Reaches}
-use Rattle.lab_order.specs.Placing.{is_marked}
 use Rattle.lab_order.specs.Order.{position}
 use Rattle.lab_deps.specs.KindBits.{has_bit}
 use Rattle.lab_deps.specs.declared.edge.Edge.{Edge}
 use Rattle.lab_deps.specs.declared.edge.Kind.{Kind}
 use Rattle.lab_judge.specs.Graphs.{HasEnds, ties}
-use Rattle.lab_judge.specs.Joining.{any_below}
 use Rattle.lab_judge.specs.Openings.{opens, IsOpening}
 use Rattle.lab_judge.specs.declared.findings.opening.Opening.{Opening}
 use Rattle.lab_judge.proofs.Joined.{Tie, tie, passes_some}
-use Rattle.lab_judge.proofs.Landings.{below_some}
 use Rattle.lab_judge.proofs.Numbers.{position_within}
-
--- the mark of a node is what is read there
-pub mark_read : (marks : List Bool) (n : ℕ) (b : Bool) → n < length marks → b ≡ slice_index_or marks n b → is_marked marks n ≡ b
-mark_read marks n b lt is = sym (get_or_read marks n b lt is false)
 
 -- an edge begins at a node
 pub within_nodes : (nodes : List ℕ) (es : List Edge) → All (HasEnds nodes) es → (e : Edge) → Contains es e → position nodes e.from < length nodes
@@ -42,29 +34,21 @@ module _ (opening : Opening) (graph : Arrows) (nodes : List ℕ) (es : List Edge
   within : (e : Edge) → Contains es e → position nodes e.to < length nodes
   within e there = let has : HasEnds nodes e = All-contains (HasEnds nodes) es e ends there in position_within nodes e.to has.1
 
-  -- where nothing depends on the node's transaction so, no edge from it opens a walk
-  pub none_tied : any_below (λ to. list_any (ties (has_bit bits) nodes from to) es) (length nodes) ≡ false
+  -- where nothing does that leads back, no edge from it opens a walk
+  pub none_leading : ((to : ℕ) → to < length nodes → Reaches graph to from → list_any (ties (has_bit bits) nodes from to) es ≡ false)
       → (e : Edge) → Contains es e → position nodes e.from ≡ from → IsOpening opening graph nodes e → ⊥
-  none_tied none e there at opened =
-      false≢true (sym none ∙ below_some (λ to. list_any (ties (has_bit bits) nodes from to) es) (length nodes) (position nodes e.to) (within e there) (tied_by e there at opened.0))
+  none_leading none e there at opened =
+      let to = position nodes e.to in
+      let back : Reaches graph to from = subst (Reaches graph to) at opened.1 in
+      false≢true (sym (none to (within e there) back) ∙ tied_by e there at opened.0)
 
-  module _ (marks : List Bool) (exact : (n : ℕ) → IsTrue (is_marked marks n) ↔ Reaches graph n from) where
-    -- nor where nothing does that is marked
-    pub none_marked : ((to : ℕ) → to < length nodes → is_marked marks to ≡ true → list_any (ties (has_bit bits) nodes from to) es ≡ false)
-        → (e : Edge) → Contains es e → position nodes e.from ≡ from → IsOpening opening graph nodes e → ⊥
-    none_marked none e there at opened =
-        let to = position nodes e.to in
-        let back : Reaches graph to from = subst (Reaches graph to) at opened.1 in
-        false≢true (sym (none to (within e there) ((exact to).1 back)) ∙ tied_by e there at opened.0)
-
-    -- one to a marked node does
-    pub marked_opens : (to : ℕ) → is_marked marks to ≡ true → (e : Edge) (n m : ℕ) → e.from ≡ n → position nodes n ≡ from → e.to ≡ m → position nodes m ≡ to
-        → has_bit bits e.kind ≡ true → IsOpening opening graph nodes e
-    marked_opens to marked e n m from_is from_at to_is to_at kind =
-        let back : Reaches graph to from = (exact to).0 marked in
-        let to_same : to ≡ position nodes e.to = sym (ap (position nodes) to_is ∙ to_at) in
-        let from_same : from ≡ position nodes e.from = sym (ap (position nodes) from_is ∙ from_at) in
-        (sym (told e.kind) ∙ kind, subst (λ k. Reaches graph k (position nodes e.from)) to_same (subst (Reaches graph to) from_same back))
+  -- one to a node that leads back does
+  pub leading_opens : (to : ℕ) → Reaches graph to from → (e : Edge) (n m : ℕ) → e.from ≡ n → position nodes n ≡ from → e.to ≡ m → position nodes m ≡ to
+      → has_bit bits e.kind ≡ true → IsOpening opening graph nodes e
+  leading_opens to back e n m from_is from_at to_is to_at kind =
+      let to_same : to ≡ position nodes e.to = sym (ap (position nodes) to_is ∙ to_at) in
+      let from_same : from ≡ position nodes e.from = sym (ap (position nodes) from_is ∙ from_at) in
+      (sym (told e.kind) ∙ kind, subst (λ k. Reaches graph k (position nodes e.from)) to_same (subst (Reaches graph to) from_same back))
 
 -- where two nodes are tied, there is such an edge
 pub surely : (test : Kind → Bool) (nodes : List ℕ) (es : List Edge) → All (HasEnds nodes) es → (from to n m : ℕ) → list_any (ties test nodes from to) es ≡ true

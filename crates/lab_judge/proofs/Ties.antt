@@ -1,5 +1,5 @@
 -- Kinds between two transactions, and whether one depends on the other in one of some ways.
-use Rattle.std.proofs.Common.{◌≡◌, ℕ, ◌<◌, ◌==◌, ◌&&◌, Bool, true, Some, List, length, get_or, slice_index, sym, ◌∙◌, subst}
+use Rattle.std.proofs.Common.{◌≡◌, ℕ, ◌<◌, ◌==◌, ◌&&◌, Bool, true, Some, List, length, get_or, slice_index, sym, ap, ◌∙◌, subst}
 use Rattle.std.specs.Prelude.{◌↔◌, Contains, slice_get}
 use Rattle.std.specs.List.{list_any, All}
 use Rattle.std.specs.List.Sorted.{IsStrictlyIncreasing}
@@ -46,13 +46,13 @@ module _ (nodes : List ℕ) (es : List Edge) (ends : All (HasEnds nodes) es) (p 
 
 -- the kinds in the row of a place say so
 pub row_tied : (nodes : List ℕ) → IsStrictlyIncreasing nodes → (es : List Edge) → All (HasEnds nodes) es → (p q : ℕ) → p < length nodes → (all : List Kinds) → AreKindsTo es nodes (slice_index nodes p) all
-    → q < length all → (d : Kinds) → (bits : ℕ) (result : Bool) → (result ≡ true ↔ ((kind : Kind) × (has_bit (get_or all q d).bits kind ≡ true) × (has_bit bits kind ≡ true)))
-    → result ≡ list_any (ties (has_bit bits) nodes p q) es
-row_tied nodes up es ends p q lt all told less d bits result meets =
+    → q < length all → (between : Kinds) → ((d : Kinds) → between ≡ get_or all q d) → (bits : ℕ) (result : Bool)
+    → (result ≡ true ↔ ((kind : Kind) × (has_bit between.bits kind ≡ true) × (has_bit bits kind ≡ true))) → result ≡ list_any (ties (has_bit bits) nodes p q) es
+row_tied nodes up es ends p q lt all told less between is bits result meets =
     let from = slice_index nodes p in
     let to = slice_index nodes q in
     let within : q < length nodes = subst (λ n. q < n) told.size less in
     let from_is : slice_get nodes p ≡ Some from = slice_get-get_or nodes p 0 lt in
     let to_is : slice_get nodes q ≡ Some to = slice_get-get_or nodes q 0 within in
-    tied nodes es ends p q from to from_is to_is (at_its_place nodes up p from from_is) (at_its_place nodes up q to to_is) (get_or all q d).bits bits
-    (told.exact q to (get_or all q d) to_is (slice_get-get_or all q d less)) result meets
+    let there : slice_get all q ≡ Some between = slice_get-get_or all q between less ∙ ap Some (sym (is between)) in
+    tied nodes es ends p q from to from_is to_is (at_its_place nodes up p from from_is) (at_its_place nodes up q to to_is) between.bits bits (told.exact q to between to_is there) result meets

@@ -23,14 +23,14 @@ mod opening;
 mod reads;
 
 use crate::allowed::Allowed;
-use crate::graphs::graph_of;
+use crate::graphs::{graph_among, graph_of};
 use crate::nodes::Nodes;
 use crate::report::{Finding, Grade};
 use closed_walk::{find_circle, find_opened};
 use grade::{grade_of, low_grade_of};
 use lab_deps::{Dependencies, KindTable, LocalFault};
 use lab_history::History;
-use lab_order::{Graph, NoMemory};
+use lab_order::{Graph, NoMemory, Ways};
 pub(crate) use opening::Opening;
 use reads::{find_aborted_read, find_intermediate_read};
 use std::alloc::Global;
@@ -102,10 +102,11 @@ fn find_walks(
     ensures found { IfOk result (λ found. (h : Recorded) → IsSound h → ((e : Spelled) → Contains edges.now e ↔ IsEdge h e) → JudgesAll h found.phenomena found.level) }
     ensures walks { IfOk result (λ found. (h : Recorded) → AreCommitted h nodes.now → ((e : Spelled) → Contains edges.now e ↔ IsEdge h e) → FindsDueWalks h found.phenomena) }
 {
-    let writes = graph_of(alloc, nodes, table, Allowed::Writes)?;
-    let flow = graph_of(alloc, nodes, table, Allowed::Flow)?;
+    let writes = graph_among(alloc, nodes, table, all, Allowed::Writes)?;
+    let flow = graph_among(alloc, nodes, table, all, Allowed::Flow)?;
     let g0 = find_circle(alloc, nodes, edges, Allowed::Writes, &writes)?;
     let g1c = find_circle(alloc, nodes, edges, Allowed::Flow, &flow)?;
+    let flow_ways = Ways::of(alloc, &flow)?;
     let g_single = find_opened(
         alloc,
         nodes,
@@ -113,8 +114,10 @@ fn find_walks(
         table,
         Allowed::Flow,
         &flow,
+        &flow_ways,
         Opening::Anti,
     )?;
+    let all_ways = Ways::of(alloc, all)?;
     let g2_item = find_opened(
         alloc,
         nodes,
@@ -122,9 +125,19 @@ fn find_walks(
         table,
         Allowed::All,
         all,
+        &all_ways,
         Opening::ItemAnti,
     )?;
-    let g2 = find_opened(alloc, nodes, edges, table, Allowed::All, all, Opening::Anti)?;
+    let g2 = find_opened(
+        alloc,
+        nodes,
+        edges,
+        table,
+        Allowed::All,
+        all,
+        &all_ways,
+        Opening::Anti,
+    )?;
     let level = grade_of(&g0, &g1c, &g2_item, &g2);
     Ok(Findings {
         phenomena: [

@@ -4,9 +4,10 @@ ghost use Rattle.std.specs.Prelude.{◌≡◌, IfOk};
 ghost use Rattle.std.specs.List.{All};
 ghost use Rattle.std.specs.List.Sorted.{IsStrictlyIncreasing};
 ghost use Rattle.lab_judge.specs.Graphs.{HasEnds, IsGraphOf};
+ghost use Rattle.lab_judge.specs.declared.allowed.Allowed.TheVariants as kinds;
 
 use crate::allowed::Allowed;
-use crate::joining::{Joining, add_arrows};
+use crate::joining::{Joining, add_arrows, add_arrows_among};
 use crate::nodes::Nodes;
 use lab_deps::KindTable;
 use lab_order::{Graph, NoMemory};
@@ -30,6 +31,32 @@ pub(crate) fn graph_of(
         alloc,
         &mut graph,
         table,
+        allowed.kinds(),
+        Joining::Transactions,
+    )?;
+    Ok(graph)
+}
+
+/// The same where the graph of all dependencies is at hand.
+pub(crate) fn graph_among(
+    alloc: Global,
+    nodes: &Nodes,
+    table: &KindTable<'_, '_>,
+    all: &Graph,
+    allowed: Allowed,
+) -> Result<Graph, NoMemory>
+    requires numbers { table.now.numbers ≡ nodes.now }
+    requires rising { IsStrictlyIncreasing nodes.now }
+    requires ends { All (HasEnds nodes.now) table.now.edges }
+    requires all { IsGraphOf kinds.All nodes.now table.now.edges all.now }
+    ensures { IfOk result (IsGraphOf allowed nodes.now table.now.edges) }
+{
+    let mut graph = Graph::new(alloc, nodes.len())?;
+    add_arrows_among(
+        alloc,
+        &mut graph,
+        table,
+        all,
         allowed.kinds(),
         Joining::Transactions,
     )?;

@@ -5,8 +5,9 @@ ghost use Rattle.std.specs.List.{All, list_any};
 ghost use Rattle.std.specs.List.Sorted.{IsStrictlyIncreasing};
 ghost use Rattle.lab_order.specs.Arrows.{nodes_of, has_arrow};
 ghost use Rattle.lab_deps.specs.KindBits.{has_bit};
-ghost use Rattle.lab_judge.specs.Graphs.{HasEnds};
+ghost use Rattle.lab_judge.specs.Graphs.{HasEnds, IsGraphOf};
 ghost use Rattle.lab_judge.specs.Joining.{tail, head, nodes_for, lands, landing, any_below};
+ghost use Rattle.lab_judge.specs.declared.allowed.Allowed.TheVariants as allowed;
 
 use lab_deps::{KindTable, Kinds};
 use lab_order::{Graph, NoMemory};
@@ -91,10 +92,90 @@ fn add_arrows_from(
         ≡ (any_below (landing (has_bit kinds.bits) joining table.now.numbers table.now.edges a b from) (length table.now.numbers) || has_arrow graph.old a b)) }
 {
     let row = table.row(from);
-    for (to, between) in row.iter().enumerate() {
+    for to in 0..row.len() {
+        let between = row.kinds(to);
         if between.meets(kinds) {
             graph.add(alloc, joining.tail(from), joining.head(to as u32))?;
         }
+    }
+    Ok(())
+}
+
+/// The same where the graph of all dependencies is at hand: only the transactions that have an arrow there are looked at.
+pub(crate) fn add_arrows_among(
+    alloc: Global,
+    graph: &mut Graph,
+    table: &KindTable<'_, '_>,
+    all: &Graph,
+    kinds: Kinds,
+    joining: Joining,
+) -> Result<(), NoMemory>
+    requires rising { IsStrictlyIncreasing table.now.numbers }
+    requires few { length table.now.numbers ≤ 1000001 }
+    requires ends { All (HasEnds table.now.numbers) table.now.edges }
+    requires all { IsGraphOf allowed.All table.now.numbers table.now.edges all.now }
+    requires size { nodes_of graph.old ≡ nodes_for joining (length table.now.numbers) }
+    ensures nodes { nodes_of graph.new ≡ nodes_of graph.old }
+    ensures arrows { IfOk result (λ _. (a b : ℕ) → has_arrow graph.new a b
+        ≡ (list_any (lands (has_bit kinds.bits) joining table.now.numbers a b) table.now.edges || has_arrow graph.old a b)) }
+{
+    for to in 0..table.len() as u32 {
+        add_arrows_to(alloc, graph, table, all, kinds, joining, to)?;
+    }
+    Ok(())
+}
+
+/// Adds the arrows of those on which the transaction of a node depends. NoMemory where a growth was refused.
+fn add_arrows_to(
+    alloc: Global,
+    graph: &mut Graph,
+    table: &KindTable<'_, '_>,
+    all: &Graph,
+    kinds: Kinds,
+    joining: Joining,
+    to: u32,
+) -> Result<(), NoMemory>
+    requires rising { IsStrictlyIncreasing table.now.numbers }
+    requires few { length table.now.numbers ≤ 1000001 }
+    requires ends { All (HasEnds table.now.numbers) table.now.edges }
+    requires all { IsGraphOf allowed.All table.now.numbers table.now.edges all.now }
+    requires size { nodes_of graph.old ≡ nodes_for joining (length table.now.numbers) }
+    requires to { to < length table.now.numbers }
+    ensures nodes { nodes_of graph.new ≡ nodes_of graph.old }
+    ensures arrows { IfOk result (λ _. (a b : ℕ) → has_arrow graph.new a b
+        ≡ (any_below (λ from. landing (has_bit kinds.bits) joining table.now.numbers table.now.edges a b from to) (length table.now.numbers) || has_arrow graph.old a b)) }
+{
+    for from in all.before(to) {
+        add_arrow(alloc, graph, table, kinds, joining, *from, to)?;
+    }
+    Ok(())
+}
+
+/// Adds the arrow of two transactions, if the second depends on the first in one of these ways. NoMemory where a growth
+/// was refused.
+fn add_arrow(
+    alloc: Global,
+    graph: &mut Graph,
+    table: &KindTable<'_, '_>,
+    kinds: Kinds,
+    joining: Joining,
+    from: u32,
+    to: u32,
+) -> Result<(), NoMemory>
+    requires rising { IsStrictlyIncreasing table.now.numbers }
+    requires few { length table.now.numbers ≤ 1000001 }
+    requires ends { All (HasEnds table.now.numbers) table.now.edges }
+    requires size { nodes_of graph.old ≡ nodes_for joining (length table.now.numbers) }
+    requires from { from < length table.now.numbers }
+    requires to { to < length table.now.numbers }
+    ensures nodes { nodes_of graph.new ≡ nodes_of graph.old }
+    ensures arrows { IfOk result (λ _. (a b : ℕ) → has_arrow graph.new a b
+        ≡ (landing (has_bit kinds.bits) joining table.now.numbers table.now.edges a b from to || has_arrow graph.old a b)) }
+{
+    let row = table.row(from);
+    let between = row.kinds(to as usize);
+    if between.meets(kinds) {
+        graph.add(alloc, joining.tail(from), joining.head(to))?;
     }
     Ok(())
 }

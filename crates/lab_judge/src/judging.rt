@@ -117,7 +117,7 @@ fn judge_sound(alloc: Global, history: &History, sound: &Sound) -> Result<Report
     let table = edges.table(alloc, nodes.numbers())?;
     let all = graph_of(alloc, &nodes, &table, Allowed::All)?;
     let serial = serial_verdict(alloc, history, &nodes, &edges, &all)?;
-    let snapshot = snapshot_verdict(alloc, history, &nodes, &table)?;
+    let snapshot = snapshot_verdict(alloc, history, &nodes, &table, &all)?;
     let found = find_beside(alloc, history, &nodes, &edges, &table, &all, &serial)?;
     Ok(Report {
         serial,

@@ -8,33 +8,36 @@ ghost use Rattle.std.specs.Prelude.{◌≡◌, ◌≤◌, ◌*◌, ℕ, IfOk};
 ghost use Rattle.std.specs.List.{All};
 ghost use Rattle.std.specs.List.Sorted.{IsStrictlyIncreasing};
 ghost use Rattle.lab_order.specs.Arrows.{nodes_of, has_arrow};
-ghost use Rattle.lab_judge.specs.Graphs.{HasEnds};
+ghost use Rattle.lab_judge.specs.Graphs.{HasEnds, IsGraphOf};
+ghost use Rattle.lab_judge.specs.declared.allowed.Allowed.TheVariants as allowed;
 ghost use Rattle.lab_judge.specs.PlaceGraphs.{spans, IsPlaceGraph};
 
 use crate::allowed::Allowed;
 use crate::findings::Opening;
-use crate::joining::{Joining, add_arrows};
+use crate::joining::{Joining, add_arrows_among};
 use crate::nodes::Nodes;
 use lab_deps::KindTable;
 use lab_order::{Graph, NoMemory};
 use std::alloc::Global;
 
-/// The graph of the starts and commits of these transactions. NoMemory where a growth was refused.
+/// The graph of the starts and commits of these transactions, by the graph of all dependencies. NoMemory where a growth was refused.
 pub(crate) fn place_graph(
     alloc: Global,
     nodes: &Nodes,
     table: &KindTable<'_, '_>,
+    all: &Graph,
 ) -> Result<Graph, NoMemory>
     requires numbers { table.now.numbers ≡ nodes.now }
     requires rising { IsStrictlyIncreasing nodes.now }
     requires ends { All (HasEnds nodes.now) table.now.edges }
+    requires all { IsGraphOf allowed.All nodes.now table.now.edges all.now }
     ensures { IfOk result (IsPlaceGraph nodes.now table.now.edges) }
 {
     let flow = Allowed::Flow.kinds();
     let anti = Opening::Anti.kinds();
     let mut graph = spans_graph(alloc, nodes.len())?;
-    add_arrows(alloc, &mut graph, table, flow, Joining::CommitToStart)?;
-    add_arrows(alloc, &mut graph, table, anti, Joining::StartToCommit)?;
+    add_arrows_among(alloc, &mut graph, table, all, flow, Joining::CommitToStart)?;
+    add_arrows_among(alloc, &mut graph, table, all, anti, Joining::StartToCommit)?;
     Ok(graph)
 }
 

@@ -7,6 +7,8 @@ ghost use Rattle.lab_order.specs.Order.{position};
 ghost use Rattle.lab_deps.specs.Edges.{IsEdge};
 ghost use Rattle.lab_deps.specs.Soundness.{IsSound};
 ghost use Rattle.lab_deps.specs.declared.edge.Edge.{Edge as Spelled};
+ghost use Rattle.lab_judge.specs.Graphs.{IsGraphOf};
+ghost use Rattle.lab_judge.specs.declared.allowed.Allowed.TheVariants as allowed;
 ghost use Rattle.lab_judge.specs.Runs.{HoldsEachOnce, spans_of};
 ghost use Rattle.lab_judge.specs.Judgement.{IsSnapshotVerdict, RestsOnPlaces};
 ghost use Rattle.lab_judge.specs.BackPoints.{HasBackCircle};
@@ -18,11 +20,11 @@ use crate::place_graph::place_graph;
 use crate::places::{Circle, Places, Point, Spans};
 use lab_deps::KindTable;
 use lab_history::History;
-use lab_order::{NoMemory, Ordered, order};
+use lab_order::{Graph, NoMemory, Ordered, order};
 use lab_table::TxnNo;
 use std::alloc::Global;
 
-/// The snapshot verdict on a sound history with these committed transactions and these dependencies: by rising number,
+/// The snapshot verdict on a sound history with these committed transactions, these dependencies and the graph of them all: by rising number,
 /// the places of their starts and commits in the least order along which every arrow points forward, or the circle of
 /// arrows on the way back from the lowest that no order can place. NoMemory where a growth was refused.
 pub(crate) fn snapshot_verdict(
@@ -30,18 +32,20 @@ pub(crate) fn snapshot_verdict(
     _history: &History,
     nodes: &Nodes,
     table: &KindTable<'_, '_>,
+    all: &Graph,
 ) -> Result<Places, NoMemory>
     requires sound { IsSound _history.now }
     requires nodes { HoldsEachOnce _history.now nodes.now }
     requires rising { IsStrictlyIncreasing nodes.now }
     requires numbers { table.now.numbers ≡ nodes.now }
     requires exact { (e : Spelled) → Contains table.now.edges e ↔ IsEdge _history.now e }
+    requires all { IsGraphOf allowed.All nodes.now table.now.edges all.now }
     ensures verdict { IfOk result (IsSnapshotVerdict _history.now) }
     ensures rests { IfOk result (RestsOnPlaces _history.now) }
     ensures places { IfOk result (IsLeastPlacing _history.now) }
     ensures circle { IfOk result (HasBackCircle _history.now) }
 {
-    let graph = place_graph(alloc, nodes, table)?;
+    let graph = place_graph(alloc, nodes, table, all)?;
     match order(alloc, &graph)? {
         Ordered::Order(order) => {
             let places = places_in(alloc, 2 * nodes.len(), &order)?;

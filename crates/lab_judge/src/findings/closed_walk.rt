@@ -21,7 +21,7 @@ use crate::report::Finding;
 use crate::serial::Walk;
 use crate::walks::{walk_along, walk_round};
 use lab_deps::{Dependencies, Edge, KindTable};
-use lab_order::{Graph, NoMemory, Ordered, order, path};
+use lab_order::{Graph, NoMemory, Ordered, Ways, order, path};
 use std::alloc::Global;
 
 /// The closed walk of dependencies of allowed kinds, round the circle of their graph. NoMemory where a growth was
@@ -48,7 +48,7 @@ pub(crate) fn find_circle(
 }
 
 /// The closed walk of the first dependency of an opening kind from which a path of allowed kinds leads back, and of that
-/// path. It begins with the least transaction. NoMemory where a growth was refused.
+/// path. It begins with the least transaction. The ways are those of the graph. NoMemory where a growth was refused.
 pub(crate) fn find_opened(
     alloc: Global,
     nodes: &Nodes,
@@ -56,17 +56,19 @@ pub(crate) fn find_opened(
     table: &KindTable<'_, '_>,
     allowed: Allowed,
     graph: &Graph,
+    ways: &Ways<'_>,
     opening: Opening,
 ) -> Result<Finding, NoMemory>
     requires numbers { table.now.numbers ≡ nodes.now }
     requires table { table.now.edges ≡ edges.now }
     requires ends { All (HasEnds nodes.now) edges.now }
     requires graph { IsGraphOf allowed nodes.now edges.now graph.now }
+    requires ways { ways.now ≡ graph.now }
     requires rising { IsStrictlyIncreasing nodes.now }
     ensures found { IfOk result (λ finding. (h : History) → ((e : Spelled) → Contains edges.now e ↔ IsEdge h e) → FindsWalk (IsOpenedWalk h opening allowed) finding) }
     ensures due { IfOk result (λ finding. (h : History) → AreCommitted h nodes.now → ((e : Spelled) → Contains edges.now e ↔ IsEdge h e) → FindsDue (IsOpenedRound h opening allowed) finding) }
 {
-    match first_opening(alloc, graph, nodes, edges, table, opening)? {
+    match first_opening(ways, nodes, edges, table, opening)? {
         None => Ok(Finding::Absent),
         Some(edge) => {
             let walk = closed_by(alloc, nodes, edges, allowed, graph, &edge)?;

@@ -6,19 +6,17 @@ ghost use Rattle.std.specs.List.Sorted.{IsStrictlyIncreasing};
 ghost use Rattle.std.specs.Ordering.{is_lt};
 ghost use Rattle.lab_order.specs.Arrows.{nodes_of};
 ghost use Rattle.lab_order.specs.Order.{position};
+ghost use Rattle.lab_order.specs.Path.{Reaches};
 ghost use Rattle.lab_deps.specs.EdgeOrder.{edge_cmp};
 ghost use Rattle.lab_deps.specs.KindBits.{has_bit};
 ghost use Rattle.lab_deps.specs.declared.edge.Edge.{Edge as Spelled};
 ghost use Rattle.lab_deps.specs.declared.edge.Kind.{Kind as Way};
-ghost use Rattle.lab_order.specs.Placing.{is_marked};
 ghost use Rattle.lab_judge.specs.Graphs.{HasEnds, ties};
-ghost use Rattle.lab_judge.specs.Joining.{any_below};
 ghost use Rattle.lab_judge.specs.Openings.{opens, IsOpening};
 
 use crate::nodes::Nodes;
 use lab_deps::{Dependencies, Edge, Kind, KindTable, Kinds};
-use lab_order::{Graph, NoMemory, reaching};
-use std::alloc::Global;
+use lab_order::{NoMemory, Ways};
 
 /// The kinds that open a walk.
 #[derive(Clone, Copy, Debug, PartialEq, Eq)]
@@ -45,24 +43,23 @@ impl Opening {
 /// The first dependency, by its ends, kind and row, that opens a walk and from which a path of the graph leads back, or
 /// None. NoMemory where a growth was refused.
 pub(crate) fn first_opening(
-    alloc: Global,
-    graph: &Graph,
+    ways: &Ways<'_>,
     nodes: &Nodes,
     edges: &Dependencies<'_>,
     table: &KindTable<'_, '_>,
     opening: Opening,
 ) -> Result<Option<Edge>, NoMemory>
-    requires nodes { nodes_of graph.now ≡ length nodes.now }
+    requires nodes { nodes_of ways.now ≡ length nodes.now }
     requires rising { IsStrictlyIncreasing nodes.now }
     requires numbers { table.now.numbers ≡ nodes.now }
     requires table { table.now.edges ≡ edges.now }
     requires ends { All (HasEnds nodes.now) edges.now }
-    ensures found { IfOk result (λ found. IfSome found (λ e. Contains edges.now e × IsOpening opening graph.now nodes.now e)) }
-    ensures first { IfOk result (λ found. IfSome found (λ e. (other : Spelled) → Contains edges.now other → IsOpening opening graph.now nodes.now other → is_lt (edge_cmp other e) ≡ false)) }
-    ensures none { IfOk result (λ found. found ≡ None → All (λ e. ¬ IsOpening opening graph.now nodes.now e) edges.now) }
+    ensures found { IfOk result (λ found. IfSome found (λ e. Contains edges.now e × IsOpening opening ways.now nodes.now e)) }
+    ensures first { IfOk result (λ found. IfSome found (λ e. (other : Spelled) → Contains edges.now other → IsOpening opening ways.now nodes.now other → is_lt (edge_cmp other e) ≡ false)) }
+    ensures none { IfOk result (λ found. found ≡ None → All (λ e. ¬ IsOpening opening ways.now nodes.now e) edges.now) }
 {
     for from in 0..nodes.len() {
-        if let Some(edge) = first_from(alloc, graph, nodes, edges, table, opening, from)? {
+        if let Some(edge) = first_from(ways, nodes, edges, table, opening, from)? {
             return Ok(Some(edge));
         }
     }
@@ -70,71 +67,49 @@ pub(crate) fn first_opening(
 }
 
 /// The first of those from the transaction of a node, or None. NoMemory where a growth was refused.
-///
-/// The graph is searched only where there is one that opens a walk.
 fn first_from(
-    alloc: Global,
-    graph: &Graph,
+    ways: &Ways<'_>,
     nodes: &Nodes,
     edges: &Dependencies<'_>,
     table: &KindTable<'_, '_>,
     opening: Opening,
     from: u32,
 ) -> Result<Option<Edge>, NoMemory>
-    requires nodes { nodes_of graph.now ≡ length nodes.now }
+    requires nodes { nodes_of ways.now ≡ length nodes.now }
     requires rising { IsStrictlyIncreasing nodes.now }
     requires numbers { table.now.numbers ≡ nodes.now }
     requires table { table.now.edges ≡ edges.now }
     requires ends { All (HasEnds nodes.now) edges.now }
     requires few { length nodes.now ≤ 1000001 }
     requires from { from < length nodes.now }
-    ensures found { IfOk result (λ found. IfSome found (λ e. Contains edges.now e × IsOpening opening graph.now nodes.now e)) }
+    ensures found { IfOk result (λ found. IfSome found (λ e. Contains edges.now e × IsOpening opening ways.now nodes.now e)) }
     ensures from { IfOk result (λ found. IfSome found (λ e. position nodes.now e.from ≡ from)) }
-    ensures first { IfOk result (λ found. IfSome found (λ e. (other : Spelled) → Contains edges.now other → position nodes.now other.from ≡ from → IsOpening opening graph.now nodes.now other
+    ensures first { IfOk result (λ found. IfSome found (λ e. (other : Spelled) → Contains edges.now other → position nodes.now other.from ≡ from → IsOpening opening ways.now nodes.now other
         → is_lt (edge_cmp other e) ≡ false)) }
-    ensures none { IfOk result (λ found. found ≡ None → (e : Spelled) → Contains edges.now e → position nodes.now e.from ≡ from → ¬ IsOpening opening graph.now nodes.now e) }
+    ensures none { IfOk result (λ found. found ≡ None → (e : Spelled) → Contains edges.now e → position nodes.now e.from ≡ from → ¬ IsOpening opening ways.now nodes.now e) }
 {
     let kinds = opening.kinds();
-    if !has_tied(table, kinds, from) {
-        return Ok(None);
-    }
-    let reach = reaching(alloc, graph, from)?;
-    match first_reaching(table, kinds, from, &reach) {
+    match first_leading(table, ways, kinds, from) {
         None => Ok(None),
         Some(to) => edges.least(nodes.number(from), nodes.number(to), kinds),
     }
 }
 
-/// Whether something depends on the transaction of a node in one of these ways.
-fn has_tied(table: &KindTable<'_, '_>, kinds: Kinds, from: u32) -> bool
-    requires rising { IsStrictlyIncreasing table.now.numbers }
-    requires ends { All (HasEnds table.now.numbers) table.now.edges }
-    requires from { from < length table.now.numbers }
-    ensures { result ≡ any_below (λ to. list_any (ties (has_bit kinds.bits) table.now.numbers from to) table.now.edges) (length table.now.numbers) }
-{
-    let row = table.row(from);
-    for between in row {
-        if between.meets(kinds) {
-            return true;
-        }
-    }
-    false
-}
-
-/// The first marked node whose transaction depends on that of a node in one of these ways, or None.
-fn first_reaching(table: &KindTable<'_, '_>, kinds: Kinds, from: u32, reach: &[bool]) -> Option<u32>
+/// The first node that leads back to a node, and whose transaction depends on that of it in one of these ways, or None.
+fn first_leading(table: &KindTable<'_, '_>, ways: &Ways<'_>, kinds: Kinds, from: u32) -> Option<u32>
     requires rising { IsStrictlyIncreasing table.now.numbers }
     requires few { length table.now.numbers ≤ 1000001 }
     requires ends { All (HasEnds table.now.numbers) table.now.edges }
     requires from { from < length table.now.numbers }
-    requires marks { length reach.now ≡ length table.now.numbers }
-    ensures found { IfSome result (λ to. (to < length table.now.numbers) × (is_marked reach.now to ≡ true) × (list_any (ties (has_bit kinds.bits) table.now.numbers from to) table.now.edges ≡ true)) }
-    ensures least { IfSome result (λ to. (k : ℕ) → k < to → is_marked reach.now k ≡ true → list_any (ties (has_bit kinds.bits) table.now.numbers from k) table.now.edges ≡ false) }
-    ensures none { result ≡ None → (to : ℕ) → to < length table.now.numbers → is_marked reach.now to ≡ true → list_any (ties (has_bit kinds.bits) table.now.numbers from to) table.now.edges ≡ false }
+    requires nodes { nodes_of ways.now ≡ length table.now.numbers }
+    ensures found { IfSome result (λ to. (to < length table.now.numbers) × Reaches ways.now to from × (list_any (ties (has_bit kinds.bits) table.now.numbers from to) table.now.edges ≡ true)) }
+    ensures least { IfSome result (λ to. (k : ℕ) → k < to → Reaches ways.now k from → list_any (ties (has_bit kinds.bits) table.now.numbers from k) table.now.edges ≡ false) }
+    ensures none { result ≡ None → (to : ℕ) → to < length table.now.numbers → Reaches ways.now to from → list_any (ties (has_bit kinds.bits) table.now.numbers from to) table.now.edges ≡ false }
 {
     let row = table.row(from);
-    for (to, between) in row.iter().enumerate() {
-        if between.meets(kinds) && reach[to] {
+    for to in 0..row.len() {
+        let between = row.kinds(to);
+        if between.meets(kinds) && ways.lead(to as u32, from) {
             return Some(to as u32);
         }
     }

@@ -8,11 +8,11 @@ use Rattle.lab_judge.proofs.Levels.{none_aborted, none_intermediate}
 use Rattle.lab_judge.proofs.WalkKinds.{has_all, finds_g0, finds_g1c, finds_g_single, finds_g2_item, finds_g2}
 use Rattle.lab_judge.proofs.findings.find_walks.Goals as goal
 
-pub graph_of-requires-clause-ends : goal.graph_of-requires-clause-ends
-graph_of-requires-clause-ends c = subst (All (HasEnds c.args.nodes.now)) (sym c.requires.table) c.requires.ends
+pub graph_among-requires-clause-ends : goal.graph_among-requires-clause-ends
+graph_among-requires-clause-ends c = subst (All (HasEnds c.args.nodes.now)) (sym c.requires.table) c.requires.ends
 
-pub graph_of-requires-2-clause-ends : goal.graph_of-requires-2-clause-ends
-graph_of-requires-2-clause-ends c = subst (All (HasEnds c.args.nodes.now)) (sym c.requires.table) c.requires.ends
+pub graph_among-requires-2-clause-ends : goal.graph_among-requires-2-clause-ends
+graph_among-requires-2-clause-ends c = subst (All (HasEnds c.args.nodes.now)) (sym c.requires.table) c.requires.ends
 
 pub find_circle-requires-clause-graph : goal.find_circle-requires-clause-graph
 find_circle-requires-clause-graph c = subst (λ es. IsGraphOf Writes c.args.nodes.now es c.in_ok-writes.writes) c.requires.table c.in_ok-writes.ensures

@@ -1,4 +1,4 @@
-use Rattle.std.proofs.Common.{◌≡◌, ◌==◌, ◌&&◌, ◌||◌, ◌+◌, ℕ, sym, ap, ◌∙◌}
+use Rattle.std.proofs.Common.{◌≡◌, ◌<◌, ◌==◌, ◌&&◌, ◌||◌, ◌+◌, ℕ, length, sym, ap, ◌∙◌, subst}
 use Rattle.std.specs.List.{list_any}
 use Rattle.lab_order.specs.Arrows.{nodes_of, has_arrow}
 use Rattle.lab_deps.specs.KindBits.{has_bit}
@@ -18,8 +18,9 @@ loop-to-preserved c =
     let to = c.loop-to.to in
     let was = c.loop-to.graph in
     let first = c.args.graph.now in
+    let inside : to < length c.row-row.result = subst (λ n. to < n) c.len-to-end.ensures c.loop-to-test.true in
     let tied : c.meets.result ≡ list_any (ties (has_bit bits) ns from to) es =
-    row_tied ns c.requires.rising es c.requires.ends from to c.requires.from c.row-row.result.now c.row-row.ensures c.loop-to-test.true _ bits c.meets.result c.meets.ensures in
+    row_tied ns c.requires.rising es c.requires.ends from to c.requires.from c.row-row.result c.row-row.ensures inside c.kinds-between.result c.kinds-between.ensures bits c.meets.result c.meets.ensures in
     let so_far : (a b : ℕ) → has_arrow c.if-meets.graph a b ≡ (any_below (landing (has_bit bits) c.args.joining ns es a b from) (to + 1) || has_arrow first a b) =
     elim c.if-meets.branch [
       | then-meets+in_ok-add w ↦ λ a b.

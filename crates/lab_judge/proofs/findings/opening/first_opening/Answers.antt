@@ -20,7 +20,7 @@ returns-clause-none c = λ _ k d lt.
 
 pub returns-in-Some-clause-first : goal.returns-in-Some-clause-first
 returns-in-Some-clause-first c =
-    let graph = c.args.graph.now in
+    let graph = c.args.ways.now in
     let nodes = c.args.nodes.now in
     let edges = c.args.edges.now in
     let edge : Edge = c.in-Some.edge in

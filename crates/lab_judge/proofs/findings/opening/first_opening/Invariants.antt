@@ -7,4 +7,4 @@ use Rattle.lab_judge.proofs.findings.opening.first_opening.Given as goal
 
 -- none from the transactions so far opens a walk that leads back
 abbrev pub invariant-loop-from : goal.invariant-loop-from
-invariant-loop-from l = (e : Edge) → Contains l.edges e → position l.nodes e.from < l.from → IsOpening l.opening l.graph l.nodes e → ⊥
+invariant-loop-from l = (e : Edge) → Contains l.edges e → position l.nodes e.from < l.from → IsOpening l.opening l.ways l.nodes e → ⊥

@@ -1,0 +1,40 @@
+-- The arrows of dependencies of some kinds are among those of all.
+use Rattle.std.proofs.Common.{◌≡◌, ℕ, ◌<◌, ◌==◌, ◌&&◌, ◌||◌, Bool, true, false, List, length, refl, sym, ap, ◌∙◌, subst}
+use Rattle.std.specs.Prelude.{Contains}
+use Rattle.std.specs.List.{list_any, All}
+use Rattle.std.proofs.lemmas.Bool.{and_parts, and_from, eqb-true}
+use Rattle.std.proofs.lemmas.List.Elements.{All-contains}
+use Rattle.lab_order.specs.Arrows.{Arrows, nodes_of, before, has_arrow}
+use Rattle.lab_order.specs.Order.{position}
+use Rattle.lab_deps.specs.declared.edge.Edge.{Edge}
+use Rattle.lab_deps.specs.declared.edge.Kind.{Kind}
+use Rattle.lab_judge.specs.Graphs.{ties, joins, IsGraphOf}
+use Rattle.lab_judge.specs.Joining.{tail, head, landing, any_below}
+use Rattle.lab_judge.specs.declared.allowed.Allowed.TheVariants as allowed
+use Rattle.lab_judge.specs.declared.joining.Joining.{Joining}
+use Rattle.lab_judge.proofs.Joined.{some_passes, passes_some}
+use Rattle.lab_judge.proofs.Landings.{same_truth, some_below, below_some}
+
+module _ (test : Kind → Bool) (joining : Joining) (nodes : List ℕ) (es : List Edge) (graph : Arrows) (is : IsGraphOf allowed.All nodes es graph) (a b q : ℕ) where
+  abbrev at : ℕ → Bool
+  at p = landing test joining nodes es a b p q
+
+  -- two transactions that are tied have an arrow in the graph of all
+  has_all : (p : ℕ) → list_any (ties test nodes p q) es ≡ true → has_arrow graph p q ≡ true
+  has_all p tied =
+      let found : (e : Edge) × Contains es e × (ties test nodes p q e ≡ true) = some_passes (ties test nodes p q) es tied in
+      let parts = and_parts (test found.0.kind) (position nodes found.0.from == p && position nodes found.0.to == q) found.2 in
+      is.arrows p q ∙ passes_some (joins allowed.All nodes p q) es found.0 found.1 parts.1
+
+  -- so those with an arrow to a node are all whose arrows land there
+  pub among : All (λ n. n < nodes_of graph) (before graph q) → list_any at (before graph q) ≡ any_below at (length nodes)
+  among within =
+      same_truth (list_any at (before graph q)) (any_below at (length nodes))
+      (λ h.
+      let found : (p : ℕ) × Contains (before graph q) p × (at p ≡ true) = some_passes at (before graph q) h in
+      below_some at (length nodes) found.0 (subst (λ n. found.0 < n) is.size (All-contains (λ n. n < nodes_of graph) (before graph q) found.0 within found.1)) found.2)
+      (λ h.
+      let found : (p : ℕ) × (p < length nodes) × (at p ≡ true) = some_below at (length nodes) h in
+      let parts = and_parts (list_any (ties test nodes found.0 q) es) (tail joining found.0 == a && head joining q == b) found.2 in
+      let there : (n : ℕ) × Contains (before graph q) n × ((n == found.0) ≡ true) = some_passes (λ n. n == found.0) (before graph q) (has_all found.0 parts.0) in
+      passes_some at (before graph q) there.0 there.1 (subst (λ n. at n ≡ true) (sym (eqb-true there.0 found.0 there.2)) found.2))

@@ -1,0 +1,34 @@
+use Rattle.std.proofs.Common.{◌≡◌, ◌||◌, ℕ, length, sym, ap, subst, ◌∙◌, arith}
+use Rattle.std.specs.List.{All, list_any}
+use Rattle.std.specs.List.Sorted.{IsStrictlyIncreasing}
+use Rattle.lab_order.specs.Arrows.{has_arrow}
+use Rattle.lab_deps.specs.KindBits.{has_bit}
+use Rattle.lab_judge.specs.Graphs.{HasEnds, IsGraphOf}
+use Rattle.lab_judge.specs.declared.allowed.Allowed.TheVariants.{All as Every}
+use Rattle.lab_judge.specs.Joining.{lands}
+use Rattle.lab_judge.specs.declared.joining.Joining.TheVariants.{Transactions}
+use Rattle.lab_judge.proofs.JoinedGraphs.{is_graph}
+use Rattle.lab_judge.proofs.graphs.graph_among.Goals as goal
+
+pub add_arrows_among-requires-clause-rising : goal.add_arrows_among-requires-clause-rising
+add_arrows_among-requires-clause-rising c = subst IsStrictlyIncreasing (sym c.requires.numbers) c.requires.rising
+
+pub add_arrows_among-requires-clause-ends : goal.add_arrows_among-requires-clause-ends
+add_arrows_among-requires-clause-ends c = subst (λ ns. All (HasEnds ns) c.args.table.now.edges) (sym c.requires.numbers) c.requires.ends
+
+pub add_arrows_among-requires-clause-few : goal.add_arrows_among-requires-clause-few
+add_arrows_among-requires-clause-few c = let same = ap length c.requires.numbers in omega (arith, same, c.len.ensures.count, c.len.ensures.few)
+
+pub add_arrows_among-requires-clause-size : goal.add_arrows_among-requires-clause-size
+add_arrows_among-requires-clause-size c = c.in_ok-graph.ensures.nodes ∙ (c.len.ensures.count ∙ ap length (sym c.requires.numbers))
+
+pub returns : goal.returns
+returns c =
+    let es = c.args.table.now.edges in
+    is_graph c.args.allowed c.args.nodes.now es c.kinds.result.bits c.kinds.ensures c.in_ok-graph.graph c.add_arrows_among.new.graph
+    (c.in_ok-add_arrows_among.ensures.nodes ∙ (c.in_ok-graph.ensures.nodes ∙ c.len.ensures.count)) c.in_ok-graph.ensures.arrows
+    (subst (λ ns. (a b : ℕ) → has_arrow c.add_arrows_among.new.graph a b ≡ (list_any (lands (has_bit c.kinds.result.bits) Transactions ns a b) es || has_arrow c.in_ok-graph.graph a b))
+    c.requires.numbers c.in_ok-add_arrows_among.ensures.arrows)
+
+pub add_arrows_among-requires-clause-all : goal.add_arrows_among-requires-clause-all
+add_arrows_among-requires-clause-all c = subst (λ ns. IsGraphOf Every ns c.args.table.now.edges c.args.all.now) (sym c.requires.numbers) c.requires.all
