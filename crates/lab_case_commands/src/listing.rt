@@ -27,8 +27,8 @@ fn text_of(alloc: Global, name: CaseName) -> Result<Vec<u8>, NoMemory>
     }
 }
 
-/// Writes the script of a case in printed form. `NoMemory` where a growth was refused, and then nothing is written;
-/// `Unwritten` where a write fails.
+/// Writes the script of a case in printed form. `NoMemory` where an allocation was refused, and then nothing is
+/// written; `Unwritten` where a write fails.
 pub fn case<W: Write>(alloc: Global, name: CaseName, writer: &mut W) -> Result<Ending, RunFault>
     ensures done { IfOk result (λ ending. ending ≡ Ending.Done) }
     ensures written { OnOk result (Appends (W.contents writer.old) (W.contents writer.new) (printed_script (case_script name))) }

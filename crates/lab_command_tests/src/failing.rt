@@ -100,17 +100,17 @@ fn reads_within_its_bounds(rt: HostRuntime) -> Result<(), Fail> {
     Ok(())
 }
 
-// What .ci/refuse.c reads in sizes of blocks; without it these are ordinary blocks, and no growth is refused.
+// What .ci/refuse.c reads in sizes of blocks; without it these are ordinary blocks, and no allocation is refused.
 const MARK: usize = 5_000_011;
 
 const ASK: usize = 5_100_003;
 
-/// From now on the n-th growth is refused, or none at 0.
+/// From now on the n-th allocation is refused, or none at 0.
 fn refuse(alloc: Global, n: u16) {
     let _: Result<Vec<u8>, AllocError> = Vec::with_capacity(alloc, MARK + n as usize);
 }
 
-/// Whether a growth was refused since.
+/// Whether an allocation was refused since.
 fn was_refused(alloc: Global) -> bool {
     let block: Result<Vec<u8>, AllocError> = Vec::with_capacity(alloc, ASK);
     block.is_err()
@@ -133,7 +133,7 @@ fn writes_nothing_where_memory_is_refused(rt: HostRuntime) -> Result<(), Fail> {
                 succeeded = true;
                 break;
             }
-            // A growth that was refused may be tried again with a smaller size, and then all is written.
+            // An allocation that was refused may be tried again with a smaller size, and then all is written.
             let wanted = if writer.calls == 0 {
                 4
             } else if writer.text.as_slice() == case.text {

@@ -113,8 +113,8 @@ fn answer<T: Threads + Sync>(
 /// their order, a line `== NAME` and the report of a judgement of its history, the line of its fault, or
 /// `file: unreadable` where it can't be opened or read. Answers the greatest exit status met.
 ///
-/// All files are read and judged before the first write. `NoMemory` where a growth was refused, and then nothing is
-/// written; `Unwritten` where a write fails.
+/// All files are read and judged before the first write. `NoMemory` where an allocation was refused, and then nothing
+/// is written; `Unwritten` where a write fails.
 pub fn batch<T: Files + Threads + Sync, W: Write>(
     rt: &T,
     alloc: Global,

@@ -44,9 +44,9 @@ fn answer(alloc: Global, input: &[u8]) -> Result<Answer, NoMemory>
 /// Reads a history file, and writes the report of a judgement of its history; or the line of the file's first fault.
 /// A file of more than 8,388,608 bytes is refused, whatever it holds.
 ///
-/// The input is read before the first write. `Unread` where it can't be read, `NoMemory` where a growth was refused,
-/// and then nothing is written; `Unwritten` where a write fails. Behind the answer `notes` is given a hint where the file is
-/// refused; what fails there is let go.
+/// The input is read before the first write. `Unread` where it can't be read, `NoMemory` where an allocation was
+/// refused, and then nothing is written; `Unwritten` where a write fails. Behind the answer `notes` is given a hint
+/// where the file is refused; what fails there is let go.
 pub fn judge<R: Read, W: Write, N: Write>(
     alloc: Global,
     reader: &mut R,

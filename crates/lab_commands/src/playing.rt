@@ -94,9 +94,9 @@ fn answer(
 /// judgement of its recording; with `history` the history file of the recording and a newline instead. Where the input
 /// is no script, or its play is refused, or its history has no file, it writes the line of that fault alone.
 ///
-/// The input is read before the first write. `Unread` where it can't be read, `NoMemory` where a growth was refused,
-/// and then nothing is written; `Unwritten` where a write fails. Behind the answer `notes` is given a hint where the input
-/// or its play is refused, or no transaction begins in it; what fails there is let go.
+/// The input is read before the first write. `Unread` where it can't be read, `NoMemory` where an allocation was
+/// refused, and then nothing is written; `Unwritten` where a write fails. Behind the answer `notes` is given a hint
+/// where the input or its play is refused, or no transaction begins in it; what fails there is let go.
 pub fn run<R: Read, W: Write, N: Write>(
     alloc: Global,
     reader: &mut R,

@@ -46,7 +46,7 @@ fn answer(alloc: Global, input: &[u8]) -> Result<Answer, NoMemory>
 /// Reads a script, and writes what it does where its transactions run one after another, each whole, in the
 /// order of their begins; or the line of the first fault where the input is no script.
 ///
-/// The input is read before the first write. `Unread` where it can't be read, `NoMemory` where a growth was
+/// The input is read before the first write. `Unread` where it can't be read, `NoMemory` where an allocation was
 /// refused, and then nothing is written; `Unwritten` where a write fails. Behind the answer `notes` is given a hint where
 /// the input is refused, or no transaction begins in it; what fails there is let go.
 pub fn serial<R: Read, W: Write, N: Write>(

@@ -33,7 +33,7 @@ fn close_hint(alloc: Global, fault: &CloseFault) -> Result<Vec<u8>, NoMemory> {
 
 /// One line on a play that has no recording for this reason: the limit that it came to, with its number, or which session
 /// it is about. Nothing for want of memory.
-/// NoMemory where a growth was refused.
+/// NoMemory where an allocation was refused.
 pub fn play_hint(alloc: Global, fault: &PlayFault) -> Result<Vec<u8>, NoMemory> {
     match fault {
         PlayFault::NoMemory => Ok(Vec::new(alloc)),

@@ -50,7 +50,7 @@ pub struct Names {
 }
 
 impl Names {
-    /// Those of a file. NoMemory where a growth was refused.
+    /// Those of a file. NoMemory where an allocation was refused.
     pub fn of(alloc: Global, json: &Json) -> Result<Names, NoMemory> {
         let mut names = Names {
             rows: Vec::new(alloc),

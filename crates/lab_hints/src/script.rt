@@ -75,7 +75,7 @@ fn line_hint(
 
 /// Two lines on a script that `parse_script` refused with this fault: the faulty line, and what was found where and what
 /// may stand there. One line for a text without a setup, and nothing for want of memory.
-/// NoMemory where a growth was refused.
+/// NoMemory where an allocation was refused.
 pub fn script_hint(alloc: Global, text: &[u8], fault: &ScriptFault) -> Result<Vec<u8>, NoMemory> {
     match fault {
         ScriptFault::NoMemory => Ok(Vec::new(alloc)),

@@ -6,7 +6,7 @@ use lab_table::{Command, NoMemory};
 use std::alloc::Global;
 
 /// One line on a script in which no transaction begins, and nothing on another.
-/// NoMemory where a growth was refused.
+/// NoMemory where an allocation was refused.
 pub fn silent_script_hint(alloc: Global, script: &Script) -> Result<Vec<u8>, NoMemory> {
     let lines = script.lines.as_slice();
     if lines

@@ -92,7 +92,7 @@ impl Walk {
     }
 
     /// Reads a line's code from a place on, and answers where that stopped; None where all of it was read.
-    /// NoMemory where a growth was refused.
+    /// NoMemory where an allocation was refused.
     pub fn read<'a>(
         &mut self,
         alloc: Global,

@@ -17,7 +17,7 @@ use std::alloc::{AllocError, Global};
 /// Why there is no matrix.
 #[derive(Clone, Copy, Debug, PartialEq, Eq)]
 pub enum MatrixFault {
-    /// Refusal 1: a growth was refused.
+    /// Refusal 1: an allocation was refused.
     NoMemory,
     /// Refusal 2: the play of a case at a level has no recording.
     Play {
@@ -105,7 +105,7 @@ fn row_of_case(alloc: Global, name: CaseName) -> Result<Row, MatrixFault>
 /// level. Each says what the engine of its level promises (`promise`).
 ///
 /// Refused where a play has no recording (2), which is then true of the first such case, in their order and in that of the
-/// levels; or where a growth was refused (1).
+/// levels; or where an allocation was refused (1).
 pub fn matrix(alloc: Global) -> Result<Matrix, MatrixFault>
     ensures cells { IfOk result AreCells }
     ensures promised { IfOk result KeepsPromises }

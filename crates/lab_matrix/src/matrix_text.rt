@@ -19,7 +19,7 @@ const CASE_WIDTH: usize = 10;
 const CELL_WIDTH: usize = 12;
 
 /// The matrix as a text: a line of the columns, a line for each case with its level on each engine, and `SI` where the
-/// history is a snapshot run, and a line of what each engine promises. NoMemory where a growth was refused.
+/// history is a snapshot run, and a line of what each engine promises. NoMemory where an allocation was refused.
 pub fn print_matrix(alloc: Global, matrix: &Matrix) -> Result<Vec<u8>, NoMemory>
     ensures { IfOk result (λ text. text.items ≡ matrix_text matrix.now) }
 {

@@ -58,7 +58,7 @@ impl CaseName {
 }
 
 /// The script of a case: a listing of commands, one on each text line from line 2 on, over the table (1, 10), (2, 20).
-/// NoMemory where a growth was refused.
+/// NoMemory where an allocation was refused.
 pub fn case(alloc: Global, name: CaseName) -> Result<Script, NoMemory>
     ensures { IfOk result (λ script. script ≡ case_script name) }
 {

@@ -2,9 +2,11 @@ pub mod Operations
 pub mod FirstOps
 pub mod InstalledRows
 pub mod MadeArrows
-mod JudgedWalks
-mod DrawnWalks
+pub mod JudgedWalks
+pub mod DrawnWalks
 mod NamedInstalls
 pub mod Escapes
 mod HeldFiles
 mod OnePicture
+mod LeastOfPairs
+mod TitledWalks

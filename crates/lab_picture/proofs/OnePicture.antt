@@ -6,14 +6,25 @@ use Rattle.lab_judge.proofs.OneJudgement.{one_judgement}
 use Rattle.lab_streams.specs.declared.ending.Ending.{Ending}
 use Rattle.lab_streams.proofs.OneFile.{one_history, no_file_fault, one_fault}
 use Rattle.lab_picture.specs.declared.asked.Phenomenon.{Phenomenon}
+use Rattle.lab_picture.specs.declared.drawing.Arrow.{Arrow}
+use Rattle.lab_picture.specs.Forward.{AreForward, arrows_in, near_pairs, yes_columns, with_forward}
+use Rattle.lab_picture.proofs.LeastOfPairs.{one_list}
 use Rattle.lab_picture.specs.Picture.{IsPictureOf, IsPictured, IsPictureAnswer}
 use Rattle.lab_picture.specs.Sketch.{drawing_of}
 use Rattle.lab_picture.specs.Svg.{svg_of}
 
+-- the arrows of a yes are one list
+one_forward : (h : History) (columns : List ℕ) (xs ys : List Arrow) → AreForward h columns xs → AreForward h columns ys → xs ≡ ys
+one_forward h columns xs ys a b = a.arrows_are ∙ ap (arrows_in h) (one_list h (near_pairs 0 columns) a.found b.found a.least b.least) ∙ sym b.arrows_are
+
 -- a history has one picture
 one_of_history : (history : History) (asked : Option Phenomenon) (one other : List ℕ) → IsPictureOf history asked one → IsPictureOf history asked other → one ≡ other
 one_of_history history asked one other p q =
-    p.text_is ∙ ap (λ r. svg_of history (drawing_of history r asked)) (one_judgement history p.report q.report p.judgement q.judgement) ∙ sym q.text_is
+    let same : p.report ≡ q.report = one_judgement history p.report q.report p.judgement q.judgement in
+    let leads : AreForward history (yes_columns q.report asked) p.forward = subst (λ r. AreForward history (yes_columns r asked) p.forward) same p.leads in
+    let arrows : p.forward ≡ q.forward = one_forward history (yes_columns q.report asked) p.forward q.forward leads q.leads in
+    p.text_is ∙ ap (λ r. svg_of history (with_forward p.forward (drawing_of history r asked))) same
+    ∙ ap (λ xs. svg_of history (with_forward xs (drawing_of history q.report asked))) arrows ∙ sym q.text_is
 
 module _ (input : List ℕ) (asked : Option Phenomenon) (one other : List ℕ) (first again : Ending) where
   one_pictured : IsPictured input asked one first → IsPictured input asked other again → one ≡ other

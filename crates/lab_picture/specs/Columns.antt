@@ -6,7 +6,8 @@ use Rattle.lab_history.specs.Version.{ops_of, outcome_of}
 use Rattle.lab_history.specs.declared.transaction.Outcome.{Outcome}
 use Rattle.lab_history.specs.declared.transaction.Outcome.TheVariants.{Committed, Aborted}
 use Rattle.lab_picture.specs.declared.drawing.Spot.{Spot}
-use Rattle.lab_picture.specs.Layout.{left, band}
+use Rattle.lab_picture.specs.declared.layout.Frame.{Frame}
+use Rattle.lab_picture.specs.Layout.{left, top}
 use Rattle.lab_picture.specs.Text.{text_at}
 use Rattle.lab_picture.specs.Boxes.{boxes_text}
 
@@ -39,11 +40,10 @@ marked_in None n = 0
 marked_in (Some spot) n = cond (spot.txn == n) spot.op 0
 
 -- a column: the transaction and its operations
-abbrev pub column_text : History → ℕ → ℕ → ℕ → ℕ → List ℕ
-column_text h most column marked n =
-    title_text h (left column) (band most column + 60) n ++ boxes_text most column marked 0 (ops_of h n)
+abbrev pub column_text : History → Frame → ℕ → ℕ → ℕ → List ℕ
+column_text h frame column marked n = title_text h (left column) (top frame column) n ++ boxes_text frame column marked 0 (ops_of h n)
 
 -- columns, where so many come before these
-abbrev pub columns_text : History → ℕ → Option Spot → ℕ → List ℕ → List ℕ
-columns_text h most marked before [] = []
-columns_text h most marked before (n ∷ ns) = column_text h most before (marked_in marked n) n ++ columns_text h most marked (before + 1) ns
+abbrev pub columns_text : History → Frame → Option Spot → ℕ → List ℕ → List ℕ
+columns_text h frame marked before [] = []
+columns_text h frame marked before (n ∷ ns) = column_text h frame before (marked_in marked n) n ++ columns_text h frame marked (before + 1) ns

@@ -1,13 +1,17 @@
 pub mod Asked
+pub mod Titles
+pub mod TitleLaws
 pub mod Making
 pub mod Installs
 pub mod InstallLaws
 pub mod Sketch
+pub mod Forward
 pub mod ArrowLaws
 pub mod Text
 pub mod Layout
 pub mod Boxes
 pub mod Columns
 pub mod Arrows
+pub mod Heading
 pub mod Svg
 pub mod Picture

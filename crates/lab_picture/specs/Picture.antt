@@ -7,14 +7,18 @@ use Rattle.lab_streams.specs.declared.ending.Ending.{Ending}
 use Rattle.lab_streams.specs.declared.ending.Ending.TheVariants.{Done}
 use Rattle.lab_streams.specs.HistoryFile.{HoldsHistory, IsNoFile}
 use Rattle.lab_picture.specs.declared.asked.Phenomenon.{Phenomenon}
+use Rattle.lab_picture.specs.declared.drawing.Arrow.{Arrow}
+use Rattle.lab_picture.specs.Forward.{AreForward, yes_columns, with_forward}
 use Rattle.lab_picture.specs.Sketch.{drawing_of}
 use Rattle.lab_picture.specs.Svg.{svg_of}
 
--- the text is the picture of a judgement of the history: of its serial verdict, or of what it finds of a phenomenon
+-- the text is the picture of a judgement of the history: of its serial verdict, with the arrows of a yes, or of what it finds of a phenomenon
 pub record IsPictureOf (history : History) (asked : Option Phenomenon) (text : List ℕ) : Type 0 where
   pub report : Report
   pub judgement : IsExactJudgement history report
-  pub text_is : text ≡ svg_of history (drawing_of history report asked)
+  pub forward : List Arrow
+  pub leads : AreForward history (yes_columns report asked) forward
+  pub text_is : text ≡ svg_of history (with_forward forward (drawing_of history report asked))
 
 -- the input is a file of a history, and the text is the picture of a judgement of it
 pub record IsPictured (input : List ℕ) (asked : Option Phenomenon) (text : List ℕ) (ending : Ending) : Type 0 where

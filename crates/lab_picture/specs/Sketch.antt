@@ -24,14 +24,17 @@ use Rattle.lab_picture.specs.declared.installs.Misplaced.{Misplaced}
 use Rattle.lab_picture.specs.Asked.{phenomenon_name, finding_of}
 use Rattle.lab_picture.specs.Installs.{misplaced_of, misplaced_text}
 use Rattle.lab_picture.specs.Making.{arrows_of}
+use Rattle.lab_picture.specs.Titles.{serial_title, finding_title}
 
--- a drawing: transactions from left to right with all their operations, arrows between operations, the operation that a fault is at or about, the line of the report that is drawn, and a note
+-- a drawing: transactions from left to right with all their operations, arrows between operations, the operation that a fault is at or about, the line of the report that is drawn, a note, a title in words, and the arrows of a yes
 pub record Sketch : Type 0 where
   pub columns : List ℕ
   pub arrows : List Arrow
   pub marked : Option Spot
   pub about : List ℕ
   pub note : List ℕ
+  pub title : List ℕ
+  pub forward : List Arrow
 
 -- columns with one for this transaction
 abbrev pub with_column : List ℕ → ℕ → List ℕ
@@ -44,15 +47,15 @@ with_columns columns (n ∷ ns) = with_columns (with_column columns n) ns
 
 -- no transaction is drawn
 abbrev pub blank : List ℕ → Sketch
-blank about = record { columns = []; arrows = []; marked = None; about = about; note = [] }
+blank about = record { columns = []; arrows = []; marked = None; about = about; note = []; title = []; forward = [] }
 
 -- an order: its transactions, from left to right
 abbrev pub of_order : List ℕ → List ℕ → Sketch
-of_order about order = record { columns = order; arrows = []; marked = None; about = about; note = [] }
+of_order about order = record { columns = order; arrows = []; marked = None; about = about; note = []; title = []; forward = [] }
 
 -- a walk: its transactions in their order, and an arrow for each dependency
 abbrev pub of_walk : History → List ℕ → List Edge → Sketch
-of_walk h about walk = record { columns = with_columns [] (map (λ e. e.from) walk); arrows = flat_map (arrows_of h) walk; marked = None; about = about; note = [] }
+of_walk h about walk = record { columns = with_columns [] (map (λ e. e.from) walk); arrows = flat_map (arrows_of h) walk; marked = None; about = about; note = []; title = []; forward = [] }
 
 -- the version of a row that an operation of a transaction sees
 abbrev pub seen_at : History → ℕ → ℕ → Row → Option VersionName
@@ -105,6 +108,8 @@ of_place h about n k row = record {
   marked = Some (record { txn = n; op = k });
   about = about;
   note = version_note (seen_at h n k row) (is_some (writer_at h row (seen_at h n k row)));
+  title = [];
+  forward = [];
 }
 
 -- the columns of a row: the transactions that installed it
@@ -113,7 +118,7 @@ installer_columns h row = with_columns [] (installers h row)
 
 -- a row: the transactions that installed it
 abbrev pub of_row : History → List ℕ → Row → Sketch
-of_row h about row = record { columns = installer_columns h row; arrows = []; marked = None; about = about; note = [] }
+of_row h about row = record { columns = installer_columns h row; arrows = []; marked = None; about = about; note = []; title = []; forward = [] }
 
 -- a transaction's last write of a row, where it wrote the row
 abbrev pub last_spot : History → Row → ℕ → Option Spot
@@ -127,6 +132,8 @@ of_misplaced h about row found = record {
   marked = last_spot h row found.txn;
   about = about;
   note = misplaced_text found;
+  title = [];
+  forward = [];
 }
 
 -- a row whose installers aren't its committed writers
@@ -167,7 +174,11 @@ of_found h about (finding.At n k row) = of_place h about n k row
 abbrev pub of_finding : History → List ℕ → Finding → Sketch
 of_finding h name found = of_found h (line_text name (finding_text found)) found
 
+-- a drawing with this title
+abbrev pub entitled : List ℕ → Sketch → Sketch
+entitled title d = record { columns = d.columns; arrows = d.arrows; marked = d.marked; about = d.about; note = d.note; title = title; forward = d.forward }
+
 -- the drawing of a report: its serial verdict, or what it finds of a phenomenon
 abbrev pub drawing_of : History → Report → Option Phenomenon → Sketch
-drawing_of h report None = of_serial h report.serial
-drawing_of h report (Some phenomenon) = of_finding h (phenomenon_name phenomenon) (finding_of phenomenon report)
+drawing_of h report None = entitled (serial_title report.serial) (of_serial h report.serial)
+drawing_of h report (Some phenomenon) = entitled (finding_title phenomenon (finding_of phenomenon report)) (of_finding h (phenomenon_name phenomenon) (finding_of phenomenon report))

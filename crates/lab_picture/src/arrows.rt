@@ -1,12 +1,12 @@
 //! The arrows of a picture.
 
 ghost use Rattle.std.specs.Prelude.{◌≡◌, ◌++◌, ◌≤◌, ◌<◌, length, flat_map, IfOk, IfSome, OnOk};
-ghost use Rattle.lab_picture.specs.Arrows.{column_of, tie_name, is_dashed, label_of, label_style, label_text, narrow_text, straight_text, round_text, arrow_text};
+ghost use Rattle.lab_picture.specs.Arrows.{column_of, tie_name, is_dashed, label_of, label_style, label_text, narrow_label, narrow_text, straight_text, round_text, route_text, arrow_text, is_round, has_round};
 
 use crate::drawing::{Arrow, Tie};
-use crate::layout::{Corner, GAP_BYTES, aside, entry_of, exit_of, is_next, lane};
+use crate::layout::{Corner, Frame, GAP_BYTES, aside, entry_of, exit_of, is_next, lane};
 use crate::route::{put_round_path, put_straight_path, put_style};
-use crate::text::{put_paragraph, put_text};
+use crate::text::{in_four, put_four_lines, put_text};
 use lab_deps::Kind;
 use lab_judge::kind_name;
 use lab_script::put_row_name;
@@ -62,7 +62,7 @@ fn label_of(alloc: Global, arrow: &Arrow) -> Result<Vec<u8>, NoMemory>
 fn label_style() -> &'static [u8]
     ensures { result.now ≡ label_style }
 {
-    b" text-anchor=\"middle\" paint-order=\"stroke\" stroke=\"white\" stroke-width=\"4\""
+    b" text-anchor=\"middle\" paint-order=\"stroke\" stroke=\"white\" stroke-width=\"3\""
 }
 
 /// Appends a label at a place.
@@ -80,7 +80,24 @@ fn put_label(
     put_text(out, label_style(), x, y, &label)
 }
 
-/// Appends a label at a place between two columns, in lines that have room there.
+/// Appends a label at a place between two columns, in lines that have room there, the last of them at that place.
+#[tactic(auto, unfolding(crate::specs::Arrows::narrow_label))]
+fn put_narrow_label(
+    alloc: Global,
+    out: &mut Vec<u8>,
+    x: u64,
+    y: u64,
+    label: &[u8],
+) -> Result<(), NoMemory>
+    requires { y ≤ 20000000000000 }
+    ensures { OnOk result (out.new.items ≡ out.old.items ++ narrow_label x y label.now) }
+{
+    let above = 13 * in_four(GAP_BYTES, label);
+    let y = (y + 13).saturating_sub(above);
+    put_four_lines(alloc, out, label_style(), x, y, 13, GAP_BYTES, label)
+}
+
+/// Appends the label of an arrow there.
 #[tactic(auto, unfolding(crate::specs::Arrows::narrow_text))]
 fn put_narrow(
     alloc: Global,
@@ -89,63 +106,89 @@ fn put_narrow(
     y: u64,
     arrow: &Arrow,
 ) -> Result<(), NoMemory>
-    requires { y ≤ 100000000000000 }
+    requires { y ≤ 20000000000000 }
     ensures { OnOk result (out.new.items ≡ out.old.items ++ narrow_text x y arrow.now) }
 {
     let label = label_of(alloc, arrow)?;
-    put_paragraph(alloc, out, label_style(), x, y, GAP_BYTES, &label)
+    put_narrow_label(alloc, out, x, y, &label)
 }
 
-/// Appends an arrow from one column to the next.
+/// Appends an arrow from one column to the next, with its label above its higher end.
 #[tactic(auto, unfolding(crate::specs::Arrows::straight_text))]
 fn put_straight(
     alloc: Global,
     out: &mut Vec<u8>,
+    thin: bool,
     arrow: &Arrow,
     from: Corner,
     to: Corner,
 ) -> Result<(), NoMemory>
-    requires { (from.x ≤ 800) × (from.y ≤ 12000000000000) × (to.y ≤ 12000000000000) }
-    ensures { OnOk result (out.new.items ≡ out.old.items ++ straight_text arrow.now from to) }
+    requires { (from.x ≤ 1000) × (from.y ≤ 12000000000000) × (to.y ≤ 12000000000000) }
+    ensures { OnOk result (out.new.items ≡ out.old.items ++ straight_text thin arrow.now from to) }
 {
     out.extend_from_slice(b"<path d=\"")?;
     put_straight_path(out, from, to)?;
-    put_style(out, is_dashed(arrow.tie))?;
-    let y = (from.y + to.y) / 2;
-    put_narrow(alloc, out, from.x + 42, y.saturating_sub(5), arrow)
+    put_style(out, thin, is_dashed(arrow.tie))?;
+    let y = from.y.min(to.y);
+    put_narrow(alloc, out, from.x + 56, y.saturating_sub(5), arrow)
 }
 
-/// Appends an arrow that goes below the boxes.
+/// Appends an arrow that goes below the boxes, with its label above its way there.
 #[tactic(auto, unfolding(crate::specs::Arrows::round_text))]
 fn put_round(
     alloc: Global,
     out: &mut Vec<u8>,
+    thin: bool,
     arrow: &Arrow,
     from: Corner,
     lane: u64,
     aside: u64,
     to: Corner,
 ) -> Result<(), NoMemory>
-    requires { (from.x ≤ 800) × (to.x ≤ 800) × (aside ≤ to.x) }
-    ensures { OnOk result (out.new.items ≡ out.old.items ++ round_text arrow.now from lane aside to) }
+    requires { (from.x ≤ 1000) × (to.x ≤ 1000) × (aside ≤ to.x) }
+    ensures { OnOk result (out.new.items ≡ out.old.items ++ round_text thin arrow.now from lane aside to) }
 {
     out.extend_from_slice(b"<path d=\"")?;
     put_round_path(out, from, lane, aside, to)?;
-    put_style(out, is_dashed(arrow.tie))?;
+    put_style(out, thin, is_dashed(arrow.tie))?;
     let x = (from.x + to.x) / 2;
     put_label(alloc, out, x, lane.saturating_sub(4), arrow)
+}
+
+/// Appends an arrow from one column to another.
+fn put_route(
+    alloc: Global,
+    out: &mut Vec<u8>,
+    frame: Frame,
+    thin: bool,
+    arrow: &Arrow,
+    from: usize,
+    to: usize,
+) -> Result<(), NoMemory>
+    requires { (from ≤ 40) × (to ≤ 40) }
+    ensures { OnOk result (out.new.items ≡ out.old.items ++ route_text frame thin arrow.now from to) }
+{
+    let exit = exit_of(frame, from, arrow.from.op);
+    let entry = entry_of(frame, to, arrow.to.op);
+    if is_next(from, to) {
+        put_straight(alloc, out, thin, arrow, exit, entry)
+    } else {
+        let lane = lane(frame, from, to);
+        put_round(alloc, out, thin, arrow, exit, lane, aside(from, to), entry)
+    }
 }
 
 /// Appends an arrow, if both its transactions have a column.
 fn put_arrow(
     alloc: Global,
     out: &mut Vec<u8>,
-    most: u32,
+    frame: Frame,
+    thin: bool,
     columns: &[TxnNo],
     arrow: &Arrow,
 ) -> Result<(), NoMemory>
     requires { length columns.now ≤ 40 }
-    ensures { OnOk result (out.new.items ≡ out.old.items ++ arrow_text most columns.now arrow.now) }
+    ensures { OnOk result (out.new.items ≡ out.old.items ++ arrow_text frame thin columns.now arrow.now) }
 {
     let Some(from) = column_of(columns, arrow.from.txn) else {
         return Ok(());
@@ -153,29 +196,50 @@ fn put_arrow(
     let Some(to) = column_of(columns, arrow.to.txn) else {
         return Ok(());
     };
-    let exit = exit_of(most, from, arrow.from.op);
-    let entry = entry_of(most, to, arrow.to.op);
-    if is_next(from, to) {
-        put_straight(alloc, out, arrow, exit, entry)
-    } else {
-        let lane = lane(most, from, to);
-        put_round(alloc, out, arrow, exit, lane, aside(from, to), entry)
-    }
+    put_route(alloc, out, frame, thin, arrow, from, to)
 }
 
 /// Appends the arrows whose transactions have columns.
 pub fn put_arrows(
     alloc: Global,
     out: &mut Vec<u8>,
-    most: u32,
+    frame: Frame,
+    thin: bool,
     columns: &[TxnNo],
     arrows: &[Arrow],
 ) -> Result<(), NoMemory>
     requires { length columns.now ≤ 40 }
-    ensures { OnOk result (out.new.items ≡ out.old.items ++ flat_map (arrow_text most columns.now) arrows.now) }
+    ensures { OnOk result (out.new.items ≡ out.old.items ++ flat_map (arrow_text frame thin columns.now) arrows.now) }
 {
     for arrow in arrows {
-        put_arrow(alloc, out, most, columns, arrow)?;
+        put_arrow(alloc, out, frame, thin, columns, arrow)?;
     }
     Ok(())
+}
+
+/// Whether an arrow goes below the boxes.
+fn is_round(columns: &[TxnNo], arrow: &Arrow) -> bool
+    requires { length columns.now ≤ 40 }
+    ensures { result ≡ is_round columns.now arrow.now }
+{
+    let Some(from) = column_of(columns, arrow.from.txn) else {
+        return false;
+    };
+    let Some(to) = column_of(columns, arrow.to.txn) else {
+        return false;
+    };
+    !is_next(from, to)
+}
+
+/// Whether some arrow goes below the boxes.
+pub fn has_round(columns: &[TxnNo], arrows: &[Arrow]) -> bool
+    requires { length columns.now ≤ 40 }
+    ensures { result ≡ has_round columns.now arrows.now }
+{
+    for arrow in arrows {
+        if is_round(columns, arrow) {
+            return true;
+        }
+    }
+    false
 }

@@ -3,6 +3,7 @@
 ghost use Rattle.std.specs.Prelude.{◌≡◌};
 ghost use Rattle.std.specs.Str.{bytes_eq};
 ghost use Rattle.lab_picture.specs.Asked.{phenomenon_name, finding_of, named};
+ghost use Rattle.lab_picture.specs.Titles.{phenomenon_words};
 
 use lab_judge::{Finding, Report};
 
@@ -31,6 +32,21 @@ impl Phenomenon {
             Phenomenon::GSingle => "G-single",
             Phenomenon::G2Item => "G2-item",
             Phenomenon::G2 => "G2",
+        }
+    }
+
+    /// Its textbook name, in words.
+    pub fn words(self) -> &'static str
+        ensures { result.now ≡ phenomenon_words self }
+    {
+        match self {
+            Phenomenon::G0 => "dirty write",
+            Phenomenon::G1a => "aborted read",
+            Phenomenon::G1b => "intermediate read",
+            Phenomenon::G1c => "circular information flow",
+            Phenomenon::GSingle => "read skew",
+            Phenomenon::G2Item => "write skew",
+            Phenomenon::G2 => "anti-dependency cycle",
         }
     }
 

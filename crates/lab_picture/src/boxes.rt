@@ -2,28 +2,35 @@
 
 ghost use Rattle.std.specs.Prelude.{◌≡◌, ◌++◌, ◌≤◌, length, IfOk, OnOk};
 ghost use Rattle.lab_history.specs.HistoryRules.{OpKeeps, OpsKeep};
-ghost use Rattle.lab_picture.specs.Boxes.{op_text, edge_style, edge_text, box_text, boxes_text};
+ghost use Rattle.lab_script.specs.Printed.{printed_statement};
+ghost use Rattle.lab_picture.specs.Boxes.{listed_text, whole_text, edge_style, edge_text, rest_lines, inner_text, box_text, boxes_text};
 
-use crate::layout::{BOX_BYTES, left, upper};
-use crate::text::{put_escaped, put_paragraph, put_place};
+use crate::layout::{BOX_BYTES, Frame, left, upper};
+use crate::text::{in_three, put_escaped, put_one_line, put_place, put_three_lines, put_two_lines};
 use lab_history::Op;
 use lab_script::{PrintFault, print_statement, put_list};
 use lab_table::NoMemory;
 use std::alloc::{AllocError, Global};
 
-/// The text of an operation: its statement, and the rows that it listed.
-fn op_text(alloc: Global, op: &Op) -> Result<Vec<u8>, NoMemory>
+/// The text of an operation's statement.
+fn statement_text(alloc: Global, op: &Op) -> Result<Vec<u8>, NoMemory>
     requires { OpKeeps op.now }
-    ensures { IfOk result (λ text. text.items ≡ op_text op.now) }
+    ensures { IfOk result (λ text. text.items ≡ printed_statement op.now.statement) }
 {
-    let mut text = match print_statement(alloc, &op.statement) {
-        Ok(text) => text,
-        Err(PrintFault::NoMemory) => return Err(AllocError),
+    match print_statement(alloc, &op.statement) {
+        Ok(text) => Ok(text),
+        Err(PrintFault::NoMemory) => Err(AllocError),
         Err(PrintFault::TooDeep) => unreachable!(),
         Err(PrintFault::TooLong) => unreachable!(),
         Err(PrintFault::TooManyTables) => unreachable!(),
-    };
-    text.extend_from_slice(b" -> ")?;
+    }
+}
+
+/// The text of the rows that an operation listed.
+fn listed_text(alloc: Global, op: &Op) -> Result<Vec<u8>, NoMemory>
+    ensures { IfOk result (λ text. text.items ≡ listed_text op.now) }
+{
+    let mut text = Vec::from_slice(alloc, b"-> ")?;
     put_list(&mut text, op.rows.entries())?;
     Ok(text)
 }
@@ -52,6 +59,57 @@ fn put_edge(out: &mut Vec<u8>, x: u64, y: u64, marked: bool) -> Result<(), NoMem
     put_edge_style(out, marked)
 }
 
+/// Appends a list in the lines that a statement of so many lines leaves of four.
+#[tactic(auto, unfolding(crate::specs::Boxes::rest_lines))]
+fn put_rest(
+    alloc: Global,
+    out: &mut Vec<u8>,
+    x: u64,
+    y: u64,
+    used: u64,
+    list: &[u8],
+) -> Result<(), NoMemory>
+    requires { y ≤ 12000000000000 }
+    ensures { OnOk result (out.new.items ≡ out.old.items ++ rest_lines x y used list.now) }
+{
+    if used == 1 {
+        put_three_lines(alloc, out, b"", x, y, 13, BOX_BYTES, list)
+    } else if used == 2 {
+        put_two_lines(alloc, out, b"", x, y, 13, BOX_BYTES, list)
+    } else {
+        put_one_line(alloc, out, b"", x, y, BOX_BYTES, list)
+    }
+}
+
+/// Appends a statement in up to three lines, and below it what it listed, in up to four with those.
+#[tactic(auto, unfolding(crate::specs::Boxes::inner_text))]
+fn put_inner(
+    alloc: Global,
+    out: &mut Vec<u8>,
+    x: u64,
+    y: u64,
+    statement: &[u8],
+    list: &[u8],
+) -> Result<(), NoMemory>
+    requires { y ≤ 11500000000000 }
+    ensures { OnOk result (out.new.items ≡ out.old.items ++ inner_text x y statement.now list.now) }
+{
+    put_three_lines(alloc, out, b"", x, y, 13, BOX_BYTES, statement)?;
+    let used = in_three(BOX_BYTES, statement);
+    put_rest(alloc, out, x, y + 13 * used, used, list)
+}
+
+/// Appends a statement and what it listed as a title.
+fn put_whole(out: &mut Vec<u8>, statement: &[u8], list: &[u8]) -> Result<(), NoMemory>
+    ensures { OnOk result (out.new.items ≡ out.old.items ++ whole_text statement.now list.now) }
+{
+    out.extend_from_slice(b"<g><title>")?;
+    put_escaped(out, statement)?;
+    out.extend_from_slice(b" ")?;
+    put_escaped(out, list)?;
+    out.extend_from_slice(b"</title>\n")
+}
+
 /// Appends an operation's box, and in it its text in up to four lines; the whole text is its title. The marked one has a
 /// thick edge.
 #[tactic(auto, unfolding(crate::specs::Boxes::box_text))]
@@ -67,12 +125,11 @@ fn put_box(
     requires place { (x ≤ 1000) × (y ≤ 11000000000000) }
     ensures { OnOk result (out.new.items ≡ out.old.items ++ box_text x y marked op.now) }
 {
-    let text = op_text(alloc, op)?;
-    out.extend_from_slice(b"<g><title>")?;
-    put_escaped(out, &text)?;
-    out.extend_from_slice(b"</title>\n")?;
+    let statement = statement_text(alloc, op)?;
+    let list = listed_text(alloc, op)?;
+    put_whole(out, &statement, &list)?;
     put_edge(out, x, y, marked)?;
-    put_paragraph(alloc, out, b"", x + 5, y + 14, BOX_BYTES, &text)?;
+    put_inner(alloc, out, x + 5, y + 14, &statement, &list)?;
     out.extend_from_slice(b"</g>\n")
 }
 
@@ -80,7 +137,7 @@ fn put_box(
 pub fn put_boxes(
     alloc: Global,
     out: &mut Vec<u8>,
-    most: u32,
+    frame: Frame,
     column: usize,
     marked: u32,
     ops: &[Op],
@@ -88,7 +145,7 @@ pub fn put_boxes(
     requires column { column ≤ 40 }
     requires few { length ops.now ≤ 10000 }
     requires keep { OpsKeep ops.now }
-    ensures { OnOk result (out.new.items ≡ out.old.items ++ boxes_text most column marked 0 ops.now) }
+    ensures { OnOk result (out.new.items ≡ out.old.items ++ boxes_text frame column marked 0 ops.now) }
 {
     for (index, op) in ops.iter().enumerate() {
         let number = index as u32 + 1;
@@ -96,7 +153,7 @@ pub fn put_boxes(
             alloc,
             out,
             left(column),
-            upper(most, column, number),
+            upper(frame, column, number),
             number == marked,
             op,
         )?;

@@ -6,7 +6,7 @@ ghost use Rattle.lab_picture.specs.Columns.{most_ops, outcome_name, marked_in, t
 
 use crate::boxes::put_boxes;
 use crate::drawing::Spot;
-use crate::layout::{band, left};
+use crate::layout::{Frame, left, top};
 use crate::states::ops_of;
 use crate::text::{put_number, put_text};
 use lab_history::{History, Outcome};
@@ -79,17 +79,17 @@ fn put_column(
     alloc: Global,
     out: &mut Vec<u8>,
     history: &History,
-    most: u32,
+    frame: Frame,
     column: usize,
     marked: u32,
     txn: TxnNo,
 ) -> Result<(), NoMemory>
     requires { column ≤ 40 }
-    ensures { OnOk result (out.new.items ≡ out.old.items ++ column_text history.now most column marked txn) }
+    ensures { OnOk result (out.new.items ≡ out.old.items ++ column_text history.now frame column marked txn) }
 {
-    let y = band(most, column) + 60;
+    let y = top(frame, column);
     put_title(alloc, out, history, left(column), y, txn)?;
-    put_boxes(alloc, out, most, column, marked, ops_of(history, txn))
+    put_boxes(alloc, out, frame, column, marked, ops_of(history, txn))
 }
 
 /// Appends the columns from left to right.
@@ -97,19 +97,19 @@ pub fn put_columns(
     alloc: Global,
     out: &mut Vec<u8>,
     history: &History,
-    most: u32,
+    frame: Frame,
     marked: &Option<Spot>,
     columns: &[TxnNo],
 ) -> Result<(), NoMemory>
     requires { length columns.now ≤ 40 }
-    ensures { OnOk result (out.new.items ≡ out.old.items ++ columns_text history.now most marked.now 0 columns.now) }
+    ensures { OnOk result (out.new.items ≡ out.old.items ++ columns_text history.now frame marked.now 0 columns.now) }
 {
     for (column, txn) in columns.iter().enumerate() {
         put_column(
             alloc,
             out,
             history,
-            most,
+            frame,
             column,
             marked_in(marked, *txn),
             *txn,

@@ -43,6 +43,10 @@ pub struct Drawing {
     pub about: Vec<u8>,
     /// The version that a fault is about, or who is out of place among a row's installers.
     pub note: Vec<u8>,
+    /// The title, in words.
+    pub title: Vec<u8>,
+    /// The dependencies of a yes, which all lead forward; they are drawn thin.
+    pub forward: Vec<Arrow>,
 }
 
 impl Model for Drawing {
@@ -50,5 +54,5 @@ impl Model for Drawing {
 
     ghost Value = { Sketch };
 
-    ghost view = { λ d. record { columns = d.columns.items; arrows = d.arrows.items; marked = d.marked; about = d.about.items; note = d.note.items } };
+    ghost view = { λ d. record { columns = d.columns.items; arrows = d.arrows.items; marked = d.marked; about = d.about.items; note = d.note.items; title = d.title.items; forward = d.forward.items } };
 }

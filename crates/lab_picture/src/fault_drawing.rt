@@ -23,6 +23,8 @@ pub fn blank(alloc: Global, about: Vec<u8>) -> Drawing
         marked: None,
         about,
         note: Vec::new(alloc),
+        title: Vec::new(alloc),
+        forward: Vec::new(alloc),
     }
 }
 
@@ -127,6 +129,8 @@ pub fn of_place(
                 marked: Some(Spot { txn, op }),
                 about,
                 note,
+                title: Vec::new(alloc),
+                forward: Vec::new(alloc),
             })
         }
         Some(from) => {
@@ -146,6 +150,8 @@ pub fn of_place(
                 marked: Some(Spot { txn, op }),
                 about,
                 note,
+                title: Vec::new(alloc),
+                forward: Vec::new(alloc),
             })
         }
     }
@@ -178,6 +184,8 @@ fn of_row(
         marked: None,
         about,
         note: Vec::new(alloc),
+        title: Vec::new(alloc),
+        forward: Vec::new(alloc),
     })
 }
 
@@ -212,6 +220,8 @@ fn of_misplaced(
         marked,
         about,
         note,
+        title: Vec::new(alloc),
+        forward: Vec::new(alloc),
     })
 }
 

@@ -10,7 +10,7 @@ ghost use Rattle.lab_deps.specs.declared.edge.Edge.{Edge as Dependency};
 ghost use Rattle.lab_deps.specs.declared.fault.LocalFault.TheVariants.{InstallOrder};
 ghost use Rattle.lab_judge.specs.Judgement.{IsExactJudgement};
 ghost use Rattle.lab_judge.specs.declared.report.Report.{Report};
-ghost use Rattle.lab_judge.specs.declared.serial.Serial.TheVariants.{NoFault};
+ghost use Rattle.lab_judge.specs.declared.serial.Serial.TheVariants.{NoCycle, NoFault};
 ghost use Rattle.lab_streams.specs.declared.ending.Ending.{Ending};
 ghost use Rattle.lab_picture.specs.ArrowLaws.{IsArrowOf, NamesWalk, DrawsArrow, DrawsWrites};
 ghost use Rattle.lab_picture.specs.InstallLaws.{NamesOut};
@@ -19,6 +19,7 @@ ghost use Rattle.lab_picture.specs.Making.{arrow_of};
 ghost use Rattle.lab_picture.specs.Picture.{IsPictureAnswer};
 ghost use Rattle.lab_picture.specs.Sketch.{drawing_of};
 ghost use Rattle.lab_picture.specs.Text.{escaped, is_plain};
+ghost use Rattle.lab_picture.specs.TitleLaws.{TellsWalk};
 ghost use Rattle.lab_picture.specs.declared.asked.Phenomenon.{Phenomenon};
 ghost use Rattle.lab_picture.specs.declared.asked.Phenomenon.TheVariants.{G0};
 ghost use Rattle.lab_picture.specs.declared.drawing.Arrow.{Arrow as Drawn};
@@ -49,6 +50,11 @@ pub fn each_dependency_of_a_walk_is_drawn()
 pub fn who_is_out_of_place_is_named()
     ensures { (h : Held) (report : Report) (row : Row) → IsExactJudgement h report → report.serial ≡ NoFault (InstallOrder row)
         → (found : Misplaced) × ((drawing_of h report None).note ≡ misplaced_text found) × NamesOut h row found }
+{}
+
+/// The title of a no with a walk names a phenomenon that the walk is one of.
+pub fn a_title_names_what_a_walk_is()
+    ensures { (h : Held) (report : Report) (walk : List Dependency) → IsExactJudgement h report → report.serial ≡ NoCycle walk → TellsWalk h walk (drawing_of h report None).title }
 {}
 
 /// An escaped text has no byte that begins or ends markup.

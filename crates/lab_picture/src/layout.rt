@@ -11,6 +11,17 @@ pub struct Corner {
     pub y: u64,
 }
 
+/// What the bands of a picture are measured by.
+#[derive(Clone, Copy)]
+pub struct Frame {
+    /// The ground line of what stands above the columns of the first band.
+    pub head: u16,
+    /// How many operations the longest column has.
+    pub most: u32,
+    /// Whether an arrow goes below the boxes.
+    pub round: bool,
+}
+
 /// The most transactions that are drawn.
 pub const MAX_COLUMNS: usize = 40;
 
@@ -18,65 +29,83 @@ pub const MAX_COLUMNS: usize = 40;
 pub const BOX_BYTES: usize = 28;
 
 /// How many bytes of text a line between two columns has.
-pub const GAP_BYTES: usize = 12;
+pub const GAP_BYTES: usize = 14;
 
 /// The left side of a column.
 pub fn left(column: usize) -> u64
     ensures value { result ≡ layout.left column }
     ensures low { 26 ≤ result }
-    ensures small { result ≤ 586 }
+    ensures small { result ≤ 642 }
 {
-    26 + (column % 3) as u64 * 280
+    26 + (column % 3) as u64 * 308
 }
 
-/// What a band is measured from, where the longest column has so many operations.
-pub fn band(most: u32, column: usize) -> u64
+/// How wide a picture of so many columns is: two have room, or three.
+pub fn width(columns: usize) -> u64
+    ensures { result ≡ layout.width columns }
+{
+    if columns > 2 { 864 } else { 556 }
+}
+
+/// How high a band is.
+fn pitch(frame: Frame) -> u64
+    ensures value { result ≡ layout.pitch frame }
+    ensures small { result ≤ 500000000000 }
+{
+    30 + 70 * u64::from(frame.most) + if frame.round { 30 } else { 0 }
+}
+
+/// The ground line of what stands above a column.
+pub fn top(frame: Frame, column: usize) -> u64
     requires { column ≤ 42 }
-    ensures value { result ≡ layout.band most column }
+    ensures value { result ≡ layout.top frame column }
     ensures small { result ≤ 10000000000000 }
 {
-    40 + (column / 3) as u64 * (64 + 70 * u64::from(most))
+    u64::from(frame.head) + (column / 3) as u64 * pitch(frame)
 }
 
 /// The upper side of an operation's box; operations count from 1.
-pub fn upper(most: u32, column: usize, op: u32) -> u64
+pub fn upper(frame: Frame, column: usize, op: u32) -> u64
     requires { column ≤ 40 }
-    ensures value { result ≡ layout.upper most column op }
+    ensures value { result ≡ layout.upper frame column op }
     ensures small { result ≤ 11000000000000 }
+    ensures low { 10 ≤ result }
 {
-    band(most, column) + 70 * u64::from(op)
+    top(frame, column) + 10 + 70 * u64::from(op.saturating_sub(1))
 }
 
 /// How high a picture of so many columns is.
-pub fn height(most: u32, columns: usize) -> u64
+pub fn height(frame: Frame, columns: usize) -> u64
     requires { columns ≤ 40 }
-    ensures { result ≡ layout.height most columns }
+    ensures { result ≡ layout.height frame columns }
 {
-    band(most, columns + 2) + 50
+    top(frame, columns + 2)
 }
 
 /// Where an arrow leaves a box: its right side.
-pub fn exit_of(most: u32, column: usize, op: u32) -> Corner
+pub fn exit_of(frame: Frame, column: usize, op: u32) -> Corner
     requires { column ≤ 40 }
-    ensures value { result ≡ layout.exit_of most column op }
-    ensures small { (result.x ≤ 800) × (result.y ≤ 12000000000000) }
+    ensures value { result ≡ layout.exit_of frame column op }
+    ensures small { (result.x ≤ 1000) × (result.y ≤ 12000000000000) }
+    ensures low { 5 ≤ result.y }
 {
     Corner {
         x: left(column) + 196,
-        y: upper(most, column, op) + 18,
+        y: upper(frame, column, op) + 18,
     }
 }
 
 /// Where an arrow meets a box: its left side.
-pub fn entry_of(most: u32, column: usize, op: u32) -> Corner
+pub fn entry_of(frame: Frame, column: usize, op: u32) -> Corner
     requires { column ≤ 40 }
-    ensures value { result ≡ layout.entry_of most column op }
-    ensures small { (result.x ≤ 800) × (result.y ≤ 12000000000000) }
+    ensures value { result ≡ layout.entry_of frame column op }
+    ensures small { (result.x ≤ 1000) × (result.y ≤ 12000000000000) }
     ensures right { 26 ≤ result.x }
+    ensures low { 5 ≤ result.y }
 {
     Corner {
         x: left(column),
-        y: upper(most, column, op) + 42,
+        y: upper(frame, column, op) + 42,
     }
 }
 
@@ -89,25 +118,25 @@ pub fn is_next(from: usize, to: usize) -> bool
 }
 
 /// Whether an arrow leads to a later band.
-pub fn is_down(from: usize, to: usize) -> bool
+fn is_down(from: usize, to: usize) -> bool
     ensures { result ≡ layout.is_down from to }
 {
     from / 3 < to / 3
 }
 
 /// Where an arrow goes below the boxes of its first column's band.
-pub fn lane(most: u32, from: usize, to: usize) -> u64
+pub fn lane(frame: Frame, from: usize, to: usize) -> u64
     requires { from ≤ 40 }
-    ensures value { result ≡ layout.lane most from to }
+    ensures value { result ≡ layout.lane frame from to }
     ensures low { 4 ≤ result }
 {
-    band(most, from) + 70 * u64::from(most) + if is_down(from, to) { 80 } else { 98 }
+    top(frame, from) + 70 * u64::from(frame.most) + if is_down(from, to) { 18 } else { 36 }
 }
 
 /// How far before its second end an arrow that goes below the boxes turns up or down.
 pub fn aside(from: usize, to: usize) -> u64
     ensures value { result ≡ layout.aside from to }
-    ensures small { result ≤ 16 }
+    ensures small { result ≤ 18 }
 {
-    if is_down(from, to) { 8 } else { 16 }
+    if to <= from { 18 } else { 10 }
 }

@@ -4,8 +4,10 @@
 //! finding names, an arrow between two operations for each dependency of its walk, or the version that a fault names.
 //! [`print_drawing`] gives a drawing its text, in SVG.
 //!
-//! Which drawing is made is a definition over history and report (`drawing_of`), and so is its text (`svg_of`). [`picture`]
-//! is the subcommand of the program: it reads a history file, and writes the picture of a judgement of its history.
+//! Which drawing is made is a definition over history and report (`drawing_of`), and so is its text (`svg_of`). The arrows
+//! of a yes, which are drawn thin, are those of the least dependencies between transactions that stand near to each other
+//! (`AreForward`); there is one such list. [`picture`] is the subcommand of the program: it reads a history file, and
+//! writes the picture of a judgement of its history.
 #![tactic(auto)]
 
 mod arrows;
@@ -14,6 +16,8 @@ mod boxes;
 mod columns;
 mod drawing;
 mod fault_drawing;
+mod forward;
+mod heading;
 mod installs;
 mod laws;
 mod layout;
@@ -24,14 +28,18 @@ mod sketch;
 mod states;
 mod svg;
 mod text;
+mod titles;
 
 pub use asked::Phenomenon;
 pub use drawing::{Arrow, Drawing, Spot, Tie};
+pub use installs::{Misplaced, Why, installers_of, misplaced_of, put_misplaced};
 pub use laws::{
-    an_escaped_text_has_no_markup, each_dependency_has_its_arrow,
+    a_title_names_what_a_walk_is, an_escaped_text_has_no_markup, each_dependency_has_its_arrow,
     each_dependency_of_a_walk_is_drawn, each_dependency_of_installed_rows_has_its_arrow,
     picture_answer_unique, who_is_out_of_place_is_named,
 };
-pub use picturing::picture;
+pub use making::arrow_of;
+pub use picturing::{history_of, picture};
 pub use sketch::draw;
+pub use states::{ops_of, state_at, state_of, viewed};
 pub use svg::print_drawing;

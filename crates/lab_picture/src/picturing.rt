@@ -6,6 +6,7 @@ ghost use Rattle.lab_streams.specs.HistoryFile.{HoldsHistory, IsFileFault};
 ghost use Rattle.lab_picture.specs.Picture.{IsPictureOf, IsPictureAnswer};
 
 use crate::asked::Phenomenon;
+use crate::forward::{forward_arrows, with_forward};
 use crate::sketch::draw;
 use crate::svg::print_drawing;
 use lab_hints::note_file;
@@ -27,12 +28,13 @@ fn picture_of(
     let Ok(report) = judge(alloc, history) else {
         return Err(AllocError);
     };
-    let drawing = draw(alloc, history, &report, asked)?;
+    let forward = forward_arrows(alloc, history, &report, asked)?;
+    let drawing = with_forward(forward, draw(alloc, history, &report, asked)?);
     print_drawing(alloc, history, &drawing)
 }
 
 /// The history that a file holds, or the file's first fault.
-fn history_of(alloc: Global, bytes: &[u8]) -> Result<History, FileFault>
+pub fn history_of(alloc: Global, bytes: &[u8]) -> Result<History, FileFault>
     ensures held { IfOk result (HoldsHistory bytes.now) }
     ensures fault { IfErr result (λ fault. fault ≢ FileFault.NoMemory → IsFileFault bytes.now fault) }
 {

@@ -1,7 +1,7 @@
 //! The ways of arrows.
 
 ghost use Rattle.std.specs.Prelude.{◌≡◌, ◌++◌, ◌≤◌, OnOk};
-ghost use Rattle.lab_picture.specs.Arrows.{straight_path, down_path, across_path, round_path, style_text};
+ghost use Rattle.lab_picture.specs.Arrows.{straight_path, down_path, across_path, round_path, weight_text, dash_text, style_text};
 
 use crate::layout::Corner;
 use crate::text::put_number;
@@ -33,7 +33,7 @@ fn put_down(out: &mut Vec<u8>, from: Corner, lane: u64) -> Result<(), NoMemory>
     out.extend_from_slice(b" ")?;
     put_number(out, from.y)?;
     out.extend_from_slice(b" H")?;
-    put_number(out, from.x + 8)?;
+    put_number(out, from.x + 6)?;
     out.extend_from_slice(b" V")?;
     put_number(out, lane)
 }
@@ -67,16 +67,36 @@ pub fn put_round_path(
     put_across(out, aside, to)
 }
 
-/// Appends what stands behind an arrow's way.
-#[tactic(auto, unfolding(crate::specs::Arrows::style_text))]
-pub fn put_style(out: &mut Vec<u8>, dashed: bool) -> Result<(), NoMemory>
-    ensures { OnOk result (out.new.items ≡ out.old.items ++ style_text dashed) }
+/// Appends how thick an arrow is, as an attribute.
+#[tactic(auto, unfolding(crate::specs::Arrows::weight_text))]
+fn put_weight(out: &mut Vec<u8>, thin: bool) -> Result<(), NoMemory>
+    ensures { OnOk result (out.new.items ≡ out.old.items ++ weight_text thin) }
+{
+    if thin {
+        out.extend_from_slice(b" stroke-width=\"0.75\"")
+    } else {
+        out.extend_from_slice(b" stroke-width=\"1.5\"")
+    }
+}
+
+/// Appends an arrow's dashes, if it has any, and its head.
+#[tactic(auto, unfolding(crate::specs::Arrows::dash_text))]
+fn put_dash(out: &mut Vec<u8>, dashed: bool) -> Result<(), NoMemory>
+    ensures { OnOk result (out.new.items ≡ out.old.items ++ dash_text dashed) }
 {
     if dashed {
-        out.extend_from_slice(
-            b"\" fill=\"none\" stroke=\"black\" stroke-dasharray=\"5 3\" marker-end=\"url(#head)\"/>\n",
-        )
+        out.extend_from_slice(b" stroke-dasharray=\"5 3\" marker-end=\"url(#head)\"/>\n")
     } else {
-        out.extend_from_slice(b"\" fill=\"none\" stroke=\"black\" marker-end=\"url(#head)\"/>\n")
+        out.extend_from_slice(b" marker-end=\"url(#head)\"/>\n")
     }
+}
+
+/// Appends what stands behind an arrow's way.
+#[tactic(auto, unfolding(crate::specs::Arrows::style_text))]
+pub fn put_style(out: &mut Vec<u8>, thin: bool, dashed: bool) -> Result<(), NoMemory>
+    ensures { OnOk result (out.new.items ≡ out.old.items ++ style_text thin dashed) }
+{
+    out.extend_from_slice(b"\" fill=\"none\" stroke=\"black\"")?;
+    put_weight(out, thin)?;
+    put_dash(out, dashed)
 }

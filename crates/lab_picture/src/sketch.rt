@@ -2,12 +2,13 @@
 
 ghost use Rattle.std.specs.Prelude.{◌≡◌, flat_map, IfOk};
 ghost use Rattle.lab_picture.specs.Making.{arrows_of};
-ghost use Rattle.lab_picture.specs.Sketch.{of_serial, of_finding, of_walk, drawing_of};
+ghost use Rattle.lab_picture.specs.Sketch.{of_serial, of_finding, of_walk, entitled, drawing_of};
 
 use crate::asked::Phenomenon;
 use crate::drawing::{Arrow, Drawing};
 use crate::fault_drawing::{add_column, blank, of_fault, of_place};
 use crate::making::arrow_of;
+use crate::titles::{put_finding_title, put_serial_title};
 use lab_deps::Edge;
 use lab_history::History;
 use lab_judge::{Finding, Report, Serial, put_finding, put_serial};
@@ -24,13 +25,34 @@ pub fn draw(
     ensures { IfOk result (λ drawing. drawing ≡ drawing_of history.now report.now asked) }
 {
     match asked {
-        None => of_serial(alloc, history, &report.serial),
-        Some(phenomenon) => of_finding(
-            alloc,
-            history,
-            phenomenon.name(),
-            phenomenon.found_in(report),
-        ),
+        None => {
+            let mut title = Vec::new(alloc);
+            put_serial_title(&mut title, &report.serial)?;
+            let drawing = of_serial(alloc, history, &report.serial)?;
+            Ok(entitled(title, drawing))
+        }
+        Some(phenomenon) => {
+            let found = phenomenon.found_in(report);
+            let mut title = Vec::new(alloc);
+            put_finding_title(&mut title, phenomenon, found)?;
+            let drawing = of_finding(alloc, history, phenomenon.name(), found)?;
+            Ok(entitled(title, drawing))
+        }
+    }
+}
+
+/// A drawing with this title.
+fn entitled(title: Vec<u8>, drawing: Drawing) -> Drawing
+    ensures { result ≡ entitled title.items drawing }
+{
+    Drawing {
+        columns: drawing.columns,
+        arrows: drawing.arrows,
+        marked: drawing.marked,
+        about: drawing.about,
+        note: drawing.note,
+        title,
+        forward: drawing.forward,
     }
 }
 
@@ -46,6 +68,8 @@ fn of_serial(alloc: Global, history: &History, serial: &Serial) -> Result<Drawin
             marked: None,
             about,
             note: Vec::new(alloc),
+            title: Vec::new(alloc),
+            forward: Vec::new(alloc),
         }),
         Serial::NoFault(fault) => of_fault(alloc, history, about, *fault),
         Serial::NoCycle(walk) => of_walk(alloc, history, about, walk.as_slice()),
@@ -89,6 +113,8 @@ fn of_walk(
         marked: None,
         about,
         note: Vec::new(alloc),
+        title: Vec::new(alloc),
+        forward: Vec::new(alloc),
     })
 }
 

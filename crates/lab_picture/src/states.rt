@@ -66,7 +66,7 @@ fn value_of(state: State) -> Option<Value>
 }
 
 /// The state of a version of a row; absent where there is no such version.
-fn state_of(history: &History, row: RowName, version: VersionName) -> Option<Value>
+pub fn state_of(history: &History, row: RowName, version: VersionName) -> Option<Value>
     ensures { result ≡ state_of history.now row version }
 {
     match history.version_state(row, version) {
@@ -86,7 +86,7 @@ fn installed_state(history: &History, row: RowName, place: usize) -> Option<Valu
 }
 
 /// The state of a row's version at a place, counted from 0.
-fn state_at(history: &History, row: RowName, place: usize) -> Option<Value>
+pub fn state_at(history: &History, row: RowName, place: usize) -> Option<Value>
     ensures { result ≡ state_at history.now row place }
 {
     match place.checked_sub(1) {

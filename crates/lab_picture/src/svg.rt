@@ -1,32 +1,54 @@
 //! The text of a drawing, in SVG.
 
 ghost use Rattle.std.specs.Prelude.{◌≡◌, ◌++◌, ◌≤◌, ◌<◌, length, take, IfOk, OnOk};
-ghost use Rattle.lab_picture.specs.Svg.{height_text, svg_text, letters_text, open_text, marker_text, rect_text, white_text, ground_text, head_text, heading_text, notes_text, drawn_text, more_text, svg_with, svg_of, shown_columns};
+ghost use Rattle.lab_picture.specs.Svg.{size_text, numbers_text, view_text, svg_text, letters_text, open_text, told_title, told_line, told_text, marker_text, ground_text, head_text, drawn_columns, drawn_arrows, svg_with, svg_of, shown_columns, goes_below, frame_of};
 
-use crate::arrows::put_arrows;
+use crate::arrows::{has_round, put_arrows};
 use crate::columns::{most_ops, put_columns};
 use crate::drawing::Drawing;
-use crate::layout::{MAX_COLUMNS, height};
-use crate::text::{put_escaped, put_line, put_number, put_paragraph};
+use crate::heading::{head_y, put_heading};
+use crate::layout::{Frame, MAX_COLUMNS, height, width};
+use crate::text::{put_escaped, put_number};
 use lab_history::History;
 use lab_table::{NoMemory, TxnNo};
 use std::alloc::Global;
 
-/// Appends a height as an attribute.
-#[tactic(auto, unfolding(crate::specs::Svg::height_text))]
-fn put_height(out: &mut Vec<u8>, height: u64) -> Result<(), NoMemory>
-    ensures { OnOk result (out.new.items ≡ out.old.items ++ height_text height) }
+/// Appends a size as attributes.
+#[tactic(auto, unfolding(crate::specs::Svg::size_text))]
+fn put_size(out: &mut Vec<u8>, width: u64, height: u64) -> Result<(), NoMemory>
+    ensures { OnOk result (out.new.items ≡ out.old.items ++ size_text width height) }
 {
-    out.extend_from_slice(b" height=\"")?;
+    out.extend_from_slice(b" width=\"")?;
+    put_number(out, width)?;
+    out.extend_from_slice(b"\" height=\"")?;
     put_number(out, height)?;
     out.extend_from_slice(b"\"")
+}
+
+/// Appends two numbers as the end of an attribute.
+#[tactic(auto, unfolding(crate::specs::Svg::numbers_text))]
+fn put_numbers(out: &mut Vec<u8>, a: u64, b: u64) -> Result<(), NoMemory>
+    ensures { OnOk result (out.new.items ≡ out.old.items ++ numbers_text a b) }
+{
+    put_number(out, a)?;
+    out.extend_from_slice(b" ")?;
+    put_number(out, b)?;
+    out.extend_from_slice(b"\"")
+}
+
+/// Appends that all of the ground is shown.
+fn put_view(out: &mut Vec<u8>, width: u64, height: u64) -> Result<(), NoMemory>
+    ensures { OnOk result (out.new.items ≡ out.old.items ++ view_text width height) }
+{
+    out.extend_from_slice(b" viewBox=\"0 0 ")?;
+    put_numbers(out, width, height)
 }
 
 #[tactic(auto, unfolding(crate::specs::Svg::svg_text))]
 fn put_svg(out: &mut Vec<u8>) -> Result<(), NoMemory>
     ensures { OnOk result (out.new.items ≡ out.old.items ++ svg_text) }
 {
-    out.extend_from_slice(b"<svg xmlns=\"http://www.w3.org/2000/svg\" width=\"800\"")
+    out.extend_from_slice(b"<svg xmlns=\"http://www.w3.org/2000/svg\" role=\"img\"")
 }
 
 #[tactic(auto, unfolding(crate::specs::Svg::letters_text))]
@@ -36,14 +58,44 @@ fn put_letters(out: &mut Vec<u8>) -> Result<(), NoMemory>
     out.extend_from_slice(b" font-family=\"monospace\" font-size=\"11\">\n")
 }
 
-/// Appends what opens a picture of this height.
+/// Appends what opens a picture of this size.
 #[tactic(auto, unfolding(crate::specs::Svg::open_text))]
-fn put_open(out: &mut Vec<u8>, height: u64) -> Result<(), NoMemory>
-    ensures { OnOk result (out.new.items ≡ out.old.items ++ open_text height) }
+fn put_open(out: &mut Vec<u8>, width: u64, height: u64) -> Result<(), NoMemory>
+    ensures { OnOk result (out.new.items ≡ out.old.items ++ open_text width height) }
 {
     put_svg(out)?;
-    put_height(out, height)?;
+    put_size(out, width, height)?;
+    put_view(out, width, height)?;
     put_letters(out)
+}
+
+/// Appends the title that a reader of screens reads out.
+#[tactic(auto, unfolding(crate::specs::Svg::told_title))]
+fn put_told_title(out: &mut Vec<u8>, title: &[u8]) -> Result<(), NoMemory>
+    ensures { OnOk result (out.new.items ≡ out.old.items ++ told_title title.now) }
+{
+    out.extend_from_slice(b"<title>")?;
+    put_escaped(out, title)?;
+    out.extend_from_slice(b"</title>\n")
+}
+
+/// Appends the line that it reads out.
+#[tactic(auto, unfolding(crate::specs::Svg::told_line))]
+fn put_told_line(out: &mut Vec<u8>, about: &[u8]) -> Result<(), NoMemory>
+    ensures { OnOk result (out.new.items ≡ out.old.items ++ told_line about.now) }
+{
+    out.extend_from_slice(b"<desc>")?;
+    put_escaped(out, about)?;
+    out.extend_from_slice(b"</desc>\n")
+}
+
+/// Appends both.
+#[tactic(auto, unfolding(crate::specs::Svg::told_text))]
+fn put_told(out: &mut Vec<u8>, title: &[u8], about: &[u8]) -> Result<(), NoMemory>
+    ensures { OnOk result (out.new.items ≡ out.old.items ++ told_text title.now about.now) }
+{
+    put_told_title(out, title)?;
+    put_told_line(out, about)
 }
 
 /// Appends the head of arrows.
@@ -52,42 +104,29 @@ fn put_marker(out: &mut Vec<u8>) -> Result<(), NoMemory>
     ensures { OnOk result (out.new.items ≡ out.old.items ++ marker_text) }
 {
     out.extend_from_slice(
-        b"<defs><marker id=\"head\" viewBox=\"0 0 8 8\" refX=\"8\" refY=\"4\" markerWidth=\"8\" markerHeight=\"8\" orient=\"auto\"><path d=\"M0 0L8 4L0 8z\"/></marker></defs>\n",
+        b"<defs><marker id=\"head\" viewBox=\"0 0 8 8\" refX=\"8\" refY=\"4\" markerWidth=\"9\" markerHeight=\"9\" markerUnits=\"userSpaceOnUse\" orient=\"auto\"><path d=\"M0 0L8 4L0 8z\"/></marker></defs>\n",
     )
-}
-
-#[tactic(auto, unfolding(crate::specs::Svg::rect_text))]
-fn put_rect(out: &mut Vec<u8>) -> Result<(), NoMemory>
-    ensures { OnOk result (out.new.items ≡ out.old.items ++ rect_text) }
-{
-    out.extend_from_slice(b"<rect width=\"800\"")
-}
-
-#[tactic(auto, unfolding(crate::specs::Svg::white_text))]
-fn put_white(out: &mut Vec<u8>) -> Result<(), NoMemory>
-    ensures { OnOk result (out.new.items ≡ out.old.items ++ white_text) }
-{
-    out.extend_from_slice(b" fill=\"white\"/>\n")
 }
 
 /// Appends a white ground.
 #[tactic(auto, unfolding(crate::specs::Svg::ground_text))]
-fn put_ground(out: &mut Vec<u8>, height: u64) -> Result<(), NoMemory>
-    ensures { OnOk result (out.new.items ≡ out.old.items ++ ground_text height) }
+fn put_ground(out: &mut Vec<u8>, width: u64, height: u64) -> Result<(), NoMemory>
+    ensures { OnOk result (out.new.items ≡ out.old.items ++ ground_text width height) }
 {
-    put_rect(out)?;
-    put_height(out, height)?;
-    put_white(out)
+    out.extend_from_slice(b"<rect")?;
+    put_size(out, width, height)?;
+    out.extend_from_slice(b" fill=\"white\"/>\n")
 }
 
-/// Appends what a picture of this height begins with.
+/// Appends what a picture of this size begins with.
 #[tactic(auto, unfolding(crate::specs::Svg::head_text))]
-fn put_head(out: &mut Vec<u8>, height: u64) -> Result<(), NoMemory>
-    ensures { OnOk result (out.new.items ≡ out.old.items ++ head_text height) }
+fn put_head(out: &mut Vec<u8>, width: u64, height: u64, drawing: &Drawing) -> Result<(), NoMemory>
+    ensures { OnOk result (out.new.items ≡ out.old.items ++ head_text width height drawing.now) }
 {
-    put_open(out, height)?;
+    put_open(out, width, height)?;
+    put_told(out, &drawing.title, &drawing.about)?;
     put_marker(out)?;
-    put_ground(out, height)
+    put_ground(out, width, height)
 }
 
 /// The transactions that are drawn: no more than forty.
@@ -98,57 +137,76 @@ fn shown_columns(columns: &[TxnNo]) -> &[TxnNo]
     &columns[..columns.len().min(MAX_COLUMNS)]
 }
 
-/// How many transactions aren't drawn, if there are any. NoMemory where a growth was refused.
-fn more_text(alloc: Global, columns: usize) -> Result<Vec<u8>, NoMemory>
-    ensures { IfOk result (λ text. text.items ≡ more_text columns) }
-{
-    let mut text = Vec::new(alloc);
-    if columns > MAX_COLUMNS {
-        put_number(&mut text, (columns - MAX_COLUMNS) as u64)?;
-        text.extend_from_slice(b" more transactions")?;
-    }
-    Ok(text)
-}
-
-/// Appends the line that is drawn.
-#[tactic(auto, unfolding(crate::specs::Svg::heading_text))]
-fn put_heading(alloc: Global, out: &mut Vec<u8>, about: &[u8]) -> Result<(), NoMemory>
-    ensures { OnOk result (out.new.items ≡ out.old.items ++ heading_text about.now) }
-{
-    out.extend_from_slice(b"<title>")?;
-    put_escaped(out, about)?;
-    out.extend_from_slice(b"</title>\n")?;
-    put_paragraph(alloc, out, b"", 26, 20, 112, about)
-}
-
-/// Appends the note, and how many transactions aren't drawn.
-#[tactic(auto, unfolding(crate::specs::Svg::notes_text))]
-fn put_notes(alloc: Global, out: &mut Vec<u8>, drawing: &Drawing) -> Result<(), NoMemory>
-    ensures { OnOk result (out.new.items ≡ out.old.items ++ notes_text drawing.now) }
-{
-    let more = more_text(alloc, drawing.columns.len())?;
-    put_line(out, b"", 26, 72, &drawing.note)?;
-    put_line(out, b"", 26, 85, &more)
-}
-
-/// Appends the columns that are drawn, and the arrows between them.
-#[tactic(auto, unfolding(crate::specs::Svg::drawn_text))]
-fn put_drawn(
+/// Appends the columns that are drawn.
+#[tactic(auto, unfolding(crate::specs::Svg::drawn_columns))]
+fn put_drawn_columns(
     alloc: Global,
     out: &mut Vec<u8>,
     history: &History,
-    most: u32,
+    frame: Frame,
     drawing: &Drawing,
 ) -> Result<(), NoMemory>
-    ensures { OnOk result (out.new.items ≡ out.old.items ++ drawn_text history.now most drawing.now) }
+    ensures { OnOk result (out.new.items ≡ out.old.items ++ drawn_columns history.now frame drawing.now) }
 {
     let columns = shown_columns(&drawing.columns);
-    put_columns(alloc, out, history, most, &drawing.marked, columns)?;
-    put_arrows(alloc, out, most, columns, &drawing.arrows)
+    put_columns(alloc, out, history, frame, &drawing.marked, columns)
+}
+
+/// Appends the arrows between them, those of a yes thin.
+#[tactic(auto, unfolding(crate::specs::Svg::drawn_arrows))]
+fn put_drawn_arrows(
+    alloc: Global,
+    out: &mut Vec<u8>,
+    frame: Frame,
+    drawing: &Drawing,
+) -> Result<(), NoMemory>
+    ensures { OnOk result (out.new.items ≡ out.old.items ++ drawn_arrows frame drawing.now) }
+{
+    let columns = shown_columns(&drawing.columns);
+    put_arrows(alloc, out, frame, false, columns, &drawing.arrows)?;
+    put_arrows(alloc, out, frame, true, columns, &drawing.forward)
+}
+
+/// Whether an arrow of a drawing goes below the boxes.
+fn goes_below(drawing: &Drawing) -> bool
+    ensures { result ≡ goes_below drawing.now }
+{
+    let columns = shown_columns(&drawing.columns);
+    has_round(columns, &drawing.arrows) || has_round(columns, &drawing.forward)
+}
+
+/// The frame of a drawing.
+fn frame_of(history: &History, drawing: &Drawing) -> Frame
+    ensures { result ≡ frame_of history.now drawing.now }
+{
+    Frame {
+        head: head_y(drawing) as u16,
+        most: most_ops(history, shown_columns(&drawing.columns)),
+        round: goes_below(drawing),
+    }
+}
+
+/// Appends the text of a drawing in a frame.
+#[tactic(auto, unfolding(crate::specs::Svg::svg_with))]
+fn put_drawing(
+    alloc: Global,
+    out: &mut Vec<u8>,
+    history: &History,
+    frame: Frame,
+    drawing: &Drawing,
+) -> Result<(), NoMemory>
+    ensures { OnOk result (out.new.items ≡ out.old.items ++ svg_with history.now frame drawing.now) }
+{
+    let shown = shown_columns(&drawing.columns).len();
+    let wide = width(drawing.columns.len());
+    put_head(out, wide, height(frame, shown), drawing)?;
+    put_heading(alloc, out, drawing)?;
+    put_drawn_columns(alloc, out, history, frame, drawing)?;
+    put_drawn_arrows(alloc, out, frame, drawing)?;
+    out.extend_from_slice(b"</svg>\n")
 }
 
 /// The text of a drawing of some of a history's transactions. NoMemory where a growth was refused.
-#[tactic(auto, unfolding(crate::specs::Svg::svg_with))]
 pub fn print_drawing(
     alloc: Global,
     history: &History,
@@ -156,13 +214,8 @@ pub fn print_drawing(
 ) -> Result<Vec<u8>, NoMemory>
     ensures { IfOk result (λ text. text.items ≡ svg_of history.now drawing.now) }
 {
-    let columns = shown_columns(&drawing.columns);
-    let most = most_ops(history, columns);
     let mut out = Vec::new(alloc);
-    put_head(&mut out, height(most, columns.len()))?;
-    put_heading(alloc, &mut out, &drawing.about)?;
-    put_notes(alloc, &mut out, drawing)?;
-    put_drawn(alloc, &mut out, history, most, drawing)?;
-    out.extend_from_slice(b"</svg>\n")?;
+    let frame = frame_of(history, drawing);
+    put_drawing(alloc, &mut out, history, frame, drawing)?;
     Ok(out)
 }

@@ -1,8 +1,8 @@
 //! Texts of a picture. Each function appends; after NoMemory, part of what was to be appended may stand there.
 
-ghost use Rattle.std.specs.Prelude.{◌≡◌, ◌++◌, ◌≤◌, ◌<◌, length, IfOk, OnOk};
+ghost use Rattle.std.specs.Prelude.{◌≡◌, ℕ, ◌+◌, ◌++◌, ◌≤◌, ◌<◌, length, IfOk, OnOk};
 ghost use Rattle.std.specs.Fmt.{decimal};
-ghost use Rattle.lab_picture.specs.Text.{escaped, last_blank, cut, front, back, shown, place_text, text_at, line_at, paragraph};
+ghost use Rattle.lab_picture.specs.Text.{escaped, last_blank, depth_behind, last_outside, first_place, cut, front, back, shown, place_text, text_at, line_at, one_line, two_lines, three_lines, four_lines, in_one, in_two, in_three, in_four};
 
 use itoa::Buffer;
 use lab_table::NoMemory;
@@ -50,14 +50,59 @@ fn last_blank(text: &[u8]) -> usize
     last
 }
 
+/// How deep in parentheses it is behind a byte.
+fn depth_behind(depth: usize, byte: u8) -> usize
+    requires { depth < 18446744073709551615 }
+    ensures value { result ≡ depth_behind depth byte }
+    ensures near { result ≤ depth + 1 }
+{
+    if byte == b'(' {
+        depth + 1
+    } else if byte == b')' {
+        depth.saturating_sub(1)
+    } else {
+        depth
+    }
+}
+
+/// How many bytes stand up to the last blank of a text that is outside parentheses, and with it.
+fn last_outside(text: &[u8]) -> usize
+    ensures value { result ≡ last_outside text.now }
+    ensures within { result ≤ length text.now }
+{
+    let mut last = 0;
+    let mut depth = 0;
+    for (index, byte) in text.iter().enumerate() {
+        if *byte == b' ' && depth == 0 {
+            last = index + 1;
+        }
+        depth = depth_behind(depth, *byte);
+    }
+    last
+}
+
+/// The first of these that isn't 0; the last where both are.
+fn first_place(outside: usize, blank: usize, width: usize) -> usize
+    ensures value { result ≡ first_place outside blank width }
+    ensures within { (most : ℕ) → outside ≤ most → blank ≤ most → width ≤ most → result ≤ most }
+{
+    if outside != 0 {
+        outside
+    } else if blank != 0 {
+        blank
+    } else {
+        width
+    }
+}
+
 /// Where a text that is longer than a line is cut.
 fn cut(width: usize, text: &[u8]) -> usize
     requires { width < length text.now }
     ensures value { result ≡ cut width text.now }
     ensures within { result ≤ length text.now }
 {
-    let blank = last_blank(&text[..width + 1]);
-    if blank == 0 { width } else { blank }
+    let head = &text[..width + 1];
+    first_place(last_outside(head), last_blank(head), width)
 }
 
 /// A text's first line, and what is left of it.
@@ -122,20 +167,21 @@ pub fn put_line(
 
 /// The last of a text's lines, with two dots at its end where the text goes on. NoMemory where a growth was refused.
 fn shown(alloc: Global, width: usize, text: &[u8]) -> Result<Vec<u8>, NoMemory>
-    requires { 2 ≤ width }
+    requires { 3 ≤ width }
     ensures { IfOk result (λ line. line.items ≡ shown width text.now) }
 {
     if text.len() <= width {
         return Vec::from_slice(alloc, text);
     }
-    let mut line = Vec::from_slice(alloc, &text[..width - 2])?;
+    let (front, _) = divided(width - 3, text);
+    let mut line = Vec::from_slice(alloc, front)?;
     line.extend_from_slice(b"..")?;
     Ok(line)
 }
 
-/// Appends a text with these attributes in up to four lines of so many bytes.
-#[tactic(auto, unfolding(crate::specs::Text::paragraph))]
-pub fn put_paragraph(
+/// Appends a text with these attributes in one line of so many bytes.
+#[tactic(auto, unfolding(crate::specs::Text::one_line))]
+pub fn put_one_line(
     alloc: Global,
     out: &mut Vec<u8>,
     attributes: &[u8],
@@ -144,15 +190,104 @@ pub fn put_paragraph(
     width: usize,
     text: &[u8],
 ) -> Result<(), NoMemory>
-    requires { (2 ≤ width) × (y ≤ 100000000000000) }
-    ensures { OnOk result (out.new.items ≡ out.old.items ++ paragraph attributes.now x y width text.now) }
+    requires { 3 ≤ width }
+    ensures { OnOk result (out.new.items ≡ out.old.items ++ one_line attributes.now x y width text.now) }
+{
+    let line = shown(alloc, width, text)?;
+    put_line(out, attributes, x, y, &line)
+}
+
+/// Appends a text with these attributes in up to two lines, the second so far below the first.
+#[tactic(auto, unfolding(crate::specs::Text::two_lines))]
+pub fn put_two_lines(
+    alloc: Global,
+    out: &mut Vec<u8>,
+    attributes: &[u8],
+    x: u64,
+    y: u64,
+    step: u64,
+    width: usize,
+    text: &[u8],
+) -> Result<(), NoMemory>
+    requires { (3 ≤ width) × (y ≤ 100000000000000) × (step ≤ 100) }
+    ensures { OnOk result (out.new.items ≡ out.old.items ++ two_lines attributes.now x y step width text.now) }
 {
     let (first, rest) = divided(width, text);
-    let (second, rest) = divided(width, rest);
-    let (third, rest) = divided(width, rest);
     put_line(out, attributes, x, y, first)?;
-    put_line(out, attributes, x, y + 13, second)?;
-    put_line(out, attributes, x, y + 26, third)?;
-    let last = shown(alloc, width, rest)?;
-    put_line(out, attributes, x, y + 39, &last)
+    put_one_line(alloc, out, attributes, x, y + step, width, rest)
+}
+
+/// Appends a text with these attributes in up to three lines.
+#[tactic(auto, unfolding(crate::specs::Text::three_lines))]
+pub fn put_three_lines(
+    alloc: Global,
+    out: &mut Vec<u8>,
+    attributes: &[u8],
+    x: u64,
+    y: u64,
+    step: u64,
+    width: usize,
+    text: &[u8],
+) -> Result<(), NoMemory>
+    requires { (3 ≤ width) × (y ≤ 90000000000000) × (step ≤ 100) }
+    ensures { OnOk result (out.new.items ≡ out.old.items ++ three_lines attributes.now x y step width text.now) }
+{
+    let (first, rest) = divided(width, text);
+    put_line(out, attributes, x, y, first)?;
+    put_two_lines(alloc, out, attributes, x, y + step, step, width, rest)
+}
+
+/// Appends a text with these attributes in up to four lines.
+#[tactic(auto, unfolding(crate::specs::Text::four_lines))]
+pub fn put_four_lines(
+    alloc: Global,
+    out: &mut Vec<u8>,
+    attributes: &[u8],
+    x: u64,
+    y: u64,
+    step: u64,
+    width: usize,
+    text: &[u8],
+) -> Result<(), NoMemory>
+    requires { (3 ≤ width) × (y ≤ 80000000000000) × (step ≤ 100) }
+    ensures { OnOk result (out.new.items ≡ out.old.items ++ four_lines attributes.now x y step width text.now) }
+{
+    let (first, rest) = divided(width, text);
+    put_line(out, attributes, x, y, first)?;
+    put_three_lines(alloc, out, attributes, x, y + step, step, width, rest)
+}
+
+/// How many lines a text has in one line: none where it is empty.
+pub fn in_one(text: &[u8]) -> u64
+    ensures value { result ≡ in_one text.now }
+    ensures small { result ≤ 1 }
+{
+    if text.len() == 0 { 0 } else { 1 }
+}
+
+/// How many lines a text has in up to two.
+pub fn in_two(width: usize, text: &[u8]) -> u64
+    ensures value { result ≡ in_two width text.now }
+    ensures small { result ≤ 2 }
+{
+    let (_, rest) = divided(width, text);
+    in_one(text) + in_one(rest)
+}
+
+/// How many lines a text has in up to three.
+pub fn in_three(width: usize, text: &[u8]) -> u64
+    ensures value { result ≡ in_three width text.now }
+    ensures small { result ≤ 3 }
+{
+    let (_, rest) = divided(width, text);
+    in_one(text) + in_two(width, rest)
+}
+
+/// How many lines a text has in up to four.
+pub fn in_four(width: usize, text: &[u8]) -> u64
+    ensures value { result ≡ in_four width text.now }
+    ensures small { result ≤ 4 }
+{
+    let (_, rest) = divided(width, text);
+    in_one(text) + in_three(width, rest)
 }

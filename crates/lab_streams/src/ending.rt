@@ -17,7 +17,7 @@ pub enum Ending {
 /// Why a run didn't write its text, or not all of it.
 #[derive(Clone, Copy, Debug, Drop, PartialEq, Eq)]
 pub enum RunFault {
-    /// A growth was refused; nothing was written.
+    /// An allocation was refused; nothing was written.
     NoMemory,
     /// A read failed, or the input didn't end in the calls that it has; nothing was written.
     Unread,

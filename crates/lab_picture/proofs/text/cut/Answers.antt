@@ -1,6 +1,10 @@
-use Rattle.std.proofs.Common.{◌+◌, arith}
+use Rattle.std.proofs.Common.{◌+◌, ◌≤◌, length, arith}
 use Rattle.std.proofs.lemmas.List.{length-take}
 use Rattle.lab_picture.proofs.text.cut.Goals as goal
 
-pub returns-else-blank-eq0-clause-within : goal.returns-else-blank-eq0-clause-within
-returns-else-blank-eq0-clause-within c = let l = length-take (c.args.width + 1) c.args.text.now in omega (arith, l, c.last_blank-blank.ensures.within)
+pub returns-clause-within : goal.returns-clause-within
+returns-clause-within c =
+    let l = length-take (c.args.width + 1) c.args.text.now in
+    let outside : c.last_outside.result ≤ length c.args.text.now = omega (arith, l, c.last_outside.ensures.within) in
+    let blank : c.last_blank.result ≤ length c.args.text.now = omega (arith, l, c.last_blank.ensures.within) in
+    c.first_place.ensures.within (length c.args.text.now) outside blank (omega (arith, c.requires))

@@ -1,0 +1,123 @@
+-- What stands above the columns of a picture, and where.
+use Rattle.std.specs.Prelude.{ℕ, ◌+◌, ◌-◌, ◌*◌, nat_lt, Bool, true, false, cond, Option, Some, None, List, [], ◌∷◌, ◌++◌, length, codes}
+use Rattle.std.specs.Fmt.{decimal}
+use Rattle.lab_picture.specs.Arrows.{style_text}
+use Rattle.lab_picture.specs.Sketch.{Sketch}
+use Rattle.lab_picture.specs.Text.{line_at, text_at, two_lines, four_lines, in_one, in_two, in_four}
+use Rattle.lab_picture.specs.declared.drawing.Arrow.{Arrow}
+use Rattle.lab_picture.specs.declared.drawing.Spot.{Spot}
+use Rattle.lab_picture.specs.declared.drawing.Tie.{Tie}
+use Rattle.lab_picture.specs.declared.drawing.Tie.TheVariants.{Dependency, Version}
+
+-- how many bytes a line of the title has over so many columns
+abbrev pub title_bytes : ℕ → ℕ
+title_bytes columns = cond (nat_lt 2 columns) 96 59
+
+-- how many bytes a line of other text has
+abbrev pub line_bytes : ℕ → ℕ
+line_bytes columns = cond (nat_lt 2 columns) 122 76
+
+-- how many transactions are drawn, where that isn't all
+abbrev pub more_text : ℕ → List ℕ
+more_text columns = cond (nat_lt 40 columns) (codes "40 of " ++ decimal columns ++ codes " transactions are drawn, without the arrows to the others") []
+
+-- how many lines that has
+abbrev pub more_lines : ℕ → ℕ
+more_lines columns = cond (nat_lt 40 columns) 1 0
+
+-- that arrows are left out, where there are those of a yes over more than one band
+abbrev pub far_text : ℕ → List Arrow → List ℕ
+far_text columns [] = []
+far_text columns (a ∷ more) = cond (nat_lt 3 columns) (codes "dependencies between transactions further apart aren't drawn") []
+
+-- how many lines that has
+abbrev pub far_lines : ℕ → List Arrow → ℕ
+far_lines columns [] = 0
+far_lines columns (a ∷ more) = cond (nat_lt 3 columns) 1 0
+
+-- what ties the ends of the first of some arrows, or else of others
+abbrev pub first_tie : List Arrow → List Arrow → Option Tie
+first_tie [] [] = None
+first_tie [] (a ∷ more) = Some a.tie
+first_tie (a ∷ more) others = Some a.tie
+
+-- how many lines a legend has
+abbrev pub legend_lines : Option Tie → ℕ
+legend_lines None = 0
+legend_lines (Some Version) = 1
+legend_lines (Some (Dependency kind)) = 2
+
+-- how many lines tell of a marked operation
+abbrev pub marked_lines : Option Spot → ℕ
+marked_lines None = 0
+marked_lines (Some spot) = 1
+
+-- the ground lines of what follows the title: the report's line, the note, how many transactions are drawn, which arrows aren't, the legend, and what a thick edge is
+abbrev pub about_y : Sketch → ℕ
+about_y d = 30 + 18 * in_two (title_bytes (length d.columns)) d.title
+
+abbrev pub note_y : Sketch → ℕ
+note_y d = about_y d + 14 * in_four (line_bytes (length d.columns)) d.about
+
+abbrev pub more_y : Sketch → ℕ
+more_y d = note_y d + 14 * in_one d.note
+
+abbrev pub far_y : Sketch → ℕ
+far_y d = more_y d + 14 * more_lines (length d.columns)
+
+abbrev pub legend_y : Sketch → ℕ
+legend_y d = far_y d + 14 * far_lines (length d.columns) d.forward
+
+abbrev pub marked_y : Sketch → ℕ
+marked_y d = legend_y d + 14 * legend_lines (first_tie d.arrows d.forward)
+
+-- the ground line of what stands above the columns of the first band
+abbrev pub head_y : Sketch → ℕ
+head_y d = marked_y d + 14 * marked_lines d.marked + 14
+
+-- the title's letters
+abbrev pub title_style : List ℕ
+title_style = codes " font-size=\"14\" font-weight=\"bold\""
+
+-- the title, and the line of the report
+unfoldable pub title_lines : Sketch → List ℕ
+title_lines d =
+    two_lines title_style 26 30 18 (title_bytes (length d.columns)) d.title ++ four_lines [] 26 (about_y d) 14 (line_bytes (length d.columns)) d.about
+
+-- the note, how many transactions are drawn, and which arrows aren't
+unfoldable pub notes_text : Sketch → List ℕ
+notes_text d =
+    line_at [] 26 (note_y d) d.note ++ line_at [] 26 (more_y d) (more_text (length d.columns)) ++ line_at [] 26 (far_y d) (far_text (length d.columns) d.forward)
+
+-- the end of an arrow as it is drawn
+unfoldable pub sample_end : ℕ → Bool → List ℕ
+sample_end y dashed = decimal (y - 4) ++ codes " H58" ++ style_text false dashed
+
+-- an arrow as it is drawn
+unfoldable pub sample_path : ℕ → Bool → List ℕ
+sample_path y dashed = codes "<path d=\"M26 " ++ sample_end y dashed
+
+-- and what it says
+unfoldable pub sample_text : ℕ → Bool → List ℕ → List ℕ
+sample_text y dashed says = sample_path y dashed ++ text_at [] 66 y says
+
+-- what those of dependencies say
+unfoldable pub dependencies_text : ℕ → List ℕ
+dependencies_text y =
+    sample_text y false (codes "dependency: the second saw or overwrote what the first wrote")
+    ++ sample_text (y + 14) true (codes "anti-dependency: the first didn't see what the second wrote")
+
+-- what the arrows say
+unfoldable pub legend_text : ℕ → Option Tie → List ℕ
+legend_text y None = []
+legend_text y (Some Version) = sample_text y false (codes "sees: the second saw what the first wrote")
+legend_text y (Some (Dependency kind)) = dependencies_text y
+
+-- what a thick edge says
+unfoldable pub marked_text : ℕ → Option Spot → List ℕ
+marked_text y None = []
+marked_text y (Some spot) = text_at [] 26 y (codes "thick edge: the operation in question")
+
+-- all that stands above the columns
+unfoldable pub heading_text : Sketch → List ℕ
+heading_text d = title_lines d ++ notes_text d ++ legend_text (legend_y d) (first_tie d.arrows d.forward) ++ marked_text (marked_y d) d.marked

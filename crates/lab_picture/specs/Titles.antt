@@ -1,0 +1,75 @@
+-- The titles of drawings, in words.
+use Rattle.std.specs.Prelude.{ℕ, ◌==◌, not, cond, List, [], ◌∷◌, ◌++◌, flat_map, codes}
+use Rattle.std.specs.Fmt.{decimal}
+use Rattle.lab_deps.specs.declared.edge.Edge.{Edge}
+use Rattle.lab_deps.specs.declared.fault.LocalFault.{LocalFault}
+use Rattle.lab_deps.specs.declared.fault.LocalFault.TheVariants as fault
+use Rattle.lab_judge.specs.Phenomena.{count_kind, is_write, is_item_anti}
+use Rattle.lab_judge.specs.Places.{is_anti}
+use Rattle.lab_judge.specs.declared.report.Finding.{Finding}
+use Rattle.lab_judge.specs.declared.report.Finding.TheVariants as finding
+use Rattle.lab_judge.specs.declared.serial.Serial.{Serial}
+use Rattle.lab_judge.specs.declared.serial.Serial.TheVariants as serial
+use Rattle.lab_picture.specs.Asked.{phenomenon_name}
+use Rattle.lab_picture.specs.declared.asked.Phenomenon.{Phenomenon}
+use Rattle.lab_picture.specs.declared.asked.Phenomenon.TheVariants.{G0, G1a, G1b, G1c, GSingle, G2Item, G2}
+
+-- the textbook name of a phenomenon
+abbrev pub phenomenon_words : Phenomenon → List ℕ
+phenomenon_words G0 = codes "dirty write"
+phenomenon_words G1a = codes "aborted read"
+phenomenon_words G1b = codes "intermediate read"
+phenomenon_words G1c = codes "circular information flow"
+phenomenon_words GSingle = codes "read skew"
+phenomenon_words G2Item = codes "write skew"
+phenomenon_words G2 = codes "anti-dependency cycle"
+
+-- a phenomenon by its code, and its textbook name behind it
+abbrev pub full_name : Phenomenon → List ℕ
+full_name p = phenomenon_name p ++ codes " (" ++ phenomenon_words p ++ codes ")"
+
+-- the most particular phenomenon of a closed walk with so many anti-dependencies, item anti-dependencies, and dependencies that are no writes after writes
+abbrev pub by_counts : ℕ → ℕ → ℕ → Phenomenon
+by_counts antis items others = cond (antis == 0) (cond (others == 0) G0 G1c) (cond (antis == 1) GSingle (cond (items == 0) G2 G2Item))
+
+-- the most particular phenomenon that a closed walk is
+abbrev pub walk_phenomenon : List Edge → Phenomenon
+walk_phenomenon walk = by_counts (count_kind is_anti walk) (count_kind is_item_anti walk) (count_kind (λ k. not (is_write k)) walk)
+
+-- a transaction behind another
+abbrev pub next_text : ℕ → List ℕ
+next_text n = codes ", T" ++ decimal n
+
+-- transactions with a comma and a blank between two of them
+abbrev pub txns_text : List ℕ → List ℕ
+txns_text [] = codes "no committed transaction"
+txns_text (n ∷ ns) = codes "T" ++ decimal n ++ flat_map next_text ns
+
+-- what is wrong with a history, and the fault's number
+abbrev pub fault_words : LocalFault → List ℕ
+fault_words (fault.Dangling n k row) = codes "a version is seen that isn't there (F1)"
+fault_words (fault.AbortedRead n k row) = codes "aborted read, G1a (F2)"
+fault_words (fault.IntermediateRead n k row) = codes "intermediate read, G1b (F3)"
+fault_words (fault.OwnWriteMissed n k row) = codes "an own write isn't seen (F4)"
+fault_words (fault.LaterThanOwn n k row) = codes "a version behind the own one is seen (F5)"
+fault_words (fault.RowsDiffer n k row) = codes "rows differ from what the statement lists (F6)"
+fault_words (fault.WritesDiffer n k row) = codes "writes differ from what the statement makes (F7)"
+fault_words (fault.InstallOrder row) = codes "installers differ from the committed writers (F8)"
+fault_words (fault.EndDiffers row) = codes "the end differs from what was installed (F9)"
+
+-- the title of a serial verdict
+abbrev pub serial_title : Serial → List ℕ
+serial_title (serial.Yes order) = codes "Serializable: " ++ txns_text order
+serial_title (serial.NoFault f) = codes "Not sound: " ++ fault_words f
+serial_title (serial.NoCycle walk) = codes "Not serializable: " ++ full_name (walk_phenomenon walk)
+
+-- what is found, in a word
+abbrev pub finding_word : Finding → List ℕ
+finding_word finding.Absent = codes ": absent"
+finding_word (finding.Walk walk) = codes ": present"
+finding_word (finding.At n k row) = codes ": present"
+finding_word finding.NotJudged = codes ": not judged"
+
+-- the title of what is found of a phenomenon
+abbrev pub finding_title : Phenomenon → Finding → List ℕ
+finding_title p found = full_name p ++ finding_word found

@@ -1,0 +1,303 @@
+//! What stands above the columns of a picture, and where.
+
+ghost use Rattle.std.specs.Prelude.{◌≡◌, ◌++◌, ◌≤◌, length, IfOk, OnOk};
+ghost use Rattle.lab_picture.specs.Heading.{title_bytes, line_bytes, more_text, more_lines, far_text, far_lines, first_tie, legend_lines, marked_lines, about_y, note_y, more_y, far_y, legend_y, marked_y, head_y, title_style, title_lines, notes_text, sample_end, sample_path, sample_text, dependencies_text, legend_text, marked_text, heading_text};
+
+use crate::drawing::{Arrow, Drawing, Spot, Tie};
+use crate::layout::MAX_COLUMNS;
+use crate::route::put_style;
+use crate::text::{
+    in_four, in_one, in_two, put_four_lines, put_line, put_number, put_text, put_two_lines,
+};
+use lab_table::NoMemory;
+use std::alloc::Global;
+
+/// How many bytes a line of the title has over so many columns.
+fn title_bytes(columns: usize) -> usize
+    ensures value { result ≡ title_bytes columns }
+    ensures some { 3 ≤ result }
+{
+    if columns > 2 { 96 } else { 59 }
+}
+
+/// How many bytes a line of other text has.
+fn line_bytes(columns: usize) -> usize
+    ensures value { result ≡ line_bytes columns }
+    ensures some { 3 ≤ result }
+{
+    if columns > 2 { 122 } else { 76 }
+}
+
+/// How many transactions are drawn, where that isn't all. NoMemory where a growth was refused.
+fn more_text(alloc: Global, columns: usize) -> Result<Vec<u8>, NoMemory>
+    ensures { IfOk result (λ text. text.items ≡ more_text columns) }
+{
+    let mut text = Vec::new(alloc);
+    if columns > MAX_COLUMNS {
+        text.extend_from_slice(b"40 of ")?;
+        put_number(&mut text, columns as u64)?;
+        text.extend_from_slice(b" transactions are drawn, without the arrows to the others")?;
+    }
+    Ok(text)
+}
+
+/// How many lines that has.
+fn more_lines(columns: usize) -> u64
+    ensures value { result ≡ more_lines columns }
+    ensures small { result ≤ 1 }
+{
+    if columns > MAX_COLUMNS { 1 } else { 0 }
+}
+
+/// That arrows are left out, where there are those of a yes over more than one band.
+fn far_text(columns: usize, forward: &[Arrow]) -> &'static [u8]
+    ensures { result.now ≡ far_text columns forward.now }
+{
+    match forward.split_first() {
+        None => b"",
+        Some(_) => {
+            if columns > 3 {
+                b"dependencies between transactions further apart aren't drawn"
+            } else {
+                b""
+            }
+        }
+    }
+}
+
+/// How many lines that has.
+fn far_lines(columns: usize, forward: &[Arrow]) -> u64
+    ensures value { result ≡ far_lines columns forward.now }
+    ensures small { result ≤ 1 }
+{
+    match forward.split_first() {
+        None => 0,
+        Some(_) => { if columns > 3 { 1 } else { 0 } }
+    }
+}
+
+/// What ties the ends of the first of some arrows, or else of others.
+fn first_tie(arrows: &[Arrow], others: &[Arrow]) -> Option<Tie>
+    ensures { result ≡ first_tie arrows.now others.now }
+{
+    match arrows.split_first() {
+        Some((first, _)) => Some(first.tie),
+        None => match others.split_first() {
+            Some((first, _)) => Some(first.tie),
+            None => None,
+        },
+    }
+}
+
+/// How many lines a legend has.
+fn legend_lines(tie: Option<Tie>) -> u64
+    ensures value { result ≡ legend_lines tie }
+    ensures small { result ≤ 2 }
+{
+    match tie {
+        None => 0,
+        Some(Tie::Version) => 1,
+        Some(Tie::Dependency(_)) => 2,
+    }
+}
+
+/// How many lines tell of a marked operation.
+fn marked_lines(marked: &Option<Spot>) -> u64
+    ensures value { result ≡ marked_lines marked.now }
+    ensures small { result ≤ 1 }
+{
+    match marked {
+        None => 0,
+        Some(_) => 1,
+    }
+}
+
+/// The ground line of the report's line.
+fn about_y(drawing: &Drawing) -> u64
+    ensures value { result ≡ about_y drawing.now }
+    ensures small { result ≤ 66 }
+{
+    30 + 18 * in_two(title_bytes(drawing.columns.len()), &drawing.title)
+}
+
+/// That of the note.
+fn note_y(drawing: &Drawing) -> u64
+    ensures value { result ≡ note_y drawing.now }
+    ensures small { result ≤ 122 }
+{
+    about_y(drawing) + 14 * in_four(line_bytes(drawing.columns.len()), &drawing.about)
+}
+
+/// That of how many transactions are drawn.
+fn more_y(drawing: &Drawing) -> u64
+    ensures value { result ≡ more_y drawing.now }
+    ensures small { result ≤ 136 }
+{
+    note_y(drawing) + 14 * in_one(&drawing.note)
+}
+
+/// That of which arrows aren't.
+fn far_y(drawing: &Drawing) -> u64
+    ensures value { result ≡ far_y drawing.now }
+    ensures small { result ≤ 150 }
+    ensures low { 4 ≤ result }
+{
+    more_y(drawing) + 14 * more_lines(drawing.columns.len())
+}
+
+/// That of the legend.
+fn legend_y(drawing: &Drawing) -> u64
+    ensures value { result ≡ legend_y drawing.now }
+    ensures small { result ≤ 164 }
+    ensures low { 4 ≤ result }
+{
+    far_y(drawing) + 14 * far_lines(drawing.columns.len(), &drawing.forward)
+}
+
+/// That of what a thick edge says.
+fn marked_y(drawing: &Drawing) -> u64
+    ensures value { result ≡ marked_y drawing.now }
+    ensures small { result ≤ 192 }
+{
+    legend_y(drawing) + 14 * legend_lines(first_tie(&drawing.arrows, &drawing.forward))
+}
+
+/// The ground line of what stands above the columns of the first band.
+pub fn head_y(drawing: &Drawing) -> u64
+    ensures value { result ≡ head_y drawing.now }
+    ensures small { result ≤ 220 }
+{
+    marked_y(drawing) + 14 * marked_lines(&drawing.marked) + 14
+}
+
+/// The attributes of the title.
+fn title_style() -> &'static [u8]
+    ensures { result.now ≡ title_style }
+{
+    b" font-size=\"14\" font-weight=\"bold\""
+}
+
+/// Appends the title, and the line of the report.
+#[tactic(auto, unfolding(crate::specs::Heading::title_lines))]
+fn put_title_lines(alloc: Global, out: &mut Vec<u8>, drawing: &Drawing) -> Result<(), NoMemory>
+    ensures { OnOk result (out.new.items ≡ out.old.items ++ title_lines drawing.now) }
+{
+    let columns = drawing.columns.len();
+    put_two_lines(
+        alloc,
+        out,
+        title_style(),
+        26,
+        30,
+        18,
+        title_bytes(columns),
+        &drawing.title,
+    )?;
+    let y = about_y(drawing);
+    put_four_lines(
+        alloc,
+        out,
+        b"",
+        26,
+        y,
+        14,
+        line_bytes(columns),
+        &drawing.about,
+    )
+}
+
+/// Appends the note, how many transactions are drawn, and which arrows aren't.
+#[tactic(auto, unfolding(crate::specs::Heading::notes_text))]
+fn put_notes(alloc: Global, out: &mut Vec<u8>, drawing: &Drawing) -> Result<(), NoMemory>
+    ensures { OnOk result (out.new.items ≡ out.old.items ++ notes_text drawing.now) }
+{
+    let more = more_text(alloc, drawing.columns.len())?;
+    put_line(out, b"", 26, note_y(drawing), &drawing.note)?;
+    put_line(out, b"", 26, more_y(drawing), &more)?;
+    let far = far_text(drawing.columns.len(), &drawing.forward);
+    put_line(out, b"", 26, far_y(drawing), far)
+}
+
+/// Appends the end of an arrow as it is drawn.
+#[tactic(auto, unfolding(crate::specs::Heading::sample_end))]
+fn put_sample_end(out: &mut Vec<u8>, y: u64, dashed: bool) -> Result<(), NoMemory>
+    ensures { OnOk result (out.new.items ≡ out.old.items ++ sample_end y dashed) }
+{
+    put_number(out, y.saturating_sub(4))?;
+    out.extend_from_slice(b" H58")?;
+    put_style(out, false, dashed)
+}
+
+/// Appends an arrow as it is drawn.
+fn put_sample_path(out: &mut Vec<u8>, y: u64, dashed: bool) -> Result<(), NoMemory>
+    ensures { OnOk result (out.new.items ≡ out.old.items ++ sample_path y dashed) }
+{
+    out.extend_from_slice(b"<path d=\"M26 ")?;
+    put_sample_end(out, y, dashed)
+}
+
+/// Appends an arrow as it is drawn, and what it says.
+#[tactic(auto, unfolding(crate::specs::Heading::sample_text))]
+fn put_sample(out: &mut Vec<u8>, y: u64, dashed: bool, says: &[u8]) -> Result<(), NoMemory>
+    ensures { OnOk result (out.new.items ≡ out.old.items ++ sample_text y dashed says.now) }
+{
+    put_sample_path(out, y, dashed)?;
+    put_text(out, b"", 66, y, says)
+}
+
+/// Appends what the arrows of dependencies say.
+fn put_dependencies(out: &mut Vec<u8>, y: u64) -> Result<(), NoMemory>
+    requires { y ≤ 1000 }
+    ensures { OnOk result (out.new.items ≡ out.old.items ++ dependencies_text y) }
+{
+    put_sample(
+        out,
+        y,
+        false,
+        b"dependency: the second saw or overwrote what the first wrote",
+    )?;
+    put_sample(
+        out,
+        y + 14,
+        true,
+        b"anti-dependency: the first didn't see what the second wrote",
+    )
+}
+
+/// Appends what the arrows say.
+#[tactic(auto, unfolding(crate::specs::Heading::legend_text))]
+fn put_legend(out: &mut Vec<u8>, y: u64, tie: Option<Tie>) -> Result<(), NoMemory>
+    requires { y ≤ 1000 }
+    ensures { OnOk result (out.new.items ≡ out.old.items ++ legend_text y tie) }
+{
+    match tie {
+        None => Ok(()),
+        Some(Tie::Version) => {
+            put_sample(out, y, false, b"sees: the second saw what the first wrote")
+        }
+        Some(Tie::Dependency(_)) => put_dependencies(out, y),
+    }
+}
+
+/// Appends what a thick edge says.
+#[tactic(auto, unfolding(crate::specs::Heading::marked_text))]
+fn put_marked(out: &mut Vec<u8>, y: u64, marked: &Option<Spot>) -> Result<(), NoMemory>
+    ensures { OnOk result (out.new.items ≡ out.old.items ++ marked_text y marked.now) }
+{
+    match marked {
+        None => Ok(()),
+        Some(_) => put_text(out, b"", 26, y, b"thick edge: the operation in question"),
+    }
+}
+
+/// Appends all that stands above the columns.
+#[tactic(auto, unfolding(crate::specs::Heading::heading_text))]
+pub fn put_heading(alloc: Global, out: &mut Vec<u8>, drawing: &Drawing) -> Result<(), NoMemory>
+    ensures { OnOk result (out.new.items ≡ out.old.items ++ heading_text drawing.now) }
+{
+    put_title_lines(alloc, out, drawing)?;
+    put_notes(alloc, out, drawing)?;
+    let tie = first_tie(&drawing.arrows, &drawing.forward);
+    put_legend(out, legend_y(drawing), tie)?;
+    put_marked(out, marked_y(drawing), &drawing.marked)
+}

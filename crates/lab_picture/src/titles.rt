@@ -1,0 +1,151 @@
+//! The titles of drawings, in words. Each function appends; after NoMemory, part of what was to be appended may stand there.
+
+ghost use Rattle.std.specs.Prelude.{◌≡◌, ◌++◌, flat_map, OnOk};
+ghost use Rattle.lab_picture.specs.Titles.{full_name, by_counts, walk_phenomenon, next_text, txns_text, fault_words, serial_title, finding_word, finding_title};
+
+use crate::asked::Phenomenon;
+use crate::text::put_number;
+use lab_deps::{Edge, Kind, LocalFault};
+use lab_judge::{Finding, Serial};
+use lab_table::{NoMemory, TxnNo};
+
+/// Appends a phenomenon by its code, and its textbook name behind it.
+fn put_full_name(out: &mut Vec<u8>, phenomenon: Phenomenon) -> Result<(), NoMemory>
+    ensures { OnOk result (out.new.items ≡ out.old.items ++ full_name phenomenon) }
+{
+    out.extend_from_slice(phenomenon.name().as_bytes())?;
+    out.extend_from_slice(b" (")?;
+    out.extend_from_slice(phenomenon.words().as_bytes())?;
+    out.extend_from_slice(b")")
+}
+
+/// The most particular phenomenon of a closed walk with so many anti-dependencies, item anti-dependencies, and
+/// dependencies that are no writes after writes.
+fn by_counts(antis: usize, items: usize, others: usize) -> Phenomenon
+    ensures { result ≡ by_counts antis items others }
+{
+    if antis == 0 {
+        if others == 0 {
+            Phenomenon::G0
+        } else {
+            Phenomenon::G1c
+        }
+    } else if antis == 1 {
+        Phenomenon::GSingle
+    } else if items == 0 {
+        Phenomenon::G2
+    } else {
+        Phenomenon::G2Item
+    }
+}
+
+/// The most particular phenomenon that a closed walk is.
+fn walk_phenomenon(walk: &[Edge]) -> Phenomenon
+    ensures { result ≡ walk_phenomenon walk.now }
+{
+    let mut antis = 0;
+    let mut items = 0;
+    let mut others = 0;
+    for edge in walk {
+        match edge.kind {
+            Kind::Write => {}
+            Kind::ItemRead | Kind::PredicateRead => others += 1,
+            Kind::ItemAnti => {
+                antis += 1;
+                items += 1;
+                others += 1;
+            }
+            Kind::PredicateAnti => {
+                antis += 1;
+                others += 1;
+            }
+        }
+    }
+    by_counts(antis, items, others)
+}
+
+/// Appends transactions, each behind a comma.
+fn put_next(out: &mut Vec<u8>, txns: &[TxnNo]) -> Result<(), NoMemory>
+    ensures { OnOk result (out.new.items ≡ out.old.items ++ flat_map next_text txns.now) }
+{
+    for txn in txns {
+        out.extend_from_slice(b", T")?;
+        put_number(out, u64::from(txn.number()))?;
+    }
+    Ok(())
+}
+
+/// Appends transactions with a comma between two of them.
+fn put_txns(out: &mut Vec<u8>, txns: &[TxnNo]) -> Result<(), NoMemory>
+    ensures { OnOk result (out.new.items ≡ out.old.items ++ txns_text txns.now) }
+{
+    match txns.split_first() {
+        None => out.extend_from_slice(b"no committed transaction"),
+        Some((first, rest)) => {
+            out.extend_from_slice(b"T")?;
+            put_number(out, u64::from(first.number()))?;
+            put_next(out, rest)
+        }
+    }
+}
+
+/// What is wrong with a history, and the fault's number.
+fn fault_words(fault: LocalFault) -> &'static str
+    ensures { result.now ≡ fault_words fault }
+{
+    match fault {
+        LocalFault::Dangling { .. } => "a version is seen that isn't there (F1)",
+        LocalFault::AbortedRead { .. } => "aborted read, G1a (F2)",
+        LocalFault::IntermediateRead { .. } => "intermediate read, G1b (F3)",
+        LocalFault::OwnWriteMissed { .. } => "an own write isn't seen (F4)",
+        LocalFault::LaterThanOwn { .. } => "a version behind the own one is seen (F5)",
+        LocalFault::RowsDiffer { .. } => "rows differ from what the statement lists (F6)",
+        LocalFault::WritesDiffer { .. } => "writes differ from what the statement makes (F7)",
+        LocalFault::InstallOrder { .. } => "installers differ from the committed writers (F8)",
+        LocalFault::EndDiffers { .. } => "the end differs from what was installed (F9)",
+    }
+}
+
+/// Appends the title of a serial verdict.
+pub fn put_serial_title(out: &mut Vec<u8>, serial: &Serial) -> Result<(), NoMemory>
+    ensures { OnOk result (out.new.items ≡ out.old.items ++ serial_title serial.now) }
+{
+    match serial {
+        Serial::Yes(order) => {
+            out.extend_from_slice(b"Serializable: ")?;
+            put_txns(out, order.as_slice())
+        }
+        Serial::NoFault(fault) => {
+            out.extend_from_slice(b"Not sound: ")?;
+            out.extend_from_slice(fault_words(*fault).as_bytes())
+        }
+        Serial::NoCycle(walk) => {
+            out.extend_from_slice(b"Not serializable: ")?;
+            put_full_name(out, walk_phenomenon(walk.as_slice()))
+        }
+    }
+}
+
+/// What is found, in a word.
+fn finding_word(finding: &Finding) -> &'static str
+    ensures { result.now ≡ finding_word finding.now }
+{
+    match finding {
+        Finding::Absent => ": absent",
+        Finding::Walk(_) => ": present",
+        Finding::At { .. } => ": present",
+        Finding::NotJudged => ": not judged",
+    }
+}
+
+/// Appends the title of what is found of a phenomenon.
+pub fn put_finding_title(
+    out: &mut Vec<u8>,
+    phenomenon: Phenomenon,
+    finding: &Finding,
+) -> Result<(), NoMemory>
+    ensures { OnOk result (out.new.items ≡ out.old.items ++ finding_title phenomenon finding.now) }
+{
+    put_full_name(out, phenomenon)?;
+    out.extend_from_slice(finding_word(finding).as_bytes())
+}
