@@ -130,6 +130,18 @@ fn run_picture<R: Read, W: Write, N: Write>(
     ended(picture(alloc, reader, writer, notes, asked))
 }
 
+/// Runs `explain`, and answers the exit status.
+fn run_explain<R: Read, W: Write, N: Write>(
+    alloc: Global,
+    reader: &mut R,
+    writer: &mut W,
+    notes: &mut N,
+    matches: &ArgMatches<'_>,
+) -> Result<u8, RunFault> {
+    let asked = matches.get_str("phenomenon").and_then(Phenomenon::named);
+    ended(lab_explain::explain(alloc, reader, writer, notes, asked))
+}
+
 /// Runs a subcommand, and answers the exit status.
 fn run_words<T: Files + Threads + Wait + Sync, R: Read, W: Write, N: Write>(
     rt: &T,
@@ -147,13 +159,14 @@ fn run_words<T: Files + Threads + Wait + Sync, R: Read, W: Write, N: Write>(
         Some(("case", more)) => run_case(alloc, writer, more),
         Some(("matrix", _)) => ended(matrix(alloc, writer)),
         Some(("picture", more)) => run_picture(alloc, reader, writer, notes, more),
+        Some(("explain", more)) => run_explain(alloc, reader, writer, notes, more),
         _ => Ok(WORDS_REFUSED),
     }
 }
 
 /// Whether a subcommand reads standard input.
 fn reads_input(word: &str) -> bool {
-    matches!(word, "serial" | "run" | "judge" | "picture")
+    matches!(word, "serial" | "run" | "judge" | "picture" | "explain")
 }
 
 /// Says on standard error what to type where a subcommand that reads standard input was given a file's name.

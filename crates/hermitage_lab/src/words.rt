@@ -127,6 +127,22 @@ input is no history file, writes one line that names its first fault.
 
 const PHENOMENON: &str = "Draws what is found of a phenomenon in place of the serial verdict";
 
+const EXPLAIN: &str = "Says in sentences what a judgement of a history file says";
+
+const EXPLAIN_WHOLE: &str = "\
+Says in sentences what a judgement of the history of a file says, which it judges as `judge` does.
+
+Reads a history file from standard input, and writes to standard output, in at most 100 lines of at most
+100 columns: the serial verdict, with a sentence for each dependency of the walk that leads back, which
+tells the statements that make it, the row, and the version and the value that was seen or left; or what
+is recorded where a fault is, what is due there, and the recorder's mistake that most often makes it; the
+snapshot verdict; each phenomenon, with its textbook name; and the level. Where the input is no history
+file, writes one line that names its first fault.
+
+    hermitage_lab explain < examples/g2_item_write_skew.json";
+
+const EXPLAINED: &str = "Explains what is found of a phenomenon in place of the whole report";
+
 /// The version, and what the program was proved with.
 const VERSION: &str = "1.0.0, proved with rattle-kit-13, logic dac8208d650f15bf";
 
@@ -135,7 +151,7 @@ pub static CASES: [&str; 10] = [
     "G0", "G1a", "G1b", "G1c", "OTV", "PMP", "P4", "G-single", "G2-item", "G2",
 ];
 
-/// The phenomena that a picture may be asked of, as words.
+/// The phenomena that a picture or an explanation may be asked of, as words.
 static PHENOMENA: [&str; 7] = ["G0", "G1a", "G1b", "G1c", "G-single", "G2-item", "G2"];
 
 /// The engines that the program has, as words.
@@ -253,14 +269,23 @@ fn case_words<'a>(alloc: Global) -> Result<Command<'a>, AllocError> {
     plain_command(alloc, "case", CASE, CASE_WHOLE).arg(name)
 }
 
+/// The word that names a phenomenon.
+fn phenomenon_word<'a>(alloc: Global, help: &'a str) -> Arg<'a> {
+    Arg::new(alloc, "phenomenon")
+        .long("phenomenon")
+        .help(help)
+        .action(ArgAction::Set)
+        .value_parser(PHENOMENA.as_slice())
+}
+
 /// The words of `picture`.
 fn picture_words<'a>(alloc: Global) -> Result<Command<'a>, AllocError> {
-    let phenomenon = Arg::new(alloc, "phenomenon")
-        .long("phenomenon")
-        .help(PHENOMENON)
-        .action(ArgAction::Set)
-        .value_parser(PHENOMENA.as_slice());
-    plain_command(alloc, "picture", PICTURE, PICTURE_WHOLE).arg(phenomenon)
+    plain_command(alloc, "picture", PICTURE, PICTURE_WHOLE).arg(phenomenon_word(alloc, PHENOMENON))
+}
+
+/// The words of `explain`.
+fn explain_words<'a>(alloc: Global) -> Result<Command<'a>, AllocError> {
+    plain_command(alloc, "explain", EXPLAIN, EXPLAIN_WHOLE).arg(phenomenon_word(alloc, EXPLAINED))
 }
 
 /// The program's command, without its subcommands.
@@ -291,5 +316,6 @@ pub fn words<'a>(alloc: Global) -> Result<Command<'a>, AllocError> {
     let command = with(command, case_words(alloc))?;
     let matrix = plain_command(alloc, "matrix", MATRIX, MATRIX_WHOLE);
     let command = command.subcommand(matrix)?;
-    with(command, picture_words(alloc))
+    let command = with(command, picture_words(alloc))?;
+    with(command, explain_words(alloc))
 }

@@ -1,0 +1,45 @@
+-- The text of an explanation.
+use Rattle.std.specs.Prelude.{ℕ, Option, Some, None, List, ◌++◌, codes}
+use Rattle.lab_history.specs.History.{History}
+use Rattle.lab_judge.specs.declared.report.Report.{Report}
+use Rattle.lab_judge.specs.declared.serial.Serial.{Serial}
+use Rattle.lab_judge.specs.declared.serial.Serial.TheVariants as serial
+use Rattle.lab_picture.specs.Asked.{finding_of}
+use Rattle.lab_picture.specs.declared.asked.Phenomenon.{Phenomenon}
+use Rattle.lab_picture.specs.declared.asked.Phenomenon.TheVariants.{G0, G1a, G1b, G1c, GSingle, G2Item, G2}
+use Rattle.lab_explain.specs.Lines.{paragraph, capped}
+use Rattle.lab_explain.specs.Faults.{txns_text, fault_steps}
+use Rattle.lab_explain.specs.Findings.{finding_lines, found_alone}
+use Rattle.lab_explain.specs.Names.{level_line}
+use Rattle.lab_explain.specs.Phrases.{no_order, unsound_text, order_head, last_line}
+use Rattle.lab_explain.specs.Places.{places_lines}
+use Rattle.lab_explain.specs.Steps.{walk_steps}
+
+-- the sentence of an order
+unfoldable pub order_sentence : List ℕ → List ℕ
+order_sentence order = order_head ++ txns_text order ++ codes "."
+
+-- the lines of a serial verdict
+abbrev pub serial_lines : History → Serial → List ℕ
+serial_lines h (serial.Yes order) = paragraph (order_sentence order)
+serial_lines h (serial.NoFault f) = paragraph unsound_text ++ fault_steps h f
+serial_lines h (serial.NoCycle walk) = paragraph no_order ++ walk_steps h walk
+
+-- the lines of what is found of each phenomenon
+unfoldable pub findings_lines : History → Report → List ℕ
+findings_lines h report =
+    finding_lines h report G0 ++ finding_lines h report G1a ++ finding_lines h report G1b ++ finding_lines h report G1c
+    ++ finding_lines h report GSingle ++ finding_lines h report G2Item ++ finding_lines h report G2
+
+-- the whole explanation of a report: its serial verdict, its snapshot verdict, its phenomena and its level
+unfoldable pub whole_text : History → Report → List ℕ
+whole_text h report = capped 60 (serial_lines h report.serial) ++ capped 12 (places_lines report.snapshot) ++ findings_lines h report ++ level_line report.level ++ last_line
+
+-- the explanation of what is found of a phenomenon
+unfoldable pub one_text : History → Report → Phenomenon → List ℕ
+one_text h report p = capped 90 (found_alone h p (finding_of p report)) ++ last_line
+
+-- the explanation of a report, or of what it finds of a phenomenon
+abbrev pub explanation_of : History → Report → Option Phenomenon → List ℕ
+explanation_of h report None = whole_text h report
+explanation_of h report (Some p) = one_text h report p

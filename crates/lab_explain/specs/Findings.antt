@@ -1,0 +1,54 @@
+-- The sentences of what is found of a phenomenon.
+use Rattle.std.specs.Prelude.{ℕ, cond, List, [], ◌++◌, codes}
+use Rattle.std.specs.Str.{bytes_eq}
+use Rattle.lab_table.specs.Row.{Row}
+use Rattle.lab_history.specs.History.{History}
+use Rattle.lab_judge.specs.ReportText.{walk_text}
+use Rattle.lab_judge.specs.declared.report.Finding.{Finding}
+use Rattle.lab_judge.specs.declared.report.Finding.TheVariants.{Absent, Walk, At, NotJudged}
+use Rattle.lab_judge.specs.declared.report.Report.{Report}
+use Rattle.lab_judge.specs.declared.serial.Serial.{Serial}
+use Rattle.lab_judge.specs.declared.serial.Serial.TheVariants as serial
+use Rattle.lab_picture.specs.Asked.{phenomenon_name, finding_of}
+use Rattle.lab_picture.specs.declared.asked.Phenomenon.{Phenomenon}
+use Rattle.lab_explain.specs.Lines.{paragraph, capped}
+use Rattle.lab_explain.specs.Clauses.{saw_text}
+use Rattle.lab_explain.specs.Names.{title_of, flaw_of}
+use Rattle.lab_explain.specs.Phrases.{round_text, not_judged, other_words, asked_words, explains_words}
+use Rattle.lab_explain.specs.Steps.{walk_steps}
+
+-- the walk of a serial verdict as the report prints it; nothing where it has none
+abbrev pub serial_walk : Serial → List ℕ
+serial_walk (serial.Yes order) = []
+serial_walk (serial.NoFault f) = []
+serial_walk (serial.NoCycle walk) = walk_text walk
+
+-- a walk that isn't the serial verdict's, as the report prints it, and how to have it explained
+unfoldable pub other_walk : Phenomenon → List ℕ → List ℕ
+other_walk p walk = other_words ++ walk ++ asked_words ++ phenomenon_name p ++ explains_words
+
+-- what is said of a walk beside a serial verdict
+abbrev pub walk_beside : Phenomenon → List ℕ → List ℕ → List ℕ
+walk_beside p of_serial walk = cond (bytes_eq walk of_serial) (codes "present, by the same cycle.") (other_walk p walk)
+
+-- an operation that saw what it is not to see
+unfoldable pub seen_flaw : History → Phenomenon → ℕ → ℕ → Row → List ℕ
+seen_flaw h p n k row = codes "present: " ++ saw_text h n k row ++ flaw_of p
+
+-- what is said of a finding beside a serial verdict
+abbrev pub found_beside : History → Phenomenon → List ℕ → Finding → List ℕ
+found_beside h p of_serial Absent = codes "absent."
+found_beside h p of_serial (Walk walk) = walk_beside p of_serial (walk_text walk)
+found_beside h p of_serial (At n k row) = seen_flaw h p n k row
+found_beside h p of_serial NotJudged = not_judged
+
+-- the lines of a finding beside a serial verdict: three at most
+abbrev pub finding_lines : History → Report → Phenomenon → List ℕ
+finding_lines h report p = capped 3 (paragraph (title_of p ++ found_beside h p (serial_walk report.serial) (finding_of p report)))
+
+-- the lines of a finding that is explained by itself
+abbrev pub found_alone : History → Phenomenon → Finding → List ℕ
+found_alone h p Absent = paragraph (title_of p ++ codes "absent.")
+found_alone h p (Walk walk) = paragraph (title_of p ++ codes "present: " ++ round_text) ++ walk_steps h walk
+found_alone h p (At n k row) = paragraph (title_of p ++ seen_flaw h p n k row)
+found_alone h p NotJudged = paragraph (title_of p ++ not_judged)

@@ -1,0 +1,10 @@
+pub mod Lines
+pub mod Clauses
+pub mod Steps
+pub mod Faults
+pub mod Places
+pub mod Names
+pub mod Phrases
+pub mod Findings
+pub mod Explanation
+pub mod Answer

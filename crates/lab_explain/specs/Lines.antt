@@ -1,0 +1,51 @@
+-- How sentences are laid out in lines.
+use Rattle.std.specs.Prelude.{ℕ, ◌+◌, ◌-◌, ◌==◌, nat_le, Bool, ◌&&◌, not, cond, List, [], ◌∷◌, ◌++◌, length, count_by, codes}
+use Rattle.std.specs.List.{prefix_len}
+use Rattle.std.specs.Fmt.{decimal}
+
+-- how many bytes stand before the next blank
+abbrev pub blank_after : List ℕ → ℕ
+blank_after text = prefix_len (λ b. not (b == 32)) text
+
+-- how many bytes stand together at the front of a text: those before the next blank, and all from a square bracket on
+abbrev pub word_length : List ℕ → ℕ
+word_length [] = 0
+word_length (b ∷ bs) = cond (b == 91) (length (b ∷ bs)) (blank_after (b ∷ bs))
+
+-- whether a byte that stands behind so many on its line is a blank, and the word behind it would end after the 100th
+abbrev pub breaks : ℕ → ℕ → List ℕ → Bool
+breaks column b rest = (b == 32) && nat_le (100 - column) (word_length rest)
+
+-- a text where so many bytes stand before it on its line: a line break and four blanks stand for each blank behind which a word would not fit
+abbrev pub wrapped : ℕ → List ℕ → List ℕ
+wrapped column [] = []
+wrapped column (b ∷ bs) = cond (breaks column b bs) (codes "\n    " ++ wrapped 4 bs) (b ∷ wrapped (column + 1) bs)
+
+-- a sentence in lines of its own, with what stands before it on the first
+unfoldable pub sentence : List ℕ → List ℕ → List ℕ
+sentence lead text = lead ++ wrapped (length lead) text ++ codes "\n"
+
+-- a sentence that begins at the line's start
+abbrev pub paragraph : List ℕ → List ℕ
+paragraph text = sentence [] text
+
+-- a sentence that is indented
+abbrev pub step : List ℕ → List ℕ
+step text = sentence (codes "  ") text
+
+-- how many lines end in a text
+abbrev pub lines : List ℕ → ℕ
+lines text = count_by (λ b. b == 10) text
+
+-- the first lines of a text
+abbrev pub first_lines : ℕ → List ℕ → List ℕ
+first_lines n [] = []
+first_lines n (b ∷ bs) = cond (n == 0) [] (b ∷ first_lines (cond (b == 10) (n - 1) n) bs)
+
+-- how many lines are left out
+unfoldable pub left_out : ℕ → List ℕ
+left_out n = codes "  .. and " ++ decimal n ++ codes " lines more\n"
+
+-- a text in so many lines at most: where it has more, the last one says how many are left out
+abbrev pub capped : ℕ → List ℕ → List ℕ
+capped most text = cond (nat_le (lines text) most) text (first_lines (most - 1) text ++ left_out (lines text - (most - 1)))

@@ -1,0 +1,250 @@
+//! The sentences of a fault. Each function that takes bytes appends to them; after NoMemory, part of what was to be appended
+//! may stand there.
+
+ghost use Rattle.std.specs.Prelude.{◌≡◌, ◌++◌, OnOk};
+ghost use Rattle.lab_picture.specs.Installs.{misplaced_of};
+ghost use Rattle.lab_explain.specs.Faults.{misplaced_note, installers_text, end_text, last_text, named_text, recorded, due, mistake, recorded_text, due_text, most_often, fault_steps};
+
+use crate::clauses::{put_op, put_row, put_saw, put_saw_with, put_state};
+use crate::fault_parts::{
+    put_last_due, put_rows, put_rows_due, put_txns, put_viewed, put_writes, put_writes_due,
+};
+use crate::lines::put_step;
+use crate::phrases::{as_last_words, installers_words, often_words};
+use crate::report_parts::put_fault;
+use lab_deps::LocalFault;
+use lab_history::History;
+use lab_picture::{installers_of, misplaced_of, put_misplaced, state_at};
+use lab_table::{NoMemory, RowName, TxnNo};
+use std::alloc::Global;
+
+/// Appends who is out of place among a row's installers.
+fn put_misplaced_note(out: &mut Vec<u8>, history: &History, row: RowName) -> Result<(), NoMemory>
+    ensures { OnOk result (out.new.items ≡ out.old.items ++ misplaced_note (misplaced_of history.now row)) }
+{
+    match misplaced_of(history, row) {
+        None => Ok(()),
+        Some(found) => {
+            out.extend_from_slice(b"; a ")?;
+            put_misplaced(out, found)
+        }
+    }
+}
+
+/// Appends the installers of a row.
+#[tactic(auto, unfolding(crate::specs::Faults::installers_text))]
+fn put_installers(out: &mut Vec<u8>, history: &History, row: RowName) -> Result<(), NoMemory>
+    ensures { OnOk result (out.new.items ≡ out.old.items ++ installers_text history.now row) }
+{
+    out.extend_from_slice(installers_words())?;
+    put_row(out, row)?;
+    out.extend_from_slice(b" are")?;
+    put_txns(out, installers_of(history, row))
+}
+
+/// Appends the state of a row in the end.
+#[tactic(auto, unfolding(crate::specs::Faults::end_text))]
+fn put_end(out: &mut Vec<u8>, history: &History, row: RowName) -> Result<(), NoMemory>
+    ensures { OnOk result (out.new.items ≡ out.old.items ++ end_text history.now row) }
+{
+    out.extend_from_slice(b"in the end ")?;
+    put_row(out, row)?;
+    out.extend_from_slice(b" is")?;
+    put_state(out, history.end_table().get(row))
+}
+
+/// Appends the state in which its last installer left a row.
+#[tactic(auto, unfolding(crate::specs::Faults::last_text))]
+fn put_last(out: &mut Vec<u8>, history: &History, row: RowName) -> Result<(), NoMemory>
+    ensures { OnOk result (out.new.items ≡ out.old.items ++ last_text history.now row) }
+{
+    out.extend_from_slice(b"the row")?;
+    let place = installers_of(history, row).len();
+    put_state(out, state_at(history, row, place))?;
+    out.extend_from_slice(as_last_words())
+}
+
+/// Appends the version that an operation saw of a row.
+#[tactic(auto, unfolding(crate::specs::Faults::named_text))]
+fn put_named(
+    alloc: Global,
+    out: &mut Vec<u8>,
+    history: &History,
+    txn: TxnNo,
+    op: u32,
+    row: RowName,
+) -> Result<(), NoMemory>
+    ensures { OnOk result (out.new.items ≡ out.old.items ++ named_text history.now txn op row) }
+{
+    put_op(alloc, out, history, txn, op)?;
+    out.extend_from_slice(b" saw ")?;
+    put_row(out, row)?;
+    out.extend_from_slice(b" in ")?;
+    put_viewed(out, history, txn, op, row)
+}
+
+/// Appends what is recorded where a fault is.
+fn put_recorded(
+    alloc: Global,
+    out: &mut Vec<u8>,
+    history: &History,
+    fault: LocalFault,
+) -> Result<(), NoMemory>
+    ensures { OnOk result (out.new.items ≡ out.old.items ++ recorded history.now fault) }
+{
+    match fault {
+        LocalFault::Dangling { txn, op, row } => put_named(alloc, out, history, txn, op, row),
+        LocalFault::AbortedRead { txn, op, row } => {
+            let flaw = b", of a transaction that aborted";
+            put_saw_with(alloc, out, history, txn, op, row, flaw)
+        }
+        LocalFault::IntermediateRead { txn, op, row } => {
+            let flaw = b", not the last one of its transaction";
+            put_saw_with(alloc, out, history, txn, op, row, flaw)
+        }
+        LocalFault::OwnWriteMissed { txn, op, row } => {
+            let flaw = b", though its own transaction had written the row";
+            put_saw_with(alloc, out, history, txn, op, row, flaw)
+        }
+        LocalFault::LaterThanOwn { txn, op, row } => {
+            put_saw(alloc, out, history, txn, op, row)?;
+            out.extend_from_slice(b"; ")?;
+            put_installers(out, history, row)
+        }
+        LocalFault::RowsDiffer { txn, op, row } => {
+            put_saw(alloc, out, history, txn, op, row)?;
+            put_rows(out, history, txn, op, row)
+        }
+        LocalFault::WritesDiffer { txn, op, row } => {
+            put_saw(alloc, out, history, txn, op, row)?;
+            put_writes(out, history, txn, op, row)
+        }
+        LocalFault::InstallOrder { row } => {
+            put_installers(out, history, row)?;
+            put_misplaced_note(out, history, row)
+        }
+        LocalFault::EndDiffers { row } => put_end(out, history, row),
+    }
+}
+
+/// Appends what is due where a fault is.
+fn put_due(out: &mut Vec<u8>, history: &History, fault: LocalFault) -> Result<(), NoMemory>
+    ensures { OnOk result (out.new.items ≡ out.old.items ++ due history.now fault) }
+{
+    match fault {
+        LocalFault::Dangling { .. } => out.extend_from_slice(
+            b"a version that a statement of the file wrote, and one of its own transaction before it",
+        ),
+        LocalFault::AbortedRead { .. } => {
+            out.extend_from_slice(b"a version of a transaction that committed")
+        }
+        LocalFault::IntermediateRead { txn, op, row } => {
+            put_last_due(out, history, txn, op, row)
+        }
+        LocalFault::OwnWriteMissed { .. } => out.extend_from_slice(
+            b"the version that its own transaction wrote last before it",
+        ),
+        LocalFault::LaterThanOwn { .. } => out.extend_from_slice(
+            b"who wrote what is seen stands before who sees it and installs the row too",
+        ),
+        LocalFault::RowsDiffer { txn, op, row } => put_rows_due(out, history, txn, op, row),
+        LocalFault::WritesDiffer { txn, op, row } => put_writes_due(out, history, txn, op, row),
+        LocalFault::InstallOrder { .. } => out.extend_from_slice(
+            b"each transaction that committed a write of the row, once, and nobody else",
+        ),
+        LocalFault::EndDiffers { row } => put_last(out, history, row),
+    }
+}
+
+/// How a recorder most often comes to a fault.
+fn mistake(fault: LocalFault) -> &'static str
+    ensures { result.now ≡ mistake fault }
+{
+    match fault {
+        LocalFault::Dangling { .. } => {
+            "a statement that failed was counted, or an aborted transaction was left out"
+        }
+        LocalFault::AbortedRead { .. } => {
+            "the answer to a commit was lost, and the transaction noted as aborted; else the database let it be seen (G1a)"
+        }
+        LocalFault::IntermediateRead { .. } => {
+            "the version's name is kept from the transaction's first write of the row; else the database let it be seen (G1b)"
+        }
+        LocalFault::OwnWriteMissed { .. } => {
+            "views are read over another connection, which doesn't see the transaction's own writes"
+        }
+        LocalFault::LaterThanOwn { .. } => {
+            "installers are listed by number, or by begin, and not by commit"
+        }
+        LocalFault::RowsDiffer { .. } => {
+            "the view has the listed rows alone, or somebody committed between view and rows, or a deleted row isn't in the view"
+        }
+        LocalFault::WritesDiffer { .. } => {
+            "an update that leaves the value as it is wasn't noted as a write"
+        }
+        LocalFault::InstallOrder { .. } => {
+            "an aborted transaction stands among the installers, or one that wrote the row twice stands there twice"
+        }
+        LocalFault::EndDiffers { .. } => {
+            "the end was read before the last transaction had ended, or a commit was noted as an abort"
+        }
+    }
+}
+
+/// Appends what is recorded, with the fault as the report prints it.
+#[tactic(auto, unfolding(crate::specs::Faults::recorded_text))]
+fn put_recorded_text(
+    alloc: Global,
+    out: &mut Vec<u8>,
+    history: &History,
+    fault: &LocalFault,
+) -> Result<(), NoMemory>
+    ensures { OnOk result (out.new.items ≡ out.old.items ++ recorded_text history.now fault.now) }
+{
+    out.extend_from_slice(b"Recorded: ")?;
+    put_recorded(alloc, out, history, *fault)?;
+    out.extend_from_slice(b". [")?;
+    put_fault(out, *fault)?;
+    out.extend_from_slice(b"]")
+}
+
+/// Appends what is due.
+#[tactic(auto, unfolding(crate::specs::Faults::due_text))]
+fn put_due_text(out: &mut Vec<u8>, history: &History, fault: LocalFault) -> Result<(), NoMemory>
+    ensures { OnOk result (out.new.items ≡ out.old.items ++ due_text history.now fault) }
+{
+    out.extend_from_slice(b"Due: ")?;
+    put_due(out, history, fault)?;
+    out.extend_from_slice(b".")
+}
+
+/// Appends the recorder's mistake.
+#[tactic(auto, unfolding(crate::specs::Faults::most_often))]
+fn put_most_often(out: &mut Vec<u8>, mistake: &str) -> Result<(), NoMemory>
+    ensures { OnOk result (out.new.items ≡ out.old.items ++ most_often mistake.now) }
+{
+    out.extend_from_slice(often_words())?;
+    out.extend_from_slice(mistake.as_bytes())?;
+    out.extend_from_slice(b".")
+}
+
+/// Appends the lines of a fault.
+#[tactic(auto, unfolding(crate::specs::Faults::fault_steps))]
+pub fn put_fault_steps(
+    alloc: Global,
+    out: &mut Vec<u8>,
+    history: &History,
+    fault: &LocalFault,
+) -> Result<(), NoMemory>
+    ensures { OnOk result (out.new.items ≡ out.old.items ++ fault_steps history.now fault.now) }
+{
+    let mut text = Vec::new(alloc);
+    put_recorded_text(alloc, &mut text, history, fault)?;
+    put_step(out, &text)?;
+    text.clear();
+    put_due_text(&mut text, history, *fault)?;
+    put_step(out, &text)?;
+    text.clear();
+    put_most_often(&mut text, mistake(*fault))?;
+    put_step(out, &text)
+}

@@ -1,0 +1,168 @@
+//! The sentences of what is found of a phenomenon. Each function that takes bytes appends to them; after NoMemory, part of
+//! what was to be appended may stand there.
+
+ghost use Rattle.std.specs.Prelude.{◌≡◌, ◌++◌, IfOk, OnOk};
+ghost use Rattle.std.specs.Str.{bytes_eq};
+ghost use Rattle.lab_judge.specs.ReportText.{walk_text};
+ghost use Rattle.lab_explain.specs.Findings.{serial_walk, other_walk, walk_beside, seen_flaw, found_beside, finding_lines, found_alone};
+
+use crate::clauses::put_saw;
+use crate::lines::{put_capped, put_paragraph};
+use crate::names::{flaw_of, title_of};
+use crate::phrases::{asked_words, explains_words, not_judged, other_words, round_text};
+use crate::report_parts::put_walk;
+use crate::steps::put_walk_steps;
+use lab_deps::Edge;
+use lab_history::History;
+use lab_judge::{Finding, Report, Serial};
+use lab_picture::Phenomenon;
+use lab_table::{NoMemory, RowName, TxnNo};
+use std::alloc::Global;
+
+/// A walk as the report prints it. NoMemory where a growth was refused.
+fn walk_text(alloc: Global, walk: &[Edge]) -> Result<Vec<u8>, NoMemory>
+    ensures { IfOk result (λ text. text.items ≡ walk_text walk.now) }
+{
+    let mut text = Vec::new(alloc);
+    put_walk(&mut text, walk)?;
+    Ok(text)
+}
+
+/// The walk of a serial verdict as the report prints it; empty where it has none. NoMemory where a growth was refused.
+pub fn serial_walk(alloc: Global, serial: &Serial) -> Result<Vec<u8>, NoMemory>
+    ensures { IfOk result (λ text. text.items ≡ serial_walk serial.now) }
+{
+    match serial {
+        Serial::Yes(_) | Serial::NoFault(_) => Ok(Vec::new(alloc)),
+        Serial::NoCycle(walk) => walk_text(alloc, walk.as_slice()),
+    }
+}
+
+/// Appends a walk that isn't the serial verdict's, and how to have it explained.
+#[tactic(auto, unfolding(crate::specs::Findings::other_walk))]
+fn put_other_walk(out: &mut Vec<u8>, phenomenon: Phenomenon, walk: &[u8]) -> Result<(), NoMemory>
+    ensures { OnOk result (out.new.items ≡ out.old.items ++ other_walk phenomenon walk.now) }
+{
+    out.extend_from_slice(other_words())?;
+    out.extend_from_slice(walk)?;
+    out.extend_from_slice(asked_words())?;
+    out.extend_from_slice(phenomenon.name().as_bytes())?;
+    out.extend_from_slice(explains_words())
+}
+
+fn is_same(a: &[u8], b: &[u8]) -> bool
+    ensures { result ≡ bytes_eq a.now b.now }
+{
+    a == b
+}
+
+/// Appends what is said of a walk beside a serial verdict.
+fn put_walk_beside(
+    out: &mut Vec<u8>,
+    phenomenon: Phenomenon,
+    of_serial: &[u8],
+    walk: &[u8],
+) -> Result<(), NoMemory>
+    ensures { OnOk result (out.new.items ≡ out.old.items ++ walk_beside phenomenon of_serial.now walk.now) }
+{
+    if is_same(walk, of_serial) {
+        out.extend_from_slice(b"present, by the same cycle.")
+    } else {
+        put_other_walk(out, phenomenon, walk)
+    }
+}
+
+/// Appends an operation that saw what it is not to see.
+#[tactic(auto, unfolding(crate::specs::Findings::seen_flaw))]
+fn put_seen_flaw(
+    alloc: Global,
+    out: &mut Vec<u8>,
+    history: &History,
+    phenomenon: Phenomenon,
+    txn: TxnNo,
+    op: u32,
+    row: RowName,
+) -> Result<(), NoMemory>
+    ensures { OnOk result (out.new.items ≡ out.old.items ++ seen_flaw history.now phenomenon txn op row) }
+{
+    out.extend_from_slice(b"present: ")?;
+    put_saw(alloc, out, history, txn, op, row)?;
+    out.extend_from_slice(flaw_of(phenomenon).as_bytes())
+}
+
+/// Appends what is said of a finding beside a serial verdict.
+fn put_found_beside(
+    alloc: Global,
+    out: &mut Vec<u8>,
+    history: &History,
+    phenomenon: Phenomenon,
+    of_serial: &[u8],
+    finding: &Finding,
+) -> Result<(), NoMemory>
+    ensures { OnOk result (out.new.items ≡ out.old.items ++ found_beside history.now phenomenon of_serial.now finding.now) }
+{
+    match finding {
+        Finding::Absent => out.extend_from_slice(b"absent."),
+        Finding::NotJudged => out.extend_from_slice(not_judged()),
+        Finding::Walk(walk) => {
+            let walk = walk_text(alloc, walk.as_slice())?;
+            put_walk_beside(out, phenomenon, of_serial, &walk)
+        }
+        Finding::At { txn, op, row } => {
+            put_seen_flaw(alloc, out, history, phenomenon, *txn, *op, *row)
+        }
+    }
+}
+
+/// Appends the lines of a finding beside a serial verdict, whose walk is printed so: three at most.
+pub fn put_finding_lines(
+    alloc: Global,
+    out: &mut Vec<u8>,
+    history: &History,
+    report: &Report,
+    of_serial: &[u8],
+    phenomenon: Phenomenon,
+) -> Result<(), NoMemory>
+    requires { of_serial.now ≡ serial_walk report.now.serial }
+    ensures { OnOk result (out.new.items ≡ out.old.items ++ finding_lines history.now report.now phenomenon) }
+{
+    let mut text = Vec::from_slice(alloc, title_of(phenomenon).as_bytes())?;
+    let finding = phenomenon.found_in(report);
+    put_found_beside(alloc, &mut text, history, phenomenon, of_serial, finding)?;
+    let mut lines = Vec::new(alloc);
+    put_paragraph(&mut lines, &text)?;
+    put_capped(out, 3, &lines)
+}
+
+/// Appends the lines of a finding that is explained by itself.
+pub fn put_found_alone(
+    alloc: Global,
+    out: &mut Vec<u8>,
+    history: &History,
+    phenomenon: Phenomenon,
+    finding: &Finding,
+) -> Result<(), NoMemory>
+    ensures { OnOk result (out.new.items ≡ out.old.items ++ found_alone history.now phenomenon finding.now) }
+{
+    let mut text = Vec::from_slice(alloc, title_of(phenomenon).as_bytes())?;
+    match finding {
+        Finding::Absent => {
+            text.extend_from_slice(b"absent.")?;
+            put_paragraph(out, &text)
+        }
+        Finding::NotJudged => {
+            text.extend_from_slice(not_judged())?;
+            put_paragraph(out, &text)
+        }
+        Finding::Walk(walk) => {
+            text.extend_from_slice(b"present: ")?;
+            text.extend_from_slice(round_text())?;
+            put_paragraph(out, &text)?;
+            put_walk_steps(alloc, out, history, walk.as_slice())
+        }
+        Finding::At { txn, op, row } => {
+            put_seen_flaw(alloc, &mut text, history, phenomenon, *txn, *op, *row)?;
+            put_paragraph(out, &text)
+        }
+    }
+}

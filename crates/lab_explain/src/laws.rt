@@ -1,0 +1,42 @@
+//! Laws of explanations. The functions have nothing to do: their contracts are the laws.
+
+ghost use Rattle.std.specs.Prelude.{◌≡◌, ◌≤◌, ℕ, Some, None, Option, List, Contains};
+ghost use Rattle.lab_history.specs.History.{History as Held};
+ghost use Rattle.lab_deps.specs.Soundness.{Stands};
+ghost use Rattle.lab_deps.specs.declared.edge.Edge.{Edge as Dependency};
+ghost use Rattle.lab_deps.specs.declared.fault.LocalFault.{LocalFault as Fault};
+ghost use Rattle.lab_judge.specs.Judgement.{IsExactJudgement};
+ghost use Rattle.lab_judge.specs.declared.report.Report.{Report};
+ghost use Rattle.lab_judge.specs.declared.serial.Serial.TheVariants.{NoFault};
+ghost use Rattle.lab_streams.specs.declared.ending.Ending.{Ending};
+ghost use Rattle.lab_picture.specs.ArrowLaws.{IsArrowOf, NamesWalk};
+ghost use Rattle.lab_picture.specs.declared.asked.Phenomenon.{Phenomenon};
+ghost use Rattle.lab_picture.specs.declared.drawing.Arrow.{Arrow as Drawn};
+ghost use Rattle.lab_explain.specs.Answer.{IsExplainAnswer};
+ghost use Rattle.lab_explain.specs.Explanation.{explanation_of};
+ghost use Rattle.lab_explain.specs.Lines.{lines, step};
+ghost use Rattle.lab_explain.specs.Steps.{edge_step, edge_text};
+
+/// Each dependency of a walk that a judgement names has its sentence, by the operations that make it: the last write of who
+/// installs, and the first operation of who reads that makes the dependency. A walk's lines are those of its dependencies,
+/// in order, by definition (`walk_steps`).
+pub fn each_dependency_has_its_sentence()
+    ensures { (h : Held) (report : Report) (asked : Option Phenomenon) (walk : List Dependency) → IsExactJudgement h report → NamesWalk report asked walk
+        → (e : Dependency) → Contains walk e → (a : Drawn) × (edge_step h e ≡ step (edge_text h e a)) × IsArrowOf h e a }
+{}
+
+/// The fault that is explained in place of an order is true of the history.
+pub fn a_fault_that_is_explained_stands()
+    ensures { (h : Held) (report : Report) (f : Fault) → IsExactJudgement h report → report.serial ≡ NoFault f → Stands h f }
+{}
+
+/// An explanation has at most 100 lines.
+pub fn explanation_is_short()
+    ensures { (h : Held) (report : Report) (asked : Option Phenomenon) → lines (explanation_of h report asked) ≤ 100 }
+{}
+
+/// Of one input `explain` says one thing, byte for byte: two explanations of one file are equal.
+pub fn explain_answer_unique()
+    ensures text { (input one other : List ℕ) (asked : Option Phenomenon) (first again : Ending) → IsExplainAnswer input asked one first → IsExplainAnswer input asked other again → one ≡ other }
+    ensures ending { (input one other : List ℕ) (asked : Option Phenomenon) (first again : Ending) → IsExplainAnswer input asked one first → IsExplainAnswer input asked other again → first ≡ again }
+{}

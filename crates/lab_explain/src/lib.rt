@@ -1,0 +1,31 @@
+//! Judgements in sentences.
+//!
+//! [`explain`] is the subcommand of the program: it reads a history file, and writes in sentences what a judgement of its
+//! history says: the serial verdict with a sentence for each dependency of its walk, or what is recorded and what is due
+//! where a fault is; the snapshot verdict; the phenomena; the level. It tells of each dependency which operations make it,
+//! as the arrows of the picture do, and of the row which version was seen, and its value.
+//!
+//! Which text it is, is a definition over history and report (`explanation_of`); [`explanation`] makes it. A text has
+//! at most 100 lines.
+#![tactic(auto)]
+
+mod clauses;
+mod explaining;
+mod fault_parts;
+mod faults;
+mod findings;
+mod laws;
+mod lines;
+mod names;
+mod phrases;
+mod places;
+mod report_parts;
+mod sections;
+mod steps;
+
+pub use explaining::explain;
+pub use laws::{
+    a_fault_that_is_explained_stands, each_dependency_has_its_sentence, explain_answer_unique,
+    explanation_is_short,
+};
+pub use sections::explanation;

@@ -1,0 +1,51 @@
+//! The names of phenomena and levels.
+
+ghost use Rattle.std.specs.Prelude.{◌≡◌};
+ghost use Rattle.lab_explain.specs.Names.{title_of, flaw_of, level_line};
+
+use lab_judge::Grade;
+use lab_picture::Phenomenon;
+
+/// A phenomenon, by the report's name and the textbook's.
+pub fn title_of(phenomenon: Phenomenon) -> &'static str
+    ensures { result.now ≡ title_of phenomenon }
+{
+    match phenomenon {
+        Phenomenon::G0 => "G0 (dirty write): ",
+        Phenomenon::G1a => "G1a (aborted read): ",
+        Phenomenon::G1b => "G1b (intermediate read): ",
+        Phenomenon::G1c => "G1c (circular information flow): ",
+        Phenomenon::GSingle => "G-single (read skew): ",
+        Phenomenon::G2Item => "G2-item (write skew): ",
+        Phenomenon::G2 => "G2 (anti-dependency cycle): ",
+    }
+}
+
+/// What is wrong with the version that is seen, where a phenomenon is one of what is seen.
+pub fn flaw_of(phenomenon: Phenomenon) -> &'static str
+    ensures { result.now ≡ flaw_of phenomenon }
+{
+    match phenomenon {
+        Phenomenon::G1a => ", of a transaction that aborted.",
+        Phenomenon::G1b => ", not the last one of its transaction.",
+        Phenomenon::G0
+        | Phenomenon::G1c
+        | Phenomenon::GSingle
+        | Phenomenon::G2Item
+        | Phenomenon::G2 => ".",
+    }
+}
+
+/// The line of a level, and of what the next one forbids.
+pub fn level_line(level: Grade) -> &'static str
+    ensures { result.now ≡ level_line level }
+{
+    match level {
+        Grade::BelowPl1 => "Below level PL-1, which forbids G0.\n",
+        Grade::Pl1 => "Level PL-1. PL-2 (read committed) forbids G1a, G1b and G1c.\n",
+        Grade::Pl2 => "Level PL-2 (read committed). PL-2.99 (repeatable read) forbids G2-item.\n",
+        Grade::Pl299 => "Level PL-2.99 (repeatable read). PL-3 (serializable) forbids G2.\n",
+        Grade::Pl3 => "Level PL-3 (serializable).\n",
+        Grade::Unsound => "No level is looked for, since the history isn't sound.\n",
+    }
+}

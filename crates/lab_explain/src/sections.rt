@@ -1,0 +1,129 @@
+//! The text of an explanation.
+
+ghost use Rattle.std.specs.Prelude.{◌≡◌, ◌++◌, IfOk, OnOk};
+ghost use Rattle.lab_explain.specs.Findings.{serial_walk};
+ghost use Rattle.lab_explain.specs.Explanation.{order_sentence, serial_lines, findings_lines, whole_text, one_text, explanation_of};
+
+use crate::fault_parts::put_txns;
+use crate::faults::put_fault_steps;
+use crate::findings::{put_finding_lines, put_found_alone, serial_walk};
+use crate::lines::{put_capped, put_paragraph};
+use crate::names::level_line;
+use crate::phrases::{last_line, no_order, order_head, unsound_text};
+use crate::places::put_places_lines;
+use crate::steps::put_walk_steps;
+use lab_history::History;
+use lab_judge::{Report, Serial};
+use lab_picture::Phenomenon;
+use lab_table::{NoMemory, TxnNo};
+use std::alloc::Global;
+
+/// Appends the sentence of an order.
+#[tactic(auto, unfolding(crate::specs::Explanation::order_sentence))]
+fn put_order_sentence(out: &mut Vec<u8>, order: &[TxnNo]) -> Result<(), NoMemory>
+    ensures { OnOk result (out.new.items ≡ out.old.items ++ order_sentence order.now) }
+{
+    out.extend_from_slice(order_head())?;
+    put_txns(out, order)?;
+    out.extend_from_slice(b".")
+}
+
+/// The lines of a serial verdict. NoMemory where a growth was refused.
+fn serial_lines(alloc: Global, history: &History, serial: &Serial) -> Result<Vec<u8>, NoMemory>
+    ensures { IfOk result (λ text. text.items ≡ serial_lines history.now serial.now) }
+{
+    let mut text = Vec::new(alloc);
+    let mut out = Vec::new(alloc);
+    match serial {
+        Serial::Yes(order) => {
+            put_order_sentence(&mut text, order.as_slice())?;
+            put_paragraph(&mut out, &text)?;
+        }
+        Serial::NoFault(fault) => {
+            put_paragraph(&mut out, unsound_text())?;
+            put_fault_steps(alloc, &mut out, history, fault)?;
+        }
+        Serial::NoCycle(walk) => {
+            put_paragraph(&mut out, no_order())?;
+            put_walk_steps(alloc, &mut out, history, walk.as_slice())?;
+        }
+    }
+    Ok(out)
+}
+
+/// Appends the lines of what is found of each phenomenon.
+#[tactic(auto, unfolding(crate::specs::Explanation::findings_lines))]
+fn put_findings(
+    alloc: Global,
+    out: &mut Vec<u8>,
+    history: &History,
+    report: &Report,
+) -> Result<(), NoMemory>
+    ensures { OnOk result (out.new.items ≡ out.old.items ++ findings_lines history.now report.now) }
+{
+    let walk = serial_walk(alloc, &report.serial)?;
+    put_finding_lines(alloc, out, history, report, &walk, Phenomenon::G0)?;
+    put_finding_lines(alloc, out, history, report, &walk, Phenomenon::G1a)?;
+    put_finding_lines(alloc, out, history, report, &walk, Phenomenon::G1b)?;
+    put_finding_lines(alloc, out, history, report, &walk, Phenomenon::G1c)?;
+    put_finding_lines(alloc, out, history, report, &walk, Phenomenon::GSingle)?;
+    put_finding_lines(alloc, out, history, report, &walk, Phenomenon::G2Item)?;
+    put_finding_lines(alloc, out, history, report, &walk, Phenomenon::G2)
+}
+
+/// The whole explanation of a report. NoMemory where a growth was refused.
+#[tactic(auto, unfolding(crate::specs::Explanation::whole_text))]
+fn whole_text(alloc: Global, history: &History, report: &Report) -> Result<Vec<u8>, NoMemory>
+    ensures { IfOk result (λ text. text.items ≡ whole_text history.now report.now) }
+{
+    let mut out = Vec::new(alloc);
+    let serial = serial_lines(alloc, history, &report.serial)?;
+    put_capped(&mut out, 60, &serial)?;
+    let mut places = Vec::new(alloc);
+    put_places_lines(alloc, &mut places, &report.snapshot)?;
+    put_capped(&mut out, 12, &places)?;
+    put_findings(alloc, &mut out, history, report)?;
+    out.extend_from_slice(level_line(report.level).as_bytes())?;
+    out.extend_from_slice(last_line())?;
+    Ok(out)
+}
+
+/// The explanation of what is found of a phenomenon. NoMemory where a growth was refused.
+#[tactic(auto, unfolding(crate::specs::Explanation::one_text))]
+fn one_text(
+    alloc: Global,
+    history: &History,
+    report: &Report,
+    phenomenon: Phenomenon,
+) -> Result<Vec<u8>, NoMemory>
+    ensures { IfOk result (λ text. text.items ≡ one_text history.now report.now phenomenon) }
+{
+    let mut found = Vec::new(alloc);
+    put_found_alone(
+        alloc,
+        &mut found,
+        history,
+        phenomenon,
+        phenomenon.found_in(report),
+    )?;
+    let mut out = Vec::new(alloc);
+    put_capped(&mut out, 90, &found)?;
+    out.extend_from_slice(last_line())?;
+    Ok(out)
+}
+
+/// The explanation of a report on a history: of its serial verdict, its snapshot verdict, its phenomena and its level; or of
+/// what it finds of one phenomenon. It has at most 100 lines. NoMemory where a growth was refused.
+pub fn explanation(
+    alloc: Global,
+    history: &History,
+    report: &Report,
+    asked: Option<Phenomenon>,
+) -> Result<Vec<u8>, NoMemory>
+    ensures { IfOk result (λ text. text.items ≡ explanation_of history.now report.now asked) }
+{
+    match asked {
+        None => whole_text(alloc, history, report),
+        Some(phenomenon) => one_text(alloc, history, report, phenomenon),
+    }
+}

@@ -1,0 +1,185 @@
+//! The sentences of a walk's dependencies. Each function that takes bytes appends to them; after NoMemory, part of what was
+//! to be appended may stand there.
+
+ghost use Rattle.std.specs.Prelude.{◌≡◌, ◌++◌, OnOk};
+ghost use Rattle.lab_explain.specs.Steps.{from_text, left_next, saw_next, to_text, tag_text, order_text, edge_text, told_edge, edge_step, walk_steps};
+
+use crate::clauses::{put_left, put_left_row, put_op, put_saw, put_seen, put_txn};
+use crate::lines::put_step;
+use lab_deps::{Edge, Kind};
+use lab_history::History;
+use lab_judge::kind_name;
+use lab_picture::{Arrow, Spot, arrow_of};
+use lab_script::put_row_name;
+use lab_table::{NoMemory, RowName};
+use std::alloc::Global;
+
+/// Appends what the operation that a dependency leads from did with the row.
+fn put_from(
+    alloc: Global,
+    out: &mut Vec<u8>,
+    history: &History,
+    kind: Kind,
+    spot: Spot,
+    row: RowName,
+) -> Result<(), NoMemory>
+    ensures { OnOk result (out.new.items ≡ out.old.items ++ from_text history.now kind spot row) }
+{
+    match kind {
+        Kind::Write | Kind::ItemRead | Kind::PredicateRead => {
+            put_left_row(alloc, out, history, spot.txn, spot.op, row)
+        }
+        Kind::ItemAnti | Kind::PredicateAnti => {
+            put_saw(alloc, out, history, spot.txn, spot.op, row)
+        }
+    }
+}
+
+/// Appends an operation that left the row, and how.
+#[tactic(auto, unfolding(crate::specs::Steps::left_next))]
+fn put_left_next(
+    alloc: Global,
+    out: &mut Vec<u8>,
+    history: &History,
+    spot: Spot,
+    row: RowName,
+    which: &[u8],
+) -> Result<(), NoMemory>
+    ensures { OnOk result (out.new.items ≡ out.old.items ++ left_next history.now spot row which.now) }
+{
+    out.extend_from_slice(b", and ")?;
+    put_op(alloc, out, history, spot.txn, spot.op)?;
+    out.extend_from_slice(b" left it")?;
+    put_left(out, history, spot.txn, spot.op, row)?;
+    out.extend_from_slice(which)
+}
+
+/// Appends an operation that saw the row, and how.
+#[tactic(auto, unfolding(crate::specs::Steps::saw_next))]
+fn put_saw_next(
+    alloc: Global,
+    out: &mut Vec<u8>,
+    lead: &[u8],
+    history: &History,
+    spot: Spot,
+    row: RowName,
+    words: &[u8],
+) -> Result<(), NoMemory>
+    ensures { OnOk result (out.new.items ≡ out.old.items ++ saw_next lead.now history.now spot row words.now) }
+{
+    out.extend_from_slice(lead)?;
+    put_op(alloc, out, history, spot.txn, spot.op)?;
+    out.extend_from_slice(words)?;
+    put_seen(out, history, spot.txn, spot.op, row)
+}
+
+/// Appends what the operation that a dependency leads to did with the row.
+fn put_to(
+    alloc: Global,
+    out: &mut Vec<u8>,
+    history: &History,
+    kind: Kind,
+    spot: Spot,
+    row: RowName,
+) -> Result<(), NoMemory>
+    ensures { OnOk result (out.new.items ≡ out.old.items ++ to_text history.now kind spot row) }
+{
+    match kind {
+        Kind::Write | Kind::ItemAnti => {
+            put_left_next(alloc, out, history, spot, row, b", its next version")
+        }
+        Kind::PredicateAnti => put_left_next(
+            alloc,
+            out,
+            history,
+            spot,
+            row,
+            b", a later version, which changed whether it matches",
+        ),
+        Kind::ItemRead => put_saw_next(alloc, out, b", and ", history, spot, row, b" saw it"),
+        Kind::PredicateRead => put_saw_next(
+            alloc,
+            out,
+            b", which changed whether it matches ",
+            history,
+            spot,
+            row,
+            b"; that one saw it",
+        ),
+    }
+}
+
+/// Appends a dependency as the report prints it.
+#[tactic(auto, unfolding(crate::specs::Steps::tag_text))]
+fn put_tag(out: &mut Vec<u8>, edge: &Edge) -> Result<(), NoMemory>
+    ensures { OnOk result (out.new.items ≡ out.old.items ++ tag_text edge.now) }
+{
+    out.extend_from_slice(b" [")?;
+    out.extend_from_slice(kind_name(edge.kind).as_bytes())?;
+    out.extend_from_slice(b"(")?;
+    put_row_name(out, edge.row)?;
+    out.extend_from_slice(b")]")
+}
+
+/// Appends who comes before whom.
+#[tactic(auto, unfolding(crate::specs::Steps::order_text))]
+fn put_order(out: &mut Vec<u8>, edge: &Edge) -> Result<(), NoMemory>
+    ensures { OnOk result (out.new.items ≡ out.old.items ++ order_text edge.now) }
+{
+    put_txn(out, edge.from)?;
+    out.extend_from_slice(b" comes before ")?;
+    put_txn(out, edge.to)?;
+    out.extend_from_slice(b": ")
+}
+
+/// Appends the sentence of a dependency, by the operations that make it.
+#[tactic(auto, unfolding(crate::specs::Steps::edge_text))]
+fn put_edge(
+    alloc: Global,
+    out: &mut Vec<u8>,
+    history: &History,
+    edge: &Edge,
+    arrow: &Arrow,
+) -> Result<(), NoMemory>
+    ensures { OnOk result (out.new.items ≡ out.old.items ++ edge_text history.now edge.now arrow.now) }
+{
+    put_order(out, edge)?;
+    put_from(alloc, out, history, edge.kind, arrow.from, edge.row)?;
+    put_to(alloc, out, history, edge.kind, arrow.to, edge.row)?;
+    out.extend_from_slice(b".")?;
+    put_tag(out, edge)
+}
+
+/// Appends the lines of a dependency.
+fn put_edge_step(
+    alloc: Global,
+    out: &mut Vec<u8>,
+    history: &History,
+    edge: &Edge,
+) -> Result<(), NoMemory>
+    ensures { OnOk result (out.new.items ≡ out.old.items ++ edge_step history.now edge.now) }
+{
+    match arrow_of(history, edge) {
+        None => Ok(()),
+        Some(arrow) => {
+            let mut text = Vec::new(alloc);
+            put_edge(alloc, &mut text, history, edge, &arrow)?;
+            put_step(out, &text)
+        }
+    }
+}
+
+/// Appends the lines of a walk: those of its dependencies, in order.
+pub fn put_walk_steps(
+    alloc: Global,
+    out: &mut Vec<u8>,
+    history: &History,
+    walk: &[Edge],
+) -> Result<(), NoMemory>
+    ensures { OnOk result (out.new.items ≡ out.old.items ++ walk_steps history.now walk.now) }
+{
+    for edge in walk {
+        put_edge_step(alloc, out, history, edge)?;
+    }
+    Ok(())
+}
