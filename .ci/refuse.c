@@ -1,15 +1,15 @@
-/* Refuses growths of memory, and counts threads: preloaded into a program, it stands before the C library's malloc,
+/* Refuses allocations of memory, and counts threads: preloaded into a program, it stands before the C library's malloc,
  * realloc and pthread_create.
  *
  * In the environment:
- *   REFUSE_AT=N         refuses the program's N-th growth, once
- *   REFUSE_COUNT=K      refuses K growths in a row from that one on; 0: all from it on
+ *   REFUSE_AT=N         refuses the program's N-th allocation, once
+ *   REFUSE_COUNT=K      refuses K allocations in a row from that one on; 0: all from it on
  *   REFUSE_LOG=FILE     each refusal adds a byte to this file
- *   REFUSE_DELAY=SEED   holds threads up at random at their growths, so that they meet in other orders
+ *   REFUSE_DELAY=SEED   holds threads up at random at their allocations, so that they meet in other orders
  *   THREADS_LOG=FILE    each thread that starts adds a byte to this file
  * A test asks for a refusal by blocks of odd sizes, which without this library are ordinary blocks:
- *   MARK + n bytes, n > 0   from now on the n-th growth is refused, once; MARK bytes: none is
- *   ASK bytes               refused where a growth was refused since the last mark */
+ *   MARK + n bytes, n > 0   from now on the n-th allocation is refused, once; MARK bytes: none is
+ *   ASK bytes               refused where an allocation was refused since the last mark */
 
 /* What is used of the C library, as Linux has it: the kit's compiler comes without its headers. */
 #define NULL ((void *)0)
@@ -47,13 +47,13 @@ static void *(*next_realloc)(void *, size_t);
 /* A thread's handle is a number, and its attributes are handed on unread. */
 typedef int (*creator)(unsigned long *, const void *, void *(*)(void *), void *);
 static creator next_create;
-static long to_last;  /* growths up to the last refused one; 0: none is refused */
+static long to_last;  /* allocations up to the last refused one; 0: none is refused */
 static long in_a_row; /* so many of them are refused */
 static int endless;   /* there is no last one: it is refused again and again */
 static long refusals;
 static unsigned long draws; /* the state of the delays' generator; 0: nothing is held up */
 
-/* Refuses so many growths from the n-th on, or all from there on where `count` is 0. */
+/* Refuses so many allocations from the n-th on, or all from there on where `count` is 0. */
 static void arm(long n, long count) {
     long more = count ? count : 1;
     STORE(to_last, 0);
@@ -82,7 +82,7 @@ static void note(const char *word) {
     }
 }
 
-/* Counts a growth, and says whether it is a refused one. */
+/* Counts an allocation, and says whether it is a refused one. */
 static int is_refused(void) {
     long left = LOAD(to_last);
     while (left > 0) {

@@ -1,8 +1,8 @@
 """Histories made by rule whose dependencies lead round, and the report that is due of each.
 
 A ring of N transactions leads from T1 to T2 and so on to TN, and from there back to T1; between other transactions there
-is no dependency. So each walk and each circle that is due has all of them. All are rings but the skew, in which
-transactions miss what many others write. What is due is written from docs/FORMATS.md."""
+is no dependency. So each cycle that is due, of transactions or of their starts and commits, has all of them. All are
+rings but the skew, in which transactions miss what many others write. What is due is written from docs/FORMATS.md."""
 import json
 
 PHENOMENA = "G0", "G1a", "G1b", "G1c", "G-single", "G2-item", "G2"
@@ -47,12 +47,12 @@ def round_walk(count, dependency):
 
 
 def round_circle(count):
-    """The circle where each commit has to come before the next transaction's start."""
+    """The cycle where each commit has to come before the next transaction's start."""
     return "no " + "".join(f"s{no} c{no} " for no in range(1, count + 1)) + "s1"
 
 
 def circle_from_commit(count):
-    """The circle of a ring whose last transaction, and no other, has to start before the next one's commit."""
+    """The cycle of a ring whose last transaction, and no other, has to start before the next one's commit."""
     return "no c1 " + "".join(f"s{no} c{no} " for no in range(2, count)) + f"s{count} c1"
 
 
