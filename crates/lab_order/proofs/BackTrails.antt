@@ -1,26 +1,25 @@
--- Ways back, step by step, and the circle that closes one.
-use Rattle.std.proofs.Common.{◌≡◌, ℕ, ◌+◌, ◌<◌, ◌≤◌, refl, sym, ap, subst, ◌∙◌, arith, Bool, true, false, cond, ◌||◌, List, [], ◌∷◌, ◌++◌, take, length, set, reverse}
+-- Ways back, step by step, and the cycle that closes one.
+use Rattle.std.proofs.Common.{◌≡◌, ℕ, ◌+◌, ◌<◌, ◌≤◌, refl, sym, ap, subst, ◌∙◌, arith, Bool, true, false, cond, ◌||◌, List, [], ◌∷◌, ◌++◌, take, length, get_or, set, reverse, inl, inr}
 use Rattle.std.specs.Prelude.{◌==◌, not, IsTrue}
 use Rattle.std.specs.List.{list_any, prefix_len}
-use Rattle.std.proofs.lemmas.Bool.{eqb-true, both_ways}
-use Rattle.lab_order.specs.Arrows.{Arrows}
-use Rattle.lab_order.specs.Back.{IsBack, ComesBack, IsMet, IsBackCircle}
+use Rattle.std.proofs.lemmas.Bool.{eqb-true, eq-eqb, both_ways, cases_lt}
+use Rattle.lab_order.specs.Arrows.{Arrows, IsArrow}
+use Rattle.lab_order.specs.Back.{IsBack, IsMet, IsBackCircle}
 use Rattle.lab_order.specs.Counts.{how_often}
+use Rattle.lab_order.specs.Least.{IsLess}
 use Rattle.lab_order.specs.Placing.{is_marked}
 use Rattle.lab_order.specs.Steps.{is_in}
-use Rattle.lab_order.specs.Trails.{IsRing, IsChainBy, IsTurn, BeginsWithLeast}
-use Rattle.lab_order.proofs.MarkedCounts.{one_if, counted}
+use Rattle.lab_order.specs.Trails.{IsRing, IsChainBy, IsTurn, BeginsWithLeast, HasLeastFirst}
+use Rattle.lab_order.proofs.BackCircles.{comes_on}
+use Rattle.lab_order.proofs.MarkedCounts.{one_if, counted, stands_counted}
+use Rattle.lab_order.proofs.Members.{at_is_in}
 use Rattle.lab_order.proofs.Trails.{turned_push, turned_at, closes}
 use Rattle.lab_order.proofs.Turns.{turned_count, front_count, in_front, in_turned}
 use Rattle.lab_order.proofs.Writes.{set_read}
 
--- one comes back by one step more
-pub comes_on : (graph : Arrows) (node : ℕ) (way : List ℕ) (to next : ℕ) → ComesBack graph node way to → IsBack graph next to → ComesBack graph node (way ++ next ∷ []) next
-comes_on graph node [] to next same step = (subst (IsBack graph next) (sym same) step, refl)
-comes_on graph node (n ∷ ns) to next back step = (back.0, comes_on graph n ns to next back.1 step)
-
+-- what comes back from one that is met is met
 pub met_next : (graph : Arrows) (node from : ℕ) → IsMet graph node → IsBack graph from node → IsMet graph from
-met_next graph node from h step = record { start = h.start; least = h.least; way = h.way ++ from ∷ []; back = comes_on graph h.start h.way node from h.back step }
+met_next graph node from h step = record { start = h.start; least = h.least; way = h.way ++ from ∷ []; back = comes_on IsLess (IsArrow graph) h.start h.way node from h.back step }
 
 -- the nodes of the trail are met, and so is one more
 pub met_more : (graph : Arrows) (trail new : List ℕ) (at : ℕ) → new ≡ trail ++ at ∷ [] → IsMet graph at → ((n : ℕ) → IsTrue (is_in (reverse trail) n) → IsMet graph n)
@@ -59,23 +58,42 @@ none_seen seen trail empty bare n = ap (λ ns. how_often (reverse ns) n) empty �
 pub none_met : (graph : Arrows) (trail : List ℕ) → trail ≡ [] → (n : ℕ) → IsTrue (is_in (reverse trail) n) → IsMet graph n
 none_met graph trail empty n there = absurd (both_ways _ (ap (λ ns. is_in (reverse ns) n) empty) there)
 
--- where a way back comes to a node of it again, this is the circle, from whichever of its nodes it is read
+-- the least of nodes of which each is there once is less than the others
+first_least : (circle : List ℕ) → ((n : ℕ) → how_often circle n ≤ 1) → BeginsWithLeast circle → HasLeastFirst IsLess circle
+first_least [] once first = tt
+first_least (a ∷ ns) once first = λ k d lt. at (get_or ns k d) (stands_counted ns k d lt) (first k d lt)
+  where
+    at : (n : ℕ) → 0 < how_often ns n → a ≤ n → a < n
+    at n some le = elim (cases_lt a n) [
+      | inl less ↦ less
+      | inr ge ↦
+          let again : 0 < how_often ns a = subst (λ m. 0 < how_often ns m) (omega (arith, le, ge)) some in
+          let here : one_if (a == a) ≡ 1 = ap one_if (eq-eqb a a refl) in
+          absurd (omega (arith, again, here, counted (λ m. m == a) a ns, once a))
+    ]
+
+-- where a way back comes to a node of it again, this is the cycle, from whichever of its nodes it is read
 pub closed_back : (graph : Arrows) (at : ℕ) (trail circle turned : List ℕ) → IsChainBy (IsBack graph) at trail → IsTrue (is_in trail at) → ((n : ℕ) → how_often trail n ≤ 1)
     → ((n : ℕ) → IsTrue (is_in trail n) → IsMet graph n) → circle ≡ take (prefix_len (λ n. not (n == at)) trail + 1) trail → IsTurn circle turned → BeginsWithLeast turned
     → IsBackCircle graph turned
 closed_back graph at trail circle turned chain again once met cut (place, same) first = record {
   back = subst (IsRing (IsBack graph)) (sym same) (turned_at (IsBack graph) place circle (subst (IsRing (IsBack graph)) (sym cut) (closes (IsBack graph) trail at chain again)));
-  once = λ n.
-      let a : how_often turned n ≡ how_often circle n = ap (λ ns. how_often ns n) same ∙ turned_count (λ m. m == n) place circle in
-      let b : how_often (take (prefix_len (λ m. not (m == at)) trail + 1) trail) n ≤ how_often trail n = front_count (λ m. m == n) (prefix_len (λ m. not (m == at)) trail + 1) trail in
-      let c : how_often circle n ≡ how_often (take (prefix_len (λ m. not (m == at)) trail + 1) trail) n = ap (λ ns. how_often ns n) cut in
-      let d : how_often trail n ≤ 1 = once n in
-      omega arith;
-  first = first;
-  met = λ n there.
-      met n (in_front n (prefix_len (λ m. not (m == at)) trail + 1) trail
-      (subst (λ ns. IsTrue (is_in ns n)) cut (in_turned n place circle (subst (λ ns. IsTrue (is_in ns n)) same there))));
+  first = first_least turned each_once first;
+  met = λ k d lt. met_there (get_or turned k d) (at_is_in turned k d lt);
 }
+  where
+    each_once : (n : ℕ) → how_often turned n ≤ 1
+    each_once n =
+        let a : how_often turned n ≡ how_often circle n = ap (λ ns. how_often ns n) same ∙ turned_count (λ m. m == n) place circle in
+        let b : how_often (take (prefix_len (λ m. not (m == at)) trail + 1) trail) n ≤ how_often trail n = front_count (λ m. m == n) (prefix_len (λ m. not (m == at)) trail + 1) trail in
+        let c : how_often circle n ≡ how_often (take (prefix_len (λ m. not (m == at)) trail + 1) trail) n = ap (λ ns. how_often ns n) cut in
+        let d : how_often trail n ≤ 1 = once n in
+        omega arith
+
+    met_there : (n : ℕ) → IsTrue (is_in turned n) → IsMet graph n
+    met_there n there =
+        met n (in_front n (prefix_len (λ m. not (m == at)) trail + 1) trail
+        (subst (λ ns. IsTrue (is_in ns n)) cut (in_turned n place circle (subst (λ ns. IsTrue (is_in ns n)) same there))))
 
 -- what is there where it is marked, and else not, is there once at most
 pub few_of : (trail : List ℕ) (seen : List Bool) → ((n : ℕ) → how_often trail n ≡ one_if (is_marked seen n)) → (n : ℕ) → how_often trail n ≤ 1

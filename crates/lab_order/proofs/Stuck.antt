@@ -3,8 +3,10 @@ use Rattle.std.proofs.Common.{◌≡◌, ◌⊎◌, inl, inr, ℕ, zero, suc, �
 use Rattle.std.specs.Prelude.{◌==◌, IsTrue, nat_lt}
 use Rattle.std.specs.List.{All, Contains, list_any}
 use Rattle.std.proofs.lemmas.Bool.{eqb-true, eq-eqb, both_ways, ltb-true, lt-ltb, or_cases, or_left, or_right}
-use Rattle.lab_order.specs.Arrows.{Arrows, nodes_of, before, has_arrow, IsGraph}
-use Rattle.lab_order.specs.Back.{AreKnotted, IsStuck, IsLeastStuck, IsBack}
+use Rattle.lab_order.specs.Arrows.{Arrows, nodes_of, before, has_arrow, IsArrow, IsGraph}
+use Rattle.lab_order.specs.Back.{IsStuck, IsBack}
+use Rattle.lab_order.specs.Knots.{AreKnotted, IsLeastStuck}
+use Rattle.lab_order.specs.Least.{IsLess}
 use Rattle.lab_order.specs.Order.{position, IsOrder}
 use Rattle.lab_order.specs.Placing.{is_marked, IsFree}
 use Rattle.lab_order.specs.Steps.{is_in}
@@ -12,7 +14,7 @@ use Rattle.lab_order.proofs.Free.{arrow_from}
 use Rattle.lab_order.proofs.Positions.{IsPlacing}
 
 -- of nodes that are knotted none stands before all others
-descends : (graph : Arrows) (order : List ℕ) (nodes : ℕ → Bool) → AreKnotted graph nodes
+descends : (graph : Arrows) (order : List ℕ) (nodes : ℕ → Bool) → AreKnotted (IsArrow graph) nodes
     → ((from to : ℕ) → IsTrue (has_arrow graph from to) → IsTrue (nodes to) → position order from < position order to)
     → (bound n : ℕ) → position order n < bound → IsTrue (nodes n) → ⊥
 descends graph order nodes knotted forward zero n lt is = absurd (omega arith)
@@ -66,7 +68,7 @@ module _ (graph : Arrows) (placed : List Bool) (is_graph : IsGraph graph) (none 
   unmarked_of n false c m q = (m, q)
 
   -- where none is free, none of them can come first
-  knotted : AreKnotted graph unplaced
+  knotted : AreKnotted (IsArrow graph) unplaced
   knotted n is = at (some_unmarked placed (before graph n))
     where
       here : (is_marked placed n ≡ false) × (nat_lt n (nodes_of graph) ≡ true)
@@ -83,7 +85,7 @@ module _ (graph : Arrows) (placed : List Bool) (is_graph : IsGraph graph) (none 
 
   module _ (loose : (node : ℕ) → is_marked placed node ≡ true → IsStuck graph node → ⊥) where
     -- the least that isn't placed is the least that is stuck
-    pub least_stuck : (node : ℕ) → is_marked placed node ≡ false → node < nodes_of graph → ((k : ℕ) → k < node → is_marked placed k ≡ true) → IsLeastStuck graph node
+    pub least_stuck : (node : ℕ) → is_marked placed node ≡ false → node < nodes_of graph → ((k : ℕ) → k < node → is_marked placed k ≡ true) → IsLeastStuck IsLess (IsArrow graph) node
     least_stuck node unmarked lt least = record { stuck = unplaced_stuck node unmarked lt; least = λ k less. loose k (least k less) }
 
     -- and the least before a node that isn't placed comes back from it

@@ -1,6 +1,6 @@
 //! The laws of the answers: of each kind there is one.
 
-ghost use Rattle.std.specs.Prelude.{◌≡◌, ℕ, List};
+ghost use Rattle.std.specs.Prelude.{◌≡◌, ◌≤◌, ◌==◌, ℕ, List, count_by};
 ghost use Rattle.lab_order.specs.Arrows.{Arrows};
 ghost use Rattle.lab_order.specs.Back.{IsBackCircle};
 ghost use Rattle.lab_order.specs.Least.{NotAfter, IsLeast};
@@ -18,12 +18,17 @@ pub fn least_path_unique()
     ensures { (graph : Arrows) (from to : ℕ) (ns ms : List ℕ) → IsLeast (IsShortestPath graph from to) ns → IsLeast (IsShortestPath graph from to) ms → ns ≡ ms }
 {}
 
-/// A graph has one circle at most on the way back from its least stuck node.
+/// A graph has one cycle at most on the way back from its least stuck node.
 pub fn back_circle_unique()
     ensures { (graph : Arrows) (ns ms : List ℕ) → IsBackCircle graph ns → IsBackCircle graph ms → ns ≡ ms }
 {}
 
-/// A graph has one answer: never an order and a circle, and no two orders or circles.
+/// No node is twice on a cycle on the way back from the least stuck node.
+pub fn back_circle_once()
+    ensures { (graph : Arrows) (circle : List ℕ) → IsBackCircle graph circle → (node : ℕ) → count_by (λ n. n == node) circle ≤ 1 }
+{}
+
+/// A graph has one answer: never an order and a cycle, and no two orders or cycles.
 pub fn answered_unique()
     ensures { (graph : Arrows) (a b : Ordered) → IsAnswered graph a → IsAnswered graph b → AreSame a b }
 {}

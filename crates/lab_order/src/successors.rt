@@ -11,7 +11,7 @@ use crate::memory::NoMemory;
 use std::alloc::Global;
 
 /// For each node those to which it has an arrow: the transposition of the predecessors.
-/// NoMemory where a growth was refused.
+/// NoMemory where an allocation was refused.
 pub fn successors(alloc: Global, graph: &Graph) -> Result<Vec<Row>, NoMemory>
     ensures size { IfOk result (λ rows. length rows.items ≡ nodes_of graph.now) }
     ensures transposed { IfOk result (λ rows. IsTransposed graph.now rows.items) }
@@ -23,7 +23,7 @@ pub fn successors(alloc: Global, graph: &Graph) -> Result<Vec<Row>, NoMemory>
     Ok(rows)
 }
 
-/// Notes a node as successor of each of those before it. NoMemory where a growth was refused.
+/// Notes a node as successor of each of those before it. NoMemory where an allocation was refused.
 fn note_successor(rows: &mut [Row], nodes: &[u32], node: u32) -> Result<(), NoMemory>
     requires { All (λ n. n < length rows.old) nodes.now }
     ensures size { IfOk result (λ _. length rows.new ≡ length rows.old) }
@@ -35,7 +35,7 @@ fn note_successor(rows: &mut [Row], nodes: &[u32], node: u32) -> Result<(), NoMe
     Ok(())
 }
 
-/// For each node how many nodes are before it. NoMemory where a growth was refused.
+/// For each node how many nodes are before it. NoMemory where an allocation was refused.
 pub fn counts_before(alloc: Global, graph: &Graph) -> Result<Vec<usize>, NoMemory>
     ensures size { IfOk result (λ waits. length waits.items ≡ nodes_of graph.now) }
     ensures counts { IfOk result (λ waits. (node : ℕ) → waits_of waits.items node ≡ length (before graph.now node)) }
@@ -47,7 +47,7 @@ pub fn counts_before(alloc: Global, graph: &Graph) -> Result<Vec<usize>, NoMemor
     Ok(waits)
 }
 
-/// The nodes that wait for none. NoMemory where a growth was refused.
+/// The nodes that wait for none. NoMemory where an allocation was refused.
 pub fn waiting_for_none(alloc: Global, waits: &[usize]) -> Result<FreeNodes, NoMemory>
     requires { length waits.now < 2 ^ 32 }
     ensures { IfOk result (λ free. (node : ℕ) → how_often free node ≡ cond (nat_lt node (length waits.now) && waits_of waits.now node == 0) 1 0) }
@@ -62,7 +62,7 @@ pub fn waiting_for_none(alloc: Global, waits: &[usize]) -> Result<FreeNodes, NoM
 }
 
 /// Each of these nodes waits for one node fewer; those that then wait for none become free.
-/// NoMemory where a growth was refused; the counts are then of no use.
+/// NoMemory where an allocation was refused; the counts are then of no use.
 pub fn lower(waits: &mut [usize], nodes: &[u32], free: &mut FreeNodes) -> Result<(), NoMemory>
     requires { All (λ n. n < length waits.old) nodes.now }
     ensures size { IfOk result (λ _. length waits.new ≡ length waits.old) }
