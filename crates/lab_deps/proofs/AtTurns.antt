@@ -1,9 +1,8 @@
--- What is found where a row comes and goes is all that is found, where a statement doesn't look at values.
-use Rattle.std.proofs.Common.{◌≡◌, ◌≢◌, ◌⊎◌, ℕ, zero, suc, ◌+◌, ◌-◌, ◌==◌, Bool, true, false, cond, Option, Some, None, List, [], ◌∷◌, ◌++◌, refl, sym, ap, ◌∙◌, subst, arith, inl, inr}
-use Rattle.std.specs.Prelude.{ℤ, Contains, slice_get, is_some}
+-- What is found at the versions that change a statement's matches is all that is found.
+use Rattle.std.proofs.Common.{◌≡◌, ◌⊎◌, ℕ, zero, suc, ◌+◌, ◌-◌, ◌==◌, Bool, true, false, cond, Option, Some, None, List, [], ◌∷◌, ◌++◌, refl, sym, ap, ◌∙◌, subst, arith, inl, inr}
+use Rattle.std.specs.Prelude.{Contains, slice_get}
 use Rattle.std.specs.List.{flat_map}
-use Rattle.std.specs.FinMap as finite
-use Rattle.std.proofs.lemmas.Bool.{false≢true, eqb-true, ne_eqb}
+use Rattle.std.proofs.lemmas.Bool.{false≢true, eqb-true}
 use Rattle.std.proofs.lemmas.List.Elements.{Contains-append_left, Contains-append_right, Contains-append_cases}
 use Rattle.std.proofs.lemmas.Option.{none-some, same_Some}
 use Rattle.lab_table.specs.Row.{Row}
@@ -11,11 +10,10 @@ use Rattle.lab_table.specs.Table.{State}
 use Rattle.lab_table.specs.Statement.{matches}
 use Rattle.lab_table.specs.declared.statement.Statement.{Statement}
 use Rattle.lab_table.proofs.Members.{no_member}
-use Rattle.lab_history.specs.History.{History}
 use Rattle.lab_deps.specs.Edges.{differ}
 use Rattle.lab_deps.specs.Collected.{apart, apart_in, read_by, passed_by, item_edge, change_edge}
-use Rattle.lab_deps.specs.EdgesByRow.{HasMembersOf, edges_by, walk, walked}
-use Rattle.lab_deps.specs.Turns.{HasTurns, state_in, state_before, item_in, items_of, change_in, change_at, found_at}
+use Rattle.lab_deps.specs.EdgesByRow.{Chain, HasMembersOf, edges_by, along, walked, change_by, changes_along}
+use Rattle.lab_deps.specs.Turns.{state_in, state_before, item_in, items_of, change_in, change_at, found_at}
 use Rattle.lab_deps.specs.declared.edge.Edge.{Edge}
 use Rattle.lab_deps.specs.declared.edge.Kind.TheVariants.{ItemRead, ItemAnti}
 use Rattle.lab_deps.specs.declared.reading.Reading.{Reading}
@@ -25,14 +23,11 @@ use Rattle.lab_deps.proofs.Membership.{from_each, of_each}
 pub less_one : (q : ℕ) → suc q - 1 ≡ q
 less_one q = omega arith
 
-not_first : (q : ℕ) → (suc q == 0) ≡ false
-not_first q = ne_eqb (suc q) 0 (λ none. omega (arith, none))
-
-module _ (s : Statement) (r : Reading) where
+module _ (made : ℕ → ℕ → Bool → List Edge) (s : Statement) (row : Row) where
   abbrev fits : State → Bool
-  fits x = matches s r.row x
+  fits x = matches s row x
 
-  -- whether the version before the one at a place matches
+  -- whether the state before the version at a place matches
   abbrev told : Bool → List Version → ℕ → Bool
   told b vs zero = b
   told b vs (suc i) = fits (state_in (slice_get vs i))
@@ -41,21 +36,21 @@ module _ (s : Statement) (r : Reading) where
   told_next b v vs zero = refl
   told_next b v vs (suc i) = refl
 
-  -- an edge with the version at a place
+  -- an edge that is made of the version at a place
   pub record IsMet (b : Bool) (p : ℕ) (vs : List Version) (e : Edge) : Type 0 where
     pub at : ℕ
     pub version : Version
     pub there : slice_get vs at ≡ Some version
-    pub has : Contains (edges_by r (p + at) version.installer (differ (told b vs at) (fits version.value))) e
+    pub has : Contains (made (p + at) version.installer (differ (told b vs at) (fits version.value))) e
 
   abbrev here : Bool → ℕ → Version → List Edge
-  here b p v = edges_by r p v.installer (differ b (fits v.value))
+  here b p v = made p v.installer (differ b (fits v.value))
 
-  -- along a walk are the edges with each version
-  pub walk_met : (b : Bool) (p : ℕ) (vs : List Version) (e : Edge) → Contains (walk s r b p vs) e → IsMet b p vs e
+  -- along versions are the edges that are made of each
+  pub walk_met : (b : Bool) (p : ℕ) (vs : List Version) (e : Edge) → Contains (along made s row b p vs) e → IsMet b p vs e
   walk_met b p [] e h = absurd (no_member e h)
   walk_met b p (v ∷ vs) e h =
-      elim (Contains-append_cases (here b p v) (walk s r (fits v.value) (p + 1) vs) e h) [
+      elim (Contains-append_cases (here b p v) (along made s row (fits v.value) (p + 1) vs) e h) [
         | inl now ↦
             let at_once : p ≡ p + 0 = omega arith in
             record { at = 0; version = v; there = refl; has = subst (λ q. Contains (here b q v) e) at_once now }
@@ -66,31 +61,24 @@ module _ (s : Statement) (r : Reading) where
               at = suc m.at;
               version = m.version;
               there = m.there;
-              has = subst (λ q. Contains (edges_by r q m.version.installer (differ (told b (v ∷ vs) (suc m.at)) (fits m.version.value))) e) on
-                  (subst (λ t. Contains (edges_by r ((p + 1) + m.at) m.version.installer (differ t (fits m.version.value))) e) (sym (told_next b v vs m.at)) m.has);
+              has = subst (λ q. Contains (made q m.version.installer (differ (told b (v ∷ vs) (suc m.at)) (fits m.version.value))) e) on
+                  (subst (λ t. Contains (made ((p + 1) + m.at) m.version.installer (differ t (fits m.version.value))) e) (sym (told_next b v vs m.at)) m.has);
             }
       ]
 
   pub met_walk : (b : Bool) (p : ℕ) (vs : List Version) (e : Edge) (at : ℕ) (u : Version) → slice_get vs at ≡ Some u
-      → Contains (edges_by r (p + at) u.installer (differ (told b vs at) (fits u.value))) e → Contains (walk s r b p vs) e
+      → Contains (made (p + at) u.installer (differ (told b vs at) (fits u.value))) e → Contains (along made s row b p vs) e
   met_walk b p [] e at u there h = absurd (none-some u there)
   met_walk b p (v ∷ vs) e zero u there h =
       let at_once : p + 0 ≡ p = omega arith in
-      Contains-append_left (here b p v) (walk s r (fits v.value) (p + 1) vs) e
+      Contains-append_left (here b p v) (along made s row (fits v.value) (p + 1) vs) e
       (subst (λ q. Contains (here b q v) e) at_once (subst (λ w. Contains (here b (p + 0) w) e) (sym (same_Some v u there)) h))
   met_walk b p (v ∷ vs) e (suc at) u there h =
       let on : p + suc at ≡ (p + 1) + at = omega arith in
-      Contains-append_right (here b p v) (walk s r (fits v.value) (p + 1) vs) e
+      Contains-append_right (here b p v) (along made s row (fits v.value) (p + 1) vs) e
       (met_walk (fits v.value) (p + 1) vs e at u there
-      (subst (λ q. Contains (edges_by r q u.installer (differ (told (fits v.value) vs at) (fits u.value))) e) on
-      (subst (λ t. Contains (edges_by r (p + suc at) u.installer (differ t (fits u.value))) e) (told_next b v vs at) h)))
-
--- both absent or both present
-same_fit : (s : Statement) (row : Row) → ((row : Row) (x y : ℤ) → matches s row (Some x) ≡ matches s row (Some y)) → (a b : State) → is_some a ≡ is_some b → matches s row a ≡ matches s row b
-same_fit s row alike None None same = refl
-same_fit s row alike None (Some y) same = absurd (false≢true same)
-same_fit s row alike (Some x) None same = absurd (false≢true (sym same))
-same_fit s row alike (Some x) (Some y) same = alike row x y
+      (subst (λ q. Contains (made q u.installer (differ (told (fits v.value) vs at) (fits u.value))) e) on
+      (subst (λ t. Contains (made (p + suc at) u.installer (differ t (fits u.value))) e) (told_next b v vs at) h)))
 
 pub no_difference : (a b : Bool) → a ≡ b → differ a b ≡ false
 no_difference true true same = refl
@@ -114,122 +102,140 @@ item_places r p n e h =
       | false ↦ λ _ none. absurd (no_member e none)
     ] refl h
 
-module _ (h : History) (s : Statement) (r : Reading) (vs : List Version) where
+module _ (s : Statement) (r : Reading) (c : Chain) where
+  abbrev vs : List Version
+  vs = c.items
+
   abbrev start : Bool
-  start = matches s r.row (finite.get h.initial r.row)
+  start = matches s r.row c.before
 
   abbrev edges : List Edge
-  edges = walked h s r vs
+  edges = walked s r c
 
-  pub told_is : (p : ℕ) → told s r start vs p ≡ matches s r.row (state_before h r.row vs p)
-  told_is zero = refl
-  told_is (suc p) =
-      ap (λ q. matches s r.row (state_in (slice_get vs q))) (sym (less_one p))
-      ∙ ap (λ b. matches s r.row (cond b (finite.get h.initial r.row) (state_in (slice_get vs (suc p - 1))))) (sym (not_first p))
-
-  -- a version's edges
+  -- whether the version at a place changes the matches
   abbrev changed : ℕ → Version → Bool
-  changed p v = differ (matches s r.row (state_before h r.row vs p)) (matches s r.row v.value)
+  changed p v = differ (matches s r.row (state_before c p)) (matches s r.row v.value)
+
+  module _ (made : ℕ → ℕ → Bool → List Edge) where
+    told_is : (p : ℕ) → told made s r.row start vs p ≡ matches s r.row (state_before c p)
+    told_is zero = refl
+    told_is (suc p) = refl
+
+    into_along : (p : ℕ) (v : Version) (e : Edge) → slice_get vs p ≡ Some v → Contains (made p v.installer (changed p v)) e → Contains (along made s r.row start 0 vs) e
+    into_along p v e there has =
+        let none_on : p ≡ 0 + p = omega arith in
+        met_walk made s r.row start 0 vs e p v there
+        (subst (λ q. Contains (made q v.installer (differ (told made s r.row start vs p) (matches s r.row v.value))) e) none_on
+        (subst (λ t. Contains (made p v.installer (differ t (matches s r.row v.value))) e) (sym (told_is p)) has))
+
+    -- what is made along the versions is made of the one at some place
+    record IsMadeAt (e : Edge) : Type 0 where
+      at : ℕ
+      version : Version
+      there : slice_get vs at ≡ Some version
+      has : Contains (made at version.installer (changed at version)) e
+
+    made_along : (e : Edge) → Contains (along made s r.row start 0 vs) e → IsMadeAt e
+    made_along e walks =
+        let m = walk_met made s r.row start 0 vs e walks in
+        let on : 0 + m.at ≡ m.at = omega arith in
+        record {
+          at = m.at;
+          version = m.version;
+          there = m.there;
+          has = subst (λ t. Contains (made m.at m.version.installer (differ t (matches s r.row m.version.value))) e) (told_is m.at)
+              (subst (λ q. Contains (made q m.version.installer (differ (told made s r.row start vs m.at) (matches s r.row m.version.value))) e) on m.has);
+        }
 
   into : (p : ℕ) (v : Version) (e : Edge) → slice_get vs p ≡ Some v → Contains (edges_by r p v.installer (changed p v)) e → Contains edges e
-  into p v e there has =
-      let none_on : p ≡ 0 + p = omega arith in
-      met_walk s r start 0 vs e p v there
-      (subst (λ q. Contains (edges_by r q v.installer (differ (told s r start vs p) (matches s r.row v.value))) e) none_on
-      (subst (λ t. Contains (edges_by r p v.installer (differ t (matches s r.row v.value))) e) (sym (told_is p)) has))
+  into = into_along (edges_by r)
 
-  pub item_into : (p : ℕ) (o : Option Version) → slice_get vs p ≡ o → (e : Edge) → Contains (item_in r p o) e → Contains edges e
+  item_into : (p : ℕ) (o : Option Version) → slice_get vs p ≡ o → (e : Edge) → Contains (item_in r p o) e → Contains edges e
   item_into p None there e has = absurd (no_member e has)
   item_into p (Some v) there e has = into p v e there (Contains-append_left (apart_in (item_edge r p v.installer)) (cond (changed p v) (apart (change_edge r p v.installer)) []) e has)
 
-  pub change_into : (p : ℕ) (o : Option Version) → slice_get vs p ≡ o → (e : Edge) → Contains (change_in s r (matches s r.row (state_before h r.row vs p)) p o) e → Contains edges e
+  change_into : (p : ℕ) (o : Option Version) → slice_get vs p ≡ o → (e : Edge) → Contains (change_in s r (matches s r.row (state_before c p)) p o) e → Contains edges e
   change_into p None there e has = absurd (no_member e has)
   change_into p (Some v) there e has = into p v e there (Contains-append_right (apart_in (item_edge r p v.installer)) (cond (changed p v) (apart (change_edge r p v.installer)) []) e has)
 
+  abbrev items : List Edge
+  items = items_of r vs
+
+  items_walked : (e : Edge) → Contains items e → Contains edges e
+  items_walked e item =
+      elim (Contains-append_cases (item_in r (r.place - 1) (slice_get vs (r.place - 1))) (item_in r r.place (slice_get vs r.place)) e item) [
+        | inl seen ↦ item_into (r.place - 1) (slice_get vs (r.place - 1)) refl e seen
+        | inr next ↦ item_into r.place (slice_get vs r.place) refl e next
+      ]
+
+  item_found : (p : ℕ) (v : Version) (e : Edge) → slice_get vs p ≡ Some v → Contains (apart_in (item_edge r p v.installer)) e → Contains items e
+  item_found p v e there has =
+      elim (item_places r p v.installer e has) [
+        | inl seen ↦ Contains-append_left (item_in r (r.place - 1) (slice_get vs (r.place - 1))) (item_in r r.place (slice_get vs r.place)) e
+            (subst (λ q. Contains (item_in r q (slice_get vs q)) e) seen (subst (λ o. Contains (item_in r p o) e) (sym there) has))
+        | inr next ↦ Contains-append_right (item_in r (r.place - 1) (slice_get vs (r.place - 1))) (item_in r r.place (slice_get vs r.place)) e
+            (subst (λ q. Contains (item_in r q (slice_get vs q)) e) next (subst (λ o. Contains (item_in r p o) e) (sym there) has))
+      ]
+
+  -- what is found by the listing and along the versions by their changes is found by the walk
+  abbrev changes_met : List Edge
+  changes_met = changes_along s r start 0 vs
+
+  apart_walked : (e : Edge) → Contains (items ++ changes_met) e → Contains edges e
+  apart_walked e has =
+      elim (Contains-append_cases items changes_met e has) [
+        | inl item ↦ items_walked e item
+        | inr change ↦
+            let m = made_along (change_by r) e change in
+            into m.at m.version e m.there (Contains-append_right (apart_in (item_edge r m.at m.version.installer)) (change_by r m.at m.version.installer (changed m.at m.version)) e m.has)
+      ]
+
+  walked_apart : (e : Edge) → Contains edges e → Contains (items ++ changes_met) e
+  walked_apart e walks =
+      let m = made_along (edges_by r) e walks in
+      elim (Contains-append_cases (apart_in (item_edge r m.at m.version.installer)) (change_by r m.at m.version.installer (changed m.at m.version)) e m.has) [
+        | inl item ↦ Contains-append_left items changes_met e (item_found m.at m.version e m.there item)
+        | inr change ↦ Contains-append_right items changes_met e (into_along (change_by r) m.at m.version e m.there change)
+      ]
+
+  pub walked_by_changes : HasMembersOf (items ++ changes_met) (walked s r c)
+  walked_by_changes e = (apart_walked e, walked_apart e)
+
   module _ (turns : List ℕ) where
-    abbrev items : List Edge
-    items = items_of r vs
+    abbrev changes : List Edge
+    changes = flat_map (change_at s r c) turns
 
-    abbrev first : List Edge
-    first = change_at h s r vs 0
-
-    abbrev others : List Edge
-    others = flat_map (change_at h s r vs) turns
-
-    found_walked : (e : Edge) → Contains (found_at h s r vs turns) e → Contains edges e
+    found_walked : (e : Edge) → Contains (found_at s r c turns) e → Contains edges e
     found_walked e has =
-        elim (Contains-append_cases items (first ++ others) e has) [
-          | inl item ↦ elim (Contains-append_cases (item_in r (r.place - 1) (slice_get vs (r.place - 1))) (item_in r r.place (slice_get vs r.place)) e item) [
-            | inl seen ↦ item_into (r.place - 1) (slice_get vs (r.place - 1)) refl e seen
-            | inr next ↦ item_into r.place (slice_get vs r.place) refl e next
-          ]
-          | inr change ↦ elim (Contains-append_cases first others e change) [
-            | inl at_first ↦ change_into 0 (slice_get vs 0) refl e at_first
-            | inr later ↦
-                let one = from_each (change_at h s r vs) turns e later in
-                change_into one.source (slice_get vs one.source) refl e one.is_made
-          ]
+        elim (Contains-append_cases items changes e has) [
+          | inl item ↦ items_walked e item
+          | inr change ↦
+              let one = from_each (change_at s r c) turns e change in
+              change_into one.source (slice_get vs one.source) refl e one.is_made
         ]
 
-    pub item_found : (p : ℕ) (v : Version) (e : Edge) → slice_get vs p ≡ Some v → Contains (apart_in (item_edge r p v.installer)) e → Contains items e
-    item_found p v e there has =
-        elim (item_places r p v.installer e has) [
-          | inl seen ↦ Contains-append_left (item_in r (r.place - 1) (slice_get vs (r.place - 1))) (item_in r r.place (slice_get vs r.place)) e
-              (subst (λ q. Contains (item_in r q (slice_get vs q)) e) seen (subst (λ o. Contains (item_in r p o) e) (sym there) has))
-          | inr next ↦ Contains-append_right (item_in r (r.place - 1) (slice_get vs (r.place - 1))) (item_in r r.place (slice_get vs r.place)) e
-              (subst (λ q. Contains (item_in r q (slice_get vs q)) e) next (subst (λ o. Contains (item_in r p o) e) (sym there) has))
-        ]
-
-    -- a version that isn't the first leaves the matches as they are, or stands at one of the places
+    -- a version leaves the matches as they are, or stands at one of the places
     abbrev pub AreEnough : Type 0
-    AreEnough = (p : ℕ) (v : Version) → slice_get vs (suc p) ≡ Some v → Contains turns (suc p) ⊎ (matches s r.row (state_in (slice_get vs p)) ≡ matches s r.row v.value)
-
-    turning : HasTurns turns vs → ((row : Row) (x y : ℤ) → matches s row (Some x) ≡ matches s row (Some y)) → AreEnough
-    turning has alike p v there = with_before (slice_get vs p) refl
-      where
-        out_of : (us : List Version) (q : ℕ) (w : Version) → slice_get us (suc q) ≡ Some w → slice_get us q ≡ None → ⊥
-        out_of [] q w some none = none-some w some
-        out_of (u ∷ us) zero w some none = none-some u (sym none)
-        out_of (u ∷ us) (suc q) w some none = out_of us q w some none
-
-        with_before : (o : Option Version) → slice_get vs p ≡ o → Contains turns (suc p) ⊎ (matches s r.row (state_in o) ≡ matches s r.row v.value)
-        with_before None before = absurd (out_of vs p v there before)
-        with_before (Some u) before =
-            elim (has p u v before there) [
-              | inl turn ↦ inl turn
-              | inr same ↦ inr (same_fit s r.row alike u.value v.value same)
-            ]
-
-    pub at_place : (p : ℕ) (v : Version) (e : Edge) → slice_get vs p ≡ Some v → Contains (cond (changed p v) (apart (change_edge r p v.installer)) []) e → Contains (change_at h s r vs p) e
-    at_place p v e there has = subst (λ o. Contains (change_in s r (matches s r.row (state_before h r.row vs p)) p o) e) (sym there) has
+    AreEnough = (p : ℕ) (v : Version) → slice_get vs p ≡ Some v → Contains turns p ⊎ (matches s r.row (state_before c p) ≡ matches s r.row v.value)
 
     change_found : AreEnough → (p : ℕ) (v : Version) (e : Edge) → slice_get vs p ≡ Some v
-        → Contains (cond (changed p v) (apart (change_edge r p v.installer)) []) e → Contains (first ++ others) e
-    change_found enough zero v e there made = Contains-append_left first others e (at_place 0 v e there made)
-    change_found enough (suc p) v e there made =
+        → Contains (cond (changed p v) (apart (change_edge r p v.installer)) []) e → Contains changes e
+    change_found enough p v e there made =
         elim (enough p v there) [
-          | inl turn ↦ Contains-append_right first others e (of_each (change_at h s r vs) turns (suc p) e turn (at_place (suc p) v e there made))
+          | inl turn ↦ of_each (change_at s r c) turns p e turn (subst (λ o. Contains (change_in s r (matches s r.row (state_before c p)) p o) e) (sym there) made)
           | inr same ↦
-              let kept : changed (suc p) v ≡ false =
-              no_difference (matches s r.row (state_before h r.row vs (suc p))) (matches s r.row v.value) (sym (told_is (suc p)) ∙ same) in
-              absurd (no_member e (subst (λ b. Contains (cond b (apart (change_edge r (suc p) v.installer)) []) e) kept made))
+              let kept : changed p v ≡ false = no_difference (matches s r.row (state_before c p)) (matches s r.row v.value) same in
+              absurd (no_member e (subst (λ b. Contains (cond b (apart (change_edge r p v.installer)) []) e) kept made))
         ]
 
-    walked_found : AreEnough → (e : Edge) → Contains edges e → Contains (found_at h s r vs turns) e
+    walked_found : AreEnough → (e : Edge) → Contains edges e → Contains (found_at s r c turns) e
     walked_found enough e walks =
-        let m = walk_met s r start 0 vs e walks in
-        let on : 0 + m.at ≡ m.at = omega arith in
-        let made : Contains (edges_by r m.at m.version.installer (changed m.at m.version)) e =
-        subst (λ t. Contains (edges_by r m.at m.version.installer (differ t (matches s r.row m.version.value))) e) (told_is m.at)
-        (subst (λ q. Contains (edges_by r q m.version.installer (differ (told s r start vs m.at) (matches s r.row m.version.value))) e) on m.has) in
-        elim (Contains-append_cases (apart_in (item_edge r m.at m.version.installer)) (cond (changed m.at m.version) (apart (change_edge r m.at m.version.installer)) []) e made) [
-          | inl item ↦ Contains-append_left items (first ++ others) e (item_found m.at m.version e m.there item)
-          | inr change ↦ Contains-append_right items (first ++ others) e (change_found enough m.at m.version e m.there change)
+        let m = made_along (edges_by r) e walks in
+        elim (Contains-append_cases (apart_in (item_edge r m.at m.version.installer)) (cond (changed m.at m.version) (apart (change_edge r m.at m.version.installer)) []) e m.has) [
+          | inl item ↦ Contains-append_left items changes e (item_found m.at m.version e m.there item)
+          | inr change ↦ Contains-append_right items changes e (change_found enough m.at m.version e m.there change)
         ]
 
     -- the edges at enough places are those of the whole walk
-    pub places_enough : AreEnough → HasMembersOf (found_at h s r vs turns) (walked h s r vs)
+    pub places_enough : AreEnough → HasMembersOf (found_at s r c turns) (walked s r c)
     places_enough enough e = (found_walked e, walked_found enough e)
-
-    pub turns_enough : HasTurns turns vs → ((row : Row) (x y : ℤ) → matches s row (Some x) ≡ matches s row (Some y)) → HasMembersOf (found_at h s r vs turns) (walked h s r vs)
-    turns_enough has alike = places_enough (turning has alike)

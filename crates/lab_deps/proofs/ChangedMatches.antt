@@ -1,17 +1,15 @@
 -- What a reader has to do with the versions where a row turns.
-use Rattle.std.proofs.Common.{◌≡◌, ◌≢◌, ◌⊎◌, ◌≤◌, ◌<◌, ◌-◌, ◌==◌, ℕ, suc, Bool, true, false, cond, Some, List, [], length, refl, sym, ap, ◌∙◌, subst, arith, inl, inr}
-use Rattle.std.specs.Prelude.{nat_lt, slice_get, Contains}
+use Rattle.std.proofs.Common.{◌≡◌, ◌≢◌, ◌⊎◌, ◌≤◌, ◌<◌, ◌-◌, ℕ, Bool, true, cond, Some, [], length, sym, ap, ◌∙◌, subst, inl, inr}
+use Rattle.std.specs.Prelude.{slice_get, Contains}
 use Rattle.std.specs.List.{flat_map}
-use Rattle.std.specs.FinMap as finite
-use Rattle.std.proofs.lemmas.Bool.{cases_lt, lt-ltb, le-ltb, ne_eqb}
+use Rattle.std.proofs.lemmas.Bool.{cases_lt, lt-ltb, le-ltb}
 use Rattle.std.proofs.lemmas.Option.{same_Some, slice_get_within}
 use Rattle.lab_table.specs.Statement.{matches}
 use Rattle.lab_table.specs.declared.statement.Statement.{Statement}
 use Rattle.lab_table.proofs.Members.{member_at, place_of_member}
-use Rattle.lab_history.specs.History.{History}
 use Rattle.lab_deps.specs.Collected.{apart, change_edge, read_by, passed_by}
 use Rattle.lab_deps.specs.Edges.{differ}
-use Rattle.lab_deps.specs.EdgesByRow.{HasMembersOf, walked}
+use Rattle.lab_deps.specs.EdgesByRow.{Chain, HasMembersOf, walked}
 use Rattle.lab_deps.specs.Turnings.{StandsAt, IsTurning, class_by}
 use Rattle.lab_deps.specs.Turns.{state_in, state_before, change_in, change_at, found_at}
 use Rattle.lab_deps.specs.declared.edge.Edge.{Edge}
@@ -23,42 +21,38 @@ use Rattle.lab_deps.proofs.AtTurns.{AreEnough, places_enough}
 use Rattle.lab_deps.proofs.Membership.{from_each, of_each}
 use Rattle.lab_deps.proofs.Neighbours.{in_apart, is_apart}
 
-module _ (h : History) (s : Statement) (r : Reading) (vs : List Version) (t : Turning) (turning : IsTurning (class_by s r.row vs) vs t) where
+module _ (s : Statement) (r : Reading) (c : Chain) (t : Turning) (turning : IsTurning (class_by s r.row c) c.items t) where
   -- at a place of the turning there is one edge, if it is between different transactions
-  change_is : (i : ℕ) (st : StandsAt (class_by s r.row vs) vs t i) → change_at h s r vs st.place ≡ apart (change_edge r st.place st.version.installer)
+  change_is : (i : ℕ) (st : StandsAt (class_by s r.row c) c.items t i) → change_at s r c st.place ≡ apart (change_edge r st.place st.version.installer)
   change_is i st =
-      let was : state_before h r.row vs st.place ≡ state_in (slice_get vs (st.place - 1)) =
-      ap (λ b. cond b (finite.get h.initial r.row) (state_in (slice_get vs (st.place - 1)))) (ne_eqb st.place 0 st.later) in
-      let turns : differ (matches s r.row (state_in (slice_get vs (st.place - 1)))) (matches s r.row st.version.value) ≡ true =
-      ap (λ o. differ (matches s r.row (state_in (slice_get vs (st.place - 1)))) (matches s r.row (state_in o))) (sym st.is_version) ∙ st.turns in
-      ap (λ x. change_in s r (matches s r.row x) st.place (slice_get vs st.place)) was
-      ∙ (ap (change_in s r (matches s r.row (state_in (slice_get vs (st.place - 1)))) st.place) st.is_version
-      ∙ ap (λ b. cond b (apart (change_edge r st.place st.version.installer)) []) turns)
+      let was : Bool = matches s r.row (state_before c st.place) in
+      let turns : differ was (matches s r.row st.version.value) ≡ true = ap (λ o. differ was (matches s r.row (state_in o))) (sym st.is_version) ∙ st.turns in
+      ap (change_in s r was st.place) st.is_version ∙ ap (λ b. cond b (apart (change_edge r st.place st.version.installer)) []) turns
 
-  pub is_turned_edge : (i : ℕ) → i < length t.places.items → (st : StandsAt (class_by s r.row vs) vs t i) (e : Edge) → change_edge r st.place st.version.installer ≡ e → e.from ≢ e.to
-      → Contains (flat_map (change_at h s r vs) t.places.items) e
+  pub is_turned_edge : (i : ℕ) → i < length t.places.items → (st : StandsAt (class_by s r.row c) c.items t i) (e : Edge) → change_edge r st.place st.version.installer ≡ e → e.from ≢ e.to
+      → Contains (flat_map (change_at s r c) t.places.items) e
   is_turned_edge i inside st e is differs =
-      of_each (change_at h s r vs) t.places.items st.place e (member_at t.places.items i st.place st.is_place)
+      of_each (change_at s r c) t.places.items st.place e (member_at t.places.items i st.place st.is_place)
       (subst (λ es. Contains es e) (sym (change_is i st)) (subst (λ k. Contains (apart k) e) (sym is) (is_apart e differs)))
 
   -- an edge by an installer before the version that is seen, or by another one
   abbrev pub IsByEarlier : Edge → Type 0
-  IsByEarlier e = (i : ℕ) × (v : Version) × (p : ℕ) × (i < length t.places.items) × (p < r.place) × (slice_get t.places.items i ≡ Some p) × (slice_get vs p ≡ Some v) × (slice_get t.ahead i ≡ Some v.place)
+  IsByEarlier e = (i : ℕ) × (v : Version) × (p : ℕ) × (i < length t.places.items) × (p < r.place) × (slice_get t.places.items i ≡ Some p) × (slice_get c.items p ≡ Some v) × (slice_get t.ahead i ≡ Some v.place)
       × (slice_get t.behind (length t.places.items - 1 - i) ≡ Some v.place) × (read_by PredicateRead r v.installer ≡ e)
 
   abbrev pub IsByLater : Edge → Type 0
-  IsByLater e = (i : ℕ) × (v : Version) × (p : ℕ) × (i < length t.places.items) × (r.place ≤ p) × (slice_get t.places.items i ≡ Some p) × (slice_get vs p ≡ Some v) × (slice_get t.ahead i ≡ Some v.place)
+  IsByLater e = (i : ℕ) × (v : Version) × (p : ℕ) × (i < length t.places.items) × (r.place ≤ p) × (slice_get t.places.items i ≡ Some p) × (slice_get c.items p ≡ Some v) × (slice_get t.ahead i ≡ Some v.place)
       × (slice_get t.behind (length t.places.items - 1 - i) ≡ Some v.place) × (passed_by PredicateAnti r v.installer ≡ e)
 
-  pub edge_is_turned : (e : Edge) → Contains (flat_map (change_at h s r vs) t.places.items) e → IsByEarlier e ⊎ IsByLater e
+  pub edge_is_turned : (e : Edge) → Contains (flat_map (change_at s r c) t.places.items) e → IsByEarlier e ⊎ IsByLater e
   edge_is_turned e found =
-      let one = from_each (change_at h s r vs) t.places.items e found in
+      let one = from_each (change_at s r c) t.places.items e found in
       let at = place_of_member t.places.items one.source one.is_source in
       let inside = slice_get_within t.places.items at.0 one.source at.1 in
       let st = turning.stand at.0 inside in
       let same : one.source ≡ st.place = same_Some _ _ (sym at.1 ∙ st.is_place) in
       let made : Contains (apart (change_edge r st.place st.version.installer)) e =
-      subst (λ es. Contains es e) (change_is at.0 st) (subst (λ p. Contains (change_at h s r vs p) e) same one.is_made) in
+      subst (λ es. Contains es e) (change_is at.0 st) (subst (λ p. Contains (change_at s r c p) e) same one.is_made) in
       let is : change_edge r st.place st.version.installer ≡ e = (in_apart (change_edge r st.place st.version.installer) e made).0 in
       elim (cases_lt st.place r.place) [
         | inl before ↦ inl (
@@ -88,13 +82,13 @@ module _ (h : History) (s : Statement) (r : Reading) (vs : List Version) (t : Tu
       ]
 
   -- the places of a turning are enough
-  enough : AreEnough h s r vs t.places.items
+  enough : AreEnough s r c t.places.items
   enough p v there =
-      let within = slice_get_within vs (suc p) v there in
+      let within = slice_get_within c.items p v there in
       elim (turning.all p within) [
         | inl turn ↦ inl turn
         | inr same ↦ inr (same ∙ ap (λ o. matches s r.row (state_in o)) there)
       ]
 
-  pub turning_enough : HasMembersOf (found_at h s r vs t.places.items) (walked h s r vs)
-  turning_enough = places_enough h s r vs t.places.items enough
+  pub turning_enough : HasMembersOf (found_at s r c t.places.items) (walked s r c)
+  turning_enough = places_enough s r c t.places.items enough

@@ -1,6 +1,6 @@
 -- Versions turn by what a statement answers where they turn by what it answers for their values.
-use Rattle.std.proofs.Common.{◌≡◌, ◌⊎◌, ◌≤◌, ◌<◌, ◌-◌, ℕ, zero, suc, Bool, true, false, Option, Some, None, List, [], ◌∷◌, ◌++◌, length, map, get_or, refl, sym, ap, ◌∙◌, subst, arith, inl, inr}
-use Rattle.std.specs.Prelude.{slice_get, Contains}
+use Rattle.std.proofs.Common.{◌≡◌, ◌≤◌, ◌<◌, ℕ, zero, suc, Bool, true, false, Option, Some, None, List, [], ◌∷◌, ◌++◌, length, map, get_or, refl, sym, ap, ◌∙◌, subst, arith, inl, inr}
+use Rattle.std.specs.Prelude.{ℤ, slice_get, is_some}
 use Rattle.std.proofs.lemmas.Bool.{false≢true}
 use Rattle.std.proofs.lemmas.List.{get_or-map}
 use Rattle.std.proofs.lemmas.Option.{none-some, slice_get_within, slice_get-map, slice_get-get_or, get_or_from_slice_get}
@@ -10,13 +10,14 @@ use Rattle.lab_table.specs.Statement.{matches}
 use Rattle.lab_table.specs.Table.{State}
 use Rattle.lab_table.specs.declared.statement.Statement.{Statement}
 use Rattle.lab_deps.specs.Edges.{differ}
-use Rattle.lab_deps.specs.EdgesByRow.{AreValuesOf}
-use Rattle.lab_deps.specs.KeptTurnings.{classes_of, AreTurnings}
+use Rattle.lab_deps.specs.EdgesByRow.{Chain, AreValuesOf}
+use Rattle.lab_deps.specs.KeptTurnings.{classes_of, presences, AreTurnings}
 use Rattle.lab_deps.specs.Turnings.{StandsAt, IsTurning, class_in, class_by}
 use Rattle.lab_deps.specs.Turns.{state_in}
 use Rattle.lab_deps.specs.declared.turning.Turning.{Turning}
 use Rattle.lab_deps.specs.declared.turnings.KeptTurning.{KeptTurning}
 use Rattle.lab_deps.specs.declared.versions.Version.{Version}
+use Rattle.lab_deps.proofs.AtTurns.{no_difference}
 use Rattle.lab_deps.proofs.Fronts.{at_end}
 
 pub differ_alike : (a x y : Bool) → differ (differ a x) (differ a y) ≡ differ x y
@@ -46,7 +47,7 @@ some_weaker None P Q f h = h
 some_weaker (Some x) P Q f h = f x h
 
 -- classes that differ in the same places make the same turning
-module _ (c d : ℕ → Bool) (a : Bool) (vs : List Version) (t : Turning) (alike : (p : ℕ) → p < length vs → c p ≡ differ a (d p)) where
+module _ (c d : ℕ → Bool) (a : Bool) (vs : List Version) (t : Turning) (alike : (p : ℕ) → p ≤ length vs → c p ≡ differ a (d p)) where
   pub turning_alike : IsTurning c vs t → IsTurning d vs t
   turning_alike turning = record {
     rising = turning.rising;
@@ -55,14 +56,13 @@ module _ (c d : ℕ → Bool) (a : Bool) (vs : List Version) (t : Turning) (alik
     stand = λ i below. stands i (turning.stand i below);
     all = λ p below. elim (turning.all p below) [
       | inl turn ↦ inl turn
-      | inr same ↦ inr (same_differ a (d p) (d (suc p)) (sym (alike p (omega (arith, below))) ∙ (same ∙ alike (suc p) below)))
+      | inr same ↦ inr (same_differ a (d p) (d (suc p)) (sym (alike p (omega (arith, below))) ∙ (same ∙ alike (suc p) (omega (arith, below)))))
     ];
   }
     where
       stands : (i : ℕ) → StandsAt c vs t i → StandsAt d vs t i
       stands i st =
           let within = slice_get_within vs st.place st.version st.is_version in
-          let before : st.place - 1 < length vs = omega (arith, within) in
           record {
             place = st.place;
             version = st.version;
@@ -70,30 +70,51 @@ module _ (c d : ℕ → Bool) (a : Bool) (vs : List Version) (t : Turning) (alik
             is_version = st.is_version;
             is_ahead = st.is_ahead;
             is_behind = st.is_behind;
-            later = st.later;
-            turns = sym (differ_alike a (d (st.place - 1)) (d st.place)) ∙ (ap (λ b. differ b (differ a (d st.place))) (sym (alike (st.place - 1) before))
-                ∙ (ap (λ b. differ (c (st.place - 1)) b) (sym (alike st.place within)) ∙ st.turns));
+            turns = sym (differ_alike a (d st.place) (d (suc st.place))) ∙ (ap (λ b. differ b (differ a (d (suc st.place)))) (sym (alike st.place (omega (arith, within))))
+                ∙ (ap (λ b. differ (c st.place) b) (sym (alike (suc st.place) (omega (arith, within)))) ∙ st.turns));
           }
 
-module _ (s : Statement) (row : Row) (vs : List Version) (values : List State) (numbers : List ℕ) (fit : AreValuesOf values numbers vs) (size : length numbers ≡ length vs) (a : Bool) (answers : List Bool)
-    (asked : answers ≡ map (λ x. differ a (matches s row x)) values) where
-  class_alike : (p : ℕ) → p < length vs → class_in (classes_of answers numbers) p ≡ differ a (class_by s row vs p)
-  class_alike p below = from_version (slice_get vs p) refl
+-- by what a statement answers for the values
+module _ (s : Statement) (row : Row) (c : Chain) (values : List State) (numbers : List ℕ) (fit : AreValuesOf values numbers c.items) (size : length numbers ≡ length c.items) (answers : List Bool)
+    (asked : answers ≡ map (λ x. differ (matches s row c.before) (matches s row x)) values) where
+  class_alike : (p : ℕ) → p ≤ length c.items → class_in (classes_of answers numbers) p ≡ differ (matches s row c.before) (class_by s row c p)
+  class_alike zero below = sym (no_difference (matches s row c.before) (matches s row c.before) refl)
+  class_alike (suc p) below = from_version (slice_get c.items p) refl
     where
       within : p < length numbers
-      within = subst (λ n. p < n) (sym size) below
+      within = subst (λ n. p < n) (sym size) (omega (arith, below))
 
-      from_version : (o : Option Version) → slice_get vs p ≡ o → class_in (classes_of answers numbers) p ≡ differ a (matches s row (state_in o))
-      from_version None none = absurd (there_is vs p below none)
+      from_version : (o : Option Version) → slice_get c.items p ≡ o → get_or (classes_of answers numbers) p false ≡ differ (matches s row c.before) (matches s row (state_in o))
+      from_version None none = absurd (there_is c.items p (omega (arith, below)) none)
       from_version (Some v) there =
           let g = get_or numbers p 0 in
           let value : slice_get values g ≡ Some v.value = fit p g v (slice_get-get_or numbers p 0 within) there in
-          let answer : slice_get answers g ≡ Some (differ a (matches s row v.value)) =
-          ap (λ bs. slice_get bs g) asked ∙ (slice_get-map (λ x. differ a (matches s row x)) values g ∙ ap (option_map (λ x. differ a (matches s row x))) value) in
+          let answer : slice_get answers g ≡ Some (differ (matches s row c.before) (matches s row v.value)) =
+          ap (λ bs. slice_get bs g) asked ∙ (slice_get-map (λ x. differ (matches s row c.before) (matches s row x)) values g ∙ ap (option_map (λ x. differ (matches s row c.before) (matches s row x))) value) in
           get_or-map (λ n. get_or answers n false) numbers p 0 false within ∙ get_or_from_slice_get answers g _ false answer
 
-  pub turning_by_values : (t : Turning) → IsTurning (class_in (classes_of answers numbers)) vs t → IsTurning (class_by s row vs) vs t
-  turning_by_values t = turning_alike (class_in (classes_of answers numbers)) (class_by s row vs) a vs t class_alike
+  pub turning_by_values : (t : Turning) → IsTurning (class_in (classes_of answers numbers)) c.items t → IsTurning (class_by s row c) c.items t
+  turning_by_values t turning =
+      turning_alike (class_in (classes_of answers numbers)) (class_by s row c) (matches s row c.before) c.items t class_alike turning
+
+-- by whether the row is there, where a statement matches it wherever it is
+module _ (s : Statement) (row : Row) (alike : (other : Row) (x y : ℤ) → matches s other (Some x) ≡ matches s other (Some y)) (x : ℤ) (hit : matches s row (Some x) ≡ true) where
+  there : (state : State) → matches s row state ≡ is_some state
+  there None = refl
+  there (Some y) = alike row y x ∙ hit
+
+  presence_alike : (c : Chain) (p : ℕ) → p ≤ length c.items → class_in (presences c.before c.items) p ≡ differ (is_some c.before) (class_by s row c p)
+  presence_alike c zero below = sym (no_difference (is_some c.before) (matches s row c.before) (sym (there c.before)))
+  presence_alike c (suc p) below = from_version (slice_get c.items p) refl
+    where
+      from_version : (o : Option Version) → slice_get c.items p ≡ o → get_or (presences c.before c.items) p false ≡ differ (is_some c.before) (matches s row (state_in o))
+      from_version None none = absurd (there_is c.items p (omega (arith, below)) none)
+      from_version (Some v) at =
+          let f = (λ (u : Version). differ (is_some c.before) (is_some u.value)) in
+          get_or_from_slice_get (presences c.before c.items) p (f v) false (slice_get-map f c.items p ∙ ap (option_map f) at) ∙ ap (differ (is_some c.before)) (sym (there v.value))
+
+  pub turning_by_presence : (c : Chain) (t : Turning) → IsTurning (class_in (presences c.before c.items)) c.items t → IsTurning (class_by s row c) c.items t
+  turning_by_presence c t = turning_alike (class_in (presences c.before c.items)) (class_by s row c) (is_some c.before) c.items t (presence_alike c)
 
 -- nothing is kept yet
 pub kept_none : (numbers : List ℕ) (vs : List Version) → AreTurnings [] numbers vs

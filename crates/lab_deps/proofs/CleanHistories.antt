@@ -13,7 +13,6 @@ use Rattle.lab_history.specs.declared.transaction.Txn.{Txn}
 use Rattle.lab_deps.specs.Soundness.{has_committed}
 use Rattle.lab_deps.specs.Broken.{is_broken}
 use Rattle.lab_deps.specs.Passes.{broken_row, fault_in, install_fault, end_fault}
-use Rattle.lab_deps.specs.OwnWrites.{missed_in}
 use Rattle.lab_deps.specs.FirstFault.{first_fault}
 use Rattle.lab_deps.specs.Fine.{IsCleanOp, IsCleanTxn, AreClean}
 use Rattle.lab_deps.specs.declared.fault.LocalFault.{LocalFault}
@@ -79,11 +78,11 @@ module _ (h : History) where
   pass_none clean k =
       none_if (fault_in k h) (λ x e.
       let w = pass_finds k h x e in
-      false≢true (sym (clean w.0 w.1 w.2 w.4 k w.3) ∙ w.5))
+      false≢true (sym (clean w.txn w.number w.op w.there k w.row) ∙ w.breaks))
 
   -- no pass finds a fault
-  pub no_first : install_fault h ≡ None → missed_in h ≡ None → ((n : ℕ) → IsCleanTxn h n) → end_fault h ≡ None → first_fault h ≡ None
-  no_first installs missed clean ends =
+  pub no_first : install_fault h ≡ None → ((n : ℕ) → IsCleanTxn h n) → end_fault h ≡ None → first_fault h ≡ None
+  no_first installs clean ends =
       let none = pass_none clean in
       let later : option_or (end_fault h) (option_or (fault_in kind.AbortedRead h) (fault_in kind.IntermediateRead h)) ≡ None =
       ap (λ o. option_or o (option_or (fault_in kind.AbortedRead h) (fault_in kind.IntermediateRead h))) ends
@@ -91,7 +90,7 @@ module _ (h : History) where
       let middle : option_or (fault_in kind.LaterThanOwn h) (option_or (fault_in kind.RowsDiffer h) (option_or (fault_in kind.WritesDiffer h)
       (option_or (end_fault h) (option_or (fault_in kind.AbortedRead h) (fault_in kind.IntermediateRead h))))) ≡ None =
       skip (fault_in kind.LaterThanOwn h) _ (none kind.LaterThanOwn) (skip (fault_in kind.RowsDiffer h) _ (none kind.RowsDiffer) (skip (fault_in kind.WritesDiffer h) _ (none kind.WritesDiffer) later)) in
-      skip (fault_in kind.Dangling h) _ (none kind.Dangling) (skip (install_fault h) _ installs (skip (missed_in h) _ missed middle))
+      skip (fault_in kind.Dangling h) _ (none kind.Dangling) (skip (install_fault h) _ installs (skip (fault_in kind.OwnWriteMissed h) _ (none kind.OwnWriteMissed) middle))
     where
       skip : (a b : Option LocalFault) → a ≡ None → b ≡ None → option_or a b ≡ None
       skip a b e f = ap (λ o. option_or o b) e ∙ f

@@ -1,6 +1,6 @@
 -- What is gathered goes into cells that tell of all edges.
-use Rattle.std.proofs.Common.{◌≡◌, ◌≢◌, ◌⊎◌, ◌↔◌, ◌<◌, ◌+◌, ◌-◌, ◌*◌, ℕ, Bool, true, false, cond, Some, List, [], ◌++◌, length, get_or, refl, sym, ap, ◌∙◌, subst, append_assoc, inl, inr}
-use Rattle.std.specs.Prelude.{slice_get, Contains}
+use Rattle.std.proofs.Common.{◌≡◌, ◌≢◌, ◌⊎◌, ◌<◌, ◌-◌, ℕ, true, false, List, [], ◌++◌, length, get_or, sym, ap, ◌∙◌, subst, append_assoc, inl, inr}
+use Rattle.std.specs.Prelude.{Contains}
 use Rattle.std.specs.List.{flat_map}
 use Rattle.std.proofs.lemmas.Bool.{false≢true}
 use Rattle.std.proofs.lemmas.Option.{slice_get-get_or, get_or_from_slice_get}
@@ -8,11 +8,10 @@ use Rattle.lab_sets.specs.Sets.{has}
 use Rattle.lab_table.specs.Row.{Row}
 use Rattle.lab_table.specs.declared.statement.Statement.{Statement}
 use Rattle.lab_table.proofs.Members.{no_member}
-use Rattle.lab_history.specs.History.{History}
 use Rattle.lab_deps.specs.CellGains.{CellsGain, IsOfTable}
-use Rattle.lab_deps.specs.EdgesByRow.{HasMembersOf, walked}
+use Rattle.lab_deps.specs.EdgesByRow.{Chain, HasMembersOf, walked}
 use Rattle.lab_deps.specs.FrontSets.{in_table, Gains, IsCut}
-use Rattle.lab_deps.specs.Gathering.{Gathers, IsInTables, HasKind}
+use Rattle.lab_deps.specs.Gathering.{Gathers, HasKind}
 use Rattle.lab_deps.specs.KindBits.{has_bit, place, cell_at, edge_of, Tells}
 use Rattle.lab_deps.specs.Numbering.{FitsVersions}
 use Rattle.lab_deps.specs.Turnings.{IsTurning, class_by}
@@ -22,7 +21,6 @@ use Rattle.lab_deps.specs.declared.edge.Kind.{Kind}
 use Rattle.lab_deps.specs.declared.edge.Kind.TheVariants.{PredicateRead, PredicateAnti}
 use Rattle.lab_deps.specs.declared.reading.Reading.{Reading}
 use Rattle.lab_deps.specs.declared.turning.Turning.{Turning}
-use Rattle.lab_deps.specs.declared.versions.Version.{Version}
 use Rattle.lab_deps.proofs.ChangedMatches.{turning_enough}
 use Rattle.lab_deps.proofs.Gathered.{gathers_same, gathers_turning}
 use Rattle.lab_deps.proofs.ToldMembers.{after_same}
@@ -47,22 +45,19 @@ module _ (ps : List ℕ) (w : ℕ) (cs : List ℕ) (reads antis : List (List ℕ
   gathers_alike fs gs same g = gathers_same ps w cs reads antis made (es ++ fs) (es ++ gs) (λ e. (after_same es fs gs (λ f has. (same f).0 has) e, after_same es gs fs (λ f has. (same f).1 has) e)) g
 
   -- with those by the places where a row turns there are all of the walk
-  pub gathers_walked : (h : History) (s : Statement) (r : Reading) (vs : List Version) (t : Turning) → IsTurning (class_by s r.row vs) vs t → FitsVersions vs made → (k : ℕ) → IsCut t.places.items r.place k
+  pub gathers_walked : (s : Statement) (r : Reading) (c : Chain) (t : Turning) → IsTurning (class_by s r.row c) c.items t → FitsVersions c.items made → (k : ℕ) → IsCut t.places.items r.place k
       → (reads_next antis_next : List (List ℕ)) → Gains t.ahead 0 k (place ps r.txn) reads reads_next → Gains t.behind 0 (length t.places.items - k) (place ps r.txn) antis antis_next
-      → Gathers ps w cs reads antis made ((es ++ items_of r vs) ++ change_at h s r vs 0) → Gathers ps w cs reads_next antis_next made (es ++ walked h s r vs)
-  gathers_walked h s r vs t turning fits k cut reads_next antis_next ahead behind g =
-      let items = items_of r vs in
-      let first = change_at h s r vs 0 in
-      let others = flat_map (change_at h s r vs) t.places.items in
-      let all = gathers_turning ps w cs reads antis made ((es ++ items) ++ first) h s r vs t turning (subst (FitsVersions vs) (sym g.told.same) fits) k cut reads_next antis_next ahead behind g in
-      let joined : ((es ++ items) ++ first) ++ others ≡ es ++ (items ++ (first ++ others)) =
-      append_assoc (es ++ items) first others ∙ append_assoc es items (first ++ others) in
-      gathers_same ps w cs reads_next antis_next made (es ++ found_at h s r vs t.places.items) (es ++ walked h s r vs)
+      → Gathers ps w cs reads antis made (es ++ items_of r c.items) → Gathers ps w cs reads_next antis_next made (es ++ walked s r c)
+  gathers_walked s r c t turning fits k cut reads_next antis_next ahead behind g =
+      let items = items_of r c.items in
+      let changes = flat_map (change_at s r c) t.places.items in
+      let all = gathers_turning ps w cs reads antis made (es ++ items) s r c t turning (subst (FitsVersions c.items) (sym g.told.same) fits) k cut reads_next antis_next ahead behind g in
+      gathers_same ps w cs reads_next antis_next made (es ++ found_at s r c t.places.items) (es ++ walked s r c)
       (λ e. (
-        after_same es (found_at h s r vs t.places.items) (walked h s r vs) (λ f has. (turning_enough h s r vs t turning f).0 has) e,
-        after_same es (walked h s r vs) (found_at h s r vs t.places.items) (λ f has. (turning_enough h s r vs t turning f).1 has) e,
+        after_same es (found_at s r c t.places.items) (walked s r c) (λ f has. (turning_enough s r c t turning f).0 has) e,
+        after_same es (walked s r c) (found_at s r c t.places.items) (λ f has. (turning_enough s r c t turning f).1 has) e,
       ))
-      (subst (Gathers ps w cs reads_next antis_next made) joined all)
+      (subst (Gathers ps w cs reads_next antis_next made) (append_assoc es items changes) all)
 
   -- in the end
   pub told_gathered : (next : List ℕ) → ((e : Edge) → Contains es e → e.from ≢ e.to)

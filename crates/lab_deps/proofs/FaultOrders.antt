@@ -1,5 +1,6 @@
 -- Of two faults that are true of a history, one comes before the other, or they are one.
 use Rattle.std.proofs.Common.{◌≡◌, ℕ, suc, ◌<◌, ◌≤◌, ◌==◌, Bool, true, false, ◌||◌, cond, Some, List, [], ◌∷◌, ◌⊎◌, inl, inr, refl, sym, ap, ◌∙◌, arith}
+use Rattle.std.specs.Prelude.{nat_le}
 use Rattle.std.specs.Ordering.{is_lt, ordering_reverse}
 use Rattle.std.specs.declared.cmp.Ordering.{Ordering}
 use Rattle.std.specs.declared.cmp.Ordering.TheVariants.{Less, Equal, Greater}
@@ -7,36 +8,87 @@ use Rattle.std.proofs.lemmas.Bool.{false≢true, eqb-true}
 use Rattle.std.proofs.lemmas.Option.{none-some}
 use Rattle.lab_table.specs.Row.{Row, row_cmp, rows_total, rows_apart}
 use Rattle.lab_history.specs.History.{History}
-use Rattle.lab_history.specs.Version.{find_txn}
+use Rattle.lab_history.specs.Version.{IsCommitted, find_txn}
 use Rattle.lab_history.specs.declared.transaction.Txn.{Txn}
-use Rattle.lab_deps.specs.Soundness.{Stands}
+use Rattle.lab_deps.specs.FaultKinds.{op_entry, row_entry, entry_of, parts_of, op_fault, row_fault, fault_of}
+use Rattle.lab_deps.specs.Soundness.{StandsAt, Stands}
 use Rattle.lab_deps.specs.Refusal.{is_uncommitted_read, IsAnswer}
-use Rattle.lab_deps.specs.FaultOrder.{kind_place, fault_txn, fault_op, fault_row, place_among, ComesBefore, IsFirst}
+use Rattle.lab_deps.specs.FaultOrder.{kind_place, place_among, ComesBefore, PlaceBefore, IsFirst}
+use Rattle.lab_deps.specs.declared.fault.FaultParts.{FaultParts}
+use Rattle.lab_deps.specs.declared.fault.FaultParts.TheVariants as parts
 use Rattle.lab_deps.specs.declared.fault.LocalFault.{LocalFault}
-use Rattle.lab_deps.specs.declared.fault.LocalFault.TheVariants.{Dangling, AbortedRead, IntermediateRead, OwnWriteMissed, LaterThanOwn, RowsDiffer, WritesDiffer, InstallOrder, EndDiffers}
+use Rattle.lab_deps.specs.declared.fault.LocalFault.TheVariants as fault
+use Rattle.lab_deps.specs.declared.kind.OpFault.{OpFault}
+use Rattle.lab_deps.specs.declared.kind.OpFault.TheVariants as kind
+use Rattle.lab_deps.specs.declared.kind.RowFault.{RowFault}
+use Rattle.lab_deps.specs.declared.kind.RowFault.TheVariants as row_kind
 use Rattle.lab_deps.proofs.Found.{committed_there}
 
--- the fault of this kind and place
-abbrev fault_made : ℕ → ℕ → ℕ → Row → LocalFault
-fault_made p n k row =
-    cond (p == 0) (Dangling n k row) (cond (p == 1) (InstallOrder row) (cond (p == 2) (OwnWriteMissed n k row) (cond (p == 3) (LaterThanOwn n k row) (cond (p == 4) (RowsDiffer n k row) (cond (p == 5) (WritesDiffer n k row) (cond (p == 6) (EndDiffers row) (cond (p == 7) (AbortedRead n k row) (IntermediateRead n k row))))))))
+-- the fault of a fault's kind and place is that fault
+pub made_again : (f : LocalFault) → fault_of (parts_of f) ≡ f
+made_again (fault.Dangling n k row) = refl
+made_again (fault.AbortedRead n k row) = refl
+made_again (fault.IntermediateRead n k row) = refl
+made_again (fault.OwnWriteMissed n k row) = refl
+made_again (fault.LaterThanOwn n k row) = refl
+made_again (fault.RowsDiffer n k row) = refl
+made_again (fault.WritesDiffer n k row) = refl
+made_again (fault.InstallOrder row) = refl
+made_again (fault.EndDiffers row) = refl
 
-made_again : (f : LocalFault) → fault_made (kind_place f) (fault_txn f) (fault_op f) (fault_row f) ≡ f
-made_again (Dangling n k row) = refl
-made_again (InstallOrder row) = refl
-made_again (OwnWriteMissed n k row) = refl
-made_again (LaterThanOwn n k row) = refl
-made_again (RowsDiffer n k row) = refl
-made_again (WritesDiffer n k row) = refl
-made_again (EndDiffers row) = refl
-made_again (AbortedRead n k row) = refl
-made_again (IntermediateRead n k row) = refl
+-- and the kind and place of a fault that is made of them are these
+pub op_parts : (kind : OpFault) (n k : ℕ) (row : Row) → parts_of (op_fault kind n k row) ≡ parts.Operation kind n k row
+op_parts kind.Dangling n k row = refl
+op_parts kind.AbortedRead n k row = refl
+op_parts kind.IntermediateRead n k row = refl
+op_parts kind.OwnWriteMissed n k row = refl
+op_parts kind.LaterThanOwn n k row = refl
+op_parts kind.RowsDiffer n k row = refl
+op_parts kind.WritesDiffer n k row = refl
 
--- faults of one kind and one place are one
-same_parts : (f g : LocalFault) → kind_place f ≡ kind_place g → fault_txn f ≡ fault_txn g → fault_op f ≡ fault_op g → fault_row f ≡ fault_row g → f ≡ g
-same_parts f g kinds txns ops rows =
-    sym (made_again f) ∙ ap (λ p. fault_made p (fault_txn f) (fault_op f) (fault_row f)) kinds ∙ ap (λ n. fault_made (kind_place g) n (fault_op f) (fault_row f)) txns
-    ∙ ap (λ k. fault_made (kind_place g) (fault_txn g) k (fault_row f)) ops ∙ ap (fault_made (kind_place g) (fault_txn g) (fault_op g)) rows ∙ made_again g
+pub row_parts : (kind : RowFault) (row : Row) → parts_of (row_fault kind row) ≡ parts.Row kind row
+row_parts row_kind.InstallOrder row = refl
+row_parts row_kind.EndDiffers row = refl
+
+-- the kinds at a place in their order
+abbrev op_kind_at : ℕ → OpFault
+op_kind_at p = cond (p == 0) kind.Dangling (cond (p == 2) kind.OwnWriteMissed (cond (p == 3) kind.LaterThanOwn (cond (p == 4) kind.RowsDiffer (cond (p == 5) kind.WritesDiffer (cond (p == 7) kind.AbortedRead kind.IntermediateRead)))))
+
+abbrev row_kind_at : ℕ → RowFault
+row_kind_at p = cond (p == 1) row_kind.InstallOrder row_kind.EndDiffers
+
+op_kind_again : (kind : OpFault) → op_kind_at (op_entry kind).place ≡ kind
+op_kind_again kind.Dangling = refl
+op_kind_again kind.AbortedRead = refl
+op_kind_again kind.IntermediateRead = refl
+op_kind_again kind.OwnWriteMissed = refl
+op_kind_again kind.LaterThanOwn = refl
+op_kind_again kind.RowsDiffer = refl
+op_kind_again kind.WritesDiffer = refl
+
+row_kind_again : (kind : RowFault) → row_kind_at (row_entry kind).place ≡ kind
+row_kind_again row_kind.InstallOrder = refl
+row_kind_again row_kind.EndDiffers = refl
+
+-- whether the kind at a place is one of rows alone
+abbrev is_of_row : ℕ → Bool
+is_of_row p = (p == 1) || (p == 6)
+
+op_not_of_row : (kind : OpFault) → is_of_row (op_entry kind).place ≡ false
+op_not_of_row kind.Dangling = refl
+op_not_of_row kind.AbortedRead = refl
+op_not_of_row kind.IntermediateRead = refl
+op_not_of_row kind.OwnWriteMissed = refl
+op_not_of_row kind.LaterThanOwn = refl
+op_not_of_row kind.RowsDiffer = refl
+op_not_of_row kind.WritesDiffer = refl
+
+row_of_row : (kind : RowFault) → is_of_row (row_entry kind).place ≡ true
+row_of_row row_kind.InstallOrder = refl
+row_of_row row_kind.EndDiffers = refl
+
+kinds_apart : (kind : OpFault) (other : RowFault) → (op_entry kind).place ≡ (row_entry other).place → ⊥
+kinds_apart kind other same = false≢true (sym (op_not_of_row kind) ∙ ap is_of_row same ∙ row_of_row other)
 
 same_number : (a b : ℕ) → (a < b → ⊥) → (b < a → ⊥) → a ≡ b
 same_number a b p q = grind arith
@@ -69,74 +121,51 @@ one_txn (v ∷ ts) n m t u e f same =
     less_one : (a b : ℕ) → suc a ≡ suc b → a ≡ b
     less_one a b e = omega arith
 
--- whether a row alone is at fault, by the kind
-abbrev is_of_row : ℕ → Bool
-is_of_row p = (p == 1) || (p == 6)
+-- the kinds of reads of what was never committed are those behind all others
+pub reads_last : (p : FaultParts) → (entry_of p).is_read ≡ nat_le 7 (entry_of p).place
+reads_last (parts.Operation kind.Dangling n k row) = refl
+reads_last (parts.Operation kind.AbortedRead n k row) = refl
+reads_last (parts.Operation kind.IntermediateRead n k row) = refl
+reads_last (parts.Operation kind.OwnWriteMissed n k row) = refl
+reads_last (parts.Operation kind.LaterThanOwn n k row) = refl
+reads_last (parts.Operation kind.RowsDiffer n k row) = refl
+reads_last (parts.Operation kind.WritesDiffer n k row) = refl
+reads_last (parts.Row row_kind.InstallOrder row) = refl
+reads_last (parts.Row row_kind.EndDiffers row) = refl
+
+later_kind : (a b : ℕ) → nat_le 7 a ≡ true → nat_le 7 b ≡ false → b < a
+later_kind a b t s = grind arith
 
 module _ (h : History) where
-  -- a fault that stands is of a transaction that is there, or of a row alone
-  where_it_is : (f : LocalFault) → Stands h f → ((t : Txn) × (find_txn h.txns (fault_txn f) ≡ Some t) × (is_of_row (kind_place f) ≡ false)) ⊎ ((fault_txn f ≡ 0) × (is_of_row (kind_place f) ≡ true))
-  where_it_is (Dangling n k row) (op, c, d) = let w = committed_there h n c.0 in inl (w.0, w.1, refl)
-  where_it_is (InstallOrder row) stands = inr (refl, refl)
-  where_it_is (OwnWriteMissed n k row) (op, c, d) = let w = committed_there h n c.0 in inl (w.0, w.1, refl)
-  where_it_is (LaterThanOwn n k row) (op, c, d) = let w = committed_there h n c.0 in inl (w.0, w.1, refl)
-  where_it_is (RowsDiffer n k row) (op, c, d) = let w = committed_there h n c.0 in inl (w.0, w.1, refl)
-  where_it_is (WritesDiffer n k row) (op, c, d) = let w = committed_there h n c.0 in inl (w.0, w.1, refl)
-  where_it_is (EndDiffers row) stands = inr (refl, refl)
-  where_it_is (AbortedRead n k row) (op, c, d) = let w = committed_there h n c.0 in inl (w.0, w.1, refl)
-  where_it_is (IntermediateRead n k row) (op, c, d) = let w = committed_there h n c.0 in inl (w.0, w.1, refl)
+  -- two places of which neither comes before the other are one, where there are their transactions
+  one_place : (n k : ℕ) (row : Row) (m j : ℕ) (other : Row) → IsCommitted h n → IsCommitted h m → (ComesBefore h n k row m j other → ⊥) → (ComesBefore h m j other n k row → ⊥) → (n ≡ m) × (k ≡ j) × (row ≡ other)
+  one_place n k row m j other c d not_before not_after =
+      let a = committed_there h n c in
+      let b = committed_there h m d in
+      let places = same_number (place_among h.txns n) (place_among h.txns m) (λ l. not_before (inl l)) (λ l. not_after (inl l)) in
+      let txns : n ≡ m = one_txn h.txns n m a.0 b.0 a.1 b.1 places in
+      let ops : k ≡ j = same_number k j (λ l. not_before (inr (txns, inl l))) (λ l. not_after (inr (sym txns, inl l))) in
+      (txns, ops, one_row row other (λ l. not_before (inr (txns, inr (ops, l)))) (λ l. not_after (inr (sym txns, inr (sym ops, l)))))
 
-  one_transaction : (f g : LocalFault) → Stands h f → Stands h g → kind_place f ≡ kind_place g → place_among h.txns (fault_txn f) ≡ place_among h.txns (fault_txn g) → fault_txn f ≡ fault_txn g
-  one_transaction f g s t kinds places = elim (where_it_is f s) [
-    | inl a ↦ elim (where_it_is g t) [
-      | inl b ↦ one_txn h.txns (fault_txn f) (fault_txn g) a.0 b.0 a.1 b.1 places
-      | inr b ↦ absurd (false≢true (sym a.2 ∙ ap is_of_row kinds ∙ b.1))
-    ]
-    | inr a ↦ elim (where_it_is g t) [
-      | inl b ↦ absurd (false≢true (sym b.2 ∙ sym (ap is_of_row kinds) ∙ a.1))
-      | inr b ↦ a.0 ∙ sym b.0
-    ]
-  ]
+  one_parts : (p q : FaultParts) → (entry_of p).place ≡ (entry_of q).place → StandsAt h p → StandsAt h q → (PlaceBefore h p q → ⊥) → (PlaceBefore h q p → ⊥) → p ≡ q
+  one_parts (parts.Operation kind n k row) (parts.Operation same m j other) kinds stands also not_before not_after =
+      let w = one_place n k row m j other stands.1.0 also.1.0 not_before not_after in
+      let is : kind ≡ same = sym (op_kind_again kind) ∙ ap op_kind_at kinds ∙ op_kind_again same in
+      ap (λ x. parts.Operation x n k row) is ∙ ap (λ x. parts.Operation same x k row) w.0 ∙ ap (λ x. parts.Operation same m x row) w.1 ∙ ap (parts.Operation same m j) w.2
+  one_parts (parts.Row kind row) (parts.Row same other) kinds stands also not_before not_after =
+      ap (λ x. parts.Row x row) (sym (row_kind_again kind) ∙ ap row_kind_at kinds ∙ row_kind_again same) ∙ ap (parts.Row same) (one_row row other not_before not_after)
+  one_parts (parts.Operation kind n k row) (parts.Row apart other) kinds stands also not_before not_after = absurd (kinds_apart kind apart kinds)
+  one_parts (parts.Row kind row) (parts.Operation apart m j other) kinds stands also not_before not_after = absurd (kinds_apart apart kind (sym kinds))
 
   -- of two faults of one kind that stand one comes before the other, or they are one
-  pub one_of_kind : (f g : LocalFault) → kind_place f ≡ kind_place g → Stands h f → Stands h g
-      → (ComesBefore h (fault_txn f) (fault_op f) (fault_row f) (fault_txn g) (fault_op g) (fault_row g) → ⊥)
-      → (ComesBefore h (fault_txn g) (fault_op g) (fault_row g) (fault_txn f) (fault_op f) (fault_row f) → ⊥) → f ≡ g
-  one_of_kind f g kinds stands also not_before not_after =
-      let places = same_number (place_among h.txns (fault_txn f)) (place_among h.txns (fault_txn g)) (λ l. not_before (inl l)) (λ l. not_after (inl l)) in
-      let txns = one_transaction f g stands also kinds places in
-      let ops = same_number (fault_op f) (fault_op g) (λ l. not_before (inr (txns, inl l))) (λ l. not_after (inr (sym txns, inl l))) in
-      let rows = one_row (fault_row f) (fault_row g) (λ l. not_before (inr (txns, inr (ops, l)))) (λ l. not_after (inr (sym txns, inr (sym ops, l)))) in
-      same_parts f g kinds txns ops rows
+  pub one_of_kind : (f g : LocalFault) → kind_place f ≡ kind_place g → Stands h f → Stands h g → (PlaceBefore h (parts_of f) (parts_of g) → ⊥) → (PlaceBefore h (parts_of g) (parts_of f) → ⊥) → f ≡ g
+  one_of_kind f g kinds stands also not_before not_after = sym (made_again f) ∙ ap fault_of (one_parts (parts_of f) (parts_of g) kinds stands also not_before not_after) ∙ made_again g
 
   -- a history has one first fault
   pub one_first : (f g : LocalFault) → IsFirst h f → IsFirst h g → f ≡ g
   one_first f g first other =
       let kinds : kind_place f ≡ kind_place g = same_number (kind_place f) (kind_place g) (λ l. other.1 f first.0 (inl l)) (λ l. first.1 g other.0 (inl l)) in
       one_of_kind f g kinds first.0 other.0 (λ c. other.1 f first.0 (inr (kinds, c))) (λ c. first.1 g other.0 (inr (sym kinds, c)))
-
-  -- reads of what was never committed are the last kinds
-  reads_last : (f : LocalFault) → is_uncommitted_read f ≡ true → 7 ≤ kind_place f
-  reads_last (Dangling n k row) t = absurd (false≢true t)
-  reads_last (InstallOrder row) t = absurd (false≢true t)
-  reads_last (OwnWriteMissed n k row) t = absurd (false≢true t)
-  reads_last (LaterThanOwn n k row) t = absurd (false≢true t)
-  reads_last (RowsDiffer n k row) t = absurd (false≢true t)
-  reads_last (WritesDiffer n k row) t = absurd (false≢true t)
-  reads_last (EndDiffers row) t = absurd (false≢true t)
-  reads_last (AbortedRead n k row) t = omega arith
-  reads_last (IntermediateRead n k row) t = omega arith
-
-  others_before : (g : LocalFault) → is_uncommitted_read g ≡ false → kind_place g < 7
-  others_before (Dangling n k row) t = omega arith
-  others_before (InstallOrder row) t = omega arith
-  others_before (OwnWriteMissed n k row) t = omega arith
-  others_before (LaterThanOwn n k row) t = omega arith
-  others_before (RowsDiffer n k row) t = omega arith
-  others_before (WritesDiffer n k row) t = omega arith
-  others_before (EndDiffers row) t = omega arith
-  others_before (AbortedRead n k row) t = absurd (false≢true (sym t))
-  others_before (IntermediateRead n k row) t = absurd (false≢true (sym t))
 
   -- the first fault is such a read only where no fault of another kind stands
   pub first_answers : (f : LocalFault) → IsFirst h f → IsAnswer h f
@@ -145,9 +174,6 @@ module _ (h : History) where
     λ read g stands.
         elim (is_uncommitted_read g) as (λ b. is_uncommitted_read g ≡ b → b ≡ true) [
           | true ↦ λ _. refl
-          | false ↦ λ other.
-              let late = reads_last f read in
-              let early = others_before g other in
-              absurd (first.1 g stands (inl (omega (arith, late, early))))
+          | false ↦ λ other. absurd (first.1 g stands (inl (later_kind (kind_place f) (kind_place g) (sym (reads_last (parts_of f)) ∙ read) (sym (reads_last (parts_of g)) ∙ other))))
         ] refl,
   )

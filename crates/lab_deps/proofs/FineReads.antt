@@ -105,11 +105,12 @@ module _ (h : History) (n k : ℕ) (op : Op) (c : IsCommitted h n) (none : first
   read : (row : Row) → IsRead h n k row (viewed op row)
   read row = fine_read h n k row (viewed op row) c (seen_fine row (get op.view row) refl)
 
-  -- so no fault stands where also what is listed and written is due
-  pub clean_op : ((row : Row) → is_broken kind.RowsDiffer h n k op row ≡ false) → ((row : Row) → is_broken kind.WritesDiffer h n k op row ≡ false) → IsCleanOp h n k op
-  clean_op rows writes kind.Dangling row = (read row).0
-  clean_op rows writes kind.AbortedRead row = (read row).1
-  clean_op rows writes kind.IntermediateRead row = (read row).2
-  clean_op rows writes kind.LaterThanOwn row = (read row).3
-  clean_op rows writes kind.RowsDiffer row = rows row
-  clean_op rows writes kind.WritesDiffer row = writes row
+  -- so no fault stands where it also sees what its own transaction wrote, and what is listed and written is due
+  pub clean_op : ((row : Row) → is_broken kind.OwnWriteMissed h n k op row ≡ false) → ((row : Row) → is_broken kind.RowsDiffer h n k op row ≡ false) → ((row : Row) → is_broken kind.WritesDiffer h n k op row ≡ false) → IsCleanOp h n k op
+  clean_op own rows writes kind.Dangling row = (read row).0
+  clean_op own rows writes kind.AbortedRead row = (read row).1
+  clean_op own rows writes kind.IntermediateRead row = (read row).2
+  clean_op own rows writes kind.OwnWriteMissed row = own row
+  clean_op own rows writes kind.LaterThanOwn row = (read row).3
+  clean_op own rows writes kind.RowsDiffer row = rows row
+  clean_op own rows writes kind.WritesDiffer row = writes row

@@ -1,32 +1,36 @@
 -- The fault that the passes find is the first that stands.
-use Rattle.std.proofs.Common.{◌≡◌, ℕ, zero, suc, ◌+◌, ◌<◌, ◌≤◌, Option, Some, None, List, [], ◌∷◌, drop, inl, inr, refl, sym, ap, ◌∙◌, subst, arith}
+use Rattle.std.proofs.Common.{◌≡◌, ℕ, zero, suc, ◌+◌, ◌<◌, ◌≤◌, Option, Some, None, List, [], ◌∷◌, ◌⊎◌, drop, inl, inr, refl, sym, ap, ◌∙◌, subst, arith}
 use Rattle.std.specs.Prelude.{slice_get, option_map, true, ⊤}
-use Rattle.std.specs.Ordering.{is_lt}
 use Rattle.std.specs.Option.{option_or}
 use Rattle.std.proofs.lemmas.Bool.{false≢true}
 use Rattle.std.proofs.lemmas.Option.{none-some, same_Some}
-use Rattle.lab_table.specs.Row.{Row, row_cmp}
+use Rattle.lab_table.specs.Row.{Row}
 use Rattle.lab_table.proofs.Tests.{mapped_some}
 use Rattle.lab_history.specs.History.{History}
 use Rattle.lab_history.specs.Version.{installers}
 use Rattle.lab_history.specs.declared.operation.Op.{Op}
 use Rattle.lab_deps.specs.Soundness.{IsCommittedOp, Stands, is_writer}
-use Rattle.lab_deps.specs.Broken.{fault_of, is_broken}
+use Rattle.lab_deps.specs.Broken.{is_broken}
+use Rattle.lab_deps.specs.FaultKinds.{parts_of, op_entry, entry_of, op_fault, row_fault}
 use Rattle.lab_deps.specs.Passes.{fault_in, install_row, install_fault, end_row, end_fault}
-use Rattle.lab_deps.specs.OwnWrites.{missed_in}
 use Rattle.lab_deps.specs.FirstFault.{first_fault}
-use Rattle.lab_deps.specs.FaultOrder.{kind_place, fault_txn, fault_op, fault_row, ComesBefore, Precedes, IsFirst}
+use Rattle.lab_deps.specs.FaultOrder.{kind_place, ComesBefore, PlaceBefore, Precedes, IsFirst}
 use Rattle.lab_deps.specs.declared.fault.LocalFault.{LocalFault}
 use Rattle.lab_deps.specs.declared.fault.LocalFault.TheVariants.{Dangling, AbortedRead, IntermediateRead, OwnWriteMissed, LaterThanOwn, RowsDiffer, WritesDiffer, InstallOrder, EndDiffers}
 use Rattle.lab_deps.specs.declared.kind.OpFault.{OpFault}
+use Rattle.lab_deps.specs.declared.fault.FaultParts.{FaultParts}
+use Rattle.lab_deps.specs.declared.fault.FaultParts.TheVariants as parts
 use Rattle.lab_deps.specs.declared.kind.OpFault.TheVariants as kind
+use Rattle.lab_deps.specs.declared.kind.RowFault.{RowFault}
+use Rattle.lab_deps.specs.declared.kind.RowFault.TheVariants as row_kind
 use Rattle.lab_deps.proofs.Above.{Above, none_above, found_above}
 use Rattle.lab_deps.proofs.BrokenStands.{decides_dangling, decides_aborted_read, decides_intermediate, decides_rows}
 use Rattle.lab_deps.proofs.EndStates.{decides_end, above_end}
-use Rattle.lab_deps.proofs.Found.{either_found, made_of_none, pass_finds_none, pass_finds_first}
+use Rattle.lab_deps.proofs.Found.{either_found, made_of_none, pass_finds_none, pass_finds}
 use Rattle.lab_deps.proofs.InstallPlaces.{above_install, install_stands_not}
 use Rattle.lab_deps.proofs.LaterReads.{later_found}
-use Rattle.lab_deps.proofs.MissedWrites.{none_missed, missed_first}
+use Rattle.lab_deps.proofs.FaultOrders.{op_parts, row_parts}
+use Rattle.lab_deps.proofs.MissedWrites.{tested_all}
 use Rattle.lab_deps.proofs.Places.{times}
 use Rattle.lab_deps.proofs.Refusals.{decides_written, at_most_one, found_answers}
 
@@ -83,32 +87,23 @@ module _ (h : History) where
   -- the passes, in their order
   abbrev passes : List (Option LocalFault)
   passes =
-      fault_in kind.Dangling h ∷ install_fault h ∷ missed_in h ∷ fault_in kind.LaterThanOwn h ∷ fault_in kind.RowsDiffer h ∷ fault_in kind.WritesDiffer h ∷ end_fault h ∷ fault_in kind.AbortedRead h
+      fault_in kind.Dangling h ∷ install_fault h ∷ fault_in kind.OwnWriteMissed h ∷ fault_in kind.LaterThanOwn h ∷ fault_in kind.RowsDiffer h ∷ fault_in kind.WritesDiffer h ∷ end_fault h ∷ fault_in kind.AbortedRead h
       ∷ fault_in kind.IntermediateRead h ∷ []
 
-  of_kind : (k : OpFault) (q : ℕ) → ((n j : ℕ) (row : Row) → kind_place (fault_of k n j row) ≡ q) → (x : LocalFault) → fault_in k h ≡ Some x → kind_place x ≡ q
-  of_kind k q is x e = let w = pass_finds_first k h x e in sym (ap kind_place w.3) ∙ is w.0 w.1 w.2
+  of_kind : (k : OpFault) (x : LocalFault) → fault_in k h ≡ Some x → kind_place x ≡ (op_entry k).place
+  of_kind k x e = let w = pass_finds k h x e in sym (ap kind_place w.is) ∙ ap (λ p. (entry_of p).place) (op_parts k w.txn w.number w.row)
 
   of_install : (x : LocalFault) → install_fault h ≡ Some x → kind_place x ≡ 1
-  of_install x e = let w = mapped_some (λ row. InstallOrder row) (install_row h) x e in sym (ap kind_place w.2)
-
-  of_missed : (x : LocalFault) → missed_in h ≡ Some x → kind_place x ≡ 2
-  of_missed x e = let w = missed_first h x e in sym (ap kind_place w.3)
+  of_install x e = let w = mapped_some (row_fault row_kind.InstallOrder) (install_row h) x e in sym (ap kind_place w.2)
 
   of_end : (x : LocalFault) → end_fault h ≡ Some x → kind_place x ≡ 6
-  of_end x e = let w = mapped_some (λ row. EndDiffers row) (end_row h) x e in sym (ap kind_place w.2)
+  of_end x e = let w = mapped_some (row_fault row_kind.EndDiffers) (end_row h) x e in sym (ap kind_place w.2)
 
   first_kinds : AreOfKinds 4 (drop 4 passes) → AreOfKinds 0 passes
-  first_kinds rest = (of_kind kind.Dangling 0 (λ n j row. refl), (of_install, (of_missed, (of_kind kind.LaterThanOwn 3 (λ n j row. refl), rest))))
+  first_kinds rest = (of_kind kind.Dangling, (of_install, (of_kind kind.OwnWriteMissed, (of_kind kind.LaterThanOwn, rest))))
 
   last_kinds : AreOfKinds 4 (drop 4 passes)
-  last_kinds = (
-    of_kind kind.RowsDiffer 4 (λ n j row. refl),
-    (
-      of_kind kind.WritesDiffer 5 (λ n j row. refl),
-      (of_end, (of_kind kind.AbortedRead 7 (λ n j row. refl), (of_kind kind.IntermediateRead 8 (λ n j row. refl), tt))),
-    ),
-  )
+  last_kinds = (of_kind kind.RowsDiffer, (of_kind kind.WritesDiffer, (of_end, (of_kind kind.AbortedRead, (of_kind kind.IntermediateRead, tt)))))
 
   module _ (x : LocalFault) (found : first_fault h ≡ Some x) where
     at_pass : (q : ℕ) (o : Option LocalFault) → slice_get passes q ≡ Some o → Reached x o q
@@ -118,87 +113,80 @@ module _ (h : History) where
         from_zero q = omega arith
 
     -- the places of faults of a kind compare as the faults do
-    came : (k : OpFault) (n j : ℕ) (row : Row) (m i : ℕ) (other : Row) → fault_of k m i other ≡ x
-        → ComesBefore h (fault_txn (fault_of k n j row)) (fault_op (fault_of k n j row)) (fault_row (fault_of k n j row)) (fault_txn x) (fault_op x) (fault_row x) → ComesBefore h n j row m i other
-    came k n j row m i other is before =
-        placed k (subst (λ y. ComesBefore h (fault_txn (fault_of k n j row)) (fault_op (fault_of k n j row)) (fault_row (fault_of k n j row)) (fault_txn y) (fault_op y) (fault_row y)) (sym is) before)
-      where
-        placed : (k : OpFault) → ComesBefore h (fault_txn (fault_of k n j row)) (fault_op (fault_of k n j row)) (fault_row (fault_of k n j row)) (fault_txn (fault_of k m i other)) (fault_op (fault_of k m i other)) (fault_row (fault_of k m i other))
-            → ComesBefore h n j row m i other
-        placed kind.Dangling b = b
-        placed kind.AbortedRead b = b
-        placed kind.IntermediateRead b = b
-        placed kind.LaterThanOwn b = b
-        placed kind.RowsDiffer b = b
-        placed kind.WritesDiffer b = b
+    came : (k : OpFault) (n j : ℕ) (row : Row) (m i : ℕ) (other : Row) → op_fault k m i other ≡ x → PlaceBefore h (parts.Operation k n j row) (parts_of x) → ComesBefore h n j row m i other
+    came k n j row m i other is before = subst (PlaceBefore h (parts.Operation k n j row)) (sym (ap parts_of is) ∙ op_parts k m i other) before
 
     -- no test of a kind is true before the fault that is found
-    op_denied : (k : OpFault) (q : ℕ) → Reached x (fault_in k h) q → (n j : ℕ) (op : Op) (row : Row) → kind_place (fault_of k n j row) ≡ q → Precedes h (fault_of k n j row) x → IsCommittedOp h n j op
-        → is_broken k h n j op row ≡ true → ⊥
-    op_denied k q r n j op row is before c t = elim before [
-      | inl less ↦ pass_finds_none k h (r.before (subst (λ p. p < kind_place x) is less)) n j op row c t
+    op_denied : (k : OpFault) → Reached x (fault_in k h) (op_entry k).place → (n j : ℕ) (op : Op) (row : Row)
+        → ((op_entry k).place < kind_place x) ⊎ (((op_entry k).place ≡ kind_place x) × PlaceBefore h (parts.Operation k n j row) (parts_of x)) → IsCommittedOp h n j op → is_broken k h n j op row ≡ true → ⊥
+    op_denied k r n j op row before c t = elim before [
+      | inl less ↦ pass_finds_none k h (r.before less) n j op row c t
       | inr w ↦
-          let first = pass_finds_first k h x (r.at (sym is ∙ w.0)) in
-          first.4 n j op row (came k n j row first.0 first.1 first.2 first.3 w.1) c t
+          let first = pass_finds k h x (r.at w.0) in
+          first.first n j op row (came k n j row first.txn first.number first.row first.is w.1) c t
     ]
 
-    -- where a row alone is at fault, it is the row that comes before
-    rows_alone : (row other : Row) → ComesBefore h 0 0 row 0 0 other → is_lt (row_cmp row other) ≡ true
-    rows_alone row other before = elim before [
-      | inl l ↦ absurd (omega (arith, l))
-      | inr w ↦ elim w.1 [ inl l ↦ absurd (omega (arith, l)) | inr v ↦ v.1 ]
+    -- an operation's place comes before what a later one's of its transaction does
+    earlier_too : (p : FaultParts) (n j k : ℕ) (row : Row) → j ≤ k → PlaceBefore h (parts.Operation kind.OwnWriteMissed n k row) p → PlaceBefore h (parts.Operation kind.OwnWriteMissed n j row) p
+    earlier_too (parts.Row apart other) n j k row le before = before
+    earlier_too (parts.Operation same m i other) n j k row le before = elim before [
+      | inl l ↦ inl l
+      | inr w ↦ elim w.1 [
+        | inl less ↦ inr (w.0, inl (omega (arith, le, less)))
+        | inr v ↦
+            let cases : (j < i) ⊎ (j ≡ i) = at_most j k i le v.0 in
+            elim cases [ inl less ↦ inr (w.0, inl less) | inr same ↦ inr (w.0, inr (same, v.1)) ]
+      ]
     ]
+      where
+        at_most : (j k i : ℕ) → j ≤ k → k ≡ i → (j < i) ⊎ (j ≡ i)
+        at_most j k i le is = grind arith
 
-    row_above : (o : Option Row) (made : Row → LocalFault) (row : Row)
-        → ((r : Row) → ComesBefore h 0 0 row (fault_txn (made r)) (fault_op (made r)) (fault_row (made r)) → is_lt (row_cmp row r) ≡ true) → option_map made o ≡ Some x
-        → ComesBefore h 0 0 row (fault_txn x) (fault_op x) (fault_row x) → Above o row
-    row_above o made row alone e before =
-        let w = mapped_some made o x e in
-        found_above o w.0 row w.1 (alone w.0 (subst (λ y. ComesBefore h 0 0 row (fault_txn y) (fault_op y) (fault_row y)) (sym w.2) before))
+    row_above : (o : Option Row) (kind : RowFault) (row : Row) → option_map (row_fault kind) o ≡ Some x → PlaceBefore h (parts.Row kind row) (parts_of x) → Above o row
+    row_above o kind row e before =
+        let w = mapped_some (row_fault kind) o x e in
+        found_above o w.0 row w.1 (subst (PlaceBefore h (parts.Row kind row)) (sym (ap parts_of w.2) ∙ row_parts kind w.0) before)
 
     not_after : (g : LocalFault) → Precedes h g x → kind_place g ≤ kind_place x
     not_after g before = elim before [ inl l ↦ omega (arith, l) | inr w ↦ let same = w.0 in omega (arith, same) ]
 
     install_clear : 1 < kind_place x → (row : Row) → Above (install_row h) row
-    install_clear less row = none_above (install_row h) row (made_of_none (λ row. InstallOrder row) (install_row h) ((at_pass 1 (install_fault h) refl).before less))
+    install_clear less row = none_above (install_row h) row (made_of_none (row_fault row_kind.InstallOrder) (install_row h) ((at_pass 1 (install_fault h) refl).before less))
 
     end_clear : 6 < kind_place x → (row : Row) → Above (end_row h) row
-    end_clear less row = none_above (end_row h) row (made_of_none (λ row. EndDiffers row) (end_row h) ((at_pass 6 (end_fault h) refl).before less))
+    end_clear less row = none_above (end_row h) row (made_of_none (row_fault row_kind.EndDiffers) (end_row h) ((at_pass 6 (end_fault h) refl).before less))
 
     -- no fault that stands comes before the one that is found
     denied : (g : LocalFault) → Stands h g → Precedes h g x → ⊥
-    denied (Dangling n k row) (op, c, d) before = op_denied kind.Dangling 0 (at_pass 0 (fault_in kind.Dangling h) refl) n k op row refl before c ((decides_dangling h n k op row).1 d)
+    denied (Dangling n k row) (op, c, d) before = op_denied kind.Dangling (at_pass 0 (fault_in kind.Dangling h) refl) n k op row before c ((decides_dangling h n k op row).1 d)
     denied (InstallOrder row) d before =
         install_stands_not h row (elim before [
           | inl less ↦ install_clear less row
-          | inr w ↦ row_above (install_row h) (λ r. InstallOrder r) row (λ r. rows_alone row r) ((at_pass 1 (install_fault h) refl).at w.0) w.1
+          | inr w ↦ row_above (install_row h) row_kind.InstallOrder row ((at_pass 1 (install_fault h) refl).at w.0) w.1
         ]) d
-    denied (OwnWriteMissed n k row) (op, c, d) before = elim before [
-      | inl less ↦ none_missed h ((at_pass 2 (missed_in h) refl).before less) n k op row c d
-      | inr w ↦
-          let first = missed_first h x ((at_pass 2 (missed_in h) refl).at w.0) in
-          first.4 n k op row (subst (λ y. ComesBefore h n k row (fault_txn y) (fault_op y) (fault_row y)) (sym first.3) w.1) c d
-    ]
+    denied (OwnWriteMissed n k row) (op, c, d) before =
+        tested_all h n k op row c (λ j o le there t.
+        op_denied kind.OwnWriteMissed (at_pass 2 (fault_in kind.OwnWriteMissed h) refl) n j o row
+        (elim before [ inl less ↦ inl less | inr w ↦ inr (w.0, earlier_too (parts_of x) n j k row le w.1) ]) there t) d
     denied (LaterThanOwn n k row) (op, c, d) before =
         let up_to : 3 ≤ kind_place x = not_after (LaterThanOwn n k row) before in
         let clear : Above (install_row h) row = install_clear (omega (arith, up_to)) row in
-        op_denied kind.LaterThanOwn 3 (at_pass 3 (fault_in kind.LaterThanOwn h) refl) n k op row refl before c
+        op_denied kind.LaterThanOwn (at_pass 3 (fault_in kind.LaterThanOwn h) refl) n k op row before c
         (later_found h n op row (λ m. at_most_one h (times m (installers h row)) (is_writer h row m) (above_install h row clear m)) d)
-    denied (RowsDiffer n k row) (op, c, d) before = op_denied kind.RowsDiffer 4 (at_pass 4 (fault_in kind.RowsDiffer h) refl) n k op row refl before c ((decides_rows h n k op row).1 d)
+    denied (RowsDiffer n k row) (op, c, d) before = op_denied kind.RowsDiffer (at_pass 4 (fault_in kind.RowsDiffer h) refl) n k op row before c ((decides_rows h n k op row).1 d)
     denied (WritesDiffer n k row) (op, c, d) before =
         let up_to : 5 ≤ kind_place x = not_after (WritesDiffer n k row) before in
         let none = (at_pass 4 (fault_in kind.RowsDiffer h) refl).before (omega (arith, up_to)) in
-        op_denied kind.WritesDiffer 5 (at_pass 5 (fault_in kind.WritesDiffer h) refl) n k op row refl before c ((decides_written h none n k op row c).1 d)
+        op_denied kind.WritesDiffer (at_pass 5 (fault_in kind.WritesDiffer h) refl) n k op row before c ((decides_written h none n k op row c).1 d)
     denied (EndDiffers row) d before =
         let above : Above (end_row h) row = elim before [
           | inl less ↦ end_clear less row
-          | inr w ↦ row_above (end_row h) (λ r. EndDiffers r) row (λ r. rows_alone row r) ((at_pass 6 (end_fault h) refl).at w.0) w.1
+          | inr w ↦ row_above (end_row h) row_kind.EndDiffers row ((at_pass 6 (end_fault h) refl).at w.0) w.1
         ] in
         false≢true (sym (above_end h row above) ∙ (decides_end h row).1 d)
-    denied (AbortedRead n k row) (op, c, d) before =
-        op_denied kind.AbortedRead 7 (at_pass 7 (fault_in kind.AbortedRead h) refl) n k op row refl before c ((decides_aborted_read h n k op row).1 d)
+    denied (AbortedRead n k row) (op, c, d) before = op_denied kind.AbortedRead (at_pass 7 (fault_in kind.AbortedRead h) refl) n k op row before c ((decides_aborted_read h n k op row).1 d)
     denied (IntermediateRead n k row) (op, c, d) before =
-        op_denied kind.IntermediateRead 8 (at_pass 8 (fault_in kind.IntermediateRead h) refl) n k op row refl before c ((decides_intermediate h n k op row).1 d)
+        op_denied kind.IntermediateRead (at_pass 8 (fault_in kind.IntermediateRead h) refl) n k op row before c ((decides_intermediate h n k op row).1 d)
 
     -- so it is the first
     pub found_first_fault : IsFirst h x

@@ -6,7 +6,7 @@ use Rattle.std.proofs.lemmas.List.Elements.{Contains-append_cases}
 use Rattle.lab_table.specs.Row.{Row}
 use Rattle.lab_table.proofs.Members.{no_member, only_member}
 use Rattle.lab_history.specs.History.{History}
-use Rattle.lab_deps.specs.EdgesByRow.{versions_of, with_versions, rows_of}
+use Rattle.lab_deps.specs.EdgesByRow.{Chain, versions_of, with_versions, rows_of}
 use Rattle.lab_deps.specs.KindBits.{place}
 use Rattle.lab_deps.specs.Numbering.{HasPlaces, FitsVersions}
 use Rattle.lab_deps.specs.declared.versions.Version.{Version}
@@ -20,13 +20,13 @@ module _ (h : History) (ps : List ℕ) (has : HasPlaces h ps) where
         | inr later ↦ fits_these row ns v later
       ]
 
-  fits_among : (es : List (Row × List ℕ)) (row : Row) (vs : List Version) → Contains (map (with_versions h) es) (row, vs) → FitsVersions vs ps
-  fits_among [] row vs there = absurd (no_member (row, vs) there)
-  fits_among (e ∷ es) row vs there =
-      elim (Contains-append_cases (with_versions h e ∷ []) (map (with_versions h) es) (row, vs) there) [
-        | inl here ↦ subst (λ (r : Row × List Version). FitsVersions r.1 ps) (only_member (with_versions h e) (row, vs) here) (fits_these e.0 e.1)
-        | inr later ↦ fits_among es row vs later
+  fits_among : (es : List (Row × List ℕ)) (row : Row) (chain : Chain) → Contains (map (with_versions h) es) (row, chain) → FitsVersions chain.items ps
+  fits_among [] row chain there = absurd (no_member (row, chain) there)
+  fits_among (e ∷ es) row chain there =
+      elim (Contains-append_cases (with_versions h e ∷ []) (map (with_versions h) es) (row, chain) there) [
+        | inl here ↦ subst (λ (r : Row × Chain). FitsVersions r.1.items ps) (only_member (with_versions h e) (row, chain) here) (fits_these e.0 e.1)
+        | inr later ↦ fits_among es row chain later
       ]
 
-  pub fits_rows : (row : Row) (vs : List Version) → Contains (rows_of h) (row, vs) → FitsVersions vs ps
-  fits_rows row vs there = fits_among (finite.entries h.installed) row vs there
+  pub fits_rows : (row : Row) (chain : Chain) → Contains (rows_of h) (row, chain) → FitsVersions chain.items ps
+  fits_rows row chain there = fits_among (finite.entries h.installed) row chain there

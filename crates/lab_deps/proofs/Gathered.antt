@@ -1,33 +1,25 @@
 -- What is gathered of dependencies, one step after another, and what the cells tell in the end.
-use Rattle.std.proofs.Common.{◌≡◌, ◌≢◌, ◌⊎◌, ◌↔◌, ◌≤◌, ◌<◌, ◌+◌, ◌*◌, ◌-◌, ◌==◌, ℕ, suc, Bool, true, false, cond, Some, None, Option, List, [], ◌∷◌, ◌++◌, length, get_or, refl, sym, ap, ◌∙◌, subst, arith, inl, inr}
-use Rattle.std.specs.Prelude.{nat_lt, slice_get, Contains}
+use Rattle.std.proofs.Common.{◌≡◌, ◌≢◌, ◌↔◌, ◌≤◌, ◌<◌, ◌-◌, ℕ, cond, Some, List, [], ◌∷◌, ◌++◌, length, sym, ap, ◌∙◌, subst, arith, inl, inr}
+use Rattle.std.specs.Prelude.{slice_get, Contains}
 use Rattle.std.specs.List.{flat_map}
 use Rattle.std.proofs.lemmas.Bool.{cases_lt, lt-ltb, le-ltb}
 use Rattle.std.proofs.lemmas.List.Elements.{Contains-append_left, Contains-append_right, Contains-append_cases}
-use Rattle.std.proofs.lemmas.Option.{none-some, same_Some, slice_get_within}
-use Rattle.lab_table.specs.Row.{Row}
-use Rattle.lab_table.specs.Statement.{matches}
+use Rattle.std.proofs.lemmas.Option.{same_Some, slice_get_within}
 use Rattle.lab_table.specs.declared.statement.Statement.{Statement}
-use Rattle.lab_table.proofs.Members.{no_member, first_member, only_member, member_at, place_of_member}
-use Rattle.lab_history.specs.History.{History}
-use Rattle.lab_deps.specs.Collected.{apart, change_edge, read_by, passed_by}
-use Rattle.lab_deps.specs.Edges.{differ}
-use Rattle.lab_deps.specs.EdgesByRow.{HasMembersOf}
-use Rattle.lab_deps.specs.FrontSets.{in_table, StandsWithin, Gains, IsCut}
-use Rattle.lab_deps.specs.Gathering.{Gathers, IsInTables, HasKind}
+use Rattle.lab_table.proofs.Members.{member_at}
+use Rattle.lab_deps.specs.Collected.{apart, read_by, passed_by}
+use Rattle.lab_deps.specs.EdgesByRow.{Chain}
+use Rattle.lab_deps.specs.FrontSets.{StandsWithin, Gains, IsCut}
+use Rattle.lab_deps.specs.Gathering.{Gathers, HasKind}
 use Rattle.lab_deps.specs.KindBits.{place, edge_of, Tells}
 use Rattle.lab_deps.specs.Numbering.{FitsVersions}
-use Rattle.lab_deps.specs.Turnings.{StandsAt, IsTurning, class_by}
-use Rattle.lab_deps.specs.Turns.{state_in, state_before, change_in, change_at}
+use Rattle.lab_deps.specs.Turnings.{IsTurning, class_by}
+use Rattle.lab_deps.specs.Turns.{change_at}
 use Rattle.lab_deps.specs.declared.edge.Edge.{Edge}
 use Rattle.lab_deps.specs.declared.edge.Kind.{Kind}
 use Rattle.lab_deps.specs.declared.edge.Kind.TheVariants.{PredicateRead, PredicateAnti}
 use Rattle.lab_deps.specs.declared.reading.Reading.{Reading}
 use Rattle.lab_deps.specs.declared.turning.Turning.{Turning}
-use Rattle.lab_deps.specs.declared.versions.Version.{Version}
-use Rattle.lab_deps.proofs.Membership.{from_each, of_each}
-use Rattle.lab_deps.proofs.ToldKinds.{told_next}
-use Rattle.lab_deps.proofs.ToldMembers.{after_same}
 use Rattle.lab_deps.proofs.ChangedMatches.{is_turned_edge, edge_is_turned}
 
 more_kinds : (es fs : List Edge) (from to : ℕ) (kind : Kind) → HasKind es from to kind → HasKind (es ++ fs) from to kind
@@ -71,10 +63,10 @@ module _ (ps : List ℕ) (w : ℕ) (cs : List ℕ) (reads antis : List (List ℕ
   }
 
   -- the installers where a row turns go into the sets of a reader
-  module _ (h : History) (s : Statement) (r : Reading) (vs : List Version) (t : Turning) (turning : IsTurning (class_by s r.row vs) vs t) (fits : FitsVersions vs ps) (k : ℕ) (cut : IsCut t.places.items r.place k)
+  module _ (s : Statement) (r : Reading) (c : Chain) (t : Turning) (turning : IsTurning (class_by s r.row c) c.items t) (fits : FitsVersions c.items ps) (k : ℕ) (cut : IsCut t.places.items r.place k)
       (reads_next antis_next : List (List ℕ)) (ahead : Gains t.ahead 0 k (place ps r.txn) reads reads_next) (behind : Gains t.behind 0 (length t.places.items - k) (place ps r.txn) antis antis_next) where
     abbrev new : List Edge
-    new = flat_map (change_at h s r vs) t.places.items
+    new = flat_map (change_at s r c) t.places.items
 
     pub gathers_turning : Gathers ps w cs reads antis made es → Gathers ps w cs reads_next antis_next made (es ++ new)
     gathers_turning g = record {
@@ -83,13 +75,13 @@ module _ (ps : List ℕ) (w : ℕ) (cs : List ℕ) (reads antis : List (List ℕ
       reads_size = ahead.size ∙ g.reads_size;
       antis_size = behind.size ∙ g.antis_size;
       are_edges = λ e there. Contains-append_left es new e (g.are_edges e there);
-      reads_are = λ from to a b c has. elim ((ahead.gains (place ps to) (place ps from) (within reads g.reads_size to) (within reads g.reads_size from)).0 has) [
-        | inl old ↦ more_kinds es new from to PredicateRead (g.reads_are from to a b c old)
-        | inr (is_at, stands) ↦ read_here from to a b c is_at stands
+      reads_are = λ from to a b apart has. elim ((ahead.gains (place ps to) (place ps from) (within reads g.reads_size to) (within reads g.reads_size from)).0 has) [
+        | inl old ↦ more_kinds es new from to PredicateRead (g.reads_are from to a b apart old)
+        | inr (is_at, stands) ↦ read_here from to a b apart is_at stands
       ];
-      antis_are = λ from to a b c has. elim ((behind.gains (place ps from) (place ps to) (within antis g.antis_size from) (within antis g.antis_size to)).0 has) [
-        | inl old ↦ more_kinds es new from to PredicateAnti (g.antis_are from to a b c old)
-        | inr (is_at, stands) ↦ passed_here from to a b c is_at stands
+      antis_are = λ from to a b apart has. elim ((behind.gains (place ps from) (place ps to) (within antis g.antis_size from) (within antis g.antis_size to)).0 has) [
+        | inl old ↦ more_kinds es new from to PredicateAnti (g.antis_are from to a b apart old)
+        | inr (is_at, stands) ↦ passed_here from to a b apart is_at stands
       ];
       all = λ e there. elim (Contains-append_cases es new e there) [
         | inl old ↦ elim (g.all e old) [
@@ -99,7 +91,7 @@ module _ (ps : List ℕ) (w : ℕ) (cs : List ℕ) (reads antis : List (List ℕ
             | inr (is, has) ↦ inr (is, (behind.gains (place ps e.from) (place ps e.to) (within antis g.antis_size e.from) (within antis g.antis_size e.to)).1 (inl has))
           ])
         ]
-        | inr more ↦ inr (elim (edge_is_turned h s r vs t turning e more) [
+        | inr more ↦ inr (elim (edge_is_turned s r c t turning e more) [
           | inl (i, v, p, low, before, at_place, at_version, at_ahead, at_behind, is) ↦ inl (
             ap (λ (f : Edge). f.kind) (sym is),
             (ahead.gains (place ps e.to) (place ps e.from) (within reads g.reads_size e.to) (within reads g.reads_size e.from)).1
@@ -109,7 +101,7 @@ module _ (ps : List ℕ) (w : ℕ) (cs : List ℕ) (reads antis : List (List ℕ
                     i,
                     omega arith,
                     below_cut i p at_place before,
-                    at_ahead ∙ ap Some (sym (fits v (member_at vs p v at_version)) ∙ ap (λ (f : Edge). place ps f.from) is),
+                    at_ahead ∙ ap Some (sym (fits v (member_at c.items p v at_version)) ∙ ap (λ (f : Edge). place ps f.from) is),
                   ),
                 )),
           )
@@ -122,7 +114,7 @@ module _ (ps : List ℕ) (w : ℕ) (cs : List ℕ) (reads antis : List (List ℕ
                     length t.places.items - 1 - i,
                     omega arith,
                     behind_cut i p low at_place after,
-                    at_behind ∙ ap Some (sym (fits v (member_at vs p v at_version)) ∙ ap (λ (f : Edge). place ps f.to) is),
+                    at_behind ∙ ap Some (sym (fits v (member_at c.items p v at_version)) ∙ ap (λ (f : Edge). place ps f.to) is),
                   ),
                 )),
           )
@@ -149,39 +141,39 @@ module _ (ps : List ℕ) (w : ℕ) (cs : List ℕ) (reads antis : List (List ℕ
 
         -- what the version at an index has to do with the reader
         read_here : (from to : ℕ) → place ps from ≢ 0 → place ps to ≢ 0 → from ≢ to → place ps to ≡ place ps r.txn → StandsWithin 0 k t.ahead (place ps from) → HasKind (es ++ new) from to PredicateRead
-        read_here from to a b c is_at (i, low, high, there) =
+        read_here from to a b apart is_at (i, low, high, there) =
             let inside : i < length t.places.items = let n = slice_get_within t.ahead i (place ps from) there in omega (arith, n, turning.ahead) in
             let st = turning.stand i inside in
-            let same_place : place ps from ≡ place ps st.version.installer = same_Some _ _ (sym there ∙ st.is_ahead) ∙ sym (fits st.version (member_at vs st.place st.version st.is_version)) in
+            let same_place : place ps from ≡ place ps st.version.installer = same_Some _ _ (sym there ∙ st.is_ahead) ∙ sym (fits st.version (member_at c.items st.place st.version st.is_version)) in
             let is_from : from ≡ st.version.installer = g.told.apart from st.version.installer same_place a in
             let is_to : to ≡ r.txn = g.told.apart to r.txn is_at b in
             let before : st.place < r.place = (cut i st.place st.is_place).0 high in (
               r.row,
               Contains-append_right es new (edge_of from to PredicateRead r.row)
-                  (is_turned_edge h s r vs t turning i inside st (edge_of from to PredicateRead r.row)
+                  (is_turned_edge s r c t turning i inside st (edge_of from to PredicateRead r.row)
                   (ap (λ b. cond b (read_by PredicateRead r st.version.installer) (passed_by PredicateAnti r st.version.installer)) (lt-ltb st.place r.place before)
                   ∙ (ap (λ n. edge_of n r.txn PredicateRead r.row) (sym is_from) ∙ ap (λ n. edge_of from n PredicateRead r.row) (sym is_to)))
-                  c),
+                  apart),
             )
 
         passed_here : (from to : ℕ) → place ps from ≢ 0 → place ps to ≢ 0 → from ≢ to → place ps from ≡ place ps r.txn → StandsWithin 0 (length t.places.items - k) t.behind (place ps to)
             → HasKind (es ++ new) from to PredicateAnti
-        passed_here from to a b c is_at (j, low, high, there) =
+        passed_here from to a b apart is_at (j, low, high, there) =
             let within_behind : j < length t.places.items = let n = slice_get_within t.behind j (place ps to) there in omega (arith, n, turning.behind) in
             let i : ℕ = length t.places.items - 1 - j in
             let inside : i < length t.places.items = omega (arith, within_behind) in
             let st = turning.stand i inside in
             let back : length t.places.items - 1 - i ≡ j = omega (arith, within_behind) in
             let same_place : place ps to ≡ place ps st.version.installer =
-            same_Some _ _ (sym there ∙ (ap (slice_get t.behind) (sym back) ∙ st.is_behind)) ∙ sym (fits st.version (member_at vs st.place st.version st.is_version)) in
+            same_Some _ _ (sym there ∙ (ap (slice_get t.behind) (sym back) ∙ st.is_behind)) ∙ sym (fits st.version (member_at c.items st.place st.version st.is_version)) in
             let is_to : to ≡ st.version.installer = g.told.apart to st.version.installer same_place b in
             let is_from : from ≡ r.txn = g.told.apart from r.txn is_at a in
             let past : k ≤ i = omega (arith, high, within_behind) in
             let after : r.place ≤ st.place = (cut i st.place st.is_place).1 past in (
               r.row,
               Contains-append_right es new (edge_of from to PredicateAnti r.row)
-                  (is_turned_edge h s r vs t turning i inside st (edge_of from to PredicateAnti r.row)
+                  (is_turned_edge s r c t turning i inside st (edge_of from to PredicateAnti r.row)
                   (ap (λ b. cond b (read_by PredicateRead r st.version.installer) (passed_by PredicateAnti r st.version.installer)) (le-ltb st.place r.place after)
                   ∙ (ap (λ n. edge_of r.txn n PredicateAnti r.row) (sym is_to) ∙ ap (λ n. edge_of n to PredicateAnti r.row) (sym is_from)))
-                  c),
+                  apart),
             )

@@ -1,10 +1,12 @@
 -- Where rows are installed by their committed writers, an installer has one place, and wrote the row.
 use Rattle.std.proofs.Common.{◌≡◌, ℕ, suc, ◌≤◌, Bool, true, false, cond, ◌==◌, Some, None, List, refl, ap, ◌∙◌, arith}
-use Rattle.std.specs.Prelude.{Contains, count_by}
+use Rattle.std.specs.Prelude.{Contains, count_by, is_some}
 use Rattle.std.proofs.lemmas.Bool.{and_parts}
 use Rattle.lab_table.specs.Row.{Row}
 use Rattle.lab_history.specs.History.{History}
-use Rattle.lab_history.specs.Version.{installers, place_in, ops_of, outcome_of, writes_row}
+use Rattle.lab_history.specs.Version.{installers, place_in, new_state, ops_of, outcome_of, writes_row}
+use Rattle.lab_history.specs.declared.operation.Op.{Op}
+use Rattle.lab_deps.specs.Collected.{committed_ops}
 use Rattle.lab_deps.specs.Edges.{InstallsAt}
 use Rattle.lab_deps.specs.Meetings.{HasWritten}
 use Rattle.lab_deps.specs.Soundness as sound
@@ -47,9 +49,13 @@ module _ (h : History) (placed : (row : Row) → Stands h (InstallOrder row) →
       two : 2 ≤ times n (installers h row) → ⊥
       two more = absurd (omega (arith, more, once))
 
-  -- one of its operations wrote the row, so that the row is among those that it wrote
-  pub row_written : (rows : List Row) → HasWritten h n rows → Contains rows row
-  row_written rows has =
+  -- one of its operations wrote the row
+  pub writing_op : (op : Op) × Contains (committed_ops h n) op × (is_some (new_state op row) ≡ true)
+  writing_op =
       let parts = and_parts (sound.has_committed (outcome_of h n)) (writes_row h n row) writes in
       let last = last_has row (ops_of h n) parts.1 in
-      has last.1 row (has_committed h n (suc last.0) last.1 (installer_committed h placed row p n installs) last.2) last.3
+      (last.1, has_committed h n (suc last.0) last.1 (installer_committed h placed row p n installs) last.2, last.3)
+
+  -- so that the row is among those that it wrote
+  pub row_written : (rows : List Row) → HasWritten h n rows → Contains rows row
+  row_written rows has = has writing_op.0 row writing_op.1 writing_op.2

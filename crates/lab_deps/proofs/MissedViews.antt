@@ -9,9 +9,8 @@ use Rattle.lab_history.specs.Version.{viewed, new_state}
 use Rattle.lab_history.specs.declared.operation.Op.{Op}
 use Rattle.lab_history.specs.declared.operation.VersionName.{VersionName}
 use Rattle.lab_history.specs.declared.operation.VersionName.TheVariants.{Initial, Of}
-use Rattle.lab_deps.specs.Broken.{choose}
+use Rattle.lab_deps.specs.Broken.{choose, is_version, is_of, own_changes, is_missed}
 use Rattle.lab_deps.specs.Passes.{first_entry}
-use Rattle.lab_deps.specs.OwnWrites.{is_version, is_of, own_changes, is_missed}
 use Rattle.lab_deps.proofs.Rows.{none_in_map}
 
 others : (n : ℕ) (v u : VersionName) → is_of n v ≡ false → own_changes n v u ≡ false

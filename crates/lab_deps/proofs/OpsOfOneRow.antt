@@ -16,9 +16,8 @@ use Rattle.lab_table.proofs.Maps.{same_row, tested_same, tests_itself}
 use Rattle.lab_table.proofs.Tests.{both}
 use Rattle.lab_history.specs.History.{History}
 use Rattle.lab_history.specs.declared.operation.Op.{Op}
-use Rattle.lab_deps.specs.EdgesByRow.{looks_at, walked_in, found_at_row, found_by, rows_of}
+use Rattle.lab_deps.specs.EdgesByRow.{Chain, looks_at, walked_in, found_at_row, found_by, rows_of}
 use Rattle.lab_deps.specs.Collected.{reading_of}
-use Rattle.lab_deps.specs.declared.versions.Version.{Version}
 use Rattle.lab_deps.proofs.NumberedRows.{other_row, rows_sorted}
 
 -- where all entries are at a row, another one has none
@@ -41,9 +40,9 @@ looks_only op row named listed other looks =
     ] refl looks
 
 module _ (h : History) (n : ℕ) (op : Op) (row : Row) (only : (other : Row) → looks_at op other ≡ true → other ≡ row) where
-  nothing : (e : Row × List Version) → e.0 ≢ row → found_at_row h n op e ≡ []
+  nothing : (e : Row × Chain) → e.0 ≢ row → found_at_row h n op e ≡ []
   nothing e other =
-      elim (looks_at op e.0) as (λ b. looks_at op e.0 ≡ b → cond b (walked_in h op.statement e.1 (reading_of h e.0 n op)) [] ≡ []) [
+      elim (looks_at op e.0) as (λ b. looks_at op e.0 ≡ b → cond b (walked_in op.statement e.1 (reading_of h e.0 n op)) [] ≡ []) [
         | true ↦ λ looks. absurd (other (only e.0 looks))
         | false ↦ λ _. refl
       ] refl
@@ -51,30 +50,30 @@ module _ (h : History) (n : ℕ) (op : Op) (row : Row) (only : (other : Row) →
   apart_rows : (a : Row) → row_test row a ≡ false → a ≢ row
   apart_rows a tested same = false≢true (sym tested ∙ ap (row_test row) same ∙ tests_itself row)
 
-  none_above : (es : List (Row × List Version)) → T (below_all row_cmp row es) → flat_map (found_at_row h n op) es ≡ []
+  none_above : (es : List (Row × Chain)) → T (below_all row_cmp row es) → flat_map (found_at_row h n op) es ≡ []
   none_above [] above = refl
   none_above (e ∷ es) above =
       let parts = both _ (below_all row_cmp row es) above in
       ap (λ fs. fs ++ flat_map (found_at_row h n op) es) (nothing e (λ same. false≢true (sym (other_row row e.0 parts.0) ∙ ap (λ r. row_test r row) same ∙ tests_itself row))) ∙ none_above es parts.1
 
   -- what is found at the row, where it is among the rows
-  at_its_row : (es : List (Row × List Version)) (vs : List Version) → T (is_sorted row_cmp es) → lookup (row_test row) es ≡ Some vs
-      → flat_map (found_at_row h n op) es ≡ found_at_row h n op (row, vs)
-  at_its_row [] vs sorted found = absurd (none-some vs found)
-  at_its_row (e ∷ es) vs sorted found =
+  at_its_row : (es : List (Row × Chain)) (chain : Chain) → T (is_sorted row_cmp es) → lookup (row_test row) es ≡ Some chain
+      → flat_map (found_at_row h n op) es ≡ found_at_row h n op (row, chain)
+  at_its_row [] chain sorted found = absurd (none-some chain found)
+  at_its_row (e ∷ es) chain sorted found =
       let parts = both (below_all row_cmp e.0 es) (is_sorted row_cmp es) sorted in
-      elim (row_test row e.0) as (λ b. row_test row e.0 ≡ b → cond b (Some e.1) (lookup (row_test row) es) ≡ Some vs → flat_map (found_at_row h n op) (e ∷ es) ≡ found_at_row h n op (row, vs)) [
+      elim (row_test row e.0) as (λ b. row_test row e.0 ≡ b → cond b (Some e.1) (lookup (row_test row) es) ≡ Some chain → flat_map (found_at_row h n op) (e ∷ es) ≡ found_at_row h n op (row, chain)) [
         | true ↦ λ same is.
             let here : row ≡ e.0 = tested_same row e.0 same in
             ap (λ fs. found_at_row h n op e ++ fs) (none_above es (subst (λ r. T (below_all row_cmp r es)) (sym here) parts.0))
             ∙ append-nil (found_at_row h n op e)
-            ∙ (λ i. found_at_row h n op (sym here i, same_Some e.1 vs is i))
+            ∙ (λ i. found_at_row h n op (sym here i, same_Some e.1 chain is i))
         | false ↦ λ other is.
-            ap (λ fs. fs ++ flat_map (found_at_row h n op) es) (nothing e (apart_rows e.0 other)) ∙ at_its_row es vs parts.1 is
+            ap (λ fs. fs ++ flat_map (found_at_row h n op) es) (nothing e (apart_rows e.0 other)) ∙ at_its_row es chain parts.1 is
       ] refl found
 
   -- and nothing, where it isn't
-  at_no_row : (es : List (Row × List Version)) → lookup (row_test row) es ≡ None → flat_map (found_at_row h n op) es ≡ []
+  at_no_row : (es : List (Row × Chain)) → lookup (row_test row) es ≡ None → flat_map (found_at_row h n op) es ≡ []
   at_no_row [] none = refl
   at_no_row (e ∷ es) none =
       elim (row_test row e.0) as (λ b. row_test row e.0 ≡ b → cond b (Some e.1) (lookup (row_test row) es) ≡ None → flat_map (found_at_row h n op) (e ∷ es) ≡ []) [
@@ -82,8 +81,8 @@ module _ (h : History) (n : ℕ) (op : Op) (row : Row) (only : (other : Row) →
         | false ↦ λ other is. ap (λ fs. fs ++ flat_map (found_at_row h n op) es) (nothing e (apart_rows e.0 other)) ∙ at_no_row es is
       ] refl none
 
-  pub found_there : (vs : List Version) → lookup (row_test row) (rows_of h) ≡ Some vs → found_by h n op ≡ found_at_row h n op (row, vs)
-  found_there vs found = at_its_row (rows_of h) vs (rows_sorted h) found
+  pub found_there : (chain : Chain) → lookup (row_test row) (rows_of h) ≡ Some chain → found_by h n op ≡ found_at_row h n op (row, chain)
+  found_there chain found = at_its_row (rows_of h) chain (rows_sorted h) found
 
   pub found_nowhere : lookup (row_test row) (rows_of h) ≡ None → found_by h n op ≡ []
   found_nowhere none = at_no_row (rows_of h) none

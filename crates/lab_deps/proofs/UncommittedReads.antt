@@ -1,18 +1,22 @@
 -- Reads of what was never committed: the place that a pass finds is one, and where it finds none there is none.
-use Rattle.std.proofs.Common.{◌≡◌, ℕ, Option, Some, None, inl, inr, refl, sym, ap, ◌∙◌, subst, arith}
+use Rattle.std.proofs.Common.{◌≡◌, ℕ, true, Option, Some, None, inl, inr, refl, sym, ap, ◌∙◌, subst, arith}
 use Rattle.std.specs.Prelude.{option_and_then, IfSome}
 use Rattle.std.proofs.lemmas.Option.{none-some}
 use Rattle.lab_table.specs.Row.{Row}
 use Rattle.lab_history.specs.History.{History}
+use Rattle.lab_history.specs.declared.operation.Op.{Op}
+use Rattle.lab_deps.specs.Broken.{is_broken}
+use Rattle.lab_deps.specs.FaultKinds.{op_fault}
 use Rattle.lab_deps.specs.Passes.{fault_in}
-use Rattle.lab_deps.specs.Soundness.{Stands}
+use Rattle.lab_deps.specs.Soundness.{IsCommittedOp, Stands}
 use Rattle.lab_deps.specs.Uncommitted.{read_of}
-use Rattle.lab_deps.specs.FaultOrder.{IsFirstRead}
+use Rattle.lab_deps.specs.FaultOrder.{ComesBefore, Precedes, IsFirstRead}
 use Rattle.lab_deps.specs.declared.fault.LocalFault.{LocalFault}
 use Rattle.lab_deps.specs.declared.fault.LocalFault.TheVariants.{AbortedRead, IntermediateRead}
+use Rattle.lab_deps.specs.declared.kind.OpFault.{OpFault}
 use Rattle.lab_deps.specs.declared.kind.OpFault.TheVariants as kind
 use Rattle.lab_deps.proofs.BrokenStands.{decides_aborted_read, decides_intermediate}
-use Rattle.lab_deps.proofs.Found.{pass_finds, pass_finds_none, pass_finds_first}
+use Rattle.lab_deps.proofs.Found.{pass_finds, pass_finds_none}
 
 -- the place of a fault that is found, where the fault is made of that place
 made_of : (found : Option LocalFault) (made : ℕ → ℕ → Row → LocalFault) (P : ℕ → ℕ → Row → Type 0) → ((n k : ℕ) (row : Row) → read_of (made n k row) ≡ Some (record { txn = n; op = k; row = row }))
@@ -30,59 +34,75 @@ no_fault (Some x) made place each none =
     let w : (n k : ℕ) × (row : Row) × (made n k row ≡ x) = each x refl in
     absurd (none-some (record { txn = w.0; op = w.1; row = w.2 }) (sym none ∙ ap read_of (sym w.3) ∙ place w.0 w.1 w.2))
 
-module _ (h : History) where
-  aborted : (x : LocalFault) → fault_in kind.AbortedRead h ≡ Some x → (n k : ℕ) × (row : Row) × (AbortedRead n k row ≡ x) × Stands h (AbortedRead n k row)
-  aborted x e = let w = pass_finds kind.AbortedRead h x e in (w.0, w.1, w.3, w.6, (w.2, w.4, (decides_aborted_read h w.0 w.1 w.2 w.3).0 w.5))
+-- a kind whose faults are made so, where its test decides when they stand
+record IsRead (h : History) (k : OpFault) (made : ℕ → ℕ → Row → LocalFault) : Type 0 where
+  at : (n j : ℕ) (row : Row) → read_of (made n j row) ≡ Some (record { txn = n; op = j; row = row })
+  is : (n j : ℕ) (row : Row) → op_fault k n j row ≡ made n j row
+  stands : (n j : ℕ) (op : Op) (row : Row) → IsCommittedOp h n j op → is_broken k h n j op row ≡ true → Stands h (made n j row)
+  found : (n j : ℕ) (row : Row) → Stands h (made n j row) → (op : Op) × IsCommittedOp h n j op × (is_broken k h n j op row ≡ true)
+  earlier : (n j : ℕ) (row : Row) (m i : ℕ) (other : Row) → Precedes h (made n j row) (made m i other) → ComesBefore h n j row m i other
 
-  pub aborted_stands : IfSome (option_and_then read_of (fault_in kind.AbortedRead h)) (λ read. Stands h (AbortedRead read.txn read.op read.row))
-  aborted_stands = made_of (fault_in kind.AbortedRead h) AbortedRead (λ n k row. Stands h (AbortedRead n k row)) (λ n k row. refl) aborted
-
-  pub none_aborted : option_and_then read_of (fault_in kind.AbortedRead h) ≡ None → (n k : ℕ) (row : Row) → Stands h (AbortedRead n k row) → ⊥
-  none_aborted none n k row (op, c, d) =
-      let nothing : fault_in kind.AbortedRead h ≡ None = no_fault (fault_in kind.AbortedRead h) AbortedRead (λ n k row. refl) (λ x e. let w = aborted x e in (w.0, w.1, w.2, w.3)) none in
-      pass_finds_none kind.AbortedRead h nothing n k op row c ((decides_aborted_read h n k op row).1 d)
-
-  intermediate : (x : LocalFault) → fault_in kind.IntermediateRead h ≡ Some x → (n k : ℕ) × (row : Row) × (IntermediateRead n k row ≡ x) × Stands h (IntermediateRead n k row)
-  intermediate x e = let w = pass_finds kind.IntermediateRead h x e in (w.0, w.1, w.3, w.6, (w.2, w.4, (decides_intermediate h w.0 w.1 w.2 w.3).0 w.5))
-
-  pub intermediate_stands : IfSome (option_and_then read_of (fault_in kind.IntermediateRead h)) (λ read. Stands h (IntermediateRead read.txn read.op read.row))
-  intermediate_stands = made_of (fault_in kind.IntermediateRead h) IntermediateRead (λ n k row. Stands h (IntermediateRead n k row)) (λ n k row. refl) intermediate
-
-  pub none_intermediate : option_and_then read_of (fault_in kind.IntermediateRead h) ≡ None → (n k : ℕ) (row : Row) → Stands h (IntermediateRead n k row) → ⊥
-  none_intermediate none n k row (op, c, d) =
-      let nothing : fault_in kind.IntermediateRead h ≡ None =
-      no_fault (fault_in kind.IntermediateRead h) IntermediateRead (λ n k row. refl) (λ x e. let w = intermediate x e in (w.0, w.1, w.2, w.3)) none in
-      pass_finds_none kind.IntermediateRead h nothing n k op row c ((decides_intermediate h n k op row).1 d)
+module _ (h : History) (k : OpFault) (made : ℕ → ℕ → Row → LocalFault) (read : IsRead h k made) where
+  stands_so : IfSome (option_and_then read_of (fault_in k h)) (λ read. Stands h (made read.txn read.op read.row))
+  stands_so =
+      made_of (fault_in k h) made (λ n j row. Stands h (made n j row)) read.at
+      (λ x e. let w = pass_finds k h x e in (w.txn, w.number, w.row, sym (read.is w.txn w.number w.row) ∙ w.is, read.stands w.txn w.number w.op w.row w.there w.breaks))
 
   -- no such read comes before the one that is found
+  first_so : IfSome (option_and_then read_of (fault_in k h)) (λ read. IsFirstRead h made read.txn read.op read.row)
+  first_so =
+      made_of (fault_in k h) made (λ n j row. IsFirstRead h made n j row) read.at
+      (λ x e.
+      let w = pass_finds k h x e in (
+        w.txn,
+        w.number,
+        w.row,
+        sym (read.is w.txn w.number w.row) ∙ w.is,
+        λ n j row stands before.
+            let t = read.found n j row stands in
+            w.first n j t.0 row (read.earlier n j row w.txn w.number w.row before) t.1 t.2,
+      ))
+
+  none_so : option_and_then read_of (fault_in k h) ≡ None → (n j : ℕ) (row : Row) → Stands h (made n j row) → ⊥
+  none_so none n j row stands =
+      let nothing : fault_in k h ≡ None =
+      no_fault (fault_in k h) made read.at (λ x e. let w = pass_finds k h x e in (w.txn, w.number, w.row, sym (read.is w.txn w.number w.row) ∙ w.is)) none in
+      let t = read.found n j row stands in
+      pass_finds_none k h nothing n j t.0 row t.1 t.2
+
+module _ (h : History) where
+  aborted : IsRead h kind.AbortedRead AbortedRead
+  aborted = record {
+    at = λ n j row. refl;
+    is = λ n j row. refl;
+    stands = λ n j op row c t. (op, c, (decides_aborted_read h n j op row).0 t);
+    found = λ n j row s. (s.0, s.1, (decides_aborted_read h n j s.0 row).1 s.2);
+    earlier = λ n j row m i other before. elim before [ inl less ↦ absurd (omega (arith, less)) | inr s ↦ s.1 ];
+  }
+
+  intermediate : IsRead h kind.IntermediateRead IntermediateRead
+  intermediate = record {
+    at = λ n j row. refl;
+    is = λ n j row. refl;
+    stands = λ n j op row c t. (op, c, (decides_intermediate h n j op row).0 t);
+    found = λ n j row s. (s.0, s.1, (decides_intermediate h n j s.0 row).1 s.2);
+    earlier = λ n j row m i other before. elim before [ inl less ↦ absurd (omega (arith, less)) | inr s ↦ s.1 ];
+  }
+
+  pub aborted_stands : IfSome (option_and_then read_of (fault_in kind.AbortedRead h)) (λ read. Stands h (AbortedRead read.txn read.op read.row))
+  aborted_stands = stands_so h kind.AbortedRead AbortedRead aborted
+
   pub aborted_first : IfSome (option_and_then read_of (fault_in kind.AbortedRead h)) (λ read. IsFirstRead h AbortedRead read.txn read.op read.row)
-  aborted_first = made_of (fault_in kind.AbortedRead h) AbortedRead (λ n k row. IsFirstRead h AbortedRead n k row) (λ n k row. refl) each
-    where
-      each : (x : LocalFault) → fault_in kind.AbortedRead h ≡ Some x → (n k : ℕ) × (row : Row) × (AbortedRead n k row ≡ x) × IsFirstRead h AbortedRead n k row
-      each x e =
-          let w = pass_finds_first kind.AbortedRead h x e in (
-            w.0,
-            w.1,
-            w.2,
-            w.3,
-            λ n k row stands before. elim before [
-              | inl less ↦ absurd (omega (arith, less))
-              | inr s ↦ w.4 n k stands.0 row s.1 stands.1 ((decides_aborted_read h n k stands.0 row).1 stands.2)
-            ],
-          )
+  aborted_first = first_so h kind.AbortedRead AbortedRead aborted
+
+  pub none_aborted : option_and_then read_of (fault_in kind.AbortedRead h) ≡ None → (n k : ℕ) (row : Row) → Stands h (AbortedRead n k row) → ⊥
+  none_aborted none n k row stands = none_so h kind.AbortedRead AbortedRead aborted none n k row stands
+
+  pub intermediate_stands : IfSome (option_and_then read_of (fault_in kind.IntermediateRead h)) (λ read. Stands h (IntermediateRead read.txn read.op read.row))
+  intermediate_stands = stands_so h kind.IntermediateRead IntermediateRead intermediate
 
   pub intermediate_first : IfSome (option_and_then read_of (fault_in kind.IntermediateRead h)) (λ read. IsFirstRead h IntermediateRead read.txn read.op read.row)
-  intermediate_first = made_of (fault_in kind.IntermediateRead h) IntermediateRead (λ n k row. IsFirstRead h IntermediateRead n k row) (λ n k row. refl) each
-    where
-      each : (x : LocalFault) → fault_in kind.IntermediateRead h ≡ Some x → (n k : ℕ) × (row : Row) × (IntermediateRead n k row ≡ x) × IsFirstRead h IntermediateRead n k row
-      each x e =
-          let w = pass_finds_first kind.IntermediateRead h x e in (
-            w.0,
-            w.1,
-            w.2,
-            w.3,
-            λ n k row stands before. elim before [
-              | inl less ↦ absurd (omega (arith, less))
-              | inr s ↦ w.4 n k stands.0 row s.1 stands.1 ((decides_intermediate h n k stands.0 row).1 stands.2)
-            ],
-          )
+  intermediate_first = first_so h kind.IntermediateRead IntermediateRead intermediate
+
+  pub none_intermediate : option_and_then read_of (fault_in kind.IntermediateRead h) ≡ None → (n k : ℕ) (row : Row) → Stands h (IntermediateRead n k row) → ⊥
+  none_intermediate none n k row stands = none_so h kind.IntermediateRead IntermediateRead intermediate none n k row stands

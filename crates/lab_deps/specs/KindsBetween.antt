@@ -2,6 +2,7 @@
 use Rattle.std.specs.Prelude.{◌≡◌, ◌↔◌, ℕ, Some, true, List, map, length, slice_get, Contains}
 use Rattle.lab_table.specs.Row.{Row}
 use Rattle.lab_deps.specs.KindBits.{has_bit, bits_of, column_of, edge_of}
+use Rattle.lab_deps.specs.KindSets.{among}
 use Rattle.lab_deps.specs.declared.edge.Edge.{Edge}
 use Rattle.lab_deps.specs.declared.edge.Kind.{Kind}
 use Rattle.lab_deps.specs.declared.kinds.Kinds.{Kinds}
@@ -13,7 +14,7 @@ pub record KindsBetween : Type 0 where
 
 -- these are the kinds of the dependencies from one transaction to another
 abbrev pub AreKinds : List Edge → ℕ → ℕ → Kinds → Type 0
-AreKinds es from to kinds = (kind : Kind) → (has_bit kinds.bits kind ≡ true) ↔ ((row : Row) × Contains es (edge_of from to kind row))
+AreKinds es from to kinds = (kind : Kind) → (among kinds kind ≡ true) ↔ ((row : Row) × Contains es (edge_of from to kind row))
 
 -- these are the kinds from one transaction to each of a list
 pub record AreKindsTo (es : List Edge) (numbers : List ℕ) (from : ℕ) (all : List Kinds) : Type 0 where

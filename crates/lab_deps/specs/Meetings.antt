@@ -1,21 +1,17 @@
 -- The dependencies between two transactions, found at rows that one of them wrote.
-use Rattle.std.specs.Prelude.{◌≡◌, ℕ, suc, ◌-◌, ◌==◌, Bool, true, false, cond, Option, Some, None, is_some, List, [], ◌∷◌, ◌++◌, Contains}
-use Rattle.std.specs.List.{flat_map}
+use Rattle.std.specs.Prelude.{◌≡◌, ℕ, suc, ◌-◌, ◌==◌, nat_lt, nat_le, Bool, ◌&&◌, true, false, Option, Some, None, is_some, List, [], ◌∷◌, ◌++◌, Contains}
 use Rattle.std.specs.FinMap as finite
 use Rattle.lab_table.specs.Row.{Row}
-use Rattle.lab_table.specs.Statement.{matches}
+use Rattle.lab_table.specs.Statement.{matches, may_match}
 use Rattle.lab_table.specs.declared.statement.Statement.{Statement}
 use Rattle.lab_history.specs.History.{History}
-use Rattle.lab_history.specs.Version.{installers, place_in, new_state}
+use Rattle.lab_history.specs.Version.{installers, place_in, new_state, viewed}
 use Rattle.lab_history.specs.declared.operation.Op.{Op}
-use Rattle.lab_deps.specs.Collected.{apart, reading_of, committed_ops}
-use Rattle.lab_deps.specs.Edges.{differ}
-use Rattle.lab_deps.specs.EdgesByRow.{edges_by, looks_at}
-use Rattle.lab_deps.specs.KindBits.{edge_of}
+use Rattle.lab_deps.specs.Collected.{committed_ops}
+use Rattle.lab_deps.specs.Edges.{differ, place_of}
 use Rattle.lab_deps.specs.Passes.{state_after}
-use Rattle.lab_deps.specs.declared.edge.Edge.{Edge}
-use Rattle.lab_deps.specs.declared.edge.Kind.TheVariants.{Write}
-use Rattle.lab_deps.specs.declared.reading.Reading.{Reading}
+use Rattle.lab_deps.specs.declared.edge.Kind.{Kind}
+use Rattle.lab_deps.specs.declared.edge.Kind.TheVariants.{Write, ItemRead, PredicateRead, ItemAnti, PredicateAnti}
 
 -- the rows of entries
 abbrev pub named_in : {A : Type 0} → List (Row × A) → List Row
@@ -41,28 +37,36 @@ is_next (Some p) (Some q) = q == suc p
 abbrev pub installs_next : History → ℕ → ℕ → Row → Bool
 installs_next h n m row = is_next (place_in (installers h row) n) (place_in (installers h row) m)
 
--- the write-dependency of the second on the first at a row
-abbrev pub step_at : History → ℕ → ℕ → Row → List Edge
-step_at h n m row = cond (installs_next h n m row) (apart (edge_of n m Write row)) []
-
 -- whether exactly one of the version at a place, counted from 1, and the one before matches
 abbrev pub turns : History → Statement → Row → ℕ → Bool
 turns h s row p = differ (matches s row (state_after h row (installers h row) (p - 1))) (matches s row (state_after h row (installers h row) p))
 
--- all that a reader has to do with the installer at a place, counted from 1
-abbrev pub met : History → Statement → ℕ → Option ℕ → Option Reading → List Edge
-met h s n None r = []
-met h s n (Some p) None = []
-met h s n (Some p) (Some r) = edges_by r (p - 1) n (turns h s r.row p)
+-- whether a reader of the version at a place, where 0 is the initial one, and the installer of that at another are tied in a way
+abbrev pub is_tied : History → Statement → Row → Kind → ℕ → ℕ → Bool
+is_tied h s row Write v p = false
+is_tied h s row ItemRead v p = v == p
+is_tied h s row PredicateRead v p = nat_le p v && turns h s row p
+is_tied h s row ItemAnti v p = p == suc v
+is_tied h s row PredicateAnti v p = nat_lt v p && turns h s row p
 
--- the same of a transaction's operation at a row
-abbrev pub met_at : History → ℕ → ℕ → Op → Row → List Edge
-met_at h reader n op row = cond (looks_at op row) (met h op.statement n (place_in (installers h row) n) (reading_of h row reader op)) []
+-- the same, where there are two such places
+abbrev pub tied_in : History → Statement → Row → Kind → Option ℕ → Option ℕ → Bool
+tied_in h s row kind None p = false
+tied_in h s row kind (Some v) None = false
+tied_in h s row kind (Some v) (Some p) = is_tied h s row kind v p
 
--- the same at some rows
-abbrev pub met_by : History → ℕ → ℕ → List Row → Op → List Edge
-met_by h reader n rows op = flat_map (met_at h reader n op) rows
+-- whether an operation has to look at a row for dependencies of a kind
+abbrev pub looks_for : Kind → Op → Row → Bool
+looks_for Write op row = false
+looks_for ItemRead op row = is_some (finite.get op.rows row)
+looks_for PredicateRead op row = may_match op.statement row
+looks_for ItemAnti op row = is_some (finite.get op.rows row)
+looks_for PredicateAnti op row = may_match op.statement row
 
--- the same of all its operations
-abbrev pub met_in : History → ℕ → ℕ → List Row → List Edge
-met_in h reader n rows = flat_map (met_by h reader n rows) (committed_ops h reader)
+-- whether an operation of a reader is tied in a way to an installer of a row
+abbrev pub meets : History → Kind → ℕ → ℕ → Op → Row → Bool
+meets h kind n reader op row = looks_for kind op row && tied_in h op.statement row kind (place_of h reader row (viewed op row)) (place_in (installers h row) n)
+
+-- whether one of a reader's operations is
+abbrev pub Meets : History → Kind → ℕ → ℕ → Row → Type 0
+Meets h kind n reader row = (op : Op) × Contains (committed_ops h reader) op × (meets h kind n reader op row ≡ true)

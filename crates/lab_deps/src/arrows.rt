@@ -30,7 +30,7 @@ pub struct Arrows {
 }
 
 impl Arrows {
-    /// No dependencies between a history's transactions. NoMemory where a growth was refused.
+    /// No dependencies between a history's transactions. NoMemory where an allocation was refused.
     pub fn none(alloc: Global, history: &History) -> Result<Arrows, NoMemory>
         ensures told { IfOk result (λ arrows. Tells arrows.places.items arrows.width arrows.cells.items arrows.places.items []) }
         ensures places { IfOk result (λ arrows. HasPlaces history.now arrows.places.items) }

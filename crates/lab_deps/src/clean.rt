@@ -2,18 +2,20 @@
 //!
 //! Where the walk finds it so, no pass finds a fault. Where it doesn't, the passes say which is the first, if any.
 
-ghost use Rattle.std.specs.Prelude.{◌≡◌, ◌≤◌, ◌+◌, ℕ, true, Some, length, T};
+ghost use Rattle.std.specs.Prelude.{◌≡◌, ◌≤◌, ◌+◌, ◌-◌, ℕ, true, Some, length, T};
+ghost use Rattle.std.specs.Option.{option_copied};
 ghost use Rattle.std.specs.FinMap as map;
 ghost use Rattle.lab_table.specs.Row.{Row, row_cmp};
 ghost use Rattle.lab_history.specs.Limits.{max_operations};
-ghost use Rattle.lab_history.specs.Version.{IsCommitted};
+ghost use Rattle.lab_history.specs.Version.{IsCommitted, op_at, ops_of};
 ghost use Rattle.lab_history.specs.declared.operation.VersionName.{VersionName as Named};
 ghost use Rattle.lab_deps.specs.Fine as fine;
 ghost use Rattle.lab_deps.specs.Passes as pass;
 
 use crate::due::{lists_due, writes_due};
 use crate::fine::sees_fine;
-use crate::lookup::Hints;
+use crate::lookup::{Hints, op_of};
+use crate::own::missed_row;
 use lab_history::{History, Op, Outcome, Txn, VersionName};
 use lab_table::{RowName, TxnNo};
 
@@ -44,12 +46,15 @@ fn is_clean_txn(history: &History, txn: &Txn) -> bool
 fn are_clean(history: &History, txn: TxnNo, ops: &[Op]) -> bool
     requires committed { IsCommitted history.now txn }
     requires few { length ops.now ≤ max_operations }
+    requires ops { ops_of history.now txn ≡ ops.now }
     ensures { result ≡ true → fine.AreClean history.now txn ops.now }
 {
     let mut hints = Hints::new();
     let mut known: &[(RowName, VersionName)] = &[];
     for (index, op) in ops.iter().enumerate() {
-        if !is_clean_op(history, txn, index as u32 + 1, known, op, &mut hints) {
+        let number = index as u32 + 1;
+        let before = op_of(ops, number - 1);
+        if !is_clean_op(history, txn, number, before, known, op, &mut hints) {
             return false;
         }
         known = op.view.entries();
@@ -62,16 +67,22 @@ fn is_clean_op(
     history: &History,
     txn: TxnNo,
     number: u32,
+    before: Option<&Op>,
     known: &[(RowName, VersionName)],
     op: &Op,
     hints: &mut Hints,
 ) -> bool
     requires committed { IsCommitted history.now txn }
+    requires number { 1 ≤ number }
+    requires before { option_copied before ≡ op_at (ops_of history.now txn) (number - 1) }
     requires sorted { T (map.is_sorted row_cmp known.now) }
     requires known { (row : Row) (v : Named) → map.find row_cmp row known.now ≡ Some v → fine.is_fine history.now txn number row v ≡ true }
     ensures clean { result ≡ true → fine.IsCleanOp history.now txn number op.now }
     ensures known { result ≡ true → (row : Row) (v : Named) → map.get op.now.view row ≡ Some v → fine.is_fine history.now txn (number + 1) row v ≡ true }
 {
+    if missed_row(txn, number - 1, before, op).is_some() {
+        return false;
+    }
     if !sees_fine(history, txn, number, known, op, hints) {
         return false;
     }

@@ -9,11 +9,10 @@ ghost use Rattle.lab_deps.specs.Broken as test;
 ghost use Rattle.lab_deps.specs.Passes as pass;
 ghost use Rattle.lab_deps.specs.declared.kind.OpFault.TheVariants as kind;
 
-use crate::broken::{is_extra, is_unlisted, viewed};
-use crate::effect::{change_differs, is_same, state_near, state_of};
-use crate::kind::OpFault;
+use crate::broken::{is_extra, is_unlisted, lists_other, viewed};
+use crate::effect::{change_differs, is_same, state_near};
 use crate::near::value_near;
-use crate::passes::broken_row;
+use crate::passes::miswritten_row;
 use crate::relevant_rows::only_row;
 use crate::span::within;
 use crate::unlisted::unlisted_row;
@@ -42,10 +41,7 @@ pub fn lists_due(history: &History, op: &Op) -> bool
 fn lists_at(history: &History, op: &Op, row: RowName) -> bool
     ensures { result ≡ true → (n k : ℕ) → test.is_broken kind.RowsDiffer history.now n k op.now row ≡ false }
 {
-    let due = op
-        .statement
-        .listed(row, state_of(history, row, viewed(op, row)));
-    is_same(op.rows.get(row), due)
+    !lists_other(history, op, row, viewed(op, row))
 }
 
 /// Whether an operation lists of each row of its view what is due.
@@ -118,7 +114,7 @@ pub fn writes_due(history: &History, txn: TxnNo, number: u32, op: &Op) -> bool
     if op.statement.is_read_only() {
         op.writes.entries().is_empty()
     } else if op.statement.inserted().is_some() {
-        broken_row(history, OpFault::WritesDiffer, txn, number, op).is_none()
+        miswritten_row(history, op).is_none()
     } else {
         changes_due(history, txn, number, op)
     }

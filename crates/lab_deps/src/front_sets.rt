@@ -42,7 +42,7 @@ impl Model for FrontSets {
 const STEP: usize = 16;
 
 impl FrontSets {
-    /// Those of these numbers, of which the sets have those below a bound. NoMemory where a growth was refused.
+    /// Those of these numbers, of which the sets have those below a bound. NoMemory where an allocation was refused.
     pub fn of(alloc: Global, bound: u16, numbers: Vec<u16>) -> Result<FrontSets, NoMemory>
         ensures { IfOk result (λ found. found ≡ numbers.items) }
     {
@@ -65,6 +65,9 @@ impl FrontSets {
     pub fn add_first(&self, table: &mut SetTable, at: u16, count: usize)
         ensures { Gains self.now 0 count at table.old table.new }
     {
+        if count == 0 {
+            return;
+        }
         let bound = self.bound as usize;
         let len = table.len();
         if bound != len {
@@ -114,7 +117,7 @@ impl FrontSets {
     }
 }
 
-/// The sets of the first of these numbers, as far as they are below a bound. NoMemory where a growth was refused.
+/// The sets of the first of these numbers, as far as they are below a bound. NoMemory where an allocation was refused.
 fn fronts_of(alloc: Global, bound: u16, numbers: &[u16]) -> Result<Fronts, NoMemory>
     ensures sets { IfOk result (λ fronts. AreFronts bound numbers.now fronts.sets.items) }
     ensures all { IfOk result (λ fronts. IsFront bound numbers.now (length numbers.now) fronts.all) }
@@ -129,8 +132,8 @@ fn fronts_of(alloc: Global, bound: u16, numbers: &[u16]) -> Result<Fronts, NoMem
     Ok(Fronts { sets, all })
 }
 
-/// Adds a copy of the set of the first numbers where its turn has come, and says when the next one's is. NoMemory where a
-/// growth was refused.
+/// Adds a copy of the set of the first numbers where its turn has come, and says when the next one's is. NoMemory where an
+/// allocation was refused.
 fn add_front(
     alloc: Global,
     sets: &mut Vec<NumberSet>,

@@ -3,6 +3,7 @@
 
 ghost use Rattle.std.specs.Prelude.{◌≡◌, ◌⊎◌, ◌↔◌, ◌-◌, ℕ, true, false, length, Contains, OnOk, IfOk};
 ghost use Rattle.lab_table.specs.Row.{Row};
+ghost use Rattle.lab_table.specs.declared.statement.Statement.{Statement as Spelled};
 ghost use Rattle.lab_deps.specs.CellGains.{CellsGain, IsOfTable};
 ghost use Rattle.lab_deps.specs.EdgesByRow.{rows_of, walked};
 ghost use Rattle.lab_deps.specs.FrontSets.{AreRising, IsCut, Gains};
@@ -43,7 +44,7 @@ struct Gatherer {
     answers: Vec<bool>,
 }
 
-/// The kinds of those dependencies of a history that are meant. NoMemory where a growth was refused.
+/// The kinds of those dependencies of a history that are meant. NoMemory where an allocation was refused.
 pub fn arrows_of(
     alloc: Global,
     history: &History,
@@ -96,21 +97,31 @@ impl Gatherer {
 }
 
 impl Gatherer {
-    /// Takes all that a reader has to do with a row's versions, which turn as is said.
+    /// Takes all that a reader has to do with a row's versions, one after another.
+    fn take_along(
+        &mut self,
+        statement: &Statement,
+        reading: Reading,
+        versions: &Versions,
+    ) -> Result<(), NoMemory>
+        ensures { OnOk result (Grows (where_fits (FitsVersions versions.now.items) (λ g made es. Gathers g.arrows.places.items g.arrows.width g.arrows.cells.items g.reads g.antis made es)) self.old self.new (walked statement.now reading versions.now)) }
+    {
+        reading.add_items(self, versions.as_slice())?;
+        reading.add_changes(self, statement, versions)
+    }
+
+    /// Takes all that a reader has to do with a row's versions, which turn as is said by what matches its statement.
     fn take_by_turning(
         &mut self,
-        history: &History,
-        statement: &Statement,
         reading: Reading,
         versions: &Versions,
         turning: &Turning,
     ) -> Result<(), NoMemory>
-        requires { IsTurning (class_by statement.now reading.row versions.now) versions.now turning.now }
-        ensures { OnOk result (Grows (where_fits (FitsVersions versions.now) (λ g made es. Gathers g.arrows.places.items g.arrows.width g.arrows.cells.items g.reads g.antis made es)) self.old self.new (walked history.now statement.now reading versions.now)) }
+        requires { AreRising turning.now.places.items }
+        ensures { OnOk result ((s : Spelled) → IsTurning (class_by s reading.row versions.now) versions.now.items turning.now
+            → Grows (where_fits (FitsVersions versions.now.items) (λ g made es. Gathers g.arrows.places.items g.arrows.width g.arrows.cells.items g.reads g.antis made es)) self.old self.new (walked s reading versions.now)) }
     {
-        let items = versions.as_slice();
-        reading.add_items(self, items)?;
-        reading.add_change_at(self, history, statement, items, 0)?;
+        reading.add_items(self, versions.as_slice())?;
         self.take_turning(reading, turning);
         Ok(())
     }
@@ -129,20 +140,19 @@ impl EdgeSink for Gatherer {
 impl RowSink for Gatherer {
     fn take_walked(
         &mut self,
-        history: &History,
         statement: &Statement,
         reading: Reading,
         versions: &Versions,
     ) -> Result<(), NoMemory> {
-        if !statement.tests_values() && versions.is_steady() {
-            let turns = versions.turns();
-            return reading.add_edges_at_turns(self, history, statement, versions.as_slice(), turns);
-        }
         match versions.turning(&mut self.answers, statement, reading.row)? {
-            None => reading.add_edges(self, history, statement, versions),
-            Some(turning) => {
-                self.take_by_turning(history, statement, reading, versions, turning)
+            None => {
+                if versions.repeat() {
+                    reading.add_edges(self, statement, versions)
+                } else {
+                    self.take_along(statement, reading, versions)
+                }
             }
+            Some(turning) => self.take_by_turning(reading, versions, turning),
         }
     }
 }

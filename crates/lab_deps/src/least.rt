@@ -1,138 +1,168 @@
 //! The least dependency of one transaction on another.
 
-ghost use Rattle.std.specs.Prelude.{◌≡◌, [], ◌∷◌, IfOk};
-ghost use Rattle.std.specs.List.{flat_map};
-ghost use Rattle.lab_deps.specs.Collected.{all_edges};
-ghost use Rattle.lab_deps.specs.LeastEdge.{fits, comes_first, less_of, IsLeast};
-ghost use Rattle.lab_deps.specs.Meetings.{step_at, HasWritten};
+ghost use Rattle.std.specs.Prelude.{◌≡◌, ◌↔◌, true, None, Contains, IfOk, option_map};
+ghost use Rattle.std.specs.FinMap as map;
+ghost use Rattle.lab_history.specs.Version.{IsCommitted};
+ghost use Rattle.lab_table.specs.Row.{Row};
+ghost use Rattle.lab_deps.specs.Collected.{committed_ops};
+ghost use Rattle.lab_deps.specs.Edges.{Depends};
+ghost use Rattle.lab_deps.specs.KindBits.{edge_of};
+ghost use Rattle.lab_deps.specs.KindSets.{among};
+ghost use Rattle.lab_deps.specs.LeastEdge.{fits, least_kind, IsLeast};
+ghost use Rattle.lab_deps.specs.LeastRow.{first_row, least_at, IsLeastRow};
+ghost use Rattle.lab_deps.specs.Meetings.{installs_next, meets, Meets};
+ghost use Rattle.lab_deps.specs.Passes as pass;
 ghost use Rattle.lab_deps.specs.Scopes.{Allows, edges_in};
-ghost use Rattle.lab_deps.specs.Soundness.{IsSound};
+ghost use Rattle.lab_deps.specs.Soundness.{Stands};
+ghost use Rattle.lab_deps.specs.declared.edge.Kind.{Kind as Way};
+ghost use Rattle.lab_deps.specs.declared.fault.LocalFault.TheVariants as fault;
 
 use crate::collect::committed_ops;
-use crate::edge::Edge;
+use crate::edge::{Edge, Kind};
 use crate::kinds::Kinds;
-use crate::meeting::{add_meetings, add_steps};
+use crate::meeting::{first_meeting, first_next};
+use crate::row::least;
 use crate::scope::Scope;
-use crate::sink::EdgeSink;
 use crate::written::rows_written;
-use lab_history::History;
+use lab_history::{History, Op};
 use lab_table::{NoMemory, RowName, TxnNo};
 use std::alloc::Global;
 
-/// The least of the edges of some kinds that are meant, from one transaction to another. NoMemory where a growth was
-/// refused.
-///
-/// No row is looked at that neither of the two wrote: so it costs what the two did, however long the history is.
+/// The least of the edges of some kinds that are meant, from one transaction to another, between which there are edges of
+/// these kinds. NoMemory where an allocation was refused.
 pub fn least_of_two(
     alloc: Global,
     history: &History,
     scope: Scope,
     from: TxnNo,
     to: TxnNo,
+    there: Kinds,
     kinds: Kinds,
 ) -> Result<Option<Edge>, NoMemory>
-    requires { Allows scope history.now }
-    ensures { IfOk result (IsLeast (fits from to kinds.bits) (edges_in scope history.now)) }
+    requires allowed { Allows scope history.now }
+    requires there { (kind : Way) → among there kind ≡ true ↔ ((row : Row) × Contains (edges_in scope history.now) (edge_of from to kind row)) }
+    ensures { IfOk result (IsLeast (fits from to (among kinds)) (edges_in scope history.now)) }
 {
-    let rows = rows_written(alloc, history, from)?;
-    let mut least = Least {
-        from,
-        to,
-        kinds,
-        found: None,
-    };
-    add_steps(&mut least, history, &rows, from, to)?;
-    if least.found.is_some() {
-        return Ok(least.found);
-    }
-    match scope {
-        Scope::Writes => Ok(least.found),
-        Scope::All => least_with_meetings(alloc, history, &rows, least),
-    }
-}
-
-/// The least of those so far, and of those between the two transactions' operations and installers.
-fn least_with_meetings(
-    alloc: Global,
-    history: &History,
-    rows: &[RowName],
-    least: Least,
-) -> Result<Option<Edge>, NoMemory>
-    requires sound { IsSound history.now }
-    requires rows { HasWritten history.now least.from rows.now }
-    requires steps { IsLeast (fits least.from least.to least.kinds.bits) (flat_map (step_at history.now least.from least.to) rows.now) least.found }
-    ensures { IfOk result (IsLeast (fits least.from least.to least.kinds.bits) (all_edges history.now)) }
-{
-    let mut least = least;
-    let from = least.from;
-    let to = least.to;
-    add_meetings(
-        &mut least,
-        history,
-        rows,
-        from,
-        to,
-        committed_ops(history, to),
-    )?;
-    let rows = rows_written(alloc, history, to)?;
-    add_meetings(
-        &mut least,
-        history,
-        &rows,
-        to,
-        from,
-        committed_ops(history, from),
-    )?;
-    Ok(least.found)
-}
-
-/// Keeps the least edge from one transaction to another among those of some kinds.
-#[derive(Clone, Copy)]
-struct Least {
-    from: TxnNo,
-    to: TxnNo,
-    kinds: Kinds,
-    found: Option<Edge>,
-}
-
-impl EdgeSink for Least {
-    ghost handed = { λ s made es. (s.from ∷ s.to ∷ s.kinds.bits ∷ [] ≡ made) × IsLeast (fits s.from s.to s.kinds.bits) es s.found };
-
-    fn take(&mut self, edge: Edge) -> Result<(), NoMemory> {
-        let least = self.less_of(edge);
-        self.found = least;
-        Ok(())
-    }
-}
-
-impl Least {
-    /// The lesser of an edge and the one so far, where it is one of those that are looked for.
-    fn less_of(&self, edge: Edge) -> Option<Edge>
-        ensures { result ≡ less_of (fits self.now.from self.now.to self.now.kinds.bits) edge self.now.found }
-    {
-        if !self.fits(&edge) {
-            self.found
-        } else if comes_first(edge, self.found) {
-            Some(edge)
-        } else {
-            self.found
+    match least_kind(there, kinds) {
+        None => Ok(None),
+        Some(kind) => {
+            let row = least_row(alloc, history, from, to, kind)?;
+            Ok(edge_at(from, to, kind, row))
         }
     }
+}
 
-    /// Whether an edge is one of those that are looked for.
-    fn fits(&self, edge: &Edge) -> bool
-        ensures { result ≡ fits self.now.from self.now.to self.now.kinds.bits edge.now }
-    {
-        edge.from == self.from && (edge.to == self.to && self.kinds.has(edge.kind))
+/// The first kind that is among both.
+fn least_kind(there: Kinds, kinds: Kinds) -> Option<Kind>
+    ensures { result ≡ least_kind (among there) (among kinds) }
+{
+    if there.has(Kind::Write) && kinds.has(Kind::Write) {
+        Some(Kind::Write)
+    } else if there.has(Kind::ItemRead) && kinds.has(Kind::ItemRead) {
+        Some(Kind::ItemRead)
+    } else if there.has(Kind::PredicateRead) && kinds.has(Kind::PredicateRead) {
+        Some(Kind::PredicateRead)
+    } else if there.has(Kind::ItemAnti) && kinds.has(Kind::ItemAnti) {
+        Some(Kind::ItemAnti)
+    } else if there.has(Kind::PredicateAnti) && kinds.has(Kind::PredicateAnti) {
+        Some(Kind::PredicateAnti)
+    } else {
+        None
     }
 }
 
-/// Whether an edge is less than one that there may be.
-fn comes_first(edge: Edge, found: Option<Edge>) -> bool
-    ensures { result ≡ comes_first edge found }
+/// The edge at a row, if there is one.
+fn edge_at(from: TxnNo, to: TxnNo, kind: Kind, row: Option<RowName>) -> Option<Edge>
+    ensures { result ≡ option_map (edge_of from to kind) row }
 {
-    match found {
-        None => true,
-        Some(least) => edge.cmp(&least).is_lt(),
+    match row {
+        None => None,
+        Some(row) => Some(Edge {
+            from,
+            to,
+            kind,
+            row,
+        }),
     }
+}
+
+/// The least row at which one transaction depends on another in a way; both have committed. NoMemory where an
+/// allocation was refused.
+///
+/// No row is looked at that neither of the two wrote: so it costs what the two did, however long the history is.
+fn least_row(
+    alloc: Global,
+    history: &History,
+    from: TxnNo,
+    to: TxnNo,
+    kind: Kind,
+) -> Result<Option<RowName>, NoMemory>
+    requires placed { (row : Row) → ¬ Stands history.now (fault.InstallOrder row) }
+    requires first { IsCommitted history.now from }
+    requires second { IsCommitted history.now to }
+    ensures { IfOk result (IsLeastRow (λ row. Depends history.now kind row from to)) }
+{
+    match kind {
+        Kind::Write => Ok(least_step(history, from, to)),
+        Kind::ItemRead => least_meeting(alloc, history, Kind::ItemRead, from, to),
+        Kind::PredicateRead => least_meeting(alloc, history, Kind::PredicateRead, from, to),
+        Kind::ItemAnti => least_meeting(alloc, history, Kind::ItemAnti, to, from),
+        Kind::PredicateAnti => least_meeting(alloc, history, Kind::PredicateAnti, to, from),
+    }
+}
+
+/// The least row that the first of two transactions wrote and of which the second installs the version after its own.
+fn least_step(history: &History, from: TxnNo, to: TxnNo) -> Option<RowName>
+    ensures { result ≡ least_at (λ op. pass.first_entry (installs_next history.now from to) (map.entries op.writes)) None (committed_ops history.now from) }
+{
+    let ops = committed_ops(history, from);
+    let mut row = None;
+    for op in ops {
+        row = least(row, first_step(history, op, from, to));
+    }
+    row
+}
+
+/// The first row of an operation's writes of which the second of two transactions installs the version after the first's.
+fn first_step(history: &History, op: &Op, from: TxnNo, to: TxnNo) -> Option<RowName>
+    ensures { result ≡ pass.first_entry (installs_next history.now from to) (map.entries op.now.writes) }
+{
+    first_next(history, op.writes.entries(), from, to)
+}
+
+/// The least row at which a reader's operation is tied in a way to an installer. NoMemory where an allocation was
+/// refused.
+fn least_meeting(
+    alloc: Global,
+    history: &History,
+    kind: Kind,
+    installer: TxnNo,
+    reader: TxnNo,
+) -> Result<Option<RowName>, NoMemory>
+    requires placed { (row : Row) → ¬ Stands history.now (fault.InstallOrder row) }
+    ensures { IfOk result (IsLeastRow (Meets history.now kind installer reader)) }
+{
+    let rows = rows_written(alloc, history, installer)?;
+    Ok(least_among(history, kind, installer, reader, &rows))
+}
+
+/// The least of these rows at which a reader's operation is tied in a way to an installer.
+fn least_among(
+    history: &History,
+    kind: Kind,
+    installer: TxnNo,
+    reader: TxnNo,
+    rows: &[RowName],
+) -> Option<RowName>
+    ensures { result ≡ least_at (λ op. first_row (meets history.now kind installer reader op) rows.now) None (committed_ops history.now reader) }
+{
+    let ops = committed_ops(history, reader);
+    let mut row = None;
+    for op in ops {
+        row = least(
+            row,
+            first_meeting(history, rows, kind, installer, reader, op),
+        );
+    }
+    row
 }

@@ -15,7 +15,7 @@ use lab_table::NoMemory;
 use std::alloc::Global;
 
 /// How the committed transactions of a sound history depend on one another: each edge once, by rising from, to, kind
-/// and row. The third argument is what the check of this history answered. NoMemory where a growth was refused.
+/// and row. The third argument is what the check of this history answered. NoMemory where an allocation was refused.
 pub fn edges(alloc: Global, history: &History, _sound: &Sound) -> Result<Vec<Edge>, NoMemory>
     requires { IsSound history.now }
     ensures exact { IfOk result (λ edges. (e : Spelled) → Contains edges.items e ↔ IsEdge history.now e) }

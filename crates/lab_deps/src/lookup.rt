@@ -100,7 +100,7 @@ fn nearer<V>(entries: &[(RowName, V)], place: usize, row: RowName) -> usize {
 }
 
 /// The operation with this number.
-fn op_of(ops: &[Op], number: u32) -> Option<&Op>
+pub fn op_of(ops: &[Op], number: u32) -> Option<&Op>
     ensures { option_copied result ≡ op_at ops.now number }
 {
     ops.get(number.checked_sub(1)? as usize)

@@ -1,158 +1,230 @@
 //! What two transactions have to do with one another at rows that one of them wrote.
 
-ghost use Rattle.std.specs.Prelude.{◌≡◌, OnOk};
-ghost use Rattle.std.specs.List.{flat_map};
+ghost use Rattle.std.specs.Prelude.{◌≡◌, is_some};
+ghost use Rattle.std.specs.FinMap as map;
+ghost use Rattle.lab_history.specs.Version as version;
 ghost use Rattle.lab_history.specs.Version.{installers};
-ghost use Rattle.lab_deps.specs.Meetings.{installs_next, step_at, turns, met, met_at, met_by};
-ghost use Rattle.lab_deps.specs.Sinks.{Grows};
+ghost use Rattle.lab_deps.specs.LeastRow.{first_row};
+ghost use Rattle.lab_deps.specs.Meetings.{installs_next, turns, is_tied, tied_in, looks_for, meets};
+ghost use Rattle.lab_deps.specs.Passes as pass;
 
-use crate::broken::viewed;
-use crate::edge::{Edge, Kind};
-use crate::ends::state_after;
-use crate::reading::{Reading, add_apart, differ};
-use crate::relevant_rows::looks_at;
-use crate::sink::EdgeSink;
-use lab_history::{History, Op};
-use lab_table::{NoMemory, RowName, Statement, TxnNo};
+use crate::edge::Kind;
+use crate::effect::state_after_near;
+use crate::lookup::Hints;
+use crate::near::value_near;
+use crate::place::place_near;
+use crate::reading::differ;
+use lab_history::{Hint, History, Op, VersionName};
+use lab_table::{RowName, Statement, TxnNo};
 
-/// Hands a sink the write-dependencies of one transaction on another at these rows; NoMemory where a growth was refused.
-pub fn add_steps<S: EdgeSink>(
-    sink: &mut S,
+/// The first of the rows that an operation wrote of which the second of two transactions installs the version after the
+/// one of the first.
+pub fn first_next<V>(
     history: &History,
-    rows: &[RowName],
+    written: &[(RowName, V)],
     from: TxnNo,
     to: TxnNo,
-) -> Result<(), NoMemory>
-    ensures { OnOk result (Grows S.handed sink.old sink.new (flat_map (step_at history.now from to) rows.now)) }
+) -> Option<RowName>
+    ensures { result ≡ pass.first_entry (installs_next history.now from to) written.now }
 {
-    for row in rows {
-        add_step(sink, history, *row, from, to)?;
+    let mut near_first = Hint::new();
+    let mut near_second = Hint::new();
+    for entry in written {
+        if installs_next(
+            history,
+            entry.0,
+            from,
+            to,
+            &mut near_first,
+            &mut near_second,
+        ) {
+            return Some(entry.0);
+        }
     }
-    Ok(())
+    None
 }
 
-/// The same at one row.
-fn add_step<S: EdgeSink>(
-    sink: &mut S,
+/// Whether the second of two transactions installs the version of a row after the one of the first.
+fn installs_next(
     history: &History,
     row: RowName,
     from: TxnNo,
     to: TxnNo,
-) -> Result<(), NoMemory>
-    ensures { OnOk result (Grows S.handed sink.old sink.new (step_at history.now from to row)) }
-{
-    if installs_next(history, row, from, to) {
-        add_apart(
-            sink,
-            Edge {
-                from,
-                to,
-                kind: Kind::Write,
-                row,
-            },
-        )?;
-    }
-    Ok(())
-}
-
-/// Whether the second of two transactions installs the version of a row after the one of the first.
-fn installs_next(history: &History, row: RowName, from: TxnNo, to: TxnNo) -> bool
+    near_first: &mut Hint,
+    near_second: &mut Hint,
+) -> bool
     ensures { result ≡ installs_next history.now from to row }
 {
-    match history.installer_place(row, from) {
+    match history.installer_place_near(row, from, near_first) {
         None => false,
-        Some(place) => match history.installer_place(row, to) {
+        Some(place) => match history.installer_place_near(row, to, near_second) {
             None => false,
             Some(next) => place < next && next - place == 1,
         },
     }
 }
 
-/// Hands a sink the edges that a transaction's operations have with an installer of these rows; NoMemory where a growth
-/// was refused.
-pub fn add_meetings<S: EdgeSink>(
-    sink: &mut S,
-    history: &History,
-    rows: &[RowName],
-    installer: TxnNo,
-    reader: TxnNo,
-    ops: &[Op],
-) -> Result<(), NoMemory>
-    ensures { OnOk result (Grows S.handed sink.old sink.new (flat_map (met_by history.now reader installer rows.now) ops.now)) }
-{
-    for op in ops {
-        add_met_by(sink, history, rows, installer, reader, op)?;
-    }
-    Ok(())
+/// Where what rising rows have is looked for first.
+#[derive(Clone, Copy)]
+struct Near {
+    /// A row among those that the operation lists.
+    listed: usize,
+    /// A row among those whose versions it sees.
+    seen: usize,
+    /// The place of the version that it sees.
+    place: Hint,
+    /// The place of the installer.
+    installer: Hint,
+    /// The version before the installer's.
+    before: Hints,
+    /// The installer's version.
+    after: Hints,
 }
 
-/// The same of one operation.
-fn add_met_by<S: EdgeSink>(
-    sink: &mut S,
+impl Near {
+    /// That for the first row.
+    fn new() -> Near {
+        Near {
+            listed: 0,
+            seen: 0,
+            place: Hint::new(),
+            installer: Hint::new(),
+            before: Hints::new(),
+            after: Hints::new(),
+        }
+    }
+}
+
+/// The first of these rows at which an operation of a reader is tied in a way to an installer.
+pub fn first_meeting(
     history: &History,
     rows: &[RowName],
+    kind: Kind,
     installer: TxnNo,
     reader: TxnNo,
     op: &Op,
-) -> Result<(), NoMemory>
-    ensures { OnOk result (Grows S.handed sink.old sink.new (met_by history.now reader installer rows.now op.now)) }
+) -> Option<RowName>
+    ensures { result ≡ first_row (meets history.now kind installer reader op.now) rows.now }
 {
+    let mut near = Near::new();
     for row in rows {
-        add_met_at(sink, history, *row, installer, reader, op)?;
+        if meets(history, kind, installer, reader, op, *row, &mut near) {
+            return Some(*row);
+        }
     }
-    Ok(())
+    None
 }
 
-/// The same at one row.
-fn add_met_at<S: EdgeSink>(
-    sink: &mut S,
+/// Whether an operation of a reader is tied in a way to an installer of a row.
+fn meets(
     history: &History,
-    row: RowName,
+    kind: Kind,
     installer: TxnNo,
     reader: TxnNo,
     op: &Op,
-) -> Result<(), NoMemory>
-    ensures { OnOk result (Grows S.handed sink.old sink.new (met_at history.now reader installer op.now row)) }
+    row: RowName,
+    near: &mut Near,
+) -> bool
+    ensures { result ≡ meets history.now kind installer reader op.now row }
 {
-    let listed = op.rows.get(row).is_some();
-    if looks_at(op, row, listed) {
-        let place = history.installer_place(row, installer);
-        let reading = Reading::of(history, row, reader, viewed(op, row), listed);
-        add_met(sink, history, &op.statement, installer, place, reading)?;
+    if !looks_for(kind, op, row, &mut near.listed) {
+        return false;
     }
-    Ok(())
+    let seen = viewed(op, row, &mut near.seen);
+    let seen = place_near(history, reader, row, seen, &mut near.place);
+    let place = history.installer_place_near(row, installer, &mut near.installer);
+    tied_in(history, &op.statement, row, kind, seen, place, near)
 }
 
-/// Adds the edges of what a statement sees of a row, if it sees one, with the installer at a place, if it has one.
-fn add_met<S: EdgeSink>(
-    sink: &mut S,
+/// Whether an operation has to look at a row for dependencies of a kind.
+fn looks_for(kind: Kind, op: &Op, row: RowName, near: &mut usize) -> bool
+    ensures { result ≡ looks_for kind op.now row }
+{
+    match kind {
+        Kind::Write => false,
+        Kind::ItemRead => lists(op, row, near),
+        Kind::PredicateRead => op.statement.may_match(row),
+        Kind::ItemAnti => lists(op, row, near),
+        Kind::PredicateAnti => op.statement.may_match(row),
+    }
+}
+
+/// Whether an operation lists a row.
+fn lists(op: &Op, row: RowName, near: &mut usize) -> bool
+    ensures { result ≡ is_some (map.get op.now.rows row) }
+{
+    let found = value_near(op.rows.entries(), *near, row);
+    *near = found.1.wrapping_add(1);
+    found.0.is_some()
+}
+
+/// The version of a row that an operation sees.
+fn viewed(op: &Op, row: RowName, near: &mut usize) -> VersionName
+    ensures { result ≡ version.viewed op.now row }
+{
+    let found = value_near(op.view.entries(), *near, row);
+    *near = found.1.wrapping_add(1);
+    found.0.unwrap_or(VersionName::Initial)
+}
+
+/// Whether a reader of the version at one place and the installer of that at another are tied in a way, where there are
+/// two such places.
+fn tied_in(
     history: &History,
     statement: &Statement,
-    installer: TxnNo,
+    row: RowName,
+    kind: Kind,
+    seen: Option<usize>,
     place: Option<usize>,
-    reading: Option<Reading>,
-) -> Result<(), NoMemory>
-    ensures { OnOk result (Grows S.handed sink.old sink.new (met history.now statement.now installer place reading)) }
+    near: &mut Near,
+) -> bool
+    ensures { result ≡ tied_in history.now statement.now row kind seen place }
 {
-    match place {
-        None => Ok(()),
-        Some(place) => match reading {
-            None => Ok(()),
-            Some(reading) => {
-                let turns = turns(history, statement, reading.row, place);
-                reading.add_edges_at(sink, place.saturating_sub(1), installer, turns)
-            }
+    match seen {
+        None => false,
+        Some(seen) => match place {
+            None => false,
+            Some(place) => is_tied(history, statement, row, kind, seen, place, near),
         },
     }
 }
 
+/// Whether a reader of the version at a place, where 0 is the initial one, and the installer of that at another are tied
+/// in a way.
+fn is_tied(
+    history: &History,
+    statement: &Statement,
+    row: RowName,
+    kind: Kind,
+    seen: usize,
+    place: usize,
+    near: &mut Near,
+) -> bool
+    ensures { result ≡ is_tied history.now statement.now row kind seen place }
+{
+    match kind {
+        Kind::Write => false,
+        Kind::ItemRead => seen == place,
+        Kind::PredicateRead => place <= seen && turns(history, statement, row, place, near),
+        Kind::ItemAnti => seen < place && place - seen == 1,
+        Kind::PredicateAnti => seen < place && turns(history, statement, row, place, near),
+    }
+}
+
 /// Whether exactly one of the version of a row at a place, counted from 1, and the one before matches a statement.
-fn turns(history: &History, statement: &Statement, row: RowName, place: usize) -> bool
+fn turns(
+    history: &History,
+    statement: &Statement,
+    row: RowName,
+    place: usize,
+    near: &mut Near,
+) -> bool
     ensures { result ≡ turns history.now statement.now row place }
 {
     let installers = installers(history, row);
-    let before = state_after(history, row, installers, place.saturating_sub(1));
-    let after = state_after(history, row, installers, place);
+    let start = place.saturating_sub(1);
+    let before = state_after_near(history, row, installers, start, &mut near.before);
+    let after = state_after_near(history, row, installers, place, &mut near.after);
     differ(
         statement.matches(row, before),
         statement.matches(row, after),

@@ -1,16 +1,15 @@
 //! Which rows an operation has to look at.
 
-ghost use Rattle.std.specs.Prelude.{◌≡◌, ◌||◌, true, IfSome};
+ghost use Rattle.std.specs.Prelude.{◌≡◌, ◌≤◌, ◌<◌, ◌||◌, ℕ, T, true, false, None, length, slice_index_or, IfSome};
 ghost use Rattle.std.specs.List.{list_all};
 ghost use Rattle.std.specs.FinMap as map;
-ghost use Rattle.lab_table.specs.Row.{Row, row_test};
+ghost use Rattle.lab_table.specs.Row.{Row, row_cmp, row_test};
 ghost use Rattle.lab_table.specs.Statement.{may_match};
 ghost use Rattle.lab_deps.specs.EdgesByRow.{looks_at};
-ghost use Rattle.lab_deps.specs.RowBounds.{lies};
 
-use crate::bounds::{beyond_id, least_id};
+use crate::span::{Span, span_of};
 use lab_history::Op;
-use lab_table::RowName;
+use lab_table::{RowName, place_of};
 
 /// Whether an operation has to look at a row: it lists the row, as is said, or its statement may match it.
 pub fn looks_at(op: &Op, row: RowName, listed: bool) -> bool
@@ -34,49 +33,65 @@ fn lists_only(op: &Op, row: RowName) -> bool
     op.rows.entries().iter().all(|entry| entry.0 == row)
 }
 
-/// Numbers between which the rows lie that an operation has to look at.
-#[derive(Clone, Copy)]
-pub struct RowBounds {
-    /// No row with a lesser number is looked at.
-    least: u32,
-    /// Nor one with this number or a greater one, where there is such a bound.
-    beyond: Option<u32>,
+/// The places of a list, whose rows rise strictly, outside which an operation has to look at no row.
+pub fn span_looked_at<V>(op: &Op, entries: &[(RowName, V)]) -> Span
+    requires { T (map.is_sorted row_cmp entries.now) }
+    ensures order { result.from ≤ result.to }
+    ensures bound { result.to ≤ length entries.now }
+    ensures before { (k : ℕ) (d : Row × V) → k < result.from → k < length entries.now → looks_at op.now (slice_index_or entries.now k d).0 ≡ false }
+    ensures behind { (k : ℕ) (d : Row × V) → result.to ≤ k → k < length entries.now → looks_at op.now (slice_index_or entries.now k d).0 ≡ false }
+{
+    let span = span_of(&op.statement, entries);
+    let listed = op.rows.entries();
+    Span {
+        from: from_listed(span.from, listed, entries),
+        to: to_listed(span.to, listed, entries),
+    }
 }
 
-impl RowBounds {
-    /// Those of an operation. Where it lists a row that its statement rules out by the number, there are none.
-    pub fn of(op: &Op) -> RowBounds
-        ensures { (row : Row) → looks_at op.now row ≡ true → lies result.least result.beyond row ≡ true }
-    {
-        let bounds = RowBounds {
-            least: least_id(&op.statement),
-            beyond: beyond_id(&op.statement),
-        };
-        if lists_between(op, bounds) {
-            bounds
-        } else {
-            RowBounds {
-                least: 0,
-                beyond: None,
+/// A place, or where the first of the listed rows stands or would, if that is before it. The rows of both lists rise
+/// strictly.
+fn from_listed<V, W>(from: usize, listed: &[(RowName, W)], entries: &[(RowName, V)]) -> usize
+    requires listed { T (map.is_sorted row_cmp listed.now) }
+    requires entries { T (map.is_sorted row_cmp entries.now) }
+    ensures order { result ≤ from }
+    ensures none { (k : ℕ) (d : Row × V) → k < result → k < length entries.now → map.find row_cmp (slice_index_or entries.now k d).0 listed.now ≡ None }
+{
+    if from == 0 {
+        return 0;
+    }
+    match listed.first() {
+        None => from,
+        Some(first) => {
+            let place = place_of(entries, first.0);
+            if place < from { place } else { from }
+        }
+    }
+}
+
+/// A place, or one behind which no listed row stands, if that is beyond it. The rows of both lists rise strictly.
+fn to_listed<V, W>(to: usize, listed: &[(RowName, W)], entries: &[(RowName, V)]) -> usize
+    requires listed { T (map.is_sorted row_cmp listed.now) }
+    requires entries { T (map.is_sorted row_cmp entries.now) }
+    requires bound { to ≤ length entries.now }
+    ensures order { to ≤ result }
+    ensures bound { result ≤ length entries.now }
+    ensures none { (k : ℕ) (d : Row × V) → result ≤ k → k < length entries.now → map.find row_cmp (slice_index_or entries.now k d).0 listed.now ≡ None }
+{
+    if to >= entries.len() {
+        return to;
+    }
+    match listed.last() {
+        None => to,
+        Some(last) => {
+            let place = place_of(entries, last.0);
+            if place < to {
+                to
+            } else if place < entries.len() {
+                place + 1
+            } else {
+                place
             }
         }
     }
-
-    /// Whether a row lies between them.
-    pub fn has(self, row: RowName) -> bool
-        ensures { result ≡ lies self.least self.beyond row }
-    {
-        let id = row.id.number();
-        match self.beyond {
-            None => id >= self.least,
-            Some(beyond) => id >= self.least && id < beyond,
-        }
-    }
-}
-
-/// Whether all rows that an operation lists lie between these numbers.
-fn lists_between(op: &Op, bounds: RowBounds) -> bool
-    ensures { result ≡ list_all (λ e. lies bounds.least bounds.beyond e.0) (map.entries op.now.rows) }
-{
-    op.rows.entries().iter().all(|entry| bounds.has(entry.0))
 }

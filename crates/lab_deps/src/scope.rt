@@ -23,7 +23,7 @@ pub enum Scope {
     Writes,
 }
 
-/// Hands a sink the edges that are meant, some of them more than once; NoMemory where a growth was refused.
+/// Hands a sink the edges that are meant, some of them more than once; NoMemory where an allocation was refused.
 pub fn add_edges<S: RowSink>(
     sink: &mut S,
     history: &History,

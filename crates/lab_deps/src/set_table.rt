@@ -27,7 +27,7 @@ impl Model for SetTable {
 }
 
 impl SetTable {
-    /// Empty sets for the numbers below a bound. NoMemory where a growth was refused.
+    /// Empty sets for the numbers below a bound. NoMemory where an allocation was refused.
     pub fn none(alloc: Global, bound: u16) -> Result<SetTable, NoMemory>
         ensures size { IfOk result (λ table. length table ≡ bound) }
         ensures none { IfOk result (λ table. (i n : ℕ) → i < bound → in_table table i n ≡ false) }

@@ -12,7 +12,7 @@ use crate::versions::Version;
 use lab_table::NoMemory;
 use std::alloc::Global;
 
-/// The places of the versions of another class than the one before, and the places of their installers among the
+/// The places of the versions of another class than the state before, and the places of their installers among the
 /// transactions.
 #[derive(Drop)]
 pub struct Turning {
@@ -24,8 +24,8 @@ pub struct Turning {
 }
 
 impl Turning {
-    /// Where these versions turn, by a class for each of them. The sets have room for the numbers below a bound. NoMemory
-    /// where a growth was refused.
+    /// Where these versions turn, by a class for each of them; the state before the first one is of the class false. The
+    /// sets have room for the numbers below a bound. NoMemory where an allocation was refused.
     pub fn of(
         alloc: Global,
         bound: u16,
@@ -49,7 +49,7 @@ impl Turning {
         classes: &[bool],
     ) -> Result<Turning, NoMemory> {
         let mut places = Vec::new(alloc);
-        for place in 1..versions.len() {
+        for place in 0..versions.len() {
             if turns(classes, place) {
                 places.push(place)?;
             }
@@ -100,7 +100,7 @@ impl Turning {
                     let other = self.places.len().saturating_sub(1).saturating_sub(index);
                     is_at(self.ahead.as_slice(), index, version.place)
                         && (is_at(self.behind.as_slice(), other, version.place)
-                            && (*place != 0 && turns(classes, *place)))
+                            && turns(classes, *place))
                 }
             },
         }
@@ -108,10 +108,10 @@ impl Turning {
 
     /// Whether all places at which the class is another one than before are among its own.
     fn has_all(&self, versions: &[Version], classes: &[bool]) -> bool
-        ensures { result ≡ true → (p : ℕ) → suc p < length versions.now → Contains self.now.places.items (suc p) ⊎ (class_in classes.now p ≡ class_in classes.now (suc p)) }
+        ensures { result ≡ true → (p : ℕ) → p < length versions.now → Contains self.now.places.items p ⊎ (class_in classes.now p ≡ class_in classes.now (suc p)) }
     {
         let mut next: usize = 0;
-        for place in 1..versions.len() {
+        for place in 0..versions.len() {
             if turns(classes, place) {
                 if !is_place(&self.places, next, place) {
                     return false;
@@ -142,18 +142,26 @@ fn cut(places: &[usize], place: usize) -> usize
     places.partition_point(|other| *other < place)
 }
 
-/// Whether the class at a place is another one than before.
+/// Whether the version at a place is of another class than the state before.
 fn turns(classes: &[bool], place: usize) -> bool
-    ensures { result ≡ differ (class_in classes.now (place - 1)) (class_in classes.now place) }
+    ensures { result ≡ differ (class_in classes.now place) (class_in classes.now (suc place)) }
 {
-    differ(
-        class_at(classes, place.saturating_sub(1)),
-        class_at(classes, place),
-    )
+    differ(class_before(classes, place), class_at(classes, place))
+}
+
+/// The class of the state before the version at a place.
+fn class_before(classes: &[bool], place: usize) -> bool
+    ensures { result ≡ class_in classes.now place }
+{
+    if place == 0 {
+        false
+    } else {
+        class_at(classes, place - 1)
+    }
 }
 
 fn class_at(classes: &[bool], place: usize) -> bool
-    ensures { result ≡ class_in classes.now place }
+    ensures { result ≡ class_in classes.now (suc place) }
 {
     classes.get(place).copied().unwrap_or(false)
 }

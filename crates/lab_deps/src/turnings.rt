@@ -1,20 +1,22 @@
 //! Where a row's versions turn, for the ways in which a statement may tell the row's values apart.
 
-ghost use Rattle.std.specs.Prelude.{◌≡◌, ℕ, true, false, Some, length, slice_get, get_or, OnOk, IfOk, IfSome};
-ghost use Rattle.lab_deps.specs.KeptTurnings.{classes_of, AreTurnings};
+ghost use Rattle.std.specs.Prelude.{◌≡◌, ℕ, true, false, Some, length, map, slice_get, get_or, is_some, OnOk, IfOk, IfSome};
+ghost use Rattle.lab_deps.specs.Edges.{differ};
+ghost use Rattle.lab_deps.specs.KeptTurnings.{classes_of, presences, AreTurnings};
+ghost use Rattle.lab_deps.specs.Turnings.{IsTurning, class_in};
 ghost use Rattle.lab_deps.specs.declared.turnings.KeptTurning.{KeptTurning as Item};
 
 use crate::reading::differ;
 use crate::turning::Turning;
 use crate::values::Values;
 use crate::versions::Version;
-use lab_table::NoMemory;
+use lab_table::{NoMemory, Value};
 use std::alloc::Global;
 
 /// Where a row's versions turn from values of one of two classes to those of the other.
 #[derive(Drop)]
 pub struct KeptTurning {
-    /// For each of the row's values whether it is of another class than the first.
+    /// For each of the row's values whether it is of another class than the first one, which the row has at first.
     pub answers: Vec<bool>,
     pub turning: Turning,
 }
@@ -31,7 +33,11 @@ pub struct Limits {
 /// Rows with fewer versions are walked along.
 const FEWEST: usize = 16;
 
-/// The turnings that are kept of a row with these versions, whose values are these. NoMemory where a growth was refused.
+/// Rows with fewer versions are walked along also by what doesn't test values.
+const FEWEST_BY_PRESENCE: usize = 8;
+
+/// The turnings that are kept of a row with these versions, whose values are these. NoMemory where an allocation was
+/// refused.
 pub fn turnings_of(
     alloc: Global,
     limits: Limits,
@@ -56,7 +62,7 @@ fn how_many(limits: Limits, versions: &[Version], values: &Values) -> usize {
     }
 }
 
-/// Keeps the turning by these answers. NoMemory where a growth was refused.
+/// Keeps the turning by these answers. NoMemory where an allocation was refused.
 fn keep(
     alloc: Global,
     kept: &mut Vec<KeptTurning>,
@@ -78,6 +84,32 @@ fn keep(
             Ok(())
         }
     }
+}
+
+/// Where a row comes or goes, if that is kept. NoMemory where an allocation was refused.
+pub fn presence_of(
+    alloc: Global,
+    limits: Limits,
+    before: &Option<Value>,
+    versions: &[Version],
+) -> Result<Option<Turning>, NoMemory>
+    ensures { IfOk result (λ found. IfSome found (IsTurning (class_in (presences before.now versions.now)) versions.now)) }
+{
+    if versions.len() < FEWEST_BY_PRESENCE {
+        return Ok(None);
+    }
+    let classes = presences(alloc, before.is_some(), versions)?;
+    Turning::of(alloc, limits.bound, versions, &classes)
+}
+
+/// For each version whether it is there where the row isn't at first, or the other way round.
+fn presences(alloc: Global, before: bool, versions: &[Version]) -> Result<Vec<bool>, NoMemory>
+    ensures { IfOk result (λ classes. classes.items ≡ map (λ v. differ before (is_some v.value)) versions.now) }
+{
+    versions
+        .iter()
+        .map(|version| differ(before, version.value.is_some()))
+        .collect(alloc)
 }
 
 /// Whether each of these versions has a number.
@@ -142,7 +174,7 @@ fn count(values: usize) -> usize {
 }
 
 /// For each of the values whether it is of another class than the first, in one of the ways to tell them apart. NoMemory
-/// where a growth was refused.
+/// where an allocation was refused.
 fn answers_at(alloc: Global, values: &Values, index: usize) -> Result<Vec<bool>, NoMemory> {
     let mut answers = Vec::new(alloc);
     let first = is_in(values, index, 0);

@@ -8,7 +8,7 @@ ghost use Rattle.lab_deps.specs.FaultOrder.{IsFirstRead};
 ghost use Rattle.lab_deps.specs.Uncommitted.{read_of};
 ghost use Rattle.lab_deps.specs.declared.fault.LocalFault.TheVariants as fault;
 
-use crate::fault::LocalFault;
+use crate::fault::{FaultParts, LocalFault};
 use crate::kind::OpFault;
 use crate::passes::fault_in;
 use lab_history::History;
@@ -50,19 +50,12 @@ fn first_read(history: &History, kind: OpFault) -> Option<Read>
     read_at(fault)
 }
 
-/// The place of a fault that is such a read.
+/// The place of a fault at an operation.
 fn read_at(fault: LocalFault) -> Option<Read>
     ensures { result ≡ read_of fault }
 {
-    match fault {
-        LocalFault::AbortedRead { txn, op, row } => Some(Read { txn, op, row }),
-        LocalFault::IntermediateRead { txn, op, row } => Some(Read { txn, op, row }),
-        LocalFault::Dangling { .. } => None,
-        LocalFault::OwnWriteMissed { .. } => None,
-        LocalFault::LaterThanOwn { .. } => None,
-        LocalFault::RowsDiffer { .. } => None,
-        LocalFault::WritesDiffer { .. } => None,
-        LocalFault::InstallOrder { .. } => None,
-        LocalFault::EndDiffers { .. } => None,
+    match fault.parts() {
+        FaultParts::Operation { txn, op, row, .. } => Some(Read { txn, op, row }),
+        FaultParts::Row { .. } => None,
     }
 }

@@ -10,7 +10,7 @@ ghost use Rattle.lab_deps.specs.Passes as pass;
 
 use crate::broken::is_unlisted;
 use crate::near::entry_within;
-use crate::row::least;
+use crate::row::{first_entry, least};
 use crate::span::within;
 use lab_history::{History, Op};
 use lab_table::{RowName, Value};
@@ -33,12 +33,7 @@ fn first_unlisted(history: &History, op: &Op) -> Option<RowName>
     ensures { result ≡ pass.first_value (test.is_unlisted op.now) (map.entries history.now.initial) }
 {
     let entries = within(&op.statement, history.initial().rows());
-    for entry in entries {
-        if is_unlisted(op, entry.0, entry.1) {
-            return Some(entry.0);
-        }
-    }
-    None
+    first_entry(entries, |row, value| is_unlisted(op, row, value))
 }
 
 /// This row, where the initial table has it so.

@@ -1,8 +1,9 @@
-//! The values of a row's versions, each once.
+//! The values of a row, each once.
 
-ghost use Rattle.std.specs.Prelude.{◌≡◌, ◌++◌, ℕ, Bool, true, Some, [], map, slice_get, OnOk, IfOk};
+ghost use Rattle.std.specs.Prelude.{◌≡◌, ◌++◌, ℕ, true, Some, [], map, slice_get, OnOk, IfOk};
 ghost use Rattle.lab_deps.specs.Edges.{differ};
 ghost use Rattle.lab_table.specs.Statement.{matches};
+ghost use Rattle.lab_table.specs.Table.{State};
 ghost use Rattle.lab_deps.specs.EdgesByRow.{answers_of, AreValuesOf};
 
 use crate::effect::is_same;
@@ -12,26 +13,34 @@ use indexmap::IndexMap;
 use lab_table::{NoMemory, RowName, Statement, Value};
 use std::alloc::Global;
 
-/// The values of the first of a row's versions, up to 256 values. A version has one byte here, so that a walk reads
-/// little.
+/// The value that a row has at first, and those of the first of its versions, up to 256 values. A version has one byte
+/// here, so that a walk reads little.
 #[derive(Drop)]
 pub struct Values {
-    /// Each value, None for an absent row.
+    /// Each value, None for an absent row. The first one is that which the row has at first.
     values: Vec<Option<Value>>,
     /// For each of the versions the place of its value.
     places: Vec<u8>,
 }
 
 impl Values {
-    /// The values of these versions; none where no value comes twice. NoMemory where a growth was refused.
-    pub fn of(alloc: Global, versions: &[Version]) -> Result<Values, NoMemory>
-        ensures { IfOk result (λ found. AreValuesOf found.values.items found.places.items versions.now) }
+    /// The value that a row has at first, and those of these versions; of the versions none where no value comes twice.
+    /// NoMemory where an allocation was refused.
+    pub fn of(
+        alloc: Global,
+        before: &Option<Value>,
+        versions: &[Version],
+    ) -> Result<Values, NoMemory>
+        ensures first { IfOk result (λ found. slice_get found.values.items 0 ≡ Some before.now) }
+        ensures values { IfOk result (λ found. AreValuesOf found.values.items found.places.items versions.now) }
     {
-        let found = Values::found(alloc, versions)?;
-        if found.values.len() < found.places.len() && found.fit(versions) {
+        let found = Values::found(alloc, before, versions)?;
+        if found.values.len() <= found.places.len()
+            && (found.is_first(before) && found.fit(versions))
+        {
             Ok(found)
         } else {
-            Ok(Values::none(alloc))
+            Values::none(alloc, before)
         }
     }
 
@@ -56,14 +65,15 @@ impl Values {
         }
     }
 
-    /// Asks a statement whether it takes each value otherwise than the first one. NoMemory where a growth was refused.
+    /// Asks a statement whether it takes each value otherwise than the first one. NoMemory where an allocation was
+    /// refused.
     pub fn ask(
         &self,
         answers: &mut Vec<bool>,
         statement: &Statement,
         row: RowName,
     ) -> Result<(), NoMemory>
-        ensures { OnOk result ((first : Bool) × (answers.new.items ≡ map (λ value. differ first (matches statement.now row value)) self.now.values.items)) }
+        ensures { OnOk result ((first : State) → slice_get self.now.values.items 0 ≡ Some first → answers.new.items ≡ map (λ value. differ (matches statement.now row first) (matches statement.now row value)) self.now.values.items) }
     {
         answers.clear();
         match self.values.split_first() {
@@ -81,18 +91,27 @@ impl Values {
         }
     }
 
-    fn none(alloc: Global) -> Values
-        ensures { result.places.items ≡ [] }
+    /// The value that a row has at first alone. NoMemory where an allocation was refused.
+    fn none(alloc: Global, before: &Option<Value>) -> Result<Values, NoMemory>
+        ensures first { IfOk result (λ none. slice_get none.values.items 0 ≡ Some before.now) }
+        ensures none { IfOk result (λ none. none.places.items ≡ []) }
     {
-        Values {
-            values: Vec::new(alloc),
+        let mut values = Vec::with_capacity(alloc, 1)?;
+        values.push(*before)?;
+        Ok(Values {
+            values,
             places: Vec::new(alloc),
-        }
+        })
     }
 
-    fn found(alloc: Global, versions: &[Version]) -> Result<Values, NoMemory> {
+    fn found(
+        alloc: Global,
+        before: &Option<Value>,
+        versions: &[Version],
+    ) -> Result<Values, NoMemory> {
         let mut seen = IndexMap::new(alloc);
-        let mut found = Values::none(alloc);
+        seen.insert(key_of(before), 0)?;
+        let mut found = Values::none(alloc, before)?;
         for version in versions {
             if !found.add(&mut seen, version.value)? {
                 return Ok(found);
@@ -107,10 +126,7 @@ impl Values {
         seen: &mut IndexMap<i64, u8>,
         value: Option<Value>,
     ) -> Result<bool, NoMemory> {
-        let key = match value {
-            None => i64::MIN,
-            Some(value) => value.number(),
-        };
+        let key = key_of(&value);
         if let Some(place) = seen.get(&key) {
             self.places.push(*place)?;
             return Ok(true);
@@ -122,6 +138,16 @@ impl Values {
         self.values.push(value)?;
         self.places.push(place)?;
         Ok(true)
+    }
+
+    /// Whether this is the first value.
+    fn is_first(&self, before: &Option<Value>) -> bool
+        ensures { result ≡ true → slice_get self.now.values.items 0 ≡ Some before.now }
+    {
+        match self.values.first() {
+            None => false,
+            Some(value) => is_same(*value, *before),
+        }
     }
 
     /// Whether these versions have these values.
@@ -148,8 +174,8 @@ impl Values {
         }
     }
 
-    /// Whether each of the versions matches a statement, which is asked once for each value. NoMemory where a growth was
-    /// refused.
+    /// Whether each of the versions matches a statement, which is asked once for each value. NoMemory where an
+    /// allocation was refused.
     pub fn answers(
         &self,
         alloc: Global,
@@ -204,6 +230,14 @@ impl Values {
                 Some(answer) => *answer,
             },
         }
+    }
+}
+
+/// A number that no other value has.
+fn key_of(value: &Option<Value>) -> i64 {
+    match value {
+        None => i64::MIN,
+        Some(value) => value.number(),
     }
 }
 

@@ -13,7 +13,7 @@ use lab_history::{History, Installers};
 use lab_table::{NoMemory, RowName, TxnNo};
 use std::alloc::Global;
 
-/// The edges between neighbours in the lists of all rows. NoMemory where a growth was refused.
+/// The edges between neighbours in the lists of all rows. NoMemory where an allocation was refused.
 pub fn neighbours_of_rows(alloc: Global, history: &History) -> Result<Vec<Edge>, NoMemory>
     ensures { IfOk result (λ edges. edges.items ≡ flat_map neighbours_at (map.entries history.now.installed)) }
 {

@@ -2,6 +2,8 @@
 
 ghost use Rattle.std.specs.Prelude.{◌≡◌, ◌++◌, IfOk, OnOk};
 ghost use Rattle.std.specs.FinMap as map;
+ghost use Rattle.std.specs.List.Sorted.{IsStrictlySortedBy};
+ghost use Rattle.lab_table.specs.Row.{row_cmp};
 ghost use Rattle.lab_deps.specs.Meetings.{named_in, written_in, HasWritten};
 
 use crate::collect::committed_ops;
@@ -9,10 +11,11 @@ use lab_history::{History, Op, Writes};
 use lab_table::{NoMemory, RowName, TxnNo};
 use std::alloc::Global;
 
-/// The rows that the operations of a committed transaction wrote, each once; none of any other. NoMemory where a growth
-/// was refused.
+/// The rows that the operations of a committed transaction wrote, each once, by rising row; none of any other. NoMemory
+/// where an allocation was refused.
 pub fn rows_written(alloc: Global, history: &History, txn: TxnNo) -> Result<Vec<RowName>, NoMemory>
-    ensures { IfOk result (λ rows. HasWritten history.now txn rows.items) }
+    ensures has { IfOk result (λ rows. HasWritten history.now txn rows.items) }
+    ensures rises { IfOk result (λ rows. IsStrictlySortedBy row_cmp rows.items) }
 {
     let mut rows = rows_of_ops(alloc, committed_ops(history, txn))?;
     rows.sort()?;

@@ -66,7 +66,7 @@ fn is_right_of_edges(
 ) -> Result<bool, NoMemory>
     requires { IsSound history.now }
 {
-    let writes = Kinds::none().and(Kind::Write);
+    let writes = Kinds::WRITES;
     let all = writes
         .and(Kind::ItemRead)
         .and(Kind::PredicateRead)

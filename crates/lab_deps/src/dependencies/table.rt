@@ -1,8 +1,11 @@
 //! The kinds of dependencies between the transactions of a list, by their places there.
 
-ghost use Rattle.std.specs.Prelude.{◌≡◌, ◌<◌, ℕ, get_or, length, map, slice_index, IfOk};
+ghost use Rattle.std.specs.Prelude.{◌≡◌, ◌<◌, ◌≤◌, ℕ, true, false, Some, get_or, length, map, slice_get, slice_index, IfOk};
+ghost use Rattle.lab_deps.specs.ColumnRuns.{IsRun, cells_in_run};
 ghost use Rattle.lab_deps.specs.KindBits.{column_of};
+ghost use Rattle.lab_deps.specs.KindSets.{among};
 ghost use Rattle.lab_deps.specs.KindsBetween.{AreKindsTo};
+ghost use Rattle.lab_deps.specs.declared.edge.Kind.{Kind as Way};
 ghost use Rattle.lab_deps.specs.declared.kinds.Kinds.{Kinds as Told};
 
 use crate::arrows::Arrows;
@@ -17,15 +20,20 @@ use std::marker::Model;
 pub struct KindRow<'t> {
     cells: &'t [u8],
     columns: &'t [usize],
+    /// The cells in the order of the list, as far as its columns are known to follow each other.
+    run: &'t [u8],
 }
 
 impl<'t> Model for KindRow<'t> {
     ghost use Rattle.std.specs.Prelude.{List, get_or, map};
     ghost use Rattle.lab_deps.specs.declared.kinds.Kinds.{Kinds};
+    ghost use Rattle.lab_deps.specs.ColumnRuns.{AreInRun};
 
     ghost Value = { List Kinds };
 
     ghost view = { λ r. map (λ column. record { bits = get_or r.cells.now column 0 }) r.columns.now };
+
+    ghost invariant = { λ r. AreInRun r.run.now r.cells.now r.columns.now };
 }
 
 impl<'t> KindRow<'t> {
@@ -44,6 +52,30 @@ impl<'t> KindRow<'t> {
         let bits = self.cells.get(self.columns[to]).copied().unwrap_or(0);
         Kinds { bits }
     }
+
+    /// Whether there is found to be no kind to those from one place of the list on and before another. It is where their
+    /// columns follow each other, at less cost than one by one.
+    pub fn is_bare(&self, first: usize, beyond: usize) -> bool
+        ensures { result ≡ true → (to : ℕ) (kinds : Told) (kind : Way) → first ≤ to → to < beyond → slice_get self.now to ≡ Some kinds → among kinds kind ≡ false }
+    {
+        if beyond < first || self.run.len() < beyond {
+            return false;
+        }
+        greatest(&self.run[first..beyond]) == 0
+    }
+}
+
+/// The greatest of some cells, 0 of none. All are compared without a way out, so that it takes many at a time.
+fn greatest(cells: &[u8]) -> u8
+    ensures { (k : ℕ) → get_or cells.now k 0 ≤ result }
+{
+    let mut most = 0;
+    for cell in cells {
+        if *cell > most {
+            most = *cell;
+        }
+    }
+    most
 }
 
 /// The kinds of dependencies between each two transactions of a list: who asks for those of many pairs looks up no
@@ -54,16 +86,19 @@ pub struct KindTable<'a, 'h> {
     arrows: &'a Arrows,
     numbers: &'a [TxnNo],
     columns: Vec<usize>,
+    /// The first column, where each other one follows the one before.
+    start: Option<usize>,
 }
 
 impl<'a, 'h> Model for KindTable<'a, 'h> {
+    ghost use Rattle.lab_deps.specs.ColumnRuns.{IsRun};
     ghost use Rattle.lab_deps.specs.KindsBetween.{KindsBetween, IsTold};
 
     ghost Value = { KindsBetween };
 
     ghost view = { λ t. record { numbers = t.numbers.now; edges = t.edges.now } };
 
-    ghost invariant = { λ t. IsTold t.edges.now t.numbers.now t.arrows.now.places.items t.arrows.now.width t.arrows.now.cells.items t.columns.items };
+    ghost invariant = { λ t. IsTold t.edges.now t.numbers.now t.arrows.now.places.items t.arrows.now.width t.arrows.now.cells.items t.columns.items × IsRun t.start t.columns.items };
 }
 
 impl<'a, 'h> KindTable<'a, 'h> {
@@ -80,15 +115,17 @@ impl<'a, 'h> KindTable<'a, 'h> {
         ensures { AreKindsTo self.now.edges self.now.numbers (slice_index self.now.numbers from) result }
     {
         let place = self.arrows.place(self.numbers[from as usize]);
+        let cells = self.arrows.cells_from(place);
         KindRow {
-            cells: self.arrows.cells_from(place),
+            cells,
             columns: self.columns.as_slice(),
+            run: run_in(cells, self.start),
         }
     }
 }
 
 impl<'h> Dependencies<'h> {
-    /// The kinds of the dependencies between each two of these transactions. NoMemory where a growth was refused.
+    /// The kinds of the dependencies between each two of these transactions. NoMemory where an allocation was refused.
     pub fn table<'a>(
         &'a self,
         alloc: Global,
@@ -98,16 +135,18 @@ impl<'h> Dependencies<'h> {
         ensures edges { IfOk result (λ table. table.edges ≡ self.now) }
     {
         let columns = columns_of(alloc, &self.arrows, numbers)?;
+        let start = start_of(&columns);
         Ok(KindTable {
             edges: self,
             arrows: &self.arrows,
             numbers,
             columns,
+            start,
         })
     }
 }
 
-/// The columns of these transactions. NoMemory where a growth was refused.
+/// The columns of these transactions. NoMemory where an allocation was refused.
 fn columns_of(alloc: Global, arrows: &Arrows, numbers: &[TxnNo]) -> Result<Vec<usize>, NoMemory>
     ensures { IfOk result (λ columns. columns.items ≡ map (column_of arrows.now.places.items arrows.now.cells.items) numbers.now) }
 {
@@ -115,4 +154,27 @@ fn columns_of(alloc: Global, arrows: &Arrows, numbers: &[TxnNo]) -> Result<Vec<u
         .iter()
         .map(|number| arrows.column(*number))
         .collect(alloc)
+}
+
+/// The first of some columns, where each other one follows the one before.
+fn start_of(columns: &[usize]) -> Option<usize>
+    ensures { IsRun result columns.now }
+{
+    let start = *columns.first()?;
+    for (place, column) in columns.iter().enumerate() {
+        if *column < start || *column - start != place {
+            return None;
+        }
+    }
+    Some(start)
+}
+
+/// The cells from a first one on, if there is one.
+fn run_in(cells: &[u8], start: Option<usize>) -> &[u8]
+    ensures { result.now ≡ cells_in_run start cells.now }
+{
+    match start {
+        None => &[],
+        Some(start) => cells.get(start..).unwrap_or(&[]),
+    }
 }

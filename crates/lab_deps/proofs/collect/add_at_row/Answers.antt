@@ -20,7 +20,7 @@ returns-then-not-looks_at g c =
     let row = c.args.row in
     let none = unlooked c.args.history.now c.args.txn op row c.args.versions.now _ (c.value_near-listing.ensures ∙ ap (find row_cmp row) c.entries.ensures ∙ sym (get-entries op.rows row)) _ _
     c.is_some-listed.ensures c.looks_at.ensures c.if-not-looks_at.true in
-    subst (Grows (where_fits (FitsVersions c.args.versions.now) g.S.EdgeSink.handed) c.args.sink.now c.args.sink.now) (sym none) (grows_none (where_fits (FitsVersions c.args.versions.now) g.S.EdgeSink.handed) c.args.sink.now)
+    subst (Grows (where_fits (FitsVersions c.args.versions.now.items) g.S.EdgeSink.handed) c.args.sink.now c.args.sink.now) (sym none) (grows_none (where_fits (FitsVersions c.args.versions.now.items) g.S.EdgeSink.handed) c.args.sink.now)
 
 pub returns : goal.returns
 returns g c =
@@ -29,4 +29,4 @@ returns g c =
     let all = looked c.args.history.now c.args.txn op row c.args.versions.now _ (c.value_near-listing.ensures ∙ ap (find row_cmp row) c.entries.ensures ∙ sym (get-entries op.rows row)) _ _
     c.is_some-listed.ensures c.looks_at.ensures c.if-not-looks_at.false _ (c.value_near-seen.ensures ∙ ap (find row_cmp row) c.entries-2.ensures ∙ sym (get-entries op.view row)) c.of-reading.result
     (c.of-reading.ensures ∙ ap (λ v. reading_at c.args.history.now row c.args.txn v c.is_some-listed.result) c.seen_in.ensures) in
-    subst (Grows (where_fits (FitsVersions c.args.versions.now) g.S.EdgeSink.handed) c.args.sink.now c.add_reading.new.sink) all c.in_ok-add_reading.ensures
+    subst (Grows (where_fits (FitsVersions c.args.versions.now.items) g.S.EdgeSink.handed) c.args.sink.now c.add_reading.new.sink) all c.in_ok-add_reading.ensures

@@ -1,9 +1,8 @@
-use Rattle.std.specs.Prelude.{List, Contains}
+use Rattle.std.specs.Prelude.{Contains}
 use Rattle.std.specs.List.{flat_map}
 use Rattle.lab_table.specs.Row.{Row}
-use Rattle.lab_deps.specs.EdgesByRow.{found_at_row, found_by, rows_of}
+use Rattle.lab_deps.specs.EdgesByRow.{Chain, found_at_row, found_by, rows_of}
 use Rattle.lab_deps.specs.Numbering.{HasPlaces, where_fits}
-use Rattle.lab_deps.specs.declared.versions.Version.{Version}
 use Rattle.lab_deps.proofs.Sinking.{Leads}
 use Rattle.lab_deps.proofs.collect.add_at_rows.Given as goal
 
@@ -11,4 +10,4 @@ use Rattle.lab_deps.proofs.collect.add_at_rows.Given as goal
 abbrev pub invariant-loop-row : goal.invariant-loop-row
 invariant-loop-row g l =
     Leads (where_fits (HasPlaces l.history) g.S.EdgeSink.handed) l.initial.sink l.sink (flat_map (found_at_row l.history l.txn l.op) l.row-iterator) (found_by l.history l.txn l.op)
-    × ((row : Row) (vs : List Version) → Contains l.row-iterator (row, vs) → Contains (rows_of l.history) (row, vs))
+    × ((row : Row) (chain : Chain) → Contains l.row-iterator (row, chain) → Contains (rows_of l.history) (row, chain))

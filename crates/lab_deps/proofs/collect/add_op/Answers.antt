@@ -22,9 +22,9 @@ pub returns-in_ok-add_at_row-in-Some-get : goal.returns-in_ok-add_at_row-in-Some
 returns-in_ok-add_at_row-in-Some-get g c =
     let h = c.args.history.now in
     let row = c.in-Some.row in
-    let vs = c.in-Some-get.versions.now in
-    let there : lookup (row_test row) (rows_of h) ≡ Some vs = ap (lookup (row_test row)) (sym c.requires) ∙ sym c.in-Some-get.ensures.value in
-    let among : Contains (rows_of h) (row, vs) = Contains-from_lookup tested_same row vs (rows_of h) there in
-    let is = sym (found_there h c.args.txn c.args.op.now row c.in-Some.ensures vs there) in
+    let chain = c.in-Some-get.versions.now in
+    let there : lookup (row_test row) (rows_of h) ≡ Some chain = ap (lookup (row_test row)) (sym c.requires) ∙ sym c.in-Some-get.ensures.value in
+    let among : Contains (rows_of h) (row, chain) = Contains-from_lookup tested_same row chain (rows_of h) there in
+    let is = sym (found_there h c.args.txn c.args.op.now row c.in-Some.ensures chain there) in
     subst (Grows (where_fits (HasPlaces h) g.S.EdgeSink.handed) c.args.sink.now c.add_at_row.new.sink) is
-    (fits_more g.S.EdgeSink.handed (FitsVersions vs) (HasPlaces h) (λ ps has. fits_rows h ps has row vs among) c.args.sink.now c.add_at_row.new.sink _ c.in_ok-add_at_row-in-Some-get.ensures)
+    (fits_more g.S.EdgeSink.handed (FitsVersions chain.items) (HasPlaces h) (λ ps has. fits_rows h ps has row chain among) c.args.sink.now c.add_at_row.new.sink _ c.in_ok-add_at_row-in-Some-get.ensures)

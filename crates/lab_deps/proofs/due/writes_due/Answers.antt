@@ -10,4 +10,4 @@ returns-then-is_read_only c = λ t.
 
 pub returns-then-is_some : goal.returns-then-is_some
 returns-then-is_some c = λ t row.
-    none_breaks c.args.history.now c.args.txn c.args.number c.args.op.now kind.WritesDiffer row (sym c.broken_row.ensures ∙ nothing_there c.broken_row.result (c.is_none.ensures ∙ ap not t))
+    none_breaks c.args.history.now c.args.txn c.args.number c.args.op.now kind.WritesDiffer row (sym c.miswritten_row.ensures ∙ nothing_there c.miswritten_row.result (c.is_none.ensures ∙ ap not t))

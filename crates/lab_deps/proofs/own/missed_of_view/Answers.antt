@@ -1,7 +1,7 @@
 use Rattle.std.proofs.Common.{◌≡◌, T, ◌∙◌, false, sym, ap, subst}
 use Rattle.std.specs.FinMap.{find, entries_sorted, is_sorted, get-entries}
 use Rattle.lab_table.specs.Row.{row_cmp}
-use Rattle.lab_deps.specs.OwnWrites.{is_missed}
+use Rattle.lab_deps.specs.Broken.{is_missed}
 use Rattle.lab_deps.proofs.MissedViews.{other_seen, same_seen}
 use Rattle.lab_deps.proofs.NearValues.{passed_row, item_in_map}
 use Rattle.lab_deps.proofs.own.missed_of_view.Goals as goal

@@ -1,7 +1,7 @@
 use Rattle.std.proofs.Common.{◌≡◌, drop}
 use Rattle.std.specs.FinMap.{entries}
 use Rattle.lab_deps.specs.Passes.{first_entry}
-use Rattle.lab_deps.specs.OwnWrites.{is_missed}
+use Rattle.lab_deps.specs.Broken.{is_missed}
 use Rattle.lab_deps.proofs.own.missed_of_view.Given as goal
 
 -- the row is found among the entries that are left as among all

@@ -1,8 +1,12 @@
-use Rattle.std.proofs.Common.{◌≡◌, ◌/◌, ◌*◌, Some, length, refl, sym, ap, ◌∙◌, subst}
+use Rattle.std.proofs.Common.{◌≡◌, ◌/◌, ◌*◌, Some, length, refl, sym, ap, ◌∙◌, subst, arith}
 use Rattle.std.specs.Prelude.{slice_get}
 use Rattle.std.proofs.lemmas.Option.{slice_get_read}
 use Rattle.lab_deps.specs.FrontSets.{IsFront}
+use Rattle.lab_deps.proofs.FrontGains.{gains_none}
 use Rattle.lab_deps.proofs.front_sets.FrontSets.add_first.Goals as goal
+
+pub returns-then-count-eq0 : goal.returns-then-count-eq0
+returns-then-count-eq0 c = gains_none c.args.self.now c.args.at 0 c.args.count c.args.table.now (λ n (k, low, high, at). absurd (omega (arith, high, c.if-count-eq0.true)))
 
 pub add_behind-requires-in-Some-clause-front : goal.add_behind-requires-in-Some-clause-front
 add_behind-requires-in-Some-clause-front c =

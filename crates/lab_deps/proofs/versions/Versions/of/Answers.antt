@@ -1,14 +1,18 @@
 use Rattle.std.proofs.Common.{subst}
 use Rattle.lab_deps.specs.EdgesByRow.{AreValuesOf}
-use Rattle.lab_deps.specs.KeptTurnings.{AreTurnings}
-use Rattle.lab_deps.specs.Turns.{HasTurns}
+use Rattle.std.specs.Prelude.{IfSome}
+use Rattle.lab_deps.specs.KeptTurnings.{presences, AreTurnings}
+use Rattle.lab_deps.specs.Turnings.{IsTurning, class_in}
 use Rattle.lab_deps.proofs.versions.Versions.of.Goals as goal
 
 pub invariant_of-result : goal.invariant_of-result
 invariant_of-result c = (
-  subst (AreValuesOf c.in_ok-values.values.values.items c.in_ok-values.values.places.items) c.deref.ensures.value c.in_ok-values.ensures,
+  c.in_ok-values.ensures.first,
   (
-    subst (HasTurns c.in_ok-turns.turns.items) c.deref-2.ensures.value c.in_ok-turns.ensures,
-    subst (AreTurnings c.in_ok-turnings.turnings.items c.in_ok-values.values.places.items) c.deref-3.ensures.value c.in_ok-turnings.ensures,
+    subst (AreValuesOf c.in_ok-values.values.values.items c.in_ok-values.values.places.items) c.deref.ensures.value c.in_ok-values.ensures.values,
+    (
+      subst (λ vs. IfSome c.in_ok-presence.presence (IsTurning (class_in (presences c.get-before.result vs)) vs)) c.deref-2.ensures.value c.in_ok-presence.ensures,
+      subst (AreTurnings c.in_ok-turnings.turnings.items c.in_ok-values.values.places.items) c.deref-3.ensures.value c.in_ok-turnings.ensures,
+    ),
   ),
 )

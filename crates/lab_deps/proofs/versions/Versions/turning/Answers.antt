@@ -1,6 +1,6 @@
-use Rattle.std.proofs.Common.{◌≡◌, length, sym, ap, ◌∙◌, subst}
+use Rattle.std.proofs.Common.{◌≡◌, Some, sym, ap, ◌∙◌, subst}
 use Rattle.std.specs.Prelude.{slice_get}
-use Rattle.lab_deps.specs.EdgesByRow.{AreValuesOf}
+use Rattle.lab_deps.specs.EdgesByRow.{Chain, AreValuesOf}
 use Rattle.lab_deps.specs.KeptTurnings.{AreTurnings}
 use Rattle.lab_deps.specs.Turnings.{IsTurning, class_by}
 use Rattle.lab_deps.proofs.Classes.{some_weaker, turning_by_values}
@@ -9,16 +9,17 @@ use Rattle.lab_deps.proofs.versions.Versions.turning.Goals as goal
 pub returns : goal.returns
 returns c =
     let v = c.self.inside in
-    let vs = c.args.self.now in
+    let chain = c.args.self.now in
     let s = c.args.statement.now in
     let row = c.args.row in
     let values = v.values.values.items in
     let numbers = v.values.places.items in
-    let fit = subst (AreValuesOf values numbers) c.self.view_is c.self.invariant.0 in
-    let kept = subst (AreTurnings v.turnings.items numbers) c.self.view_is c.self.invariant.1.1 in
+    let first = subst (λ (u : Chain). slice_get values 0 ≡ Some u.before) c.self.view_is c.self.invariant.0 in
+    let fit = subst (λ (u : Chain). AreValuesOf values numbers u.items) c.self.view_is c.self.invariant.1.0 in
+    let kept = subst (λ (u : Chain). AreTurnings v.turnings.items numbers u.items) c.self.view_is c.self.invariant.1.1.1 in
     some_weaker c.turning_by.result _ _
     (λ t (k, item, there, same, is).
     let known = kept k item (ap (λ xs. slice_get xs k) (sym c.deref.ensures.value) ∙ there) in
-    subst (IsTurning (class_by s row vs) vs) is
-    (turning_by_values s row vs values numbers fit known.0 c.in_ok-ask.ensures.0 item.answers.items (same ∙ (c.deref-2.ensures.value ∙ c.in_ok-ask.ensures.1)) item.turning known.1))
+    subst (IsTurning (class_by s row chain) chain.items) is
+    (turning_by_values s row chain values numbers fit known.0 item.answers.items (same ∙ (c.deref-2.ensures.value ∙ c.in_ok-ask.ensures chain.before first)) item.turning known.1))
     c.turning_by.ensures

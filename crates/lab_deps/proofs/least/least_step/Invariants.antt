@@ -1,0 +1,12 @@
+use Rattle.std.proofs.Common.{◌≡◌, None, drop}
+use Rattle.std.specs.FinMap.{entries}
+use Rattle.lab_deps.specs.LeastRow.{least_at}
+use Rattle.lab_deps.specs.Meetings.{installs_next}
+use Rattle.lab_deps.specs.Passes.{first_entry}
+use Rattle.lab_deps.proofs.least.least_step.Given as goal
+
+-- the row so far and the operations that are left give the least of all
+abbrev pub invariant-loop-op : goal.invariant-loop-op
+invariant-loop-op l =
+    least_at (λ op. first_entry (installs_next l.history l.from l.to) (entries op.writes)) l.row (drop l.op-index l.ops)
+    ≡ least_at (λ op. first_entry (installs_next l.history l.from l.to) (entries op.writes)) None l.ops

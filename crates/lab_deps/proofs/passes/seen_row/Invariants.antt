@@ -1,9 +1,0 @@
-use Rattle.std.proofs.Common.{◌≡◌, drop}
-use Rattle.std.specs.FinMap.{entries}
-use Rattle.lab_deps.specs.Broken.{breaks_at}
-use Rattle.lab_deps.specs.Passes.{first_value}
-use Rattle.lab_deps.proofs.passes.seen_row.Given as goal
-
--- the row is found among the entries that are left as among all
-abbrev pub invariant-loop-entry : goal.invariant-loop-entry
-invariant-loop-entry l = first_value (breaks_at l.kind l.history l.txn l.number l.op) (drop l.entry-index l.entries) ≡ first_value (breaks_at l.kind l.history l.txn l.number l.op) (entries l.op.view)

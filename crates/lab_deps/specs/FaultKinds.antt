@@ -1,0 +1,68 @@
+-- Faults by their kinds: what is said of a kind, and a fault as its kind and its place.
+use Rattle.std.specs.Prelude.{ℕ, Bool, true, false, List, codes}
+use Rattle.lab_table.specs.Row.{Row}
+use Rattle.lab_deps.specs.declared.fault.FaultParts.{FaultParts}
+use Rattle.lab_deps.specs.declared.fault.FaultParts.TheVariants as parts
+use Rattle.lab_deps.specs.declared.fault.LocalFault.{LocalFault}
+use Rattle.lab_deps.specs.declared.fault.LocalFault.TheVariants as fault
+use Rattle.lab_deps.specs.declared.kind.OpFault.{OpFault}
+use Rattle.lab_deps.specs.declared.kind.OpFault.TheVariants as kind
+use Rattle.lab_deps.specs.declared.kind.RowFault.{RowFault}
+use Rattle.lab_deps.specs.declared.kind.RowFault.TheVariants as row_kind
+
+-- what is said of a kind of fault: its code, its name, its place in the order of kinds, and whether it is a read of what was never committed
+pub record KindEntry : Type 0 where
+  pub code : List ℕ
+  pub name : List ℕ
+  pub place : ℕ
+  pub is_read : Bool
+
+abbrev pub op_entry : OpFault → KindEntry
+op_entry kind.Dangling = record { code = codes "F1"; name = codes "Dangling"; place = 0; is_read = false }
+op_entry kind.AbortedRead = record { code = codes "F2"; name = codes "AbortedRead"; place = 7; is_read = true }
+op_entry kind.IntermediateRead = record { code = codes "F3"; name = codes "IntermediateRead"; place = 8; is_read = true }
+op_entry kind.OwnWriteMissed = record { code = codes "F4"; name = codes "OwnWriteMissed"; place = 2; is_read = false }
+op_entry kind.LaterThanOwn = record { code = codes "F5"; name = codes "LaterThanOwn"; place = 3; is_read = false }
+op_entry kind.RowsDiffer = record { code = codes "F6"; name = codes "RowsDiffer"; place = 4; is_read = false }
+op_entry kind.WritesDiffer = record { code = codes "F7"; name = codes "WritesDiffer"; place = 5; is_read = false }
+
+abbrev pub row_entry : RowFault → KindEntry
+row_entry row_kind.InstallOrder = record { code = codes "F8"; name = codes "InstallOrder"; place = 1; is_read = false }
+row_entry row_kind.EndDiffers = record { code = codes "F9"; name = codes "EndDiffers"; place = 6; is_read = false }
+
+-- what is said of a fault's kind
+abbrev pub entry_of : FaultParts → KindEntry
+entry_of (parts.Operation kind n k row) = op_entry kind
+entry_of (parts.Row kind row) = row_entry kind
+
+-- a fault's kind and place
+abbrev pub parts_of : LocalFault → FaultParts
+parts_of (fault.Dangling n k row) = parts.Operation kind.Dangling n k row
+parts_of (fault.AbortedRead n k row) = parts.Operation kind.AbortedRead n k row
+parts_of (fault.IntermediateRead n k row) = parts.Operation kind.IntermediateRead n k row
+parts_of (fault.OwnWriteMissed n k row) = parts.Operation kind.OwnWriteMissed n k row
+parts_of (fault.LaterThanOwn n k row) = parts.Operation kind.LaterThanOwn n k row
+parts_of (fault.RowsDiffer n k row) = parts.Operation kind.RowsDiffer n k row
+parts_of (fault.WritesDiffer n k row) = parts.Operation kind.WritesDiffer n k row
+parts_of (fault.InstallOrder row) = parts.Row row_kind.InstallOrder row
+parts_of (fault.EndDiffers row) = parts.Row row_kind.EndDiffers row
+
+-- the fault of a kind at an operation and a row
+abbrev pub op_fault : OpFault → ℕ → ℕ → Row → LocalFault
+op_fault kind.Dangling n k row = fault.Dangling n k row
+op_fault kind.AbortedRead n k row = fault.AbortedRead n k row
+op_fault kind.IntermediateRead n k row = fault.IntermediateRead n k row
+op_fault kind.OwnWriteMissed n k row = fault.OwnWriteMissed n k row
+op_fault kind.LaterThanOwn n k row = fault.LaterThanOwn n k row
+op_fault kind.RowsDiffer n k row = fault.RowsDiffer n k row
+op_fault kind.WritesDiffer n k row = fault.WritesDiffer n k row
+
+-- the fault of a kind at a row alone
+abbrev pub row_fault : RowFault → Row → LocalFault
+row_fault row_kind.InstallOrder row = fault.InstallOrder row
+row_fault row_kind.EndDiffers row = fault.EndDiffers row
+
+-- the fault of this kind and place
+abbrev pub fault_of : FaultParts → LocalFault
+fault_of (parts.Operation kind n k row) = op_fault kind n k row
+fault_of (parts.Row kind row) = row_fault kind row
