@@ -2,21 +2,22 @@
 use Rattle.std.proofs.Common.{◌≡◌, ap}
 use Rattle.lab_history.specs.History.{History}
 use Rattle.lab_deps.proofs.FaultOrders.{one_first}
+use Rattle.lab_deps.specs.KindSets.{is_any}
+use Rattle.lab_order.proofs.BackCircles.{one_circle}
 use Rattle.lab_order.proofs.Least.{neither_after}
 use Rattle.lab_judge.specs.Judgement.{IsSerialVerdict, IsSnapshotVerdict, RestsOnOrder, RestsOnPlaces, IsExactJudgement}
 use Rattle.lab_judge.specs.BackPoints.{HasBackCircle}
-use Rattle.lab_judge.specs.LeastPlaces.{IsLeastPlacing}
+use Rattle.lab_judge.specs.LeastPlaces.{IsLower, IsLeastPlacing}
 use Rattle.lab_judge.specs.LeastWalks.{HasDueWalk}
+use Rattle.lab_judge.specs.Places.{IsArrow}
 use Rattle.lab_judge.specs.Verdicts.{IsLeastOrder}
 use Rattle.lab_judge.specs.declared.places.Places.{Places}
 use Rattle.lab_judge.specs.declared.places.Places.TheVariants as places
 use Rattle.lab_judge.specs.declared.report.Report.{Report}
 use Rattle.lab_judge.specs.declared.serial.Serial.{Serial}
 use Rattle.lab_judge.specs.declared.serial.Serial.TheVariants as serial
-use Rattle.lab_judge.specs.declared.allowed.Allowed.TheVariants as allowed
 use Rattle.lab_judge.proofs.Excludes.{no_closed_walk, no_circle}
-use Rattle.lab_judge.proofs.OneBackCircle.{one_circle}
-use Rattle.lab_judge.proofs.OnePlacing.{one_least_placing}
+use Rattle.lab_judge.proofs.OnePlacing.{not_both, lower_cases, one_least_placing}
 use Rattle.lab_judge.proofs.OneWalk.{one_back_walk}
 
 module _ (h : History) where
@@ -29,7 +30,7 @@ module _ (h : History) where
   orders (serial.NoFault fault) (serial.NoCycle walk) v w r q l m x y = absurd (w.0 fault v.0)
   orders (serial.NoCycle walk) (serial.Yes other) v w r q l m x y = absurd (no_closed_walk h other walk q.2 v.1)
   orders (serial.NoCycle walk) (serial.NoFault fault) v w r q l m x y = absurd (v.0 fault w.0)
-  orders (serial.NoCycle walk) (serial.NoCycle other) v w r q l m x y = ap serial.NoCycle (one_back_walk h allowed.All walk other x y)
+  orders (serial.NoCycle walk) (serial.NoCycle other) v w r q l m x y = ap serial.NoCycle (one_back_walk h is_any walk other x y)
 
   placings : (s t : Places) → IsSnapshotVerdict h s → IsSnapshotVerdict h t → RestsOnPlaces h s → RestsOnPlaces h t → IsLeastPlacing h s → IsLeastPlacing h t → HasBackCircle h s → HasBackCircle h t → s ≡ t
   placings (places.Yes one) (places.Yes other) v w r q l m c d = ap places.Yes (one_least_placing h one other r.1 q.1 l m)
@@ -40,7 +41,7 @@ module _ (h : History) where
   placings (places.NoFault fault) (places.NoCycle points) v w r q l m c d = absurd (w.0 fault v.0)
   placings (places.NoCycle points) (places.Yes other) v w r q l m c d = absurd (no_circle h other points q.3 v.1)
   placings (places.NoCycle points) (places.NoFault fault) v w r q l m c d = absurd (v.0 fault w.0)
-  placings (places.NoCycle points) (places.NoCycle other) v w r q l m c d = ap places.NoCycle (one_circle h points other c d)
+  placings (places.NoCycle points) (places.NoCycle other) v w r q l m c d = ap places.NoCycle (one_circle IsLower (IsArrow h) lower_cases not_both points other c d)
 
   pub serial_agrees : (one other : Report) → IsExactJudgement h one → IsExactJudgement h other → one.serial ≡ other.serial
   serial_agrees one other a b = orders one.serial other.serial a.judgement.serial b.judgement.serial a.order b.order a.least b.least a.walk b.walk

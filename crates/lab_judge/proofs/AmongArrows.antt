@@ -6,16 +6,18 @@ use Rattle.std.proofs.lemmas.Bool.{and_parts, and_from, eqb-true}
 use Rattle.std.proofs.lemmas.List.Elements.{All-contains}
 use Rattle.lab_order.specs.Arrows.{Arrows, nodes_of, before, has_arrow}
 use Rattle.lab_order.specs.Order.{position}
+use Rattle.lab_deps.specs.KindSets.{among}
 use Rattle.lab_deps.specs.declared.edge.Edge.{Edge}
 use Rattle.lab_deps.specs.declared.edge.Kind.{Kind}
-use Rattle.lab_judge.specs.Graphs.{ties, joins, IsGraphOf}
+use Rattle.lab_deps.specs.declared.kinds.TheConstants.Kinds.{ALL}
+use Rattle.lab_judge.specs.Graphs.{ties, IsGraphOf}
 use Rattle.lab_judge.specs.Joining.{tail, head, landing, any_below}
-use Rattle.lab_judge.specs.declared.allowed.Allowed.TheVariants as allowed
 use Rattle.lab_judge.specs.declared.joining.Joining.{Joining}
+use Rattle.lab_deps.proofs.NamedKinds.{all_has}
 use Rattle.lab_judge.proofs.Joined.{some_passes, passes_some}
 use Rattle.lab_judge.proofs.Landings.{same_truth, some_below, below_some}
 
-module _ (test : Kind → Bool) (joining : Joining) (nodes : List ℕ) (es : List Edge) (graph : Arrows) (is : IsGraphOf allowed.All nodes es graph) (a b q : ℕ) where
+module _ (test : Kind → Bool) (joining : Joining) (nodes : List ℕ) (es : List Edge) (graph : Arrows) (is : IsGraphOf (among ALL) nodes es graph) (a b q : ℕ) where
   abbrev at : ℕ → Bool
   at p = landing test joining nodes es a b p q
 
@@ -24,11 +26,13 @@ module _ (test : Kind → Bool) (joining : Joining) (nodes : List ℕ) (es : Lis
   has_all p tied =
       let found : (e : Edge) × Contains es e × (ties test nodes p q e ≡ true) = some_passes (ties test nodes p q) es tied in
       let parts = and_parts (test found.0.kind) (position nodes found.0.from == p && position nodes found.0.to == q) found.2 in
-      is.arrows p q ∙ passes_some (joins allowed.All nodes p q) es found.0 found.1 parts.1
+      is.arrows p q
+      ∙ passes_some (ties (among ALL) nodes p q) es found.0 found.1
+      (and_from (among ALL found.0.kind) (position nodes found.0.from == p && position nodes found.0.to == q) (all_has found.0.kind) parts.1)
 
   -- so those with an arrow to a node are all whose arrows land there
-  pub among : All (λ n. n < nodes_of graph) (before graph q) → list_any at (before graph q) ≡ any_below at (length nodes)
-  among within =
+  pub among_all : All (λ n. n < nodes_of graph) (before graph q) → list_any at (before graph q) ≡ any_below at (length nodes)
+  among_all within =
       same_truth (list_any at (before graph q)) (any_below at (length nodes))
       (λ h.
       let found : (p : ℕ) × Contains (before graph q) p × (at p ≡ true) = some_passes at (before graph q) h in

@@ -1,20 +1,19 @@
--- The circle on the way back from the least stuck node of the graph of starts and commits, as one of points.
-use Rattle.std.proofs.Common.{◌≡◌, inl, inr, ℕ, ◌*◌, ◌<◌, ◌≤◌, ◌==◌, ◌&&◌, suc, Bool, Some, nat_lt, List, [], ◌∷◌, length, get_or, map, refl, sym, ap, ◌∙◌, subst, arith}
-use Rattle.std.specs.Prelude.{◌↔◌, slice_get, Contains, IsTrue}
-use Rattle.std.specs.List.{All, count_by}
+-- The cycle on the way back from the least stuck node of the graph of starts and commits, as one of points.
+use Rattle.std.proofs.Common.{◌≡◌, inl, inr, ℕ, ◌*◌, ◌<◌, ◌&&◌, suc, Bool, nat_lt, List, [], ◌∷◌, length, get_or, map, sym, ap, ◌∙◌, subst, arith}
+use Rattle.std.specs.Prelude.{◌↔◌, Contains, IsTrue}
+use Rattle.std.specs.List.{All}
 use Rattle.std.specs.List.Sorted.{IsStrictlyIncreasing}
 use Rattle.std.proofs.lemmas.Bool.{and_parts, and_from, cases_lt, ltb-true, lt-ltb}
 use Rattle.std.proofs.lemmas.List.Elements.{All-map}
-use Rattle.std.proofs.lemmas.Option.{slice_get-get_or}
 use Rattle.lab_order.specs.Arrows.{Arrows, nodes_of, has_arrow, IsGraph}
+use Rattle.lab_order.specs.Arrows as arrows
 use Rattle.lab_order.specs.Back as back
+use Rattle.lab_order.specs.Knots.{AreKnotted, IsStuck, IsLeastStuck, IsBack, ComesBack, IsMet, IsBackCircle}
+use Rattle.lab_order.specs.Least.{IsLess}
 use Rattle.lab_order.specs.Trails.{IsTrailBy}
-use Rattle.lab_order.proofs.Members.{at_is_in}
 use Rattle.lab_history.specs.History.{History}
 use Rattle.lab_deps.specs.Edges.{IsEdge}
 use Rattle.lab_deps.specs.declared.edge.Edge.{Edge}
-use Rattle.lab_deps.proofs.Places.{times, times_count, times_here, at_times}
-use Rattle.lab_judge.specs.BackPoints.{AreKnotted, IsStuck, IsLowestStuck, IsBack, ComesBack, IsMet, IsTrailBack, IsBackCircle}
 use Rattle.lab_judge.specs.LeastPlaces.{is_point, IsLower}
 use Rattle.lab_judge.specs.PlaceGraphs.{point_at, IsPlaceGraph}
 use Rattle.lab_judge.specs.Places.{IsArrow}
@@ -26,22 +25,8 @@ use Rattle.lab_judge.proofs.PlaceNodes.{node_of, arrow_is, has_it}
 use Rattle.lab_judge.proofs.PointNodes.{is_itself, same_point, lower, node_again, node_within, point_again}
 use Rattle.lab_judge.proofs.SnapshotVerdicts.{IsOfCommitted, ends}
 
--- the least of nodes of which it is one only once is less than the others
-less_than_others : (a : ℕ) (ns : List ℕ) → count_by (λ n. n == a) (a ∷ ns) ≤ 1 → All (λ n. a ≤ n) ns → All (λ n. a < n) ns
-less_than_others a ns once all k d lt = at (get_or ns k d) (slice_get-get_or ns k d lt) (all k d lt)
-  where
-    at : (n : ℕ) → slice_get ns k ≡ Some n → a ≤ n → a < n
-    at n here le = elim (cases_lt a n) [
-      | inl less ↦ less
-      | inr ge ↦
-          let some : 1 ≤ times n ns = at_times ns k n here in
-          let same : n ≡ a = omega (arith, le, ge) in
-          let again : 1 ≤ times a ns = subst (λ m. 1 ≤ times m ns) same some in
-          absurd (omega (arith, once, times_count a (a ∷ ns), times_here a a ns refl, again))
-    ]
-
 -- a point that no order can place is one of a committed transaction
-stuck_there : (h : History) (p : Point) → IsStuck h p → IsOfCommitted h p
+stuck_there : (h : History) (p : Point) → IsStuck (IsArrow h) p → IsOfCommitted h p
 stuck_there h p (points, here, knotted) = let k : (from : Point) × IsTrue (points from) × IsArrow h from p = knotted p here in (ends h k.0 p k.2).1
 
 module _ (h : History) (ns : List ℕ) (up : IsStrictlyIncreasing ns) (once : HoldsEachOnce h ns) (es : List Edge) (exact : (e : Edge) → Contains es e ↔ IsEdge h e)
@@ -57,7 +42,7 @@ module _ (h : History) (ns : List ℕ) (up : IsStrictlyIncreasing ns) (once : Ho
   arrow_from p b lt arrow = subst (λ k. IsTrue (has_arrow graph (node_of ns p) k)) (node_again ns up b lt) (has_it h ns once es exact graph is p (point_at ns b) arrow)
 
   -- where a node is stuck, its point is
-  stuck_point : (a : ℕ) → back.IsStuck graph a → IsStuck h (point_at ns a)
+  stuck_point : (a : ℕ) → back.IsStuck graph a → IsStuck (IsArrow h) (point_at ns a)
   stuck_point a (nodes, here, knotted) = (test, own a (arrow_within graph is_graph (knotted a here).0 a (knotted a here).2).1 here, next)
     where
       test : Point → Bool
@@ -67,7 +52,7 @@ module _ (h : History) (ns : List ℕ) (up : IsStrictlyIncreasing ns) (once : Ho
       own b lt one =
           ap (λ k. nodes k && is_point (point_at ns k) (point_at ns b)) (node_again ns up b (within b lt)) ∙ ap (λ t. t && is_point (point_at ns b) (point_at ns b)) one ∙ is_itself (point_at ns b)
 
-      next : AreKnotted h test
+      next : AreKnotted (IsArrow h) test
       next p there =
           let parts = and_parts (nodes (node_of ns p)) (is_point (point_at ns (node_of ns p)) p) there in
           let k : (from : ℕ) × IsTrue (nodes from) × IsTrue (has_arrow graph from (node_of ns p)) = knotted (node_of ns p) parts.0 in (
@@ -77,7 +62,7 @@ module _ (h : History) (ns : List ℕ) (up : IsStrictlyIncreasing ns) (once : Ho
           )
 
   -- and where a point is stuck, its node is
-  stuck_node : (p : Point) → IsStuck h p → back.IsStuck graph (node_of ns p)
+  stuck_node : (p : Point) → IsStuck (IsArrow h) p → back.IsStuck graph (node_of ns p)
   stuck_node p (points, here, knotted) = (test, own p (stuck_there h p (points, here, knotted)) here, next)
     where
       test : ℕ → Bool
@@ -88,7 +73,7 @@ module _ (h : History) (ns : List ℕ) (up : IsStrictlyIncreasing ns) (once : Ho
           and_from (points (point_at ns (node_of ns q))) (nat_lt (node_of ns q) (2 * length ns)) (ap points (point_again h ns once q c) ∙ one)
           (lt-ltb (node_of ns q) (2 * length ns) (node_within h ns once q c))
 
-      next : back.AreKnotted graph test
+      next : AreKnotted (arrows.IsArrow graph) test
       next a there =
           let parts = and_parts (points (point_at ns a)) (nat_lt a (2 * length ns)) there in
           let k : (from : Point) × IsTrue (points from) × IsArrow h from (point_at ns a) = knotted (point_at ns a) parts.0 in
@@ -111,46 +96,46 @@ module _ (h : History) (ns : List ℕ) (up : IsStrictlyIncreasing ns) (once : Ho
   ]
 
   -- a step back of nodes is one of points
-  back_point : (a b : ℕ) → back.IsBack graph a b → IsBack h (point_at ns a) (point_at ns b)
+  back_point : (a b : ℕ) → back.IsBack graph a b → IsBack IsLower (IsArrow h) (point_at ns a) (point_at ns b)
   back_point a b k = record {
     arrow = arrow_to a b k.arrow;
     stuck = stuck_point a k.stuck;
-    lowest = λ q less arrow stuck.
+    least = λ q less arrow stuck.
         k.least (node_of ns q) (less_node q (stuck_there h q stuck) a less) (arrow_from q b (within b (arrow_within graph is_graph a b k.arrow).1) arrow) (stuck_node q stuck);
   }
 
-  comes_back : (a : ℕ) (way : List ℕ) (b : ℕ) → back.ComesBack graph a way b → ComesBack h (point_at ns a) (map (point_at ns) way) (point_at ns b)
+  comes_back : (a : ℕ) (way : List ℕ) (b : ℕ) → ComesBack IsLess (arrows.IsArrow graph) a way b → ComesBack IsLower (IsArrow h) (point_at ns a) (map (point_at ns) way) (point_at ns b)
   comes_back a [] b same = ap (point_at ns) same
   comes_back a (n ∷ way) b k = (back_point n a k.0, comes_back n way b k.1)
 
   -- the least stuck node is that of the lowest stuck point
-  lowest_stuck : (a : ℕ) → back.IsLeastStuck graph a → IsLowestStuck h (point_at ns a)
+  lowest_stuck : (a : ℕ) → IsLeastStuck IsLess (arrows.IsArrow graph) a → IsLeastStuck IsLower (IsArrow h) (point_at ns a)
   lowest_stuck a k = record {
     stuck = stuck_point a k.stuck;
-    lowest = λ q less stuck. k.least (node_of ns q) (less_node q (stuck_there h q stuck) a less) (stuck_node q stuck);
+    least = λ q less stuck. k.least (node_of ns q) (less_node q (stuck_there h q stuck) a less) (stuck_node q stuck);
   }
 
-  met_point : (a : ℕ) → back.IsMet graph a → IsMet h (point_at ns a)
+  met_point : (a : ℕ) → back.IsMet graph a → IsMet IsLower (IsArrow h) (point_at ns a)
   met_point a k = record {
     start = point_at ns k.start;
-    lowest = lowest_stuck k.start k.least;
+    least = lowest_stuck k.start k.least;
     way = map (point_at ns) k.way;
     back = comes_back k.start k.way a k.back;
   }
 
-  trail_back : (a : ℕ) (xs : List ℕ) (b : ℕ) → IsTrailBy (back.IsBack graph) a xs b → IsTrailBack h (point_at ns a) (map (point_at ns) xs) (point_at ns b)
+  trail_back : (a : ℕ) (xs : List ℕ) (b : ℕ) → IsTrailBy (back.IsBack graph) a xs b → IsTrailBy (IsBack IsLower (IsArrow h)) (point_at ns a) (map (point_at ns) xs) (point_at ns b)
   trail_back a [] b step = back_point a b step
   trail_back a (x ∷ xs) b t = (back_point a x t.0, trail_back x xs b t.1)
 
-  -- so the circle of nodes is one of points
-  circle_back : (circle : List ℕ) → All (λ a. a < nodes_of graph) circle → back.IsBackCircle graph circle → IsBackCircle h (map (point_at ns) circle)
-  circle_back [] inside k = k.back
-  circle_back (a ∷ xs) inside k = (
-    trail_back a xs a k.back,
-    All-map (λ q. IsLower (point_at ns a) q) (point_at ns) xs
-        (λ i d lt. lower ns up a (get_or xs i d) (less_than_others a xs (k.once a) k.first i d lt) (within (get_or xs i d) (inside (suc i) d (omega (arith, lt))))),
-    All-map (IsMet h) (point_at ns) (a ∷ xs) (λ i d lt. met_point (get_or (a ∷ xs) i d) (k.met (get_or (a ∷ xs) i d) (at_is_in (a ∷ xs) i d lt))),
-  )
+  -- so the cycle of nodes is one of points
+  circle_back : (circle : List ℕ) → All (λ a. a < nodes_of graph) circle → back.IsBackCircle graph circle → IsBackCircle IsLower (IsArrow h) (map (point_at ns) circle)
+  circle_back [] inside k = absurd k.back
+  circle_back (a ∷ xs) inside k = record {
+    back = trail_back a xs a k.back;
+    first = All-map (λ q. IsLower (point_at ns a) q) (point_at ns) xs (λ i d lt. lower ns up a (get_or xs i d) (k.first i d lt) (within (get_or xs i d) (inside (suc i) d (omega (arith, lt)))));
+    met = All-map (IsMet IsLower (IsArrow h)) (point_at ns) (a ∷ xs) (λ i d lt. met_point (get_or (a ∷ xs) i d) (k.met i d lt));
+  }
 
-  pub has_back_circle : (circle : List ℕ) → All (λ a. a < nodes_of graph) circle → back.IsBackCircle graph circle → (made : List Point) → made ≡ map (point_at ns) circle → IsBackCircle h made
-  has_back_circle circle inside k made same = subst (IsBackCircle h) (sym same) (circle_back circle inside k)
+  pub has_back_circle : (circle : List ℕ) → All (λ a. a < nodes_of graph) circle → back.IsBackCircle graph circle → (made : List Point) → made ≡ map (point_at ns) circle
+      → IsBackCircle IsLower (IsArrow h) made
+  has_back_circle circle inside k made same = subst (IsBackCircle IsLower (IsArrow h)) (sym same) (circle_back circle inside k)

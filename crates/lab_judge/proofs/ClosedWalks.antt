@@ -73,18 +73,18 @@ module _ (h : History) where
       let rest : IsWalk h x.to xs e.from × IsEdge h e × IsWalk h e.to ys c = cut x.to xs e ys c w.2 in
       ((w.0, w.1, rest.0), rest.1, rest.2)
 
-  -- a closed walk goes from each of its edges back to where that begins
+  -- a cycle goes from each of its edges back to where that begins
   pub goes_back : (xs : List Edge) (e : Edge) (ys : List Edge) → IsClosedWalk h (xs ++ e ∷ ys) → IsEdge h e × IsWalk h e.to (ys ++ xs) e.from
   goes_back [] e ys w = (w.0, subst (λ l. IsWalk h e.to l e.from) (sym (append-nil ys)) w.2)
   goes_back (x ∷ xs) e ys w =
       let parts : IsWalk h x.from (x ∷ xs) e.from × IsEdge h e × IsWalk h e.to ys x.from = cut x.from (x ∷ xs) e ys x.from w in
       (parts.1, joined e.to ys x.from (x ∷ xs) e.from parts.2 parts.0)
 
-  -- an edge and a walk back are a closed walk
+  -- an edge and a walk back are a cycle
   pub closed : (e : Edge) (back : List Edge) → IsEdge h e → IsWalk h e.to back e.from → IsClosedWalk h (e ∷ back)
   closed e back edge w = (edge, refl, w)
 
-  -- a closed walk may begin at any of its edges
+  -- a cycle may begin at any of its edges
   turned : (xs ys : List Edge) → IsClosedWalk h (xs ++ ys) → IsClosedWalk h (ys ++ xs)
   turned xs [] w = subst (IsClosedWalk h) (append-nil xs) w
   turned xs (e ∷ ys) w = let back : IsEdge h e × IsWalk h e.to (ys ++ xs) e.from = goes_back xs e ys w in closed e (ys ++ xs) back.0 back.1

@@ -15,12 +15,10 @@ use Rattle.lab_order.specs.Arrows.{Arrows}
 use Rattle.lab_order.specs.Order.{position}
 use Rattle.lab_order.specs.Path.{Reaches}
 use Rattle.lab_deps.specs.EdgeOrder.{kind_place, edge_cmp}
-use Rattle.lab_deps.specs.KindBits.{has_bit}
 use Rattle.lab_deps.specs.declared.edge.Edge.{Edge}
 use Rattle.lab_deps.specs.declared.edge.Kind.{Kind}
 use Rattle.lab_judge.specs.Graphs.{HasEnds, ties}
-use Rattle.lab_judge.specs.Openings.{opens, IsOpening}
-use Rattle.lab_judge.specs.declared.findings.opening.Opening.{Opening}
+use Rattle.lab_judge.specs.Openings.{IsOpening}
 use Rattle.lab_judge.proofs.GraphWalks.{read_back}
 use Rattle.lab_judge.proofs.Joined.{read}
 use Rattle.lab_judge.proofs.LeastOrders.{rises}
@@ -50,22 +48,22 @@ found_with P Q R S f E (Err x) p q r = tt
 found_with P Q R S f E (Ok None) p q r = tt
 found_with P Q R S f E (Ok (Some e)) p q r = f e p q r
 
-module _ (opening : Opening) (graph : Arrows) (nodes : List ℕ) (up : IsStrictlyIncreasing nodes) (es : List Edge) (ends : All (HasEnds nodes) es) (from : ℕ) where
+module _ (opening : Kind → Bool) (graph : Arrows) (nodes : List ℕ) (up : IsStrictlyIncreasing nodes) (es : List Edge) (ends : All (HasEnds nodes) es) (from : ℕ) where
   -- an edge of the history's nodes
   has_ends : (f : Edge) → Contains es f → HasEnds nodes f
   has_ends f there = All-contains (HasEnds nodes) es f ends there
 
   -- of the edges that open a walk the first from a node is the least to the first one that leads back
-  pub first_tied : (bits : ℕ) → ((kind : Kind) → has_bit bits kind ≡ opens opening kind) → (to n m : ℕ)
-      → ((k : ℕ) → k < to → Reaches graph k from → list_any (ties (has_bit bits) nodes from k) es ≡ false) → slice_get nodes from ≡ Some n → slice_get nodes to ≡ Some m
-      → (e : Edge) → e.from ≡ n → e.to ≡ m → ((f : Edge) → Contains es f → f.from ≡ n → f.to ≡ m → has_bit bits f.kind ≡ true → is_lt (edge_cmp f e) ≡ false)
+  pub first_tied : (to n m : ℕ)
+      → ((k : ℕ) → k < to → Reaches graph k from → list_any (ties opening nodes from k) es ≡ false) → slice_get nodes from ≡ Some n → slice_get nodes to ≡ Some m
+      → (e : Edge) → e.from ≡ n → e.to ≡ m → ((f : Edge) → Contains es f → f.from ≡ n → f.to ≡ m → opening f.kind ≡ true → is_lt (edge_cmp f e) ≡ false)
       → (f : Edge) → Contains es f → position nodes f.from ≡ from → IsOpening opening graph nodes f → is_lt (edge_cmp f e) ≡ false
-  first_tied bits told to n m none from_is to_is e begins ended least f there at opened =
+  first_tied to n m none from_is to_is e begins ended least f there at opened =
       let q : ℕ = position nodes f.to in
       let ends_of : HasEnds nodes f = has_ends f there in
       let same_from : f.from ≡ n = same_Some f.from n (sym (stands nodes f.from ends_of.0) ∙ ap (slice_get nodes) at ∙ from_is) in
       let back : Reaches graph q from = subst (Reaches graph q) at opened.1 in
-      let tied : list_any (ties (has_bit bits) nodes from q) es ≡ true = tied_by opening graph nodes es ends bits told from f there at opened.0 in
+      let tied : list_any (ties opening nodes from q) es ≡ true = tied_by opening graph nodes es ends from f there at opened.0 in
       elim (cases_lt q to) [
         | inl before ↦ absurd (false≢true (sym (none q before back) ∙ tied))
         | inr more ↦ elim (cases_lt to q) [
@@ -76,7 +74,7 @@ module _ (opening : Opening) (graph : Arrows) (nodes : List ℕ) (up : IsStrictl
               later_to e f (begins ∙ sym same_from) (omega (arith, rise, low, high, ended))
           | inr le ↦
               let one : q ≡ to = omega (arith, more, le) in
-              least f there same_from (same_Some f.to m (sym (stands nodes f.to ends_of.1) ∙ ap (slice_get nodes) one ∙ to_is)) (told f.kind ∙ opened.0)
+              least f there same_from (same_Some f.to m (sym (stands nodes f.to ends_of.1) ∙ ap (slice_get nodes) one ∙ to_is)) opened.0
         ]
       ]
 

@@ -9,11 +9,10 @@ use Rattle.lab_order.specs.Path.{Leads, IsPath}
 use Rattle.lab_history.specs.History.{History}
 use Rattle.lab_deps.specs.Edges.{IsEdge}
 use Rattle.lab_deps.specs.declared.edge.Edge.{Edge}
-use Rattle.lab_judge.specs.Allowed.{allows}
-use Rattle.lab_judge.specs.Graphs.{joins, IsGraphOf, LeadsAlong, last_of, count_others}
+use Rattle.lab_deps.specs.declared.edge.Kind.{Kind}
+use Rattle.lab_judge.specs.Graphs.{ties, IsGraphOf, LeadsAlong, last_of, count_others}
 use Rattle.lab_judge.specs.Openings.{HasEdgesOf, IsClosedOf, LeadsBack}
 use Rattle.lab_judge.specs.Phenomena.{IsWalk}
-use Rattle.lab_judge.specs.declared.allowed.Allowed.{Allowed}
 use Rattle.lab_judge.proofs.ClosedWalks.{times_are, Through, none_forbidden}
 use Rattle.lab_judge.proofs.Joined.{passes_some, along_path, path_ends, read}
 use Rattle.lab_judge.proofs.Numbers.{stands}
@@ -34,25 +33,25 @@ no_way_back graph order is a n ns (arrow, rest) =
     omega (arith, one, more)
 
 -- what isn't forbidden is allowed
-allowed_then : (allowed : Allowed) (b : Bool) → not b ≡ false → b ≡ true
-allowed_then allowed true h = refl
-allowed_then allowed false h = sym h
+allowed_then : (b : Bool) → not b ≡ false → b ≡ true
+allowed_then true h = refl
+allowed_then false h = sym h
 
 -- edges of which none is of another kind are all allowed
-pub all_through : (allowed : Allowed) (es : List Edge) → count_others allowed es ≡ 0 → Through (allows allowed) es
+pub all_through : (allowed : Kind → Bool) (es : List Edge) → count_others allowed es ≡ 0 → Through allowed es
 all_through allowed es none =
-    none_forbidden (λ k. not (allows allowed k)) (allows allowed) (λ k h. allowed_then allowed (allows allowed k) h) es (times_are (λ k. not (allows allowed k)) es ∙ none)
+    none_forbidden (λ k. not (allowed k)) allowed (λ k h. allowed_then (allowed k) h) es (times_are (λ k. not (allowed k)) es ∙ none)
 
-module _ (allowed : Allowed) (nodes : List ℕ) (es : List Edge) (graph : Arrows) (is : IsGraphOf allowed nodes es graph) where
+module _ (allowed : Kind → Bool) (nodes : List ℕ) (es : List Edge) (graph : Arrows) (is : IsGraphOf allowed nodes es graph) where
   -- an edge of an allowed kind is an arrow
-  arrow_of : (e : Edge) → Contains es e → allows allowed e.kind ≡ true → IsTrue (has_arrow graph (position nodes e.from) (position nodes e.to))
+  arrow_of : (e : Edge) → Contains es e → allowed e.kind ≡ true → IsTrue (has_arrow graph (position nodes e.from) (position nodes e.to))
   arrow_of e there kind =
       let ends : ((position nodes e.from == position nodes e.from) ≡ true) × ((position nodes e.to == position nodes e.to) ≡ true) = (eq-eqb _ _ refl, eq-eqb _ _ refl) in
       is.arrows (position nodes e.from) (position nodes e.to)
-      ∙ passes_some (joins allowed nodes (position nodes e.from) (position nodes e.to)) es e there (cc)
+      ∙ passes_some (ties allowed nodes (position nodes e.from) (position nodes e.to)) es e there (cc)
 
   -- a walk along edges of allowed kinds is a path
-  pub walk_leads : (h : History) → ((e : Edge) → IsEdge h e → allows allowed e.kind ≡ true → Contains es e) → (from : ℕ) (ws : List Edge) (to : ℕ) → IsWalk h from ws to → Through (allows allowed) ws
+  pub walk_leads : (h : History) → ((e : Edge) → IsEdge h e → allowed e.kind ≡ true → Contains es e) → (from : ℕ) (ws : List Edge) (to : ℕ) → IsWalk h from ws to → Through allowed ws
       → Leads graph (position nodes from) (map (λ e. position nodes e.to) ws) (position nodes to)
   walk_leads h all from [] to same through = ap (position nodes) same
   walk_leads h all from (e ∷ ws) to (edge, begins, rest) (kind, through) =
@@ -66,7 +65,7 @@ module _ (allowed : Allowed) (nodes : List ℕ) (es : List Edge) (graph : Arrows
       (walk_leads h has.all e.from (e ∷ ws) e.from closed (all_through allowed (e ∷ ws) none))
 
   -- a walk of allowed kinds from where an edge ends to where it begins is a path back
-  pub leads_back : (h : History) → ((e : Edge) → IsEdge h e → Contains es e) → (e : Edge) (ws : List Edge) → IsWalk h e.to ws e.from → Through (allows allowed) ws → LeadsBack graph nodes e
+  pub leads_back : (h : History) → ((e : Edge) → IsEdge h e → Contains es e) → (e : Edge) (ws : List Edge) → IsWalk h e.to ws e.from → Through allowed ws → LeadsBack graph nodes e
   leads_back h all e ws walk through = (position nodes e.to ∷ map (λ w. position nodes w.to) ws, (refl, walk_leads h (λ w edge kind. all w edge) e.to ws e.from walk through))
 
   -- the nodes of a path, after its first

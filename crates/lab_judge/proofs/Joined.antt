@@ -15,10 +15,8 @@ use Rattle.lab_history.specs.History.{History}
 use Rattle.lab_deps.specs.Edges.{IsEdge}
 use Rattle.lab_deps.specs.declared.edge.Edge.{Edge}
 use Rattle.lab_deps.specs.declared.edge.Kind.{Kind}
-use Rattle.lab_judge.specs.Allowed.{allows}
-use Rattle.lab_judge.specs.Graphs.{HasEnds, ties, joins, IsGraphOf, LeadsAlong, last_of, count_others}
+use Rattle.lab_judge.specs.Graphs.{HasEnds, ties, IsGraphOf, LeadsAlong, last_of, count_others}
 use Rattle.lab_judge.specs.Phenomena.{IsWalk, IsClosedWalk}
-use Rattle.lab_judge.specs.declared.allowed.Allowed.{Allowed}
 use Rattle.lab_judge.proofs.Numbers.{stands}
 
 -- what passes a test somewhere is an element that passes it
@@ -64,8 +62,8 @@ tie test nodes es ends a b h =
     }
 
 -- the next step of a way, and the rest
-pub step : (allowed : Allowed) (nodes : List ℕ) (es : List Edge) (at i : ℕ) (way : List ℕ) → i < length way → LeadsAlong allowed nodes es at (drop i way)
-    → (list_any (joins allowed nodes at (get_or way i 0)) es ≡ true) × LeadsAlong allowed nodes es (get_or way i 0) (drop (i + 1) way)
+pub step : (allowed : Kind → Bool) (nodes : List ℕ) (es : List Edge) (at i : ℕ) (way : List ℕ) → i < length way → LeadsAlong allowed nodes es at (drop i way)
+    → (list_any (ties allowed nodes at (get_or way i 0)) es ≡ true) × LeadsAlong allowed nodes es (get_or way i 0) (drop (i + 1) way)
 step allowed nodes es at i way lt leads =
     let one : suc i ≡ i + 1 = omega arith in
     subst (λ rest. LeadsAlong allowed nodes es at rest) (drop-cons way i 0 lt ∙ ap (λ k. get_or way i 0 ∷ drop k way) one) leads
@@ -76,15 +74,15 @@ last_step at i way lt =
     ap (last_of at) (drop-cons way i 0 lt ∙ ap (λ k. get_or way i 0 ∷ drop k way) one)
 
 -- the dependency that leads to the next node
-pub next_tie : (allowed : Allowed) (nodes : List ℕ) (es : List Edge) → All (HasEnds nodes) es → (at i : ℕ) (way : List ℕ) → i < length way
-    → LeadsAlong allowed nodes es at (drop i way) → Tie (allows allowed) nodes es at (get_or way i 0)
-next_tie allowed nodes es ends at i way lt leads = tie (allows allowed) nodes es ends at (get_or way i 0) (step allowed nodes es at i way lt leads).0
+pub next_tie : (allowed : Kind → Bool) (nodes : List ℕ) (es : List Edge) → All (HasEnds nodes) es → (at i : ℕ) (way : List ℕ) → i < length way
+    → LeadsAlong allowed nodes es at (drop i way) → Tie allowed nodes es at (get_or way i 0)
+next_tie allowed nodes es ends at i way lt leads = tie allowed nodes es ends at (get_or way i 0) (step allowed nodes es at i way lt leads).0
 
 -- one dependency more of an allowed kind leaves none of other kinds
-pub no_others_more : (allowed : Allowed) (es new : List Edge) (e : Edge) → new ≡ es ++ e ∷ [] → count_others allowed es ≡ 0 → allows allowed e.kind ≡ true → count_others allowed new ≡ 0
+pub no_others_more : (allowed : Kind → Bool) (es new : List Edge) (e : Edge) → new ≡ es ++ e ∷ [] → count_others allowed es ≡ 0 → allowed e.kind ≡ true → count_others allowed new ≡ 0
 no_others_more allowed es new e pushed none kind =
-    let one : ◌≡◌ {A = ℕ} (cond (not (allows allowed e.kind)) 1 0) 0 = ap (λ b. cond (not b) 1 0) kind in
-    let sum : count_others allowed (es ++ e ∷ []) ≡ count_others allowed es + (0 + cond (not (allows allowed e.kind)) 1 0) = sum_by-append (λ x. cond (not (allows allowed x.kind)) 1 0) es (e ∷ []) in
+    let one : ◌≡◌ {A = ℕ} (cond (not (allowed e.kind)) 1 0) 0 = ap (λ b. cond (not b) 1 0) kind in
+    let sum : count_others allowed (es ++ e ∷ []) ≡ count_others allowed es + (0 + cond (not (allowed e.kind)) 1 0) = sum_by-append (λ x. cond (not (allowed x.kind)) 1 0) es (e ∷ []) in
     ap (count_others allowed) pushed ∙ sum ∙ (omega (arith, none, one))
 
 -- a walk with one dependency more
@@ -99,7 +97,7 @@ one_more h a es new b e c pushed walk edge from to = subst (λ l. IsWalk h a l c
 pub read : (nodes : List ℕ) (a n : ℕ) → slice_get nodes a ≡ Some n → slice_index nodes a ≡ n
 read nodes a n h = get_or_from_slice_get nodes a n 0 h
 
-module _ (allowed : Allowed) (nodes : List ℕ) (es : List Edge) (graph : Arrows) (is : IsGraphOf allowed nodes es graph) where
+module _ (allowed : Kind → Bool) (nodes : List ℕ) (es : List Edge) (graph : Arrows) (is : IsGraphOf allowed nodes es graph) where
   -- a trail in the graph is a way along dependencies
   pub along_trail : (from : ℕ) (ns : List ℕ) (to : ℕ) → IsTrail graph from ns to → LeadsAlong allowed nodes es from (ns ++ to ∷ [])
   along_trail from [] to arrow = (sym (is.arrows from to) ∙ arrow, tt)
@@ -124,13 +122,13 @@ but_first : (n : ℕ) (ns : List ℕ) → take (length (n ∷ ns) - 1) (drop 1 (
 but_first n ns = take_all (length (n ∷ ns) - 1) ns (omega arith)
 
 -- a way that leads back to its first node
-pub record LeadsRound (allowed : Allowed) (nodes : List ℕ) (es : List Edge) (first : ℕ) (way : List ℕ) : Type 0 where
+pub record LeadsRound (allowed : Kind → Bool) (nodes : List ℕ) (es : List Edge) (first : ℕ) (way : List ℕ) : Type 0 where
   pub leads : LeadsAlong allowed nodes es first way
   pub last : last_of first way ≡ first
   pub some : 1 ≤ length way
 
--- a circle that is closed by its first node is such a way
-pub round : (allowed : Allowed) (nodes : List ℕ) (es : List Edge) (circle : List ℕ) → (graph : Arrows) × IsGraphOf allowed nodes es graph × IsCircle graph circle
+-- a cycle that is closed by its first node is such a way
+pub round : (allowed : Kind → Bool) (nodes : List ℕ) (es : List Edge) (circle : List ℕ) → (graph : Arrows) × IsGraphOf allowed nodes es graph × IsCircle graph circle
     → (first : ℕ) (shown : List ℕ) → first ≡ get_or circle 0 first → shown ≡ circle ++ first ∷ [] → LeadsRound allowed nodes es first (take (length shown - 1) (drop 1 shown))
 round allowed nodes es [] (graph, is, circle) first shown at closed = absurd circle
 round allowed nodes es (n ∷ ns) (graph, is, circle) first shown at closed =
@@ -148,7 +146,7 @@ closes h [] a some walk = absurd (omega (arith, some))
 closes h (e ∷ es) a some (edge, from, rest) = (edge, refl, subst (λ n. IsWalk h e.to es n) (sym from) rest)
 
 -- so a walk along a way that leads back is closed
-pub closed_round : (h : History) (allowed : Allowed) (nodes : List ℕ) (es : List Edge) (first : ℕ) (way : List ℕ) → LeadsRound allowed nodes es first way
+pub closed_round : (h : History) (allowed : Kind → Bool) (nodes : List ℕ) (es : List Edge) (first : ℕ) (way : List ℕ) → LeadsRound allowed nodes es first way
     → (walk made : List Edge) → made ≡ walk → length walk ≡ length way → IsWalk h (slice_index nodes first) walk (slice_index nodes (last_of first way)) → IsClosedWalk h made
 closed_round h allowed nodes es first way round walk made is size along =
     subst (IsClosedWalk h) (sym is)

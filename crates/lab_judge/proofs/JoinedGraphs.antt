@@ -6,47 +6,36 @@ use Rattle.std.proofs.Math.Bool.{or_comm}
 use Rattle.std.proofs.lemmas.Bool.{and_parts, and_from, or_cases, or_left, or_right, cases_Bool}
 use Rattle.lab_order.specs.Arrows.{Arrows, nodes_of, has_arrow}
 use Rattle.lab_order.specs.Order.{position}
-use Rattle.lab_deps.specs.KindBits.{has_bit}
 use Rattle.lab_deps.specs.declared.edge.Edge.{Edge}
 use Rattle.lab_deps.specs.declared.edge.Kind.{Kind}
 use Rattle.lab_deps.specs.declared.edge.Kind.TheVariants.{Write, ItemRead, PredicateRead, ItemAnti, PredicateAnti}
-use Rattle.lab_judge.specs.Allowed.{allows}
 use Rattle.lab_judge.specs.Graphs.{IsGraphOf}
 use Rattle.lab_judge.specs.Joining.{lands}
-use Rattle.lab_judge.specs.Places.{is_anti}
+use Rattle.lab_judge.specs.Places.{is_anti, is_flow}
 use Rattle.lab_judge.specs.PlaceGraphs.{start_node, commit_node, spans, leads, IsPlaceGraph}
-use Rattle.lab_judge.specs.declared.allowed.Allowed.{Allowed}
-use Rattle.lab_judge.specs.declared.allowed.Allowed.TheVariants.{Flow}
-use Rattle.lab_judge.specs.declared.joining.Joining.{Joining}
 use Rattle.lab_judge.specs.declared.joining.Joining.TheVariants.{Transactions, StartToCommit, CommitToStart}
 use Rattle.lab_judge.proofs.Joined.{some_passes, passes_some}
 use Rattle.lab_judge.proofs.Landings.{same_truth}
 
--- the arrows of two sets that have the same kinds
-retold : (bits : ℕ) (test : Kind → Bool) → ((k : Kind) → has_bit bits k ≡ test k) → (joining : Joining) (nodes : List ℕ) (es : List Edge) (a b : ℕ)
-    → list_any (lands (has_bit bits) joining nodes a b) es ≡ list_any (lands test joining nodes a b) es
-retold bits test told joining nodes es a b = ap (λ (t : Kind → Bool). list_any (lands t joining nodes a b) es) (λ i k. told k i)
-
 -- where the arrows of allowed kinds are added to none, the graph is theirs
-pub is_graph : (allowed : Allowed) (nodes : List ℕ) (es : List Edge) (bits : ℕ) → ((k : Kind) → has_bit bits k ≡ allows allowed k) → (old new : Arrows)
-    → nodes_of new ≡ length nodes → ((a b : ℕ) → has_arrow old a b ≡ false)
-    → ((a b : ℕ) → has_arrow new a b ≡ (list_any (lands (has_bit bits) Transactions nodes a b) es || has_arrow old a b)) → IsGraphOf allowed nodes es new
-is_graph allowed nodes es bits told old new size bare arrows = record {
+pub is_graph : (allowed : Kind → Bool) (nodes : List ℕ) (es : List Edge) (old new : Arrows) → nodes_of new ≡ length nodes → ((a b : ℕ) → has_arrow old a b ≡ false)
+    → ((a b : ℕ) → has_arrow new a b ≡ (list_any (lands allowed Transactions nodes a b) es || has_arrow old a b)) → IsGraphOf allowed nodes es new
+is_graph allowed nodes es old new size bare arrows = record {
   size = size;
   arrows = λ a b.
-      let all = list_any (lands (has_bit bits) Transactions nodes a b) es in
-      arrows a b ∙ (or_comm all (has_arrow old a b) ∙ (ap (λ t. t || all) (bare a b) ∙ retold bits (allows allowed) told Transactions nodes es a b));
+      let all = list_any (lands allowed Transactions nodes a b) es in
+      arrows a b ∙ (or_comm all (has_arrow old a b) ∙ ap (λ t. t || all) (bare a b));
 }
 
 -- a kind is one of an anti-dependency, or flows
-flows : (k : Kind) → is_anti k ≡ false → allows Flow k ≡ true
+flows : (k : Kind) → is_anti k ≡ false → is_flow k ≡ true
 flows Write h = refl
 flows ItemRead h = refl
 flows PredicateRead h = refl
 flows ItemAnti h = sym h
 flows PredicateAnti h = sym h
 
-no_anti : (k : Kind) → allows Flow k ≡ true → is_anti k ≡ false
+no_anti : (k : Kind) → is_flow k ≡ true → is_anti k ≡ false
 no_anti Write h = refl
 no_anti ItemRead h = refl
 no_anti PredicateRead h = refl
@@ -58,7 +47,7 @@ module _ (nodes : List ℕ) (es : List Edge) (a b : ℕ) where
   anti = lands is_anti StartToCommit nodes a b
 
   abbrev flow : Edge → Bool
-  flow = lands (allows Flow) CommitToStart nodes a b
+  flow = lands is_flow CommitToStart nodes a b
 
   abbrev to_commit : Edge → Bool
   to_commit e = start_node (position nodes e.from) == a && commit_node (position nodes e.to) == b
@@ -78,7 +67,7 @@ module _ (nodes : List ℕ) (es : List Edge) (a b : ℕ) where
   from_flow : list_any flow es ≡ true → list_any (leads nodes a b) es ≡ true
   from_flow h =
       let found : (e : Edge) × Contains es e × (flow e ≡ true) = some_passes flow es h in
-      let parts = and_parts (allows Flow found.0.kind) (to_start found.0) found.2 in
+      let parts = and_parts (is_flow found.0.kind) (to_start found.0) found.2 in
       passes_some (leads nodes a b) es found.0 found.1 (is_lead found.0 false (no_anti found.0.kind parts.0) ∙ parts.1)
 
   to_either : list_any (leads nodes a b) es ≡ true → (list_any anti es ≡ true) ⊎ (list_any flow es ≡ true)
@@ -87,7 +76,7 @@ module _ (nodes : List ℕ) (es : List Edge) (a b : ℕ) where
       let e : Edge = found.0 in
       elim (cases_Bool (is_anti e.kind)) [
         | inl on ↦ inl (passes_some anti es e found.1 (and_from (is_anti e.kind) (to_commit e) on (sym (is_lead e true on) ∙ found.2)))
-        | inr off ↦ inr (passes_some flow es e found.1 (and_from (allows Flow e.kind) (to_start e) (flows e.kind off) (sym (is_lead e false off) ∙ found.2)))
+        | inr off ↦ inr (passes_some flow es e found.1 (and_from (is_flow e.kind) (to_start e) (flows e.kind off) (sym (is_lead e false off) ∙ found.2)))
       ]
 
   -- the arrows of anti-dependencies and those of the others are those of all
@@ -113,14 +102,13 @@ module _ (nodes : List ℕ) (es : List Edge) (a b : ℕ) where
       ])
 
 -- where both are added to the arrows from starts to commits, the graph is that of places
-pub is_place_graph : (nodes : List ℕ) (es : List Edge) (flow_bits anti_bits : ℕ) → ((k : Kind) → has_bit flow_bits k ≡ allows Flow k) → ((k : Kind) → has_bit anti_bits k ≡ is_anti k)
-    → (bare old new : Arrows) → nodes_of new ≡ 2 * length nodes → ((a b : ℕ) → has_arrow bare a b ≡ spans (length nodes) a b)
-    → ((a b : ℕ) → has_arrow old a b ≡ (list_any (lands (has_bit flow_bits) CommitToStart nodes a b) es || has_arrow bare a b))
-    → ((a b : ℕ) → has_arrow new a b ≡ (list_any (lands (has_bit anti_bits) StartToCommit nodes a b) es || has_arrow old a b)) → IsPlaceGraph nodes es new
-is_place_graph nodes es flow_bits anti_bits flow_told anti_told bare old new size spanned flow_added anti_added = record {
+pub is_place_graph : (nodes : List ℕ) (es : List Edge) (bare old new : Arrows) → nodes_of new ≡ 2 * length nodes → ((a b : ℕ) → has_arrow bare a b ≡ spans (length nodes) a b)
+    → ((a b : ℕ) → has_arrow old a b ≡ (list_any (lands is_flow CommitToStart nodes a b) es || has_arrow bare a b))
+    → ((a b : ℕ) → has_arrow new a b ≡ (list_any (lands is_anti StartToCommit nodes a b) es || has_arrow old a b)) → IsPlaceGraph nodes es new
+is_place_graph nodes es bare old new size spanned flow_added anti_added = record {
   size = size;
   arrows = λ a b.
       let s = spans (length nodes) a b in
-      let before : has_arrow old a b ≡ (list_any (flow nodes es a b) es || s) = flow_added a b ∙ (λ i. retold flow_bits (allows Flow) flow_told CommitToStart nodes es a b i || spanned a b i) in
-      anti_added a b ∙ ((λ i. retold anti_bits is_anti anti_told StartToCommit nodes es a b i || before i) ∙ in_both nodes es a b s);
+      let before : has_arrow old a b ≡ (list_any (flow nodes es a b) es || s) = flow_added a b ∙ ap (λ t. list_any (flow nodes es a b) es || t) (spanned a b) in
+      anti_added a b ∙ (ap (λ t. list_any (anti nodes es a b) es || t) before ∙ in_both nodes es a b s);
 }

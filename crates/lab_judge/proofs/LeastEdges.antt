@@ -1,5 +1,5 @@
 -- Between two transactions there is one least edge.
-use Rattle.std.proofs.Common.{◌≡◌, ℕ, false, List, [], ◌∷◌, refl, sym, ap, ◌∙◌}
+use Rattle.std.proofs.Common.{◌≡◌, ℕ, Bool, false, List, [], ◌∷◌, refl, sym, ap, ◌∙◌}
 use Rattle.std.specs.Ordering.{is_eq, is_lt, ordering_reverse}
 use Rattle.std.specs.declared.cmp.Ordering.{Ordering}
 use Rattle.std.specs.declared.cmp.Ordering.TheVariants.{Less, Equal, Greater}
@@ -8,8 +8,8 @@ use Rattle.lab_history.specs.History.{History}
 use Rattle.lab_deps.proofs.EdgeOrders.{edges_total, same_edge}
 use Rattle.lab_deps.specs.EdgeOrder.{edge_cmp}
 use Rattle.lab_deps.specs.declared.edge.Edge.{Edge}
+use Rattle.lab_deps.specs.declared.edge.Kind.{Kind}
 use Rattle.lab_judge.specs.LeastWalks.{IsLeastEdge, GoesAlong, GoesRound}
-use Rattle.lab_judge.specs.declared.allowed.Allowed.{Allowed}
 
 -- edges of which neither is less are one
 pub neither_less : (e f : Edge) → is_lt (edge_cmp e f) ≡ false → is_lt (edge_cmp f e) ≡ false → e ≡ f
@@ -20,7 +20,7 @@ neither_less e f p q = at (edge_cmp e f) refl p
     at Equal is less = same_edge e f (ap is_eq is)
     at Greater is less = absurd (false≢true (sym q ∙ ap is_lt (edges_total.antisymm f e ∙ ap ordering_reverse is)))
 
-module _ (h : History) (a : Allowed) where
+module _ (h : History) (a : Kind → Bool) where
   pub one_least_edge : (m n : ℕ) (e f : Edge) → IsLeastEdge h a m n e → IsLeastEdge h a m n f → e ≡ f
   one_least_edge m n e f l k = neither_less e f (k.least e l.edge l.from l.to l.kind) (l.least f k.edge k.from k.to k.kind)
 

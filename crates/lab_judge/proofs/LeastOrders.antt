@@ -13,13 +13,13 @@ use Rattle.lab_order.specs.Order as order
 use Rattle.lab_order.specs.Order.{position}
 use Rattle.lab_history.specs.History.{History}
 use Rattle.lab_deps.specs.Edges.{IsEdge}
+use Rattle.lab_deps.specs.KindSets.{among}
 use Rattle.lab_deps.specs.declared.edge.Edge.{Edge}
+use Rattle.lab_deps.specs.declared.kinds.TheConstants.Kinds.{ALL}
 use Rattle.lab_deps.proofs.Places.{times, times_count, at_times}
-use Rattle.lab_judge.specs.Allowed.{allows}
 use Rattle.lab_judge.specs.Runs.{HoldsEachOnce}
 use Rattle.lab_judge.specs.Places.{IsForwardOrder}
-use Rattle.lab_judge.specs.Graphs.{joins, IsGraphOf}
-use Rattle.lab_judge.specs.declared.allowed.Allowed.TheVariants as allowed
+use Rattle.lab_judge.specs.Graphs.{ties, IsGraphOf}
 use Rattle.lab_judge.proofs.GraphWalks.{read_back}
 use Rattle.lab_judge.proofs.Joined.{some_passes}
 use Rattle.lab_judge.proofs.NodePlaces.{one_node}
@@ -97,7 +97,7 @@ never n (m ∷ ms) all = at (never n ms (All-tail (λ a. a < n) m ms all)) (m ==
     at rest false e = rest
 
 module _ (h : History) (ns : List ℕ) (up : IsStrictlyIncreasing ns) (once : HoldsEachOnce h ns) (es : List Edge) (exact : (e : Edge) → Contains es e ↔ IsEdge h e) (graph : Arrows)
-    (is : IsGraphOf allowed.All ns es graph) (other : List ℕ) (each : HoldsEachOnce h other) (ahead : IsForwardOrder h other) where
+    (is : IsGraphOf (among ALL) ns es graph) (other : List ℕ) (each : HoldsEachOnce h other) (ahead : IsForwardOrder h other) where
   -- each number of the other order is a node's
   all_in : All (Contains ns) other
   all_in k d lt = is_node h ns once (get_or other k d) (committed_in h other each (get_or other k d) (at_times other k (get_or other k d) (slice_get-get_or other k d lt)))
@@ -131,9 +131,9 @@ module _ (h : History) (ns : List ℕ) (up : IsStrictlyIncreasing ns) (once : Ho
   -- and each arrow points forward along it
   nodes_forward : (from to : ℕ) → IsTrue (has_arrow graph from to) → position (places ns up other) from < position (places ns up other) to
   nodes_forward from to arrow =
-      let w = some_passes (joins allowed.All ns from to) es (sym (is.arrows from to) ∙ arrow) in
+      let w = some_passes (ties (among ALL) ns from to) es (sym (is.arrows from to) ∙ arrow) in
       let e = w.0 in
-      let ends = and_parts (position ns e.from == from) (position ns e.to == to) (and_parts (allows allowed.All e.kind) (position ns e.from == from && position ns e.to == to) w.2).1 in
+      let ends = and_parts (position ns e.from == from) (position ns e.to == to) (and_parts (among ALL e.kind) (position ns e.from == from && position ns e.to == to) w.2).1 in
       let edge : IsEdge h e = (exact e).0 w.1 in
       let less = ahead e edge in
       let first = position_again ns up e.from (is_node h ns once e.from edge.0) other all_in in

@@ -7,7 +7,7 @@ use Rattle.std.proofs.lemmas.Bool.{both_ways, cases_lt, ltb-true, lt-ltb}
 use Rattle.std.proofs.lemmas.List.{get_or_past}
 use Rattle.std.proofs.lemmas.List.Elements.{All-map, All-contains, Contains-get_or}
 use Rattle.lab_order.specs.Arrows.{Arrows, nodes_of, has_arrow, IsGraph}
-use Rattle.lab_order.specs.Least.{IsLeast}
+use Rattle.lab_order.specs.Least.{NotAfterBy, IsLeast}
 use Rattle.lab_order.specs.Order as order
 use Rattle.lab_order.specs.Order.{position}
 use Rattle.lab_history.specs.History.{History}
@@ -17,7 +17,7 @@ use Rattle.lab_deps.specs.Soundness.{has_committed}
 use Rattle.lab_deps.specs.declared.edge.Edge.{Edge}
 use Rattle.lab_deps.proofs.Found.{committed as is_committed}
 use Rattle.lab_deps.proofs.Places.{times, times_count}
-use Rattle.lab_judge.specs.LeastPlaces.{txn_of, place_in, NotAfter, IsPointOrder, IsLeastPointOrder, ArePlacedAlong}
+use Rattle.lab_judge.specs.LeastPlaces.{txn_of, IsLower, place_in, IsPointOrder, IsLeastPointOrder, ArePlacedAlong}
 use Rattle.lab_judge.specs.PlaceGraphs.{point_at, span_in, IsPlaceGraph}
 use Rattle.lab_judge.specs.Runs.{HoldsEachOnce, Span}
 use Rattle.lab_judge.specs.declared.places.Point.{Point}
@@ -132,9 +132,9 @@ module _ (h : History) (ns : List ℕ) (up : IsStrictlyIncreasing ns) (once : Ho
     }
 
     -- so what doesn't come after these nodes doesn't come after these points
-    pub not_after : (placed : List ℕ) → IsLeast (order.IsOrder graph) placed → NotAfter (map (point_at ns) placed) others
+    pub not_after : (placed : List ℕ) → IsLeast (order.IsOrder graph) placed → NotAfterBy IsLower (map (point_at ns) placed) others
     not_after placed l =
-        subst (NotAfter (map (point_at ns) placed)) (points_again h ns once others others_there) (compared ns up placed nodes others_within (l.least nodes is_node_order))
+        subst (NotAfterBy IsLower (map (point_at ns) placed)) (points_again h ns once others others_there) (compared ns up placed nodes others_within (l.least nodes is_node_order))
 
   module _ (placed : List ℕ) (l : IsLeast (order.IsOrder graph) placed) (places : List ℕ) (are : (node : ℕ) → Contains placed node → slice_index places node ≡ position placed node) where
     -- a point's node has the point's place
@@ -148,7 +148,7 @@ module _ (h : History) (ns : List ℕ) (up : IsStrictlyIncreasing ns) (once : Ho
 
     -- the spans at these places are those of the least order of points
     pub least_placing : (made : List Span) → made ≡ map (span_in ns places) ns → (points : List Point) × IsLeastPointOrder h points × ArePlacedAlong points made
-    least_placing made same = (map (point_at ns) placed, record { order = is_order placed l.is_one; least = λ others o. not_after others o placed l }, subst (ArePlacedAlong (map (point_at ns) placed)) (sym same) along)
+    least_placing made same = (map (point_at ns) placed, record { is_one = is_order placed l.is_one; least = λ others o. not_after others o placed l }, subst (ArePlacedAlong (map (point_at ns) placed)) (sym same) along)
       where
         one : (n : ℕ) → Contains ns n → IsPlaced (span_in ns places n)
         one n there = let c = committed_in h ns once n (contained ns n there) in (own_place (Start n) c, own_place (Commit n) c)

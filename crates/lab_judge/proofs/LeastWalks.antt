@@ -1,5 +1,5 @@
 -- Walks that take the least edge between each two neighbours.
-use Rattle.std.proofs.Common.{◌≡◌, ℕ, suc, ◌+◌, ◌-◌, ◌<◌, ◌≤◌, ◌==◌, ◌&&◌, true, false, List, [], ◌∷◌, ◌++◌, length, get_or, take, drop, slice_index, sym, ap, ◌∙◌, subst, arith}
+use Rattle.std.proofs.Common.{◌≡◌, ℕ, suc, ◌+◌, ◌-◌, ◌<◌, ◌≤◌, ◌==◌, ◌&&◌, Bool, true, false, List, [], ◌∷◌, ◌++◌, length, get_or, take, drop, slice_index, sym, ap, ◌∙◌, subst, arith}
 use Rattle.std.specs.Prelude.{Contains, IsTrue}
 use Rattle.std.specs.Ordering.{is_lt}
 use Rattle.std.proofs.lemmas.Bool.{and_parts, and_from, eqb-true, eq-eqb}
@@ -9,49 +9,46 @@ use Rattle.lab_order.specs.Arrows.{Arrows, has_arrow}
 use Rattle.lab_order.specs.Order.{position, IsCircle}
 use Rattle.lab_history.specs.History.{History}
 use Rattle.lab_deps.specs.EdgeOrder.{edge_cmp}
-use Rattle.lab_deps.specs.KindBits.{has_bit}
 use Rattle.lab_deps.specs.declared.edge.Edge.{Edge}
 use Rattle.lab_deps.specs.declared.edge.Kind.{Kind}
-use Rattle.lab_judge.specs.Allowed.{allows}
-use Rattle.lab_judge.specs.Graphs.{joins, IsGraphOf}
+use Rattle.lab_judge.specs.Graphs.{ties, IsGraphOf}
 use Rattle.lab_judge.specs.LeastWalks.{HasEdgeAt, IsEdgeGraph, IsLeastEdge, GoesAlong, GoesRound}
 use Rattle.lab_judge.specs.Openings.{HasEdgesOf}
-use Rattle.lab_judge.specs.declared.allowed.Allowed.{Allowed}
 use Rattle.lab_judge.proofs.Joined.{some_passes, passes_some}
 
-module _ (h : History) (a : Allowed) (es : List Edge) (has : HasEdgesOf h a es) where
+module _ (h : History) (a : Kind → Bool) (es : List Edge) (has : HasEdgesOf h a es) where
   -- the least of listed edges is the least of the history's
-  pub least_listed : (bits : ℕ) → ((k : Kind) → has_bit bits k ≡ allows a k) → (n m from to : ℕ) → n ≡ from → m ≡ to → (e : Edge) → Contains es e → e.from ≡ n → e.to ≡ m → has_bit bits e.kind ≡ true
-      → ((f : Edge) → Contains es f → f.from ≡ n → f.to ≡ m → has_bit bits f.kind ≡ true → is_lt (edge_cmp f e) ≡ false) → IsLeastEdge h a from to e
-  least_listed bits told n m from to from_is to_is e there begins ends kind least = record {
+  pub least_listed : (n m from to : ℕ) → n ≡ from → m ≡ to → (e : Edge) → Contains es e → e.from ≡ n → e.to ≡ m → a e.kind ≡ true
+      → ((f : Edge) → Contains es f → f.from ≡ n → f.to ≡ m → a f.kind ≡ true → is_lt (edge_cmp f e) ≡ false) → IsLeastEdge h a from to e
+  least_listed n m from to from_is to_is e there begins ends kind least = record {
     edge = has.edges e there;
     from = begins ∙ from_is;
     to = ends ∙ to_is;
-    kind = sym (told e.kind) ∙ kind;
-    least = λ f edge first last allowed. least f (has.all f edge allowed) (first ∙ sym from_is) (last ∙ sym to_is) (told f.kind ∙ allowed);
+    kind = kind;
+    least = λ f edge first last allowed. least f (has.all f edge allowed) (first ∙ sym from_is) (last ∙ sym to_is) allowed;
   }
 
   module _ (txns : List ℕ) (graph : Arrows) (is : IsGraphOf a txns es graph) where
     arrow_edge : (p q : ℕ) → IsTrue (has_arrow graph p q) → HasEdgeAt h a txns p q
     arrow_edge p q arrow =
-        let found : (e : Edge) × Contains es e × (joins a txns p q e ≡ true) = some_passes (joins a txns p q) es (sym (is.arrows p q) ∙ arrow) in
+        let found : (e : Edge) × Contains es e × (ties a txns p q e ≡ true) = some_passes (ties a txns p q) es (sym (is.arrows p q) ∙ arrow) in
         let e : Edge = found.0 in
-        let parts = and_parts (allows a e.kind) (position txns e.from == p && position txns e.to == q) found.2 in
+        let parts = and_parts (a e.kind) (position txns e.from == p && position txns e.to == q) found.2 in
         let ends = and_parts (position txns e.from == p) (position txns e.to == q) parts.1 in
         (e, has.edges e found.1, parts.0, eqb-true (position txns e.from) p ends.0, eqb-true (position txns e.to) q ends.1)
 
     edge_arrow : (p q : ℕ) → HasEdgeAt h a txns p q → IsTrue (has_arrow graph p q)
     edge_arrow p q (e, edge, kind, from, to) =
         is.arrows p q
-        ∙ passes_some (joins a txns p q) es e (has.all e edge kind)
-        (and_from (allows a e.kind) (position txns e.from == p && position txns e.to == q) kind
+        ∙ passes_some (ties a txns p q) es e (has.all e edge kind)
+        (and_from (a e.kind) (position txns e.from == p && position txns e.to == q) kind
         (and_from (position txns e.from == p) (position txns e.to == q) (eq-eqb (position txns e.from) p from) (eq-eqb (position txns e.to) q to)))
 
     -- the graph of listed edges is that of the history's
     pub edge_graph : IsEdgeGraph h a txns graph
     edge_graph = record { size = is.size; arrows = λ p q. (arrow_edge p q, edge_arrow p q) }
 
-module _ (h : History) (a : Allowed) (txns : List ℕ) (from : ℕ) (way : List ℕ) where
+module _ (h : History) (a : Kind → Bool) (txns : List ℕ) (from : ℕ) (way : List ℕ) where
   -- what leads on to the end of the way, behind a walk so far
   abbrev pub LeadsOn : ℕ → ℕ → List Edge → Type 0
   LeadsOn at i walk = (rest : List Edge) → GoesAlong h a txns at (drop i way) rest → GoesAlong h a txns from way (walk ++ rest)
@@ -70,8 +67,8 @@ module _ (h : History) (a : Allowed) (txns : List ℕ) (from : ℕ) (way : List 
   gone_along at i walk past so_far =
       subst (GoesAlong h a txns from way) (append-nil walk) (so_far [] (subst (λ l. GoesAlong h a txns at l []) (sym (drop_all i way past)) tt))
 
--- a walk along a circle and to its first node again goes round it
-pub gone_round : (h : History) (a : Allowed) (txns circle : List ℕ) → ((graph : Arrows) × IsCircle graph circle) → (first : ℕ) (shown : List ℕ) → first ≡ get_or circle 0 first
+-- a walk along a cycle and to its first node again goes round it
+pub gone_round : (h : History) (a : Kind → Bool) (txns circle : List ℕ) → ((graph : Arrows) × IsCircle graph circle) → (first : ℕ) (shown : List ℕ) → first ≡ get_or circle 0 first
     → shown ≡ circle ++ first ∷ [] → (walk : List Edge) → GoesAlong h a txns first (take (length shown - 1) (drop 1 shown)) walk → GoesRound h a txns circle walk
 gone_round h a txns [] (graph, circle) first shown at closed walk goes = absurd circle
 gone_round h a txns (n ∷ ns) (graph, circle) first shown at closed walk goes =

@@ -1,18 +1,21 @@
 -- A history has one judgement.
-use Rattle.std.proofs.Common.{◌≡◌, ℕ, zero, suc, ◌<◌, List, [], ◌∷◌, length, inr, refl, sym, ap, ◌∙◌, subst, arith}
+use Rattle.std.proofs.Common.{◌≡◌, ℕ, zero, suc, ◌<◌, Bool, true, false, List, [], ◌∷◌, length, inr, refl, sym, ap, ◌∙◌, subst, arith}
 use Rattle.lab_history.specs.History.{History}
 use Rattle.lab_table.specs.Row.{Row}
 use Rattle.lab_deps.proofs.FaultOrders.{one_of_kind}
-use Rattle.lab_deps.specs.FaultOrder.{fault_txn, fault_op, fault_row, IsFirstRead}
+use Rattle.lab_deps.specs.FaultKinds.{parts_of}
+use Rattle.lab_deps.specs.FaultOrder.{IsFirstRead}
+use Rattle.lab_deps.specs.KindSets.{is_any, is_write, is_flow, is_anti, is_item_anti}
+use Rattle.lab_deps.specs.Refusal.{is_uncommitted_read}
 use Rattle.lab_deps.specs.Soundness.{Stands}
 use Rattle.lab_deps.specs.declared.edge.Edge.{Edge}
 use Rattle.lab_deps.specs.declared.fault.LocalFault.{LocalFault}
-use Rattle.lab_deps.specs.declared.fault.LocalFault.TheVariants.{Dangling, AbortedRead, IntermediateRead, OwnWriteMissed, LaterThanOwn, RowsDiffer, WritesDiffer, InstallOrder, EndDiffers}
-use Rattle.lab_judge.specs.Judgement.{FindsWalk, FindsFault, JudgesAll, JudgesReads, JudgesNothing, JudgesAtFault, Judges, IsExactJudgement}
+use Rattle.lab_deps.specs.declared.fault.LocalFault.TheVariants.{AbortedRead, IntermediateRead}
+use Rattle.lab_deps.specs.declared.fault.FaultParts.{FaultParts}
+use Rattle.lab_deps.specs.declared.fault.FaultParts.TheVariants as parts
+use Rattle.lab_judge.specs.Judgement.{FindsWalk, FindsFault, JudgesAll, JudgesReads, JudgesNothing, JudgesAtRead, Judges, IsExactJudgement}
 use Rattle.lab_judge.specs.LeastWalks.{FindsDue, FindsDueWalks}
 use Rattle.lab_judge.specs.Findings as found
-use Rattle.lab_judge.specs.declared.allowed.Allowed.TheVariants as allowed
-use Rattle.lab_judge.specs.declared.findings.opening.Opening.TheVariants as opening
 use Rattle.lab_judge.specs.declared.report.Finding.{Finding}
 use Rattle.lab_judge.specs.declared.report.Finding.TheVariants.{Absent, Walk, At, NotJudged}
 use Rattle.lab_judge.specs.declared.report.Grade.{Grade}
@@ -43,16 +46,17 @@ abbrev AgreesOn : History → (ℕ → ℕ → Row → LocalFault) → Type 0
 AgreesOn h made = (n k : ℕ) (row : Row) (m j : ℕ) (other : Row) → Stands h (made n k row) × IsFirstRead h made n k row → Stands h (made m j other) × IsFirstRead h made m j other → At n k row ≡ At m j other
 
 -- a finding at the place of a fault
-abbrev place_of : LocalFault → Finding
-place_of f = At (fault_txn f) (fault_op f) (fault_row f)
+abbrev place_of : FaultParts → Finding
+place_of (parts.Operation kind n k row) = At n k row
+place_of (parts.Row kind row) = Absent
 
 aborted_agrees : (h : History) → AgreesOn h AbortedRead
 aborted_agrees h n k row m j other p q =
-    ap place_of (one_of_kind h (AbortedRead n k row) (AbortedRead m j other) refl p.0 q.0 (λ c. q.1 n k row p.0 (inr (refl, c))) (λ c. p.1 m j other q.0 (inr (refl, c))))
+    ap (λ f. place_of (parts_of f)) (one_of_kind h (AbortedRead n k row) (AbortedRead m j other) refl p.0 q.0 (λ c. q.1 n k row p.0 (inr (refl, c))) (λ c. p.1 m j other q.0 (inr (refl, c))))
 
 intermediate_agrees : (h : History) → AgreesOn h IntermediateRead
 intermediate_agrees h n k row m j other p q =
-    ap place_of (one_of_kind h (IntermediateRead n k row) (IntermediateRead m j other) refl p.0 q.0 (λ c. q.1 n k row p.0 (inr (refl, c))) (λ c. p.1 m j other q.0 (inr (refl, c))))
+    ap (λ f. place_of (parts_of f)) (one_of_kind h (IntermediateRead n k row) (IntermediateRead m j other) refl p.0 q.0 (λ c. q.1 n k row p.0 (inr (refl, c))) (λ c. p.1 m j other q.0 (inr (refl, c))))
 
 one_read : (h : History) (made : ℕ → ℕ → Row → LocalFault) → AgreesOn h made → (x y : Finding) → FindsFault h made x → FindsFault h made y → x ≡ y
 one_read h made agrees Absent Absent p q = refl
@@ -92,7 +96,7 @@ module _ (h : History) (p q : List Finding) (a b : Grade) (d : FindsDueWalks h p
       at (suc (suc (suc (suc (suc (suc (suc k))))))) lt = absurd (omega (arith, lt))
 
   same_g0 : FindsWalk (IsG0 h) (found.g0 p) → FindsWalk (IsG0 h) (found.g0 q) → found.g0 p ≡ found.g0 q
-  same_g0 x y = one_found (IsG0 h) _ (one_back_walk h allowed.Writes) _ _ x y d.g0 e.g0
+  same_g0 x y = one_found (IsG0 h) _ (one_back_walk h is_write) _ _ x y d.g0 e.g0
 
   same_g1a : FindsFault h AbortedRead (found.g1a p) → FindsFault h AbortedRead (found.g1a q) → found.g1a p ≡ found.g1a q
   same_g1a x y = one_read h AbortedRead (aborted_agrees h) _ _ x y
@@ -107,10 +111,10 @@ module _ (h : History) (p q : List Finding) (a b : Grade) (d : FindsDueWalks h p
   all_same : JudgesAll h p a → JudgesAll h q b → Same
   all_same j k = (
     same_seven (same_g0 j.0 k.0) (same_g1a j.1 k.1) (same_g1b j.2 k.2)
-        (one_found (IsG1c h) _ (one_back_walk h allowed.Flow) _ _ j.3 k.3 d.g1c e.g1c)
-        (one_found (IsGSingle h) _ (one_opened_round h opening.Anti allowed.Flow) _ _ j.4 k.4 d.g_single e.g_single)
-        (one_found (IsG2Item h) _ (one_opened_round h opening.ItemAnti allowed.All) _ _ j.5 k.5 d.g2_item e.g2_item)
-        (one_found (IsG2 h) _ (one_opened_round h opening.Anti allowed.All) _ _ j.6 k.6 d.g2 e.g2),
+        (one_found (IsG1c h) _ (one_back_walk h is_flow) _ _ j.3 k.3 d.g1c e.g1c)
+        (one_found (IsGSingle h) _ (one_opened_round h is_anti is_flow) _ _ j.4 k.4 d.g_single e.g_single)
+        (one_found (IsG2Item h) _ (one_opened_round h is_item_anti is_any) _ _ j.5 k.5 d.g2_item e.g2_item)
+        (one_found (IsG2 h) _ (one_opened_round h is_anti is_any) _ _ j.6 k.6 d.g2 e.g2),
     one_grade h a b j.7 k.7,
   )
 
@@ -126,21 +130,14 @@ module _ (h : History) (p q : List Finding) (a b : Grade) (d : FindsDueWalks h p
     j.7 ∙ sym k.7,
   )
 
-  same_at_fault : (fault : LocalFault) → JudgesAtFault h fault p a → JudgesAtFault h fault q b → Same
-  same_at_fault (AbortedRead n k row) = reads_same
-  same_at_fault (IntermediateRead n k row) = reads_same
-  same_at_fault (Dangling n k row) = nothing_same
-  same_at_fault (OwnWriteMissed n k row) = nothing_same
-  same_at_fault (LaterThanOwn n k row) = nothing_same
-  same_at_fault (RowsDiffer n k row) = nothing_same
-  same_at_fault (WritesDiffer n k row) = nothing_same
-  same_at_fault (InstallOrder row) = nothing_same
-  same_at_fault (EndDiffers row) = nothing_same
+  same_at_read : (read : Bool) → JudgesAtRead read h p a → JudgesAtRead read h q b → Same
+  same_at_read true = reads_same
+  same_at_read false = nothing_same
 
   same_found : (s : Serial) → Judges h s p a → Judges h s q b → Same
   same_found (serial.Yes order) = all_same
   same_found (serial.NoCycle walk) = all_same
-  same_found (serial.NoFault fault) = same_at_fault fault
+  same_found (serial.NoFault fault) = same_at_read (is_uncommitted_read fault)
 
 pub one_judgement : (h : History) (one other : Report) → IsExactJudgement h one → IsExactJudgement h other → one ≡ other
 one_judgement h one other x y =

@@ -1,45 +1,24 @@
 -- Of the walks that begin with a first anti-dependency a history has one of each kind.
-use Rattle.std.proofs.Common.{◌≡◌, ℕ, ◌<◌, ◌≤◌, List, [], ◌∷◌, ◌++◌, drop, get_or, refl, sym, ap, ◌∙◌, subst, arith}
+use Rattle.std.proofs.Common.{◌≡◌, ℕ, ◌<◌, ◌≤◌, Bool, List, [], ◌∷◌, ◌++◌, drop, get_or, refl, sym, ap, ◌∙◌, subst, arith}
 use Rattle.std.specs.List.{All}
 use Rattle.std.proofs.lemmas.List.Elements.{All-head, All-tail}
 use Rattle.lab_order.specs.Arrows.{Arrows}
 use Rattle.lab_order.specs.Order.{position}
-use Rattle.lab_order.specs.Least.{IsLeast}
-use Rattle.lab_order.specs.Path.{Leads, IsPath, IsShortestPath}
+use Rattle.lab_order.specs.Path.{IsShortestPath}
 use Rattle.lab_order.proofs.Least.{one_least}
+use Rattle.lab_order.proofs.SameGraphs.{HasArrowsOf, path_in, least_path_in}
 use Rattle.lab_history.specs.History.{History}
 use Rattle.lab_deps.specs.declared.edge.Edge.{Edge}
+use Rattle.lab_deps.specs.declared.edge.Kind.{Kind}
 use Rattle.lab_judge.specs.LeastWalks.{IsEdgeGraph, GoesBy, IsWayBack, IsFirstOpening, IsTurnToLeast, IsOpenedRound}
 use Rattle.lab_judge.specs.Openings.{IsOpening}
-use Rattle.lab_judge.specs.declared.allowed.Allowed.{Allowed}
-use Rattle.lab_judge.specs.declared.findings.opening.Opening.{Opening}
 use Rattle.lab_judge.proofs.LeastEdges.{neither_less, one_along}
 use Rattle.lab_judge.proofs.OneWalk.{one_committed, same_arrows}
-use Rattle.lab_judge.proofs.SameGraphs.{HasArrowsOf}
 
 module _ (g k : Arrows) (more : HasArrowsOf k g) where
-  -- what leads along arrows leads so where there are more
-  leads_in : (from : ℕ) (ns : List ℕ) (to : ℕ) → Leads g from ns to → Leads k from ns to
-  leads_in from [] to same = same
-  leads_in from (n ∷ ns) to (step, rest) = (more from n step, leads_in n ns to rest)
-
-  path_in : (from to : ℕ) (ns : List ℕ) → IsPath g from to ns → IsPath k from to ns
-  path_in from to [] is = is
-  path_in from to (n ∷ ns) (is, leads) = (is, leads_in n ns to leads)
-
-  opening_in : (opening : Opening) (txns : List ℕ) (e : Edge) → IsOpening opening g txns e → IsOpening opening k txns e
-  opening_in opening txns e (opens, (path, is)) = (opens, (path, path_in (position txns e.to) (position txns e.from) path is))
-
--- the least of the shortest paths is that of each graph with the same arrows
-module _ (g k : Arrows) (more : HasArrowsOf k g) (fewer : HasArrowsOf g k) (from to : ℕ) where
-  shortest_in : (ns : List ℕ) → IsShortestPath g from to ns → IsShortestPath k from to ns
-  shortest_in ns s = record { is_path = path_in g k more from to ns s.is_path; shortest = λ other is. s.shortest other (path_in k g fewer from to other is) }
-
-least_in : (g k : Arrows) → HasArrowsOf k g → HasArrowsOf g k → (from to : ℕ) (ns : List ℕ) → IsLeast (IsShortestPath g from to) ns → IsLeast (IsShortestPath k from to) ns
-least_in g k more fewer from to ns l = record {
-  is_one = shortest_in g k more fewer from to ns l.is_one;
-  least = λ other is. l.least other (shortest_in k g fewer more from to other is);
-}
+  -- what opens a walk does so where there are more arrows
+  opening_in : (opening : Kind → Bool) (txns : List ℕ) (e : Edge) → IsOpening opening g txns e → IsOpening opening k txns e
+  opening_in opening txns e (opens, (path, is)) = (opens, (path, path_in g k more (position txns e.to) (position txns e.from) path is))
 
 -- the first and the rest of a list
 heads : (x y : Edge) (xs ys : List Edge) → x ∷ xs ≡ y ∷ ys → x ≡ y
@@ -79,7 +58,7 @@ one_turn round walk other t u =
     = cut_once t.front t.first t.rest u.front u.first u.rest (sym t.split ∙ u.split) t.greater t.no_less u.greater u.no_less in
     t.turned ∙ ap (λ es. es ++ t.front) cut.1 ∙ ap (λ es. (u.first ∷ u.rest) ++ es) cut.0 ∙ sym u.turned
 
-module _ (h : History) (opening : Opening) (a : Allowed) where
+module _ (h : History) (opening : Kind → Bool) (a : Kind → Bool) where
   -- from the first node of a path there is one walk along it
   one_by : (txns path : List ℕ) (es fs : List Edge) → GoesBy h a txns path es → GoesBy h a txns path fs → es ≡ fs
   one_by txns [] es fs goes again = absurd goes
@@ -100,7 +79,7 @@ module _ (h : History) (opening : Opening) (a : Allowed) where
     one_way e es fs w v =
         let from : ℕ = position txns e.to in
         let to : ℕ = position txns e.from in
-        let paths : w.path ≡ v.path = one_least (IsShortestPath k from to) w.path v.path (least_in g k more fewer from to w.path w.least) v.least in
+        let paths : w.path ≡ v.path = one_least (IsShortestPath k from to) w.path v.path (least_path_in g k more fewer from to w.path w.least) v.least in
         one_by txns v.path es fs (subst (λ path. GoesBy h a txns path es) paths w.goes) v.goes
 
   one_over : (txns : List ℕ) (es fs : List Edge) → Over txns es → Over txns fs → es ≡ fs

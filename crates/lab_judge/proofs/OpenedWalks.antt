@@ -1,55 +1,31 @@
--- Closed walks that an edge opens: such an edge leads back, and an edge that leads back opens one.
-use Rattle.std.proofs.Common.{◌≡◌, ℕ, ◌+◌, ◌≤◌, Bool, true, false, cond, List, [], ◌∷◌, ◌++◌, refl, sym, ap, ◌∙◌, subst, arith}
+-- Cycles that an edge opens: such an edge leads back, and an edge that leads back opens one.
+use Rattle.std.proofs.Common.{◌≡◌, ℕ, ◌+◌, ◌≤◌, Bool, true, false, cond, List, [], ◌∷◌, ◌++◌, refl, sym, ap, ◌∙◌, subst, arith, inl, inr}
 use Rattle.std.specs.Prelude.{Contains, ◌↔◌, not}
 use Rattle.std.specs.List.{All}
-use Rattle.std.proofs.lemmas.Bool.{false≢true}
 use Rattle.std.proofs.lemmas.List.Elements.{All-contains}
 use Rattle.lab_order.specs.Arrows.{Arrows}
 use Rattle.lab_history.specs.History.{History}
 use Rattle.lab_deps.specs.Edges.{IsEdge}
+use Rattle.lab_deps.specs.KindSets.{is_any, is_flow, is_anti}
 use Rattle.lab_deps.specs.declared.edge.Edge.{Edge}
 use Rattle.lab_deps.specs.declared.edge.Kind.{Kind}
-use Rattle.lab_deps.specs.declared.edge.Kind.TheVariants.{Write, ItemRead, PredicateRead, ItemAnti, PredicateAnti}
-use Rattle.lab_judge.specs.Allowed.{allows}
 use Rattle.lab_judge.specs.Graphs.{IsGraphOf}
-use Rattle.lab_judge.specs.Openings.{opens, IsOpenedWalk, IsOpening}
+use Rattle.lab_judge.specs.Openings.{AllowsAllOrNone, IsOpenedWalk, IsOpening}
 use Rattle.lab_judge.specs.Phenomena.{IsWalk, IsClosedWalk, count_kind}
-use Rattle.lab_judge.specs.declared.allowed.Allowed.{Allowed}
-use Rattle.lab_judge.specs.declared.allowed.Allowed.TheVariants as allowed
-use Rattle.lab_judge.specs.declared.findings.opening.Opening.{Opening}
-use Rattle.lab_judge.specs.declared.findings.opening.Opening.TheVariants as opening
 use Rattle.lab_judge.proofs.ClosedWalks.{times, times_are, times_append, Through, HasSuch, such, goes_back}
 use Rattle.lab_judge.proofs.GraphWalks.{all_through, leads_back}
 
 -- where every kind is allowed, there is no other
-pub none_other : (es : List Edge) → times (λ k. not (allows allowed.All k)) es ≡ 0
-none_other [] = refl
-none_other (e ∷ es) = none_other es
+pub none_other : (allowed : Kind → Bool) → ((k : Kind) → allowed k ≡ true) → (es : List Edge) → times (λ k. not (allowed k)) es ≡ 0
+none_other allowed each [] = refl
+none_other allowed each (e ∷ es) = ap (λ b. cond (not b) (1 + times (λ k. not (allowed k)) es) (times (λ k. not (allowed k)) es)) (each e.kind) ∙ none_other allowed each es
 
--- a kind that opens a walk is an anti-dependency, which no smaller choice of kinds allows
-not_writes : (opening : Opening) (k : Kind) → opens opening k ≡ true → allows allowed.Writes k ≡ false
-not_writes opening.Anti Write h = absurd (false≢true h)
-not_writes opening.Anti ItemRead h = refl
-not_writes opening.Anti PredicateRead h = refl
-not_writes opening.Anti ItemAnti h = refl
-not_writes opening.Anti PredicateAnti h = refl
-not_writes opening.ItemAnti Write h = absurd (false≢true h)
-not_writes opening.ItemAnti ItemRead h = refl
-not_writes opening.ItemAnti PredicateRead h = refl
-not_writes opening.ItemAnti ItemAnti h = refl
-not_writes opening.ItemAnti PredicateAnti h = refl
+-- which kinds are allowed beside an anti-dependency that opens a walk
+pub any_beside : (opening : Kind → Bool) → AllowsAllOrNone opening is_any
+any_beside opening = inl (λ _. refl)
 
-not_flow : (opening : Opening) (k : Kind) → opens opening k ≡ true → allows allowed.Flow k ≡ false
-not_flow opening.Anti Write h = absurd (false≢true h)
-not_flow opening.Anti ItemRead h = absurd (false≢true h)
-not_flow opening.Anti PredicateRead h = absurd (false≢true h)
-not_flow opening.Anti ItemAnti h = refl
-not_flow opening.Anti PredicateAnti h = refl
-not_flow opening.ItemAnti Write h = absurd (false≢true h)
-not_flow opening.ItemAnti ItemRead h = absurd (false≢true h)
-not_flow opening.ItemAnti PredicateRead h = absurd (false≢true h)
-not_flow opening.ItemAnti ItemAnti h = refl
-not_flow opening.ItemAnti PredicateAnti h = absurd (false≢true h)
+pub flow_beside : AllowsAllOrNone is_anti is_flow
+flow_beside = inr (λ _ opened. ap not opened)
 
 -- beside an edge that passes a test, where at most one does, there is none
 none_beside : (test : Kind → Bool) (xs : List Edge) (e : Edge) (ys : List Edge) → test e.kind ≡ true → times test (xs ++ e ∷ ys) ≤ 1 → times test (ys ++ xs) ≡ 0
@@ -60,24 +36,23 @@ none_beside test xs e ys passes one =
     omega arith
 
 -- beside the edge that opens a walk all kinds are allowed
-beside : (opening : Opening) (a : Allowed) (xs : List Edge) (e : Edge) (ys : List Edge) → opens opening e.kind ≡ true → times (λ k. not (allows a k)) (xs ++ e ∷ ys) ≤ 1
-    → times (λ k. not (allows a k)) (ys ++ xs) ≡ 0
-beside opening allowed.All xs e ys opened few = none_other (ys ++ xs)
-beside opening allowed.Writes xs e ys opened few = none_beside (λ k. not (allows allowed.Writes k)) xs e ys (ap not (not_writes opening e.kind opened)) few
-beside opening allowed.Flow xs e ys opened few = none_beside (λ k. not (allows allowed.Flow k)) xs e ys (ap not (not_flow opening e.kind opened)) few
+beside : (opening allowed : Kind → Bool) → AllowsAllOrNone opening allowed → (xs : List Edge) (e : Edge) (ys : List Edge) → opening e.kind ≡ true
+    → times (λ k. not (allowed k)) (xs ++ e ∷ ys) ≤ 1 → times (λ k. not (allowed k)) (ys ++ xs) ≡ 0
+beside opening allowed (inl each) xs e ys opened few = none_other allowed each (ys ++ xs)
+beside opening allowed (inr none) xs e ys opened few = none_beside (λ k. not (allowed k)) xs e ys (ap not (none e.kind opened)) few
 
 -- the edges of a walk, of which none is of another kind
-pub through : (a : Allowed) (es : List Edge) → times (λ k. not (allows a k)) es ≡ 0 → Through (allows a) es
-through a es none = all_through a es (sym (times_are (λ k. not (allows a k)) es) ∙ none)
+pub through : (a : Kind → Bool) (es : List Edge) → times (λ k. not (a k)) es ≡ 0 → Through a es
+through a es none = all_through a es (sym (times_are (λ k. not (a k)) es) ∙ none)
 
-module _ (a : Allowed) (nodes : List ℕ) (es : List Edge) (graph : Arrows) (is : IsGraphOf a nodes es graph) (opening : Opening) where
+module _ (a : Kind → Bool) (nodes : List ℕ) (es : List Edge) (graph : Arrows) (is : IsGraphOf a nodes es graph) (opening : Kind → Bool) (apart : AllowsAllOrNone opening a) where
   -- where no edge opens a walk and leads back, there is no such walk
   pub none_opened : (h : History) → ((e : Edge) → Contains es e ↔ IsEdge h e) → All (λ e. IsOpening opening graph nodes e → ⊥) es → (ws : List Edge) → IsOpenedWalk h opening a ws → ⊥
   none_opened h exact none ws (closed, some, few) =
-      let one : HasSuch (opens opening) ws = such (opens opening) ws (omega (arith, times_are (opens opening) ws, some)) in
+      let one : HasSuch opening ws = such opening ws (omega (arith, times_are opening ws, some)) in
       let back : IsEdge h one.edge × IsWalk h one.edge.to (one.rest ++ one.front) one.edge.from = goes_back h one.front one.edge one.rest (subst (IsClosedWalk h) one.parts closed) in
-      let others : times (λ k. not (allows a k)) (one.front ++ one.edge ∷ one.rest) ≤ 1 = omega (arith, times_are (λ k. not (allows a k)) ws, few, ap (times (λ k. not (allows a k))) one.parts) in
-      let beside_it : times (λ k. not (allows a k)) (one.rest ++ one.front) ≡ 0 = beside opening a one.front one.edge one.rest one.passes others in
+      let others : times (λ k. not (a k)) (one.front ++ one.edge ∷ one.rest) ≤ 1 = omega (arith, times_are (λ k. not (a k)) ws, few, ap (times (λ k. not (a k))) one.parts) in
+      let beside_it : times (λ k. not (a k)) (one.rest ++ one.front) ≡ 0 = beside opening a apart one.front one.edge one.rest one.passes others in
       All-contains (λ e. IsOpening opening graph nodes e → ⊥) es one.edge none ((exact one.edge).1 back.0)
       (one.passes, leads_back a nodes es graph is h (λ e. (exact e).1) one.edge (one.rest ++ one.front) back.1 (through a (one.rest ++ one.front) beside_it))
 

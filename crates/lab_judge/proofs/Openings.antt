@@ -8,12 +8,10 @@ use Rattle.std.proofs.lemmas.Option.{same_Some}
 use Rattle.lab_order.specs.Arrows.{Arrows}
 use Rattle.lab_order.specs.Path.{Reaches}
 use Rattle.lab_order.specs.Order.{position}
-use Rattle.lab_deps.specs.KindBits.{has_bit}
 use Rattle.lab_deps.specs.declared.edge.Edge.{Edge}
 use Rattle.lab_deps.specs.declared.edge.Kind.{Kind}
 use Rattle.lab_judge.specs.Graphs.{HasEnds, ties}
-use Rattle.lab_judge.specs.Openings.{opens, IsOpening}
-use Rattle.lab_judge.specs.declared.findings.opening.Opening.{Opening}
+use Rattle.lab_judge.specs.Openings.{IsOpening}
 use Rattle.lab_judge.proofs.Joined.{Tie, tie, passes_some}
 use Rattle.lab_judge.proofs.Numbers.{position_within}
 
@@ -21,13 +19,12 @@ use Rattle.lab_judge.proofs.Numbers.{position_within}
 pub within_nodes : (nodes : List ℕ) (es : List Edge) → All (HasEnds nodes) es → (e : Edge) → Contains es e → position nodes e.from < length nodes
 within_nodes nodes es ends e there = let has : HasEnds nodes e = All-contains (HasEnds nodes) es e ends there in position_within nodes e.from has.0
 
-module _ (opening : Opening) (graph : Arrows) (nodes : List ℕ) (es : List Edge) (ends : All (HasEnds nodes) es) (bits : ℕ)
-    (told : (kind : Kind) → has_bit bits kind ≡ opens opening kind) (from : ℕ) where
+module _ (opening : Kind → Bool) (graph : Arrows) (nodes : List ℕ) (es : List Edge) (ends : All (HasEnds nodes) es) (from : ℕ) where
   -- an edge from a node that is of an opening kind
-  pub tied_by : (e : Edge) → Contains es e → position nodes e.from ≡ from → opens opening e.kind ≡ true → list_any (ties (has_bit bits) nodes from (position nodes e.to)) es ≡ true
+  pub tied_by : (e : Edge) → Contains es e → position nodes e.from ≡ from → opening e.kind ≡ true → list_any (ties opening nodes from (position nodes e.to)) es ≡ true
   tied_by e there at opened =
-      passes_some (ties (has_bit bits) nodes from (position nodes e.to)) es e there
-      (and_from (has_bit bits e.kind) (position nodes e.from == from && position nodes e.to == position nodes e.to) (told e.kind ∙ opened)
+      passes_some (ties opening nodes from (position nodes e.to)) es e there
+      (and_from (opening e.kind) (position nodes e.from == from && position nodes e.to == position nodes e.to) opened
       (and_from (position nodes e.from == from) (position nodes e.to == position nodes e.to) (eq-eqb (position nodes e.from) from at)
       (eq-eqb (position nodes e.to) (position nodes e.to) refl)))
 
@@ -35,7 +32,7 @@ module _ (opening : Opening) (graph : Arrows) (nodes : List ℕ) (es : List Edge
   within e there = let has : HasEnds nodes e = All-contains (HasEnds nodes) es e ends there in position_within nodes e.to has.1
 
   -- where nothing does that leads back, no edge from it opens a walk
-  pub none_leading : ((to : ℕ) → to < length nodes → Reaches graph to from → list_any (ties (has_bit bits) nodes from to) es ≡ false)
+  pub none_leading : ((to : ℕ) → to < length nodes → Reaches graph to from → list_any (ties opening nodes from to) es ≡ false)
       → (e : Edge) → Contains es e → position nodes e.from ≡ from → IsOpening opening graph nodes e → ⊥
   none_leading none e there at opened =
       let to = position nodes e.to in
@@ -44,11 +41,11 @@ module _ (opening : Opening) (graph : Arrows) (nodes : List ℕ) (es : List Edge
 
   -- one to a node that leads back does
   pub leading_opens : (to : ℕ) → Reaches graph to from → (e : Edge) (n m : ℕ) → e.from ≡ n → position nodes n ≡ from → e.to ≡ m → position nodes m ≡ to
-      → has_bit bits e.kind ≡ true → IsOpening opening graph nodes e
+      → opening e.kind ≡ true → IsOpening opening graph nodes e
   leading_opens to back e n m from_is from_at to_is to_at kind =
       let to_same : to ≡ position nodes e.to = sym (ap (position nodes) to_is ∙ to_at) in
       let from_same : from ≡ position nodes e.from = sym (ap (position nodes) from_is ∙ from_at) in
-      (sym (told e.kind) ∙ kind, subst (λ k. Reaches graph k (position nodes e.from)) to_same (subst (Reaches graph to) from_same back))
+      (kind, subst (λ k. Reaches graph k (position nodes e.from)) to_same (subst (Reaches graph to) from_same back))
 
 -- where two nodes are tied, there is such an edge
 pub surely : (test : Kind → Bool) (nodes : List ℕ) (es : List Edge) → All (HasEnds nodes) es → (from to n m : ℕ) → list_any (ties test nodes from to) es ≡ true

@@ -8,13 +8,14 @@ use Rattle.std.proofs.lemmas.Option.{slice_get-get_or}
 use Rattle.lab_order.specs.Arrows.{Arrows, nodes_of, has_arrow, IsGraph}
 use Rattle.lab_order.specs.Order as order
 use Rattle.lab_order.specs.Order.{position}
+use Rattle.lab_order.specs.Trails.{IsTrailBy}
 use Rattle.lab_history.specs.History.{History}
 use Rattle.lab_history.specs.Version.{IsCommitted}
 use Rattle.lab_deps.specs.Edges.{IsEdge}
 use Rattle.lab_deps.specs.declared.edge.Edge.{Edge}
 use Rattle.lab_deps.proofs.Places.{at_times}
 use Rattle.lab_judge.specs.Runs.{HoldsEachOnce}
-use Rattle.lab_judge.specs.Places.{is_anti, IsArrow, IsTrail, IsCircle}
+use Rattle.lab_judge.specs.Places.{is_anti, IsArrow, IsCircle}
 use Rattle.lab_judge.specs.PlaceGraphs.{start_node, commit_node, spans, leads, IsPlaceGraph, point_at}
 use Rattle.lab_judge.specs.declared.places.Point.{Point}
 use Rattle.lab_judge.specs.declared.places.Point.TheVariants.{Start, Commit}
@@ -142,11 +143,11 @@ module _ (h : History) (ns : List ℕ) (once : HoldsEachOnce h ns) (es : List Ed
   has_it (Commit m) (Commit n) arrow = absurd arrow
 
   -- a trail in the graph is one of points
-  trail_is : (a : ℕ) (ms : List ℕ) (b : ℕ) → order.IsTrail graph a ms b → IsTrail h (point_at ns a) (map (point_at ns) ms) (point_at ns b)
+  trail_is : (a : ℕ) (ms : List ℕ) (b : ℕ) → order.IsTrail graph a ms b → IsTrailBy (IsArrow h) (point_at ns a) (map (point_at ns) ms) (point_at ns b)
   trail_is a [] b arrow = arrow_is a b arrow
   trail_is a (m ∷ ms) b (arrow, rest) = (arrow_is a m arrow, trail_is m ms b rest)
 
-  -- and so is a circle
+  -- and so is a cycle
   pub circle_is : (circle : List ℕ) → order.IsCircle graph circle → IsCircle h (map (point_at ns) circle)
   circle_is [] circle = circle
   circle_is (m ∷ ms) circle = trail_is m ms m circle
@@ -156,7 +157,7 @@ trail_within : (graph : Arrows) → IsGraph graph → (a : ℕ) (ms : List ℕ) 
 trail_within graph g a [] b arrow = All-cons (λ n. n < nodes_of graph) a [] (g.within a b arrow) (All-nil (λ n. n < nodes_of graph))
 trail_within graph g a (m ∷ ms) b (arrow, rest) = All-cons (λ n. n < nodes_of graph) a (m ∷ ms) (g.within a m arrow) (trail_within graph g m ms b rest)
 
--- and those of a circle
+-- and those of a cycle
 pub circle_within : (graph : Arrows) → IsGraph graph → (circle : List ℕ) → order.IsCircle graph circle → All (λ n. n < nodes_of graph) circle
 circle_within graph g [] circle = absurd circle
 circle_within graph g (m ∷ ms) circle = trail_within graph g m ms m circle

@@ -8,12 +8,12 @@ use Rattle.std.proofs.lemmas.List.Elements.{All-head, All-tail}
 use Rattle.std.proofs.lemmas.List.Recursion.{is_count_by}
 use Rattle.std.proofs.lemmas.Map.Keys.{below_from_sorted, sorted_from_strictly_increasing}
 use Rattle.std.proofs.lemmas.Option.{slice_get-get_or}
-use Rattle.lab_order.specs.Least as least
+use Rattle.lab_order.specs.Least.{NotAfter, NotAfterBy}
 use Rattle.lab_order.specs.Order.{position}
 use Rattle.lab_history.specs.History.{History}
 use Rattle.lab_history.specs.Version.{IsCommitted}
 use Rattle.lab_deps.proofs.Places.{times, at_times}
-use Rattle.lab_judge.specs.LeastPlaces.{is_point, IsLower, NotAfter, place_in}
+use Rattle.lab_judge.specs.LeastPlaces.{is_point, IsLower, place_in}
 use Rattle.lab_judge.specs.PlaceGraphs.{start_node, commit_node, point_at}
 use Rattle.lab_judge.specs.Runs.{HoldsEachOnce}
 use Rattle.lab_judge.specs.declared.places.Point.{Point}
@@ -119,7 +119,7 @@ module _ (ns : List ℕ) (up : IsStrictlyIncreasing ns) where
       ∙ ap (λ l. x ∷ l) (nodes_again xs (All-tail (λ a. a < 2 * length ns) x xs all))
 
   -- lists of nodes compare as the lists of their points
-  pub compared : (xs ys : List ℕ) → All (λ a. a < 2 * length ns) ys → least.NotAfter xs ys → NotAfter (map (point_at ns) xs) (map (point_at ns) ys)
+  pub compared : (xs ys : List ℕ) → All (λ a. a < 2 * length ns) ys → NotAfter xs ys → NotAfterBy IsLower (map (point_at ns) xs) (map (point_at ns) ys)
   compared [] ys all l = tt
   compared (x ∷ xs) [] all l = l
   compared (x ∷ xs) (y ∷ ys) all l = elim l [

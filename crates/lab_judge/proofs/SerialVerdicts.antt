@@ -1,5 +1,5 @@
 -- What the order of a graph says of the history whose dependencies are its arrows.
-use Rattle.std.proofs.Common.{◌≡◌, ℕ, ◌<◌, ◌==◌, true, cond, List, map, slice_index, length, refl, sym, ap, ◌∙◌, subst, arith}
+use Rattle.std.proofs.Common.{◌≡◌, ℕ, ◌<◌, ◌==◌, Bool, true, cond, List, map, slice_index, length, refl, sym, ap, ◌∙◌, subst, arith}
 use Rattle.std.specs.Prelude.{◌↔◌, ◌&&◌, Contains}
 use Rattle.std.proofs.lemmas.List.Elements.{Contains-get_or}
 use Rattle.std.specs.List.{All, list_any}
@@ -10,15 +10,16 @@ use Rattle.lab_order.specs.Order.{position}
 use Rattle.lab_history.specs.History.{History}
 use Rattle.lab_history.specs.Version.{IsCommitted}
 use Rattle.lab_deps.specs.Edges.{IsEdge}
+use Rattle.lab_deps.specs.KindSets.{among}
 use Rattle.lab_deps.specs.Soundness.{IsSound, has_committed}
 use Rattle.lab_deps.specs.declared.edge.Edge.{Edge}
+use Rattle.lab_deps.specs.declared.edge.Kind.{Kind}
+use Rattle.lab_deps.specs.declared.kinds.TheConstants.Kinds.{ALL}
+use Rattle.lab_deps.proofs.NamedKinds.{all_has}
 use Rattle.lab_deps.proofs.Places.{times, times_count}
 use Rattle.lab_judge.specs.Runs.{HoldsEachOnce, IsSerialRun}
 use Rattle.lab_judge.specs.Places.{IsForwardOrder}
-use Rattle.lab_judge.specs.Graphs.{HasEnds, joins, IsGraphOf}
-use Rattle.lab_judge.specs.Allowed.{allows}
-use Rattle.lab_judge.specs.declared.allowed.Allowed.TheVariants as allowed
-use Rattle.lab_judge.specs.declared.allowed.Allowed.{Allowed}
+use Rattle.lab_judge.specs.Graphs.{HasEnds, ties, IsGraphOf}
 use Rattle.lab_judge.proofs.Numbers.{contains_it}
 use Rattle.lab_judge.proofs.Orders.{is_serial}
 use Rattle.lab_judge.proofs.Joined.{passes_some}
@@ -39,16 +40,16 @@ pub all_have_ends : (h : History) (ns : List ℕ) → HoldsEachOnce h ns → (es
 all_have_ends h ns once es real k d lt = has_ends h ns once _ (real _ (Contains-get_or es k d lt))
 
 -- a dependency of an allowed kind joins the nodes of its ends
-pub joined : (kinds : Allowed) (ns : List ℕ) (es : List Edge) (e : Edge) → Contains es e → allows kinds e.kind ≡ true → list_any (joins kinds ns (position ns e.from) (position ns e.to)) es ≡ true
-joined kinds ns es e there kind = passes_some (joins kinds ns (position ns e.from) (position ns e.to)) es e there at
+pub joined : (kinds : Kind → Bool) (ns : List ℕ) (es : List Edge) (e : Edge) → Contains es e → kinds e.kind ≡ true → list_any (ties kinds ns (position ns e.from) (position ns e.to)) es ≡ true
+joined kinds ns es e there kind = passes_some (ties kinds ns (position ns e.from) (position ns e.to)) es e there at
   where
-    at : joins kinds ns (position ns e.from) (position ns e.to) e ≡ true
+    at : ties kinds ns (position ns e.from) (position ns e.to) e ≡ true
     at = ap (λ b. b && (position ns e.from == position ns e.from && position ns e.to == position ns e.to)) kind
         ∙ ap (λ b. b && position ns e.to == position ns e.to) (eq-eqb (position ns e.from) (position ns e.from) refl)
         ∙ eq-eqb (position ns e.to) (position ns e.to) refl
 
 module _ (h : History) (ns : List ℕ) (once : HoldsEachOnce h ns) (es : List Edge) (exact : (e : Edge) → Contains es e ↔ IsEdge h e)
-    (graph : Arrows) (is : IsGraphOf allowed.All ns es graph) (placed : List ℕ) (ordered : order.IsOrder graph placed) where
+    (graph : Arrows) (is : IsGraphOf (among ALL) ns es graph) (placed : List ℕ) (ordered : order.IsOrder graph placed) where
   pub each_once : HoldsEachOnce h (map (slice_index ns) placed)
   each_once = nodes.each_once h ns once graph placed is.size ordered.each_once
 
@@ -59,7 +60,7 @@ module _ (h : History) (ns : List ℕ) (once : HoldsEachOnce h ns) (es : List Ed
       let from : position (map (slice_index ns) placed) e.from ≡ position placed (position ns e.from) = nodes.same_place h ns once e.from (is_node h ns once e.from edge.0) placed all in
       let to : position (map (slice_index ns) placed) e.to ≡ position placed (position ns e.to) = nodes.same_place h ns once e.to (is_node h ns once e.to edge.1) placed all in
       let less : position placed (position ns e.from) < position placed (position ns e.to)
-      = ordered.forward (position ns e.from) (position ns e.to) (is.arrows (position ns e.from) (position ns e.to) ∙ joined allowed.All ns es e ((exact e).1 edge) refl) in
+      = ordered.forward (position ns e.from) (position ns e.to) (is.arrows (position ns e.from) (position ns e.to) ∙ joined (among ALL) ns es e ((exact e).1 edge) (all_has e.kind)) in
       omega (arith, from, to, less)
 
   -- the numbers of such an order rest on their law

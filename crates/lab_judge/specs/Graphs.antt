@@ -5,8 +5,6 @@ use Rattle.lab_order.specs.Arrows.{Arrows, nodes_of, has_arrow}
 use Rattle.lab_order.specs.Order.{position}
 use Rattle.lab_deps.specs.declared.edge.Edge.{Edge}
 use Rattle.lab_deps.specs.declared.edge.Kind.{Kind}
-use Rattle.lab_judge.specs.Allowed.{allows}
-use Rattle.lab_judge.specs.declared.allowed.Allowed.{Allowed}
 
 -- both ends of a dependency are in the list
 abbrev pub HasEnds : List ℕ → Edge → Type 0
@@ -16,19 +14,15 @@ HasEnds nodes e = Contains nodes e.from × Contains nodes e.to
 abbrev pub ties : (Kind → Bool) → List ℕ → ℕ → ℕ → Edge → Bool
 ties test nodes a b e = test e.kind && (position nodes e.from == a && position nodes e.to == b)
 
--- whether a dependency of an allowed kind leads from one node to another
-abbrev pub joins : Allowed → List ℕ → ℕ → ℕ → Edge → Bool
-joins allowed nodes a b e = ties (allows allowed) nodes a b e
-
 -- the graph has an arrow exactly where a dependency of an allowed kind leads
-pub record IsGraphOf (allowed : Allowed) (nodes : List ℕ) (es : List Edge) (graph : Arrows) : Type 0 where
+pub record IsGraphOf (allowed : Kind → Bool) (nodes : List ℕ) (es : List Edge) (graph : Arrows) : Type 0 where
   pub size : nodes_of graph ≡ length nodes
-  pub arrows : (a b : ℕ) → has_arrow graph a b ≡ list_any (joins allowed nodes a b) es
+  pub arrows : (a b : ℕ) → has_arrow graph a b ≡ list_any (ties allowed nodes a b) es
 
 -- from a node along these: a dependency of an allowed kind leads from each to the next
-abbrev pub LeadsAlong : Allowed → List ℕ → List Edge → ℕ → List ℕ → Type 0
+abbrev pub LeadsAlong : (Kind → Bool) → List ℕ → List Edge → ℕ → List ℕ → Type 0
 LeadsAlong allowed nodes es from [] = ⊤
-LeadsAlong allowed nodes es from (n ∷ ns) = IsTrue (list_any (joins allowed nodes from n) es) × LeadsAlong allowed nodes es n ns
+LeadsAlong allowed nodes es from (n ∷ ns) = IsTrue (list_any (ties allowed nodes from n) es) × LeadsAlong allowed nodes es n ns
 
 -- the last node of a way from a node along these
 abbrev pub last_of : ℕ → List ℕ → ℕ
@@ -36,5 +30,5 @@ last_of from [] = from
 last_of from (n ∷ ns) = last_of n ns
 
 -- how many dependencies have a kind that isn't allowed
-abbrev pub count_others : Allowed → List Edge → ℕ
-count_others allowed es = count_by (λ e. not (allows allowed e.kind)) es
+abbrev pub count_others : (Kind → Bool) → List Edge → ℕ
+count_others allowed es = count_by (λ e. not (allowed e.kind)) es

@@ -1,6 +1,7 @@
 -- Of several right placings, the one that a snapshot yes has.
-use Rattle.std.specs.Prelude.{◌≡◌, ◌⊎◌, ℕ, suc, ◌<◌, ◌≤◌, ◌==◌, Bool, false, cond, List, [], ◌∷◌, map, count_by, Contains, ⊤}
+use Rattle.std.specs.Prelude.{◌≡◌, ℕ, suc, ◌<◌, ◌≤◌, ◌==◌, Bool, false, cond, List, [], ◌∷◌, map, count_by, Contains, ⊤}
 use Rattle.std.specs.List.Sorted.{IsStrictlyIncreasing}
+use Rattle.lab_order.specs.Least.{IsLeastBy}
 use Rattle.lab_history.specs.History.{History}
 use Rattle.lab_history.specs.Version.{outcome_of}
 use Rattle.lab_deps.specs.Soundness.{has_committed}
@@ -30,12 +31,6 @@ IsLower (Start m) (Commit n) = m ≤ n
 IsLower (Commit m) (Start n) = m < n
 IsLower (Commit m) (Commit n) = m < n
 
--- points don't come after others, point by point as words in a dictionary
-abbrev pub NotAfter : List Point → List Point → Type 0
-NotAfter [] others = ⊤
-NotAfter (p ∷ ps) [] = ⊥
-NotAfter (p ∷ ps) (q ∷ qs) = IsLower p q ⊎ ((p ≡ q) × NotAfter ps qs)
-
 -- the place of a point in an order, counted from 0
 abbrev pub place_in : List Point → Point → ℕ
 place_in [] p = 0
@@ -46,10 +41,9 @@ pub record IsPointOrder (h : History) (points : List Point) : Type 0 where
   pub each_once : (p : Point) → count_by (λ q. is_point q p) points ≡ cond (has_committed (outcome_of h (txn_of p))) 1 0
   pub forward : (p q : Point) → IsArrow h p q → place_in points p < place_in points q
 
--- of such orders the least
-pub record IsLeastPointOrder (h : History) (points : List Point) : Type 0 where
-  pub order : IsPointOrder h points
-  pub least : (others : List Point) → IsPointOrder h others → NotAfter points others
+-- of such orders the least, point by point
+abbrev pub IsLeastPointOrder : History → List Point → Type 0
+IsLeastPointOrder h points = IsLeastBy IsLower (IsPointOrder h) points
 
 -- transactions by rising number, each with the places of its start and of its commit in an order
 pub record ArePlacedAlong (points : List Point) (spans : List Span) : Type 0 where

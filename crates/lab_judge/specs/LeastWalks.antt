@@ -1,5 +1,5 @@
--- Which of several closed walks is carried.
-use Rattle.std.specs.Prelude.{◌≡◌, ◌<◌, ◌≤◌, ◌↔◌, ℕ, true, false, List, [], ◌∷◌, ◌++◌, length, slice_index, IsTrue, ⊤}
+-- Which of several cycles is carried.
+use Rattle.std.specs.Prelude.{◌≡◌, ◌<◌, ◌≤◌, ◌↔◌, ℕ, Bool, true, false, List, [], ◌∷◌, ◌++◌, length, slice_index, IsTrue, ⊤}
 use Rattle.std.specs.Ordering.{is_lt}
 use Rattle.std.specs.List.{All}
 use Rattle.std.specs.List.Sorted.{IsStrictlyIncreasing}
@@ -11,15 +11,12 @@ use Rattle.lab_order.specs.Path.{IsShortestPath}
 use Rattle.lab_history.specs.History.{History}
 use Rattle.lab_deps.specs.Edges.{IsEdge}
 use Rattle.lab_deps.specs.EdgeOrder.{edge_cmp}
+use Rattle.lab_deps.specs.KindSets.{is_any, is_write, is_flow, is_anti, is_item_anti}
 use Rattle.lab_deps.specs.declared.edge.Edge.{Edge}
-use Rattle.lab_judge.specs.Allowed.{allows}
+use Rattle.lab_deps.specs.declared.edge.Kind.{Kind}
 use Rattle.lab_judge.specs.Findings as found
 use Rattle.lab_judge.specs.Openings.{IsOpening}
 use Rattle.lab_judge.specs.Runs.{HoldsEachOnce}
-use Rattle.lab_judge.specs.declared.allowed.Allowed.{Allowed}
-use Rattle.lab_judge.specs.declared.allowed.Allowed.TheVariants as allowed
-use Rattle.lab_judge.specs.declared.findings.opening.Opening.{Opening}
-use Rattle.lab_judge.specs.declared.findings.opening.Opening.TheVariants as opening
 use Rattle.lab_judge.specs.declared.report.Finding.{Finding}
 use Rattle.lab_judge.specs.declared.report.Finding.TheVariants.{Absent, Walk, At, NotJudged}
 use Rattle.lab_judge.specs.declared.serial.Serial.{Serial}
@@ -31,36 +28,36 @@ pub record AreCommitted (h : History) (txns : List ℕ) : Type 0 where
   pub rising : IsStrictlyIncreasing txns
 
 -- an edge of an allowed kind between the transactions at two places of a list
-abbrev pub HasEdgeAt : History → Allowed → List ℕ → ℕ → ℕ → Type 0
-HasEdgeAt h allowed txns a b = (e : Edge) × IsEdge h e × (allows allowed e.kind ≡ true) × (position txns e.from ≡ a) × (position txns e.to ≡ b)
+abbrev pub HasEdgeAt : History → (Kind → Bool) → List ℕ → ℕ → ℕ → Type 0
+HasEdgeAt h allowed txns a b = (e : Edge) × IsEdge h e × (allowed e.kind ≡ true) × (position txns e.from ≡ a) × (position txns e.to ≡ b)
 
 -- the graph of the edges of allowed kinds: its nodes are the places of transactions in a list, and an arrow is exactly where such an edge is
-pub record IsEdgeGraph (h : History) (allowed : Allowed) (txns : List ℕ) (graph : Arrows) : Type 0 where
+pub record IsEdgeGraph (h : History) (allowed : Kind → Bool) (txns : List ℕ) (graph : Arrows) : Type 0 where
   pub size : nodes_of graph ≡ length txns
   pub arrows : (a b : ℕ) → IsTrue (has_arrow graph a b) ↔ HasEdgeAt h allowed txns a b
 
 -- the least edge of an allowed kind from one transaction to another, by kind and row
-pub record IsLeastEdge (h : History) (allowed : Allowed) (m n : ℕ) (e : Edge) : Type 0 where
+pub record IsLeastEdge (h : History) (allowed : Kind → Bool) (m n : ℕ) (e : Edge) : Type 0 where
   pub edge : IsEdge h e
   pub from : e.from ≡ m
   pub to : e.to ≡ n
-  pub kind : allows allowed e.kind ≡ true
-  pub least : (other : Edge) → IsEdge h other → other.from ≡ m → other.to ≡ n → allows allowed other.kind ≡ true → is_lt (edge_cmp other e) ≡ false
+  pub kind : allowed e.kind ≡ true
+  pub least : (other : Edge) → IsEdge h other → other.from ≡ m → other.to ≡ n → allowed other.kind ≡ true → is_lt (edge_cmp other e) ≡ false
 
 -- a walk from a node along these: from the transaction of each to that of the next it takes the least allowed edge
-abbrev pub GoesAlong : History → Allowed → List ℕ → ℕ → List ℕ → List Edge → Type 0
+abbrev pub GoesAlong : History → (Kind → Bool) → List ℕ → ℕ → List ℕ → List Edge → Type 0
 GoesAlong h allowed txns from [] [] = ⊤
 GoesAlong h allowed txns from [] (e ∷ walk) = ⊥
 GoesAlong h allowed txns from (n ∷ way) [] = ⊥
 GoesAlong h allowed txns from (n ∷ way) (e ∷ walk) = IsLeastEdge h allowed (slice_index txns from) (slice_index txns n) e × GoesAlong h allowed txns n way walk
 
--- such a walk round a circle, from its first node to the first again
-abbrev pub GoesRound : History → Allowed → List ℕ → List ℕ → List Edge → Type 0
+-- such a walk round a cycle, from its first node to the first again
+abbrev pub GoesRound : History → (Kind → Bool) → List ℕ → List ℕ → List Edge → Type 0
 GoesRound h allowed txns [] walk = ⊥
 GoesRound h allowed txns (n ∷ way) walk = GoesAlong h allowed txns n (way ++ n ∷ []) walk
 
--- the walk round the circle on the way back from the least transaction that no order can place
-pub record IsBackWalk (h : History) (allowed : Allowed) (walk : List Edge) : Type 0 where
+-- the walk round the cycle on the way back from the least transaction that no order can place
+pub record IsBackWalk (h : History) (allowed : Kind → Bool) (walk : List Edge) : Type 0 where
   pub txns : List ℕ
   pub committed : AreCommitted h txns
   pub graph : Arrows
@@ -70,18 +67,18 @@ pub record IsBackWalk (h : History) (allowed : Allowed) (walk : List Edge) : Typ
   pub round : GoesRound h allowed txns circle walk
 
 -- such a walk along a path, from its first node on
-abbrev pub GoesBy : History → Allowed → List ℕ → List ℕ → List Edge → Type 0
+abbrev pub GoesBy : History → (Kind → Bool) → List ℕ → List ℕ → List Edge → Type 0
 GoesBy h allowed txns [] walk = ⊥
 GoesBy h allowed txns (n ∷ way) walk = GoesAlong h allowed txns n way walk
 
 -- the way back of an edge: such a walk along the least of the shortest paths from where it ends to where it begins
-pub record IsWayBack (h : History) (allowed : Allowed) (graph : Arrows) (txns : List ℕ) (e : Edge) (back : List Edge) : Type 0 where
+pub record IsWayBack (h : History) (allowed : Kind → Bool) (graph : Arrows) (txns : List ℕ) (e : Edge) (back : List Edge) : Type 0 where
   pub path : List ℕ
   pub least : IsLeast (IsShortestPath graph (position txns e.to) (position txns e.from)) path
   pub goes : GoesBy h allowed txns path back
 
 -- the first edge, in the order in which edges are listed, that opens a walk and from which a path leads back
-pub record IsFirstOpening (h : History) (opening : Opening) (graph : Arrows) (txns : List ℕ) (e : Edge) : Type 0 where
+pub record IsFirstOpening (h : History) (opening : Kind → Bool) (graph : Arrows) (txns : List ℕ) (e : Edge) : Type 0 where
   pub edge : IsEdge h e
   pub opens : IsOpening opening graph txns e
   pub first : (other : Edge) → IsEdge h other → IsOpening opening graph txns other → is_lt (edge_cmp other e) ≡ false
@@ -97,7 +94,7 @@ pub record IsTurnToLeast (round walk : List Edge) : Type 0 where
   pub no_less : All (λ e. first.from ≤ e.from) rest
 
 -- the round of the first edge that opens a walk and of its way back
-pub record IsOpenedRound (h : History) (opening : Opening) (allowed : Allowed) (walk : List Edge) : Type 0 where
+pub record IsOpenedRound (h : History) (opening allowed : Kind → Bool) (walk : List Edge) : Type 0 where
   pub txns : List ℕ
   pub committed : AreCommitted h txns
   pub graph : Arrows
@@ -108,11 +105,11 @@ pub record IsOpenedRound (h : History) (opening : Opening) (allowed : Allowed) (
   pub way : IsWayBack h allowed graph txns edge back
   pub turned : IsTurnToLeast (edge ∷ back) walk
 
--- the closed walk of a serial no is the one on the way back
+-- the cycle of a serial no is the one on the way back
 abbrev pub HasDueWalk : History → Serial → Type 0
 HasDueWalk h (serial.Yes order) = ⊤
 HasDueWalk h (serial.NoFault fault) = ⊤
-HasDueWalk h (serial.NoCycle walk) = IsBackWalk h allowed.All walk
+HasDueWalk h (serial.NoCycle walk) = IsBackWalk h is_any walk
 
 -- a walk that is found is the due one
 abbrev pub FindsDue : (List Edge → Type 0) → Finding → Type 0
@@ -124,8 +121,8 @@ FindsDue is_due NotJudged = ⊤
 -- Of seven findings, one a phenomenon, the walks of G0 and G1c are those on the way back, over writes and over all that is no anti-dependency; the others are rounds of a first anti-dependency.
 pub record FindsDueWalks (h : History) (p : List Finding) : Type 0 where
   pub seven : length p ≡ 7
-  pub g0 : FindsDue (IsBackWalk h allowed.Writes) (found.g0 p)
-  pub g1c : FindsDue (IsBackWalk h allowed.Flow) (found.g1c p)
-  pub g_single : FindsDue (IsOpenedRound h opening.Anti allowed.Flow) (found.g_single p)
-  pub g2_item : FindsDue (IsOpenedRound h opening.ItemAnti allowed.All) (found.g2_item p)
-  pub g2 : FindsDue (IsOpenedRound h opening.Anti allowed.All) (found.g2 p)
+  pub g0 : FindsDue (IsBackWalk h is_write) (found.g0 p)
+  pub g1c : FindsDue (IsBackWalk h is_flow) (found.g1c p)
+  pub g_single : FindsDue (IsOpenedRound h is_anti is_flow) (found.g_single p)
+  pub g2_item : FindsDue (IsOpenedRound h is_item_anti is_any) (found.g2_item p)
+  pub g2 : FindsDue (IsOpenedRound h is_anti is_any) (found.g2 p)

@@ -1,5 +1,5 @@
--- Closed walks of dependencies of some kinds, and the dependencies that open one.
-use Rattle.std.specs.Prelude.{◌≡◌, ◌≤◌, ℕ, Bool, true, List, Contains}
+-- Cycles of dependencies of some kinds, and the dependencies that open one.
+use Rattle.std.specs.Prelude.{◌≡◌, ◌≤◌, ◌⊎◌, ℕ, Bool, true, false, List, Contains}
 use Rattle.lab_order.specs.Arrows.{Arrows}
 use Rattle.lab_order.specs.Path.{Reaches}
 use Rattle.lab_order.specs.Order.{position}
@@ -7,36 +7,30 @@ use Rattle.lab_history.specs.History.{History}
 use Rattle.lab_deps.specs.Edges.{IsEdge}
 use Rattle.lab_deps.specs.declared.edge.Edge.{Edge}
 use Rattle.lab_deps.specs.declared.edge.Kind.{Kind}
-use Rattle.lab_judge.specs.Allowed.{allows}
 use Rattle.lab_judge.specs.Graphs.{count_others}
-use Rattle.lab_judge.specs.Places.{is_anti}
-use Rattle.lab_judge.specs.Phenomena.{IsClosedWalk, is_item_anti, count_kind}
-use Rattle.lab_judge.specs.declared.allowed.Allowed.{Allowed}
-use Rattle.lab_judge.specs.declared.findings.opening.Opening.{Opening}
-use Rattle.lab_judge.specs.declared.findings.opening.Opening.TheVariants.{Anti, ItemAnti}
+use Rattle.lab_judge.specs.Phenomena.{IsClosedWalk, count_kind}
 
 -- these are edges of the history, and all of its edges of allowed kinds are among them
-pub record HasEdgesOf (h : History) (allowed : Allowed) (es : List Edge) : Type 0 where
+pub record HasEdgesOf (h : History) (allowed : Kind → Bool) (es : List Edge) : Type 0 where
   pub edges : (e : Edge) → Contains es e → IsEdge h e
-  pub all : (e : Edge) → IsEdge h e → allows allowed e.kind ≡ true → Contains es e
+  pub all : (e : Edge) → IsEdge h e → allowed e.kind ≡ true → Contains es e
 
--- a closed walk of edges of allowed kinds
-abbrev pub IsClosedOf : History → Allowed → List Edge → Type 0
+-- a cycle of edges of allowed kinds
+abbrev pub IsClosedOf : History → (Kind → Bool) → List Edge → Type 0
 IsClosedOf h allowed es = IsClosedWalk h es × (count_others allowed es ≡ 0)
 
--- whether a dependency of this kind opens a walk
-abbrev pub opens : Opening → Kind → Bool
-opens Anti kind = is_anti kind
-opens ItemAnti kind = is_item_anti kind
+-- each kind is allowed, or none that opens a walk is
+abbrev pub AllowsAllOrNone : (Kind → Bool) → (Kind → Bool) → Type 0
+AllowsAllOrNone opening allowed = ((kind : Kind) → allowed kind ≡ true) ⊎ ((kind : Kind) → opening kind ≡ true → allowed kind ≡ false)
 
--- a closed walk that has an edge of an opening kind, and beside it edges of allowed kinds alone
-abbrev pub IsOpenedWalk : History → Opening → Allowed → List Edge → Type 0
-IsOpenedWalk h opening allowed es = IsClosedWalk h es × (1 ≤ count_kind (opens opening) es) × (count_others allowed es ≤ 1)
+-- a cycle that has an edge of an opening kind, and beside it edges of allowed kinds alone
+abbrev pub IsOpenedWalk : History → (Kind → Bool) → (Kind → Bool) → List Edge → Type 0
+IsOpenedWalk h opening allowed es = IsClosedWalk h es × (1 ≤ count_kind opening es) × (count_others allowed es ≤ 1)
 
 -- a path leads back from where an edge ends to where it begins
 abbrev pub LeadsBack : Arrows → List ℕ → Edge → Type 0
 LeadsBack graph nodes e = Reaches graph (position nodes e.to) (position nodes e.from)
 
 -- an edge that opens a walk, and from which a path leads back
-abbrev pub IsOpening : Opening → Arrows → List ℕ → Edge → Type 0
-IsOpening opening graph nodes e = (opens opening e.kind ≡ true) × LeadsBack graph nodes e
+abbrev pub IsOpening : (Kind → Bool) → Arrows → List ℕ → Edge → Type 0
+IsOpening opening graph nodes e = (opening e.kind ≡ true) × LeadsBack graph nodes e

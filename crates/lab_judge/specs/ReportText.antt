@@ -3,8 +3,10 @@ use Rattle.std.specs.Prelude.{ℕ, List, [], ◌∷◌, ◌++◌, flat_map, code
 use Rattle.std.specs.Fmt.{decimal}
 use Rattle.lab_table.specs.Row.{Row}
 use Rattle.lab_script.specs.Printed.{printed_row_name, newline}
+use Rattle.lab_deps.specs.FaultKinds.{KindEntry, op_entry, row_entry, parts_of}
+use Rattle.lab_deps.specs.declared.fault.FaultParts.{FaultParts}
+use Rattle.lab_deps.specs.declared.fault.FaultParts.TheVariants as parts
 use Rattle.lab_deps.specs.declared.fault.LocalFault.{LocalFault}
-use Rattle.lab_deps.specs.declared.fault.LocalFault.TheVariants as fault
 use Rattle.lab_deps.specs.declared.edge.Kind.{Kind}
 use Rattle.lab_deps.specs.declared.edge.Kind.TheVariants as kind
 use Rattle.lab_deps.specs.declared.edge.Edge.{Edge}
@@ -34,17 +36,18 @@ row_text row = codes " row " ++ printed_row_name row
 abbrev pub place_text : ℕ → ℕ → Row → List ℕ
 place_text n k row = txn_text n ++ codes " op " ++ decimal k ++ row_text row
 
+-- the code and the name of a kind of fault
+abbrev pub fault_kind_text : KindEntry → List ℕ
+fault_kind_text entry = entry.code ++ codes " " ++ entry.name
+
+-- what is wrong at an operation and a row, or at a row alone
+abbrev pub parts_text : FaultParts → List ℕ
+parts_text (parts.Operation kind n k row) = fault_kind_text (op_entry kind) ++ place_text n k row
+parts_text (parts.Row kind row) = fault_kind_text (row_entry kind) ++ row_text row
+
 -- what is wrong with a history at one place
 abbrev pub fault_text : LocalFault → List ℕ
-fault_text (fault.Dangling n k row) = codes "F1 Dangling" ++ place_text n k row
-fault_text (fault.AbortedRead n k row) = codes "F2 AbortedRead" ++ place_text n k row
-fault_text (fault.IntermediateRead n k row) = codes "F3 IntermediateRead" ++ place_text n k row
-fault_text (fault.OwnWriteMissed n k row) = codes "F4 OwnWriteMissed" ++ place_text n k row
-fault_text (fault.LaterThanOwn n k row) = codes "F5 LaterThanOwn" ++ place_text n k row
-fault_text (fault.RowsDiffer n k row) = codes "F6 RowsDiffer" ++ place_text n k row
-fault_text (fault.WritesDiffer n k row) = codes "F7 WritesDiffer" ++ place_text n k row
-fault_text (fault.InstallOrder row) = codes "F8 InstallOrder" ++ row_text row
-fault_text (fault.EndDiffers row) = codes "F9 EndDiffers" ++ row_text row
+fault_text f = parts_text (parts_of f)
 
 -- a kind of dependency
 abbrev pub kind_name : Kind → List ℕ
@@ -78,7 +81,7 @@ abbrev pub point_text : Point → List ℕ
 point_text (point.Start n) = codes " s" ++ decimal n
 point_text (point.Commit n) = codes " c" ++ decimal n
 
--- a circle: its points, and the first of them again
+-- a cycle: its points, and the first of them again
 abbrev pub circle_text : List Point → List ℕ
 circle_text [] = []
 circle_text (p ∷ ps) = flat_map point_text (p ∷ ps) ++ point_text p

@@ -22,7 +22,7 @@ IsPlaced (places.Yes spans) = ⊤
 IsPlaced (places.NoFault fault) = ⊥
 IsPlaced (places.NoCycle points) = ⊥
 
--- no points are a circle
+-- no points are a cycle
 abbrev pub NoCircle : History → Type 0
 NoCircle h = (ps : List Point) → IsCircle h ps → ⊥
 

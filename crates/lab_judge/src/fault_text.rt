@@ -9,7 +9,7 @@ use lab_table::NoMemory;
 use std::alloc::Global;
 
 /// The line that tells a fault, as `file: BadStatement T1 op 1` and a newline; nothing for want of memory.
-/// NoMemory where a growth was refused.
+/// NoMemory where an allocation was refused.
 pub fn print_file_fault(alloc: Global, fault: &FileFault) -> Result<Vec<u8>, NoMemory>
     ensures { IfOk result (λ text. text.items ≡ file_fault_text fault.now) }
 {

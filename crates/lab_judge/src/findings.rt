@@ -6,6 +6,7 @@ ghost use Rattle.std.specs.List.Sorted.{IsStrictlyIncreasing};
 ghost use Rattle.lab_history.specs.History.{History as Recorded};
 ghost use Rattle.lab_deps.specs.Soundness.{Stands, IsSound};
 ghost use Rattle.lab_deps.specs.Edges.{IsEdge};
+ghost use Rattle.lab_deps.specs.KindSets.{among, is_write};
 ghost use Rattle.lab_deps.specs.Refusal.{IsAnswer};
 ghost use Rattle.lab_deps.specs.declared.edge.Edge.{Edge as Spelled};
 ghost use Rattle.lab_deps.specs.declared.fault.LocalFault.TheVariants as fault;
@@ -13,7 +14,6 @@ ghost use Rattle.lab_table.specs.Row.{Row};
 ghost use Rattle.lab_judge.specs.Graphs.{HasEnds, IsGraphOf};
 ghost use Rattle.lab_judge.specs.LeastWalks.{AreCommitted, IsBackWalk, FindsDue, FindsDueWalks};
 ghost use Rattle.lab_judge.specs.Runs.{HoldsEachOnce};
-ghost use Rattle.lab_judge.specs.declared.allowed.Allowed.TheVariants as allowed;
 ghost use Rattle.lab_judge.specs.Phenomena.{NoWalk, IsClosedWalk, IsG0, MeetsPl2};
 ghost use Rattle.lab_judge.specs.Judgement.{FindsWalk, JudgesAll, JudgesReads, JudgesNothing, JudgesAtFault};
 
@@ -22,16 +22,14 @@ mod grade;
 mod opening;
 mod reads;
 
-use crate::allowed::Allowed;
 use crate::graphs::{graph_among, graph_of};
 use crate::nodes::Nodes;
 use crate::report::{Finding, Grade};
 use closed_walk::{find_circle, find_opened};
 use grade::{grade_of, low_grade_of};
-use lab_deps::{Dependencies, KindTable, LocalFault};
+use lab_deps::{Dependencies, KindTable, Kinds, LocalFault};
 use lab_history::History;
 use lab_order::{Graph, NoMemory, Ways};
-pub(crate) use opening::Opening;
 use reads::{find_aborted_read, find_intermediate_read};
 use std::alloc::Global;
 
@@ -64,7 +62,7 @@ pub(crate) fn find_none(_history: &History) -> Findings
 }
 
 /// What is found in a sound history with these committed transactions, these dependencies and the graph of them all.
-/// NoMemory where a growth was refused.
+/// NoMemory where an allocation was refused.
 pub(crate) fn find_in_sound(
     alloc: Global,
     _history: &History,
@@ -79,14 +77,14 @@ pub(crate) fn find_in_sound(
     requires edges { (e : Spelled) → Contains edges.now e ↔ IsEdge _history.now e }
     requires numbers { table.now.numbers ≡ nodes.now }
     requires table { table.now.edges ≡ edges.now }
-    requires all { IsGraphOf allowed.All nodes.now edges.now all.now }
+    requires all { IsGraphOf (among Kinds.ALL) nodes.now edges.now all.now }
     ensures found { IfOk result (λ found. JudgesAll _history.now found.phenomena found.level) }
     ensures walks { IfOk result (λ found. FindsDueWalks _history.now found.phenomena) }
 {
     find_walks(alloc, nodes, edges, table, all)
 }
 
-/// What is found in any sound history that has these dependencies. NoMemory where a growth was refused.
+/// What is found in any sound history that has these dependencies. NoMemory where an allocation was refused.
 fn find_walks(
     alloc: Global,
     nodes: &Nodes,
@@ -98,24 +96,24 @@ fn find_walks(
     requires rising { IsStrictlyIncreasing nodes.now }
     requires numbers { table.now.numbers ≡ nodes.now }
     requires table { table.now.edges ≡ edges.now }
-    requires all { IsGraphOf allowed.All nodes.now edges.now all.now }
+    requires all { IsGraphOf (among Kinds.ALL) nodes.now edges.now all.now }
     ensures found { IfOk result (λ found. (h : Recorded) → IsSound h → ((e : Spelled) → Contains edges.now e ↔ IsEdge h e) → JudgesAll h found.phenomena found.level) }
     ensures walks { IfOk result (λ found. (h : Recorded) → AreCommitted h nodes.now → ((e : Spelled) → Contains edges.now e ↔ IsEdge h e) → FindsDueWalks h found.phenomena) }
 {
-    let writes = graph_among(alloc, nodes, table, all, Allowed::Writes)?;
-    let flow = graph_among(alloc, nodes, table, all, Allowed::Flow)?;
-    let g0 = find_circle(alloc, nodes, edges, Allowed::Writes, &writes)?;
-    let g1c = find_circle(alloc, nodes, edges, Allowed::Flow, &flow)?;
+    let writes = graph_among(alloc, nodes, table, all, Kinds::WRITES)?;
+    let flow = graph_among(alloc, nodes, table, all, Kinds::FLOW)?;
+    let g0 = find_circle(alloc, nodes, edges, Kinds::WRITES, &writes)?;
+    let g1c = find_circle(alloc, nodes, edges, Kinds::FLOW, &flow)?;
     let flow_ways = Ways::of(alloc, &flow)?;
     let g_single = find_opened(
         alloc,
         nodes,
         edges,
         table,
-        Allowed::Flow,
+        Kinds::FLOW,
         &flow,
         &flow_ways,
-        Opening::Anti,
+        Kinds::ANTI,
     )?;
     let all_ways = Ways::of(alloc, all)?;
     let g2_item = find_opened(
@@ -123,20 +121,20 @@ fn find_walks(
         nodes,
         edges,
         table,
-        Allowed::All,
+        Kinds::ALL,
         all,
         &all_ways,
-        Opening::ItemAnti,
+        Kinds::ITEM_ANTI,
     )?;
     let g2 = find_opened(
         alloc,
         nodes,
         edges,
         table,
-        Allowed::All,
+        Kinds::ALL,
         all,
         &all_ways,
-        Opening::Anti,
+        Kinds::ANTI,
     )?;
     let level = grade_of(&g0, &g1c, &g2_item, &g2);
     Ok(Findings {
@@ -153,7 +151,8 @@ fn find_walks(
     })
 }
 
-/// What is found in a history that isn't sound, where this fault was answered. NoMemory where a growth was refused.
+/// What is found in a history that isn't sound, where this fault was answered. NoMemory where an allocation was
+/// refused.
 ///
 /// Where it is a read of what was never committed, no fault of another kind stands: G0, G1a and G1b are judged.
 pub(crate) fn find_at_fault(
@@ -165,21 +164,15 @@ pub(crate) fn find_at_fault(
     ensures found { IfOk result (λ found. JudgesAtFault history.now fault found.phenomena found.level) }
     ensures walks { IfOk result (λ found. FindsDueWalks history.now found.phenomena) }
 {
-    match fault {
-        LocalFault::AbortedRead { .. } => find_at_read(alloc, history),
-        LocalFault::IntermediateRead { .. } => find_at_read(alloc, history),
-        LocalFault::Dangling { .. } => Ok(find_nothing()),
-        LocalFault::OwnWriteMissed { .. } => Ok(find_nothing()),
-        LocalFault::LaterThanOwn { .. } => Ok(find_nothing()),
-        LocalFault::RowsDiffer { .. } => Ok(find_nothing()),
-        LocalFault::WritesDiffer { .. } => Ok(find_nothing()),
-        LocalFault::InstallOrder { .. } => Ok(find_nothing()),
-        LocalFault::EndDiffers { .. } => Ok(find_nothing()),
+    if fault.is_uncommitted_read() {
+        find_at_read(alloc, history)
+    } else {
+        Ok(find_nothing())
     }
 }
 
 /// What is found in a history whose rows are installed by their committed writers and in which somebody reads what was
-/// never committed. NoMemory where a growth was refused.
+/// never committed. NoMemory where an allocation was refused.
 fn find_at_read(alloc: Global, history: &History) -> Result<Findings, NoMemory>
     requires installed { (row : Row) → ¬ Stands history.now (fault.InstallOrder row) }
     requires read { ¬ (MeetsPl2 history.now) }
@@ -204,17 +197,17 @@ fn find_at_read(alloc: Global, history: &History) -> Result<Findings, NoMemory>
     })
 }
 
-/// The closed walk of write-dependencies, by the rows' lists of installers alone. NoMemory where a growth was refused.
+/// The cycle of write-dependencies, by the rows' lists of installers alone. NoMemory where an allocation was refused.
 fn find_listed_circle(alloc: Global, history: &History) -> Result<Finding, NoMemory>
     requires { (row : Row) → ¬ Stands history.now (fault.InstallOrder row) }
     ensures found { IfOk result (FindsWalk (IsG0 history.now)) }
-    ensures due { IfOk result (FindsDue (IsBackWalk history.now allowed.Writes)) }
+    ensures due { IfOk result (FindsDue (IsBackWalk history.now is_write)) }
 {
     let nodes = Nodes::of(alloc, history)?;
     let edges = Dependencies::of_writes(alloc, history)?;
     let table = edges.table(alloc, nodes.numbers())?;
-    let writes = graph_of(alloc, &nodes, &table, Allowed::Writes)?;
-    find_circle(alloc, &nodes, &edges, Allowed::Writes, &writes)
+    let writes = graph_of(alloc, &nodes, &table, Kinds::WRITES)?;
+    find_circle(alloc, &nodes, &edges, Kinds::WRITES, &writes)
 }
 
 /// What is found where nothing is judged.

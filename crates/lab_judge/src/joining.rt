@@ -1,13 +1,12 @@
 //! Arrows of a graph for dependencies.
 
-ghost use Rattle.std.specs.Prelude.{◌≡◌, ◌<◌, ◌≤◌, ◌||◌, ℕ, length, IfOk};
+ghost use Rattle.std.specs.Prelude.{◌≡◌, ◌<◌, ◌≤◌, ◌||◌, ℕ, Bool, length, IfOk};
 ghost use Rattle.std.specs.List.{All, list_any};
 ghost use Rattle.std.specs.List.Sorted.{IsStrictlyIncreasing};
 ghost use Rattle.lab_order.specs.Arrows.{nodes_of, has_arrow};
-ghost use Rattle.lab_deps.specs.KindBits.{has_bit};
+ghost use Rattle.lab_deps.specs.KindSets.{among};
 ghost use Rattle.lab_judge.specs.Graphs.{HasEnds, IsGraphOf};
 ghost use Rattle.lab_judge.specs.Joining.{tail, head, nodes_for, lands, landing, any_below};
-ghost use Rattle.lab_judge.specs.declared.allowed.Allowed.TheVariants as allowed;
 
 use lab_deps::{KindTable, Kinds};
 use lab_order::{Graph, NoMemory};
@@ -50,8 +49,8 @@ impl Joining {
     }
 }
 
-/// Adds an arrow for each two transactions of which one depends on the other in one of these ways. NoMemory where a
-/// growth was refused.
+/// Adds an arrow for each two transactions of which one depends on the other in one of these ways. NoMemory where an
+/// allocation was refused.
 pub(crate) fn add_arrows(
     alloc: Global,
     graph: &mut Graph,
@@ -65,7 +64,7 @@ pub(crate) fn add_arrows(
     requires size { nodes_of graph.old ≡ nodes_for joining (length table.now.numbers) }
     ensures nodes { nodes_of graph.new ≡ nodes_of graph.old }
     ensures arrows { IfOk result (λ _. (a b : ℕ) → has_arrow graph.new a b
-        ≡ (list_any (lands (has_bit kinds.bits) joining table.now.numbers a b) table.now.edges || has_arrow graph.old a b)) }
+        ≡ (list_any (lands (among kinds) joining table.now.numbers a b) table.now.edges || has_arrow graph.old a b)) }
 {
     for from in 0..table.len() as u32 {
         add_arrows_from(alloc, graph, table, kinds, joining, from)?;
@@ -73,7 +72,7 @@ pub(crate) fn add_arrows(
     Ok(())
 }
 
-/// Adds the arrows of what depends on the transaction of a node. NoMemory where a growth was refused.
+/// Adds the arrows of what depends on the transaction of a node. NoMemory where an allocation was refused.
 fn add_arrows_from(
     alloc: Global,
     graph: &mut Graph,
@@ -89,10 +88,51 @@ fn add_arrows_from(
     requires from { from < length table.now.numbers }
     ensures nodes { nodes_of graph.new ≡ nodes_of graph.old }
     ensures arrows { IfOk result (λ _. (a b : ℕ) → has_arrow graph.new a b
-        ≡ (any_below (landing (has_bit kinds.bits) joining table.now.numbers table.now.edges a b from) (length table.now.numbers) || has_arrow graph.old a b)) }
+        ≡ (any_below (landing (among kinds) joining table.now.numbers table.now.edges a b from) (length table.now.numbers) || has_arrow graph.old a b)) }
+{
+    let count = table.len();
+    let mut first = 0;
+    for _ in 0..count / 64 + 1 {
+        let beyond = if count - first < 64 {
+            count
+        } else {
+            first + 64
+        };
+        add_arrows_between(alloc, graph, table, kinds, joining, from, first, beyond)?;
+        first = beyond;
+    }
+    Ok(())
+}
+
+/// The same of what is at the places from one on and before another. Where nothing is found to depend there, it is passed
+/// over at once. NoMemory where an allocation was refused.
+fn add_arrows_between(
+    alloc: Global,
+    graph: &mut Graph,
+    table: &KindTable<'_, '_>,
+    kinds: Kinds,
+    joining: Joining,
+    from: u32,
+    first: usize,
+    beyond: usize,
+) -> Result<(), NoMemory>
+    requires rising { IsStrictlyIncreasing table.now.numbers }
+    requires few { length table.now.numbers ≤ 1000001 }
+    requires ends { All (HasEnds table.now.numbers) table.now.edges }
+    requires size { nodes_of graph.old ≡ nodes_for joining (length table.now.numbers) }
+    requires from { from < length table.now.numbers }
+    requires order { first ≤ beyond }
+    requires beyond { beyond ≤ length table.now.numbers }
+    ensures nodes { nodes_of graph.new ≡ nodes_of graph.old }
+    ensures arrows { IfOk result (λ _. (a b : ℕ) (rest : Bool)
+        → has_arrow graph.old a b ≡ (any_below (landing (among kinds) joining table.now.numbers table.now.edges a b from) first || rest)
+        → has_arrow graph.new a b ≡ (any_below (landing (among kinds) joining table.now.numbers table.now.edges a b from) beyond || rest)) }
 {
     let row = table.row(from);
-    for to in 0..row.len() {
+    if row.is_bare(first, beyond) {
+        return Ok(());
+    }
+    for to in first..beyond {
         let between = row.kinds(to);
         if between.meets(kinds) {
             graph.add(alloc, joining.tail(from), joining.head(to as u32))?;
@@ -113,11 +153,11 @@ pub(crate) fn add_arrows_among(
     requires rising { IsStrictlyIncreasing table.now.numbers }
     requires few { length table.now.numbers ≤ 1000001 }
     requires ends { All (HasEnds table.now.numbers) table.now.edges }
-    requires all { IsGraphOf allowed.All table.now.numbers table.now.edges all.now }
+    requires all { IsGraphOf (among Kinds.ALL) table.now.numbers table.now.edges all.now }
     requires size { nodes_of graph.old ≡ nodes_for joining (length table.now.numbers) }
     ensures nodes { nodes_of graph.new ≡ nodes_of graph.old }
     ensures arrows { IfOk result (λ _. (a b : ℕ) → has_arrow graph.new a b
-        ≡ (list_any (lands (has_bit kinds.bits) joining table.now.numbers a b) table.now.edges || has_arrow graph.old a b)) }
+        ≡ (list_any (lands (among kinds) joining table.now.numbers a b) table.now.edges || has_arrow graph.old a b)) }
 {
     for to in 0..table.len() as u32 {
         add_arrows_to(alloc, graph, table, all, kinds, joining, to)?;
@@ -125,7 +165,7 @@ pub(crate) fn add_arrows_among(
     Ok(())
 }
 
-/// Adds the arrows of those on which the transaction of a node depends. NoMemory where a growth was refused.
+/// Adds the arrows of those on which the transaction of a node depends. NoMemory where an allocation was refused.
 fn add_arrows_to(
     alloc: Global,
     graph: &mut Graph,
@@ -138,12 +178,12 @@ fn add_arrows_to(
     requires rising { IsStrictlyIncreasing table.now.numbers }
     requires few { length table.now.numbers ≤ 1000001 }
     requires ends { All (HasEnds table.now.numbers) table.now.edges }
-    requires all { IsGraphOf allowed.All table.now.numbers table.now.edges all.now }
+    requires all { IsGraphOf (among Kinds.ALL) table.now.numbers table.now.edges all.now }
     requires size { nodes_of graph.old ≡ nodes_for joining (length table.now.numbers) }
     requires to { to < length table.now.numbers }
     ensures nodes { nodes_of graph.new ≡ nodes_of graph.old }
     ensures arrows { IfOk result (λ _. (a b : ℕ) → has_arrow graph.new a b
-        ≡ (any_below (λ from. landing (has_bit kinds.bits) joining table.now.numbers table.now.edges a b from to) (length table.now.numbers) || has_arrow graph.old a b)) }
+        ≡ (any_below (λ from. landing (among kinds) joining table.now.numbers table.now.edges a b from to) (length table.now.numbers) || has_arrow graph.old a b)) }
 {
     for from in all.before(to) {
         add_arrow(alloc, graph, table, kinds, joining, *from, to)?;
@@ -151,8 +191,8 @@ fn add_arrows_to(
     Ok(())
 }
 
-/// Adds the arrow of two transactions, if the second depends on the first in one of these ways. NoMemory where a growth
-/// was refused.
+/// Adds the arrow of two transactions, if the second depends on the first in one of these ways. NoMemory where an
+/// allocation was refused.
 fn add_arrow(
     alloc: Global,
     graph: &mut Graph,
@@ -170,7 +210,7 @@ fn add_arrow(
     requires to { to < length table.now.numbers }
     ensures nodes { nodes_of graph.new ≡ nodes_of graph.old }
     ensures arrows { IfOk result (λ _. (a b : ℕ) → has_arrow graph.new a b
-        ≡ (landing (has_bit kinds.bits) joining table.now.numbers table.now.edges a b from to || has_arrow graph.old a b)) }
+        ≡ (landing (among kinds) joining table.now.numbers table.now.edges a b from to || has_arrow graph.old a b)) }
 {
     let row = table.row(from);
     let between = row.kinds(to as usize);

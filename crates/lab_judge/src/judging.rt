@@ -12,11 +12,11 @@ ghost use Rattle.lab_history.specs.Limits.{max_file_bytes};
 ghost use Rattle.lab_history.specs.declared.fault.Limit.TheVariants.{Bytes};
 ghost use Rattle.lab_deps.specs.Edges.{IsEdge};
 ghost use Rattle.lab_deps.specs.FaultOrder.{IsFirst};
+ghost use Rattle.lab_deps.specs.KindSets.{among};
 ghost use Rattle.lab_deps.specs.Refusal.{IsAnswer};
 ghost use Rattle.lab_deps.specs.Soundness.{IsSound};
 ghost use Rattle.lab_deps.specs.declared.edge.Edge.{Edge as Spelled};
 ghost use Rattle.lab_judge.specs.Graphs.{IsGraphOf};
-ghost use Rattle.lab_judge.specs.declared.allowed.Allowed.TheVariants as allowed;
 ghost use Rattle.lab_judge.specs.LeastWalks.{HasDueWalk, FindsDueWalks};
 ghost use Rattle.lab_judge.specs.Phenomena.{IsClosedWalk, NoWalk};
 ghost use Rattle.lab_judge.specs.Runs.{HoldsEachOnce};
@@ -27,7 +27,6 @@ ghost use Rattle.lab_judge.specs.Judgement.{IsExactJudgement, IsSerialVerdict, I
 ghost use Rattle.lab_judge.specs.FileJudgement.{IsFileJudgement};
 ghost use Rattle.lab_judge.specs.Promises.{IsPromised};
 
-use crate::allowed::Allowed;
 use crate::findings::{Findings, find_at_fault, find_in_sound, find_none};
 use crate::graphs::graph_of;
 use crate::nodes::Nodes;
@@ -36,7 +35,7 @@ use crate::placing::snapshot_verdict;
 use crate::report::Report;
 use crate::serial::Serial;
 use crate::serializing::serial_verdict;
-use lab_deps::{Dependencies, KindTable, LocalFault, Sound, Unsound, check_local};
+use lab_deps::{Dependencies, KindTable, Kinds, LocalFault, Sound, Unsound, check_local};
 use lab_engine::Recording;
 use lab_history::{FileFault, History, read_history};
 use lab_order::{Graph, NoMemory};
@@ -49,8 +48,8 @@ use std::alloc::Global;
 /// what is recorded. A snapshot yes carries places of starts and commits at which each of them sees the committed state
 /// of its start and its own writes, and overlapping ones write different rows. A no carries the first fault of the history,
 /// by the order of [`check_local`], or, where it is sound, dependencies or arrows that lead back to where they begin; it
-/// comes nowhere else. NoMemory where a
-/// growth was refused.
+/// comes nowhere else. NoMemory where an
+/// allocation was refused.
 pub fn judge(alloc: Global, history: &History) -> Result<Report, NoMemory>
     ensures exact { IfOk result (IsExactJudgement history.now) }
     ensures serial { IfOk result (λ report. IsSerialVerdict history.now report.serial) }
@@ -94,7 +93,7 @@ pub fn judge_bytes(alloc: Global, bytes: &[u8]) -> Result<Report, FileFault>
 }
 
 /// Judges the history of a recording, which has what its level promises: at locking it is serializable, at committed it
-/// has no G0, G1a, G1b and G1c, at snapshot it is a snapshot run. NoMemory where a growth was refused.
+/// has no G0, G1a, G1b and G1c, at snapshot it is a snapshot run. NoMemory where an allocation was refused.
 pub fn judge_recording(alloc: Global, recording: &Recording) -> Result<Report, NoMemory>
     ensures exact { IfOk result (IsExactJudgement recording.now.history) }
     ensures serial { IfOk result (λ report. IsSerialVerdict recording.now.history report.serial) }
@@ -107,7 +106,7 @@ pub fn judge_recording(alloc: Global, recording: &Recording) -> Result<Report, N
     judge(alloc, recording.history())
 }
 
-/// The judgement of a sound history. NoMemory where a growth was refused.
+/// The judgement of a sound history. NoMemory where an allocation was refused.
 fn judge_sound(alloc: Global, history: &History, sound: &Sound) -> Result<Report, NoMemory>
     requires { IsSound history.now }
     ensures { IfOk result (IsExactJudgement history.now) }
@@ -115,7 +114,7 @@ fn judge_sound(alloc: Global, history: &History, sound: &Sound) -> Result<Report
     let nodes = Nodes::of(alloc, history)?;
     let edges = Dependencies::of(alloc, history, sound)?;
     let table = edges.table(alloc, nodes.numbers())?;
-    let all = graph_of(alloc, &nodes, &table, Allowed::All)?;
+    let all = graph_of(alloc, &nodes, &table, Kinds::ALL)?;
     let serial = serial_verdict(alloc, history, &nodes, &edges, &all)?;
     let snapshot = snapshot_verdict(alloc, history, &nodes, &table, &all)?;
     let found = find_beside(alloc, history, &nodes, &edges, &table, &all, &serial)?;
@@ -127,8 +126,8 @@ fn judge_sound(alloc: Global, history: &History, sound: &Sound) -> Result<Report
     })
 }
 
-/// What is found in a sound history with this serial verdict: nothing where it is a yes. NoMemory where a growth was
-/// refused.
+/// What is found in a sound history with this serial verdict: nothing where it is a yes. NoMemory where an allocation
+/// was refused.
 fn find_beside(
     alloc: Global,
     history: &History,
@@ -144,7 +143,7 @@ fn find_beside(
     requires edges { (e : Spelled) → Contains edges.now e ↔ IsEdge history.now e }
     requires numbers { table.now.numbers ≡ nodes.now }
     requires table { table.now.edges ≡ edges.now }
-    requires all { IsGraphOf allowed.All nodes.now edges.now all.now }
+    requires all { IsGraphOf (among Kinds.ALL) nodes.now edges.now all.now }
     requires rests { RestsOnOrder history.now serial.now }
     ensures walks { IfOk result (λ found. FindsDueWalks history.now found.phenomena) }
     ensures found { IfOk result (λ found. JudgesAll history.now found.phenomena found.level) }
@@ -155,7 +154,8 @@ fn find_beside(
     }
 }
 
-/// The judgement of a history that isn't sound, where this fault was answered. NoMemory where a growth was refused.
+/// The judgement of a history that isn't sound, where this fault was answered. NoMemory where an allocation was
+/// refused.
 fn judge_unsound(alloc: Global, history: &History, fault: &LocalFault) -> Result<Report, NoMemory>
     requires answer { IsAnswer history.now fault.now }
     requires first { IsFirst history.now fault.now }

@@ -23,7 +23,7 @@ fn judged(alloc: Global, bytes: &[u8]) -> Result<Result<Report, FileFault>, NoMe
 }
 
 /// Judges the history of each of these files' bytes: as many answers as files, in the order of the files, each a
-/// judgement or a true refusal of its file, whatever the number of workers. NoMemory where a growth was refused.
+/// judgement or a true refusal of its file, whatever the number of workers. NoMemory where an allocation was refused.
 ///
 /// It starts threads, as many as there are processors, and waits for them.
 pub fn judge_all<R: Threads + Sync>(

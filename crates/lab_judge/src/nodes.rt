@@ -33,7 +33,7 @@ impl Model for Nodes {
 }
 
 impl Nodes {
-    /// The committed transactions of a history. NoMemory where a growth was refused.
+    /// The committed transactions of a history. NoMemory where an allocation was refused.
     pub(crate) fn of(alloc: Global, history: &History) -> Result<Nodes, NoMemory>
         ensures once { IfOk result (HoldsEachOnce history.now) }
         ensures rising { IfOk result IsStrictlyIncreasing }
@@ -97,7 +97,7 @@ impl Nodes {
     }
 }
 
-/// The numbers of the committed transactions, in the order of the file. NoMemory where a growth was refused.
+/// The numbers of the committed transactions, in the order of the file. NoMemory where an allocation was refused.
 fn committed(alloc: Global, history: &History) -> Result<Vec<TxnNo>, NoMemory>
     ensures { IfOk result (λ numbers. numbers.items ≡ map (λ t. t.no) (filter (λ t. has_committed (outcome_of history.now t.no)) history.now.txns)) }
 {

@@ -1,14 +1,14 @@
 //! The parts of a report as texts, each with the space before it. Each function appends; after NoMemory, part of what
 //! was to be appended may stand there.
 
-ghost use Rattle.std.specs.Prelude.{◌≡◌, ◌++◌, flat_map, OnOk};
+ghost use Rattle.std.specs.Prelude.{◌≡◌, ◌++◌, codes, flat_map, OnOk};
 ghost use Rattle.std.specs.Fmt.{decimal};
 ghost use Rattle.lab_judge.specs.Runs.{span_of, spans_of};
 ghost use Rattle.lab_judge.specs.ReportText.{circle_text, fault_text, kind_name, place_text, point_text, row_text, span_text, step_text, txn_text, walk_text};
 
 use crate::places::Point;
 use itoa::Buffer;
-use lab_deps::{Edge, Kind, LocalFault};
+use lab_deps::{Edge, FaultParts, Kind, LocalFault};
 use lab_script::put_row_name;
 use lab_table::{NoMemory, RowName, TxnNo};
 
@@ -42,52 +42,28 @@ pub fn put_place(out: &mut Vec<u8>, txn: TxnNo, op: u32, row: RowName) -> Result
     put_row(out, row)
 }
 
-fn put_fault_at(
-    out: &mut Vec<u8>,
-    name: &[u8],
-    txn: TxnNo,
-    op: u32,
-    row: RowName,
-) -> Result<(), NoMemory>
-    ensures { OnOk result (out.new.items ≡ out.old.items ++ (name.now ++ place_text txn op row)) }
+/// Appends the code and the name of a kind of fault.
+fn put_fault_kind(out: &mut Vec<u8>, code: &str, name: &str) -> Result<(), NoMemory>
+    ensures { OnOk result (out.new.items ≡ out.old.items ++ (code.now ++ codes " " ++ name.now)) }
 {
-    out.extend_from_slice(name)?;
-    put_place(out, txn, op, row)
-}
-
-fn put_fault_of_row(out: &mut Vec<u8>, name: &[u8], row: RowName) -> Result<(), NoMemory>
-    ensures { OnOk result (out.new.items ≡ out.old.items ++ (name.now ++ row_text row)) }
-{
-    out.extend_from_slice(name)?;
-    put_row(out, row)
+    out.extend_from_slice(code.as_bytes())?;
+    out.extend_from_slice(b" ")?;
+    out.extend_from_slice(name.as_bytes())
 }
 
 /// Appends what is wrong with a history, without a space before it.
 pub fn put_fault(out: &mut Vec<u8>, fault: LocalFault) -> Result<(), NoMemory>
     ensures { OnOk result (out.new.items ≡ out.old.items ++ fault_text fault) }
 {
-    match fault {
-        LocalFault::Dangling { txn, op, row } => put_fault_at(out, b"F1 Dangling", txn, op, row),
-        LocalFault::AbortedRead { txn, op, row } => {
-            put_fault_at(out, b"F2 AbortedRead", txn, op, row)
+    match fault.parts() {
+        FaultParts::Operation { kind, txn, op, row } => {
+            put_fault_kind(out, kind.code(), kind.name())?;
+            put_place(out, txn, op, row)
         }
-        LocalFault::IntermediateRead { txn, op, row } => {
-            put_fault_at(out, b"F3 IntermediateRead", txn, op, row)
+        FaultParts::Row { kind, row } => {
+            put_fault_kind(out, kind.code(), kind.name())?;
+            put_row(out, row)
         }
-        LocalFault::OwnWriteMissed { txn, op, row } => {
-            put_fault_at(out, b"F4 OwnWriteMissed", txn, op, row)
-        }
-        LocalFault::LaterThanOwn { txn, op, row } => {
-            put_fault_at(out, b"F5 LaterThanOwn", txn, op, row)
-        }
-        LocalFault::RowsDiffer { txn, op, row } => {
-            put_fault_at(out, b"F6 RowsDiffer", txn, op, row)
-        }
-        LocalFault::WritesDiffer { txn, op, row } => {
-            put_fault_at(out, b"F7 WritesDiffer", txn, op, row)
-        }
-        LocalFault::InstallOrder { row } => put_fault_of_row(out, b"F8 InstallOrder", row),
-        LocalFault::EndDiffers { row } => put_fault_of_row(out, b"F9 EndDiffers", row),
     }
 }
 
@@ -189,7 +165,7 @@ fn put_points(out: &mut Vec<u8>, points: &[Point]) -> Result<(), NoMemory>
     Ok(())
 }
 
-/// Appends a circle.
+/// Appends a cycle.
 pub fn put_circle(out: &mut Vec<u8>, circle: &[Point]) -> Result<(), NoMemory>
     ensures { OnOk result (out.new.items ≡ out.old.items ++ circle_text circle.now) }
 {

@@ -8,19 +8,18 @@ ghost use Rattle.std.specs.Prelude.{◌≡◌, ◌≤◌, ◌*◌, ℕ, IfOk};
 ghost use Rattle.std.specs.List.{All};
 ghost use Rattle.std.specs.List.Sorted.{IsStrictlyIncreasing};
 ghost use Rattle.lab_order.specs.Arrows.{nodes_of, has_arrow};
+ghost use Rattle.lab_deps.specs.KindSets.{among};
 ghost use Rattle.lab_judge.specs.Graphs.{HasEnds, IsGraphOf};
-ghost use Rattle.lab_judge.specs.declared.allowed.Allowed.TheVariants as allowed;
 ghost use Rattle.lab_judge.specs.PlaceGraphs.{spans, IsPlaceGraph};
 
-use crate::allowed::Allowed;
-use crate::findings::Opening;
 use crate::joining::{Joining, add_arrows_among};
 use crate::nodes::Nodes;
-use lab_deps::KindTable;
+use lab_deps::{KindTable, Kinds};
 use lab_order::{Graph, NoMemory};
 use std::alloc::Global;
 
-/// The graph of the starts and commits of these transactions, by the graph of all dependencies. NoMemory where a growth was refused.
+/// The graph of the starts and commits of these transactions, by the graph of all dependencies. NoMemory where an
+/// allocation was refused.
 pub(crate) fn place_graph(
     alloc: Global,
     nodes: &Nodes,
@@ -30,19 +29,19 @@ pub(crate) fn place_graph(
     requires numbers { table.now.numbers ≡ nodes.now }
     requires rising { IsStrictlyIncreasing nodes.now }
     requires ends { All (HasEnds nodes.now) table.now.edges }
-    requires all { IsGraphOf allowed.All nodes.now table.now.edges all.now }
+    requires all { IsGraphOf (among Kinds.ALL) nodes.now table.now.edges all.now }
     ensures { IfOk result (IsPlaceGraph nodes.now table.now.edges) }
 {
-    let flow = Allowed::Flow.kinds();
-    let anti = Opening::Anti.kinds();
+    let flow = Kinds::FLOW;
+    let anti = Kinds::ANTI;
     let mut graph = spans_graph(alloc, nodes.len())?;
     add_arrows_among(alloc, &mut graph, table, all, flow, Joining::CommitToStart)?;
     add_arrows_among(alloc, &mut graph, table, all, anti, Joining::StartToCommit)?;
     Ok(graph)
 }
 
-/// The graph with an arrow from the start to the commit of each of so many transactions, and no other. NoMemory where a
-/// growth was refused.
+/// The graph with an arrow from the start to the commit of each of so many transactions, and no other. NoMemory where an
+/// allocation was refused.
 fn spans_graph(alloc: Global, count: u32) -> Result<Graph, NoMemory>
     requires { count ≤ 1000001 }
     ensures size { IfOk result (λ graph. nodes_of graph ≡ 2 * count) }

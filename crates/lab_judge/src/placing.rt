@@ -5,10 +5,11 @@ ghost use Rattle.std.specs.List.{All, count_by};
 ghost use Rattle.std.specs.List.Sorted.{IsStrictlyIncreasing};
 ghost use Rattle.lab_order.specs.Order.{position};
 ghost use Rattle.lab_deps.specs.Edges.{IsEdge};
+ghost use Rattle.lab_deps.specs.KindSets.{among};
 ghost use Rattle.lab_deps.specs.Soundness.{IsSound};
 ghost use Rattle.lab_deps.specs.declared.edge.Edge.{Edge as Spelled};
+ghost use Rattle.lab_deps.specs.declared.kinds.TheConstants.Kinds.{ALL};
 ghost use Rattle.lab_judge.specs.Graphs.{IsGraphOf};
-ghost use Rattle.lab_judge.specs.declared.allowed.Allowed.TheVariants as allowed;
 ghost use Rattle.lab_judge.specs.Runs.{HoldsEachOnce, spans_of};
 ghost use Rattle.lab_judge.specs.Judgement.{IsSnapshotVerdict, RestsOnPlaces};
 ghost use Rattle.lab_judge.specs.BackPoints.{HasBackCircle};
@@ -24,9 +25,10 @@ use lab_order::{Graph, NoMemory, Ordered, order};
 use lab_table::TxnNo;
 use std::alloc::Global;
 
-/// The snapshot verdict on a sound history with these committed transactions, these dependencies and the graph of them all: by rising number,
-/// the places of their starts and commits in the least order along which every arrow points forward, or the circle of
-/// arrows on the way back from the lowest that no order can place. NoMemory where a growth was refused.
+/// The snapshot verdict on a sound history with these committed transactions, these dependencies and the graph of them
+/// all: by rising number, the places of their starts and commits in the least order along which every arrow points
+/// forward, or the cycle of arrows on the way back from the lowest that no order can place. NoMemory where an allocation
+/// was refused.
 pub(crate) fn snapshot_verdict(
     alloc: Global,
     _history: &History,
@@ -39,7 +41,7 @@ pub(crate) fn snapshot_verdict(
     requires rising { IsStrictlyIncreasing nodes.now }
     requires numbers { table.now.numbers ≡ nodes.now }
     requires exact { (e : Spelled) → Contains table.now.edges e ↔ IsEdge _history.now e }
-    requires all { IsGraphOf allowed.All nodes.now table.now.edges all.now }
+    requires all { IsGraphOf (among ALL) nodes.now table.now.edges all.now }
     ensures verdict { IfOk result (IsSnapshotVerdict _history.now) }
     ensures rests { IfOk result (RestsOnPlaces _history.now) }
     ensures places { IfOk result (IsLeastPlacing _history.now) }
@@ -59,7 +61,7 @@ pub(crate) fn snapshot_verdict(
     }
 }
 
-/// The place of each node in this order of the nodes below a number, counted from 0. NoMemory where a growth was
+/// The place of each node in this order of the nodes below a number, counted from 0. NoMemory where an allocation was
 /// refused.
 fn places_in(alloc: Global, count: u32, order: &[u32]) -> Result<Vec<u32>, NoMemory>
     requires within { All (λ node. node < count) order.now }
@@ -75,8 +77,8 @@ fn places_in(alloc: Global, count: u32, order: &[u32]) -> Result<Vec<u32>, NoMem
     Ok(places)
 }
 
-/// The transactions by rising number, with the places that their starts and commits have. NoMemory where a growth was
-/// refused.
+/// The transactions by rising number, with the places that their starts and commits have. NoMemory where an allocation
+/// was refused.
 fn spans_in(
     alloc: Global,
     nodes: &Nodes,
@@ -93,7 +95,7 @@ fn spans_in(
     Ok(spans)
 }
 
-/// The starts and commits at these nodes, in the same order. NoMemory where a growth was refused.
+/// The starts and commits at these nodes, in the same order. NoMemory where an allocation was refused.
 fn points_of(alloc: Global, nodes: &Nodes, circle: &[u32]) -> Result<Vec<Point>, NoMemory>
     requires { All (λ node. node < 2 * length nodes.now) circle.now }
     ensures { IfOk result (λ points. points.items ≡ map (point_at nodes.now) circle.now) }

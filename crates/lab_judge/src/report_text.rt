@@ -11,7 +11,7 @@ use lab_table::NoMemory;
 use std::alloc::Global;
 
 /// The ten lines of a report, from `serializable: ` to `level: `, each with its newline.
-/// NoMemory where a growth was refused.
+/// NoMemory where an allocation was refused.
 pub fn print_report(alloc: Global, report: &Report) -> Result<Vec<u8>, NoMemory>
     ensures { IfOk result (λ text. text.items ≡ report_text report.now) }
 {

@@ -4,6 +4,7 @@ ghost use Rattle.std.specs.Prelude.{◌≡◌, ◌↔◌, ◌<◌, length, map, 
 ghost use Rattle.std.specs.List.{All};
 ghost use Rattle.std.specs.List.Sorted.{IsStrictlyIncreasing};
 ghost use Rattle.lab_deps.specs.Edges.{IsEdge};
+ghost use Rattle.lab_deps.specs.KindSets.{among};
 ghost use Rattle.lab_deps.specs.Soundness.{IsSound};
 ghost use Rattle.lab_deps.specs.declared.edge.Edge.{Edge as Spelled};
 ghost use Rattle.lab_judge.specs.Runs.{HoldsEachOnce};
@@ -11,21 +12,19 @@ ghost use Rattle.lab_judge.specs.Judgement.{IsSerialVerdict, RestsOnOrder};
 ghost use Rattle.lab_judge.specs.LeastWalks.{HasDueWalk};
 ghost use Rattle.lab_judge.specs.Verdicts.{IsLeastOrder};
 ghost use Rattle.lab_judge.specs.Graphs.{IsGraphOf};
-ghost use Rattle.lab_judge.specs.declared.allowed.Allowed.TheVariants as allowed;
 
-use crate::allowed::Allowed;
 use crate::nodes::Nodes;
 use crate::serial::{Order, Serial};
 use crate::walks::walk_round;
-use lab_deps::Dependencies;
+use lab_deps::{Dependencies, Kinds};
 use lab_history::History;
 use lab_order::{Graph, NoMemory, Ordered, order};
 use lab_table::TxnNo;
 use std::alloc::Global;
 
 /// The serial verdict on a sound history with these committed transactions, these dependencies and the graph of them all:
-/// the least order of the transactions along which every dependency points forward, or a closed walk. NoMemory where a
-/// growth was refused.
+/// the least order of the transactions along which every dependency points forward, or a cycle. NoMemory where an
+/// allocation was refused.
 pub(crate) fn serial_verdict(
     alloc: Global,
     _history: &History,
@@ -37,7 +36,7 @@ pub(crate) fn serial_verdict(
     requires nodes { HoldsEachOnce _history.now nodes.now }
     requires rising { IsStrictlyIncreasing nodes.now }
     requires exact { (e : Spelled) → Contains edges.now e ↔ IsEdge _history.now e }
-    requires graph { IsGraphOf allowed.All nodes.now edges.now graph.now }
+    requires graph { IsGraphOf (among Kinds.ALL) nodes.now edges.now graph.now }
     ensures verdict { IfOk result (IsSerialVerdict _history.now) }
     ensures rests { IfOk result (RestsOnOrder _history.now) }
     ensures least { IfOk result (IsLeastOrder _history.now) }
@@ -49,13 +48,13 @@ pub(crate) fn serial_verdict(
             Ok(Serial::Yes(Order::new(numbers)))
         }
         Ordered::Circle(circle) => {
-            let walk = walk_round(alloc, nodes, edges, Allowed::All, circle)?;
+            let walk = walk_round(alloc, nodes, edges, Kinds::ALL, circle)?;
             Ok(Serial::NoCycle(walk))
         }
     }
 }
 
-/// The transactions of these nodes, in the same order. NoMemory where a growth was refused.
+/// The transactions of these nodes, in the same order. NoMemory where an allocation was refused.
 fn numbers_of(alloc: Global, nodes: &Nodes, order: &[u32]) -> Result<Vec<TxnNo>, NoMemory>
     requires { All (λ node. node < length nodes.now) order.now }
     ensures { IfOk result (λ numbers. numbers.items ≡ map (λ node. slice_index nodes.now node) order.now) }

@@ -6,33 +6,33 @@ ghost use Rattle.lab_order.specs.Arrows.{Arrows};
 ghost use Rattle.lab_order.specs.Order.{IsCircle};
 ghost use Rattle.lab_history.specs.History.{History};
 ghost use Rattle.lab_deps.specs.Edges.{IsEdge};
+ghost use Rattle.lab_deps.specs.KindSets.{among};
 ghost use Rattle.lab_deps.specs.declared.edge.Edge.{Edge as Spelled};
 ghost use Rattle.lab_judge.specs.Graphs.{HasEnds, IsGraphOf, LeadsAlong, last_of, count_others};
 ghost use Rattle.lab_judge.specs.LeastWalks.{GoesAlong, GoesRound};
 ghost use Rattle.lab_judge.specs.Openings.{HasEdgesOf};
 ghost use Rattle.lab_judge.specs.Phenomena.{IsWalk, IsClosedWalk};
 
-use crate::allowed::Allowed;
 use crate::nodes::Nodes;
 use crate::serial::Walk;
-use lab_deps::{Dependencies, Edge};
+use lab_deps::{Dependencies, Edge, Kinds};
 use lab_order::NoMemory;
 use std::alloc::Global;
 
-/// The walk along a circle of nodes in the graph of the dependencies that are allowed: between two neighbours it takes
-/// the least of these, by kind and row. It begins with the first node. NoMemory where a growth was refused.
+/// The walk along a cycle of nodes in the graph of the dependencies that are allowed: between two neighbours it takes
+/// the least of these, by kind and row. It begins with the first node. NoMemory where an allocation was refused.
 pub(crate) fn walk_round(
     alloc: Global,
     nodes: &Nodes,
     edges: &Dependencies<'_>,
-    allowed: Allowed,
+    allowed: Kinds,
     circle: Vec<u32>,
 ) -> Result<Walk, NoMemory>
     requires ends { All (HasEnds nodes.now) edges.now }
-    requires circle { (graph : Arrows) × IsGraphOf allowed nodes.now edges.now graph × IsCircle graph circle.items }
+    requires circle { (graph : Arrows) × IsGraphOf (among allowed) nodes.now edges.now graph × IsCircle graph circle.items }
     ensures closed { IfOk result (λ walk. (h : History) → ((e : Spelled) → Contains edges.now e → IsEdge h e) → IsClosedWalk h walk) }
-    ensures allowed { IfOk result (λ walk. count_others allowed walk ≡ 0) }
-    ensures least { IfOk result (λ walk. (h : History) → HasEdgesOf h allowed edges.now → GoesRound h allowed nodes.now circle.items walk) }
+    ensures allowed { IfOk result (λ walk. count_others (among allowed) walk ≡ 0) }
+    ensures least { IfOk result (λ walk. (h : History) → HasEdgesOf h (among allowed) edges.now → GoesRound h (among allowed) nodes.now circle.items walk) }
 {
     let mut circle = circle;
     let first = circle[0];
@@ -41,28 +41,27 @@ pub(crate) fn walk_round(
 }
 
 /// The dependencies from a node along these, in the order of the way: between two neighbours the least that is allowed,
-/// by kind and row. NoMemory where a growth was refused.
+/// by kind and row. NoMemory where an allocation was refused.
 pub(crate) fn walk_along(
     alloc: Global,
     nodes: &Nodes,
     edges: &Dependencies<'_>,
-    allowed: Allowed,
+    allowed: Kinds,
     from: u32,
     way: &[u32],
 ) -> Result<Vec<Edge>, NoMemory>
     requires ends { All (HasEnds nodes.now) edges.now }
-    requires way { LeadsAlong allowed nodes.now edges.now from way.now }
+    requires way { LeadsAlong (among allowed) nodes.now edges.now from way.now }
     ensures walk { IfOk result (λ walk. (h : History) → ((e : Spelled) → Contains edges.now e → IsEdge h e)
         → IsWalk h (slice_index nodes.now from) walk.items (slice_index nodes.now (last_of from way.now))) }
-    ensures allowed { IfOk result (λ walk. count_others allowed walk.items ≡ 0) }
+    ensures allowed { IfOk result (λ walk. count_others (among allowed) walk.items ≡ 0) }
     ensures length { IfOk result (λ walk. length walk.items ≡ length way.now) }
-    ensures least { IfOk result (λ walk. (h : History) → HasEdgesOf h allowed edges.now → GoesAlong h allowed nodes.now from way.now walk.items) }
+    ensures least { IfOk result (λ walk. (h : History) → HasEdgesOf h (among allowed) edges.now → GoesAlong h (among allowed) nodes.now from way.now walk.items) }
 {
-    let kinds = allowed.kinds();
     let mut walk = Vec::with_capacity(alloc, way.len())?;
     let mut at = from;
     for next in way {
-        let Some(edge) = edges.least(nodes.number(at), nodes.number(*next), kinds)? else {
+        let Some(edge) = edges.least(nodes.number(at), nodes.number(*next), allowed)? else {
             unreachable!()
         };
         walk.push(edge)?;

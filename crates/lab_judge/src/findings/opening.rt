@@ -8,55 +8,32 @@ ghost use Rattle.lab_order.specs.Arrows.{nodes_of};
 ghost use Rattle.lab_order.specs.Order.{position};
 ghost use Rattle.lab_order.specs.Path.{Reaches};
 ghost use Rattle.lab_deps.specs.EdgeOrder.{edge_cmp};
-ghost use Rattle.lab_deps.specs.KindBits.{has_bit};
+ghost use Rattle.lab_deps.specs.KindSets.{among};
 ghost use Rattle.lab_deps.specs.declared.edge.Edge.{Edge as Spelled};
-ghost use Rattle.lab_deps.specs.declared.edge.Kind.{Kind as Way};
 ghost use Rattle.lab_judge.specs.Graphs.{HasEnds, ties};
-ghost use Rattle.lab_judge.specs.Openings.{opens, IsOpening};
+ghost use Rattle.lab_judge.specs.Openings.{IsOpening};
 
 use crate::nodes::Nodes;
-use lab_deps::{Dependencies, Edge, Kind, KindTable, Kinds};
+use lab_deps::{Dependencies, Edge, KindTable, Kinds};
 use lab_order::{NoMemory, Ways};
 
-/// The kinds that open a walk.
-#[derive(Clone, Copy, Debug, PartialEq, Eq)]
-pub(crate) enum Opening {
-    /// Any anti-dependency.
-    Anti,
-    /// An anti-dependency at a listed row.
-    ItemAnti,
-}
-
-impl Opening {
-    /// The kinds that open a walk.
-    pub(crate) fn kinds(self) -> Kinds
-        ensures { (kind : Way) → has_bit result.bits kind ≡ opens self kind }
-    {
-        let item = Kinds::none().and(Kind::ItemAnti);
-        match self {
-            Opening::Anti => item.and(Kind::PredicateAnti),
-            Opening::ItemAnti => item,
-        }
-    }
-}
-
 /// The first dependency, by its ends, kind and row, that opens a walk and from which a path of the graph leads back, or
-/// None. NoMemory where a growth was refused.
+/// None. NoMemory where an allocation was refused.
 pub(crate) fn first_opening(
     ways: &Ways<'_>,
     nodes: &Nodes,
     edges: &Dependencies<'_>,
     table: &KindTable<'_, '_>,
-    opening: Opening,
+    opening: Kinds,
 ) -> Result<Option<Edge>, NoMemory>
     requires nodes { nodes_of ways.now ≡ length nodes.now }
     requires rising { IsStrictlyIncreasing nodes.now }
     requires numbers { table.now.numbers ≡ nodes.now }
     requires table { table.now.edges ≡ edges.now }
     requires ends { All (HasEnds nodes.now) edges.now }
-    ensures found { IfOk result (λ found. IfSome found (λ e. Contains edges.now e × IsOpening opening ways.now nodes.now e)) }
-    ensures first { IfOk result (λ found. IfSome found (λ e. (other : Spelled) → Contains edges.now other → IsOpening opening ways.now nodes.now other → is_lt (edge_cmp other e) ≡ false)) }
-    ensures none { IfOk result (λ found. found ≡ None → All (λ e. ¬ IsOpening opening ways.now nodes.now e) edges.now) }
+    ensures found { IfOk result (λ found. IfSome found (λ e. Contains edges.now e × IsOpening (among opening) ways.now nodes.now e)) }
+    ensures first { IfOk result (λ found. IfSome found (λ e. (other : Spelled) → Contains edges.now other → IsOpening (among opening) ways.now nodes.now other → is_lt (edge_cmp other e) ≡ false)) }
+    ensures none { IfOk result (λ found. found ≡ None → All (λ e. ¬ IsOpening (among opening) ways.now nodes.now e) edges.now) }
 {
     for from in 0..nodes.len() {
         if let Some(edge) = first_from(ways, nodes, edges, table, opening, from)? {
@@ -66,13 +43,13 @@ pub(crate) fn first_opening(
     Ok(None)
 }
 
-/// The first of those from the transaction of a node, or None. NoMemory where a growth was refused.
+/// The first of those from the transaction of a node, or None. NoMemory where an allocation was refused.
 fn first_from(
     ways: &Ways<'_>,
     nodes: &Nodes,
     edges: &Dependencies<'_>,
     table: &KindTable<'_, '_>,
-    opening: Opening,
+    opening: Kinds,
     from: u32,
 ) -> Result<Option<Edge>, NoMemory>
     requires nodes { nodes_of ways.now ≡ length nodes.now }
@@ -82,16 +59,15 @@ fn first_from(
     requires ends { All (HasEnds nodes.now) edges.now }
     requires few { length nodes.now ≤ 1000001 }
     requires from { from < length nodes.now }
-    ensures found { IfOk result (λ found. IfSome found (λ e. Contains edges.now e × IsOpening opening ways.now nodes.now e)) }
+    ensures found { IfOk result (λ found. IfSome found (λ e. Contains edges.now e × IsOpening (among opening) ways.now nodes.now e)) }
     ensures from { IfOk result (λ found. IfSome found (λ e. position nodes.now e.from ≡ from)) }
-    ensures first { IfOk result (λ found. IfSome found (λ e. (other : Spelled) → Contains edges.now other → position nodes.now other.from ≡ from → IsOpening opening ways.now nodes.now other
+    ensures first { IfOk result (λ found. IfSome found (λ e. (other : Spelled) → Contains edges.now other → position nodes.now other.from ≡ from → IsOpening (among opening) ways.now nodes.now other
         → is_lt (edge_cmp other e) ≡ false)) }
-    ensures none { IfOk result (λ found. found ≡ None → (e : Spelled) → Contains edges.now e → position nodes.now e.from ≡ from → ¬ IsOpening opening ways.now nodes.now e) }
+    ensures none { IfOk result (λ found. found ≡ None → (e : Spelled) → Contains edges.now e → position nodes.now e.from ≡ from → ¬ IsOpening (among opening) ways.now nodes.now e) }
 {
-    let kinds = opening.kinds();
-    match first_leading(table, ways, kinds, from) {
+    match first_leading(table, ways, opening, from) {
         None => Ok(None),
-        Some(to) => edges.least(nodes.number(from), nodes.number(to), kinds),
+        Some(to) => edges.least(nodes.number(from), nodes.number(to), opening),
     }
 }
 
@@ -102,9 +78,9 @@ fn first_leading(table: &KindTable<'_, '_>, ways: &Ways<'_>, kinds: Kinds, from:
     requires ends { All (HasEnds table.now.numbers) table.now.edges }
     requires from { from < length table.now.numbers }
     requires nodes { nodes_of ways.now ≡ length table.now.numbers }
-    ensures found { IfSome result (λ to. (to < length table.now.numbers) × Reaches ways.now to from × (list_any (ties (has_bit kinds.bits) table.now.numbers from to) table.now.edges ≡ true)) }
-    ensures least { IfSome result (λ to. (k : ℕ) → k < to → Reaches ways.now k from → list_any (ties (has_bit kinds.bits) table.now.numbers from k) table.now.edges ≡ false) }
-    ensures none { result ≡ None → (to : ℕ) → to < length table.now.numbers → Reaches ways.now to from → list_any (ties (has_bit kinds.bits) table.now.numbers from to) table.now.edges ≡ false }
+    ensures found { IfSome result (λ to. (to < length table.now.numbers) × Reaches ways.now to from × (list_any (ties (among kinds) table.now.numbers from to) table.now.edges ≡ true)) }
+    ensures least { IfSome result (λ to. (k : ℕ) → k < to → Reaches ways.now k from → list_any (ties (among kinds) table.now.numbers from k) table.now.edges ≡ false) }
+    ensures none { result ≡ None → (to : ℕ) → to < length table.now.numbers → Reaches ways.now to from → list_any (ties (among kinds) table.now.numbers from to) table.now.edges ≡ false }
 {
     let row = table.row(from);
     for to in 0..row.len() {

@@ -1,8 +1,13 @@
-use Rattle.std.proofs.Common.{subst, ◌∙◌}
+use Rattle.std.proofs.Common.{sym, subst, ◌∙◌}
 use Rattle.std.specs.Prelude.{Contains}
 use Rattle.std.proofs.lemmas.Result.{IfOk-weaker}
 use Rattle.lab_judge.specs.Graphs.{IsGraphOf}
-use Rattle.lab_judge.specs.declared.allowed.Allowed.TheVariants as allowed
+use Rattle.lab_deps.specs.KindSets.{among}
+use Rattle.lab_deps.specs.declared.kinds.TheConstants.Kinds.{WRITES}
+use Rattle.lab_deps.proofs.NamedKinds.{writes_named}
+use Rattle.lab_judge.specs.Judgement.{FindsWalk}
+use Rattle.lab_judge.specs.LeastWalks.{IsBackWalk, FindsDue}
+use Rattle.lab_judge.specs.Openings.{HasEdgesOf, IsClosedOf}
 use Rattle.lab_judge.proofs.WalkKinds.{finds_g0, has_writes}
 use Rattle.lab_judge.proofs.findings.find_listed_circle.Goals as goal
 use Rattle.lab_judge.proofs.SerialVerdicts.{all_have_ends}
@@ -16,7 +21,7 @@ graph_of-requires-clause-ends c =
     (λ e there. ((c.in_ok-edges.ensures e).0 (subst (λ es. Contains es e) c.in_ok-table.ensures.edges there)).0)
 
 pub find_circle-requires-clause-graph : goal.find_circle-requires-clause-graph
-find_circle-requires-clause-graph c = subst (λ es. IsGraphOf allowed.Writes c.in_ok-nodes.nodes es c.in_ok-writes.writes) c.in_ok-table.ensures.edges c.in_ok-writes.ensures
+find_circle-requires-clause-graph c = subst (λ es. IsGraphOf (among WRITES) c.in_ok-nodes.nodes es c.in_ok-writes.writes) c.in_ok-table.ensures.edges c.in_ok-writes.ensures
 
 pub find_circle-requires-clause-ends : goal.find_circle-requires-clause-ends
 find_circle-requires-clause-ends c =
@@ -24,13 +29,17 @@ find_circle-requires-clause-ends c =
 
 pub returns-clause-found : goal.returns-clause-found
 returns-clause-found c =
+    let h = c.args.history.now in
+    let has = subst (λ kinds. HasEdgesOf h kinds c.in_ok-edges.edges) (sym writes_named) (has_writes h c.in_ok-edges.edges c.in_ok-edges.ensures) in
     IfOk-weaker c.find_circle.result _ _
-    (λ finding finds. finds_g0 c.args.history.now finding (finds c.args.history.now (has_writes c.args.history.now c.in_ok-edges.edges c.in_ok-edges.ensures)))
+    (λ finding finds. finds_g0 h finding (subst (λ kinds. FindsWalk (IsClosedOf h kinds) finding) writes_named (finds h has)))
     c.find_circle.ensures.found
 
 pub returns-clause-due : goal.returns-clause-due
 returns-clause-due c =
+    let h = c.args.history.now in
+    let has = subst (λ kinds. HasEdgesOf h kinds c.in_ok-edges.edges) (sym writes_named) (has_writes h c.in_ok-edges.edges c.in_ok-edges.ensures) in
     IfOk-weaker c.find_circle.result _ _
-    (λ finding due. due c.args.history.now (record { each_once = c.in_ok-nodes.ensures.once; rising = c.in_ok-nodes.ensures.rising })
-    (has_writes c.args.history.now c.in_ok-edges.edges c.in_ok-edges.ensures))
+    (λ finding due. subst (λ kinds. FindsDue (IsBackWalk h kinds) finding) writes_named
+    (due h (record { each_once = c.in_ok-nodes.ensures.once; rising = c.in_ok-nodes.ensures.rising }) has))
     c.find_circle.ensures.due

@@ -2,9 +2,9 @@ use Rattle.std.proofs.Common.{◌≡◌, ◌||◌, ℕ, length, sym, ap, subst, 
 use Rattle.std.specs.List.{All, list_any}
 use Rattle.std.specs.List.Sorted.{IsStrictlyIncreasing}
 use Rattle.lab_order.specs.Arrows.{has_arrow}
-use Rattle.lab_deps.specs.KindBits.{has_bit}
+use Rattle.lab_deps.specs.KindSets.{among}
 use Rattle.lab_judge.specs.Graphs.{HasEnds, IsGraphOf}
-use Rattle.lab_judge.specs.declared.allowed.Allowed.TheVariants.{All as Every}
+use Rattle.lab_deps.specs.declared.kinds.TheConstants.Kinds.{ALL}
 use Rattle.lab_judge.specs.Joining.{lands}
 use Rattle.lab_judge.specs.declared.joining.Joining.TheVariants.{Transactions}
 use Rattle.lab_judge.proofs.JoinedGraphs.{is_graph}
@@ -25,10 +25,10 @@ add_arrows_among-requires-clause-size c = c.in_ok-graph.ensures.nodes ∙ (c.len
 pub returns : goal.returns
 returns c =
     let es = c.args.table.now.edges in
-    is_graph c.args.allowed c.args.nodes.now es c.kinds.result.bits c.kinds.ensures c.in_ok-graph.graph c.add_arrows_among.new.graph
+    is_graph (among c.args.allowed) c.args.nodes.now es c.in_ok-graph.graph c.add_arrows_among.new.graph
     (c.in_ok-add_arrows_among.ensures.nodes ∙ (c.in_ok-graph.ensures.nodes ∙ c.len.ensures.count)) c.in_ok-graph.ensures.arrows
-    (subst (λ ns. (a b : ℕ) → has_arrow c.add_arrows_among.new.graph a b ≡ (list_any (lands (has_bit c.kinds.result.bits) Transactions ns a b) es || has_arrow c.in_ok-graph.graph a b))
+    (subst (λ ns. (a b : ℕ) → has_arrow c.add_arrows_among.new.graph a b ≡ (list_any (lands (among c.args.allowed) Transactions ns a b) es || has_arrow c.in_ok-graph.graph a b))
     c.requires.numbers c.in_ok-add_arrows_among.ensures.arrows)
 
 pub add_arrows_among-requires-clause-all : goal.add_arrows_among-requires-clause-all
-add_arrows_among-requires-clause-all c = subst (λ ns. IsGraphOf Every ns c.args.table.now.edges c.args.all.now) (sym c.requires.numbers) c.requires.all
+add_arrows_among-requires-clause-all c = subst (λ ns. IsGraphOf (among ALL) ns c.args.table.now.edges c.args.all.now) (sym c.requires.numbers) c.requires.all

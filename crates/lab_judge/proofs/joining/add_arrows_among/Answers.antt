@@ -1,13 +1,13 @@
 use Rattle.std.proofs.Common.{◌≡◌, ◌||◌, length, ap, ◌∙◌, arith}
 use Rattle.lab_order.specs.Arrows.{has_arrow}
-use Rattle.lab_deps.specs.KindBits.{has_bit}
+use Rattle.lab_deps.specs.KindSets.{among}
 use Rattle.lab_judge.specs.Joining.{landing, any_below}
 use Rattle.lab_judge.proofs.Landings.{landed_by_ends}
 use Rattle.lab_judge.proofs.joining.add_arrows_among.Goals as goal
 
 pub returns-clause-arrows : goal.returns-clause-arrows
 returns-clause-arrows c = λ a b.
-    let test = has_bit c.args.kinds.bits in
+    let test = among c.args.kinds in
     let nodes = c.args.table.now.numbers in
     let edges = c.args.table.now.edges in
     let all : c.loop-to.to ≡ length nodes = omega (arith, c.len-to-end.ensures, c.requires.few) in

@@ -1,9 +1,10 @@
 use Rattle.std.proofs.Common.{◌↔◌, sym, subst, ◌∙◌}
 use Rattle.std.specs.Prelude.{Contains}
 use Rattle.lab_deps.specs.Edges.{IsEdge}
+use Rattle.lab_deps.specs.KindSets.{among}
 use Rattle.lab_deps.specs.declared.edge.Edge.{Edge}
+use Rattle.lab_deps.specs.declared.kinds.TheConstants.Kinds.{ALL}
 use Rattle.lab_judge.specs.Graphs.{IsGraphOf}
-use Rattle.lab_judge.specs.declared.allowed.Allowed.TheVariants as allowed
 use Rattle.lab_judge.proofs.Reports.{of_sound}
 use Rattle.lab_judge.proofs.SerialVerdicts.{all_have_ends}
 use Rattle.lab_judge.proofs.judging.judge_sound.Goals as goal
@@ -17,7 +18,7 @@ graph_of-requires-clause-ends c =
     (λ e there. (c.in_ok-edges.ensures e).0 (subst (λ es. Contains es e) c.in_ok-table.ensures.edges there))
 
 pub serial_verdict-requires-clause-graph : goal.serial_verdict-requires-clause-graph
-serial_verdict-requires-clause-graph c = subst (λ es. IsGraphOf allowed.All c.in_ok-nodes.nodes es c.in_ok-all.all) c.in_ok-table.ensures.edges c.in_ok-all.ensures
+serial_verdict-requires-clause-graph c = subst (λ es. IsGraphOf (among ALL) c.in_ok-nodes.nodes es c.in_ok-all.all) c.in_ok-table.ensures.edges c.in_ok-all.ensures
 
 pub snapshot_verdict-requires-clause-numbers : goal.snapshot_verdict-requires-clause-numbers
 snapshot_verdict-requires-clause-numbers c = c.in_ok-table.ensures.numbers ∙ c.numbers.ensures
@@ -29,7 +30,7 @@ pub find_beside-requires-clause-numbers : goal.find_beside-requires-clause-numbe
 find_beside-requires-clause-numbers c = c.in_ok-table.ensures.numbers ∙ c.numbers.ensures
 
 pub find_beside-requires-clause-all : goal.find_beside-requires-clause-all
-find_beside-requires-clause-all c = subst (λ es. IsGraphOf allowed.All c.in_ok-nodes.nodes es c.in_ok-all.all) c.in_ok-table.ensures.edges c.in_ok-all.ensures
+find_beside-requires-clause-all c = subst (λ es. IsGraphOf (among ALL) c.in_ok-nodes.nodes es c.in_ok-all.all) c.in_ok-table.ensures.edges c.in_ok-all.ensures
 
 pub returns : goal.returns
 returns c =

@@ -2,9 +2,10 @@ use Rattle.std.proofs.Common.{◌≡◌, ◌*◌, ◌||◌, ℕ, length, sym, ap
 use Rattle.std.specs.List.{All, list_any}
 use Rattle.std.specs.List.Sorted.{IsStrictlyIncreasing}
 use Rattle.lab_order.specs.Arrows.{has_arrow}
-use Rattle.lab_deps.specs.KindBits.{has_bit}
+use Rattle.lab_deps.specs.KindSets.{among}
 use Rattle.lab_judge.specs.Graphs.{HasEnds, IsGraphOf}
-use Rattle.lab_judge.specs.declared.allowed.Allowed.TheVariants.{All as Every}
+use Rattle.lab_deps.specs.declared.kinds.TheConstants.Kinds.{ALL, FLOW, ANTI}
+use Rattle.lab_deps.proofs.NamedKinds.{flow_named, antis_named}
 use Rattle.lab_judge.specs.Joining.{lands}
 use Rattle.lab_judge.specs.PlaceGraphs.{spans}
 use Rattle.lab_judge.specs.declared.joining.Joining.TheVariants.{StartToCommit, CommitToStart}
@@ -37,19 +38,23 @@ add_arrows_among-requires-2-clause-size c =
     c.in_ok-add_arrows_among.ensures.nodes ∙ (c.in_ok-graph.ensures.size ∙ ap (λ k. 2 * k) (c.len.ensures.count ∙ ap length (sym c.requires.numbers)))
 
 pub add_arrows_among-requires-clause-all : goal.add_arrows_among-requires-clause-all
-add_arrows_among-requires-clause-all c = subst (λ ns. IsGraphOf Every ns c.args.table.now.edges c.args.all.now) (sym c.requires.numbers) c.requires.all
+add_arrows_among-requires-clause-all c = subst (λ ns. IsGraphOf (among ALL) ns c.args.table.now.edges c.args.all.now) (sym c.requires.numbers) c.requires.all
 
 pub add_arrows_among-requires-2-clause-all : goal.add_arrows_among-requires-2-clause-all
-add_arrows_among-requires-2-clause-all c = subst (λ ns. IsGraphOf Every ns c.args.table.now.edges c.args.all.now) (sym c.requires.numbers) c.requires.all
+add_arrows_among-requires-2-clause-all c = subst (λ ns. IsGraphOf (among ALL) ns c.args.table.now.edges c.args.all.now) (sym c.requires.numbers) c.requires.all
 
 pub returns : goal.returns
 returns c =
     let es = c.args.table.now.edges in
-    is_place_graph c.args.nodes.now es c.kinds-flow.result.bits c.kinds-anti.result.bits c.kinds-flow.ensures c.kinds-anti.ensures c.in_ok-graph.graph
-    c.add_arrows_among.new.graph c.add_arrows_among-2.new.graph
+    let ns = c.args.nodes.now in
+    let flow = c.add_arrows_among.new.graph in
+    let both = c.add_arrows_among-2.new.graph in
+    is_place_graph ns es c.in_ok-graph.graph flow both
     (c.in_ok-add_arrows_among-2.ensures.nodes ∙ (c.in_ok-add_arrows_among.ensures.nodes ∙ (c.in_ok-graph.ensures.size ∙ ap (λ k. 2 * k) c.len.ensures.count)))
     (λ a b. c.in_ok-graph.ensures.arrows a b ∙ ap (λ k. spans k a b) c.len.ensures.count)
-    (subst (λ ns. (a b : ℕ) → has_arrow c.add_arrows_among.new.graph a b ≡ (list_any (lands (has_bit c.kinds-flow.result.bits) CommitToStart ns a b) es || has_arrow c.in_ok-graph.graph a b))
-    c.requires.numbers c.in_ok-add_arrows_among.ensures.arrows)
-    (subst (λ ns. (a b : ℕ) → has_arrow c.add_arrows_among-2.new.graph a b ≡ (list_any (lands (has_bit c.kinds-anti.result.bits) StartToCommit ns a b) es || has_arrow c.add_arrows_among.new.graph a b))
-    c.requires.numbers c.in_ok-add_arrows_among-2.ensures.arrows)
+    (subst (λ kinds. (a b : ℕ) → has_arrow flow a b ≡ (list_any (lands kinds CommitToStart ns a b) es || has_arrow c.in_ok-graph.graph a b)) flow_named
+    (subst (λ ms. (a b : ℕ) → has_arrow flow a b ≡ (list_any (lands (among FLOW) CommitToStart ms a b) es || has_arrow c.in_ok-graph.graph a b)) c.requires.numbers
+    c.in_ok-add_arrows_among.ensures.arrows))
+    (subst (λ kinds. (a b : ℕ) → has_arrow both a b ≡ (list_any (lands kinds StartToCommit ns a b) es || has_arrow flow a b)) antis_named
+    (subst (λ ms. (a b : ℕ) → has_arrow both a b ≡ (list_any (lands (among ANTI) StartToCommit ms a b) es || has_arrow flow a b)) c.requires.numbers
+    c.in_ok-add_arrows_among-2.ensures.arrows))

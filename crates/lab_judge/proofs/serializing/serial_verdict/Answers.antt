@@ -1,7 +1,10 @@
 use Rattle.std.proofs.Common.{◌∙◌, ◌<◌, sym, ap, map, slice_index, subst, length}
 use Rattle.std.specs.List.{All}
 use Rattle.lab_order.specs.Order.{IsOrdered, IsAnswered}
-use Rattle.lab_judge.specs.declared.allowed.Allowed.TheVariants as allowed
+use Rattle.lab_deps.specs.KindSets.{among}
+use Rattle.lab_deps.specs.declared.kinds.TheConstants.Kinds.{ALL}
+use Rattle.lab_deps.proofs.NamedKinds.{all_named}
+use Rattle.lab_judge.specs.LeastWalks.{IsBackWalk}
 use Rattle.lab_judge.proofs.LeastOrders.{least_numbers}
 use Rattle.lab_judge.proofs.LeastWalks.{edge_graph}
 use Rattle.lab_judge.proofs.NodeOrders.{within}
@@ -45,13 +48,13 @@ returns-in_ok-numbers-in-Order-clause-least c = λ other each ahead.
 pub returns-in_ok-walk-in-Circle-clause-walk : goal.returns-in_ok-walk-in-Circle-clause-walk
 returns-in_ok-walk-in-Circle-clause-walk c =
     let h = c.args._history.now in
-    let has = has_all h c.args.edges.now c.requires.exact allowed.All in
-    record {
+    let has = has_all h c.args.edges.now c.requires.exact (among ALL) in
+    subst (λ kinds. IsBackWalk h kinds c.in_ok-walk-in-Circle.walk) all_named (record {
       txns = c.args.nodes.now;
       committed = record { each_once = c.requires.nodes; rising = c.requires.rising };
       graph = c.args.graph.now;
-      edges = edge_graph h allowed.All c.args.edges.now has c.args.nodes.now c.args.graph.now c.requires.graph;
+      edges = edge_graph h (among ALL) c.args.edges.now has c.args.nodes.now c.args.graph.now c.requires.graph;
       circle = c.in-Circle.circle.items;
       back = subst (IsAnswered c.args.graph.now) c.in-Circle.is c.in_ok-order.ensures.least;
       round = c.in_ok-walk-in-Circle.ensures.least h has;
-    }
+    })

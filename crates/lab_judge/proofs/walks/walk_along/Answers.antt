@@ -4,7 +4,7 @@ use Rattle.std.specs.Ordering.{is_lt}
 use Rattle.std.proofs.lemmas.Option.{slice_get_within, same_Some}
 use Rattle.std.proofs.lemmas.List.{length_push}
 use Rattle.lab_deps.specs.EdgeOrder.{edge_cmp}
-use Rattle.lab_deps.specs.KindBits.{has_bit}
+use Rattle.lab_deps.specs.KindSets.{among}
 use Rattle.lab_deps.specs.declared.edge.Edge.{Edge}
 use Rattle.lab_judge.proofs.Joined.{next_tie, step, last_step, one_more, read, no_others_more}
 use Rattle.lab_judge.proofs.LeastWalks.{least_listed, steps_on, gone_along}
@@ -12,19 +12,19 @@ use Rattle.lab_judge.proofs.walks.walk_along.Goals as goal
 
 pub number-requires : goal.number-requires
 number-requires c =
-    let leads = next_tie c.args.allowed c.args.nodes.now c.args.edges.now c.requires.ends c.loop-next.at c.loop-next.next-index c.args.way.now c.loop-next-test.true c.loop-next.invariant.rest in
+    let leads = next_tie (among c.args.allowed) c.args.nodes.now c.args.edges.now c.requires.ends c.loop-next.at c.loop-next.next-index c.args.way.now c.loop-next-test.true c.loop-next.invariant.rest in
     slice_get_within _ _ _ leads.from
 
 pub number-requires-in-loop-next : goal.number-requires-in-loop-next
 number-requires-in-loop-next c =
-    let leads = next_tie c.args.allowed c.args.nodes.now c.args.edges.now c.requires.ends c.loop-next.at c.loop-next.next-index c.args.way.now c.loop-next-test.true c.loop-next.invariant.rest in
+    let leads = next_tie (among c.args.allowed) c.args.nodes.now c.args.edges.now c.requires.ends c.loop-next.at c.loop-next.next-index c.args.way.now c.loop-next-test.true c.loop-next.invariant.rest in
     slice_get_within _ _ _ leads.to
 
 pub unreachable-requires : goal.unreachable-requires
 unreachable-requires c =
-    let leads = next_tie c.args.allowed c.args.nodes.now c.args.edges.now c.requires.ends c.loop-next.at c.loop-next.next-index c.args.way.now c.loop-next-test.true c.loop-next.invariant.rest in
+    let leads = next_tie (among c.args.allowed) c.args.nodes.now c.args.edges.now c.requires.ends c.loop-next.at c.loop-next.next-index c.args.way.now c.loop-next-test.true c.loop-next.invariant.rest in
     c.in_ok-edge.ensures.none c.in_default.is leads.edge leads.is_one (same_Some _ _ (sym leads.from ∙ c.number.ensures.number)) (same_Some _ _ (sym leads.to ∙ c.number-in-loop-next.ensures.number))
-    (c.kinds-kinds.ensures leads.edge.kind ∙ leads.kind)
+    leads.kind
 
 pub loop-next-preserved : goal.loop-next-preserved
 loop-next-preserved c =
@@ -32,25 +32,25 @@ loop-next-preserved c =
     let found : Contains c.args.edges.now edge = subst (λ o. IfSome o (Contains c.args.edges.now)) c.in-Some.is c.in_ok-edge.ensures.found in
     let from : edge.from ≡ c.number.result = subst (λ o. IfSome o (λ e. e.from ≡ c.number.result)) c.in-Some.is c.in_ok-edge.ensures.from in
     let to : edge.to ≡ c.number-in-loop-next.result = subst (λ o. IfSome o (λ e. e.to ≡ c.number-in-loop-next.result)) c.in-Some.is c.in_ok-edge.ensures.to in
-    let kind : has_bit c.kinds-kinds.result.bits edge.kind ≡ true
-    = subst (λ o. IfSome o (λ e. has_bit c.kinds-kinds.result.bits e.kind ≡ true)) c.in-Some.is c.in_ok-edge.ensures.kind in
+    let kind : among c.args.allowed edge.kind ≡ true
+    = subst (λ o. IfSome o (λ e. among c.args.allowed e.kind ≡ true)) c.in-Some.is c.in_ok-edge.ensures.kind in
     record {
       walk = λ h real.
           one_more h _ c.loop-next.walk.items c.push.new.self.items _ edge _ c.in_ok-push.ensures.items (c.loop-next.invariant.walk h real) (real edge found)
           (from ∙ sym (read c.args.nodes.now _ _ c.number.ensures.number)) (to ∙ sym (read c.args.nodes.now _ _ c.number-in-loop-next.ensures.number));
       others =
-          no_others_more c.args.allowed c.loop-next.walk.items c.push.new.self.items edge c.in_ok-push.ensures.items c.loop-next.invariant.others
-          (sym (c.kinds-kinds.ensures edge.kind) ∙ kind);
+          no_others_more (among c.args.allowed) c.loop-next.walk.items c.push.new.self.items edge c.in_ok-push.ensures.items c.loop-next.invariant.others
+          kind;
       size = ap length c.in_ok-push.ensures.items ∙ length_push c.loop-next.walk.items edge ∙ ap (λ n. n + 1) c.loop-next.invariant.size;
-      rest = (step c.args.allowed c.args.nodes.now c.args.edges.now c.loop-next.at c.loop-next.next-index c.args.way.now c.loop-next-test.true c.loop-next.invariant.rest).1;
+      rest = (step (among c.args.allowed) c.args.nodes.now c.args.edges.now c.loop-next.at c.loop-next.next-index c.args.way.now c.loop-next-test.true c.loop-next.invariant.rest).1;
       last = sym (last_step c.loop-next.at c.loop-next.next-index c.args.way.now c.loop-next-test.true) ∙ c.loop-next.invariant.last;
       least = λ h has.
-          steps_on h c.args.allowed c.args.nodes.now c.args.from c.args.way.now c.loop-next.at c.loop-next.next-index c.loop-next.walk.items c.push.new.self.items edge c.loop-next-test.true
+          steps_on h (among c.args.allowed) c.args.nodes.now c.args.from c.args.way.now c.loop-next.at c.loop-next.next-index c.loop-next.walk.items c.push.new.self.items edge c.loop-next-test.true
           c.in_ok-push.ensures.items
-          (least_listed h c.args.allowed c.args.edges.now has c.kinds-kinds.result.bits c.kinds-kinds.ensures c.number.result c.number-in-loop-next.result _ _
+          (least_listed h (among c.args.allowed) c.args.edges.now has c.number.result c.number-in-loop-next.result _ _
           (sym (read c.args.nodes.now _ _ c.number.ensures.number)) (sym (read c.args.nodes.now _ _ c.number-in-loop-next.ensures.number)) edge found from to kind
           (subst
-          (λ o. IfSome o (λ g. (e : Edge) → Contains c.args.edges.now e → e.from ≡ c.number.result → e.to ≡ c.number-in-loop-next.result → has_bit c.kinds-kinds.result.bits e.kind ≡ true
+          (λ o. IfSome o (λ g. (e : Edge) → Contains c.args.edges.now e → e.from ≡ c.number.result → e.to ≡ c.number-in-loop-next.result → among c.args.allowed e.kind ≡ true
           → is_lt (edge_cmp e g) ≡ false))
           c.in-Some.is c.in_ok-edge.ensures.least))
           (c.loop-next.invariant.least h has);
@@ -58,5 +58,5 @@ loop-next-preserved c =
 
 pub returns-clause-least : goal.returns-clause-least
 returns-clause-least c = λ h has.
-    gone_along h c.args.allowed c.args.nodes.now c.args.from c.args.way.now c.loop-next.at c.loop-next.next-index c.loop-next.walk.items (omega (arith, c.loop-next-test.false))
+    gone_along h (among c.args.allowed) c.args.nodes.now c.args.from c.args.way.now c.loop-next.at c.loop-next.next-index c.loop-next.walk.items (omega (arith, c.loop-next-test.false))
     (c.loop-next.invariant.least h has)

@@ -1,11 +1,10 @@
 use Rattle.std.proofs.Common.{◌<◌, ◌≤◌, length, sym, subst, ap, ◌∙◌, arith}
 use Rattle.std.specs.Prelude.{not}
 use Rattle.std.proofs.lemmas.List.Elements.{All-contains}
+use Rattle.lab_deps.specs.KindSets.{among}
 use Rattle.lab_deps.specs.declared.edge.Kind.{Kind}
-use Rattle.lab_judge.specs.Allowed.{allows}
 use Rattle.lab_judge.specs.Graphs.{HasEnds}
 use Rattle.lab_judge.specs.LeastWalks.{IsTurnToLeast}
-use Rattle.lab_judge.specs.Openings.{opens}
 use Rattle.lab_judge.specs.Phenomena.{IsClosedWalk, count_kind}
 use Rattle.lab_judge.proofs.ClosedWalks.{closed}
 use Rattle.lab_judge.proofs.OpenedWalks.{at_most_one, at_least_one}
@@ -21,12 +20,12 @@ returns-clause-closed c = λ h real.
 
 pub returns-clause-opened : goal.returns-clause-opened
 returns-clause-opened c = λ opening opened.
-    subst (λ n. 1 ≤ n) (sym (c.with_least_first.ensures.kinds (opens opening) ∙ ap (count_kind (opens opening)) c.in_ok-insert.ensures.items))
-    (at_least_one (opens opening) c.args.edge.now c.in_ok-walk.walk.items opened)
+    subst (λ n. 1 ≤ n) (sym (c.with_least_first.ensures.kinds opening ∙ ap (count_kind opening) c.in_ok-insert.ensures.items))
+    (at_least_one opening c.args.edge.now c.in_ok-walk.walk.items opened)
 
 pub returns-clause-allowed : goal.returns-clause-allowed
 returns-clause-allowed c =
-    let others = λ (k : Kind). not (allows c.args.allowed k) in
+    let others = λ (k : Kind). not (among c.args.allowed k) in
     subst (λ n. n ≤ 1) (sym (c.with_least_first.ensures.kinds others ∙ ap (count_kind others) c.in_ok-insert.ensures.items))
     (at_most_one others c.args.edge.now c.in_ok-walk.walk.items c.in_ok-walk.ensures.allowed)
 

@@ -1,12 +1,13 @@
 use Rattle.std.proofs.Common.{subst}
 use Rattle.lab_order.specs.Order.{IsOrdered, IsAnswered}
+use Rattle.lab_deps.specs.KindSets.{among}
 use Rattle.lab_judge.proofs.GraphWalks.{order_excludes}
 use Rattle.lab_judge.proofs.LeastWalks.{edge_graph}
 use Rattle.lab_judge.proofs.findings.closed_walk.find_circle.Goals as goal
 
 pub returns-in-Order-clause-found : goal.returns-in-Order-clause-found
 returns-in-Order-clause-found c = λ h has es closed.
-    order_excludes c.args.allowed c.args.nodes.now c.args.edges.now c.args.graph.now c.requires.graph c.in-Order.field-0.items
+    order_excludes (among c.args.allowed) c.args.nodes.now c.args.edges.now c.args.graph.now c.requires.graph c.in-Order.field-0.items
     (subst (IsOrdered c.args.graph.now) c.in-Order.is c.in_ok-order.ensures.ordered) h has es closed
 
 pub returns-clause-due : goal.returns-clause-due
@@ -14,7 +15,7 @@ returns-clause-due c = λ h committed has. record {
   txns = c.args.nodes.now;
   committed = committed;
   graph = c.args.graph.now;
-  edges = edge_graph h c.args.allowed c.args.edges.now has c.args.nodes.now c.args.graph.now c.requires.graph;
+  edges = edge_graph h (among c.args.allowed) c.args.edges.now has c.args.nodes.now c.args.graph.now c.requires.graph;
   circle = c.in-Circle.circle.items;
   back = subst (IsAnswered c.args.graph.now) c.in-Circle.is c.in_ok-order.ensures.least;
   round = c.in_ok-walk-in-Circle.ensures.least h has;

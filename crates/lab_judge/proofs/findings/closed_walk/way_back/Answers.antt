@@ -4,6 +4,7 @@ use Rattle.std.proofs.lemmas.Result.{IfOk-weaker}
 use Rattle.lab_order.specs.Least.{IsLeast}
 use Rattle.lab_order.specs.Order.{position}
 use Rattle.lab_order.specs.Path.{IsPath, IsShortestPath}
+use Rattle.lab_deps.specs.KindSets.{among}
 use Rattle.lab_judge.specs.Graphs.{LeadsAlong, last_of}
 use Rattle.lab_judge.specs.LeastWalks.{GoesBy}
 use Rattle.lab_judge.specs.Phenomena.{IsWalk}
@@ -13,7 +14,7 @@ use Rattle.lab_judge.proofs.findings.closed_walk.way_back.Goals as goal
 pub walk_along-requires-clause-way : goal.walk_along-requires-clause-way
 walk_along-requires-clause-way c =
     (
-    way_of c.args.allowed c.args.nodes.now c.args.edges.now c.args.graph.now c.requires.graph c.place.result c.place-2.result c.in-Some.nodes_back.items
+    way_of (among c.args.allowed) c.args.nodes.now c.args.edges.now c.args.graph.now c.requires.graph c.place.result c.place-2.result c.in-Some.nodes_back.items
     c.in-Some-split_first.first.now c.in-Some-split_first.way.now
     (sym c.deref.ensures.value ∙ c.in-Some-split_first.ensures.cases.0)
     (subst (λ o. IfSome o (λ path. IsPath c.args.graph.now c.place.result c.place-2.result path.items)) c.in-Some.is c.in_ok-nodes_back.ensures.found)
@@ -25,8 +26,8 @@ returns-clause-walk c =
     let way = c.in-Some-split_first.way.now in
     let nodes = c.args.nodes.now in
     let edge = c.args.edge.now in
-    let parts : (first ≡ c.place.result) × LeadsAlong c.args.allowed nodes c.args.edges.now first way × (last_of first way ≡ c.place-2.result)
-    = way_of c.args.allowed nodes c.args.edges.now c.args.graph.now c.requires.graph c.place.result c.place-2.result c.in-Some.nodes_back.items first way
+    let parts : (first ≡ c.place.result) × LeadsAlong (among c.args.allowed) nodes c.args.edges.now first way × (last_of first way ≡ c.place-2.result)
+    = way_of (among c.args.allowed) nodes c.args.edges.now c.args.graph.now c.requires.graph c.place.result c.place-2.result c.in-Some.nodes_back.items first way
     (sym c.deref.ensures.value ∙ c.in-Some-split_first.ensures.cases.0)
     (subst (λ o. IfSome o (λ path. IsPath c.args.graph.now c.place.result c.place-2.result path.items)) c.in-Some.is c.in_ok-nodes_back.ensures.found) in
     let from : slice_index nodes first ≡ edge.to = ap (slice_index nodes) (parts.0 ∙ c.place.ensures.place) ∙ read_back nodes edge.to c.requires.edge.1 in
@@ -47,5 +48,5 @@ returns-clause-least c =
     = subst (λ n. IsLeast (IsShortestPath graph n (position nodes c.args.edge.now.from)) path) c.place.ensures.place
     (subst (λ n. IsLeast (IsShortestPath graph c.place.result n) path) c.place-2.ensures.place least) in
     IfOk-weaker c.walk_along.result _ _
-    (λ walk goes h has. record { path = path; least = shortest; goes = subst (λ l. GoesBy h c.args.allowed nodes l walk.items) (sym parts) (goes h has) })
+    (λ walk goes h has. record { path = path; least = shortest; goes = subst (λ l. GoesBy h (among c.args.allowed) nodes l walk.items) (sym parts) (goes h has) })
     c.walk_along.ensures.least

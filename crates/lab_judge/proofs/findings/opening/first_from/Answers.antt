@@ -4,7 +4,7 @@ use Rattle.std.specs.List.Sorted.{IsStrictlyIncreasing}
 use Rattle.lab_order.specs.Order.{position}
 use Rattle.std.proofs.lemmas.Result.{IfOk-weaker}
 use Rattle.lab_order.specs.Path.{Reaches}
-use Rattle.lab_deps.specs.KindBits.{has_bit}
+use Rattle.lab_deps.specs.KindSets.{among}
 use Rattle.lab_judge.specs.Graphs.{HasEnds, ties}
 use Rattle.lab_judge.proofs.FirstOpenings.{found_with, first_tied}
 use Rattle.lab_judge.proofs.Openings.{none_leading, surely}
@@ -28,21 +28,21 @@ first_leading-requires-clause-nodes c = c.requires.nodes ∙ ap length (sym c.re
 
 pub returns-in-None-clause-none : goal.returns-in-None-clause-none
 returns-in-None-clause-none c =
-    let test = has_bit c.kinds-kinds.result.bits in
+    let test = among c.args.opening in
     let from = c.args.from in
     let graph = c.args.ways.now in
     let none : (to : ℕ) → to < length c.args.nodes.now → Reaches graph to from → list_any (ties test c.args.nodes.now from to) c.args.edges.now ≡ false
     = subst (λ es. (to : ℕ) → to < length c.args.nodes.now → Reaches graph to from → list_any (ties test c.args.nodes.now from to) es ≡ false) c.requires.table
     (subst (λ ns. (to : ℕ) → to < length ns → Reaches graph to from → list_any (ties test ns from to) c.args.table.now.edges ≡ false) c.requires.numbers
     (c.first_leading.ensures.none c.in-None.is)) in
-    λ _. none_leading c.args.opening graph c.args.nodes.now c.args.edges.now c.requires.ends c.kinds-kinds.result.bits c.kinds-kinds.ensures from none
+    λ _. none_leading test graph c.args.nodes.now c.args.edges.now c.requires.ends from none
 
 pub number-requires-in-Some : goal.number-requires-in-Some
 number-requires-in-Some c = subst (λ ns. c.in-Some.to < length ns) c.requires.numbers c.in-Some.ensures.found.0
 
 pub returns-in-Some-clause-none : goal.returns-in-Some-clause-none
 returns-in-Some-clause-none c =
-    let test = has_bit c.kinds-kinds.result.bits in
+    let test = among c.args.opening in
     let tied : list_any (ties test c.args.nodes.now c.args.from c.in-Some.to) c.args.edges.now ≡ true
     = subst (λ es. list_any (ties test c.args.nodes.now c.args.from c.in-Some.to) es ≡ true) c.requires.table
     (subst (λ ns. list_any (ties test ns c.args.from c.in-Some.to) c.args.table.now.edges ≡ true) c.requires.numbers c.in-Some.ensures.found.2) in
@@ -57,13 +57,13 @@ returns-in-Some-clause-from c =
 
 pub returns-in-Some-clause-first : goal.returns-in-Some-clause-first
 returns-in-Some-clause-first c =
-    let test = has_bit c.kinds-kinds.result.bits in
+    let test = among c.args.opening in
     let from = c.args.from in
     let graph = c.args.ways.now in
     let least : (k : ℕ) → k < c.in-Some.to → Reaches graph k from → list_any (ties test c.args.nodes.now from k) c.args.edges.now ≡ false
     = subst (λ es. (k : ℕ) → k < c.in-Some.to → Reaches graph k from → list_any (ties test c.args.nodes.now from k) es ≡ false) c.requires.table
     (subst (λ ns. (k : ℕ) → k < c.in-Some.to → Reaches graph k from → list_any (ties test ns from k) c.args.table.now.edges ≡ false) c.requires.numbers c.in-Some.ensures.least) in
     found_with _ _ _ _
-    (first_tied c.args.opening graph c.args.nodes.now c.requires.rising c.args.edges.now c.requires.ends from c.kinds-kinds.result.bits c.kinds-kinds.ensures c.in-Some.to c.number.result
+    (first_tied test graph c.args.nodes.now c.requires.rising c.args.edges.now c.requires.ends from c.in-Some.to c.number.result
     c.number-in-Some.result least c.number.ensures.number c.number-in-Some.ensures.number)
     _ c.least.result c.least.ensures.from c.least.ensures.to c.least.ensures.least

@@ -2,7 +2,7 @@ use Rattle.std.proofs.Common.{◌≡◌, ◌<◌, length, true, false, sym, ap, 
 use Rattle.std.specs.List.{list_any}
 use Rattle.std.proofs.lemmas.Bool.{false≢true, cases_lt}
 use Rattle.lab_order.specs.Path.{Reaches}
-use Rattle.lab_deps.specs.KindBits.{has_bit}
+use Rattle.lab_deps.specs.KindSets.{among}
 use Rattle.lab_judge.specs.Graphs.{ties}
 use Rattle.lab_judge.proofs.Ties.{row_tied}
 use Rattle.lab_judge.proofs.findings.opening.first_leading.Goals as goal
@@ -10,27 +10,27 @@ use Rattle.lab_judge.proofs.findings.opening.first_leading.Goals.{else-meets-via
 
 pub returns-then-lead-clause-found : goal.returns-then-lead-clause-found
 returns-then-lead-clause-found c =
-    let bits = c.args.kinds.bits in
+    let kinds = c.args.kinds in
     let ns = c.args.table.now.numbers in
     let es = c.args.table.now.edges in
     let from = c.args.from in
     let to = c.loop-to.to in
     let inside : to < length c.row-row.result = subst (λ n. to < n) c.len-to-end.ensures c.loop-to-test.true in
-    let tied : c.meets.result ≡ list_any (ties (has_bit bits) ns from to) es =
-    row_tied ns c.requires.rising es c.requires.ends from to c.requires.from c.row-row.result c.row-row.ensures inside c.kinds-between.result c.kinds-between.ensures bits c.meets.result c.meets.ensures in
+    let tied : c.meets.result ≡ list_any (ties (among kinds) ns from to) es =
+    row_tied ns c.requires.rising es c.requires.ends from to c.requires.from c.row-row.result c.row-row.ensures inside c.kinds-between.result c.kinds-between.ensures kinds c.meets.result c.meets.ensures in
     (subst (λ n. to < n) c.row-row.ensures.size inside, (c.lead.ensures.0 c.if-lead.true), sym tied ∙ c.if-meets.true)
 
 pub loop-to-preserved : goal.loop-to-preserved
 loop-to-preserved c k less back =
-    let bits = c.args.kinds.bits in
+    let kinds = c.args.kinds in
     let ns = c.args.table.now.numbers in
     let es = c.args.table.now.edges in
     let from = c.args.from in
     let to = c.loop-to.to in
     let inside : to < length c.row-row.result = subst (λ n. to < n) c.len-to-end.ensures c.loop-to-test.true in
-    let tied : c.meets.result ≡ list_any (ties (has_bit bits) ns from to) es =
-    row_tied ns c.requires.rising es c.requires.ends from to c.requires.from c.row-row.result c.row-row.ensures inside c.kinds-between.result c.kinds-between.ensures bits c.meets.result c.meets.ensures in
-    let here : Reaches c.args.ways.now to from → list_any (ties (has_bit bits) ns from to) es ≡ false =
+    let tied : c.meets.result ≡ list_any (ties (among kinds) ns from to) es =
+    row_tied ns c.requires.rising es c.requires.ends from to c.requires.from c.row-row.result c.row-row.ensures inside c.kinds-between.result c.kinds-between.ensures kinds c.meets.result c.meets.ensures in
+    let here : Reaches c.args.ways.now to from → list_any (ties (among kinds) ns from to) es ≡ false =
     elim c.else-meets.branch [
       | else-meets-via-then-meets+else-lead w ↦ λ on. absurd (false≢true (sym w.if-lead.false ∙ w.lead.ensures.1 on))
       | else-meets-via-else-meets w ↦ λ _. sym tied ∙ w.if-meets.false
@@ -39,5 +39,5 @@ loop-to-preserved c k less back =
       | inl before ↦ c.loop-to.invariant k before back
       | inr past ↦
           let same : k ≡ to = omega (arith, less, past) in
-          ap (λ n. list_any (ties (has_bit bits) ns from n) es) same ∙ here (subst (λ n. Reaches c.args.ways.now n from) same back)
+          ap (λ n. list_any (ties (among kinds) ns from n) es) same ∙ here (subst (λ n. Reaches c.args.ways.now n from) same back)
     ]

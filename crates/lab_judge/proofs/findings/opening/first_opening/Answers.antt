@@ -4,6 +4,7 @@ use Rattle.std.specs.Ordering.{is_lt}
 use Rattle.std.proofs.lemmas.List.Elements.{Contains-get_or}
 use Rattle.lab_order.specs.Order.{position}
 use Rattle.lab_deps.specs.EdgeOrder.{edge_cmp}
+use Rattle.lab_deps.specs.KindSets.{among}
 use Rattle.lab_deps.specs.declared.edge.Edge.{Edge}
 use Rattle.lab_judge.specs.Openings.{IsOpening}
 use Rattle.lab_judge.proofs.FirstOpenings.{first_of_all}
@@ -25,10 +26,10 @@ returns-in-Some-clause-first c =
     let edges = c.args.edges.now in
     let edge : Edge = c.in-Some.edge in
     let from = c.loop-from.from in
-    let found : Contains edges edge × IsOpening c.args.opening graph nodes edge
-    = subst (λ o. IfSome o (λ e. Contains edges e × IsOpening c.args.opening graph nodes e)) c.in-Some.is c.in_ok-edge.ensures.found in
+    let found : Contains edges edge × IsOpening (among c.args.opening) graph nodes edge
+    = subst (λ o. IfSome o (λ e. Contains edges e × IsOpening (among c.args.opening) graph nodes e)) c.in-Some.is c.in_ok-edge.ensures.found in
     let at : position nodes edge.from ≡ from = subst (λ o. IfSome o (λ e. position nodes e.from ≡ from)) c.in-Some.is c.in_ok-edge.ensures.from in
-    let first : (f : Edge) → Contains edges f → position nodes f.from ≡ from → IsOpening c.args.opening graph nodes f → is_lt (edge_cmp f edge) ≡ false
-    = subst (λ o. IfSome o (λ e. (f : Edge) → Contains edges f → position nodes f.from ≡ from → IsOpening c.args.opening graph nodes f → is_lt (edge_cmp f e) ≡ false)) c.in-Some.is
+    let first : (f : Edge) → Contains edges f → position nodes f.from ≡ from → IsOpening (among c.args.opening) graph nodes f → is_lt (edge_cmp f edge) ≡ false
+    = subst (λ o. IfSome o (λ e. (f : Edge) → Contains edges f → position nodes f.from ≡ from → IsOpening (among c.args.opening) graph nodes f → is_lt (edge_cmp f e) ≡ false)) c.in-Some.is
     c.in_ok-edge.ensures.first in
-    first_of_all c.args.opening graph nodes c.requires.rising edges c.requires.ends from edge found.0 at c.loop-from.invariant first
+    first_of_all (among c.args.opening) graph nodes c.requires.rising edges c.requires.ends from edge found.0 at c.loop-from.invariant first
