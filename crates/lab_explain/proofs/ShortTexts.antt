@@ -53,18 +53,18 @@ module _ (h : History) (report : Report) where
   first = capped 60 (serial_lines h report.serial)
 
   abbrev second : List ℕ
-  second = capped 12 (places_lines report.snapshot)
+  second = capped 14 (places_lines report.snapshot)
 
   abbrev third : List ℕ
   third = findings_lines h report
 
-  whole_short : lines (whole_text h report) ≤ 95
+  whole_short : lines (whole_text h report) ≤ 97
   unfolding whole_text
   whole_short =
-      both 94 1 (first ++ second ++ third ++ level_line report.level) last_line
-      (both 93 1 (first ++ second ++ third) (level_line report.level)
-      (both 72 21 (first ++ second) third
-      (both 60 12 first second (few_lines 60 (serial_lines h report.serial) (omega arith)) (few_lines 12 (places_lines report.snapshot) (omega arith))) findings_short) (level_short report.level)) last_short
+      both 96 1 (first ++ second ++ third ++ level_line report.level) last_line
+      (both 95 1 (first ++ second ++ third) (level_line report.level)
+      (both 74 21 (first ++ second) third
+      (both 60 14 first second (few_lines 60 (serial_lines h report.serial) (omega arith)) (few_lines 14 (places_lines report.snapshot) (omega arith))) findings_short) (level_short report.level)) last_short
 
   one_short : (p : Phenomenon) → lines (one_text h report p) ≤ 91
   unfolding one_text

@@ -33,7 +33,7 @@ findings_lines h report =
 
 -- the whole explanation of a report: its serial verdict, its snapshot verdict, its phenomena and its level
 unfoldable pub whole_text : History → Report → List ℕ
-whole_text h report = capped 60 (serial_lines h report.serial) ++ capped 12 (places_lines report.snapshot) ++ findings_lines h report ++ level_line report.level ++ last_line
+whole_text h report = capped 60 (serial_lines h report.serial) ++ capped 14 (places_lines report.snapshot) ++ findings_lines h report ++ level_line report.level ++ last_line
 
 -- the explanation of what is found of a phenomenon
 unfoldable pub one_text : History → Report → Phenomenon → List ℕ

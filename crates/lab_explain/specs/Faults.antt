@@ -10,8 +10,12 @@ use Rattle.lab_history.specs.Version.{ops_of, op_at, viewed, viewed_state, new_s
 use Rattle.lab_history.specs.declared.operation.Op.{Op}
 use Rattle.lab_history.specs.declared.operation.VersionName.{VersionName}
 use Rattle.lab_history.specs.declared.operation.VersionName.TheVariants.{Initial, Of}
+use Rattle.lab_deps.specs.FaultKinds.{parts_of}
+use Rattle.lab_deps.specs.declared.fault.FaultParts.{FaultParts}
+use Rattle.lab_deps.specs.declared.fault.FaultParts.TheVariants as parts
 use Rattle.lab_deps.specs.declared.fault.LocalFault.{LocalFault}
-use Rattle.lab_deps.specs.declared.fault.LocalFault.TheVariants.{Dangling, AbortedRead, IntermediateRead, OwnWriteMissed, LaterThanOwn, RowsDiffer, WritesDiffer, InstallOrder, EndDiffers}
+use Rattle.lab_deps.specs.declared.kind.OpFault.TheVariants.{Dangling, AbortedRead, IntermediateRead, OwnWriteMissed, LaterThanOwn, RowsDiffer, WritesDiffer}
+use Rattle.lab_deps.specs.declared.kind.RowFault.TheVariants.{InstallOrder, EndDiffers}
 use Rattle.lab_judge.specs.ReportText.{fault_text, txn_text}
 use Rattle.lab_picture.specs.Installs.{misplaced_of, misplaced_text}
 use Rattle.lab_picture.specs.declared.installs.Misplaced.{Misplaced}
@@ -126,48 +130,48 @@ unfoldable pub named_text : History → ℕ → ℕ → Row → List ℕ
 named_text h n k row = op_text h n k ++ codes " saw " ++ row_name row ++ codes " in " ++ viewed_text (op_at (ops_of h n) k) row
 
 -- what is recorded where a fault is
-abbrev pub recorded : History → LocalFault → List ℕ
-recorded h (Dangling n k row) = named_text h n k row
-recorded h (AbortedRead n k row) = saw_with h n k row (codes ", of a transaction that aborted")
-recorded h (IntermediateRead n k row) = saw_with h n k row (codes ", not the last one of its transaction")
-recorded h (OwnWriteMissed n k row) = saw_with h n k row (codes ", though its own transaction had written the row")
-recorded h (LaterThanOwn n k row) = saw_text h n k row ++ codes "; " ++ installers_text h row
-recorded h (RowsDiffer n k row) = saw_text h n k row ++ rows_text (op_at (ops_of h n) k) row
-recorded h (WritesDiffer n k row) = saw_text h n k row ++ writes_text (op_at (ops_of h n) k) row
-recorded h (InstallOrder row) = installers_text h row ++ misplaced_note (misplaced_of h row)
-recorded h (EndDiffers row) = end_text h row
+abbrev pub recorded : History → FaultParts → List ℕ
+recorded h (parts.Operation Dangling n k row) = named_text h n k row
+recorded h (parts.Operation AbortedRead n k row) = saw_with h n k row (codes ", of a transaction that aborted")
+recorded h (parts.Operation IntermediateRead n k row) = saw_with h n k row (codes ", not the last one of its transaction")
+recorded h (parts.Operation OwnWriteMissed n k row) = saw_with h n k row (codes ", though its own transaction had written the row")
+recorded h (parts.Operation LaterThanOwn n k row) = saw_text h n k row ++ codes "; " ++ installers_text h row
+recorded h (parts.Operation RowsDiffer n k row) = saw_text h n k row ++ rows_text (op_at (ops_of h n) k) row
+recorded h (parts.Operation WritesDiffer n k row) = saw_text h n k row ++ writes_text (op_at (ops_of h n) k) row
+recorded h (parts.Row InstallOrder row) = installers_text h row ++ misplaced_note (misplaced_of h row)
+recorded h (parts.Row EndDiffers row) = end_text h row
 
 -- what is due there
-abbrev pub due : History → LocalFault → List ℕ
-due h (Dangling n k row) = codes "a version that a statement of the file wrote, and one of its own transaction before it"
-due h (AbortedRead n k row) = codes "a version of a transaction that committed"
-due h (IntermediateRead n k row) = last_due h (op_at (ops_of h n) k) row
-due h (OwnWriteMissed n k row) = codes "the version that its own transaction wrote last before it"
-due h (LaterThanOwn n k row) = codes "who wrote what is seen stands before who sees it and installs the row too"
-due h (RowsDiffer n k row) = rows_due h (op_at (ops_of h n) k) row
-due h (WritesDiffer n k row) = writes_due h (op_at (ops_of h n) k) row
-due h (InstallOrder row) = codes "each transaction that committed a write of the row, once, and nobody else"
-due h (EndDiffers row) = last_text h row
+abbrev pub due : History → FaultParts → List ℕ
+due h (parts.Operation Dangling n k row) = codes "a version that a statement of the file wrote, and one of its own transaction before it"
+due h (parts.Operation AbortedRead n k row) = codes "a version of a transaction that committed"
+due h (parts.Operation IntermediateRead n k row) = last_due h (op_at (ops_of h n) k) row
+due h (parts.Operation OwnWriteMissed n k row) = codes "the version that its own transaction wrote last before it"
+due h (parts.Operation LaterThanOwn n k row) = codes "who wrote what is seen stands before who sees it and installs the row too"
+due h (parts.Operation RowsDiffer n k row) = rows_due h (op_at (ops_of h n) k) row
+due h (parts.Operation WritesDiffer n k row) = writes_due h (op_at (ops_of h n) k) row
+due h (parts.Row InstallOrder row) = codes "each transaction that committed a write of the row, once, and nobody else"
+due h (parts.Row EndDiffers row) = last_text h row
 
 -- how a recorder most often comes to it
-abbrev pub mistake : LocalFault → List ℕ
-mistake (Dangling n k row) = codes "a statement that failed was counted, or an aborted transaction was left out"
-mistake (AbortedRead n k row) = codes "the answer to a commit was lost, and the transaction noted as aborted; else the database let it be seen (G1a)"
-mistake (IntermediateRead n k row) = codes "the version's name is kept from the transaction's first write of the row; else the database let it be seen (G1b)"
-mistake (OwnWriteMissed n k row) = codes "views are read over another connection, which doesn't see the transaction's own writes"
-mistake (LaterThanOwn n k row) = codes "installers are listed by number, or by begin, and not by commit"
-mistake (RowsDiffer n k row) = codes "the view has the listed rows alone, or somebody committed between view and rows, or a deleted row isn't in the view"
-mistake (WritesDiffer n k row) = codes "an update that leaves the value as it is wasn't noted as a write"
-mistake (InstallOrder row) = codes "an aborted transaction stands among the installers, or one that wrote the row twice stands there twice"
-mistake (EndDiffers row) = codes "the end was read before the last transaction had ended, or a commit was noted as an abort"
+abbrev pub mistake : FaultParts → List ℕ
+mistake (parts.Operation Dangling n k row) = codes "a statement that failed was counted, or an aborted transaction was left out"
+mistake (parts.Operation AbortedRead n k row) = codes "the answer to a commit was lost, and the transaction noted as aborted; else the database let it be seen (G1a)"
+mistake (parts.Operation IntermediateRead n k row) = codes "the version's name is kept from the transaction's first write of the row; else the database let it be seen (G1b)"
+mistake (parts.Operation OwnWriteMissed n k row) = codes "views are read over another connection, which doesn't see the transaction's own writes"
+mistake (parts.Operation LaterThanOwn n k row) = codes "installers are listed by number, or by begin, and not by commit"
+mistake (parts.Operation RowsDiffer n k row) = codes "the view has the listed rows alone, or somebody committed between view and rows, or a deleted row isn't in the view"
+mistake (parts.Operation WritesDiffer n k row) = codes "an update that leaves the value as it is wasn't noted as a write"
+mistake (parts.Row InstallOrder row) = codes "an aborted transaction stands among the installers, or one that wrote the row twice stands there twice"
+mistake (parts.Row EndDiffers row) = codes "the end was read before the last transaction had ended, or a commit was noted as an abort"
 
 -- what is recorded, with the fault as the report prints it
 unfoldable pub recorded_text : History → LocalFault → List ℕ
-recorded_text h f = codes "Recorded: " ++ recorded h f ++ codes ". [" ++ fault_text f ++ codes "]"
+recorded_text h f = codes "Recorded: " ++ recorded h (parts_of f) ++ codes ". [" ++ fault_text f ++ codes "]"
 
 -- what is due
 unfoldable pub due_text : History → LocalFault → List ℕ
-due_text h f = codes "Due: " ++ due h f ++ codes "."
+due_text h f = codes "Due: " ++ due h (parts_of f) ++ codes "."
 
 -- the recorder's mistake
 unfoldable pub most_often : List ℕ → List ℕ
@@ -175,4 +179,4 @@ most_often text = often_words ++ text ++ codes "."
 
 -- the lines of a fault
 unfoldable pub fault_steps : History → LocalFault → List ℕ
-fault_steps h f = step (recorded_text h f) ++ step (due_text h f) ++ step (most_often (mistake f))
+fault_steps h f = step (recorded_text h f) ++ step (due_text h f) ++ step (most_often (mistake (parts_of f)))

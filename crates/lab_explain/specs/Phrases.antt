@@ -5,7 +5,7 @@ use Rattle.std.specs.Prelude.{ℕ, List, codes}
 unfoldable pub no_order : List ℕ
 no_order = codes "Not serializable: each of these transactions comes before the next, and the last before the first, so no order keeps all of these dependencies."
 
--- a closed walk of dependencies
+-- a cycle of dependencies
 unfoldable pub round_text : List ℕ
 round_text = codes "each of these transactions comes before the next, and the last before the first, so no order keeps all of these dependencies."
 
@@ -21,7 +21,7 @@ order_head = codes "Serializable: run whole, one after another, the committed tr
 unfoldable pub spans_head : List ℕ
 spans_head = codes "A snapshot run: each transaction sees what had committed before its start, and its own writes; no row is written by two that overlap."
 
--- a circle of starts and commits
+-- a cycle of starts and commits
 unfoldable pub circle_head : List ℕ
 circle_head = codes "Not a snapshot run: what is seen and written asks for "
 
@@ -76,6 +76,18 @@ commit_words = codes "the commit of T"
 -- the place of a start
 unfoldable pub place_words : List ℕ
 place_words = codes " reads as of place "
+
+-- where nothing had committed
+unfoldable pub first_words : List ℕ
+first_words = codes ", before all commits,"
+
+-- the last commit before a place
+unfoldable pub behind_words : List ℕ
+behind_words = codes ", behind the commit of T"
+
+-- how many places aren't told
+unfoldable pub places_words : List ℕ
+places_words = codes " The report has the places of "
 
 -- the place of a commit
 unfoldable pub commits_words : List ℕ

@@ -12,8 +12,9 @@ ghost use Rattle.lab_explain.specs.Clauses.{txn_name, op_name, ran_text, op_text
 use crate::lines::put_natural;
 use crate::phrases::version_words;
 use itoa::Buffer;
+use lab_deps::{state_of, viewed};
 use lab_history::{History, Op, VersionName};
-use lab_picture::{ops_of, state_of, viewed};
+use lab_picture::ops_of;
 use lab_script::{PrintFault, print_statement, put_row_name};
 use lab_table::{NoMemory, RowName, TxnNo, Value};
 use std::alloc::{AllocError, Global};

@@ -8,9 +8,9 @@ ghost use Rattle.lab_explain.specs.Faults.{txns_text, listed_text, written_text,
 
 use crate::clauses::{op_of, put_state, put_version};
 use crate::phrases::{last_words, listed_words, lists_words, writes_words, wrote_words};
-use crate::report_parts::put_order;
+use lab_deps::{state_of, viewed};
 use lab_history::{History, Op, State, VersionName};
-use lab_picture::{state_of, viewed};
+use lab_judge::put_order;
 use lab_table::{NoMemory, RowName, Statement, TxnNo, Value};
 
 /// Appends transactions in their order, each with the blank before it.

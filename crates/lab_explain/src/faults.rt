@@ -2,6 +2,7 @@
 //! may stand there.
 
 ghost use Rattle.std.specs.Prelude.{◌≡◌, ◌++◌, OnOk};
+ghost use Rattle.lab_deps.specs.declared.fault.FaultParts.TheVariants as parts;
 ghost use Rattle.lab_picture.specs.Installs.{misplaced_of};
 ghost use Rattle.lab_explain.specs.Faults.{misplaced_note, installers_text, end_text, last_text, named_text, recorded, due, mistake, recorded_text, due_text, most_often, fault_steps};
 
@@ -11,9 +12,9 @@ use crate::fault_parts::{
 };
 use crate::lines::put_step;
 use crate::phrases::{as_last_words, installers_words, often_words};
-use crate::report_parts::put_fault;
-use lab_deps::LocalFault;
+use lab_deps::{FaultParts, LocalFault, OpFault, RowFault};
 use lab_history::History;
+use lab_judge::put_fault;
 use lab_picture::{installers_of, misplaced_of, put_misplaced, state_at};
 use lab_table::{NoMemory, RowName, TxnNo};
 use std::alloc::Global;
@@ -83,111 +84,138 @@ fn put_named(
     put_viewed(out, history, txn, op, row)
 }
 
+/// Appends what is recorded at an operation and a row where a fault of this kind is.
+fn put_recorded_op(
+    alloc: Global,
+    out: &mut Vec<u8>,
+    history: &History,
+    kind: OpFault,
+    txn: TxnNo,
+    op: u32,
+    row: RowName,
+) -> Result<(), NoMemory>
+    ensures { OnOk result (out.new.items ≡ out.old.items ++ recorded history.now (parts.Operation kind txn op row)) }
+{
+    match kind {
+        OpFault::Dangling => put_named(alloc, out, history, txn, op, row),
+        OpFault::AbortedRead => {
+            let flaw = b", of a transaction that aborted";
+            put_saw_with(alloc, out, history, txn, op, row, flaw)
+        }
+        OpFault::IntermediateRead => {
+            let flaw = b", not the last one of its transaction";
+            put_saw_with(alloc, out, history, txn, op, row, flaw)
+        }
+        OpFault::OwnWriteMissed => {
+            let flaw = b", though its own transaction had written the row";
+            put_saw_with(alloc, out, history, txn, op, row, flaw)
+        }
+        OpFault::LaterThanOwn => {
+            put_saw(alloc, out, history, txn, op, row)?;
+            out.extend_from_slice(b"; ")?;
+            put_installers(out, history, row)
+        }
+        OpFault::RowsDiffer => {
+            put_saw(alloc, out, history, txn, op, row)?;
+            put_rows(out, history, txn, op, row)
+        }
+        OpFault::WritesDiffer => {
+            put_saw(alloc, out, history, txn, op, row)?;
+            put_writes(out, history, txn, op, row)
+        }
+    }
+}
+
 /// Appends what is recorded where a fault is.
 fn put_recorded(
     alloc: Global,
     out: &mut Vec<u8>,
     history: &History,
-    fault: LocalFault,
+    fault: FaultParts,
 ) -> Result<(), NoMemory>
     ensures { OnOk result (out.new.items ≡ out.old.items ++ recorded history.now fault) }
 {
     match fault {
-        LocalFault::Dangling { txn, op, row } => put_named(alloc, out, history, txn, op, row),
-        LocalFault::AbortedRead { txn, op, row } => {
-            let flaw = b", of a transaction that aborted";
-            put_saw_with(alloc, out, history, txn, op, row, flaw)
+        FaultParts::Operation { kind, txn, op, row } => {
+            put_recorded_op(alloc, out, history, kind, txn, op, row)
         }
-        LocalFault::IntermediateRead { txn, op, row } => {
-            let flaw = b", not the last one of its transaction";
-            put_saw_with(alloc, out, history, txn, op, row, flaw)
-        }
-        LocalFault::OwnWriteMissed { txn, op, row } => {
-            let flaw = b", though its own transaction had written the row";
-            put_saw_with(alloc, out, history, txn, op, row, flaw)
-        }
-        LocalFault::LaterThanOwn { txn, op, row } => {
-            put_saw(alloc, out, history, txn, op, row)?;
-            out.extend_from_slice(b"; ")?;
-            put_installers(out, history, row)
-        }
-        LocalFault::RowsDiffer { txn, op, row } => {
-            put_saw(alloc, out, history, txn, op, row)?;
-            put_rows(out, history, txn, op, row)
-        }
-        LocalFault::WritesDiffer { txn, op, row } => {
-            put_saw(alloc, out, history, txn, op, row)?;
-            put_writes(out, history, txn, op, row)
-        }
-        LocalFault::InstallOrder { row } => {
-            put_installers(out, history, row)?;
-            put_misplaced_note(out, history, row)
-        }
-        LocalFault::EndDiffers { row } => put_end(out, history, row),
+        FaultParts::Row { kind, row } => match kind {
+            RowFault::InstallOrder => {
+                put_installers(out, history, row)?;
+                put_misplaced_note(out, history, row)
+            }
+            RowFault::EndDiffers => put_end(out, history, row),
+        },
     }
 }
 
 /// Appends what is due where a fault is.
-fn put_due(out: &mut Vec<u8>, history: &History, fault: LocalFault) -> Result<(), NoMemory>
+fn put_due(out: &mut Vec<u8>, history: &History, fault: FaultParts) -> Result<(), NoMemory>
     ensures { OnOk result (out.new.items ≡ out.old.items ++ due history.now fault) }
 {
     match fault {
-        LocalFault::Dangling { .. } => out.extend_from_slice(
-            b"a version that a statement of the file wrote, and one of its own transaction before it",
-        ),
-        LocalFault::AbortedRead { .. } => {
-            out.extend_from_slice(b"a version of a transaction that committed")
-        }
-        LocalFault::IntermediateRead { txn, op, row } => {
-            put_last_due(out, history, txn, op, row)
-        }
-        LocalFault::OwnWriteMissed { .. } => out.extend_from_slice(
-            b"the version that its own transaction wrote last before it",
-        ),
-        LocalFault::LaterThanOwn { .. } => out.extend_from_slice(
-            b"who wrote what is seen stands before who sees it and installs the row too",
-        ),
-        LocalFault::RowsDiffer { txn, op, row } => put_rows_due(out, history, txn, op, row),
-        LocalFault::WritesDiffer { txn, op, row } => put_writes_due(out, history, txn, op, row),
-        LocalFault::InstallOrder { .. } => out.extend_from_slice(
-            b"each transaction that committed a write of the row, once, and nobody else",
-        ),
-        LocalFault::EndDiffers { row } => put_last(out, history, row),
+        FaultParts::Operation { kind, txn, op, row } => match kind {
+            OpFault::Dangling => out.extend_from_slice(
+                b"a version that a statement of the file wrote, and one of its own transaction before it",
+            ),
+            OpFault::AbortedRead => {
+                out.extend_from_slice(b"a version of a transaction that committed")
+            }
+            OpFault::IntermediateRead => put_last_due(out, history, txn, op, row),
+            OpFault::OwnWriteMissed => out.extend_from_slice(
+                b"the version that its own transaction wrote last before it",
+            ),
+            OpFault::LaterThanOwn => out.extend_from_slice(
+                b"who wrote what is seen stands before who sees it and installs the row too",
+            ),
+            OpFault::RowsDiffer => put_rows_due(out, history, txn, op, row),
+            OpFault::WritesDiffer => put_writes_due(out, history, txn, op, row),
+        },
+        FaultParts::Row { kind, row } => match kind {
+            RowFault::InstallOrder => out.extend_from_slice(
+                b"each transaction that committed a write of the row, once, and nobody else",
+            ),
+            RowFault::EndDiffers => put_last(out, history, row),
+        },
     }
 }
 
 /// How a recorder most often comes to a fault.
-fn mistake(fault: LocalFault) -> &'static str
+fn mistake(fault: FaultParts) -> &'static str
     ensures { result.now ≡ mistake fault }
 {
     match fault {
-        LocalFault::Dangling { .. } => {
-            "a statement that failed was counted, or an aborted transaction was left out"
-        }
-        LocalFault::AbortedRead { .. } => {
-            "the answer to a commit was lost, and the transaction noted as aborted; else the database let it be seen (G1a)"
-        }
-        LocalFault::IntermediateRead { .. } => {
-            "the version's name is kept from the transaction's first write of the row; else the database let it be seen (G1b)"
-        }
-        LocalFault::OwnWriteMissed { .. } => {
-            "views are read over another connection, which doesn't see the transaction's own writes"
-        }
-        LocalFault::LaterThanOwn { .. } => {
-            "installers are listed by number, or by begin, and not by commit"
-        }
-        LocalFault::RowsDiffer { .. } => {
-            "the view has the listed rows alone, or somebody committed between view and rows, or a deleted row isn't in the view"
-        }
-        LocalFault::WritesDiffer { .. } => {
-            "an update that leaves the value as it is wasn't noted as a write"
-        }
-        LocalFault::InstallOrder { .. } => {
-            "an aborted transaction stands among the installers, or one that wrote the row twice stands there twice"
-        }
-        LocalFault::EndDiffers { .. } => {
-            "the end was read before the last transaction had ended, or a commit was noted as an abort"
-        }
+        FaultParts::Operation { kind, .. } => match kind {
+            OpFault::Dangling => {
+                "a statement that failed was counted, or an aborted transaction was left out"
+            }
+            OpFault::AbortedRead => {
+                "the answer to a commit was lost, and the transaction noted as aborted; else the database let it be seen (G1a)"
+            }
+            OpFault::IntermediateRead => {
+                "the version's name is kept from the transaction's first write of the row; else the database let it be seen (G1b)"
+            }
+            OpFault::OwnWriteMissed => {
+                "views are read over another connection, which doesn't see the transaction's own writes"
+            }
+            OpFault::LaterThanOwn => {
+                "installers are listed by number, or by begin, and not by commit"
+            }
+            OpFault::RowsDiffer => {
+                "the view has the listed rows alone, or somebody committed between view and rows, or a deleted row isn't in the view"
+            }
+            OpFault::WritesDiffer => {
+                "an update that leaves the value as it is wasn't noted as a write"
+            }
+        },
+        FaultParts::Row { kind, .. } => match kind {
+            RowFault::InstallOrder => {
+                "an aborted transaction stands among the installers, or one that wrote the row twice stands there twice"
+            }
+            RowFault::EndDiffers => {
+                "the end was read before the last transaction had ended, or a commit was noted as an abort"
+            }
+        },
     }
 }
 
@@ -202,7 +230,7 @@ fn put_recorded_text(
     ensures { OnOk result (out.new.items ≡ out.old.items ++ recorded_text history.now fault.now) }
 {
     out.extend_from_slice(b"Recorded: ")?;
-    put_recorded(alloc, out, history, *fault)?;
+    put_recorded(alloc, out, history, fault.parts())?;
     out.extend_from_slice(b". [")?;
     put_fault(out, *fault)?;
     out.extend_from_slice(b"]")
@@ -214,7 +242,7 @@ fn put_due_text(out: &mut Vec<u8>, history: &History, fault: LocalFault) -> Resu
     ensures { OnOk result (out.new.items ≡ out.old.items ++ due_text history.now fault) }
 {
     out.extend_from_slice(b"Due: ")?;
-    put_due(out, history, fault)?;
+    put_due(out, history, fault.parts())?;
     out.extend_from_slice(b".")
 }
 
@@ -245,6 +273,6 @@ pub fn put_fault_steps(
     put_due_text(&mut text, history, *fault)?;
     put_step(out, &text)?;
     text.clear();
-    put_most_often(&mut text, mistake(*fault))?;
+    put_most_often(&mut text, mistake(fault.parts()))?;
     put_step(out, &text)
 }

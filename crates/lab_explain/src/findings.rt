@@ -10,16 +10,15 @@ use crate::clauses::put_saw;
 use crate::lines::{put_capped, put_paragraph};
 use crate::names::{flaw_of, title_of};
 use crate::phrases::{asked_words, explains_words, not_judged, other_words, round_text};
-use crate::report_parts::put_walk;
 use crate::steps::put_walk_steps;
 use lab_deps::Edge;
 use lab_history::History;
-use lab_judge::{Finding, Report, Serial};
+use lab_judge::{Finding, Report, Serial, put_walk};
 use lab_picture::Phenomenon;
 use lab_table::{NoMemory, RowName, TxnNo};
 use std::alloc::Global;
 
-/// A walk as the report prints it. NoMemory where a growth was refused.
+/// A walk as the report prints it. NoMemory where an allocation was refused.
 fn walk_text(alloc: Global, walk: &[Edge]) -> Result<Vec<u8>, NoMemory>
     ensures { IfOk result (λ text. text.items ≡ walk_text walk.now) }
 {
@@ -28,7 +27,8 @@ fn walk_text(alloc: Global, walk: &[Edge]) -> Result<Vec<u8>, NoMemory>
     Ok(text)
 }
 
-/// The walk of a serial verdict as the report prints it; empty where it has none. NoMemory where a growth was refused.
+/// The walk of a serial verdict as the report prints it; empty where it has none. NoMemory where an allocation was
+/// refused.
 pub fn serial_walk(alloc: Global, serial: &Serial) -> Result<Vec<u8>, NoMemory>
     ensures { IfOk result (λ text. text.items ≡ serial_walk serial.now) }
 {

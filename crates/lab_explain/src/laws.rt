@@ -6,6 +6,7 @@ ghost use Rattle.lab_deps.specs.Soundness.{Stands};
 ghost use Rattle.lab_deps.specs.declared.edge.Edge.{Edge as Dependency};
 ghost use Rattle.lab_deps.specs.declared.fault.LocalFault.{LocalFault as Fault};
 ghost use Rattle.lab_judge.specs.Judgement.{IsExactJudgement};
+ghost use Rattle.lab_judge.specs.Runs.{Span};
 ghost use Rattle.lab_judge.specs.declared.report.Report.{Report};
 ghost use Rattle.lab_judge.specs.declared.serial.Serial.TheVariants.{NoFault};
 ghost use Rattle.lab_streams.specs.declared.ending.Ending.{Ending};
@@ -15,6 +16,7 @@ ghost use Rattle.lab_picture.specs.declared.drawing.Arrow.{Arrow as Drawn};
 ghost use Rattle.lab_explain.specs.Answer.{IsExplainAnswer};
 ghost use Rattle.lab_explain.specs.Explanation.{explanation_of};
 ghost use Rattle.lab_explain.specs.Lines.{lines, step};
+ghost use Rattle.lab_explain.specs.Places.{IsLastBefore, last_before};
 ghost use Rattle.lab_explain.specs.Steps.{edge_step, edge_text};
 
 /// Each dependency of a walk that a judgement names has its sentence, by the operations that make it: the last write of who
@@ -28,6 +30,11 @@ pub fn each_dependency_has_its_sentence()
 /// The fault that is explained in place of an order is true of the history.
 pub fn a_fault_that_is_explained_stands()
     ensures { (h : Held) (report : Report) (f : Fault) → IsExactJudgement h report → report.serial ≡ NoFault f → Stands h f }
+{}
+
+/// Who is told to have committed last before a transaction's start did so: nobody committed between.
+pub fn the_last_commit_before_a_start_is_told()
+    ensures { (place : ℕ) (spans : List Span) → IsLastBefore place spans (last_before place None spans) }
 {}
 
 /// An explanation has at most 100 lines.

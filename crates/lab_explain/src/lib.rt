@@ -19,7 +19,6 @@ mod lines;
 mod names;
 mod phrases;
 mod places;
-mod report_parts;
 mod sections;
 mod steps;
 

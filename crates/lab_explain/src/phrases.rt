@@ -1,7 +1,7 @@
 //! Phrases of an explanation.
 
 ghost use Rattle.std.specs.Prelude.{◌≡◌};
-ghost use Rattle.lab_explain.specs.Phrases.{no_order, round_text, unsound_text, order_head, spans_head, circle_head, not_judged, last_line, version_words, listed_words, wrote_words, lists_words, writes_words, last_words, installers_words, as_last_words, start_words, commit_words, place_words, commits_words, other_words, asked_words, often_words, explains_words};
+ghost use Rattle.lab_explain.specs.Phrases.{no_order, round_text, unsound_text, order_head, spans_head, circle_head, not_judged, last_line, version_words, listed_words, wrote_words, lists_words, writes_words, last_words, installers_words, as_last_words, start_words, commit_words, place_words, first_words, behind_words, places_words, commits_words, other_words, asked_words, often_words, explains_words};
 
 /// No order.
 #[tactic(auto, unfolding(crate::specs::Phrases::no_order))]
@@ -11,7 +11,7 @@ pub fn no_order() -> &'static [u8]
     b"Not serializable: each of these transactions comes before the next, and the last before the first, so no order keeps all of these dependencies."
 }
 
-/// A closed walk of dependencies.
+/// A cycle of dependencies.
 #[tactic(auto, unfolding(crate::specs::Phrases::round_text))]
 pub fn round_text() -> &'static [u8]
     ensures { result.now ≡ round_text }
@@ -43,7 +43,7 @@ pub fn spans_head() -> &'static [u8]
     b"A snapshot run: each transaction sees what had committed before its start, and its own writes; no row is written by two that overlap."
 }
 
-/// A circle of starts and commits.
+/// A cycle of starts and commits.
 #[tactic(auto, unfolding(crate::specs::Phrases::circle_head))]
 pub fn circle_head() -> &'static [u8]
     ensures { result.now ≡ circle_head }
@@ -153,6 +153,30 @@ pub fn place_words() -> &'static [u8]
     ensures { result.now ≡ place_words }
 {
     b" reads as of place "
+}
+
+/// Where nothing had committed.
+#[tactic(auto, unfolding(crate::specs::Phrases::first_words))]
+pub fn first_words() -> &'static [u8]
+    ensures { result.now ≡ first_words }
+{
+    b", before all commits,"
+}
+
+/// The last commit before a place.
+#[tactic(auto, unfolding(crate::specs::Phrases::behind_words))]
+pub fn behind_words() -> &'static [u8]
+    ensures { result.now ≡ behind_words }
+{
+    b", behind the commit of T"
+}
+
+/// How many places aren't told.
+#[tactic(auto, unfolding(crate::specs::Phrases::places_words))]
+pub fn places_words() -> &'static [u8]
+    ensures { result.now ≡ places_words }
+{
+    b" The report has the places of "
 }
 
 /// The place of a commit.

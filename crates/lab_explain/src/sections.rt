@@ -28,7 +28,7 @@ fn put_order_sentence(out: &mut Vec<u8>, order: &[TxnNo]) -> Result<(), NoMemory
     out.extend_from_slice(b".")
 }
 
-/// The lines of a serial verdict. NoMemory where a growth was refused.
+/// The lines of a serial verdict. NoMemory where an allocation was refused.
 fn serial_lines(alloc: Global, history: &History, serial: &Serial) -> Result<Vec<u8>, NoMemory>
     ensures { IfOk result (λ text. text.items ≡ serial_lines history.now serial.now) }
 {
@@ -71,7 +71,7 @@ fn put_findings(
     put_finding_lines(alloc, out, history, report, &walk, Phenomenon::G2)
 }
 
-/// The whole explanation of a report. NoMemory where a growth was refused.
+/// The whole explanation of a report. NoMemory where an allocation was refused.
 #[tactic(auto, unfolding(crate::specs::Explanation::whole_text))]
 fn whole_text(alloc: Global, history: &History, report: &Report) -> Result<Vec<u8>, NoMemory>
     ensures { IfOk result (λ text. text.items ≡ whole_text history.now report.now) }
@@ -81,14 +81,14 @@ fn whole_text(alloc: Global, history: &History, report: &Report) -> Result<Vec<u
     put_capped(&mut out, 60, &serial)?;
     let mut places = Vec::new(alloc);
     put_places_lines(alloc, &mut places, &report.snapshot)?;
-    put_capped(&mut out, 12, &places)?;
+    put_capped(&mut out, 14, &places)?;
     put_findings(alloc, &mut out, history, report)?;
     out.extend_from_slice(level_line(report.level).as_bytes())?;
     out.extend_from_slice(last_line())?;
     Ok(out)
 }
 
-/// The explanation of what is found of a phenomenon. NoMemory where a growth was refused.
+/// The explanation of what is found of a phenomenon. NoMemory where an allocation was refused.
 #[tactic(auto, unfolding(crate::specs::Explanation::one_text))]
 fn one_text(
     alloc: Global,
@@ -113,7 +113,7 @@ fn one_text(
 }
 
 /// The explanation of a report on a history: of its serial verdict, its snapshot verdict, its phenomena and its level; or of
-/// what it finds of one phenomenon. It has at most 100 lines. NoMemory where a growth was refused.
+/// what it finds of one phenomenon. It has at most 100 lines. NoMemory where an allocation was refused.
 pub fn explanation(
     alloc: Global,
     history: &History,

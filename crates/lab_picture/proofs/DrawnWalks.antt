@@ -60,7 +60,7 @@ module _ (h : History) where
         | inr later ↦ edge_at x.to es to e walk.2 later
       ]
 
-  -- and so is one of a closed walk
+  -- and so is one of a cycle
   pub edge_of : (es : List Edge) (e : Edge) → IsClosedWalk h es → Contains es e → IsEdge h e
   edge_of [] e closed there = absurd closed
   edge_of (x ∷ es) e closed there = edge_at x.from (x ∷ es) x.from e closed there

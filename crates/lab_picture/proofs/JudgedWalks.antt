@@ -1,13 +1,17 @@
 -- A walk that a report names is closed, and the rows are installed by their committed writers.
-use Rattle.std.proofs.Common.{◌≡◌, ◌<◌, Option, Some, None, List, inl, sym, ◌∙◌, subst, arith}
+use Rattle.std.proofs.Common.{◌≡◌, ℕ, ◌<◌, Bool, true, false, Option, Some, None, List, inl, refl, sym, ◌∙◌, subst, arith}
+use Rattle.std.specs.Prelude.{nat_le}
 use Rattle.lab_table.specs.Row.{Row}
 use Rattle.lab_history.specs.History.{History}
+use Rattle.lab_deps.specs.FaultKinds.{parts_of}
 use Rattle.lab_deps.specs.FaultOrder.{IsFirst, kind_place}
+use Rattle.lab_deps.specs.Refusal.{is_uncommitted_read}
 use Rattle.lab_deps.specs.Soundness.{Stands, IsSound}
 use Rattle.lab_deps.specs.declared.edge.Edge.{Edge}
 use Rattle.lab_deps.specs.declared.fault.LocalFault.{LocalFault}
-use Rattle.lab_deps.specs.declared.fault.LocalFault.TheVariants.{Dangling, AbortedRead, IntermediateRead, OwnWriteMissed, LaterThanOwn, RowsDiffer, WritesDiffer, InstallOrder, EndDiffers}
-use Rattle.lab_judge.specs.Judgement.{IsSerialVerdict, IsExactJudgement, FindsWalk, FindsFault, Judges, JudgesAll, JudgesReads, JudgesNothing, JudgesAtFault, RestsOnOrder}
+use Rattle.lab_deps.specs.declared.fault.LocalFault.TheVariants.{AbortedRead, IntermediateRead, InstallOrder}
+use Rattle.lab_deps.proofs.FaultOrders.{reads_last}
+use Rattle.lab_judge.specs.Judgement.{IsSerialVerdict, IsExactJudgement, FindsWalk, FindsFault, Judges, JudgesAll, JudgesReads, JudgesNothing, JudgesAtRead, JudgesAtFault, RestsOnOrder}
 use Rattle.lab_judge.specs.Phenomena.{IsClosedWalk, IsG0, IsG1c, IsGSingle, IsG2Item, IsG2}
 use Rattle.lab_judge.specs.declared.report.Finding.{Finding}
 use Rattle.lab_judge.specs.declared.report.Finding.TheVariants.{Absent, Walk, At, NotJudged}
@@ -73,16 +77,16 @@ module _ (h : History) (report : Report) (walk : List Edge) where
   of_sound : IsSound h → IsClosedWalk h walk → IsFound h walk
   of_sound sound closed = record { closed = closed; installed = λ row stands. sound (InstallOrder row) stands }
 
+  -- and a read of what was never committed is of a later kind
+  is_later : (place : ℕ) → nat_le 7 place ≡ true → 1 < place
+  is_later place t = grind arith
+
   of_fault : (f : LocalFault) → IsFirst h f → JudgesAtFault h f report.phenomena report.level → (p : Phenomenon) → finding_of p report ≡ Walk walk → IsFound h walk
-  of_fault (AbortedRead n k row) first j p is = record { closed = of_reads j p is; installed = none_before (AbortedRead n k row) first (omega arith) }
-  of_fault (IntermediateRead n k row) first j p is = record { closed = of_reads j p is; installed = none_before (IntermediateRead n k row) first (omega arith) }
-  of_fault (Dangling n k row) first j p is = absurd (of_nothing j p is)
-  of_fault (OwnWriteMissed n k row) first j p is = absurd (of_nothing j p is)
-  of_fault (LaterThanOwn n k row) first j p is = absurd (of_nothing j p is)
-  of_fault (RowsDiffer n k row) first j p is = absurd (of_nothing j p is)
-  of_fault (WritesDiffer n k row) first j p is = absurd (of_nothing j p is)
-  of_fault (InstallOrder row) first j p is = absurd (of_nothing j p is)
-  of_fault (EndDiffers row) first j p is = absurd (of_nothing j p is)
+  of_fault f first j p is = at (is_uncommitted_read f) refl j
+    where
+      at : (b : Bool) → is_uncommitted_read f ≡ b → JudgesAtRead b h report.phenomena report.level → IsFound h walk
+      at true read j = record { closed = of_reads j p is; installed = none_before f first (is_later (kind_place f) (sym (reads_last (parts_of f)) ∙ read)) }
+      at false other j = absurd (of_nothing j p is)
 
   of_finding : (s : Serial) → IsSerialVerdict h s → RestsOnOrder h s → Judges h s report.phenomena report.level → (p : Phenomenon) → finding_of p report ≡ Walk walk → IsFound h walk
   of_finding (serial.Yes order) verdict rests j p is = of_sound rests.0 (of_all j p is)
@@ -98,21 +102,14 @@ module _ (h : History) (report : Report) (walk : List Edge) where
   writes_all : JudgesAll h report.phenomena report.level → finding_of G0 report ≡ Walk walk → IsG0 h walk
   writes_all j is = subst (FindsWalk (IsG0 h)) is j.0
 
-  writes_fault : (f : LocalFault) → JudgesAtFault h f report.phenomena report.level → finding_of G0 report ≡ Walk walk → IsG0 h walk
-  writes_fault (AbortedRead n k row) j is = subst (FindsWalk (IsG0 h)) is j.0
-  writes_fault (IntermediateRead n k row) j is = subst (FindsWalk (IsG0 h)) is j.0
-  writes_fault (Dangling n k row) j is = absurd (of_nothing j G0 is)
-  writes_fault (OwnWriteMissed n k row) j is = absurd (of_nothing j G0 is)
-  writes_fault (LaterThanOwn n k row) j is = absurd (of_nothing j G0 is)
-  writes_fault (RowsDiffer n k row) j is = absurd (of_nothing j G0 is)
-  writes_fault (WritesDiffer n k row) j is = absurd (of_nothing j G0 is)
-  writes_fault (InstallOrder row) j is = absurd (of_nothing j G0 is)
-  writes_fault (EndDiffers row) j is = absurd (of_nothing j G0 is)
+  writes_fault : (b : Bool) → JudgesAtRead b h report.phenomena report.level → finding_of G0 report ≡ Walk walk → IsG0 h walk
+  writes_fault true j is = subst (FindsWalk (IsG0 h)) is j.0
+  writes_fault false j is = absurd (of_nothing j G0 is)
 
   writes_beside : (s : Serial) → Judges h s report.phenomena report.level → finding_of G0 report ≡ Walk walk → IsG0 h walk
   writes_beside (serial.Yes order) j is = writes_all j is
   writes_beside (serial.NoCycle other) j is = writes_all j is
-  writes_beside (serial.NoFault fault) j is = writes_fault fault j is
+  writes_beside (serial.NoFault fault) j is = writes_fault (is_uncommitted_read fault) j is
 
   pub is_g0 : IsExactJudgement h report → NamesWalk report (Some G0) walk → IsG0 h walk
   is_g0 exact is = writes_beside report.serial exact.judgement.found is

@@ -1,5 +1,5 @@
 -- The least dependencies of pairs of transactions: what is asked for one after another, and that they are one list.
-use Rattle.std.proofs.Common.{◌≡◌, ℕ, ◌+◌, ◌<◌, true, false, Option, Some, None, Result, Ok, Err, List, [], ◌∷◌, ◌++◌, length, take, get_or, refl, sym, ap, ◌∙◌, subst}
+use Rattle.std.proofs.Common.{◌≡◌, ℕ, ◌+◌, ◌<◌, Bool, true, false, Option, Some, None, Result, Ok, Err, List, [], ◌∷◌, ◌++◌, length, take, get_or, refl, sym, ap, ◌∙◌, subst}
 use Rattle.std.specs.Prelude.{◌↔◌, Contains, IfOk, IfSome}
 use Rattle.std.specs.Ordering.{is_eq, is_lt, ordering_reverse}
 use Rattle.std.specs.declared.cmp.Ordering.{Ordering}
@@ -9,7 +9,6 @@ use Rattle.std.proofs.lemmas.List.{take_more}
 use Rattle.lab_history.specs.History.{History}
 use Rattle.lab_deps.specs.Edges.{IsEdge}
 use Rattle.lab_deps.specs.EdgeOrder.{edge_cmp}
-use Rattle.lab_deps.specs.KindBits.{has_bit}
 use Rattle.lab_deps.specs.declared.edge.Edge.{Edge}
 use Rattle.lab_deps.specs.declared.edge.Kind.{Kind}
 use Rattle.lab_deps.proofs.EdgeOrders.{edges_total, same_edge}
@@ -17,15 +16,15 @@ use Rattle.lab_picture.specs.Forward.{IsLeastOf, AreLeastOf}
 use Rattle.lab_picture.specs.declared.forward.Pair.{Pair}
 
 -- the least of listed dependencies is the least of those that there are
-pub least_of_listed : {F : Type 0} (h : History) (es : List Edge) (p : Pair) (bits : ℕ) (r : Result (Option Edge) F)
-    → ((k : Kind) → has_bit bits k ≡ true) → ((e : Edge) → Contains es e ↔ IsEdge h e)
+pub least_of_listed : {F : Type 0} (h : History) (es : List Edge) (p : Pair) (kinds : Kind → Bool) (r : Result (Option Edge) F)
+    → ((k : Kind) → kinds k ≡ true) → ((e : Edge) → Contains es e ↔ IsEdge h e)
     → IfOk r (λ found. IfSome found (Contains es)) → IfOk r (λ found. IfSome found (λ e. e.from ≡ p.from)) → IfOk r (λ found. IfSome found (λ e. e.to ≡ p.to))
-    → IfOk r (λ found. IfSome found (λ least. (e : Edge) → Contains es e → e.from ≡ p.from → e.to ≡ p.to → has_bit bits e.kind ≡ true → is_lt (edge_cmp e least) ≡ false))
-    → IfOk r (λ found. found ≡ None → (e : Edge) → Contains es e → e.from ≡ p.from → e.to ≡ p.to → has_bit bits e.kind ≡ true → ⊥)
+    → IfOk r (λ found. IfSome found (λ least. (e : Edge) → Contains es e → e.from ≡ p.from → e.to ≡ p.to → kinds e.kind ≡ true → is_lt (edge_cmp e least) ≡ false))
+    → IfOk r (λ found. found ≡ None → (e : Edge) → Contains es e → e.from ≡ p.from → e.to ≡ p.to → kinds e.kind ≡ true → ⊥)
     → IfOk r (IsLeastOf h p)
-least_of_listed h es p bits (Err f) all exact there from to least none = tt
-least_of_listed h es p bits (Ok None) all exact there from to least none = λ e edge f t. none refl e ((exact e).1 edge) f t (all e.kind)
-least_of_listed h es p bits (Ok (Some x)) all exact there from to least none =
+least_of_listed h es p kinds (Err f) all exact there from to least none = tt
+least_of_listed h es p kinds (Ok None) all exact there from to least none = λ e edge f t. none refl e ((exact e).1 edge) f t (all e.kind)
+least_of_listed h es p kinds (Ok (Some x)) all exact there from to least none =
     ((exact x).0 there, from, to, λ e edge f t. least e ((exact e).1 edge) f t (all e.kind))
 
 -- edges of which neither is less are one

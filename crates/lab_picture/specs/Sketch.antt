@@ -8,8 +8,11 @@ use Rattle.lab_history.specs.Version.{ops_of, op_at, viewed, version_state, last
 use Rattle.lab_history.specs.declared.operation.VersionName.{VersionName}
 use Rattle.lab_history.specs.declared.operation.VersionName.TheVariants.{Initial, Of}
 use Rattle.lab_deps.specs.declared.edge.Edge.{Edge}
+use Rattle.lab_deps.specs.FaultKinds.{parts_of}
+use Rattle.lab_deps.specs.declared.fault.FaultParts.{FaultParts}
+use Rattle.lab_deps.specs.declared.fault.FaultParts.TheVariants as parts
 use Rattle.lab_deps.specs.declared.fault.LocalFault.{LocalFault}
-use Rattle.lab_deps.specs.declared.fault.LocalFault.TheVariants as fault
+use Rattle.lab_deps.specs.declared.kind.RowFault.TheVariants.{InstallOrder, EndDiffers}
 use Rattle.lab_judge.specs.ReportText.{line_text, serial_text, finding_text}
 use Rattle.lab_judge.specs.declared.report.Finding.{Finding}
 use Rattle.lab_judge.specs.declared.report.Finding.TheVariants as finding
@@ -141,17 +144,14 @@ abbrev pub of_installs : History → List ℕ → Row → Option Misplaced → S
 of_installs h about row None = of_row h about row
 of_installs h about row (Some found) = of_misplaced h about row found
 
--- a fault: its place or its row
+-- a fault at an operation: its place; one at a row alone: the row
+abbrev pub of_parts : History → List ℕ → FaultParts → Sketch
+of_parts h about (parts.Operation kind n k row) = of_place h about n k row
+of_parts h about (parts.Row InstallOrder row) = of_installs h about row (misplaced_of h row)
+of_parts h about (parts.Row EndDiffers row) = of_row h about row
+
 abbrev pub of_fault : History → List ℕ → LocalFault → Sketch
-of_fault h about (fault.Dangling n k row) = of_place h about n k row
-of_fault h about (fault.AbortedRead n k row) = of_place h about n k row
-of_fault h about (fault.IntermediateRead n k row) = of_place h about n k row
-of_fault h about (fault.OwnWriteMissed n k row) = of_place h about n k row
-of_fault h about (fault.LaterThanOwn n k row) = of_place h about n k row
-of_fault h about (fault.RowsDiffer n k row) = of_place h about n k row
-of_fault h about (fault.WritesDiffer n k row) = of_place h about n k row
-of_fault h about (fault.InstallOrder row) = of_installs h about row (misplaced_of h row)
-of_fault h about (fault.EndDiffers row) = of_row h about row
+of_fault h about f = of_parts h about (parts_of f)
 
 -- a serial verdict, with this line
 abbrev pub of_verdict : History → List ℕ → Serial → Sketch

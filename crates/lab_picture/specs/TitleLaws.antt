@@ -7,7 +7,7 @@ use Rattle.lab_picture.specs.Titles.{full_name}
 use Rattle.lab_picture.specs.declared.asked.Phenomenon.{Phenomenon}
 use Rattle.lab_picture.specs.declared.asked.Phenomenon.TheVariants.{G0, G1a, G1b, G1c, GSingle, G2Item, G2}
 
--- a closed walk is one of this phenomenon
+-- a cycle is one of this phenomenon
 abbrev pub HasPhenomenon : History → List Edge → Phenomenon → Type 0
 HasPhenomenon h walk G0 = IsG0 h walk
 HasPhenomenon h walk G1a = ⊥

@@ -2,8 +2,14 @@
 use Rattle.std.specs.Prelude.{ℕ, ◌==◌, not, cond, List, [], ◌∷◌, ◌++◌, flat_map, codes}
 use Rattle.std.specs.Fmt.{decimal}
 use Rattle.lab_deps.specs.declared.edge.Edge.{Edge}
+use Rattle.lab_deps.specs.FaultKinds.{op_entry, row_entry, parts_of}
+use Rattle.lab_deps.specs.declared.fault.FaultParts.{FaultParts}
+use Rattle.lab_deps.specs.declared.fault.FaultParts.TheVariants as parts
 use Rattle.lab_deps.specs.declared.fault.LocalFault.{LocalFault}
-use Rattle.lab_deps.specs.declared.fault.LocalFault.TheVariants as fault
+use Rattle.lab_deps.specs.declared.kind.OpFault.{OpFault}
+use Rattle.lab_deps.specs.declared.kind.OpFault.TheVariants as kind
+use Rattle.lab_deps.specs.declared.kind.RowFault.{RowFault}
+use Rattle.lab_deps.specs.declared.kind.RowFault.TheVariants as row_kind
 use Rattle.lab_judge.specs.Phenomena.{count_kind, is_write, is_item_anti}
 use Rattle.lab_judge.specs.Places.{is_anti}
 use Rattle.lab_judge.specs.declared.report.Finding.{Finding}
@@ -28,11 +34,11 @@ phenomenon_words G2 = codes "anti-dependency cycle"
 abbrev pub full_name : Phenomenon → List ℕ
 full_name p = phenomenon_name p ++ codes " (" ++ phenomenon_words p ++ codes ")"
 
--- the most particular phenomenon of a closed walk with so many anti-dependencies, item anti-dependencies, and dependencies that are no writes after writes
+-- the most particular phenomenon of a cycle with so many anti-dependencies, item anti-dependencies, and dependencies that are no writes after writes
 abbrev pub by_counts : ℕ → ℕ → ℕ → Phenomenon
 by_counts antis items others = cond (antis == 0) (cond (others == 0) G0 G1c) (cond (antis == 1) GSingle (cond (items == 0) G2 G2Item))
 
--- the most particular phenomenon that a closed walk is
+-- the most particular phenomenon that a cycle is
 abbrev pub walk_phenomenon : List Edge → Phenomenon
 walk_phenomenon walk = by_counts (count_kind is_anti walk) (count_kind is_item_anti walk) (count_kind (λ k. not (is_write k)) walk)
 
@@ -45,17 +51,32 @@ abbrev pub txns_text : List ℕ → List ℕ
 txns_text [] = codes "no committed transaction"
 txns_text (n ∷ ns) = codes "T" ++ decimal n ++ flat_map next_text ns
 
--- what is wrong with a history, and the fault's number
+-- what is wrong at an operation and a row where a fault of a kind is
+abbrev pub op_fault_words : OpFault → List ℕ
+op_fault_words kind.Dangling = codes "a version is seen that isn't there"
+op_fault_words kind.AbortedRead = codes "aborted read, G1a"
+op_fault_words kind.IntermediateRead = codes "intermediate read, G1b"
+op_fault_words kind.OwnWriteMissed = codes "an own write isn't seen"
+op_fault_words kind.LaterThanOwn = codes "a version behind the own one is seen"
+op_fault_words kind.RowsDiffer = codes "rows differ from what the statement lists"
+op_fault_words kind.WritesDiffer = codes "writes differ from what the statement makes"
+
+-- the same at a row alone
+abbrev pub row_fault_words : RowFault → List ℕ
+row_fault_words row_kind.InstallOrder = codes "installers differ from the committed writers"
+row_fault_words row_kind.EndDiffers = codes "the end differs from what was installed"
+
+-- what is wrong, and a fault's code behind it
+abbrev pub with_code : List ℕ → List ℕ → List ℕ
+with_code words code = words ++ codes " (" ++ code ++ codes ")"
+
+-- what is wrong with a history, and the fault's code
+abbrev pub words_of : FaultParts → List ℕ
+words_of (parts.Operation kind n k row) = with_code (op_fault_words kind) (op_entry kind).code
+words_of (parts.Row kind row) = with_code (row_fault_words kind) (row_entry kind).code
+
 abbrev pub fault_words : LocalFault → List ℕ
-fault_words (fault.Dangling n k row) = codes "a version is seen that isn't there (F1)"
-fault_words (fault.AbortedRead n k row) = codes "aborted read, G1a (F2)"
-fault_words (fault.IntermediateRead n k row) = codes "intermediate read, G1b (F3)"
-fault_words (fault.OwnWriteMissed n k row) = codes "an own write isn't seen (F4)"
-fault_words (fault.LaterThanOwn n k row) = codes "a version behind the own one is seen (F5)"
-fault_words (fault.RowsDiffer n k row) = codes "rows differ from what the statement lists (F6)"
-fault_words (fault.WritesDiffer n k row) = codes "writes differ from what the statement makes (F7)"
-fault_words (fault.InstallOrder row) = codes "installers differ from the committed writers (F8)"
-fault_words (fault.EndDiffers row) = codes "the end differs from what was installed (F9)"
+fault_words f = words_of (parts_of f)
 
 -- the title of a serial verdict
 abbrev pub serial_title : Serial → List ℕ

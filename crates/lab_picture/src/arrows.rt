@@ -47,7 +47,7 @@ fn is_dashed(tie: Tie) -> bool
     }
 }
 
-/// What stands at an arrow. NoMemory where a growth was refused.
+/// What stands at an arrow. NoMemory where an allocation was refused.
 fn label_of(alloc: Global, arrow: &Arrow) -> Result<Vec<u8>, NoMemory>
     ensures { IfOk result (λ label. label.items ≡ label_of arrow.now) }
 {

@@ -47,7 +47,7 @@ fn marked_in(marked: &Option<Spot>, txn: TxnNo) -> u32
     }
 }
 
-/// What stands above a column. NoMemory where a growth was refused.
+/// What stands above a column. NoMemory where an allocation was refused.
 fn title_of(alloc: Global, history: &History, txn: TxnNo) -> Result<Vec<u8>, NoMemory>
     ensures { IfOk result (λ title. title.items ≡ title_of history.now txn) }
 {

@@ -6,9 +6,9 @@ ghost use Rattle.lab_picture.specs.Sketch.{with_column, blank, of_place, of_row,
 
 use crate::drawing::{Arrow, Drawing, Spot, Tie};
 use crate::installs::{Misplaced, installers_of, misplaced_of, put_misplaced};
-use crate::states::{ops_of, viewed};
+use crate::states::ops_of;
 use crate::text::put_number;
-use lab_deps::LocalFault;
+use lab_deps::{FaultParts, LocalFault, RowFault, viewed};
 use lab_history::{History, VersionName};
 use lab_table::{NoMemory, RowName, TxnNo};
 use std::alloc::Global;
@@ -249,19 +249,11 @@ pub fn of_fault(
 ) -> Result<Drawing, NoMemory>
     ensures { IfOk result (λ drawing. drawing ≡ of_fault history.now about.items fault) }
 {
-    match fault {
-        LocalFault::Dangling { txn, op, row } => of_place(alloc, history, about, txn, op, row),
-        LocalFault::AbortedRead { txn, op, row } => of_place(alloc, history, about, txn, op, row),
-        LocalFault::IntermediateRead { txn, op, row } => {
-            of_place(alloc, history, about, txn, op, row)
-        }
-        LocalFault::OwnWriteMissed { txn, op, row } => {
-            of_place(alloc, history, about, txn, op, row)
-        }
-        LocalFault::LaterThanOwn { txn, op, row } => of_place(alloc, history, about, txn, op, row),
-        LocalFault::RowsDiffer { txn, op, row } => of_place(alloc, history, about, txn, op, row),
-        LocalFault::WritesDiffer { txn, op, row } => of_place(alloc, history, about, txn, op, row),
-        LocalFault::InstallOrder { row } => of_installs(alloc, history, about, row),
-        LocalFault::EndDiffers { row } => of_row(alloc, history, about, row),
+    match fault.parts() {
+        FaultParts::Operation { txn, op, row, .. } => of_place(alloc, history, about, txn, op, row),
+        FaultParts::Row { kind, row } => match kind {
+            RowFault::InstallOrder => of_installs(alloc, history, about, row),
+            RowFault::EndDiffers => of_row(alloc, history, about, row),
+        },
     }
 }

@@ -1,12 +1,10 @@
 //! The dependencies of a yes that a picture has.
 
-ghost use Rattle.std.specs.Prelude.{◌≡◌, ◌↔◌, ◌++◌, true, [], Contains, IfOk, OnOk};
+ghost use Rattle.std.specs.Prelude.{◌≡◌, ◌↔◌, ◌++◌, [], Contains, IfOk, OnOk};
 ghost use Rattle.lab_history.specs.History.{History as Held};
 ghost use Rattle.lab_deps.specs.Edges.{IsEdge};
 ghost use Rattle.lab_deps.specs.Soundness.{IsSound};
-ghost use Rattle.lab_deps.specs.KindBits.{has_bit};
 ghost use Rattle.lab_deps.specs.declared.edge.Edge.{Edge as Dependency};
-ghost use Rattle.lab_deps.specs.declared.edge.Kind.{Kind as Way};
 ghost use Rattle.lab_judge.specs.Judgement.{IsExactJudgement, RestsOnOrder};
 ghost use Rattle.lab_picture.specs.Making.{listed};
 ghost use Rattle.lab_picture.specs.Forward.{arrows_at, next_pairs, near_pairs, IsLeastOf, AreLeastOf, arrows_in, AreForward, order_of, yes_columns, with_forward};
@@ -15,7 +13,7 @@ use crate::asked::Phenomenon;
 use crate::drawing::{Arrow, Drawing};
 use crate::layout::MAX_COLUMNS;
 use crate::making::arrow_of;
-use lab_deps::{Dependencies, Edge, Kind, Kinds, Sound, Unsound, check_local};
+use lab_deps::{Dependencies, Edge, Kinds, Sound, Unsound, check_local};
 use lab_history::History;
 use lab_judge::{Report, Serial};
 use lab_table::{NoMemory, TxnNo};
@@ -44,8 +42,8 @@ fn put_next_pairs(
     Ok(())
 }
 
-/// Each two transactions of one band, and the last of a band with the first of the next. NoMemory where a growth was
-/// refused.
+/// Each two transactions of one band, and the last of a band with the first of the next. NoMemory where an allocation
+/// was refused.
 fn near_pairs(alloc: Global, columns: &[TxnNo]) -> Result<Vec<Pair>, NoMemory>
     ensures { IfOk result (λ pairs. pairs.items ≡ near_pairs 0 columns.now) }
 {
@@ -56,27 +54,15 @@ fn near_pairs(alloc: Global, columns: &[TxnNo]) -> Result<Vec<Pair>, NoMemory>
     Ok(pairs)
 }
 
-/// Each kind of dependency.
-fn all_kinds() -> Kinds
-    ensures { (kind : Way) → has_bit result.bits kind ≡ true }
-{
-    Kinds::none()
-        .and(Kind::Write)
-        .and(Kind::ItemRead)
-        .and(Kind::PredicateRead)
-        .and(Kind::ItemAnti)
-        .and(Kind::PredicateAnti)
-}
-
-/// The least dependency of the second of two transactions on the first; None where there is none. NoMemory where a growth
-/// was refused.
+/// The least dependency of the second of two transactions on the first; None where there is none. NoMemory where an
+/// allocation was refused.
 fn least_of(edges: &Dependencies<'_>, pair: Pair) -> Result<Option<Edge>, NoMemory>
     ensures { (h : Held) → ((e : Dependency) → Contains edges.now e ↔ IsEdge h e) → IfOk result (IsLeastOf h pair) }
 {
-    edges.least(pair.from, pair.to, all_kinds())
+    edges.least(pair.from, pair.to, Kinds::ALL)
 }
 
-/// The least dependency of each two. NoMemory where a growth was refused.
+/// The least dependency of each two. NoMemory where an allocation was refused.
 fn least_of_all(
     alloc: Global,
     edges: &Dependencies<'_>,
@@ -98,7 +84,7 @@ fn arrow_at(history: &History, edge: Option<Edge>) -> Option<Arrow>
     arrow_of(history, &edge?)
 }
 
-/// The arrows of dependencies that there may be. NoMemory where a growth was refused.
+/// The arrows of dependencies that there may be. NoMemory where an allocation was refused.
 fn arrows_in(
     alloc: Global,
     history: &History,
@@ -115,7 +101,8 @@ fn arrows_in(
     Ok(arrows)
 }
 
-/// The arrows of a sound history between transactions that are near to each other. NoMemory where a growth was refused.
+/// The arrows of a sound history between transactions that are near to each other. NoMemory where an allocation was
+/// refused.
 fn arrows_between(
     alloc: Global,
     history: &History,
@@ -138,8 +125,8 @@ fn no_arrows(alloc: Global) -> Vec<Arrow>
     Vec::new(alloc)
 }
 
-/// The arrows between transactions that are near to each other in an order of a sound history's. NoMemory where a growth
-/// was refused.
+/// The arrows between transactions that are near to each other in an order of a sound history's. NoMemory where an
+/// allocation was refused.
 fn order_arrows(alloc: Global, history: &History, columns: &[TxnNo]) -> Result<Vec<Arrow>, NoMemory>
     requires { IsSound history.now }
     ensures { IfOk result (λ arrows. AreForward history.now columns.now arrows.items) }
@@ -151,7 +138,7 @@ fn order_arrows(alloc: Global, history: &History, columns: &[TxnNo]) -> Result<V
     }
 }
 
-/// The arrows of a serial verdict's yes. NoMemory where a growth was refused.
+/// The arrows of a serial verdict's yes. NoMemory where an allocation was refused.
 fn serial_arrows(alloc: Global, history: &History, serial: &Serial) -> Result<Vec<Arrow>, NoMemory>
     requires { RestsOnOrder history.now serial.now }
     ensures { IfOk result (λ arrows. AreForward history.now (order_of serial.now) arrows.items) }
@@ -167,7 +154,7 @@ fn serial_arrows(alloc: Global, history: &History, serial: &Serial) -> Result<Ve
 }
 
 /// The arrows of a yes: those of the least dependencies between transactions that are near to each other. None of a no,
-/// and of what is found of a phenomenon. NoMemory where a growth was refused.
+/// and of what is found of a phenomenon. NoMemory where an allocation was refused.
 pub fn forward_arrows(
     alloc: Global,
     history: &History,

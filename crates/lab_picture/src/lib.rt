@@ -41,5 +41,5 @@ pub use laws::{
 pub use making::arrow_of;
 pub use picturing::{history_of, picture};
 pub use sketch::draw;
-pub use states::{ops_of, state_at, state_of, viewed};
+pub use states::{ops_of, state_at};
 pub use svg::print_drawing;

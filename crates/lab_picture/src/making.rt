@@ -5,8 +5,8 @@ ghost use Rattle.lab_history.specs.Limits.{max_operations};
 ghost use Rattle.lab_picture.specs.Making.{ties, makes, first_op, reader_of, writer_of, from_of, to_of, arrow_of};
 
 use crate::drawing::{Arrow, Spot, Tie};
-use crate::states::{changes, ops_of, seen_place};
-use lab_deps::{Edge, Kind};
+use crate::states::{changes, ops_of};
+use lab_deps::{Edge, Kind, place_of, viewed};
 use lab_history::{History, Op};
 use lab_table::{RowName, TxnNo};
 
@@ -51,7 +51,8 @@ fn ties(history: &History, kind: Kind, row: RowName, op: &Op, seen: usize, own: 
 fn makes(history: &History, edge: &Edge, op: &Op) -> bool
     ensures { result ≡ makes history.now edge.now op.now }
 {
-    let Some(seen) = seen_place(history, reader_of(edge), op, edge.row) else {
+    let version = viewed(op, edge.row);
+    let Some(seen) = place_of(history, reader_of(edge), edge.row, version) else {
         return false;
     };
     let Some(own) = history.installer_place(edge.row, writer_of(edge)) else {

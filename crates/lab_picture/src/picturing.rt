@@ -17,7 +17,7 @@ use lab_table::NoMemory;
 use std::alloc::{AllocError, Global};
 use std::io::{Read, Write};
 
-/// The picture of a judgement of a history. NoMemory where a growth was refused.
+/// The picture of a judgement of a history. NoMemory where an allocation was refused.
 fn picture_of(
     alloc: Global,
     history: &History,
@@ -63,9 +63,9 @@ fn answer(alloc: Global, input: &[u8], asked: Option<Phenomenon>) -> Result<Answ
 /// of a phenomenon. Or the line of the file's first fault. A file of more than 8,388,608 bytes is refused, whatever it
 /// holds.
 ///
-/// The input is read before the first write. `Unread` where it can't be read, `NoMemory` where a growth was refused, and
-/// then nothing is written; `Unwritten` where a write fails. Behind the answer `notes` is given a hint where the file is
-/// refused; what fails there is let go.
+/// The input is read before the first write. `Unread` where it can't be read, `NoMemory` where an allocation was
+/// refused, and then nothing is written; `Unwritten` where a write fails. Behind the answer `notes` is given a hint
+/// where the file is refused; what fails there is let go.
 pub fn picture<R: Read, W: Write, N: Write>(
     alloc: Global,
     reader: &mut R,

@@ -15,7 +15,8 @@ use lab_judge::{Finding, Report, Serial, put_finding, put_serial};
 use lab_table::{NoMemory, TxnNo};
 use std::alloc::Global;
 
-/// The drawing of a serial verdict, or of what a report finds of a phenomenon. NoMemory where a growth was refused.
+/// The drawing of a serial verdict, or of what a report finds of a phenomenon. NoMemory where an allocation was
+/// refused.
 pub fn draw(
     alloc: Global,
     history: &History,

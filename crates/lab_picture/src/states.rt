@@ -3,12 +3,11 @@
 ghost use Rattle.std.specs.Prelude.{◌≡◌, ◌≤◌, length, suc};
 ghost use Rattle.lab_history.specs.HistoryRules.{OpsKeep};
 ghost use Rattle.lab_history.specs.Limits.{max_operations};
-ghost use Rattle.lab_history.specs.Version.{ops_of, viewed, state_at};
-ghost use Rattle.lab_history.specs.VersionName.{state_value};
-ghost use Rattle.lab_deps.specs.Edges.{place_of, changes};
-ghost use Rattle.lab_deps.specs.Broken.{state_of};
+ghost use Rattle.lab_history.specs.Version.{ops_of, state_at};
+ghost use Rattle.lab_deps.specs.Edges.{changes};
 
-use lab_history::{History, Op, State, VersionName};
+use lab_deps::state_of;
+use lab_history::{History, Op, VersionName};
 use lab_table::{RowName, Statement, TxnNo, Value};
 
 /// The operations of a transaction; none where there is no such transaction.
@@ -29,50 +28,6 @@ pub fn ops_of(history: &History, txn: TxnNo) -> &[Op]
 {
     history.txns();
     ops_in(history, txn)
-}
-
-/// The version of a row that an operation sees.
-pub fn viewed(op: &Op, row: RowName) -> VersionName
-    ensures { result ≡ viewed op.now row }
-{
-    op.view.get(row).unwrap_or(VersionName::Initial)
-}
-
-/// The place among a row's versions of the one that a transaction's operation sees, counted from 0, or None where that
-/// is the transaction's own, or isn't installed.
-pub fn seen_place(history: &History, txn: TxnNo, op: &Op, row: RowName) -> Option<usize>
-    ensures { result ≡ place_of history.now txn row (viewed op.now row) }
-{
-    match viewed(op, row) {
-        VersionName::Initial => Some(0),
-        VersionName::Of { txn: writer, .. } => {
-            if writer == txn {
-                None
-            } else {
-                history.installer_place(row, writer)
-            }
-        }
-    }
-}
-
-/// The value of a row in this state, None where it is absent.
-fn value_of(state: State) -> Option<Value>
-    ensures { result ≡ state_value state }
-{
-    match state {
-        State::Absent => None,
-        State::Present(value) => Some(value),
-    }
-}
-
-/// The state of a version of a row; absent where there is no such version.
-pub fn state_of(history: &History, row: RowName, version: VersionName) -> Option<Value>
-    ensures { result ≡ state_of history.now row version }
-{
-    match history.version_state(row, version) {
-        None => None,
-        Some(state) => value_of(state),
-    }
 }
 
 /// The state that the installer at a place, counted from 0, leaves of a row.

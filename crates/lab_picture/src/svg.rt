@@ -206,7 +206,7 @@ fn put_drawing(
     out.extend_from_slice(b"</svg>\n")
 }
 
-/// The text of a drawing of some of a history's transactions. NoMemory where a growth was refused.
+/// The text of a drawing of some of a history's transactions. NoMemory where an allocation was refused.
 pub fn print_drawing(
     alloc: Global,
     history: &History,

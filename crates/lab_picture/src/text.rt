@@ -165,7 +165,8 @@ pub fn put_line(
     }
 }
 
-/// The last of a text's lines, with two dots at its end where the text goes on. NoMemory where a growth was refused.
+/// The last of a text's lines, with two dots at its end where the text goes on. NoMemory where an allocation was
+/// refused.
 fn shown(alloc: Global, width: usize, text: &[u8]) -> Result<Vec<u8>, NoMemory>
     requires { 3 ≤ width }
     ensures { IfOk result (λ line. line.items ≡ shown width text.now) }

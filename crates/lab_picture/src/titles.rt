@@ -1,11 +1,11 @@
 //! The titles of drawings, in words. Each function appends; after NoMemory, part of what was to be appended may stand there.
 
 ghost use Rattle.std.specs.Prelude.{◌≡◌, ◌++◌, flat_map, OnOk};
-ghost use Rattle.lab_picture.specs.Titles.{full_name, by_counts, walk_phenomenon, next_text, txns_text, fault_words, serial_title, finding_word, finding_title};
+ghost use Rattle.lab_picture.specs.Titles.{full_name, by_counts, walk_phenomenon, next_text, txns_text, op_fault_words, row_fault_words, with_code, fault_words, serial_title, finding_word, finding_title};
 
 use crate::asked::Phenomenon;
 use crate::text::put_number;
-use lab_deps::{Edge, Kind, LocalFault};
+use lab_deps::{Edge, FaultParts, Kind, LocalFault, OpFault, RowFault};
 use lab_judge::{Finding, Serial};
 use lab_table::{NoMemory, TxnNo};
 
@@ -19,7 +19,7 @@ fn put_full_name(out: &mut Vec<u8>, phenomenon: Phenomenon) -> Result<(), NoMemo
     out.extend_from_slice(b")")
 }
 
-/// The most particular phenomenon of a closed walk with so many anti-dependencies, item anti-dependencies, and
+/// The most particular phenomenon of a cycle with so many anti-dependencies, item anti-dependencies, and
 /// dependencies that are no writes after writes.
 fn by_counts(antis: usize, items: usize, others: usize) -> Phenomenon
     ensures { result ≡ by_counts antis items others }
@@ -39,7 +39,7 @@ fn by_counts(antis: usize, items: usize, others: usize) -> Phenomenon
     }
 }
 
-/// The most particular phenomenon that a closed walk is.
+/// The most particular phenomenon that a cycle is.
 fn walk_phenomenon(walk: &[Edge]) -> Phenomenon
     ensures { result ≡ walk_phenomenon walk.now }
 {
@@ -89,20 +89,48 @@ fn put_txns(out: &mut Vec<u8>, txns: &[TxnNo]) -> Result<(), NoMemory>
     }
 }
 
-/// What is wrong with a history, and the fault's number.
-fn fault_words(fault: LocalFault) -> &'static str
-    ensures { result.now ≡ fault_words fault }
+/// What is wrong at an operation and a row where a fault of this kind is.
+fn op_fault_words(kind: OpFault) -> &'static str
+    ensures { result.now ≡ op_fault_words kind }
 {
-    match fault {
-        LocalFault::Dangling { .. } => "a version is seen that isn't there (F1)",
-        LocalFault::AbortedRead { .. } => "aborted read, G1a (F2)",
-        LocalFault::IntermediateRead { .. } => "intermediate read, G1b (F3)",
-        LocalFault::OwnWriteMissed { .. } => "an own write isn't seen (F4)",
-        LocalFault::LaterThanOwn { .. } => "a version behind the own one is seen (F5)",
-        LocalFault::RowsDiffer { .. } => "rows differ from what the statement lists (F6)",
-        LocalFault::WritesDiffer { .. } => "writes differ from what the statement makes (F7)",
-        LocalFault::InstallOrder { .. } => "installers differ from the committed writers (F8)",
-        LocalFault::EndDiffers { .. } => "the end differs from what was installed (F9)",
+    match kind {
+        OpFault::Dangling => "a version is seen that isn't there",
+        OpFault::AbortedRead => "aborted read, G1a",
+        OpFault::IntermediateRead => "intermediate read, G1b",
+        OpFault::OwnWriteMissed => "an own write isn't seen",
+        OpFault::LaterThanOwn => "a version behind the own one is seen",
+        OpFault::RowsDiffer => "rows differ from what the statement lists",
+        OpFault::WritesDiffer => "writes differ from what the statement makes",
+    }
+}
+
+/// The same at a row alone.
+fn row_fault_words(kind: RowFault) -> &'static str
+    ensures { result.now ≡ row_fault_words kind }
+{
+    match kind {
+        RowFault::InstallOrder => "installers differ from the committed writers",
+        RowFault::EndDiffers => "the end differs from what was installed",
+    }
+}
+
+/// Appends what is wrong, and a fault's code behind it.
+fn put_words(out: &mut Vec<u8>, words: &str, code: &str) -> Result<(), NoMemory>
+    ensures { OnOk result (out.new.items ≡ out.old.items ++ with_code words.now code.now) }
+{
+    out.extend_from_slice(words.as_bytes())?;
+    out.extend_from_slice(b" (")?;
+    out.extend_from_slice(code.as_bytes())?;
+    out.extend_from_slice(b")")
+}
+
+/// Appends what is wrong with a history, and the fault's code behind it.
+fn put_fault_words(out: &mut Vec<u8>, fault: LocalFault) -> Result<(), NoMemory>
+    ensures { OnOk result (out.new.items ≡ out.old.items ++ fault_words fault) }
+{
+    match fault.parts() {
+        FaultParts::Operation { kind, .. } => put_words(out, op_fault_words(kind), kind.code()),
+        FaultParts::Row { kind, .. } => put_words(out, row_fault_words(kind), kind.code()),
     }
 }
 
@@ -117,7 +145,7 @@ pub fn put_serial_title(out: &mut Vec<u8>, serial: &Serial) -> Result<(), NoMemo
         }
         Serial::NoFault(fault) => {
             out.extend_from_slice(b"Not sound: ")?;
-            out.extend_from_slice(fault_words(*fault).as_bytes())
+            put_fault_words(out, *fault)
         }
         Serial::NoCycle(walk) => {
             out.extend_from_slice(b"Not serializable: ")?;
