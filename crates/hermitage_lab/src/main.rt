@@ -1,8 +1,8 @@
 //! `hermitage_lab`: scripts of transactions in, and proved answers out.
 #![tactic(auto)]
 
+mod command_line;
 mod told;
-mod words;
 
 ghost use Rattle.std.specs.Prelude.{◌≡◌, ◌≢◌, Ok, Err};
 ghost use Rattle.clap.specs.Values.{kind_of};
@@ -22,22 +22,22 @@ use std::sync::Wait;
 use std::thread::Threads;
 
 /// The exit status of a refused command line.
-const WORDS_REFUSED: u8 = 5;
+const ARGUMENTS_REFUSED: u8 = 5;
 
-/// The words that the program was given, its name first; None where one isn't UTF-8, and standard error says so.
-fn given_words(rt: &HostRuntime) -> Result<Option<Vec<String>>, RunFault> {
+/// The arguments that the program was given, its name first; None where one isn't UTF-8, and standard error says so.
+fn given_arguments(rt: &HostRuntime) -> Result<Option<Vec<String>>, RunFault> {
     match std::env::args(rt) {
-        Ok(words) => Ok(Some(words.collect::<Vec<String>>(rt.alloc())?)),
+        Ok(arguments) => Ok(Some(arguments.collect::<Vec<String>>(rt.alloc())?)),
         Err(error) if error.kind() == ErrorKind::OutOfMemory => Err(RunFault::NoMemory),
         Err(_) => {
-            let _ = rt.eprintln("error: a word is not UTF-8");
+            let _ = rt.eprintln("error: an argument is not UTF-8");
             Ok(None)
         }
     }
 }
 
-/// Prints what there is to say of words that name no run, help or a refusal, and answers the exit status.
-fn explain(rt: &HostRuntime, error: &clap::Error) -> Result<u8, RunFault>
+/// Prints help, the version or why the arguments are refused, and answers the exit status.
+fn report(rt: &HostRuntime, error: &clap::Error) -> Result<u8, RunFault>
     ensures memory { kind_of error.now ≡ OutOfMemory → result ≡ Err RunFault.NoMemory }
     ensures refused { (kind_of error.now ≢ OutOfMemory) → (kind_of error.now ≢ DisplayHelp) → (kind_of error.now ≢ DisplayVersion) → result ≡ Ok 5 }
 {
@@ -46,7 +46,7 @@ fn explain(rt: &HostRuntime, error: &clap::Error) -> Result<u8, RunFault>
     }
     let printed = error.print(rt);
     if error.use_stderr() {
-        return Ok(WORDS_REFUSED);
+        return Ok(ARGUMENTS_REFUSED);
     }
     match printed {
         Ok(()) => Ok(0),
@@ -55,7 +55,7 @@ fn explain(rt: &HostRuntime, error: &clap::Error) -> Result<u8, RunFault>
     }
 }
 
-/// The names of a batch's files. NoMemory where a growth was refused.
+/// The names of a batch's files. NoMemory where an allocation was refused.
 fn file_names<'a>(alloc: Global, matches: &'a ArgMatches<'_>) -> Result<Vec<&'a str>, AllocError> {
     let mut names = Vec::new(alloc);
     if let Some(given) = matches.get_strs("FILE") {
@@ -92,8 +92,8 @@ fn run_case<W: Write>(
     writer: &mut W,
     matches: &ArgMatches<'_>,
 ) -> Result<u8, RunFault> {
-    let Some(name) = matches.get_str("NAME").and_then(words::case_of) else {
-        return Ok(WORDS_REFUSED);
+    let Some(name) = matches.get_str("NAME").and_then(command_line::case_of) else {
+        return Ok(ARGUMENTS_REFUSED);
     };
     ended(case(alloc, name, writer))
 }
@@ -107,8 +107,8 @@ fn run_play<T: Threads + Wait + Sync, R: Read, W: Write, N: Write>(
     notes: &mut N,
     matches: &ArgMatches<'_>,
 ) -> Result<u8, RunFault> {
-    let Some(level) = matches.get_str("engine").and_then(words::level_of) else {
-        return Ok(WORDS_REFUSED);
+    let Some(level) = matches.get_str("engine").and_then(command_line::level_of) else {
+        return Ok(ARGUMENTS_REFUSED);
     };
     let history = matches.get_flag("history");
     if matches.get_flag("free") {
@@ -143,7 +143,7 @@ fn run_explain<R: Read, W: Write, N: Write>(
 }
 
 /// Runs a subcommand, and answers the exit status.
-fn run_words<T: Files + Threads + Wait + Sync, R: Read, W: Write, N: Write>(
+fn run_subcommand<T: Files + Threads + Wait + Sync, R: Read, W: Write, N: Write>(
     rt: &T,
     alloc: Global,
     reader: &mut R,
@@ -160,29 +160,32 @@ fn run_words<T: Files + Threads + Wait + Sync, R: Read, W: Write, N: Write>(
         Some(("matrix", _)) => ended(matrix(alloc, writer)),
         Some(("picture", more)) => run_picture(alloc, reader, writer, notes, more),
         Some(("explain", more)) => run_explain(alloc, reader, writer, notes, more),
-        _ => Ok(WORDS_REFUSED),
+        _ => Ok(ARGUMENTS_REFUSED),
     }
 }
 
 /// Whether a subcommand reads standard input.
-fn reads_input(word: &str) -> bool {
-    matches!(word, "serial" | "run" | "judge" | "picture" | "explain")
+fn reads_input(subcommand: &str) -> bool {
+    matches!(
+        subcommand,
+        "serial" | "run" | "judge" | "picture" | "explain"
+    )
 }
 
 /// Says on standard error what to type where a subcommand that reads standard input was given a file's name.
-fn note_words(rt: &HostRuntime, given: &[String]) {
-    let [_, word, middle @ .., last] = given else {
+fn note_arguments(rt: &HostRuntime, given: &[String]) {
+    let [_, subcommand, middle @ .., last] = given else {
         return;
     };
     let takes_name = match middle.last() {
         Some(option) => matches!(option.as_str(), "--engine" | "--phenomenon"),
         None => false,
     };
-    if takes_name || last.starts_with("-") || !reads_input(word.as_str()) {
+    if takes_name || last.starts_with("-") || !reads_input(subcommand.as_str()) {
         return;
     }
     let _ = rt.eprint("\nit reads standard input: hermitage_lab ");
-    let _ = rt.eprint(word.as_str());
+    let _ = rt.eprint(subcommand.as_str());
     for option in middle {
         let _ = rt.eprint(" ");
         let _ = rt.eprint(option.as_str());
@@ -191,26 +194,26 @@ fn note_words(rt: &HostRuntime, given: &[String]) {
     let _ = rt.eprintln(last.as_str());
 }
 
-/// What words that name no run come to: `explain`, and what to type instead.
+/// What arguments that name no run come to: what there is to report, and what to type instead.
 fn refused(rt: &HostRuntime, error: &clap::Error, given: &[String]) -> Result<u8, RunFault> {
-    let status = explain(rt, error)?;
-    if status == WORDS_REFUSED {
-        note_words(rt, given);
+    let status = report(rt, error)?;
+    if status == ARGUMENTS_REFUSED {
+        note_arguments(rt, given);
     }
     Ok(status)
 }
 
 fn main(rt: HostRuntime) -> ExitCode {
-    let given = match given_words(&rt) {
+    let given = match given_arguments(&rt) {
         Ok(Some(given)) => given,
-        Ok(None) => return ExitCode::from(WORDS_REFUSED),
+        Ok(None) => return ExitCode::from(ARGUMENTS_REFUSED),
         Err(fault) => return ExitCode::from(told(&rt, fault)),
     };
-    let Ok(command) = words::words(rt.alloc()) else {
+    let Ok(command) = command_line::command(rt.alloc()) else {
         return ExitCode::from(told(&rt, RunFault::NoMemory));
     };
     let ended = match command.try_get_matches_from(given.as_slice()) {
-        Ok(matches) => run_words(
+        Ok(matches) => run_subcommand(
             &rt,
             rt.alloc(),
             &mut rt.stdin(),

@@ -1,9 +1,9 @@
-//! The words that the program takes.
+//! The command line: subcommands, their arguments, and what help says of them.
 
 ghost use Rattle.std.specs.Prelude.{◌≡◌};
 ghost use Rattle.std.specs.Str.{bytes_eq};
 ghost use Rattle.lab_matrix.specs.MatrixText.{case_name};
-ghost use Rattle.hermitage_lab.specs.Words.{level_named, case_named};
+ghost use Rattle.hermitage_lab.specs.Arguments.{level_named, case_named};
 
 use clap::{Arg, ArgAction, Command};
 use lab_engine::Level;
@@ -35,7 +35,7 @@ statements, each with its session behind two dashes:
     commit; -- T1
 
 Rows may be of up to four named tables: `setup (1, 10), stock (1, 5);` has a row of `test`, which needn't
-be named, and one of `stock`. A name is 1 to 16 letters and low lines, and no word of scripts.
+be named, and one of `stock`. A name is 1 to 16 letters and underscores, and no word of scripts.
 
 Writes the transcript to standard output: for each transaction a line with its number and its
 session, as `txn 1 T1`, each statement with the rows that it lists, as `-> (2, 20)`, and `commit`
@@ -146,77 +146,77 @@ const EXPLAINED: &str = "Explains what is found of a phenomenon in place of the 
 /// The version, and what the program was proved with.
 const VERSION: &str = "1.0.0, proved with rattle-kit-13, logic dac8208d650f15bf";
 
-/// The cases that the program has, as words.
+/// The names of the cases.
 pub static CASES: [&str; 10] = [
     "G0", "G1a", "G1b", "G1c", "OTV", "PMP", "P4", "G-single", "G2-item", "G2",
 ];
 
-/// The phenomena that a picture or an explanation may be asked of, as words.
+/// The names of the phenomena that a picture or an explanation may be asked of.
 static PHENOMENA: [&str; 7] = ["G0", "G1a", "G1b", "G1c", "G-single", "G2-item", "G2"];
 
-/// The engines that the program has, as words.
+/// The names of the engines.
 pub static ENGINES: [&str; 3] = ["locking", "committed", "snapshot"];
 
-/// Whether two words are the same.
-fn is_word(word: &str, name: &str) -> bool
-    ensures { result ≡ bytes_eq word.now name.now }
+/// Whether an argument is a name.
+fn is_name(argument: &str, name: &str) -> bool
+    ensures { result ≡ bytes_eq argument.now name.now }
 {
-    word.as_bytes() == name.as_bytes()
+    argument.as_bytes() == name.as_bytes()
 }
 
 /// The level of the engine of this name; None where there is no such engine.
 pub fn level_of(engine: &str) -> Option<Level>
     ensures { result ≡ level_named engine.now }
 {
-    if is_word(engine, "locking") {
+    if is_name(engine, "locking") {
         Some(Level::Locking)
-    } else if is_word(engine, "committed") {
+    } else if is_name(engine, "committed") {
         Some(Level::Committed)
-    } else if is_word(engine, "snapshot") {
+    } else if is_name(engine, "snapshot") {
         Some(Level::Snapshot)
     } else {
         None
     }
 }
 
-/// Whether a word is the name of a case.
-fn names(word: &str, case: CaseName) -> bool
-    ensures { result ≡ bytes_eq word.now (case_name case) }
+/// Whether an argument is the name of a case.
+fn names(argument: &str, case: CaseName) -> bool
+    ensures { result ≡ bytes_eq argument.now (case_name case) }
 {
-    is_word(word, case.name())
+    is_name(argument, case.name())
 }
 
 /// The case of this name; None where there is no such case.
-pub fn case_of(word: &str) -> Option<CaseName>
-    ensures { result ≡ case_named word.now }
+pub fn case_of(argument: &str) -> Option<CaseName>
+    ensures { result ≡ case_named argument.now }
 {
-    if names(word, CaseName::G0) {
+    if names(argument, CaseName::G0) {
         Some(CaseName::G0)
-    } else if names(word, CaseName::G1a) {
+    } else if names(argument, CaseName::G1a) {
         Some(CaseName::G1a)
-    } else if names(word, CaseName::G1b) {
+    } else if names(argument, CaseName::G1b) {
         Some(CaseName::G1b)
-    } else if names(word, CaseName::G1c) {
+    } else if names(argument, CaseName::G1c) {
         Some(CaseName::G1c)
-    } else if names(word, CaseName::Otv) {
+    } else if names(argument, CaseName::Otv) {
         Some(CaseName::Otv)
-    } else if names(word, CaseName::Pmp) {
+    } else if names(argument, CaseName::Pmp) {
         Some(CaseName::Pmp)
-    } else if names(word, CaseName::P4) {
+    } else if names(argument, CaseName::P4) {
         Some(CaseName::P4)
-    } else if names(word, CaseName::GSingle) {
+    } else if names(argument, CaseName::GSingle) {
         Some(CaseName::GSingle)
-    } else if names(word, CaseName::G2Item) {
+    } else if names(argument, CaseName::G2Item) {
         Some(CaseName::G2Item)
-    } else if names(word, CaseName::G2) {
+    } else if names(argument, CaseName::G2) {
         Some(CaseName::G2)
     } else {
         None
     }
 }
 
-/// The word that names an engine.
-fn engine_word<'a>(alloc: Global) -> Arg<'a> {
+/// The option that names an engine.
+fn engine_option<'a>(alloc: Global) -> Arg<'a> {
     Arg::new(alloc, "engine")
         .long("engine")
         .help(ENGINE)
@@ -225,7 +225,7 @@ fn engine_word<'a>(alloc: Global) -> Arg<'a> {
         .value_parser(ENGINES.as_slice())
 }
 
-/// A word that is there or not.
+/// An option without a value.
 fn flag<'a>(alloc: Global, name: &'a str, help: &'a str) -> Arg<'a> {
     Arg::new(alloc, name)
         .long(name)
@@ -233,7 +233,7 @@ fn flag<'a>(alloc: Global, name: &'a str, help: &'a str) -> Arg<'a> {
         .action(ArgAction::SetTrue)
 }
 
-/// A subcommand without its own words.
+/// A subcommand without its own arguments.
 fn plain_command<'a>(alloc: Global, name: &'a str, about: &'a str, whole: &'a str) -> Command<'a> {
     Command::new(alloc, name)
         .about(about)
@@ -241,16 +241,16 @@ fn plain_command<'a>(alloc: Global, name: &'a str, about: &'a str, whole: &'a st
         .after_help(STATUSES)
 }
 
-/// The words of `run`.
-fn run_words<'a>(alloc: Global) -> Result<Command<'a>, AllocError> {
+/// The subcommand `run`. NoMemory where an allocation was refused.
+fn run_command<'a>(alloc: Global) -> Result<Command<'a>, AllocError> {
     plain_command(alloc, "run", RUN, RUN_WHOLE)
-        .arg(engine_word(alloc))?
+        .arg(engine_option(alloc))?
         .arg(flag(alloc, "free", FREE))?
         .arg(flag(alloc, "history", HISTORY))
 }
 
-/// The words of `batch`.
-fn batch_words<'a>(alloc: Global) -> Result<Command<'a>, AllocError> {
+/// The subcommand `batch`. NoMemory where an allocation was refused.
+fn batch_command<'a>(alloc: Global) -> Result<Command<'a>, AllocError> {
     let files = Arg::new(alloc, "FILE")
         .help(FILE)
         .required(true)
@@ -259,8 +259,8 @@ fn batch_words<'a>(alloc: Global) -> Result<Command<'a>, AllocError> {
     plain_command(alloc, "batch", BATCH, BATCH_WHOLE).arg(files)
 }
 
-/// The words of `case`.
-fn case_words<'a>(alloc: Global) -> Result<Command<'a>, AllocError> {
+/// The subcommand `case`. NoMemory where an allocation was refused.
+fn case_command<'a>(alloc: Global) -> Result<Command<'a>, AllocError> {
     let name = Arg::new(alloc, "NAME")
         .help(NAME)
         .required(true)
@@ -269,8 +269,8 @@ fn case_words<'a>(alloc: Global) -> Result<Command<'a>, AllocError> {
     plain_command(alloc, "case", CASE, CASE_WHOLE).arg(name)
 }
 
-/// The word that names a phenomenon.
-fn phenomenon_word<'a>(alloc: Global, help: &'a str) -> Arg<'a> {
+/// The option that names a phenomenon.
+fn phenomenon_option<'a>(alloc: Global, help: &'a str) -> Arg<'a> {
     Arg::new(alloc, "phenomenon")
         .long("phenomenon")
         .help(help)
@@ -278,14 +278,16 @@ fn phenomenon_word<'a>(alloc: Global, help: &'a str) -> Arg<'a> {
         .value_parser(PHENOMENA.as_slice())
 }
 
-/// The words of `picture`.
-fn picture_words<'a>(alloc: Global) -> Result<Command<'a>, AllocError> {
-    plain_command(alloc, "picture", PICTURE, PICTURE_WHOLE).arg(phenomenon_word(alloc, PHENOMENON))
+/// The subcommand `picture`. NoMemory where an allocation was refused.
+fn picture_command<'a>(alloc: Global) -> Result<Command<'a>, AllocError> {
+    plain_command(alloc, "picture", PICTURE, PICTURE_WHOLE).arg(phenomenon_option(
+        alloc, PHENOMENON,
+    ))
 }
 
-/// The words of `explain`.
-fn explain_words<'a>(alloc: Global) -> Result<Command<'a>, AllocError> {
-    plain_command(alloc, "explain", EXPLAIN, EXPLAIN_WHOLE).arg(phenomenon_word(alloc, EXPLAINED))
+/// The subcommand `explain`. NoMemory where an allocation was refused.
+fn explain_command<'a>(alloc: Global) -> Result<Command<'a>, AllocError> {
+    plain_command(alloc, "explain", EXPLAIN, EXPLAIN_WHOLE).arg(phenomenon_option(alloc, EXPLAINED))
 }
 
 /// The program's command, without its subcommands.
@@ -305,17 +307,17 @@ fn with<'a>(
     command.subcommand(more?)
 }
 
-/// The command line: a subcommand, and its own words. NoMemory where a growth was refused.
-pub fn words<'a>(alloc: Global) -> Result<Command<'a>, AllocError> {
+/// The program's command with all subcommands. NoMemory where an allocation was refused.
+pub fn command<'a>(alloc: Global) -> Result<Command<'a>, AllocError> {
     let serial = plain_command(alloc, "serial", SERIAL, SERIAL_WHOLE);
     let command = program(alloc).subcommand(serial)?;
-    let command = with(command, run_words(alloc))?;
+    let command = with(command, run_command(alloc))?;
     let judge = plain_command(alloc, "judge", JUDGE, JUDGE_WHOLE);
     let command = command.subcommand(judge)?;
-    let command = with(command, batch_words(alloc))?;
-    let command = with(command, case_words(alloc))?;
+    let command = with(command, batch_command(alloc))?;
+    let command = with(command, case_command(alloc))?;
     let matrix = plain_command(alloc, "matrix", MATRIX, MATRIX_WHOLE);
     let command = command.subcommand(matrix)?;
-    let command = with(command, picture_words(alloc))?;
-    with(command, explain_words(alloc))
+    let command = with(command, picture_command(alloc))?;
+    with(command, explain_command(alloc))
 }
