@@ -1,6 +1,7 @@
 pub mod Tokens
 pub mod HeldDigits
 pub mod TokenNumbers
+pub mod SameVariants
 pub mod Loops
 pub mod Numbers
 pub mod PrintedTokens

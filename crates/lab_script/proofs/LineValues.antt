@@ -1,9 +1,9 @@
 -- What is read from left to right is the same, whether or not the first fault is kept: statements, commands and setups.
-use Rattle.std.proofs.Common.{◌≡◌, ℕ, zero, suc, true, false, cond, List, [], ◌∷◌, ◌++◌, length, Option, Some, None, refl, sym, ap, ◌∙◌, inl, inr, subst, arith}
+use Rattle.std.proofs.Common.{◌≡◌, ℕ, zero, suc, true, false, cond, List, [], ◌∷◌, ◌++◌, length, Option, Some, None, refl, inl, inr, subst, arith}
 use Rattle.std.specs.Prelude.{◌==◌, nat_le, nat_lt, drop}
 use Rattle.std.specs.FinMap as map
 use Rattle.std.specs.List.{prefix_len}
-use Rattle.std.proofs.lemmas.Bool.{cases_Bool, eqb-true, false≢true}
+use Rattle.std.proofs.lemmas.Bool.{cases_Bool, eqb-true}
 use Rattle.lab_table.specs.Table.{Table}
 use Rattle.lab_table.specs.declared.statement.Command.{Command}
 use Rattle.lab_script.specs.declared.token.Word.TheVariants as word
@@ -141,13 +141,6 @@ table_same : (ts : List Token) → table_at ts ≡ value (table_read ts)
 unfolding table_at table_read
 table_same ts = elim_same (no_rows_at ts) _ _ _ _ (λ rest. refl) (rows_same ts)
 
--- what isn't a semicolon ends no setup
-no_semicolon : (t : Token) → is_token token.Semicolon t ≡ false → is_token t token.Semicolon ≡ false
-no_semicolon t isnt = elim (cases_Bool (is_token t token.Semicolon)) [
-  | inl is ↦ absurd (false≢true (sym isnt ∙ ap (is_token token.Semicolon) (same_token t token.Semicolon is)))
-  | inr other ↦ other
-]
-
 -- something is left
 some_left : (t : Token) (ts : List Token) → (length (t ∷ ts) == 0) ≡ false
 some_left t ts = elim (cases_Bool (length (t ∷ ts) == 0)) [
@@ -163,7 +156,7 @@ unfolding setup_end_read
 setup_end_same table [] = none_same true (nat_le (length (printed_setup table)) max_line_bytes) table []
 setup_end_same table (t ∷ ts) = elim (cases_Bool (is_token token.Semicolon t)) [
   | inl is ↦ subst (λ u. EndsAlike table (u ∷ ts)) (same_token token.Semicolon t is) (none_same (length ts == 0) (nat_le (length (printed_setup table)) max_line_bytes) table ts)
-  | inr isnt ↦ rw (isnt, no_semicolon t isnt, some_left t ts) refl
+  | inr isnt ↦ rw (isnt, some_left t ts) refl
 ]
 
 pub setup_same : (ts : List Token) → setup_at ts ≡ value (setup_read ts)

@@ -9,14 +9,12 @@ ghost use Rattle.lab_script.specs.declared.token.Token.TheVariants as token;
 ghost use Rattle.lab_script.specs.declared.token.Word.TheVariants as words;
 ghost use Rattle.lab_script.specs.Token.{letters, whole, is_letter, is_blank, word_named, mark};
 ghost use Rattle.lab_script.specs.HeldTokens.{held_from, held_tokens};
-ghost use Rattle.lab_script.specs.Reading.{is_token, token_digits, token_name, token_number, tokens_equiv, word_name, word_number};
-ghost use Rattle.std.specs.Cmp.{partial_equiv_from_equiv};
 
 use lab_table::{NoMemory, TableName};
 use std::alloc::Global;
 
 /// A word, read in either case.
-#[derive(Clone, Copy, Debug)]
+#[derive(Clone, Copy, Debug, PartialEq, Eq)]
 pub enum Word {
     Setup,
     Begin,
@@ -47,7 +45,7 @@ pub enum Word {
 }
 
 /// A token.
-#[derive(Clone, Copy, Debug)]
+#[derive(Clone, Copy, Debug, PartialEq, Eq)]
 pub enum Token {
     Word(Word),
     /// The number that digits spell, or one above the greatest number of any text.
@@ -89,117 +87,6 @@ pub fn is_blank(byte: u8) -> bool
     ensures { result ≡ is_blank byte }
 {
     byte == b' ' || byte == b'\t'
-}
-
-impl Word {
-    /// A number for each word, names alike.
-    #[inline(always)]
-    fn number(&self) -> u8
-        ensures { result ≡ word_number self.now }
-    {
-        match self {
-            Word::Setup => 0,
-            Word::Begin => 1,
-            Word::Commit => 2,
-            Word::Abort => 3,
-            Word::Rollback => 4,
-            Word::Set => 5,
-            Word::Transaction => 6,
-            Word::Isolation => 7,
-            Word::Level => 8,
-            Word::Select => 9,
-            Word::From => 10,
-            Word::Name(_) => 11,
-            Word::Where => 12,
-            Word::Update => 13,
-            Word::Value => 14,
-            Word::Insert => 15,
-            Word::Into => 16,
-            Word::Id => 17,
-            Word::Values => 18,
-            Word::Delete => 19,
-            Word::And => 20,
-            Word::Or => 21,
-            Word::Not => 22,
-            Word::In => 23,
-            Word::Other => 24,
-        }
-    }
-
-    /// The name that a word is, and nothing for another.
-    #[inline(always)]
-    fn name(&self) -> &[u8]
-        ensures { result.now ≡ word_name self.now }
-    {
-        match self {
-            Word::Name(name) => name.as_bytes(),
-            _ => &[],
-        }
-    }
-}
-
-impl Token {
-    /// A number for each token, digits alike.
-    #[inline(always)]
-    fn number(&self) -> u8
-        ensures { result ≡ token_number self.now }
-    {
-        match self {
-            Token::Word(word) => word.number(),
-            Token::Digits(_) => 99,
-            Token::Open => 50,
-            Token::Close => 51,
-            Token::Comma => 52,
-            Token::Semicolon => 53,
-            Token::Star => 54,
-            Token::Equal => 55,
-            Token::Unequal => 56,
-            Token::Less => 57,
-            Token::AtMost => 58,
-            Token::Greater => 59,
-            Token::AtLeast => 60,
-            Token::Percent => 61,
-            Token::Plus => 62,
-            Token::Minus => 63,
-            Token::Unknown => 64,
-        }
-    }
-
-    /// The number that digits spell, and 0 for another token.
-    #[inline(always)]
-    fn digits(&self) -> u32
-        ensures { result ≡ token_digits self.now }
-    {
-        match self {
-            Token::Digits(number) => *number,
-            _ => 0,
-        }
-    }
-
-    /// The name of a table that a token is, and nothing for another.
-    #[inline(always)]
-    fn name(&self) -> &[u8]
-        ensures { result.now ≡ token_name self.now }
-    {
-        match self {
-            Token::Word(word) => word.name(),
-            _ => &[],
-        }
-    }
-}
-
-impl PartialEq for Token {
-    ghost eq = { is_token };
-
-    ghost laws = { partial_equiv_from_equiv tokens_equiv };
-
-    // Inlined, since most tokens are compared with one that is known at the call, which leaves little to compare.
-    #[inline(always)]
-    fn eq(&self, other: &Token) -> bool {
-        self.number() == other.number()
-            && self.digits() == other.digits()
-            && self.name() == other.name()
-    }
 }
 
 /// The name of a table that letters spell, if they spell one.
