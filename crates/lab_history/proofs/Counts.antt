@@ -3,7 +3,7 @@ use Rattle.std.proofs.Common.{◌≡◌, ℕ, ◌+◌, ◌<◌, ◌≤◌, nat_l
 use Rattle.std.proofs.lemmas.Bool.{lt-ltb, le-ltb}
 use Rattle.serde_json.specs.declared.value.Value.{Value}
 use Rattle.serde_json.specs.View.{items_view}
-use Rattle.lab_history.specs.Format.{count}
+use Rattle.lab_history.specs.Member.{count}
 
 -- they are counted as in code
 pub items_count : (values : List Value) → count (items_view values) ≡ length values

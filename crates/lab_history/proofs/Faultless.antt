@@ -5,12 +5,12 @@ use Rattle.serde_json.specs.Data.{Data, array}
 use Rattle.serde_json.specs.Find.{as_array, as_object, as_str, at}
 use Rattle.lab_history.specs.Entries.{txn_in_number, value_in, written_in}
 use Rattle.lab_history.specs.FaultOf.{all_ops, IsWrong, IsRepeated, IsBadStatement, IsUnsorted, IsOverLimit, IsTrueIn, IsTrueFault}
-use Rattle.lab_history.specs.Member.{key_parts}
+use Rattle.lab_history.specs.Member.{key_parts, count}
 use Rattle.lab_history.specs.FileVersion.{version_number}
 use Rattle.lab_history.specs.PlaceShape.{fits, parts_of}
 use Rattle.lab_history.specs.ValueAt.{txn_at, operation_at, list_at, value_at}
 use Rattle.lab_history.specs.FileOf.{SpellsIn, IsFileIn, IsFileOf, IsOperation, IsTransaction}
-use Rattle.lab_history.specs.Format.{at_key, has_keys, txn_keys, op_keys, outcome_named, count, number_said, said_by, version_said}
+use Rattle.lab_history.specs.Format.{at_key, has_keys, txn_keys, op_keys, outcome_named, number_said, said_by, version_said}
 use Rattle.lab_history.specs.History.{History}
 use Rattle.lab_history.specs.HistoryRules.{operations, named_tables, distinct_tables, named_rows, distinct_rows, op_entries}
 use Rattle.lab_history.specs.declared.fault.FileFault.{FileFault}

@@ -9,7 +9,8 @@ use Rattle.lab_history.specs.Entries.{txn_in_number}
 use Rattle.lab_history.specs.FaultOf.{IsNumber, listed_ops, all_ops, IsTrueIn}
 use Rattle.lab_history.specs.ValueAt.{txn_at}
 use Rattle.lab_history.specs.FileOf.{IsTransaction, IsOperation}
-use Rattle.lab_history.specs.Format.{at_key, keyed, txn_keys, ops_from, count, outcome_named, txn_in, txns_from, txns_in}
+use Rattle.lab_history.specs.Member.{count}
+use Rattle.lab_history.specs.Format.{at_key, keyed, txn_keys, ops_from, outcome_named, txn_in, txns_from, txns_in}
 use Rattle.lab_history.specs.HistoryRules.{operations}
 use Rattle.lab_history.specs.declared.fault.FileFault.{FileFault}
 use Rattle.lab_history.specs.declared.fault.FileFault.TheVariants as fault

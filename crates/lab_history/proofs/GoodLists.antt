@@ -1,21 +1,22 @@
 -- The lists of a file are right: each member has its parts, and the rows rise.
-use Rattle.std.proofs.Common.{◌≡◌, ℕ, zero, suc, ◌+◌, true, T, List, [], ◌∷◌, Option, Some, is_some, slice_get, is_lt, refl, sym, ap, subst, ◌∙◌, arith}
+use Rattle.std.proofs.Common.{◌≡◌, ℕ, zero, suc, ◌+◌, true, T, List, [], ◌∷◌, Option, Some, is_some, slice_get, is_lt, refl, sym, ap, subst, ◌∙◌, arith, eq-eqb}
 use Rattle.std.specs.FinMap as finite
 use Rattle.std.specs.FinMap.{FinMap}
 use Rattle.serde_json.specs.Data.{Data, array, Items, no_items, item}
 use Rattle.serde_json.specs.Find.{as_array, at, get_item}
 use Rattle.lab_table.specs.Row.{Row, row_cmp}
-use Rattle.lab_history.specs.Member.{key_parts, row_of}
-use Rattle.lab_history.specs.Entries.{txn_in_number}
+use Rattle.lab_history.specs.Member.{Key, with_key, key_parts, row_in, row_of, count, has_size}
+use Rattle.lab_history.specs.Entries.{txn_in_number, op_in_number}
 use Rattle.lab_history.specs.FaultOf.{FallsSomewhere}
-use Rattle.lab_history.specs.PlaceShape.{parts_behind, parts_of, has_size, has_items, second_fits, part_fits}
+use Rattle.lab_history.specs.PlaceShape.{parts_behind, parts_of, has_items, second_fits, behind_fits, part_fits}
 use Rattle.lab_history.specs.FileOf.{AreEach, IsMapOf, IsPair, IsVersion, IsInstalled}
 use Rattle.lab_history.specs.declared.file_version.FileVersion.{FileVersion}
 use Rattle.lab_history.specs.declared.operation.VersionName.{VersionName}
 use Rattle.lab_history.specs.declared.path.ListPlace.{ListPlace}
 use Rattle.lab_history.specs.declared.path.ListPlace.TheVariants as list
 use Rattle.lab_table.proofs.Tests.{both}
-use Rattle.lab_history.proofs.KeyParts.{first_behind, key_begins, pair_size, triple_size, pair_parts, triple_parts}
+use Rattle.lab_history.proofs.KeyParts.{first_behind, key_begins, parts_fit}
+use Rattle.lab_history.proofs.MemberKeys.{key_count}
 
 -- what an item at a place stands for
 pub each_at : {X : Type 0} (Is : Data → X → Type 0) (ds : Items) (xs : List X) → AreEach Is ds xs → (k : ℕ) (m : Data) → get_item k ds ≡ Some m
@@ -69,20 +70,34 @@ module _ (version : FileVersion) {X : Type 0} (Is : Data → Row × X → Type 0
     rises = rises_everywhere starts;
   }
 
+  -- whose members have a key of their row, and behind it as many parts as there have to be, which may stand there
+  good_entries : ((v : Data) (x : Row × X) → Is v x → (key : Key) × (rest : Items) × (v ≡ array (with_key key rest)) × (row_in version key ≡ Some x.0) × (count rest ≡ parts_behind place)
+      × ((n : ℕ) (u : Data) → get_item n rest ≡ Some u → behind_fits place n u ≡ true)) → IsGood version place l
+  good_entries entry = good
+      (λ v x one. let e = entry v x one in ap (λ u. has_size (parts_of version place) (as_array u)) e.2 ∙ eq-eqb _ _ (key_count version e.0 x.0 e.1 e.3 ∙ ap (λ n. key_parts version + n) e.4))
+      (λ part v u x one here. let e = entry v x one in parts_fit version place e.0 x.0 e.1 part u e.3 e.5 (sym (ap (at part) e.2) ∙ here))
+      (λ v x one. let e = entry v x one in ap (row_of version) e.2 ∙ key_begins version e.0 x.0 e.1 e.3)
+
+-- one part behind a key, and two
+one_fits : (place : ListPlace) (b : Data) → second_fits place b ≡ true → (n : ℕ) (u : Data) → get_item n (item b no_items) ≡ Some u → behind_fits place n u ≡ true
+one_fits place b first zero u e = let same : b ≡ u = cc in subst (λ v. second_fits place v ≡ true) same first
+one_fits place b first (suc n) u e = absurd cc
+
+two_fit : (place : ListPlace) (b c : Data) → second_fits place b ≡ true → is_some (op_in_number c) ≡ true → (n : ℕ) (u : Data) → get_item n (item b (item c no_items)) ≡ Some u → behind_fits place n u ≡ true
+two_fit place b c first second zero u e = let same : b ≡ u = cc in subst (λ v. second_fits place v ≡ true) same first
+two_fit place b c first second (suc zero) u e = let same : c ≡ u = cc in subst (λ v. is_some (op_in_number v) ≡ true) same second
+two_fit place b c first second (suc (suc n)) u e = absurd cc
+
 module _ (version : FileVersion) where
   pub good_pairs : {X : Type 0} (read : Data → Option X) (place : ListPlace) (l : Data) (m : FinMap row_cmp X) → parts_behind place ≡ 1 → ((v : Data) → second_fits place v ≡ is_some (read v))
       → IsMapOf (IsPair version read) l m → IsGood version place l
-  good_pairs read place l m one second is = good version (IsPair version read) place l m is
-      (λ v x pair. ap (λ u. has_size (parts_of version place) (as_array u)) pair.2 ∙ pair_size version place pair.0 x.0 pair.1 one pair.3)
-      (λ part v u x pair e. pair_parts version place pair.0 x.0 pair.1 part u pair.3 (second pair.1 ∙ ap is_some pair.4) (sym (ap (at part) pair.2) ∙ e))
-      (λ v x pair. ap (row_of version) pair.2 ∙ key_begins version pair.0 x.0 _ pair.3)
+  good_pairs read place l m one second is = good_entries version (IsPair version read) place l m is
+      (λ v x pair. (pair.0, _, pair.2, pair.3, sym one, one_fits place pair.1 (second pair.1 ∙ ap is_some pair.4)))
 
   pub good_view : (place : ListPlace) (l : Data) (m : FinMap row_cmp VersionName) → parts_behind place ≡ 2 → ((v : Data) → second_fits place v ≡ is_some (txn_in_number v))
       → IsMapOf (IsVersion version) l m → IsGood version place l
-  good_view place l m two second is = good version (IsVersion version) place l m is
-      (λ v x one. ap (λ u. has_size (parts_of version place) (as_array u)) one.5 ∙ triple_size version place one.0 x.0 one.1 one.2 two one.6)
-      (λ part v u x one e. triple_parts version place one.0 x.0 one.1 one.2 part u one.6 (second one.1 ∙ ap is_some one.7) (ap is_some one.8) (sym (ap (at part) one.5) ∙ e))
-      (λ v x one. ap (row_of version) one.5 ∙ key_begins version one.0 x.0 _ one.6)
+  good_view place l m two second is = good_entries version (IsVersion version) place l m is
+      (λ v x one. (one.0, _, one.5, one.6, sym two, two_fit place one.1 one.2 (second one.1 ∙ ap is_some one.7) (ap is_some one.8)))
 
 -- a list of some installers has items
 some_items : (b : Data) (ns : List ℕ) (ds : Items) → b ≡ array ds → AreEach (λ e n. txn_in_number e ≡ Some n) ds ns → (ns ≡ [] → ⊥) → has_items (as_array b) ≡ true
@@ -92,10 +107,8 @@ some_items b ns (item d ds) is each some = ap (λ v. has_items (as_array v)) is
 
 module _ (version : FileVersion) where
   pub good_installed : (l : Data) (m : FinMap row_cmp (List ℕ)) → IsMapOf (IsInstalled version) l m → IsGood version list.Installed l
-  good_installed l m is = good version (IsInstalled version) list.Installed l m is
-      (λ v x one. ap (λ u. has_size (parts_of version list.Installed) (as_array u)) one.2 ∙ pair_size version list.Installed one.0 x.0 one.1 refl one.3)
-      (λ part v u x one e. pair_parts version list.Installed one.0 x.0 one.1 part u one.3 (some_items one.1 x.1 one.4.0 one.4.1 one.4.2 one.5) (sym (ap (at part) one.2) ∙ e))
-      (λ v x one. ap (row_of version) one.2 ∙ key_begins version one.0 x.0 _ one.3)
+  good_installed l m is = good_entries version (IsInstalled version) list.Installed l m is
+      (λ v x one. (one.0, _, one.2, one.3, refl, one_fits list.Installed one.1 (some_items one.1 x.1 one.4.0 one.4.1 one.4.2 one.5)))
 
   -- an installer of a list of them
   pub installer_fits : (l : Data) (m : FinMap row_cmp (List ℕ)) → IsMapOf (IsInstalled version) l m → (i k : ℕ) (member inner v : Data) → at i l ≡ Some member

@@ -1,12 +1,13 @@
 pub mod Rising
 pub mod TableNames
-pub mod Members
+pub mod Steps
+pub mod Counts
 pub mod MemberKeys
+pub mod Members
 pub mod KeyParts
 pub mod Entries
 pub mod NewStates
 pub mod WritesRead
-pub mod Steps
 pub mod JsonShapes
 pub mod ListsRead
 pub mod EntriesRead
@@ -53,7 +54,6 @@ pub mod CodeBytes
 pub mod KeptOperations
 pub mod WritableTree
 pub mod Keys
-pub mod Counts
 pub mod OpsRead
 pub mod TxnsRead
 pub mod TextFaults

@@ -1,19 +1,58 @@
 -- What a member is read as: its key, and what stands behind that.
-use Rattle.std.proofs.Common.{◌≡◌, ℕ, Option, Some, None, option_map, Ok, refl, ap, ◌∙◌}
+use Rattle.std.proofs.Common.{◌≡◌, ℕ, ◌+◌, Bool, true, false, Option, Some, None, option_map, Ok, if◌then◌else◌, refl, ap, sym, ◌∙◌, arith, eqb-true, eq-eqb}
 use Rattle.serde_json.specs.Data.{Data, Items, no_items, item}
 use Rattle.lab_table.specs.Row.{Row, in_test, numbered}
 use Rattle.lab_history.specs.Faults.{required}
-use Rattle.lab_history.specs.Member.{Key, plain, full, with_key, id_in, table_in, plain_row, full_row, row_in, plain_in, full_in, pair_in, triple_in}
+use Rattle.lab_history.specs.Member.{Key, plain, full, with_key, key_parts, id_in, table_in, plain_row, full_row, row_in, plain_in, full_in, count, has_size, sized, split_key, member_in}
 use Rattle.lab_history.specs.declared.file_version.FileVersion.{FileVersion}
 use Rattle.lab_history.specs.declared.file_version.FileVersion.TheVariants.{One, Two}
 use Rattle.lab_history.specs.declared.path.ListPlace.{ListPlace}
 use Rattle.lab_history.specs.declared.path.Path.TheVariants as path
-use Rattle.lab_history.proofs.Steps.{both_ok, both_some, step_on, required_ok, required_is}
+use Rattle.lab_history.proofs.Steps.{both_ok, both_some, step_on, required_ok, required_is, when_found}
 use Rattle.lab_table.proofs.Tests.{mapped_some}
 
--- ---- rows
+-- ---- sizes
+
+-- a list that has so many items
+pub sized_some : (n : ℕ) (o : Option Items) (ds : Items) → sized n o ≡ Some ds → (o ≡ Some ds) × (count ds ≡ n)
+sized_some n None ds e = absurd cc
+sized_some n (Some es) ds e =
+    let found = when_found (has_size n (Some es)) es ds e in
+    (ap (λ x. Some x) found.1, ap count (sym found.1) ∙ eqb-true _ _ found.0)
+
+pub sized_is : (n : ℕ) (ds : Items) → count ds ≡ n → sized n (Some ds) ≡ Some ds
+sized_is n ds same = ap (λ (b : Bool). if b then Some ds else None) (eq-eqb _ n same)
+
+pub sized_none : (n : ℕ) (o : Option Items) → sized n o ≡ None → has_size n o ≡ false
+sized_none n None e = refl
+sized_none n (Some ds) e = missed (has_size n (Some ds)) e
+  where
+    missed : (b : Bool) → (if b then Some ds else None) ≡ None → b ≡ false
+    missed true e = absurd cc
+    missed false e = refl
+
+-- lists of one item, and of two
+pub one_part : (ds : Items) → count ds ≡ 1 → (b : Data) × (ds ≡ item b no_items)
+one_part no_items e = absurd (omega (arith, e))
+one_part (item b no_items) e = (b, refl)
+one_part (item b (item c ds)) e = absurd (omega (arith, e))
+
+pub two_parts : (ds : Items) → count ds ≡ 2 → (b c : Data) × (ds ≡ item b (item c no_items))
+two_parts no_items e = absurd (omega (arith, e))
+two_parts (item b no_items) e = absurd (omega (arith, e))
+two_parts (item b (item c no_items)) e = (b, c, refl)
+two_parts (item b (item c (item u ds))) e = absurd (omega (arith, e))
+
+-- a key takes its parts
+pub key_count : (version : FileVersion) (key : Key) (row : Row) (rest : Items) → row_in version key ≡ Some row → count (with_key key rest) ≡ key_parts version + count rest
+key_count One (plain a) row rest e = refl
+key_count One (full a b) row rest e = absurd cc
+key_count Two (plain a) row rest e = absurd cc
+key_count Two (full a b) row rest e = omega arith
 
 module _ (place : ListPlace) (i : ℕ) where
+  -- ---- rows
+
   plain_read : (a : Data) (row : Row) → plain_in place i a ≡ Ok row → plain_row (id_in a) ≡ Some row
   plain_read a row e =
       let id = both_ok (required (path.Part place i 0) (id_in a)) _ row e in
@@ -36,91 +75,46 @@ module _ (place : ListPlace) (i : ℕ) where
       let id = mapped_some (numbered name.0) (id_in b) row name.2 in
       step_on _ (required_is (path.Part place i 0) name.1) (step_on _ (required_is (path.Part place i 1) id.1) (ap (λ r. Ok r) id.2))
 
-  -- ---- a key, and one part behind it
+  -- ---- keys
 
-  -- a member that is read as a pair has a key, and the part behind it
-  abbrev BeginsPair : FileVersion → Option Items → Row × Data → Type 0
-  BeginsPair version o pair = (key : Key) × (o ≡ Some (with_key key (item pair.1 no_items))) × (row_in version key ≡ Some pair.0)
+  -- what begins with a key of a row, behind which stands the rest
+  abbrev Begins : FileVersion → Items → Row × Items → Type 0
+  Begins version ds split = (key : Key) × (ds ≡ with_key key split.1) × (row_in version key ≡ Some split.0)
 
-  plain_pair_read : (o : Option Items) (pair : Row × Data) → pair_in One place i o ≡ Ok pair → BeginsPair One o pair
-  plain_pair_read None pair e = absurd cc
-  plain_pair_read (Some no_items) pair e = absurd cc
-  plain_pair_read (Some (item a no_items)) pair e = absurd cc
-  plain_pair_read (Some (item a (item b no_items))) pair e =
-      let row = both_ok (plain_in place i a) _ pair e in
-      let same : (row.0, b) ≡ pair = cc in (
-        plain a,
-        ap (λ (p : Row × Data). Some (item a (item p.1 no_items))) same,
-        plain_read a row.0 row.1 ∙ ap (λ (p : Row × Data). Some p.0) same,
-      )
-  plain_pair_read (Some (item a (item b (item c ds)))) pair e = absurd cc
+  key_read : (version : FileVersion) (ds : Items) (split : Row × Items) → split_key version place i ds ≡ Ok split → Begins version ds split
+  key_read One no_items split e = absurd cc
+  key_read One (item a rest) split e =
+      let row = both_ok (plain_in place i a) _ split e in
+      let same : (row.0, rest) ≡ split = cc in
+      (plain a, ap (λ (s : Row × Items). item a s.1) same, plain_read a row.0 row.1 ∙ ap (λ (s : Row × Items). Some s.0) same)
+  key_read Two no_items split e = absurd cc
+  key_read Two (item a no_items) split e = absurd cc
+  key_read Two (item a (item b rest)) split e =
+      let row = both_ok (full_in place i a b) _ split e in
+      let same : (row.0, rest) ≡ split = cc in
+      (full a b, ap (λ (s : Row × Items). item a (item b s.1)) same, full_read a b row.0 row.1 ∙ ap (λ (s : Row × Items). Some s.0) same)
 
-  full_pair_read : (o : Option Items) (pair : Row × Data) → pair_in Two place i o ≡ Ok pair → BeginsPair Two o pair
-  full_pair_read None pair e = absurd cc
-  full_pair_read (Some no_items) pair e = absurd cc
-  full_pair_read (Some (item a no_items)) pair e = absurd cc
-  full_pair_read (Some (item a (item b no_items))) pair e = absurd cc
-  full_pair_read (Some (item a (item b (item c no_items)))) pair e =
-      let row = both_ok (full_in place i a b) _ pair e in
-      let same : (row.0, c) ≡ pair = cc in (
-        full a b,
-        ap (λ (p : Row × Data). Some (item a (item b (item p.1 no_items)))) same,
-        full_read a b row.0 row.1 ∙ ap (λ (p : Row × Data). Some p.0) same,
-      )
-  full_pair_read (Some (item a (item b (item c (item d ds))))) pair e = absurd cc
+  key_is_read : (version : FileVersion) (key : Key) (row : Row) (rest : Items) → row_in version key ≡ Some row → split_key version place i (with_key key rest) ≡ Ok (row, rest)
+  key_is_read One (plain a) row rest e = step_on _ (plain_is_read a row e) refl
+  key_is_read One (full a b) row rest e = absurd cc
+  key_is_read Two (plain a) row rest e = absurd cc
+  key_is_read Two (full a b) row rest e = step_on _ (full_is_read a b row e) refl
 
-  pub pair_begins : (version : FileVersion) (o : Option Items) (pair : Row × Data) → pair_in version place i o ≡ Ok pair → BeginsPair version o pair
-  pair_begins One o pair e = plain_pair_read o pair e
-  pair_begins Two o pair e = full_pair_read o pair e
+  -- ---- members
+
+  -- a member that is read has a key, and as many parts behind it as there have to be
+  pub member_begins : (n : ℕ) (version : FileVersion) (o : Option Items) (split : Row × Items) → member_in n version place i o ≡ Ok split
+      → (key : Key) × (o ≡ Some (with_key key split.1)) × (row_in version key ≡ Some split.0) × (count split.1 ≡ n)
+  member_begins n version o split e =
+      let found = both_ok (required (path.Member place i) (sized (key_parts version + n) o)) _ split e in
+      let whole = sized_some _ o found.0 (required_ok _ _ _ found.1) in
+      let begins = key_read version found.0 split found.2 in
+      let size = key_count version begins.0 split.0 split.1 begins.2 in
+      let all = ap count (sym begins.1) ∙ whole.1 in
+      (begins.0, whole.0 ∙ ap (λ ds. Some ds) begins.1, begins.2, omega (arith, size, all))
 
   -- and one that has, is read so
-  pub pair_with : (version : FileVersion) (key : Key) (row : Row) (b : Data) → row_in version key ≡ Some row → pair_in version place i (Some (with_key key (item b no_items))) ≡ Ok (row, b)
-  pair_with One (plain a) row b e = step_on _ (plain_is_read a row e) refl
-  pair_with One (full a c) row b e = absurd cc
-  pair_with Two (plain a) row b e = absurd cc
-  pair_with Two (full a c) row b e = step_on _ (full_is_read a c row e) refl
-
-  -- ---- a key, and two parts behind it
-
-  abbrev BeginsTriple : FileVersion → Option Items → Row × Data × Data → Type 0
-  BeginsTriple version o triple = (key : Key) × (o ≡ Some (with_key key (item triple.1 (item triple.2 no_items)))) × (row_in version key ≡ Some triple.0)
-
-  plain_triple_read : (o : Option Items) (triple : Row × Data × Data) → triple_in One place i o ≡ Ok triple → BeginsTriple One o triple
-  plain_triple_read None triple e = absurd cc
-  plain_triple_read (Some no_items) triple e = absurd cc
-  plain_triple_read (Some (item a no_items)) triple e = absurd cc
-  plain_triple_read (Some (item a (item b no_items))) triple e = absurd cc
-  plain_triple_read (Some (item a (item b (item c no_items)))) triple e =
-      let row = both_ok (plain_in place i a) _ triple e in
-      let same : (row.0, b, c) ≡ triple = cc in (
-        plain a,
-        ap (λ (t : Row × Data × Data). Some (item a (item t.1 (item t.2 no_items)))) same,
-        plain_read a row.0 row.1 ∙ ap (λ (t : Row × Data × Data). Some t.0) same,
-      )
-  plain_triple_read (Some (item a (item b (item c (item d ds))))) triple e = absurd cc
-
-  full_triple_read : (o : Option Items) (triple : Row × Data × Data) → triple_in Two place i o ≡ Ok triple → BeginsTriple Two o triple
-  full_triple_read None triple e = absurd cc
-  full_triple_read (Some no_items) triple e = absurd cc
-  full_triple_read (Some (item a no_items)) triple e = absurd cc
-  full_triple_read (Some (item a (item b no_items))) triple e = absurd cc
-  full_triple_read (Some (item a (item b (item c no_items)))) triple e = absurd cc
-  full_triple_read (Some (item a (item b (item c (item d no_items))))) triple e =
-      let row = both_ok (full_in place i a b) _ triple e in
-      let same : (row.0, c, d) ≡ triple = cc in (
-        full a b,
-        ap (λ (t : Row × Data × Data). Some (item a (item b (item t.1 (item t.2 no_items))))) same,
-        full_read a b row.0 row.1 ∙ ap (λ (t : Row × Data × Data). Some t.0) same,
-      )
-  full_triple_read (Some (item a (item b (item c (item d (item f ds)))))) triple e = absurd cc
-
-  pub triple_begins : (version : FileVersion) (o : Option Items) (triple : Row × Data × Data) → triple_in version place i o ≡ Ok triple → BeginsTriple version o triple
-  triple_begins One o triple e = plain_triple_read o triple e
-  triple_begins Two o triple e = full_triple_read o triple e
-
-  pub triple_with : (version : FileVersion) (key : Key) (row : Row) (b c : Data) → row_in version key ≡ Some row
-      → triple_in version place i (Some (with_key key (item b (item c no_items)))) ≡ Ok (row, b, c)
-  triple_with One (plain a) row b c e = step_on _ (plain_is_read a row e) refl
-  triple_with One (full a f) row b c e = absurd cc
-  triple_with Two (plain a) row b c e = absurd cc
-  triple_with Two (full a f) row b c e = step_on _ (full_is_read a f row e) refl
+  pub member_with : (n : ℕ) (version : FileVersion) (key : Key) (row : Row) (rest : Items) → row_in version key ≡ Some row → count rest ≡ n
+      → member_in n version place i (Some (with_key key rest)) ≡ Ok (row, rest)
+  member_with n version key row rest e size =
+      step_on _ (required_is (path.Member place i) (sized_is _ (with_key key rest) (key_count version key row rest e ∙ ap (λ n. key_parts version + n) size))) (key_is_read version key row rest e)

@@ -1,35 +1,33 @@
 -- Members of lists that are lists themselves.
-use Rattle.std.proofs.Common.{◌≡◌, ◌≢◌, ℕ, List, [], ◌∷◌, length, Some, Err, refl, arith}
+use Rattle.std.proofs.Common.{◌≡◌, ◌≢◌, ◌<◌, ℕ, List, [], ◌∷◌, length, Some, None, Bool, if◌then◌else◌, Err, refl, ap, ◌∙◌, arith, ne_eqb}
 use Rattle.serde_json.specs.declared.value.Value.{Value}
 use Rattle.serde_json.specs.View.{items_view}
-use Rattle.lab_history.specs.Member.{two_in, three_in, four_in}
+use Rattle.lab_history.specs.Member.{sized, split_key}
 use Rattle.lab_history.specs.Entries.{installers_from, installers_of}
 use Rattle.lab_history.specs.declared.fault.FileFault.TheVariants as fault
+use Rattle.lab_history.specs.declared.file_version.FileVersion.TheVariants.{One, Two}
 use Rattle.lab_history.specs.declared.path.Path.TheVariants as path
 use Rattle.lab_history.specs.declared.path.ListPlace.{ListPlace}
 use Rattle.lab_history.specs.declared.path.ListPlace.TheVariants as list
+use Rattle.lab_history.proofs.Counts.{items_count}
+use Rattle.lab_history.proofs.MemberKeys.{sized_is}
 
--- a list of another length hasn't two, three or four parts
-pub no_two : (place : ListPlace) (index : ℕ) (vs : List Value) → length vs ≢ 2 → two_in place index (Some (items_view vs)) ≡ Err (fault.WrongFormat (path.Member place index))
-no_two place index [] other = refl
-no_two place index (a ∷ []) other = refl
-no_two place index (a ∷ b ∷ []) other = absurd (other refl)
-no_two place index (a ∷ b ∷ c ∷ vs) other = refl
+-- a list of so many parts, and of another number
+pub parts_sized : (n : ℕ) (vs : List Value) → length vs ≡ n → sized n (Some (items_view vs)) ≡ Some (items_view vs)
+parts_sized n vs same = sized_is n (items_view vs) (items_count vs ∙ same)
 
-pub no_three : (place : ListPlace) (index : ℕ) (vs : List Value) → length vs ≢ 3 → three_in place index (Some (items_view vs)) ≡ Err (fault.WrongFormat (path.Member place index))
-no_three place index [] other = refl
-no_three place index (a ∷ []) other = refl
-no_three place index (a ∷ b ∷ []) other = refl
-no_three place index (a ∷ b ∷ c ∷ []) other = absurd (other refl)
-no_three place index (a ∷ b ∷ c ∷ d ∷ vs) other = refl
+pub parts_missized : (n : ℕ) (vs : List Value) → length vs ≢ n → sized n (Some (items_view vs)) ≡ None
+parts_missized n vs other = ap (λ (b : Bool). if b then Some (items_view vs) else None) (ne_eqb _ n (λ same. other (omega (arith, items_count vs, same))))
 
-pub no_four : (place : ListPlace) (index : ℕ) (vs : List Value) → length vs ≢ 4 → four_in place index (Some (items_view vs)) ≡ Err (fault.WrongFormat (path.Member place index))
-no_four place index [] other = refl
-no_four place index (a ∷ []) other = refl
-no_four place index (a ∷ b ∷ []) other = refl
-no_four place index (a ∷ b ∷ c ∷ []) other = refl
-no_four place index (a ∷ b ∷ c ∷ d ∷ []) other = absurd (other refl)
-no_four place index (a ∷ b ∷ c ∷ d ∷ e ∷ vs) other = refl
+-- too few parts for a key
+pub no_id : (place : ListPlace) (index : ℕ) (vs : List Value) → length vs < 1 → split_key One place index (items_view vs) ≡ Err (fault.WrongFormat (path.Member place index))
+no_id place index [] few = refl
+no_id place index (a ∷ vs) few = absurd (omega (arith, few))
+
+pub no_table : (place : ListPlace) (index : ℕ) (vs : List Value) → length vs < 2 → split_key Two place index (items_view vs) ≡ Err (fault.WrongFormat (path.Member place index))
+no_table place index [] few = refl
+no_table place index (a ∷ []) few = refl
+no_table place index (a ∷ b ∷ vs) few = absurd (omega (arith, few))
 
 -- an empty list has no installer
 pub no_installer : (index part : ℕ) (vs : List Value) → length vs ≡ 0 → installers_of index part (Some (items_view vs)) ≡ Err (fault.WrongFormat (path.Part list.Installed index part))

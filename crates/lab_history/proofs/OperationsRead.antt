@@ -9,7 +9,8 @@ use Rattle.lab_history.specs.Faults.{required}
 use Rattle.lab_history.specs.Entries.{values_in, writes_in, view_in}
 use Rattle.lab_history.specs.FileVersion.{may_have}
 use Rattle.lab_history.specs.FileOf.{AreEach, SpellsIn, IsOperation}
-use Rattle.lab_history.specs.Format.{keyed, op_keys, only_in, spelled_in, op_in, ops_from, count}
+use Rattle.lab_history.specs.Member.{count}
+use Rattle.lab_history.specs.Format.{keyed, op_keys, only_in, spelled_in, op_in, ops_from}
 use Rattle.lab_history.specs.declared.file_version.FileVersion.{FileVersion}
 use Rattle.lab_history.specs.declared.operation.Op.{Op}
 use Rattle.lab_history.specs.declared.path.ListPlace.TheVariants as list

@@ -7,7 +7,8 @@ use Rattle.serde_json.specs.Find.{as_str, as_array}
 use Rattle.lab_history.specs.Faults.{required, refused_if}
 use Rattle.lab_history.specs.Entries.{txn_in_number}
 use Rattle.lab_history.specs.FileOf.{AreEach, IsListOf, IsOperation, IsTransaction, outcome_text}
-use Rattle.lab_history.specs.Format.{keyed, txn_keys, ops_from, count, outcome_named, txn_in, txns_from, txns_in}
+use Rattle.lab_history.specs.Member.{count}
+use Rattle.lab_history.specs.Format.{keyed, txn_keys, ops_from, outcome_named, txn_in, txns_from, txns_in}
 use Rattle.lab_history.specs.HistoryRules.{operations}
 use Rattle.lab_history.specs.declared.fault.FileFault.TheVariants as fault
 use Rattle.lab_history.specs.declared.fault.Limit.TheVariants as limit

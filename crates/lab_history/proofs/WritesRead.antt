@@ -1,13 +1,13 @@
 -- Reading a list of written rows: what is read with the states of the code is what contracts read.
-use Rattle.std.proofs.Common.{◌≡◌, ℕ, ◌+◌, Bool, true, false, T, List, ◌∷◌, Option, Some, None, option_map, ℤ, Result, Ok, Err, if◌then◌else◌, IfOk, refl, ap, ◌∙◌, subst, sym}
+use Rattle.std.proofs.Common.{◌≡◌, ℕ, ◌+◌, Bool, true, false, T, List, ◌∷◌, Option, Some, None, option_map, option_and_then, ℤ, Result, Ok, Err, if◌then◌else◌, IfOk, refl, ap, ◌∙◌, subst, sym}
 use Rattle.std.specs.FinMap.{is_sorted}
 use Rattle.serde_json.specs.Data.{Data, Items, no_items, item}
-use Rattle.serde_json.specs.Find.{as_array}
+use Rattle.serde_json.specs.Find.{as_array, get_item}
 use Rattle.lab_table.specs.Row.{Row, row_cmp}
 use Rattle.lab_history.specs.VersionName.{new_states, state_value}
 use Rattle.lab_history.specs.Faults.{◌>>=◌, required, Gives}
-use Rattle.lab_history.specs.Member.{key_parts, pair_in}
-use Rattle.lab_history.specs.Entries.{written_in, follows, pair_of, entries_from, entries_in, writes_in}
+use Rattle.lab_history.specs.Member.{key_parts, member_in}
+use Rattle.lab_history.specs.Entries.{written_in, follows, entry_in, one_in, entries_from, entries_in, writes_in}
 use Rattle.lab_history.specs.WrittenState.{state_from, state_in}
 use Rattle.lab_history.specs.declared.fault.FileFault.{FileFault}
 use Rattle.lab_history.specs.declared.fault.FileFault.TheVariants as fault
@@ -30,29 +30,30 @@ abbrev seen : Row × State → Row × Option ℤ
 seen e = (e.0, state_value e.1)
 
 -- what is written,
-seen_part : (id : Row) (at : Path) (s : Option (Option ℤ))
-    → (required at s >>= λ x. Ok (id, x)) ≡ ((required at (option_map state_from s) >>= λ x. Ok (id, x)) >>= λ e. Ok (seen e))
-seen_part id at None = refl
-seen_part id at (Some s) = ap (λ x. Ok (id, x)) (sym (value_state s))
-
--- and the row before it
-seen_pair : (at : Path) (pair : Result (Row × Data) FileFault)
-    → (pair >>= λ p. required at (written_in p.1) >>= λ x. Ok (p.0, x))
-    ≡ ((pair >>= λ p. required at (state_in p.1) >>= λ x. Ok (p.0, x)) >>= λ e. Ok (seen e))
-seen_pair at (Ok p) = seen_part p.0 at (written_in p.1)
-seen_pair at (Err f) = refl
-
--- a member,
-pair_seen : (version : FileVersion) (place : ListPlace) (index : ℕ) (parts : Option Items)
-    → pair_of version written_in place index parts ≡ (pair_of version state_in place index parts >>= λ e. Ok (seen e))
-pair_seen version place index parts = seen_pair (path.Part place index (key_parts version)) (pair_in version place index parts)
+seen_part : (row : Row) (at : Path) (d : Option Data)
+    → (required at (option_and_then written_in d) >>= λ x. Ok (row, x)) ≡ ((required at (option_and_then state_in d) >>= λ x. Ok (row, x)) >>= λ e. Ok (seen e))
+seen_part row at None = refl
+seen_part row at (Some d) = each (written_in d)
+  where
+    each : (s : Option (Option ℤ)) → (required at s >>= λ x. Ok (row, x)) ≡ ((required at (option_map state_from s) >>= λ x. Ok (row, x)) >>= λ e. Ok (seen e))
+    each None = refl
+    each (Some s) = ap (λ x. Ok (row, x)) (sym (value_state s))
 
 module _ (version : FileVersion) (place : ListPlace) where
   abbrev written : ℕ → Data → Result (Row × Option ℤ) FileFault
-  written index d = pair_of version written_in place index (as_array d)
+  written = entry_in 1 (one_in written_in) version place
 
   abbrev stated : ℕ → Data → Result (Row × State) FileFault
-  stated index d = pair_of version state_in place index (as_array d)
+  stated = entry_in 1 (one_in state_in) version place
+
+  -- a member,
+  entry_seen : (index : ℕ) (d : Data) → written index d ≡ (stated index d >>= λ e. Ok (seen e))
+  entry_seen index d = each (member_in 1 version place index (as_array d))
+    where
+      each : (r : Result (Row × Items) FileFault) → (r >>= λ split. one_in written_in version place index split.1 >>= λ x. Ok (split.0, x))
+          ≡ ((r >>= λ split. one_in state_in version place index split.1 >>= λ x. Ok (split.0, x)) >>= λ e. Ok (seen e))
+      each (Ok split) = seen_part split.0 (path.Part place index (key_parts version)) (get_item 0 split.1)
+      each (Err f) = refl
 
   -- what follows an entry moves across
   seen_more : (b : Bool) (e : Row × State) (rest : Result (List (Row × State)) FileFault)
@@ -67,7 +68,7 @@ module _ (version : FileVersion) (place : ListPlace) where
   states_from index before no_items = refl
   states_from index before (item d ds) =
       ap (λ r. r >>= λ e. if follows before e.0 then (entries_from written place (index + 1) (Some e.0) ds >>= λ es. Ok (e ∷ es)) else Err (fault.Unsorted (path.List place)))
-      (pair_seen version place index (as_array d))
+      (entry_seen index d)
       ∙ elim (stated index d) as (λ r. ((r >>= λ e. Ok (seen e)) >>= λ e. if follows before e.0 then (entries_from written place (index + 1) (Some e.0) ds >>= λ es. Ok (e ∷ es)) else Err
       (fault.Unsorted (path.List place)))
       ≡ ((r >>= λ e. if follows before e.0 then (entries_from stated place (index + 1) (Some e.0) ds >>= λ es. Ok (e ∷ es)) else Err (fault.Unsorted (path.List place))) >>= λ es. Ok

@@ -2,12 +2,12 @@
 use Rattle.std.specs.Prelude.{ℕ, ◌+◌, ◌&&◌, ℤ, int_le, pos, negsuc, Bool, true, List, [], ◌∷◌, Option, Some, None, option_and_then, Result, Ok, Err, if◌then◌else◌}
 use Rattle.std.specs.Ordering.{is_lt}
 use Rattle.serde_json.specs.Data.{Data, null, boolean, number, string, array, object, Items, no_items, item}
-use Rattle.serde_json.specs.Find.{as_number, as_i64, as_array}
+use Rattle.serde_json.specs.Find.{as_number, as_i64, as_array, get_item}
 use Rattle.lab_table.specs.Row.{Row, row_cmp}
 use Rattle.lab_history.specs.Faults.{◌>>=◌, required}
 use Rattle.lab_history.specs.Limits.{max_operations}
 use Rattle.lab_history.specs.Whole.{whole_in}
-use Rattle.lab_history.specs.Member.{key_parts, pair_in, triple_in}
+use Rattle.lab_history.specs.Member.{key_parts, member_in}
 use Rattle.lab_history.specs.declared.fault.FileFault.{FileFault}
 use Rattle.lab_history.specs.declared.fault.FileFault.TheVariants as fault
 use Rattle.lab_history.specs.declared.file_version.FileVersion.{FileVersion}
@@ -58,20 +58,23 @@ entries_from read place index before (item d ds) =
 abbrev pub entries_in : {X : Type 0} → (ℕ → Data → Result (Row × X) FileFault) → ListPlace → Data → Result (List (Row × X)) FileFault
 entries_in read place d = required (path.List place) (as_array d) >>= entries_from read place 0 None
 
--- [key, x]
-abbrev pub pair_of : {X : Type 0} → FileVersion → (Data → Option X) → ListPlace → ℕ → Option Items → Result (Row × X) FileFault
-pair_of version read place index parts =
-    pair_in version place index parts >>= λ pair.
-    required (path.Part place index (key_parts version)) (read pair.1) >>= λ x.
-    Ok (pair.0, x)
+-- [key, ..]: the row of a member with so many parts behind its key, and what they are read as
+abbrev pub entry_in : {X : Type 0} → ℕ → (FileVersion → ListPlace → ℕ → Items → Result X FileFault) → FileVersion → ListPlace → ℕ → Data → Result (Row × X) FileFault
+entry_in n read version place index d =
+    member_in n version place index (as_array d) >>= λ split.
+    read version place index split.1 >>= λ x.
+    Ok (split.0, x)
 
--- [key, txn, op]
-abbrev pub version_of : FileVersion → ListPlace → ℕ → Option Items → Result (Row × VersionName) FileFault
-version_of version place index parts =
-    triple_in version place index parts >>= λ triple.
-    required (path.Part place index (key_parts version)) (txn_in_number triple.1) >>= λ txn.
-    required (path.Part place index (key_parts version + 1)) (op_in_number triple.2) >>= λ op.
-    Ok (triple.0, Of txn op)
+-- x
+abbrev pub one_in : {X : Type 0} → (Data → Option X) → FileVersion → ListPlace → ℕ → Items → Result X FileFault
+one_in read version place index behind = required (path.Part place index (key_parts version)) (option_and_then read (get_item 0 behind))
+
+-- txn, op
+abbrev pub version_name_in : FileVersion → ListPlace → ℕ → Items → Result VersionName FileFault
+version_name_in version place index behind =
+    required (path.Part place index (key_parts version)) (option_and_then txn_in_number (get_item 0 behind)) >>= λ txn.
+    required (path.Part place index (key_parts version + 1)) (option_and_then op_in_number (get_item 1 behind)) >>= λ op.
+    Ok (Of txn op)
 
 -- the installers of a row, which are a part of a member; the first has this place
 abbrev pub installers_from : ℕ → ℕ → ℕ → Items → Result (List ℕ) FileFault
@@ -87,22 +90,18 @@ installers_of index part None = Err (fault.WrongFormat (path.Part list.Installed
 installers_of index part (Some no_items) = Err (fault.WrongFormat (path.Part list.Installed index part))
 installers_of index part (Some (item d ds)) = installers_from index part 0 (item d ds)
 
--- [key, [txn, ..]]
-abbrev pub installed_of : FileVersion → ℕ → Option Items → Result (Row × List ℕ) FileFault
-installed_of version index parts =
-    pair_in version list.Installed index parts >>= λ pair.
-    installers_of index (key_parts version) (as_array pair.1) >>= λ ns.
-    Ok (pair.0, ns)
+abbrev pub installers_in : FileVersion → ListPlace → ℕ → Items → Result (List ℕ) FileFault
+installers_in version place index behind = installers_of index (key_parts version) (option_and_then as_array (get_item 0 behind))
 
 -- the lists
 abbrev pub values_in : FileVersion → ListPlace → Data → Result (List (Row × ℤ)) FileFault
-values_in version place d = entries_in (λ index e. pair_of version value_in place index (as_array e)) place d
+values_in version place d = entries_in (entry_in 1 (one_in value_in) version place) place d
 
 abbrev pub writes_in : FileVersion → ListPlace → Data → Result (List (Row × Option ℤ)) FileFault
-writes_in version place d = entries_in (λ index e. pair_of version written_in place index (as_array e)) place d
+writes_in version place d = entries_in (entry_in 1 (one_in written_in) version place) place d
 
 abbrev pub view_in : FileVersion → ListPlace → Data → Result (List (Row × VersionName)) FileFault
-view_in version place d = entries_in (λ index e. version_of version place index (as_array e)) place d
+view_in version place d = entries_in (entry_in 2 version_name_in version place) place d
 
 abbrev pub installed_in : FileVersion → Data → Result (List (Row × List ℕ)) FileFault
-installed_in version d = entries_in (λ index e. installed_of version index (as_array e)) list.Installed d
+installed_in version d = entries_in (entry_in 1 installers_in version list.Installed) list.Installed d

@@ -5,11 +5,11 @@ use Rattle.serde_json.specs.Data.{Data, array, Items, no_items, item}
 use Rattle.serde_json.specs.Find.{as_array, as_str, at}
 use Rattle.lab_table.specs.Row.{Row, row_cmp}
 use Rattle.lab_table.specs.declared.statement.Statement.{Statement}
-use Rattle.lab_history.specs.Member.{row_of}
+use Rattle.lab_history.specs.Member.{row_of, count}
 use Rattle.lab_history.specs.Entries.{txn_in_number}
 use Rattle.lab_history.specs.PlaceShape.{fits}
 use Rattle.lab_history.specs.FileOf.{SpellsIn}
-use Rattle.lab_history.specs.Format.{at_key, count, number_said, version_said, parts_in}
+use Rattle.lab_history.specs.Format.{at_key, number_said, version_said, parts_in}
 use Rattle.lab_history.specs.History.{History}
 use Rattle.lab_history.specs.HistoryRules.{operations, named_tables, distinct_tables, named_rows, distinct_rows, op_entries}
 use Rattle.lab_history.specs.Limits.{max_transactions, max_operations, max_tables, max_ids, max_entries}

@@ -9,6 +9,7 @@ use Rattle.lab_table.specs.declared.statement.Statement.{Statement}
 use Rattle.lab_script.specs.StatementText.{statement_in}
 use Rattle.lab_history.specs.Faults.{◌>>=◌, required, refused_if}
 use Rattle.lab_history.specs.FileVersion.{may_have}
+use Rattle.lab_history.specs.Member.{count}
 use Rattle.lab_history.specs.Entries.{txn_in_number, values_in, writes_in, view_in, installed_in}
 use Rattle.lab_history.specs.History.{History}
 use Rattle.lab_history.specs.HistoryRules.{operations}
@@ -84,11 +85,6 @@ ops_from version txn by index (item d ds) = op_in version txn by index d >>= λ 
 
 abbrev pub outcome_named : List ℕ → Option Outcome
 outcome_named text = if bytes_eq text (codes "committed") then Some Committed else if bytes_eq text (codes "aborted") then Some Aborted else None
-
--- how many members a list has
-abbrev pub count : Items → ℕ
-count no_items = 0
-count (item d ds) = 1 + count ds
 
 -- a transaction behind others
 abbrev pub txn_in : FileVersion → List Txn → ℕ → Data → Result Txn FileFault

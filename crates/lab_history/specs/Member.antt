@@ -1,5 +1,5 @@
 -- What a member of a list begins with: the key of a row. Nothing else says how many parts a key takes, and which.
-use Rattle.std.specs.Prelude.{ℕ, zero, suc, Bool, List, Option, Some, None, is_some, option_map, option_and_then, Result, Ok, Err, if◌then◌else◌}
+use Rattle.std.specs.Prelude.{ℕ, zero, suc, ◌+◌, ◌==◌, Bool, false, List, Option, Some, None, is_some, option_map, option_and_then, Result, Ok, Err, if◌then◌else◌}
 use Rattle.serde_json.specs.Data.{Data, number, unsigned, string, Items, no_items, item}
 use Rattle.serde_json.specs.Find.{as_str, at}
 use Rattle.lab_table.specs.Row.{Row, in_test, numbered}
@@ -72,6 +72,19 @@ key_tree row = full (string row.table) (number (unsigned row.id))
 
 -- ---- members
 
+-- how many items there are
+abbrev pub count : Items → ℕ
+count no_items = 0
+count (item d ds) = 1 + count ds
+
+-- whether there is a list of so many items, and the list if it is
+abbrev pub has_size : ℕ → Option Items → Bool
+has_size n None = false
+has_size n (Some ds) = count ds == n
+
+abbrev pub sized : ℕ → Option Items → Option Items
+sized n ds = if has_size n ds then ds else None
+
 -- the row of a key, which has to be one
 abbrev pub plain_in : ListPlace → ℕ → Data → Result Row FileFault
 plain_in place index id =
@@ -84,50 +97,14 @@ full_in place index table id =
     required (path.Part place index 1) (id_in id) >>= λ n.
     Ok (numbered name n)
 
--- that of a key by its first and its last part
-abbrev pub key_in : FileVersion → ListPlace → ℕ → Data → Data → Result Row FileFault
-key_in One place index first last = plain_in place index last
-key_in Two place index first last = full_in place index first last
+-- the row of a member's key, and the parts behind it
+abbrev pub split_key : FileVersion → ListPlace → ℕ → Items → Result (Row × Items) FileFault
+split_key One place index no_items = Err (fault.WrongFormat (path.Member place index))
+split_key One place index (item id behind) = plain_in place index id >>= λ row. Ok (row, behind)
+split_key Two place index no_items = Err (fault.WrongFormat (path.Member place index))
+split_key Two place index (item table no_items) = Err (fault.WrongFormat (path.Member place index))
+split_key Two place index (item table (item id behind)) = full_in place index table id >>= λ row. Ok (row, behind)
 
--- the parts of a member that has two, three or four
-abbrev pub two_in : ListPlace → ℕ → Option Items → Result (Data × Data) FileFault
-two_in place index None = Err (fault.WrongFormat (path.Member place index))
-two_in place index (Some no_items) = Err (fault.WrongFormat (path.Member place index))
-two_in place index (Some (item a no_items)) = Err (fault.WrongFormat (path.Member place index))
-two_in place index (Some (item a (item b no_items))) = Ok (a, b)
-two_in place index (Some (item a (item b (item c ds)))) = Err (fault.WrongFormat (path.Member place index))
-
-abbrev pub three_in : ListPlace → ℕ → Option Items → Result (Data × Data × Data) FileFault
-three_in place index None = Err (fault.WrongFormat (path.Member place index))
-three_in place index (Some no_items) = Err (fault.WrongFormat (path.Member place index))
-three_in place index (Some (item a no_items)) = Err (fault.WrongFormat (path.Member place index))
-three_in place index (Some (item a (item b no_items))) = Err (fault.WrongFormat (path.Member place index))
-three_in place index (Some (item a (item b (item c no_items)))) = Ok (a, b, c)
-three_in place index (Some (item a (item b (item c (item d ds))))) = Err (fault.WrongFormat (path.Member place index))
-
-abbrev pub four_in : ListPlace → ℕ → Option Items → Result (Data × Data × Data × Data) FileFault
-four_in place index None = Err (fault.WrongFormat (path.Member place index))
-four_in place index (Some no_items) = Err (fault.WrongFormat (path.Member place index))
-four_in place index (Some (item a no_items)) = Err (fault.WrongFormat (path.Member place index))
-four_in place index (Some (item a (item b no_items))) = Err (fault.WrongFormat (path.Member place index))
-four_in place index (Some (item a (item b (item c no_items)))) = Err (fault.WrongFormat (path.Member place index))
-four_in place index (Some (item a (item b (item c (item d no_items))))) = Ok (a, b, c, d)
-four_in place index (Some (item a (item b (item c (item d (item e ds)))))) = Err (fault.WrongFormat (path.Member place index))
-
--- the first and the last part of a member's key, which are one part in version 1, and the one part behind the key
-abbrev pub split_pair : FileVersion → ListPlace → ℕ → Option Items → Result (Data × Data × Data) FileFault
-split_pair One place index parts = two_in place index parts >>= λ two. Ok (two.0, two.0, two.1)
-split_pair Two place index parts = three_in place index parts
-
--- and the two parts behind the key
-abbrev pub split_triple : FileVersion → ListPlace → ℕ → Option Items → Result (Data × Data × Data × Data) FileFault
-split_triple One place index parts = three_in place index parts >>= λ three. Ok (three.0, three.0, three.1, three.2)
-split_triple Two place index parts = four_in place index parts
-
--- the row of a member, and the one part behind its key
-abbrev pub pair_in : FileVersion → ListPlace → ℕ → Option Items → Result (Row × Data) FileFault
-pair_in version place index parts = split_pair version place index parts >>= λ p. key_in version place index p.0 p.1 >>= λ row. Ok (row, p.2)
-
--- the row of a member, and the two parts behind its key
-abbrev pub triple_in : FileVersion → ListPlace → ℕ → Option Items → Result (Row × Data × Data) FileFault
-triple_in version place index parts = split_triple version place index parts >>= λ p. key_in version place index p.0 p.1 >>= λ row. Ok (row, p.2, p.3)
+-- the same of a member that has so many parts behind its key
+abbrev pub member_in : ℕ → FileVersion → ListPlace → ℕ → Option Items → Result (Row × Items) FileFault
+member_in n version place index parts = required (path.Member place index) (sized (key_parts version + n) parts) >>= split_key version place index

@@ -1,11 +1,11 @@
 -- What may stand at a place of a history file of a version, whatever stands in its own parts.
-use Rattle.std.specs.Prelude.{ℕ, zero, suc, ◌+◌, ◌==◌, Bool, true, false, Option, Some, None, is_some, option_and_then, List, codes}
+use Rattle.std.specs.Prelude.{ℕ, zero, suc, ◌+◌, Bool, true, false, Option, Some, None, is_some, option_and_then, List, codes}
 use Rattle.std.specs.Str.{bytes_eq}
 use Rattle.serde_json.specs.Data.{Data, Items, no_items, item}
 use Rattle.serde_json.specs.Find.{as_number, as_u64, as_array, as_object, as_str}
-use Rattle.lab_history.specs.Member.{key_parts, key_fits}
+use Rattle.lab_history.specs.Member.{key_parts, key_fits, has_size}
 use Rattle.lab_history.specs.Entries.{txn_in_number, op_in_number, value_in, written_in}
-use Rattle.lab_history.specs.Format.{has_keys, root_keys, txn_keys, op_keys, outcome_named, count}
+use Rattle.lab_history.specs.Format.{has_keys, root_keys, txn_keys, op_keys, outcome_named}
 use Rattle.lab_history.specs.declared.file_version.FileVersion.{FileVersion}
 use Rattle.lab_history.specs.declared.file_version.FileVersion.TheVariants.{One, Two}
 use Rattle.lab_history.specs.declared.path.ListPlace.{ListPlace}
@@ -26,18 +26,13 @@ parts_behind (list.Writes txn op) = 1
 abbrev pub parts_of : FileVersion → ListPlace → ℕ
 parts_of version place = key_parts version + parts_behind place
 
--- whether there is a list of so many items
-abbrev pub has_size : ℕ → Option Items → Bool
-has_size n None = false
-has_size n (Some ds) = count ds == n
-
 -- whether there is a list with an item
 abbrev pub has_items : Option Items → Bool
 has_items None = false
 has_items (Some no_items) = false
 has_items (Some (item d ds)) = true
 
--- whether a value may stand behind the row of a member
+-- whether a value may be the first part behind a key
 abbrev pub second_fits : ListPlace → Data → Bool
 second_fits list.Initial v = is_some (value_in v)
 second_fits list.End v = is_some (value_in v)
@@ -46,15 +41,18 @@ second_fits (list.View txn op) v = is_some (txn_in_number v)
 second_fits (list.Rows txn op) v = is_some (value_in v)
 second_fits (list.Writes txn op) v = is_some (written_in v)
 
--- whether a value may be a part of a member: of a row's key, what stands behind that, and of a version, which alone has a further part, its operation
+-- whether a value may be a part behind a key; a version alone has a second one, its operation
+abbrev pub behind_fits : ListPlace → ℕ → Data → Bool
+behind_fits place zero v = second_fits place v
+behind_fits place (suc part) v = is_some (op_in_number v)
+
+-- whether a value may be a part of a member
 abbrev pub part_fits : FileVersion → ListPlace → ℕ → Data → Bool
 part_fits One place zero v = key_fits One zero v
-part_fits One place (suc zero) v = second_fits place v
-part_fits One place (suc (suc part)) v = is_some (op_in_number v)
+part_fits One place (suc part) v = behind_fits place part v
 part_fits Two place zero v = key_fits Two zero v
 part_fits Two place (suc zero) v = key_fits Two 1 v
-part_fits Two place (suc (suc zero)) v = second_fits place v
-part_fits Two place (suc (suc (suc part))) v = is_some (op_in_number v)
+part_fits Two place (suc (suc part)) v = behind_fits place part v
 
 -- whether a text names the format
 abbrev pub is_format : Option (List ℕ) → Bool

@@ -1,11 +1,11 @@
 //! What a member of a list begins with: the key of its row, in front of what the list says of the row.
 
-ghost use Rattle.std.specs.Prelude.{◌≡◌, Some, IfOk, OnOk};
+ghost use Rattle.std.specs.Prelude.{◌≡◌, ◌+◌, Some, option_map, IfOk, OnOk};
 ghost use Rattle.serde_json.specs.Data.{string, number, unsigned};
 ghost use Rattle.serde_json.specs.Find.{as_array};
-ghost use Rattle.serde_json.specs.View.{view};
+ghost use Rattle.serde_json.specs.View.{view, items_view};
 ghost use Rattle.lab_history.specs.Faults.{Gives, required as spec_required};
-ghost use Rattle.lab_history.specs.Member.{id_in, table_in, plain_in, full_in, key_in, two_in, three_in, four_in, split_pair, split_triple};
+ghost use Rattle.lab_history.specs.Member.{id_in, table_in, plain_in, full_in, sized, split_key as spec_split_key};
 ghost use Rattle.lab_history.specs.Member as key;
 ghost use Rattle.lab_history.specs.declared.path.Path.TheVariants as path;
 
@@ -119,24 +119,6 @@ fn full_row(
     }
 }
 
-/// The row of a key, by its first and its last part.
-#[inline(always)]
-pub fn key_of(
-    alloc: Global,
-    version: FileVersion,
-    place: ListPlace,
-    index: usize,
-    first: &Json,
-    last: &Json,
-) -> Result<RowName, Refusal>
-    ensures { Gives (λ row. row) result (key_in version place index (view first.now) (view last.now)) }
-{
-    match version {
-        FileVersion::One => plain_row(place, index, last),
-        FileVersion::Two => full_row(alloc, place, index, first, last),
-    }
-}
-
 /// What has to be at a place.
 #[inline(always)]
 pub fn required<X>(found: Option<X>, path: Path) -> Result<X, Refusal>
@@ -152,85 +134,45 @@ pub fn part(list: ListPlace, index: usize, part: usize) -> Path
     Path::Part { list, index, part }
 }
 
-/// The parts of a member that has two.
-#[tactic(auto, using(crate::proofs::Members::no_two))]
-fn two<'a>(place: ListPlace, index: usize, json: &'a Json) -> Result<(&'a Json, &'a Json), Refusal>
-    ensures { Gives (λ parts. (view parts.0.now, view parts.1.now)) result (two_in place index (as_array (view json.now))) }
+/// The parts of a member that has so many behind its key.
+#[inline(always)]
+#[tactic(auto, using(crate::proofs::Members::parts_sized, crate::proofs::Members::parts_missized))]
+pub fn sized_parts(version: FileVersion, behind: u8, json: &Json) -> Option<&[Json]>
+    ensures { option_map (λ parts. items_view parts.now) result ≡ sized (key.key_parts version + behind) (as_array (view json.now)) }
 {
-    let path = Path::Member { list: place, index };
-    let parts = required(json.as_array(), path)?;
-    let [first, second] = parts.as_slice() else {
-        return Err(wrong(path));
-    };
-    Ok((first, second))
-}
-
-/// The parts of a member that has three.
-#[tactic(auto, using(crate::proofs::Members::no_three))]
-fn three<'a>(
-    place: ListPlace,
-    index: usize,
-    json: &'a Json,
-) -> Result<(&'a Json, &'a Json, &'a Json), Refusal>
-    ensures { Gives (λ parts. (view parts.0.now, view parts.1.now, view parts.2.now)) result (three_in place index (as_array (view json.now))) }
-{
-    let path = Path::Member { list: place, index };
-    let parts = required(json.as_array(), path)?;
-    let [first, second, third] = parts.as_slice() else {
-        return Err(wrong(path));
-    };
-    Ok((first, second, third))
-}
-
-/// The parts of a member that has four.
-#[tactic(auto, using(crate::proofs::Members::no_four))]
-fn four<'a>(
-    place: ListPlace,
-    index: usize,
-    json: &'a Json,
-) -> Result<(&'a Json, &'a Json, &'a Json, &'a Json), Refusal>
-    ensures { Gives (λ parts. (view parts.0.now, view parts.1.now, view parts.2.now, view parts.3.now)) result (four_in place index (as_array (view json.now))) }
-{
-    let path = Path::Member { list: place, index };
-    let parts = required(json.as_array(), path)?;
-    let [first, second, third, fourth] = parts.as_slice() else {
-        return Err(wrong(path));
-    };
-    Ok((first, second, third, fourth))
-}
-
-/// The first and the last part of a member's key, which are one part in version 1, and the one part behind the key.
-pub fn pair<'a>(
-    version: FileVersion,
-    place: ListPlace,
-    index: usize,
-    json: &'a Json,
-) -> Result<(&'a Json, &'a Json, &'a Json), Refusal>
-    ensures { Gives (λ parts. (view parts.0.now, view parts.1.now, view parts.2.now)) result (split_pair version place index (as_array (view json.now))) }
-{
-    match version {
-        FileVersion::One => {
-            let (id, behind) = two(place, index, json)?;
-            Ok((id, id, behind))
-        }
-        FileVersion::Two => three(place, index, json),
+    let parts = json.as_array()?.as_slice();
+    if parts.len() == key_parts(version) + behind as usize {
+        Some(parts)
+    } else {
+        None
     }
 }
 
-/// The first and the last part of a member's key, which are one part in version 1, and the two parts behind the key.
-pub fn triple<'a>(
+/// The row of a member's key, and the parts behind it.
+#[inline(always)]
+#[tactic(auto, using(crate::proofs::Members::no_id, crate::proofs::Members::no_table))]
+pub fn split_key(
+    alloc: Global,
     version: FileVersion,
     place: ListPlace,
     index: usize,
-    json: &'a Json,
-) -> Result<(&'a Json, &'a Json, &'a Json, &'a Json), Refusal>
-    ensures { Gives (λ parts. (view parts.0.now, view parts.1.now, view parts.2.now, view parts.3.now)) result (split_triple version place index (as_array (view json.now))) }
+    parts: &[Json],
+) -> Result<(RowName, &[Json]), Refusal>
+    ensures { Gives (λ split. (split.0, items_view split.1.now)) result (spec_split_key version place index (items_view parts.now)) }
 {
+    let path = Path::Member { list: place, index };
     match version {
         FileVersion::One => {
-            let (id, first, second) = three(place, index, json)?;
-            Ok((id, id, first, second))
+            let [id, behind @ ..] = parts else {
+                return Err(wrong(path));
+            };
+            Ok((plain_row(place, index, id)?, behind))
         }
-        FileVersion::Two => four(place, index, json),
+        FileVersion::Two => {
+            let [table, id, behind @ ..] = parts else {
+                return Err(wrong(path));
+            };
+            Ok((full_row(alloc, place, index, table, id)?, behind))
+        }
     }
 }

@@ -27,7 +27,7 @@ use crate::refusal::{Refusal, wrong};
 use crate::transaction::Installed;
 use keys::{has_keys, text_at};
 use lab_table::Table;
-use lists::{installed_at, values_at};
+use lists::entries_at;
 use serde_json::Value as Json;
 use std::alloc::Global;
 use transaction::txns_of;
@@ -76,10 +76,10 @@ fn parts_of(alloc: Global, json: &Json) -> Result<Parts, Refusal>
     ) {
         return Err(wrong(Path::Root));
     }
-    let initial = values_at(alloc, version, json, "initial", ListPlace::Initial)?;
+    let initial = entries_at(alloc, version, json, "initial", ListPlace::Initial)?;
     let txns = txns_of(alloc, version, json)?;
-    let installed = installed_at(alloc, version, json)?;
-    let end = values_at(alloc, version, json, "end", ListPlace::End)?;
+    let installed = entries_at(alloc, version, json, "installed", ListPlace::Installed)?;
+    let end = entries_at(alloc, version, json, "end", ListPlace::End)?;
     Ok(Parts {
         initial: Table::from_rising(initial),
         txns,

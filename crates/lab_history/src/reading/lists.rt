@@ -1,90 +1,83 @@
-//! The lists of a history file, found by their keys.
+//! The lists of a history file, whose members begin with a row. They are found by their keys.
 
-ghost use Rattle.std.specs.Prelude.{◌≡◌, T, codes, IfOk, IfErr};
+ghost use Rattle.std.specs.Prelude.{◌≡◌, T, IfOk};
 ghost use Rattle.std.specs.FinMap as map;
-ghost use Rattle.serde_json.specs.Data.{null};
 ghost use Rattle.serde_json.specs.View.{view};
 ghost use Rattle.lab_table.specs.Row.{row_cmp};
 ghost use Rattle.lab_history.specs.VersionName.{new_states};
-ghost use Rattle.lab_history.specs.Entries.{values_in, writes_in, view_in, installed_in};
+ghost use Rattle.lab_history.specs.Entries.{entry_in, entries_in, writes_in};
 ghost use Rattle.lab_history.specs.Faults.{Gives};
 ghost use Rattle.lab_history.specs.Format.{at_key};
 
-use crate::entry::{installed_of, values_of, view_of, writes_of};
+use super::keys::items_at;
+use crate::entry::Entry;
 use crate::fault::FileFault;
 use crate::file_version::FileVersion;
-use crate::operation::{State, VersionName};
+use crate::member::{required, sized_parts, split_key};
+use crate::operation::State;
+use crate::order::follows;
 use crate::path::{ListPlace, Path};
-use crate::refusal::{Refusal, wrong};
-use crate::transaction::Installers;
-use lab_table::{RowName, Value};
+use crate::refusal::Refusal;
+use lab_table::RowName;
 use serde_json::Value as Json;
 use std::alloc::Global;
 
-/// The value at a key, where a list has to be.
-fn list_at<'v>(json: &'v Json, key: &str, place: ListPlace) -> Result<&'v Json, Refusal>
-    ensures found { IfOk result (λ list. view list.now ≡ at_key key.now (view json.now)) }
-    ensures missing { IfErr result (λ refusal. at_key key.now (view json.now) ≡ null) }
-    ensures fault { IfErr result (λ refusal. refusal ≡ Refusal.Fault (FileFault.WrongFormat (Path.List place))) }
+/// A member of a list.
+#[inline(always)]
+fn entry_of<E: Entry>(
+    alloc: Global,
+    version: FileVersion,
+    place: ListPlace,
+    index: usize,
+    json: &Json,
+) -> Result<(RowName, E), Refusal>
+    ensures { Gives (λ entry. entry) result (entry_in E.PARTS E.read version place index (view json.now)) }
 {
-    match json.get(key) {
-        Some(list) => Ok(list),
-        None => Err(wrong(Path::List(place))),
+    let path = Path::Member { list: place, index };
+    let parts = required(sized_parts(version, E::PARTS, json), path)?;
+    match split_key(alloc, version, place, index, parts) {
+        Ok((row, behind)) => Ok((row, E::read(alloc, version, place, index, behind)?)),
+        Err(refusal) => Err(refusal),
     }
 }
 
-/// The rows with their values at a key.
-pub fn values_at(
+/// The list at a key.
+pub fn entries_at<E: Entry>(
     alloc: Global,
     version: FileVersion,
     json: &Json,
     key: &str,
     place: ListPlace,
-) -> Result<Vec<(RowName, Value)>, Refusal>
-    ensures read { Gives (λ entries. entries.items) result (values_in version place (at_key key.now (view json.now))) }
+) -> Result<Vec<(RowName, E)>, Refusal>
+    ensures read { Gives (λ entries. entries.items) result (entries_in (entry_in E.PARTS E.read version place) place (at_key key.now (view json.now))) }
     ensures rises { IfOk result (λ entries. T (map.is_sorted row_cmp entries.items)) }
 {
-    values_of(alloc, version, place, list_at(json, key, place)?)
+    let members = required(items_at(json, key), Path::List(place))?;
+    let mut entries = Vec::with_capacity(alloc, members.len())?;
+    let mut before = None;
+    for (index, member) in members.iter().enumerate() {
+        let entry = entry_of(alloc, version, place, index, member)?;
+        if !follows(&before, &entry.0) {
+            return Err(Refusal::Fault(FileFault::Unsorted {
+                path: Path::List(place),
+            }));
+        }
+        before = Some(entry.0);
+        entries.push(entry)?;
+    }
+    Ok(entries)
 }
 
-/// The rows with their new states that an operation wrote.
+/// The written rows with their new states at a key.
 pub fn writes_at(
     alloc: Global,
     version: FileVersion,
     json: &Json,
+    key: &str,
     place: ListPlace,
 ) -> Result<Vec<(RowName, State)>, Refusal>
-    ensures read { Gives (λ entries. new_states entries.items) result (writes_in version place (at_key (codes "writes") (view json.now))) }
+    ensures read { Gives (λ entries. new_states entries.items) result (writes_in version place (at_key key.now (view json.now))) }
     ensures rises { IfOk result (λ entries. T (map.is_sorted row_cmp (new_states entries.items))) }
 {
-    writes_of(alloc, version, place, list_at(json, "writes", place)?)
-}
-
-/// The rows with the versions that an operation saw.
-pub fn view_at(
-    alloc: Global,
-    version: FileVersion,
-    json: &Json,
-    place: ListPlace,
-) -> Result<Vec<(RowName, VersionName)>, Refusal>
-    ensures read { Gives (λ entries. entries.items) result (view_in version place (at_key (codes "view") (view json.now))) }
-    ensures rises { IfOk result (λ entries. T (map.is_sorted row_cmp entries.items)) }
-{
-    view_of(alloc, version, place, list_at(json, "view", place)?)
-}
-
-/// The rows with their installers.
-pub fn installed_at(
-    alloc: Global,
-    version: FileVersion,
-    json: &Json,
-) -> Result<Vec<(RowName, Installers)>, Refusal>
-    ensures read { Gives (λ entries. entries.items) result (installed_in version (at_key (codes "installed") (view json.now))) }
-    ensures rises { IfOk result (λ entries. T (map.is_sorted row_cmp entries.items)) }
-{
-    installed_of(
-        alloc,
-        version,
-        list_at(json, "installed", ListPlace::Installed)?,
-    )
+    entries_at(alloc, version, json, key, place)
 }

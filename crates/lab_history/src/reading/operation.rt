@@ -9,7 +9,7 @@ ghost use Rattle.lab_history.specs.Format.{only_in, op_in, ops_from};
 ghost use Rattle.lab_history.specs.Limits.{max_operations};
 
 use super::keys::{has_keys, text_at};
-use super::lists::{values_at, view_at, writes_at};
+use super::lists::{entries_at, writes_at};
 use crate::fault::FileFault;
 use crate::file_version::FileVersion;
 use crate::operation::{Op, Ops, Rows, View, Writes};
@@ -80,9 +80,15 @@ fn op_of(
             op: op as u32 + 1,
         }));
     };
-    let view = view_at(alloc, version, json, ListPlace::View { txn, op })?;
-    let rows = values_at(alloc, version, json, "rows", ListPlace::Rows { txn, op })?;
-    let writes = writes_at(alloc, version, json, ListPlace::Writes { txn, op })?;
+    let view = entries_at(alloc, version, json, "view", ListPlace::View { txn, op })?;
+    let rows = entries_at(alloc, version, json, "rows", ListPlace::Rows { txn, op })?;
+    let writes = writes_at(
+        alloc,
+        version,
+        json,
+        "writes",
+        ListPlace::Writes { txn, op },
+    )?;
     Ok(Op {
         statement,
         view: View::new(view),
