@@ -21,19 +21,17 @@ use Rattle.lab_engine.specs.declared.situation.Situation.{Situation}
 use Rattle.lab_engine.specs.Log.{Past, Txn, Version, version_or, version_by, active, active_after, ops_after, asked, waiting, waiting_after, begun_after, commits, commits_after, last_installed}
 use Rattle.lab_engine.specs.Sight.{Listed}
 use Rattle.lab_engine.specs.Merging.{written_version}
-use Rattle.lab_engine.specs.declared.event.Outcome.TheVariants.{Begun}
 use Rattle.lab_engine.specs.Chains.{chain_in, chain_after}
-use Rattle.lab_engine.specs.Situation.{Describes, DescribesAll, Agree, AreInstalled, IsRunning, statements_of, all_sessions, running_of, waiting_of, grown}
+use Rattle.lab_engine.specs.Situation.{Describes, DescribesAll, Agree, IsRunning, statements_of, all_sessions, running_of, waiting_of, grown}
 use Rattle.std.proofs.lemmas.Option.{same_Some}
 use Rattle.lab_table.proofs.Tests.{none_of}
 
 -- a transaction that begins
 pub begins_running : (past : Past) (number before : ℕ) (running : RunningTxn) → running.number ≡ number → running.before ≡ length past → running.statements.items ≡ [] → running.last ≡ empty
-    → AreInstalled past running.installed → IsRunning (record { no = number; ops = []; before = past }) running
-begins_running past number before running is_number is_before none last_is installed = record {
+    → IsRunning (record { no = number; ops = []; before = past }) running
+begins_running past number before running is_number is_before none last_is = record {
   number = is_number;
   before = is_before;
-  installed = installed;
   statements = none;
   last = λ row. ap (λ m. map.get m row) last_is ∙ get-empty row_cmp row;
 }
@@ -45,26 +43,21 @@ grown_version number place ops None old is = refl
 grown_version number place ops (Some state) old is = ap (λ n. Some (record { name = Of number n; state = state })) is
 
 -- a transaction that runs a statement more
-pub runs_on : (txn : Txn) (op : Op) (old new : RunningTxn) (place : ℕ) → IsRunning txn old → new.number ≡ old.number → new.before ≡ old.before → new.installed ≡ old.installed
+pub runs_on : (txn : Txn) (op : Op) (old new : RunningTxn) (place : ℕ) → IsRunning txn old → new.number ≡ old.number → new.before ≡ old.before
     → statements_of new ≡ statements_of old ++ op.statement ∷ [] → place ≡ length (statements_of old) + 1
     → ((row : Row) → map.get new.last row ≡ option_or (written_version (Of old.number place) (map.get op.writes row)) (map.get old.last row)) → IsRunning (grown txn op) new
-runs_on txn op old new place running number before installed statements numbered last =
+runs_on txn op old new place running number before statements numbered last =
     let ran : ℕ = length txn.ops in
     let counted : length (statements_of old) ≡ ran = ap length running.statements ∙ length-reverse (each (λ op. op.statement) txn.ops) ∙ length-map txn.ops (λ op. op.statement) in
     record {
       number = number ∙ running.number;
       before = before ∙ running.before;
-      installed = subst (AreInstalled txn.before) (sym installed) running.installed;
       statements = statements ∙ ap (λ l. l ++ op.statement ∷ []) running.statements ∙ sym (reverse-append (op.statement ∷ []) (each (λ op. op.statement) txn.ops));
       last = λ row.
           last row ∙ ap (option_or (written_version (Of old.number place) (map.get op.writes row))) (running.last row)
           ∙ ap (λ n. option_or (written_version (Of n place) (map.get op.writes row)) (version_by txn row)) running.number
           ∙ grown_version txn.no place txn.ops (map.get op.writes row) (version_by txn row) (numbered ∙ ap (λ n. n + 1) counted);
     }
-
--- a begin installs nothing
-pub installed_at_begin : (past : Past) (event : LogEvent) (number : ℕ) (versions : Listed) → event.outcome ≡ Begun number → AreInstalled (event ∷ past) versions → AreInstalled past versions
-installed_at_begin past event number versions is are row = are row ∙ ap (λ o. last_installed (commits_after o (active past event.session) (commits past)) row) is
 
 -- an operation of a statement is one more where the command runs it
 pub ops_run : (command : Command) (s : Statement) (view : View) (rows : Rows) (writes : Writes) (txn : Txn) → asked command ≡ Some s

@@ -56,7 +56,7 @@ module _ {A B : Type 0} (f : Row → A → Option B) where
   find_other q e rest other (Some b) = ap (λ t. cond t (Some b) (find row_cmp q rest)) other
 
   -- a row is found with what is made of what it was found with
-  find_each : (q : Row) (es : List (Row × A)) → T (is_sorted row_cmp es) → find row_cmp q (each_row f es) ≡ option_and_then (f q) (find row_cmp q es)
+  pub find_each : (q : Row) (es : List (Row × A)) → T (is_sorted row_cmp es) → find row_cmp q (each_row f es) ≡ option_and_then (f q) (find row_cmp q es)
   find_each q [] h = refl
   find_each q (e ∷ es) h =
       let parts = both (below_all row_cmp e.0 es) (is_sorted row_cmp es) h in

@@ -1,6 +1,7 @@
 -- Chains of installed versions: what a commit puts onto them, and what they say of the versions at a begin.
 use Rattle.std.proofs.Common.{◌≡◌, ℕ, ◌≤◌, ◌<◌, refl, sym, ap, subst, ◌∙◌, arith, Bool, true, false, cond, T, List, [], ◌∷◌, ◌++◌, length, length-append, reverse, append_assoc}
 use Rattle.std.specs.Prelude.{Option, Some, None, is_some, option_map, unwrap_or}
+use Rattle.std.specs.Option.{option_or}
 use Rattle.std.specs.Ordering.{is_eq}
 use Rattle.std.proofs.lemmas.Bool.{lt-ltb, le-ltb}
 use Rattle.std.proofs.lemmas.List.{reverse-append}
@@ -13,9 +14,9 @@ use Rattle.lab_table.proofs.Orderings.{eq_reversed}
 use Rattle.lab_engine.specs.declared.chain.Installed.{Installed}
 use Rattle.lab_engine.specs.declared.event.Outcome.{Outcome}
 use Rattle.lab_engine.specs.declared.event.Outcome.TheVariants.{Begun, Rows as Listed, Committed, Aborted, Waits, Refused}
-use Rattle.lab_engine.specs.Log.{Past, Version, Txn, active, commits, commits_after, version_by, writers}
+use Rattle.lab_engine.specs.Log.{Past, Version, Txn, active, commits, commits_after, version_by, last_installed, writers}
 use Rattle.lab_engine.specs.Laws.{Began}
-use Rattle.lab_engine.specs.Chains.{longer, chain_after, chain, added, first_since}
+use Rattle.lab_engine.specs.Chains.{longer, chain_after, chain, added, first_since, last_before}
 use Rattle.lab_engine.specs.Sight.{Listed as Versions}
 use Rattle.lab_engine.proofs.LockSteps.{none_some}
 use Rattle.lab_engine.proofs.Begins.{begins_hold}
@@ -154,3 +155,52 @@ pub since_begin : (past : Past) (session : ℕ) (txn : Txn) (row : Row) → acti
 since_begin past session txn row is =
     let b : Began past txn = begins_hold past session txn is in
     subst (λ (p : Past). SinceThen row p txn.before) (append_assoc b.since (b.event ∷ []) txn.before ∙ sym b.past_is) (since_then row txn.before (b.since ++ b.event ∷ []))
+
+-- ---- the versions at a begin
+
+module _ (row : Row) where
+  last_after : (n : ℕ) (outcome : Outcome) (act : Option Txn) (place : ℕ) (c : List Installed) (txns : List Txn) → place < n → last_before n c ≡ last_installed txns row
+      → last_before n (chain_after outcome act place row c) ≡ last_installed (commits_after outcome act txns) row
+  last_after n (Begun number) act place c txns below is = is
+  last_after n (Listed view rows writes) act place c txns below is = is
+  last_after n Committed None place c txns below is = is
+  last_after n Committed (Some t) place c txns below is = at (version_by t row) where
+    at : (v : Option Version) → last_before n (longer t.no place v c) ≡ option_or v (last_installed txns row)
+    at None = is
+    at (Some v) = ap (λ b. cond b (Some v) (last_before n c)) (lt-ltb place n below)
+  last_after n Aborted act place c txns below is = is
+  last_after n (Waits on) act place c txns below is = is
+  last_after n (Refused fault) act place c txns below is = is
+
+  -- before a place behind all, the last version of a chain is the last that was installed
+  last_in : (n : ℕ) (past : Past) → length past ≤ n → last_before n (chain past row) ≡ last_installed (commits past) row
+  last_in n [] within = refl
+  last_in n (event ∷ past) within =
+      last_after n event.outcome (active past event.session) (length past) (chain past row) (commits past) (omega (arith, within)) (last_in n past (omega (arith, within)))
+
+  later_after : (n : ℕ) (outcome : Outcome) (act : Option Txn) (place : ℕ) (c : List Installed) → n ≤ place → last_before n (chain_after outcome act place row c) ≡ last_before n c
+  later_after n (Begun number) act place c later = refl
+  later_after n (Listed view rows writes) act place c later = refl
+  later_after n Committed None place c later = refl
+  later_after n Committed (Some t) place c later = at (version_by t row) where
+    at : (v : Option Version) → last_before n (longer t.no place v c) ≡ last_before n c
+    at None = refl
+    at (Some v) = ap (λ b. cond b (Some v) (last_before n c)) (le-ltb place n later)
+  later_after n Aborted act place c later = refl
+  later_after n (Waits on) act place c later = refl
+  later_after n (Refused fault) act place c later = refl
+
+  -- so is it before the place of an earlier moment
+  last_then : (before since : Past) → last_before (length before) (chain (since ++ before) row) ≡ last_installed (commits before) row
+  last_then before [] = last_in (length before) before (omega arith)
+  last_then before (event ∷ since) =
+      later_after (length before) event.outcome (active (since ++ before) event.session) (length (since ++ before)) (chain (since ++ before) row)
+      (let both = length-append since before in omega (arith, both))
+      ∙ last_then before since
+
+-- before the place of an active transaction's begin, a row's chain ends with the version that was installed last at the begin
+pub last_at_begin : (past : Past) (session : ℕ) (txn : Txn) (row : Row) → active past session ≡ Some txn → last_before (length txn.before) (chain past row) ≡ last_installed (commits txn.before) row
+last_at_begin past session txn row is =
+    let b : Began past txn = begins_hold past session txn is in
+    subst (λ (p : Past). last_before (length txn.before) (chain p row) ≡ last_installed (commits txn.before) row)
+    (append_assoc b.since (b.event ∷ []) txn.before ∙ sym b.past_is) (last_then row txn.before (b.since ++ b.event ∷ []))

@@ -17,6 +17,7 @@ pub mod Merging
 pub mod VersionLists
 pub mod States
 pub mod Effects
+mod KeptChains
 pub mod FailingRows
 pub mod Walks
 pub mod Unreached

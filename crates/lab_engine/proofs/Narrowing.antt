@@ -1,7 +1,7 @@
 -- Looking only at the versions of rows that a statement may match.
-use Rattle.std.proofs.Common.{◌≡◌, ◌∙◌, refl, sym, ap, subst, true, false, cond, T, [], ◌∷◌, drop, one-add, inl, inr}
+use Rattle.std.proofs.Common.{◌≡◌, ◌∙◌, refl, sym, ap, subst, Bool, true, false, cond, ◌||◌, T, [], ◌∷◌, drop, one-add, inl, inr}
 use Rattle.std.specs.Prelude.{Option, Some, None, option_and_then, ◌+◌}
-use Rattle.std.specs.List.{cons_option, prefix_len}
+use Rattle.std.specs.List.{cons_option, list_any, prefix_len}
 use Rattle.std.specs.Ordering.{is_lt, is_eq, is_gt}
 use Rattle.std.specs.declared.cmp.Ordering.{Ordering}
 use Rattle.std.specs.declared.cmp.Ordering.TheVariants.{Less, Equal, Greater}
@@ -86,6 +86,21 @@ pub rewritten_candidates : (s : Statement) (es found : Entries) → AreCandidate
     → each_row (λ row (v : Version). rewritten s row v.state) found ≡ each_row (λ row (v : Version). rewritten s row v.state) es
 rewritten_candidates s es found are =
     each_candidate (λ row (v : Version). rewritten s row v.state) s es found (λ row v off. ap (option_and_then (value_rewritten s)) (not_listed s row off v.state)) are
+
+-- ---- whether a test holds of one
+
+-- where a test holds of no row that the statement rules out, it holds of an entry where it holds of a candidate
+pub any_candidate : (p : Row × Version → Bool) (s : Statement) (es found : Entries) → ((entry : Row × Version) → may_match s entry.0 ≡ false → p entry ≡ false)
+    → AreCandidates s es found → list_any p found ≡ list_any p es
+any_candidate p s es found off (inl all) = ap (list_any p) all
+any_candidate p s es found off (inr (row, only, own)) = ap (list_any p) own ∙ any_own es
+  where
+    any_own : (es : Entries) → list_any p (own_entries row es) ≡ list_any p es
+    any_own [] = refl
+    any_own (e ∷ es) = elim (row_eq row e.0) as (λ b. row_eq row e.0 ≡ b → list_any p (cond b (e ∷ own_entries row es) (own_entries row es)) ≡ (p e || list_any p es)) [
+      | true ↦ λ is. ap (λ b. p e || b) (any_own es)
+      | false ↦ λ is. any_own es ∙ ap (λ b. b || list_any p es) (sym (off e (others_off s row only e.0 (apart_by row e.0 is))))
+    ] refl
 
 -- ---- the first that fails
 

@@ -41,3 +41,8 @@ added by place (e ∷ es) row chain = added by place es row (cond (row_eq row e.
 abbrev pub first_since : ℕ → List Installed → Option ℕ
 first_since place [] = None
 first_since place (i ∷ older) = cond (nat_lt i.place place) None (Some (unwrap_or (first_since place older) i.by))
+
+-- the last version that was installed before a place
+abbrev pub last_before : ℕ → List Installed → Option Version
+last_before place [] = None
+last_before place (i ∷ older) = cond (nat_lt i.place place) (Some i.version) (last_before place older)

@@ -25,7 +25,6 @@ AreInstalled past versions = (row : Row) → map.get versions row ≡ last_insta
 pub record IsRunning (txn : Txn) (running : RunningTxn) : Type 0 where
   pub number : running.number ≡ txn.no
   pub before : running.before ≡ length txn.before
-  pub installed : AreInstalled txn.before running.installed
   pub statements : statements_of running ≡ reverse (list.map (λ op. op.statement) txn.ops)
   pub last : (row : Row) → map.get running.last row ≡ version_by txn row
 

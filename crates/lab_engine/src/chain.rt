@@ -1,10 +1,12 @@
 //! The versions of each row that commits installed.
 
 ghost use Rattle.std.specs.Prelude.{◌≡◌, ◌∷◌, [], cond, reverse, IfOk};
+ghost use Rattle.std.specs.BTreeMap.{IsOrdered};
 ghost use Rattle.std.specs.FinMap as map;
-ghost use Rattle.lab_table.specs.Row.{Row, row_eq};
+ghost use Rattle.lab_table.specs.Row.{Row, row_cmp, row_eq};
 ghost use Rattle.lab_engine.specs.Chains as plain;
 ghost use Rattle.lab_engine.specs.Chains.{chain_in, longer, added};
+ghost use Rattle.lab_engine.specs.EachRow.{each_row};
 
 use crate::version::{Version, Versions};
 use lab_history::VersionName;
@@ -46,6 +48,24 @@ impl Chains {
             Some(chain) => first_from(chain, place),
             None => None,
         }
+    }
+
+    /// The last version of a row that was installed by a commit with fewer than so many events before it.
+    pub(crate) fn last_before(&self, row: RowName, place: usize) -> Option<Version>
+        ensures { result ≡ plain.last_before place (chain_in self.now row) }
+    {
+        match self.rows.get(&row) {
+            Some(chain) => last_until(chain, place),
+            None => None,
+        }
+    }
+
+    /// The same of all rows. NoMemory where an allocation was refused.
+    pub(crate) fn all_before(&self, alloc: Global, place: usize) -> Result<Versions, NoMemory>
+        ensures { IfOk result (λ made. (row : Row) → map.get made row ≡ plain.last_before place (chain_in self.now row)) }
+    {
+        let entries = entries_before(alloc, &self.rows, place)?;
+        Ok(Versions::from_rising(entries))
     }
 
     /// Puts a version at the end of a row's chain. NoMemory where an allocation was refused.
@@ -105,4 +125,36 @@ fn first_from(chain: &[Installed], place: usize) -> Option<TxnNo>
         left = rest;
     }
     first
+}
+
+/// The last version of a chain that was installed before a place, found from the newest on.
+fn last_until(chain: &[Installed], place: usize) -> Option<Version>
+    ensures { result ≡ plain.last_before place (reverse chain.now) }
+{
+    let mut left = chain;
+    while let Some((last, rest)) = left.split_last() {
+        if last.place < place {
+            return Some(last.version);
+        }
+        left = rest;
+    }
+    None
+}
+
+/// The same of each row that has one, by rising row.
+fn entries_before(
+    alloc: Global,
+    rows: &BTreeMap<RowName, Vec<Installed>>,
+    place: usize,
+) -> Result<Vec<(RowName, Version)>, NoMemory>
+    ensures ordered { IfOk result (λ _. IsOrdered row_cmp rows.now) }
+    ensures made { IfOk result (λ v. v.items ≡ each_row (λ row kept. plain.last_before place (reverse kept.items)) rows.now.entries) }
+{
+    let mut entries = Vec::with_capacity(alloc, rows.len())?;
+    for (row, chain) in rows {
+        if let Some(version) = last_until(chain, place) {
+            entries.push((*row, version))?;
+        }
+    }
+    Ok(entries)
 }

@@ -13,7 +13,7 @@ ghost use Rattle.lab_engine.specs.EachRow as made;
 ghost use Rattle.lab_engine.specs.Effect.{IsEffectOn, IsEffectFault};
 ghost use Rattle.lab_engine.specs.declared.effect.EffectFault.TheVariants.{NoMemory};
 
-use crate::candidates::candidates;
+use crate::candidate::candidates;
 use crate::pending::version_seen;
 use crate::version::{Version, Versions};
 use lab_history::{Rows, State, VersionName, View, Writes};

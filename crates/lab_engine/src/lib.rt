@@ -14,7 +14,7 @@
 
 mod answer;
 mod answer_laws;
-mod candidates;
+mod candidate;
 mod chain;
 mod circle;
 mod effect;
@@ -36,6 +36,7 @@ mod version;
 mod waits;
 
 pub use answer_laws::{least_circle_unique, one_outcome};
+pub use candidate::candidates;
 pub use chain::{Chains, Installed};
 pub use engine::{Engine, MAX_EVENTS};
 pub use event::{EngineFault, Level, LogEvent, Outcome, Sessions};

@@ -1,11 +1,12 @@
 //! What a transaction sees.
 
-ghost use Rattle.std.specs.Prelude.{◌≡◌, ℕ, Some, length, IfOk};
+ghost use Rattle.std.specs.Prelude.{◌≡◌, ℕ, Some, length, option_and_then, IfOk};
+ghost use Rattle.std.specs.Option.{option_or};
 ghost use Rattle.std.specs.FinMap as map;
 ghost use Rattle.lab_table.specs.Row.{Row};
 ghost use Rattle.lab_engine.specs.Log.{Past, Txn, active, commits, last_installed, seen, sight};
 ghost use Rattle.lab_engine.specs.Situation.{Describes, IsRunning};
-ghost use Rattle.lab_engine.specs.Sight.{IsSight, ShowsWritten};
+ghost use Rattle.lab_engine.specs.Sight.{IsSight, ShowsWritten, matching_version};
 
 use crate::event::Level;
 use crate::situation::{RunningTxn, Situation};
@@ -14,19 +15,45 @@ use lab_history::VersionName;
 use lab_table::{NoMemory, RowName, Statement, Table};
 use std::alloc::Global;
 
-/// The committed versions that an active transaction of this level sees.
-fn committed_seen<'s>(
+/// The last installed version of a row that an active transaction of this level sees, if there is one: that of now, at
+/// snapshot that at its begin.
+fn installed_seen(
     level: Level,
-    situation: &'s Situation,
-    running: &'s RunningTxn,
-) -> &'s Versions
+    situation: &Situation,
+    running: &RunningTxn,
+    row: RowName,
+) -> Option<Version>
     ensures { (past : Past) (session : ℕ) (txn : Txn) → Describes past situation.now → active past session ≡ Some txn → IsRunning txn running.now
-        → (row : Row) → map.get result.now row ≡ last_installed (commits (sight level past txn)) row }
+        → result ≡ last_installed (commits (sight level past txn)) row }
 {
     match level {
-        Level::Locking => &situation.committed,
-        Level::Committed => &situation.committed,
-        Level::Snapshot => &running.installed,
+        Level::Locking => situation.committed.get(row),
+        Level::Committed => situation.committed.get(row),
+        Level::Snapshot => situation.chains.last_before(row, running.before),
+    }
+}
+
+/// Those of all rows, over the initial one of each row of the setup that matches a statement.
+/// NoMemory where an allocation was refused.
+fn over_setup(
+    alloc: Global,
+    level: Level,
+    setup: &Table,
+    situation: &Situation,
+    running: &RunningTxn,
+    statement: &Statement,
+) -> Result<Versions, NoMemory>
+    ensures { (past : Past) (session : ℕ) (txn : Txn) → Describes past situation.now → active past session ≡ Some txn → IsRunning txn running.now
+        → IfOk result (λ made. (row : Row) → map.get made row
+        ≡ option_or (last_installed (commits (sight level past txn)) row) (option_and_then (matching_version statement.now row) (map.get setup.now row))) }
+{
+    match level {
+        Level::Locking => situation.committed.over_matching(alloc, statement, setup),
+        Level::Committed => situation.committed.over_matching(alloc, statement, setup),
+        Level::Snapshot => {
+            let installed = situation.chains.all_before(alloc, running.before)?;
+            installed.over_matching(alloc, statement, setup)
+        }
     }
 }
 
@@ -44,8 +71,7 @@ pub fn seen_by(
     ensures { (past : Past) (session : ℕ) (txn : Txn) → Describes past situation.now → active past session ≡ Some txn → IsRunning txn running.now
         → IfOk result (IsSight statement.now level setup.now past txn) }
 {
-    let installed = committed_seen(level, situation, running);
-    let mut seen = installed.over_matching(alloc, statement, setup)?;
+    let mut seen = over_setup(alloc, level, setup, situation, running, statement)?;
     seen.overlay(alloc, &running.last)?;
     Ok(seen)
 }
@@ -64,7 +90,7 @@ fn row_seen(
     if let Some(version) = running.last.get(row) {
         return version;
     }
-    match committed_seen(level, situation, running).get(row) {
+    match installed_seen(level, situation, running, row) {
         Some(version) => version,
         None => Version {
             name: VersionName::Initial,

@@ -10,7 +10,7 @@ ghost use Rattle.lab_history.specs.declared.operation.Op.{Op};
 ghost use Rattle.lab_engine.specs.Limits.{max_events};
 ghost use Rattle.lab_engine.specs.Log.{Past, past_of, Txn, active, active_after, waiting, waiting_after, ops_after, commits_after, begun_after, last_installed};
 ghost use Rattle.lab_engine.specs.Chains.{chain_in, chain_after};
-ghost use Rattle.lab_engine.specs.Situation.{Describes, DescribesSession, DescribesAll, Agree, AreInstalled, IsRunning, HasRoom, all_sessions, running_of, waiting_of, grown};
+ghost use Rattle.lab_engine.specs.Situation.{Describes, DescribesSession, DescribesAll, Agree, IsRunning, HasRoom, all_sessions, running_of, waiting_of, grown};
 
 use crate::chain::Chains;
 use crate::event::{LogEvent, Outcome};
@@ -27,8 +27,6 @@ pub struct RunningTxn {
     pub number: TxnNo,
     /// How many events stand before its begin.
     pub before: usize,
-    /// The versions that were the last to be installed at its begin.
-    pub installed: Versions,
     /// The statements that it ran, in order.
     pub statements: Vec<Statement>,
     /// The last version of each row that it wrote.
@@ -114,13 +112,7 @@ impl Situation {
     {
         install(alloc, &mut self.committed, &self.sessions, event)?;
         lengthen(alloc, &mut self.chains, &self.sessions, event, self.events)?;
-        advance_session(
-            alloc,
-            &mut self.sessions,
-            event,
-            self.events,
-            &self.committed,
-        )?;
+        advance_session(alloc, &mut self.sessions, event, self.events)?;
         self.begun = begun_next(&event.outcome, self.begun);
         self.events += 1;
         Ok(())
@@ -128,45 +120,30 @@ impl Situation {
 }
 
 impl SessionState {
-    /// Goes on by one event of the session, with so many events before it, after which these versions are the last that
-    /// were installed.
-    fn take_in(
-        &mut self,
-        alloc: Global,
-        event: &LogEvent,
-        before: usize,
-        committed: &Versions,
-    ) -> Result<(), NoMemory>
+    /// Goes on by one event of the session, with so many events before it.
+    fn take_in(&mut self, alloc: Global, event: &LogEvent, before: usize) -> Result<(), NoMemory>
         requires { HasRoom self.old.running }
         ensures session { self.new.session ≡ self.old.session }
         ensures state { (past : Past) → DescribesSession past self.old → event.now.session ≡ self.old.session → before ≡ length past
-            → AreInstalled (event.now ∷ past) committed.now → IfOk result (λ _. DescribesSession (event.now ∷ past) self.new) }
+            → IfOk result (λ _. DescribesSession (event.now ∷ past) self.new) }
     {
         self.waits = waits_next(alloc, self.waits.take(), event)?;
-        self.running = running_next(alloc, self.running.take(), event, before, committed)?;
+        self.running = running_next(alloc, self.running.take(), event, before)?;
         Ok(())
     }
 }
 
 impl RunningTxn {
-    /// A transaction that begins, with so many events before, where these versions are the last that were installed.
-    /// NoMemory where an allocation was refused.
-    fn begin(
-        alloc: Global,
-        number: TxnNo,
-        before: usize,
-        committed: &Versions,
-    ) -> Result<RunningTxn, NoMemory>
-        ensures { (past : Past) → before ≡ length past → AreInstalled past committed.now
-            → IfOk result (IsRunning (record { no = number; ops = []; before = past })) }
+    /// A transaction that begins, with so many events before; it takes no memory.
+    fn begin(alloc: Global, number: TxnNo, before: usize) -> RunningTxn
+        ensures { (past : Past) → before ≡ length past → IsRunning (record { no = number; ops = []; before = past }) result }
     {
-        Ok(RunningTxn {
+        RunningTxn {
             number,
             before,
-            installed: committed.copy(alloc)?,
             statements: Vec::new(alloc),
             last: Versions::new(alloc),
-        })
+        }
     }
 
     /// Goes on by an operation.
@@ -251,14 +228,13 @@ fn running_next(
     running: Option<RunningTxn>,
     event: &LogEvent,
     before: usize,
-    committed: &Versions,
 ) -> Result<Option<RunningTxn>, NoMemory>
     requires { HasRoom running }
-    ensures { (past : Past) (txn : Option Txn) → Agree txn running → before ≡ length past → AreInstalled (event.now ∷ past) committed.now
+    ensures { (past : Past) (txn : Option Txn) → Agree txn running → before ≡ length past
         → IfOk result (Agree (active_after event.now.command event.now.outcome past txn)) }
 {
     match &event.outcome {
-        Outcome::Begun(number) => Ok(Some(RunningTxn::begin(alloc, *number, before, committed)?)),
+        Outcome::Begun(number) => Ok(Some(RunningTxn::begin(alloc, *number, before))),
         Outcome::Rows { writes, .. } => run_in(alloc, running, &event.command, writes),
         Outcome::Committed => Ok(None),
         Outcome::Aborted => Ok(None),
@@ -294,23 +270,21 @@ fn run_in(
     Ok(Some(active))
 }
 
-/// Goes on by one event in its session, with so many events before it, after which these versions are the last that were
-/// installed.
+/// Goes on by one event in its session, with so many events before it.
 fn advance_session(
     alloc: Global,
     states: &mut Vec<SessionState>,
     event: &LogEvent,
     before: usize,
-    committed: &Versions,
 ) -> Result<(), NoMemory>
     requires sessions { list.map (λ state. state.session) states.old.items ≡ all_sessions }
     requires room { (past : Past) × DescribesAll past states.old.items × (length past < max_events) }
     ensures session { Contains all_sessions event.now.session }
     ensures sessions { IfOk result (λ _. list.map (λ state. state.session) states.new.items ≡ all_sessions) }
-    ensures states { (past : Past) → DescribesAll past states.old.items → before ≡ length past → AreInstalled (event.now ∷ past) committed.now
+    ensures states { (past : Past) → DescribesAll past states.old.items → before ≡ length past
         → IfOk result (λ _. DescribesAll (event.now ∷ past) states.new.items) }
 {
-    states[usize::from(event.session.number() - 1)].take_in(alloc, event, before, committed)?;
+    states[usize::from(event.session.number() - 1)].take_in(alloc, event, before)?;
     Ok(())
 }
 

@@ -56,6 +56,16 @@ impl Versions {
         }
     }
 
+    /// The versions of these rows, which rise strictly; it takes no memory.
+    pub(crate) fn from_rising(entries: Vec<(RowName, Version)>) -> Versions
+        requires { T (map.is_sorted row_cmp entries.items) }
+        ensures { result ≡ map.from_sorted entries.items }
+    {
+        Versions {
+            by_row: ByRow::from_rising(entries),
+        }
+    }
+
     /// The initial version of each row that the table has. NoMemory where an allocation was refused.
     pub fn of_table(alloc: Global, table: &Table) -> Result<Versions, NoMemory>
         ensures { IfOk result (λ made. (row : Row) → map.get made row ≡ listed_version (map.get table.now row)) }

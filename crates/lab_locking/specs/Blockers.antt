@@ -14,9 +14,13 @@ abbrev pub committed_state : Table → Option Version → Row → State
 committed_state setup None row = map.get setup row
 committed_state setup (Some version) row = version.state
 
--- whether a statement matches the committed or the pending state of a row of which there is a pending version
+-- whether a statement matches the committed or the pending state of a row with this pending version
+abbrev pub is_matched : Table → Listed → Statement → Row × Version → Bool
+is_matched setup committed s entry = matches s entry.0 (committed_state setup (map.get committed entry.0) entry.0) || matches s entry.0 entry.1.state
+
+-- whether that holds of a row of which there is a pending version
 abbrev pub matches_pending : Table → Listed → Statement → Listed → Bool
-matches_pending setup committed s pending = list_any (λ entry. matches s entry.0 (committed_state setup (map.get committed entry.0) entry.0) || matches s entry.0 entry.1.state) (map.entries pending)
+matches_pending setup committed s pending = list_any (is_matched setup committed s) (map.entries pending)
 
 -- whether one of some statements matches a row in this state
 abbrev pub any_matches : List Statement → Row → State → Bool

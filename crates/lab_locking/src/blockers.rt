@@ -1,11 +1,12 @@
 //! Whose writes and reads stand in a statement's way.
 
 ghost use Rattle.std.specs.Prelude.{◌≡◌};
+ghost use Rattle.std.specs.List.{list_any};
 ghost use Rattle.std.specs.FinMap as map;
 ghost use Rattle.lab_engine.specs.Situation.{statements_of};
 ghost use Rattle.lab_locking.specs.Blockers as spec;
 
-use lab_engine::{RunningTxn, Version, Versions, version_seen};
+use lab_engine::{RunningTxn, Version, Versions, candidates, version_seen};
 use lab_table::{RowName, Statement, Table, Value};
 
 fn committed_state(setup: &Table, committed: &Versions, row: RowName) -> Option<Value>
@@ -17,7 +18,8 @@ fn committed_state(setup: &Table, committed: &Versions, row: RowName) -> Option<
     }
 }
 
-/// Whether a transaction has a pending write of a row whose committed or pending state matches the statement.
+/// Whether a transaction has a pending write of a row whose committed or pending state matches the statement. Where many
+/// are pending and the statement names a row, only that row is looked up.
 pub fn holds_match(
     setup: &Table,
     committed: &Versions,
@@ -26,7 +28,20 @@ pub fn holds_match(
 ) -> bool
     ensures { result ≡ spec.matches_pending setup.now committed.now statement.now holder.now.last }
 {
-    holder.last.entries().iter().any(|entry| {
+    let pending = candidates(statement, holder.last.entries());
+    any_pending_matches(setup, committed, statement, pending)
+}
+
+/// Whether the statement matches the committed or the pending state of one of these rows.
+fn any_pending_matches(
+    setup: &Table,
+    committed: &Versions,
+    statement: &Statement,
+    pending: &[(RowName, Version)],
+) -> bool
+    ensures { result ≡ list_any (spec.is_matched setup.now committed.now statement.now) pending.now }
+{
+    pending.iter().any(|entry| {
         statement.matches(entry.0, committed_state(setup, committed, entry.0))
             || statement.matches(entry.0, entry.1.state)
     })

@@ -16,5 +16,5 @@ returns c past session txn describes is_active running row =
     let found : get c.overlay.new.self row ≡ option_or own (option_or installed initial) =
     c.in_ok-overlay.ensures row
     ∙ ap (λ o. option_or o (get c.in_ok-seen.seen row)) (running.last row)
-    ∙ ap (option_or own) (c.in_ok-seen.ensures row ∙ ap (λ o. option_or o initial) (c.committed_seen-installed.ensures past session txn describes is_active running row)) in
+    ∙ ap (option_or own) (c.in_ok-seen.ensures past session txn describes is_active running row) in
     subst (λ o. IsShown s row (unwrap_or o (initially None)) (seen c.args.level c.args.setup.now past txn row)) (sym found) (first_shown s row own installed (get c.args.setup.now row))

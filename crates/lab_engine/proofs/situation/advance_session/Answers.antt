@@ -12,6 +12,6 @@ returns-clause-sessions c =
     c.take_in.new.self c.take_in.ensures.session
 
 pub returns-clause-states : goal.returns-clause-states
-returns-clause-states c = λ past all before are.
+returns-clause-states c = λ past all before.
     states_go_on c.args.states.now.items c.number.result c.from.result c.index_mut.result.now c.requires.sessions c.number.ensures.low c.number.ensures.high c.from.ensures c.index_mut.ensures.value
-    past c.args.event.now c.take_in.new.self c.number.ensures.value all (λ is own. c.in_ok-take_in.ensures.state past is own before are)
+    past c.args.event.now c.take_in.new.self c.number.ensures.value all (λ is own. c.in_ok-take_in.ensures.state past is own before)

@@ -1,7 +1,6 @@
-use Rattle.std.proofs.Common.{refl, sym, subst}
-use Rattle.lab_engine.specs.Situation.{AreInstalled}
+use Rattle.std.proofs.Common.{refl}
 use Rattle.lab_engine.proofs.Describing.{begins_running}
 use Rattle.lab_engine.proofs.situation.RunningTxn.begin.Goals as goal
 
 pub returns : goal.returns
-returns c = λ past before are. begins_running past c.args.number c.args.before _ refl before c.new.ensures.items c.new-2.ensures (subst (AreInstalled past) (sym c.in_ok-copy.ensures) are)
+returns c = λ past before. begins_running past c.args.number c.args.before _ refl before c.new.ensures.items c.new-2.ensures

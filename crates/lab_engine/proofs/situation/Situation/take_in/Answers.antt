@@ -20,7 +20,7 @@ returns c = λ past is.
     (subst (λ l. Agree (active past c.args.event.now.session) (running_of l c.args.event.now.session)) (sym c.deref.ensures.value) (running_agrees past c.args.self.now is c.args.event.now.session))
     is.committed in
     goes_on past c.args.event.now c.args.self.now _ is c.advance_session.ensures.session c.in_ok-advance_session.ensures.sessions
-    (c.in_ok-advance_session.ensures.states past is.states is.events installed) installed
+    (c.in_ok-advance_session.ensures.states past is.states is.events) installed
     (λ row. c.in_ok-lengthen.ensures (active past c.args.event.now.session)
     (subst (λ l. Agree (active past c.args.event.now.session) (running_of l c.args.event.now.session)) (sym c.deref-2.ensures.value)
     (running_agrees past c.args.self.now is c.args.event.now.session)) row

@@ -1,7 +1,7 @@
 use Rattle.std.proofs.Common.{◌∙◌, ap, drop}
 use Rattle.lab_engine.specs.Candidates.{own_first}
 use Rattle.lab_engine.proofs.Narrowing.{own_there}
-use Rattle.lab_engine.proofs.candidates.own_entry.Goals as goal
+use Rattle.lab_engine.proofs.candidate.own_entry.Goals as goal
 
 pub returns : goal.returns
 returns c =
