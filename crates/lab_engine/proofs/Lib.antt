@@ -18,10 +18,9 @@ pub mod VersionLists
 pub mod States
 pub mod Effects
 pub mod FailingRows
-pub mod Walks
-pub mod Unreached
-mod ShortestWalks
-mod LeastWalks
+mod Walks
+mod SessionBits
+mod WaitGraphs
 mod LeastCircles
 mod RisingLists
 mod LeastRows
