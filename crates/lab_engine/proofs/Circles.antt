@@ -6,7 +6,6 @@ use Rattle.std.proofs.lemmas.Bool.{both_ways, cases_eq, eq-eqb, or_left, or_righ
 use Rattle.lab_table.specs.Table.{Table}
 use Rattle.lab_table.specs.declared.statement.Statement.{Statement}
 use Rattle.lab_engine.specs.declared.event.Level.{Level}
-use Rattle.lab_engine.specs.declared.waits.Wait.{Wait}
 use Rattle.lab_engine.specs.Log.{Past, waiting}
 use Rattle.lab_engine.specs.Rules.{BlockedBy, IsChain, IsCircle, MayAsk}
 use Rattle.lab_engine.specs.Recording.{IsRetryable}
@@ -17,12 +16,12 @@ use Rattle.lab_engine.proofs.Waiting.{asked_is, AreWaitsWith}
 use Rattle.std.proofs.lemmas.Option.{same_Some}
 
 -- a walk begins with a step
-first_step : (waits : List Wait) (session : ℕ) (rest : List ℕ) (goal : ℕ) → IsWalk waits session rest goal → (other : ℕ) × IsTrue (waits_for waits session other)
+first_step : (waits : List ℕ) (session : ℕ) (rest : List ℕ) (goal : ℕ) → IsWalk waits session rest goal → (other : ℕ) × IsTrue (waits_for waits session other)
 first_step waits session [] goal walk = (goal, walk)
 first_step waits session (next ∷ rest) goal (first, walk) = (next, first)
 
 -- a walk is a chain where each on it waits for those that the graph has
-chain_of : (level : Level) (setup : Table) (past : Past) (waits : List Wait) (goal : ℕ) (rest : List ℕ) (waiter : ℕ) (asked : Statement)
+chain_of : (level : Level) (setup : Table) (past : Past) (waits : List ℕ) (goal : ℕ) (rest : List ℕ) (waiter : ℕ) (asked : Statement)
     → ((next : ℕ) → Contains rest next → (other : ℕ) → IsTrue (waits_for waits next other) → WaitsOn level setup past next other)
     → ((other : ℕ) → IsTrue (waits_for waits waiter other) → BlockedBy level setup past waiter asked other)
     → IsWalk waits waiter rest goal → IsChain level setup past waiter asked rest goal
@@ -39,7 +38,7 @@ chain_of level setup past waits goal (next ∷ rest) waiter asked on own (first,
     )
 
 -- a chain is a walk where the graph has whom each on it waits for
-walk_of : (level : Level) (setup : Table) (past : Past) (waits : List Wait) (goal : ℕ) (rest : List ℕ) (waiter : ℕ) (asked : Statement)
+walk_of : (level : Level) (setup : Table) (past : Past) (waits : List ℕ) (goal : ℕ) (rest : List ℕ) (waiter : ℕ) (asked : Statement)
     → ((next : ℕ) (s : Statement) → waiting past next ≡ Some s → (other : ℕ) → BlockedBy level setup past next s other → IsTrue (waits_for waits next other))
     → ((other : ℕ) → BlockedBy level setup past waiter asked other → IsTrue (waits_for waits waiter other))
     → IsChain level setup past waiter asked rest goal → IsWalk waits waiter rest goal
@@ -57,7 +56,7 @@ apart_from : (session : ℕ) (rest : List ℕ) (next : ℕ) → list_any (λ m. 
 apart_from session rest next none there same = both_ways _ none (found_in rest session (subst (Contains rest) same there))
 
 -- a round of the graph with what a session asks for is a cycle
-round_circle : (level : Level) (setup : Table) (past : Past) (waits : List Wait) (session : ℕ) (s : Statement) → AreWaitsWith level setup past session s waits
+round_circle : (level : Level) (setup : Table) (past : Past) (waits : List ℕ) (session : ℕ) (s : Statement) → AreWaitsWith level setup past session s waits
     → (circle : List ℕ) → IsRound waits session circle → IsCircle level setup past session s circle
 round_circle level setup past waits session s h [] round = round
 round_circle level setup past waits session s h (first ∷ rest) (own, walk, once) = (
@@ -68,7 +67,7 @@ round_circle level setup past waits session s h (first ∷ rest) (own, walk, onc
 )
 
 -- a cycle is a walk of it
-circle_walk : (level : Level) (setup : Table) (past : Past) (waits : List Wait) (session : ℕ) (s : Statement) → AreWaitsWith level setup past session s waits → MayAsk past session s
+circle_walk : (level : Level) (setup : Table) (past : Past) (waits : List ℕ) (session : ℕ) (s : Statement) → AreWaitsWith level setup past session s waits → MayAsk past session s
     → (first : ℕ) (rest : List ℕ) → IsCircle level setup past session s (first ∷ rest) → IsWalk waits session rest session
 circle_walk level setup past waits session s h may first rest (own, once, chain) = walk_of level setup past waits session rest session s all (λ other. (h.0 other).1) chain
   where
@@ -81,13 +80,13 @@ circle_walk level setup past waits session s h may first rest (own, once, chain)
     ]
 
 -- of the graph's walks from the session back to it none is shorter than a cycle, and none of its length comes before it
-pub record IsLeastRound (waits : List Wait) (session : ℕ) (circle : List ℕ) : Type 0 where
+pub record IsLeastRound (waits : List ℕ) (session : ℕ) (circle : List ℕ) : Type 0 where
   pub round : IsRound waits session circle
   pub shortest : (rest : List ℕ) → IsWalk waits session rest session → length circle ≤ 1 + length rest
   pub least : (rest : List ℕ) → IsWalk waits session rest session → length circle ≡ 1 + length rest → NotAfter circle (session ∷ rest)
 
 -- such a cycle is the least on which the session stands
-least_circle : (level : Level) (setup : Table) (past : Past) (waits : List Wait) (session : ℕ) (s : Statement) → AreWaitsWith level setup past session s waits → MayAsk past session s
+least_circle : (level : Level) (setup : Table) (past : Past) (waits : List ℕ) (session : ℕ) (s : Statement) → AreWaitsWith level setup past session s waits → MayAsk past session s
     → (circle : List ℕ) → IsLeastRound waits session circle → IsLeastCircle level setup past session s circle
 least_circle level setup past waits session s h may circle l = record { is_circle = round_circle level setup past waits session s h circle l.round; shortest = shortest; least = least }
   where
@@ -101,7 +100,7 @@ least_circle level setup past waits session s h may circle l = record { is_circl
         (l.least rest (circle_walk level setup past waits session s h may first rest c) (omega (arith, same)))
 
 -- what a search of the graph says of a deadlock
-pub deadlock_is : {E : Type 0} (level : Level) (setup : Table) (past : Past) (waits : List Wait) (session : ℕ) (s : Statement) → AreWaitsWith level setup past session s waits → MayAsk past session s
+pub deadlock_is : {E : Type 0} (level : Level) (setup : Table) (past : Past) (waits : List ℕ) (session : ℕ) (s : Statement) → AreWaitsWith level setup past session s waits → MayAsk past session s
     → (result : Result (Option (List ℕ)) E) → IfOk result (λ found. IfSome found (IsRound waits session))
     → IfOk result (λ found. IfSome found (λ circle. (rest : List ℕ) → IsWalk waits session rest session → length circle ≤ 1 + length rest))
     → IfOk result (λ found. IfSome found (λ circle. (rest : List ℕ) → IsWalk waits session rest session → length circle ≡ 1 + length rest → NotAfter circle (session ∷ rest)))
@@ -117,7 +116,7 @@ deadlock_is level setup past waits session s h may (Ok None) found shortest leas
 deadlock_is level setup past waits session s h may (Err e) found shortest least none = tt
 
 -- a waiting session that is released is retryable
-pub released_retryable : (level : Level) (setup : Table) (past : Past) (waits : List Wait) (session : ℕ) (s : Statement) → AreWaits level setup past waits → waiting past session ≡ Some s
+pub released_retryable : (level : Level) (setup : Table) (past : Past) (waits : List ℕ) (session : ℕ) (s : Statement) → AreWaits level setup past waits → waiting past session ≡ Some s
     → IsReleased waits session → IsRetryable level setup past session
 released_retryable level setup past waits session s h is (inl nobody) = (s, is, inl (λ other b. both_ways _ (nobody other) ((h session other).1 (s, is, b))))
 released_retryable level setup past waits session s h is (inr ([], round)) = absurd round
@@ -136,7 +135,7 @@ released_retryable level setup past waits session s h is (inr (first ∷ rest, (
 )
 
 -- a retryable session is released
-pub retryable_released : (level : Level) (setup : Table) (past : Past) (waits : List Wait) (session : ℕ) → AreWaits level setup past waits → IsRetryable level setup past session
+pub retryable_released : (level : Level) (setup : Table) (past : Past) (waits : List ℕ) (session : ℕ) → AreWaits level setup past waits → IsRetryable level setup past session
     → IsReleased waits session
 retryable_released level setup past waits session h (s, is, inl free) = inl nobody
   where

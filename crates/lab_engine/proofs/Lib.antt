@@ -19,10 +19,9 @@ pub mod States
 pub mod Effects
 mod KeptChains
 pub mod FailingRows
-pub mod Walks
-pub mod Unreached
-mod ShortestWalks
-mod LeastWalks
+mod Walks
+mod SessionBits
+mod WaitGraphs
 mod LeastCircles
 mod RisingLists
 mod LeastRows

@@ -8,7 +8,6 @@ use Rattle.lab_table.proofs.Tests.{some_of, some_is}
 use Rattle.lab_engine.specs.declared.event.Level.{Level}
 use Rattle.lab_engine.specs.declared.situation.SessionState.{SessionState}
 use Rattle.lab_engine.specs.declared.situation.Situation.{Situation}
-use Rattle.lab_engine.specs.declared.waits.Wait.{Wait}
 use Rattle.lab_engine.specs.Log.{Past, waiting}
 use Rattle.lab_engine.specs.Recording.{IsRetryable, NoneRetryable, IsLeastRetryable}
 use Rattle.lab_engine.specs.Situation.{Describes, DescribesSession}
@@ -23,14 +22,14 @@ state_waits : (past : Past) (state : SessionState) → DescribesSession past sta
 state_waits past state d = ap is_some d.waits
 
 -- a state that waits and is released is that of a retryable session
-pub state_retryable : (level : Level) (setup : Table) (past : Past) (waits : List Wait) (state : SessionState) → DescribesSession past state → AreWaits level setup past waits
+pub state_retryable : (level : Level) (setup : Table) (past : Past) (waits : List ℕ) (state : SessionState) → DescribesSession past state → AreWaits level setup past waits
     → IsSome state.waits × IsReleased waits state.session → IsRetryable level setup past state.session
 state_retryable level setup past waits state d h (some, released) =
     let s = some_of (waiting past state.session) (sym (state_waits past state d) ∙ some) in
     released_retryable level setup past waits state.session s.0 h s.1 released
 
 -- and none other is
-pub state_released : (level : Level) (setup : Table) (past : Past) (waits : List Wait) (state : SessionState) → DescribesSession past state → AreWaits level setup past waits
+pub state_released : (level : Level) (setup : Table) (past : Past) (waits : List ℕ) (state : SessionState) → DescribesSession past state → AreWaits level setup past waits
     → IsRetryable level setup past state.session → IsSome state.waits × IsReleased waits state.session
 state_released level setup past waits state d h r = (state_waits past state d ∙ some_is (waiting past state.session) r.0 r.1, retryable_released level setup past waits state.session h r)
 

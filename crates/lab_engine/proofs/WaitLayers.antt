@@ -1,55 +1,161 @@
--- The hops of one turn of a search back from a goal, as they are found.
-use Rattle.std.proofs.Common.{◌≡◌, ℕ, ◌+◌, ◌<◌, refl, sym, ap, subst, ◌∙◌, Bool, true, false, ◌||◌, List, [], ◌∷◌, ◌++◌, inl, inr, length, take, get_or}
-use Rattle.std.specs.Prelude.{◌==◌, IsTrue}
-use Rattle.std.specs.List.{list_any}
-use Rattle.std.proofs.lemmas.Bool.{eq-eqb, eqb-true, or_cases, or_left, or_right}
-use Rattle.std.proofs.lemmas.List.Folds.{list_any-append, list_any_more}
-use Rattle.lab_engine.specs.declared.circle.WaitEdge.{WaitEdge}
-use Rattle.lab_engine.specs.declared.waits.Wait.{Wait}
-use Rattle.lab_engine.specs.WaitsFor.{waits_for}
-use Rattle.lab_engine.specs.WaitEdges.{is_reached}
+-- Layers of those from which walks lead to a goal, by how many stand between.
+use Rattle.std.proofs.Common.{◌≡◌, ℕ, ◌+◌, ◌-◌, ◌≤◌, ◌<◌, ◌==◌, ◌&&◌, ◌⊎◌, refl, sym, ap, subst, ◌∙◌, inl, inr, arith, false, List, [], ◌∷◌, ◌++◌, length, get_or, set, replicate}
+use Rattle.std.specs.Prelude.{IsTrue, Option, Some, None, IfSome, ◌↔◌, is_some}
+use Rattle.std.proofs.lemmas.Bool.{cases_eq, cases_lt, eq-eqb, eqb-true, both_ways, and_parts, and_from}
+use Rattle.std.proofs.lemmas.List.{get_or-set_same, get_or-set_other, append-nil, append_assoc}
+use Rattle.lab_engine.specs.SessionBits.{has}
+use Rattle.lab_engine.specs.WaitsFor.{waits_for, WaitsForOne, IsWalk, IsRound}
+use Rattle.lab_engine.specs.LeastCircle.{NotAfter}
+use Rattle.lab_history.specs.HistoryRules.{AllDistinct}
+use Rattle.lab_engine.specs.LeastWalk.{Leads, AreLayers, IsLeastWalk}
+use Rattle.lab_engine.proofs.Walks.{shortest_once, once_walk, once_few}
 
--- whether some hop is that of a session
-abbrev pub any_of : ℕ → List WaitEdge → Bool
-any_of session edges = list_any (λ edge. edge.session == session) edges
+module _ (graph : List ℕ) (goal : ℕ) where
+  -- those that wait for the goal
+  first_layer : (only set : ℕ) → ((n : ℕ) → has only n ≡ (n == goal)) → ((s : ℕ) → IsTrue (has set s) ↔ WaitsForOne graph only s) → (s : ℕ) → IsTrue (has set s) ↔ Leads graph 0 s goal
+  first_layer only set is waiters s = (to, from)
+    where
+      to : IsTrue (has set s) → Leads graph 0 s goal
+      to there =
+          let w : WaitsForOne graph only s = (waiters s).0 there in
+          ([], refl, subst (λ k. IsTrue (waits_for graph s k)) (eqb-true w.0 goal (sym (is w.0) ∙ w.2)) w.1)
 
--- what a layer and the hops behind it reach, they reach with one hop more
-pub reached_still : (layer edges : List WaitEdge) (edge : WaitEdge) (goal session : ℕ) → IsTrue (is_reached (layer ++ edges) goal session)
-    → IsTrue (is_reached ((layer ++ edge ∷ []) ++ edges) goal session)
-reached_still layer edges edge goal session there = at (session == goal) there
-  where
-    more : IsTrue (any_of session (layer ++ edges)) → IsTrue (any_of session ((layer ++ edge ∷ []) ++ edges))
-    more h = list_any-append (λ e. e.session == session) (layer ++ edge ∷ []) edges ∙ elim (or_cases (any_of session layer) (any_of session edges) (sym (list_any-append (λ e. e.session == session) layer edges) ∙ h)) [
-      | inl a ↦ or_left (any_of session (layer ++ edge ∷ [])) (any_of session edges)
-          (list_any-append (λ e. e.session == session) layer (edge ∷ []) ∙ or_left (any_of session layer) (any_of session (edge ∷ [])) a)
-      | inr b ↦ or_right (any_of session (layer ++ edge ∷ [])) (any_of session edges) b
+      from : Leads graph 0 s goal → IsTrue (has set s)
+      from ([], size, walk) = (waiters s).1 (goal, walk, is goal ∙ eq-eqb goal goal refl)
+      from (next ∷ rest, size, walk) = absurd (omega (arith, size))
+
+  -- those that wait for one of a layer
+  next_layer : (between last new : ℕ) → ((s : ℕ) → IsTrue (has last s) ↔ Leads graph between s goal) → ((s : ℕ) → IsTrue (has new s) ↔ WaitsForOne graph last s)
+      → (s : ℕ) → IsTrue (has new s) ↔ Leads graph (between + 1) s goal
+  next_layer between last new h waiters s = (to, from)
+    where
+      to : IsTrue (has new s) → Leads graph (between + 1) s goal
+      to there =
+          let w : WaitsForOne graph last s = (waiters s).0 there in
+          let on : Leads graph between w.0 goal = (h w.0).0 w.2 in
+          (w.0 ∷ on.0, omega (arith, on.1), (w.1, on.2))
+
+      from : Leads graph (between + 1) s goal → IsTrue (has new s)
+      from ([], size, walk) = absurd (omega (arith, size))
+      from (next ∷ rest, size, walk) = (waiters s).1 (next, walk.0, (h next).1 (rest, omega (arith, size), walk.1))
+
+  -- the layers before the first turn
+  pub layers_first : (only first : ℕ) → ((n : ℕ) → has only n ≡ (n == goal)) → ((s : ℕ) → IsTrue (has first s) ↔ WaitsForOne graph only s) → AreLayers graph goal 1 (replicate 9 first)
+  layers_first only first is waiters between less s =
+      let none : between ≡ 0 = omega (arith, less) in
+      subst (λ k. IsTrue (has (get_or (replicate 9 first) k 0) s) ↔ Leads graph k s goal) (sym none)
+      (first_layer only first is waiters s)
+
+  -- one more turn
+  pub layers_more : (layers : List ℕ) (between last new : ℕ) → length layers ≡ 9 → 1 ≤ between → between < 9 → AreLayers graph goal between layers → last ≡ get_or layers (between - 1) 0
+      → ((s : ℕ) → IsTrue (has new s) ↔ WaitsForOne graph last s) → AreLayers graph goal (between + 1) (set layers between new)
+  layers_more layers between last new size some less h is waiters k lt s = elim (cases_eq k between) [
+    | inl same ↦
+        let new_layer : IsTrue (has new s) ↔ Leads graph (between - 1 + 1) s goal =
+        next_layer (between - 1) last new (subst (λ l. (t : ℕ) → IsTrue (has l t) ↔ Leads graph (between - 1) t goal) (sym is) (h (between - 1) (omega (arith, some)))) waiters s in
+        let here : get_or (set layers between new) k 0 ≡ new = ap (λ x. get_or (set layers between new) x 0) same ∙ get_or-set_same layers between new 0 (omega (arith, size, less)) in
+        subst (λ x. IsTrue (has x s) ↔ Leads graph k s goal) (sym here) (subst (λ x. IsTrue (has new s) ↔ Leads graph x s goal) (omega (arith, some, same)) new_layer)
+    | inr apart ↦ subst (λ x. IsTrue (has x s) ↔ Leads graph k s goal) (sym (get_or-set_other layers between k new 0 apart)) (h k (search (arith, lt, apart)) s)
+  ]
+
+  -- the last step of a walk
+  pub at_goal : (at : ℕ) → Leads graph 0 at goal → IsLeastWalk graph 0 at goal []
+  at_goal at ([], size, walk) = record { size = refl; walk = walk; least = λ other w s. tt }
+  at_goal at (next ∷ rest, size, walk) = absurd (omega (arith, size))
+
+  -- the least step before a least walk
+  step_before : (left at next : ℕ) (tail : List ℕ) → IsTrue (waits_for graph at next) → ((n : ℕ) → IsTrue (waits_for graph at n) → Leads graph left n goal → next ≤ n) → IsLeastWalk graph left next goal tail
+      → IsLeastWalk graph (left + 1) at goal (next ∷ tail)
+  step_before left at next tail waits chosen h = record { size = omega (arith, h.size); walk = (waits, h.walk); least = least }
+    where
+      least : (other : List ℕ) → IsWalk graph at other goal → length other ≡ left + 1 → NotAfter (next ∷ tail) other
+      least [] walk size = absurd (omega (arith, size))
+      least (m ∷ ms) (first, walk) size = compared (chosen m first (ms, omega (arith, size), walk)) (cases_lt next m)
+        where
+          compared : next ≤ m → (next < m) ⊎ (m ≤ next) → (next < m) ⊎ ((next ≡ m) × NotAfter tail ms)
+          compared le (inl less) = inl less
+          compared le (inr ge) =
+              let same : next ≡ m = omega (arith, le, ge) in
+              inr (same, h.least ms (subst (λ k. IsWalk graph k ms goal) (sym same) walk) (omega (arith, size)))
+
+  -- how a list that is the front of a walk goes on from a session with so many left
+  pub record GoesOn (between left at : ℕ) (front : List ℕ) : Type 0 where
+    pub leads : Leads graph left at goal
+    pub whole : (tail : List ℕ) → IsLeastWalk graph left at goal tail → (rest : List ℕ) × (front ++ tail ≡ goal ∷ rest) × IsLeastWalk graph between goal goal rest
+
+  pub goes_on_first : (between : ℕ) → Leads graph between goal goal → GoesOn between between goal (goal ∷ [])
+  goes_on_first between leads = record { leads = leads; whole = λ tail h. (tail, refl, h) }
+
+  -- one step by the least in common
+  pub goes_on_next : (layers : List ℕ) (between left at own common : ℕ) (front : List ℕ) → AreLayers graph goal 9 layers → left < 9 → ((n : ℕ) → has own n ≡ waits_for graph at n)
+      → ((n : ℕ) → has common n ≡ (has own n && has (get_or layers left 0) n)) → GoesOn between (left + 1) at front
+      → (next : ℕ) → IsTrue (has common next) → ((n : ℕ) → IsTrue (has common n) → next ≤ n) → GoesOn between left next (front ++ next ∷ [])
+  goes_on_next layers between left at own common front h few on both goes next there least = record { leads = (h left few next).0 (parts next there).1; whole = whole }
+    where
+      parts : (n : ℕ) → IsTrue (has common n) → IsTrue (waits_for graph at n) × IsTrue (has (get_or layers left 0) n)
+      parts n c = let p = and_parts (has own n) (has (get_or layers left 0) n) (sym (both n) ∙ c) in (sym (on n) ∙ p.0, p.1)
+
+      chosen : (n : ℕ) → IsTrue (waits_for graph at n) → Leads graph left n goal → next ≤ n
+      chosen n waits leads = least n (both n ∙ and_from _ _ (on n ∙ waits) ((h left few n).1 leads))
+
+      whole : (tail : List ℕ) → IsLeastWalk graph left next goal tail → (rest : List ℕ) × ((front ++ next ∷ []) ++ tail ≡ goal ∷ rest) × IsLeastWalk graph between goal goal rest
+      whole tail w =
+          let all : (rest : List ℕ) × (front ++ next ∷ tail ≡ goal ∷ rest) × IsLeastWalk graph between goal goal rest =
+          goes.whole (next ∷ tail) (step_before left at next tail (parts next there).0 chosen w) in
+          (all.0, append_assoc front (next ∷ []) tail ∙ all.1, all.2)
+
+  -- there is somebody in common
+  pub some_common : (layers : List ℕ) (between left at own common : ℕ) (front : List ℕ) → AreLayers graph goal 9 layers → left < 9 → ((n : ℕ) → has own n ≡ waits_for graph at n)
+      → ((n : ℕ) → has common n ≡ (has own n && has (get_or layers left 0) n)) → GoesOn between (left + 1) at front → ((n : ℕ) → has common n ≡ false) → ⊥
+  some_common layers between left at own common front h few on both goes none = by goes.leads
+    where
+      by : Leads graph (left + 1) at goal → ⊥
+      by ([], size, walk) = absurd (omega (arith, size))
+      by (next ∷ rest, size, walk) = both_ways _ (none next) (both next ∙ and_from _ _ (on next ∙ walk.0) ((h left few next).1 (rest, omega (arith, size), walk.1)))
+
+  -- at the end the list is a whole cycle
+  pub goes_on_last : (between at : ℕ) (front : List ℕ) → GoesOn between 0 at front → (rest : List ℕ) × (front ≡ goal ∷ rest) × IsLeastWalk graph between goal goal rest
+  goes_on_last between at front goes =
+      let all : (rest : List ℕ) × (front ++ [] ≡ goal ∷ rest) × IsLeastWalk graph between goal goal rest = goes.whole [] (at_goal at goes.leads) in
+      (all.0, sym (append-nil front) ∙ all.1, all.2)
+
+  module _ (layers : List ℕ) (h : AreLayers graph goal 9 layers) where
+    -- where no layer has the goal, no walk leads back to it
+    pub no_round : ((k : ℕ) → k < 9 → has (get_or layers k 0) goal ≡ false) → (rest : List ℕ) → ¬ IsWalk graph goal rest goal
+    no_round none rest walk =
+        let once : (other : List ℕ) × IsWalk graph goal other goal × AllDistinct (goal ∷ other) = once_walk graph goal goal rest walk in
+        let few : length once.0 < 9 = once_few graph goal goal once.0 once.1 once.2 in
+        both_ways _ (none (length once.0) few) ((h (length once.0) few goal).1 (once.0, refl, once.1))
+
+    -- no walk back to the goal has fewer between than the first layer that has it
+    pub shortest_round : (between : ℕ) → between < 9 → ((k : ℕ) → k < between → has (get_or layers k 0) goal ≡ false) → (rest : List ℕ) → IsWalk graph goal rest goal → between ≤ length rest
+    shortest_round between few first rest walk = elim (cases_lt (length rest) between) [
+      | inl less ↦ absurd (both_ways _ (first (length rest) less) ((h (length rest) (omega (arith, less, few)) goal).1 (rest, refl, walk)))
+      | inr le ↦ le
     ]
 
-    at : (own : Bool) → (own || any_of session (layer ++ edges)) ≡ true → (own || any_of session ((layer ++ edge ∷ []) ++ edges)) ≡ true
-    at true h = refl
-    at false h = more h
+    -- a layer that has the goal gives a cycle
+    pub some_round : (between : ℕ) → between < 9 → IsTrue (has (get_or layers between 0) goal) → (circle : List ℕ) × IsRound graph goal circle
+    some_round between few there =
+        let leads : Leads graph between goal goal = (h between few goal).0 there in
+        let once : (other : List ℕ) × IsWalk graph goal other goal × AllDistinct (goal ∷ other) = once_walk graph goal goal leads.0 leads.2 in
+        (goal ∷ once.0, (refl, once.1, once.2))
 
--- and they reach the session of that hop
-pub reached_by : (layer edges : List WaitEdge) (edge : WaitEdge) (goal : ℕ) → IsTrue (is_reached ((layer ++ edge ∷ []) ++ edges) goal edge.session)
-reached_by layer edges edge goal = or_right _ _ (list_any-append (λ e. e.session == edge.session) (layer ++ edge ∷ []) edges
-    ∙ or_left _ _ (list_any-append (λ e. e.session == edge.session) layer (edge ∷ []) ∙ or_right _ _ (or_left _ _ (eq-eqb edge.session edge.session refl))))
+    -- and a cycle such a layer
+    pub round_found : (found : Option ℕ) → (found ≡ None → (k : ℕ) → k < 9 → has (get_or layers k 0) goal ≡ false) → (circle : List ℕ) × IsRound graph goal circle → IsTrue (is_some found)
+    round_found (Some between) none round = refl
+    round_found None none ([], round) = absurd round
+    round_found None none (first ∷ rest, round) = absurd (no_round (none refl) rest round.1)
 
--- of these that wait, all who wait for one that the hops reach are reached by hops and layer
-abbrev pub ReachesAll : List Wait → List WaitEdge → ℕ → List Wait → List WaitEdge → Type 0
-ReachesAll graph edges goal waits layer = (session other : ℕ) → IsTrue (list_any (λ wait. wait.session == session) waits) → IsTrue (waits_for graph session other)
-    → IsTrue (is_reached edges goal other) → IsTrue (is_reached (layer ++ edges) goal session)
+    pub found_round : (found : Option ℕ) → IfSome found (λ between. between < 9) → IfSome found (λ between. IsTrue (has (get_or layers between 0) goal)) → IsTrue (is_some found)
+        → (circle : List ℕ) × IsRound graph goal circle
+    found_round None few there some = absurd (both_ways _ refl some)
+    found_round (Some between) few there some = some_round between few there
 
--- one more that waits
-pub reaches_more : (waits : List Wait) (edges layer new : List WaitEdge) (goal i : ℕ) (wait : Wait) → i < length waits → wait ≡ get_or waits i wait
-    → ReachesAll waits edges goal (take i waits) layer
-    → ((session : ℕ) → IsTrue (is_reached (layer ++ edges) goal session) → IsTrue (is_reached (new ++ edges) goal session))
-    → ((other : ℕ) → IsTrue (waits_for waits wait.session other) → IsTrue (is_reached edges goal other) → IsTrue (is_reached (new ++ edges) goal wait.session))
-    → ReachesAll waits edges goal (take (i + 1) waits) new
-reaches_more waits edges layer new goal i wait lt is before still own session other among waits_on there =
-    elim (or_cases _ _ (sym (list_any_more (λ (w : Wait). w.session == session) waits i wait lt
-    ∙ ap (λ (w : Wait). list_any (λ (k : Wait). k.session == session) (take i waits) || (w.session == session)) (sym is)) ∙ among)) [
-      | inl p ↦ still session (before session other p waits_on there)
-      | inr p ↦
-          let same : wait.session ≡ session = eqb-true wait.session session p in
-          subst (λ k. IsTrue (is_reached (new ++ edges) goal k)) same (own other (subst (λ k. IsTrue (waits_for waits k other)) (sym same) waits_on) there)
-    ]
+    -- the least walk of the least length is a cycle
+    pub least_round : (between : ℕ) (rest : List ℕ) → between < 9 → ((k : ℕ) → k < between → has (get_or layers k 0) goal ≡ false) → IsLeastWalk graph between goal goal rest → IsRound graph goal (goal ∷ rest)
+    least_round between rest few first least = (
+      refl,
+      least.walk,
+      shortest_once graph goal goal rest least.walk (λ other walk. subst (λ n. n ≤ length other) (sym least.size) (shortest_round between few first other walk)),
+    )

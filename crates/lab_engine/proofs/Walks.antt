@@ -1,159 +1,105 @@
 -- Walks to a goal along the graph of who waits for whom.
-use Rattle.std.proofs.Common.{◌≡◌, ℕ, zero, suc, ◌≤◌, refl, ap, subst, ◌∙◌, arith, Bool, true, false, cond, ◌||◌, ◌&&◌, List, [], ◌∷◌, ◌++◌, ◌⊎◌, inl, inr, length, take}
-use Rattle.std.specs.Prelude.{◌==◌, ◌↔◌, not, IsTrue, IfSome, Option, Some, None, is_some}
-use Rattle.std.specs.List.{All, Contains, list_any}
-use Rattle.std.proofs.lemmas.Bool.{eq-eqb, eqb-true, eqb-false, ne_eqb, both_ways, or_cases, or_parts, or_left, or_right, and_parts, and_from}
-use Rattle.std.proofs.lemmas.List.Folds.{list_any-append}
-use Rattle.std.proofs.lemmas.List.{take_all}
-use Rattle.lab_engine.specs.declared.circle.WaitEdge.{WaitEdge}
+use Rattle.std.proofs.Common.{◌≡◌, ℕ, ◌≤◌, ◌<◌, ◌==◌, ◌⊎◌, refl, sym, subst, inl, inr, arith, Bool, true, false, List, [], ◌∷◌, length}
+use Rattle.std.specs.Prelude.{IsTrue}
+use Rattle.std.specs.List.{list_any, IsDistinct, AllByRecursion}
+use Rattle.std.proofs.lemmas.Bool.{eq-eqb, ne_eqb, eqb-true, eqb-false, both_ways, or_cases, or_parts, or_left, or_right}
+use Rattle.std.proofs.lemmas.Map.Steps.{length-le_from_distinct_below}
+use Rattle.lab_engine.specs.WaitsFor.{IsWalk}
 use Rattle.lab_history.specs.HistoryRules.{AllDistinct}
-use Rattle.lab_engine.specs.declared.waits.Wait.{Wait}
-use Rattle.lab_engine.specs.WaitsFor.{waits_for, IsWalk, IsRound}
-use Rattle.lab_engine.specs.Released.{IsReleased}
-use Rattle.lab_engine.specs.WaitEdges.{is_reached, trail, AreWaitEdges, IsNewWaitEdge}
+use Rattle.lab_engine.proofs.WaitGraphs.{waiter_range}
 
--- who waits for somebody stands in the graph
-pub waiter : (waits : List Wait) (session other : ℕ) → IsTrue (waits_for waits session other) → list_any (λ wait. wait.session == session) waits ≡ true
-waiter [] session other h = h
-waiter (wait ∷ waits) session other h = at (waiter waits session other) (wait.session == session) h
-  where
-    at : (waits_for waits session other ≡ true → list_any (λ w. w.session == session) waits ≡ true) → (own : Bool)
-        → (own && list_any (λ o. o == other) wait.on || waits_for waits session other) ≡ true → (own || list_any (λ w. w.session == session) waits) ≡ true
-    at rest true h = refl
-    at rest false h = rest h
-
--- the goal is reached
-pub goal_reached : (edges : List WaitEdge) (goal : ℕ) → is_reached edges goal goal ≡ true
-goal_reached edges goal = ap (λ b. b || list_any (λ edge. edge.session == goal) edges) (eq-eqb goal goal refl)
-
--- where nobody who isn't reached waits for one who is, no walk to the goal begins with a session that waits for none who is
-pub no_walk : (waits : List Wait) (edges : List WaitEdge) (goal : ℕ)
-    → ((session other : ℕ) → is_reached edges goal session ≡ false → IsTrue (waits_for waits session other) → is_reached edges goal other ≡ false)
-    → (session : ℕ) (rest : List ℕ) → ((other : ℕ) → IsTrue (is_reached edges goal other) → waits_for waits session other ≡ false) → IsWalk waits session rest goal → ⊥
-no_walk waits edges goal closed session [] none walk = both_ways _ (none goal (goal_reached edges goal)) walk
-no_walk waits edges goal closed session (next ∷ rest) none (first, walk) = no_walk waits edges goal closed next rest after walk
-  where
-    unreached : (b : Bool) → is_reached edges goal next ≡ b → b ≡ false
-    unreached true q = absurd (both_ways _ (none next q) first)
-    unreached false q = refl
-
-    refused : (other : ℕ) (b : Bool) → waits_for waits next other ≡ b → IsTrue (is_reached edges goal other) → b ≡ false
-    refused other true q there = absurd (both_ways _ (closed next other (unreached _ refl) q) there)
-    refused other false q there = refl
-
-    after : (other : ℕ) → IsTrue (is_reached edges goal other) → waits_for waits next other ≡ false
-    after other there = refused other _ refl there
-
--- hops lead along a walk to the goal
-pub trail_walks : (waits : List Wait) (goal : ℕ) (edges : List WaitEdge) (session at : ℕ) → AreWaitEdges waits goal edges → IsTrue (waits_for waits session at) → IsTrue (is_reached edges goal at)
-    → IsWalk waits session (trail edges at) goal
-trail_walks waits goal [] session at h first there = elim (or_cases (at == goal) false there) [
-  | inl p ↦ subst (λ k. IsTrue (waits_for waits session k)) (eqb-true at goal p) first
+-- from each session on a walk one leads on that is no longer, with nobody on it twice if nobody was
+from_there : (graph : List ℕ) (goal there session : ℕ) (rest : List ℕ) → IsWalk graph session rest goal → AllDistinct (session ∷ rest) → IsTrue (list_any (λ m. m == there) (session ∷ rest))
+    → (other : List ℕ) × IsWalk graph there other goal × AllDistinct (there ∷ other) × (length other ≤ length rest)
+from_there graph goal there session [] walk once on = elim (or_cases (session == there) false on) [
+  | inl p ↦ subst (λ k. (other : List ℕ) × IsWalk graph k other goal × AllDistinct (k ∷ other) × (length other ≤ 0)) (eqb-true session there p) ([], walk, once, omega arith)
   | inr p ↦ absurd (both_ways _ refl p)
 ]
-trail_walks waits goal (edge ∷ edges) session at h first there = by (λ s a w r. trail_walks waits goal edges s a h.1 w r) (edge.session == at) refl
+from_there graph goal there session (next ∷ rest) walk once on = at (from_there graph goal there next rest walk.1 once.1) (or_cases (session == there) (list_any (λ m. m == there) (next ∷ rest)) on)
   where
-    by : ((s a : ℕ) → IsTrue (waits_for waits s a) → IsTrue (is_reached edges goal a) → IsWalk waits s (trail edges a) goal)
-        → (own : Bool) → (edge.session == at) ≡ own → IsWalk waits session (cond own (at ∷ trail edges edge.next) (trail edges at)) goal
-    by rest true q = (first, rest at edge.next (subst (λ k. IsTrue (waits_for waits k edge.next)) (eqb-true edge.session at q) h.0.waits) h.0.reached)
-    by rest false q = rest session at first (subst (λ b. IsTrue (at == goal || (b || list_any (λ edge. edge.session == at) edges))) q there)
+    at : (IsTrue (list_any (λ m. m == there) (next ∷ rest)) → (other : List ℕ) × IsWalk graph there other goal × AllDistinct (there ∷ other) × (length other ≤ length rest))
+        → (IsTrue (session == there) ⊎ IsTrue (list_any (λ m. m == there) (next ∷ rest)))
+        → (other : List ℕ) × IsWalk graph there other goal × AllDistinct (there ∷ other) × (length other ≤ length (next ∷ rest))
+    at later (inl p) = subst (λ k. (other : List ℕ) × IsWalk graph k other goal × AllDistinct (k ∷ other) × (length other ≤ length (next ∷ rest))) (eqb-true session there p)
+        (next ∷ rest, walk, once, omega arith)
+    at later (inr p) = let on : (other : List ℕ) × IsWalk graph there other goal × AllDistinct (there ∷ other) × (length other ≤ length rest) = later p in
+        (on.0, on.1, on.2, omega (arith, on.3))
 
--- who is on the way has a hop
-pub trail_hops : (edges : List WaitEdge) (at session : ℕ) → IsTrue (list_any (λ m. m == session) (trail edges at)) → IsTrue (list_any (λ edge. edge.session == session) edges)
-trail_hops [] at session h = h
-trail_hops (edge ∷ edges) at session h = by (λ k. trail_hops edges k session) (edge.session == at) refl h
+-- a session isn't on a shortest walk behind it
+not_behind : (graph : List ℕ) (goal session next : ℕ) (rest : List ℕ) → IsWalk graph next rest goal → AllDistinct (next ∷ rest)
+    → ((other : List ℕ) → IsWalk graph session other goal → length (next ∷ rest) ≤ length other) → list_any (λ m. m == session) (next ∷ rest) ≡ false
+not_behind graph goal session next rest walk once short = at _ refl
   where
-    by : ((k : ℕ) → IsTrue (list_any (λ m. m == session) (trail edges k)) → IsTrue (list_any (λ e. e.session == session) edges)) → (own : Bool) → (edge.session == at) ≡ own
-        → IsTrue (list_any (λ m. m == session) (cond own (at ∷ trail edges edge.next) (trail edges at))) → IsTrue (edge.session == session || list_any (λ e. e.session == session) edges)
-    by rest true q t = elim (or_cases (at == session) (list_any (λ m. m == session) (trail edges edge.next)) t) [
-      | inl p ↦ or_left _ _ (ap (λ k. k == session) (eqb-true edge.session at q) ∙ p)
-      | inr p ↦ or_right _ _ (rest edge.next p)
+    at : (b : Bool) → list_any (λ m. m == session) (next ∷ rest) ≡ b → b ≡ false
+    at false q = refl
+    at true q =
+        let on : (other : List ℕ) × IsWalk graph session other goal × AllDistinct (session ∷ other) × (length other ≤ length rest) = from_there graph goal session next rest walk once q in
+        let le : length (next ∷ rest) ≤ length on.0 = short on.0 on.1 in
+        absurd (omega (arith, le, on.3))
+
+-- on a walk than which none is shorter nobody stands twice
+pub shortest_once : (graph : List ℕ) (goal session : ℕ) (rest : List ℕ) → IsWalk graph session rest goal → ((other : List ℕ) → IsWalk graph session other goal → length rest ≤ length other)
+    → AllDistinct (session ∷ rest)
+shortest_once graph goal session [] walk short = (refl, tt)
+shortest_once graph goal session (next ∷ rest) walk short =
+    let behind : AllDistinct (next ∷ rest) =
+    shortest_once graph goal next rest walk.1 (λ other w. let le : length (next ∷ rest) ≤ length (next ∷ other) = short (next ∷ other) (walk.0, w) in omega (arith, le)) in
+    (not_behind graph goal session next rest walk.1 behind short, behind)
+
+-- where a walk leads, one leads on which nobody stands twice
+pub once_walk : (graph : List ℕ) (goal session : ℕ) (rest : List ℕ) → IsWalk graph session rest goal → (other : List ℕ) × IsWalk graph session other goal × AllDistinct (session ∷ other)
+once_walk graph goal session [] walk = ([], walk, (refl, tt))
+once_walk graph goal session (next ∷ rest) walk = at (once_walk graph goal next rest walk.1)
+  where
+    at : (other : List ℕ) × IsWalk graph next other goal × AllDistinct (next ∷ other) → (other : List ℕ) × IsWalk graph session other goal × AllDistinct (session ∷ other)
+    at (other, on, once) = by (list_any (λ m. m == session) (next ∷ other)) refl
+      where
+        by : (b : Bool) → list_any (λ m. m == session) (next ∷ other) ≡ b → (o : List ℕ) × IsWalk graph session o goal × AllDistinct (session ∷ o)
+        by true q = let back = from_there graph goal session next other on once q in (back.0, back.1, back.2)
+        by false q = (next ∷ other, (walk.0, on), (q, once))
+
+-- all on a walk wait, so they are sessions
+walkers : (graph : List ℕ) (goal session : ℕ) (rest : List ℕ) → IsWalk graph session rest goal → (n : ℕ) → IsTrue (list_any (λ m. m == n) (session ∷ rest)) → (1 ≤ n) × (n ≤ 9)
+walkers graph goal session [] walk n there = elim (or_cases (session == n) false there) [
+  | inl p ↦ subst (λ k. (1 ≤ k) × (k ≤ 9)) (eqb-true session n p) (waiter_range graph session goal walk)
+  | inr p ↦ absurd (both_ways _ refl p)
+]
+walkers graph goal session (next ∷ rest) walk n there = at (walkers graph goal next rest walk.1 n) (or_cases (session == n) (list_any (λ m. m == n) (next ∷ rest)) there)
+  where
+    at : (IsTrue (list_any (λ m. m == n) (next ∷ rest)) → (1 ≤ n) × (n ≤ 9)) → (IsTrue (session == n) ⊎ IsTrue (list_any (λ m. m == n) (next ∷ rest))) → (1 ≤ n) × (n ≤ 9)
+    at later (inl p) = subst (λ k. (1 ≤ k) × (k ≤ 9)) (eqb-true session n p) (waiter_range graph session next walk.0)
+    at later (inr p) = later p
+
+-- numbers that differ are distinct keys
+apart_from : (n : ℕ) (ns : List ℕ) → list_any (λ m. m == n) ns ≡ false → AllByRecursion (λ m. (n == m) ≡ false) ns
+apart_from n [] h = tt
+apart_from n (m ∷ ns) h =
+    let parts = or_parts (m == n) (list_any (λ k. k == n) ns) h in (ne_eqb n m (λ same. eqb-false m n parts.0 (sym same)), apart_from n ns parts.1)
+
+distinct_keys : (ns : List ℕ) → AllDistinct ns → IsDistinct (λ a b. a == b) ns
+unfolding IsDistinct
+distinct_keys [] once = tt
+distinct_keys (n ∷ ns) once = (apart_from n ns once.0, distinct_keys ns once.1)
+
+found_there : (n : ℕ) (ns : List ℕ) → list_any (λ m. n == m) ns ≡ true → IsTrue (list_any (λ m. m == n) ns)
+found_there n [] h = absurd (both_ways _ refl h)
+found_there n (m ∷ ns) h = elim (or_cases (n == m) (list_any (λ k. n == k) ns) h) [
+  | inl p ↦ or_left _ _ (eq-eqb m n (sym (eqb-true n m p)))
+  | inr p ↦ or_right _ _ (found_there n ns p)
+]
+
+-- on a walk on which nobody stands twice are at most nine
+pub once_few : (graph : List ℕ) (goal session : ℕ) (rest : List ℕ) → IsWalk graph session rest goal → AllDistinct (session ∷ rest) → length rest < 9
+once_few graph goal session rest walk once =
+    let le : length (0 ∷ session ∷ rest) ≤ 10 = length-le_from_distinct_below (0 ∷ session ∷ rest) 10 (distinct_keys (0 ∷ session ∷ rest) (nobody _ refl, once)) below in
+    omega (arith, le)
+  where
+    nobody : (b : Bool) → list_any (λ m. m == 0) (session ∷ rest) ≡ b → b ≡ false
+    nobody false q = refl
+    nobody true q = let range : (1 ≤ 0) × (0 ≤ 9) = walkers graph goal session rest walk 0 q in absurd (omega (arith, range.0))
+
+    below : (n : ℕ) → list_any (λ m. n == m) (0 ∷ session ∷ rest) ≡ true → n < 10
+    below n there = elim (or_cases (n == 0) (list_any (λ m. n == m) (session ∷ rest)) there) [
+      | inl p ↦ omega (arith, eqb-true n 0 p)
+      | inr p ↦ let range : (1 ≤ n) × (n ≤ 9) = walkers graph goal session rest walk n (found_there n (session ∷ rest) p) in omega (arith, range.1)
     ]
-    by rest false q t = or_right _ _ (rest at t)
-
--- where a session has no hop it isn't on the way
-pub off_trail : (edges : List WaitEdge) (at session : ℕ) → list_any (λ edge. edge.session == session) edges ≡ false → list_any (λ m. m == session) (trail edges at) ≡ false
-off_trail edges at session none = by (list_any (λ m. m == session) (trail edges at)) refl
-  where
-    by : (b : Bool) → list_any (λ m. m == session) (trail edges at) ≡ b → b ≡ false
-    by true q = absurd (both_ways _ none (trail_hops edges at session q))
-    by false q = refl
-
--- the goal has no hop
-pub goal_rests : (waits : List Wait) (goal : ℕ) (edges : List WaitEdge) → AreWaitEdges waits goal edges → list_any (λ edge. edge.session == goal) edges ≡ false
-goal_rests waits goal [] h = refl
-goal_rests waits goal (edge ∷ edges) h = ap (λ b. b || list_any (λ (e : WaitEdge). e.session == goal) edges) h.0.apart ∙ goal_rests waits goal edges h.1
-
--- one who waits for a session that is reached stands on a cycle with those on the way
-pub trail_round : (waits : List Wait) (goal : ℕ) (edges : List WaitEdge) (first : ℕ) → AreWaitEdges waits goal edges → AllDistinct (trail edges first) → IsTrue (waits_for waits goal first)
-    → IsTrue (is_reached edges goal first) → IsRound waits goal (goal ∷ trail edges first)
-trail_round waits goal edges first h once waits_on there =
-    (refl, trail_walks waits goal edges goal first h waits_on there, (off_trail edges first goal (goal_rests waits goal edges h), once))
-
--- what is reached stays so behind more hops
-pub stays_reached : (new edges : List WaitEdge) (goal session : ℕ) → IsTrue (is_reached edges goal session) → IsTrue (is_reached (new ++ edges) goal session)
-stays_reached new edges goal session there = at (session == goal) there
-  where
-    at : (own : Bool) → (own || list_any (λ edge. edge.session == session) edges) ≡ true → (own || list_any (λ edge. edge.session == session) (new ++ edges)) ≡ true
-    at true h = refl
-    at false h = list_any-append (λ edge. edge.session == session) new edges ∙ or_right _ _ h
-
--- more hops behind which these stand
-pub more_edges : (waits : List Wait) (goal : ℕ) (edges new : List WaitEdge) → AreWaitEdges waits goal edges → All (IsNewWaitEdge waits edges goal) new → AreWaitEdges waits goal (new ++ edges)
-more_edges waits goal edges [] h all = h
-more_edges waits goal edges (edge ∷ new) h all =
-    let first : IsNewWaitEdge waits edges goal edge = all 0 edge (omega arith) in (
-      record { apart = (or_parts _ _ first.new).0; waits = first.waits; reached = stays_reached new edges goal edge.next first.reached },
-      more_edges waits goal edges new h (λ k d lt. all (suc k) d (omega arith)),
-    )
-
--- all that wait are passed where the whole graph is
-pub waiter_passed : (waits : List Wait) (passed : ℕ) → length waits ≤ passed → (session other : ℕ) → IsTrue (waits_for waits session other)
-    → IsTrue (list_any (λ wait. wait.session == session) (take passed waits))
-waiter_passed waits passed all session other waits_on = ap (list_any (λ wait. wait.session == session)) (take_all passed waits all) ∙ waiter waits session other waits_on
-
--- a list with an element isn't empty
-filled : (o : ℕ) (on : List ℕ) → not (length (o ∷ on) == 0) ≡ true
-filled o on = ap not (ne_eqb (length (o ∷ on)) 0 (λ none. omega arith))
-
--- who is in a list that isn't empty
-first_of : (on : List ℕ) → IsTrue (not (length on == 0)) → (other : ℕ) × IsTrue (list_any (λ o. o == other) on)
-first_of [] h = absurd (both_ways _ refl h)
-first_of (o ∷ on) h = (o, ap (λ b. b || list_any (λ k. k == o) on) (eq-eqb o o refl))
-
--- one who is held waits for somebody
-pub held : (waits : List Wait) (session : ℕ) → IsTrue (list_any (λ wait. wait.session == session && not (length wait.on == 0)) waits) → (other : ℕ) × IsTrue (waits_for waits session other)
-held [] session h = absurd (both_ways _ refl h)
-held (wait ∷ waits) session h = at (held waits session) (or_cases _ _ h)
-  where
-    at : (IsTrue (list_any (λ w. w.session == session && not (length w.on == 0)) waits) → (other : ℕ) × IsTrue (waits_for waits session other))
-        → (IsTrue (wait.session == session && not (length wait.on == 0)) ⊎ IsTrue (list_any (λ w. w.session == session && not (length w.on == 0)) waits))
-        → (other : ℕ) × IsTrue (waits_for (wait ∷ waits) session other)
-    at rest (inl p) =
-        let parts = and_parts _ _ p in
-        let first = first_of wait.on parts.1 in
-        (first.0, ap (λ b. b || waits_for waits session first.0) (and_from _ _ parts.0 first.1))
-    at rest (inr p) = let other = rest p in (other.0, or_right _ _ other.1)
-
--- one who isn't waits for nobody
-pub not_held : (waits : List Wait) (session : ℕ) → list_any (λ wait. wait.session == session && not (length wait.on == 0)) waits ≡ false → (other : ℕ) → waits_for waits session other ≡ false
-not_held [] session h other = refl
-not_held (wait ∷ waits) session h other = at (not_held waits session) (wait.session == session) wait.on h
-  where
-    at : (list_any (λ w. w.session == session && not (length w.on == 0)) waits ≡ false → (other : ℕ) → waits_for waits session other ≡ false) → (own : Bool) (on : List ℕ)
-        → (own && not (length on == 0) || list_any (λ w. w.session == session && not (length w.on == 0)) waits) ≡ false
-        → (own && list_any (λ o. o == other) on || waits_for waits session other) ≡ false
-    at rest true [] h = rest h other
-    at rest true (o ∷ on) h = absurd (both_ways _ h (ap (λ b. b || list_any (λ (w : Wait). w.session == session && not (length w.on == 0)) waits) (filled o on)))
-    at rest false on h = rest h other
-
--- one who waits for somebody is released exactly where a cycle is found
-pub round_or_none : (waits : List Wait) (session : ℕ) (found : Option (List ℕ)) (other : ℕ) → IsTrue (waits_for waits session other) → IfSome found (IsRound waits session)
-    → (found ≡ None → (rest : List ℕ) → ¬ IsWalk waits session rest session) → IsTrue (is_some found) ↔ IsReleased waits session
-round_or_none waits session None other held round none = ((λ h. absurd (both_ways _ refl h)), from)
-  where
-    from : IsReleased waits session → IsTrue false
-    from (inl nobody) = absurd (both_ways _ (nobody other) held)
-    from (inr ([], round)) = absurd round
-    from (inr (first ∷ rest, round)) = absurd (none refl rest round.1)
-round_or_none waits session (Some circle) other held round none = ((λ h. inr (circle, round)), (λ h. refl))

@@ -16,7 +16,8 @@ pub mod LogQuery
 pub mod Merging
 pub mod EachRow
 pub mod Candidates
-pub mod WaitEdges
+pub mod SessionBits
+pub mod LeastWalk
 pub mod Released
 pub mod LeastCircle
 pub mod Answered

@@ -1,122 +1,69 @@
 //! Cycles of sessions that wait for each other.
 //!
-//! A cycle is a walk from a session back to it, which is looked for from its end. Each turn reaches those that wait for
-//! one reached by an earlier turn, so the first walk that is found is a shortest one. Each goes on to the least such
-//! session, so the walk is the least of the shortest.
+//! A cycle is a walk from a session back to it, which is looked for from its end: layer by layer, those from which a walk
+//! with one session more between leads to the goal. The first layer that has the goal itself gives the length of the
+//! shortest cycles. Back through the layers each goes on to the least session that it may, so the walk is the least of
+//! the shortest.
 
-ghost use Rattle.std.specs.Prelude.{◌≡◌, ◌≤◌, ◌==◌, ◌+◌, ◌∷◌, ◌++◌, ◌⊎◌, [], true, false, None, Some, List, ℕ, length, IfOk, IfSome, IsTrue};
-ghost use Rattle.std.specs.List.{All, list_any};
-ghost use Rattle.lab_engine.specs.WaitsFor.{IsWalk, IsRound, waits_for};
-ghost use Rattle.lab_engine.specs.WaitEdges.{is_reached, trail, AreWaitEdges, IsLeastNext, IsNewWaitEdge};
+ghost use Rattle.std.specs.Prelude.{◌≡◌, ◌≤◌, ◌<◌, ◌+◌, ◌∷◌, ◌↔◌, false, None, List, ℕ, length, get_or, IfOk, IfSome, IsTrue};
+ghost use Rattle.lab_engine.specs.SessionBits.{has};
+ghost use Rattle.lab_engine.specs.WaitsFor.{IsWalk, IsRound};
+ghost use Rattle.lab_engine.specs.LeastWalk.{AreLayers, IsLeastWalk, Leads};
 ghost use Rattle.lab_engine.specs.LeastCircle.{NotAfter};
 
 use crate::event::Sessions;
-use crate::waits::Wait;
+use crate::session_set::SessionSet;
+use crate::wait_graph::WaitGraph;
 use lab_table::{NoMemory, Session};
 use std::alloc::Global;
 
-/// A session, and the one that it waits for on its walk to the goal.
-#[derive(Clone, Copy)]
-struct WaitEdge {
-    session: Session,
-    next: Session,
-}
-
-/// Whether a session waits for another one.
-fn is_waiting_for(waits: &[Wait], session: Session, other: Session) -> bool
-    ensures { result ≡ waits_for waits.now session other }
+/// For each number below nine, those from which a walk with so many sessions between leads to the goal.
+fn layers_to(waits: &WaitGraph, goal: Session) -> [SessionSet; 9]
+    ensures { AreLayers waits.now goal 9 result }
 {
-    waits.iter().any(|wait| wait.session == session && wait.on.as_slice().contains(&other))
-}
-
-/// Whether a session has a hop.
-fn has_edge(edges: &[WaitEdge], session: Session) -> bool
-    ensures { result ≡ list_any (λ edge. edge.session == session) edges.now }
-{
-    edges.iter().any(|edge| edge.session == session)
-}
-
-/// Whether a session is the goal, or has a hop.
-fn has_reached(edges: &[WaitEdge], goal: Session, session: Session) -> bool
-    ensures { result ≡ is_reached edges.now goal session }
-{
-    session == goal || has_edge(edges, session)
-}
-
-/// The lesser of this session and the least so far.
-fn lesser(least: Option<Session>, session: Session) -> Session
-    ensures one { (result ≡ session) ⊎ (least ≡ Some result) }
-    ensures below { result ≤ session }
-    ensures belows { IfSome least (λ other. result ≤ other) }
-{
-    match least {
-        Some(other) if other < session => other,
-        _ => session,
+    let mut layers = [waits.waiters(SessionSet::only(goal)); 9];
+    for between in 1..9 {
+        layers[between] = waits.waiters(layers[between - 1]);
     }
+    layers
 }
 
-/// The session reached by which this one's walk goes on: the goal, where it waits for that, else the least that it
-/// waits for; or None where it waits for nobody reached.
-fn next_of(waits: &[Wait], edges: &[WaitEdge], goal: Session, session: Session) -> Option<Session>
-    ensures waits { IfSome result (λ next. IsTrue (waits_for waits.now session next)) }
-    ensures reached { IfSome result (λ next. IsTrue (is_reached edges.now goal next)) }
-    ensures least { IfSome result (IsLeastNext waits.now edges.now goal session) }
-    ensures none { result ≡ None → (other : ℕ) → IsTrue (is_reached edges.now goal other) → waits_for waits.now session other ≡ false }
+/// The first layer that has a session.
+fn first_with(layers: &[SessionSet; 9], session: Session) -> Option<usize>
+    ensures bound { IfSome result (λ between. between < 9) }
+    ensures has { IfSome result (λ between. IsTrue (has (get_or layers.now between 0) session)) }
+    ensures first { IfSome result (λ between. (k : ℕ) → k < between → has (get_or layers.now k 0) session ≡ false) }
+    ensures none { result ≡ None → (k : ℕ) → k < 9 → has (get_or layers.now k 0) session ≡ false }
 {
-    if is_waiting_for(waits, session, goal) {
-        return Some(goal);
-    }
-    let mut least = None;
-    for edge in edges {
-        if is_waiting_for(waits, session, edge.session) {
-            least = Some(lesser(least, edge.session));
+    for between in 0..9 {
+        if layers[between].has(session) {
+            return Some(between);
         }
     }
-    least
+    None
 }
 
-/// The hops of all that aren't reached and wait for one that is. NoMemory where an allocation was refused.
-fn next_layer(
-    alloc: Global,
-    waits: &[Wait],
-    edges: &[WaitEdge],
-    goal: Session,
-) -> Result<Vec<WaitEdge>, NoMemory>
-    ensures new { IfOk result (λ layer. All (IsNewWaitEdge waits.now edges.now goal) layer.items) }
-    ensures all { IfOk result (λ layer. (session other : ℕ) → IsTrue (waits_for waits.now session other) → IsTrue (is_reached edges.now goal other)
-        → IsTrue (is_reached (layer.items ++ edges.now) goal session)) }
-{
-    let mut layer = Vec::new(alloc);
-    for wait in waits {
-        if !has_reached(edges, goal, wait.session) {
-            if let Some(next) = next_of(waits, edges, goal, wait.session) {
-                layer.push(WaitEdge {
-                    session: wait.session,
-                    next,
-                })?;
-            }
-        }
-    }
-    Ok(layer)
-}
-
-/// The cycle from a session on that waits for the first of these. From there the hops lead on, each to one behind it.
+/// The least cycle from a session on with so many between, by the layers of the walks back to it.
 /// NoMemory where an allocation was refused.
 fn circle_by(
     alloc: Global,
-    edges: &[WaitEdge],
+    waits: &WaitGraph,
+    layers: &[SessionSet; 9],
+    between: usize,
     session: Session,
-    first: Session,
 ) -> Result<Sessions, NoMemory>
-    ensures { IfOk result (λ circle. circle ≡ session ∷ trail edges.now first) }
+    requires bound { between < 9 }
+    requires layers { AreLayers waits.now session 9 layers.now }
+    requires leads { IsTrue (has (get_or layers.now between 0) session) }
+    ensures { IfOk result (λ circle. (rest : List ℕ) × (circle ≡ session ∷ rest) × IsLeastWalk waits.now between session session rest) }
 {
     let mut circle = Vec::new(alloc);
     circle.push(session)?;
-    let mut at = first;
-    for edge in edges {
-        if edge.session == at {
-            circle.push(at)?;
-            at = edge.next;
+    let mut at = session;
+    for left in (0..between).rev() {
+        if let Some(next) = waits.on(at).common(layers[left]).least() {
+            circle.push(next)?;
+            at = next;
         }
     }
     Ok(Sessions::new(circle))
@@ -126,7 +73,7 @@ fn circle_by(
 /// where there is none. NoMemory where an allocation was refused.
 pub fn shortest_circle(
     alloc: Global,
-    waits: &[Wait],
+    waits: &WaitGraph,
     session: Session,
 ) -> Result<Option<Sessions>, NoMemory>
     ensures found { IfOk result (λ found. IfSome found (IsRound waits.now session)) }
@@ -134,16 +81,16 @@ pub fn shortest_circle(
     ensures least { IfOk result (λ found. IfSome found (λ circle. (rest : List ℕ) → IsWalk waits.now session rest session → length circle ≡ 1 + length rest → NotAfter circle (session ∷ rest))) }
     ensures none { IfOk result (λ found. found ≡ None → (rest : List ℕ) → ¬ IsWalk waits.now session rest session) }
 {
-    let mut edges = Vec::new(alloc);
-    loop {
-        if let Some(first) = next_of(waits, &edges, session, session) {
-            return Ok(Some(circle_by(alloc, &edges, session, first)?));
-        }
-        let mut layer = next_layer(alloc, waits, &edges, session)?;
-        if layer.is_empty() {
-            return Ok(None);
-        }
-        layer.extend_from_slice(&edges)?;
-        edges = layer;
+    let layers = layers_to(waits, session);
+    match first_with(&layers, session) {
+        Some(between) => Ok(Some(circle_by(alloc, waits, &layers, between, session)?)),
+        None => Ok(None),
     }
+}
+
+/// Whether a session stands on a cycle.
+pub fn is_on_circle(waits: &WaitGraph, session: Session) -> bool
+    ensures { IsTrue result ↔ ((circle : List ℕ) × IsRound waits.now session circle) }
+{
+    first_with(&layers_to(waits, session), session).is_some()
 }

@@ -30,9 +30,11 @@ mod pending;
 mod recording;
 mod recording_laws;
 mod rules;
+mod session_set;
 mod sight;
 mod situation;
 mod version;
+mod wait_graph;
 mod waits;
 
 pub use answer_laws::{least_circle_unique, one_outcome};

@@ -1,7 +1,6 @@
 //! Who waits for whom.
 
-ghost use Rattle.std.specs.Prelude.{◌≡◌, ◌==◌, ◌&&◌, not, ◌↔◌, Some, true, false, List, ℕ, length, IfOk, IsSome, IsTrue, MatchOption};
-ghost use Rattle.std.specs.List.{Contains, list_any};
+ghost use Rattle.std.specs.Prelude.{◌≡◌, ◌↔◌, Some, true, false, List, ℕ, IfOk, IsSome, IsTrue, MatchOption};
 ghost use Rattle.lab_table.specs.declared.statement.Statement.{Statement as Asked};
 ghost use Rattle.lab_engine.specs.Log.{Past, Txn, active};
 ghost use Rattle.lab_engine.specs.Rules.{BlockedBy, IsCircle, MayAsk};
@@ -9,24 +8,20 @@ ghost use Rattle.lab_engine.specs.Recording.{NoneRetryable, IsLeastRetryable};
 ghost use Rattle.lab_engine.specs.Situation.{Describes, DescribesSession};
 ghost use Rattle.lab_engine.specs.Sight.{ShowsWritten};
 ghost use Rattle.lab_engine.specs.WaitsFor.{AreBlockers, AreWaits, WaitsOn};
+ghost use Rattle.lab_engine.specs.SessionBits.{has};
 ghost use Rattle.lab_engine.specs.Released.{IsReleased};
 ghost use Rattle.lab_engine.specs.LeastCircle.{IsLeastCircle};
 
-use crate::circle::shortest_circle;
+use crate::circle::{is_on_circle, shortest_circle};
 use crate::event::Sessions;
 use crate::rules::Rules;
+use crate::session_set::SessionSet;
 use crate::sight::shown_to;
 use crate::situation::{SessionState, Situation};
 use crate::version::Versions;
+use crate::wait_graph::WaitGraph;
 use lab_table::{NoMemory, Session, Statement, Table};
 use std::alloc::Global;
-
-/// A session, and those that block its statement, by rising number.
-#[derive(Drop)]
-pub struct Wait {
-    pub session: Session,
-    pub on: Sessions,
-}
 
 /// Whether another session, which is in this state, blocks a statement of one that sees these versions of the rows that
 /// the statement would write.
@@ -53,6 +48,28 @@ fn is_blocked_by<R: Rules>(
     }
 }
 
+/// The sessions that block a statement of a session that sees these versions of the rows that the statement would write.
+fn blocking<R: Rules>(
+    rules: &R,
+    setup: &Table,
+    situation: &Situation,
+    session: Session,
+    seen: &Versions,
+    statement: &Statement,
+) -> SessionSet
+    ensures { (past : Past) (txn : Txn) → Describes past situation.now → active past session ≡ Some txn
+        → ShowsWritten R.kind setup.now past txn statement.now seen.now
+        → (other : ℕ) → IsTrue (has result other) ↔ BlockedBy R.kind setup.now past session statement.now other }
+{
+    let mut on = SessionSet::none();
+    for state in &situation.sessions {
+        if is_blocked_by(rules, setup, situation, session, seen, statement, state) {
+            on.insert(state.session);
+        }
+    }
+    on
+}
+
 /// The sessions that block a statement of a session that sees these versions of the rows that the statement would write,
 /// by rising number. NoMemory where an allocation was refused.
 pub fn blockers<R: Rules>(
@@ -68,9 +85,10 @@ pub fn blockers<R: Rules>(
         → ShowsWritten R.kind setup.now past txn statement.now seen.now
         → IfOk result (AreBlockers R.kind setup.now past session statement.now) }
 {
+    let set = blocking(rules, setup, situation, session, seen, statement);
     let mut on = Vec::new(alloc);
     for state in &situation.sessions {
-        if is_blocked_by(rules, setup, situation, session, seen, statement, state) {
+        if set.has(state.session) {
             on.push(state.session)?;
         }
     }
@@ -85,48 +103,34 @@ fn waits_on<R: Rules>(
     setup: &Table,
     situation: &Situation,
     state: &SessionState,
-) -> Result<Sessions, NoMemory>
+) -> Result<SessionSet, NoMemory>
     ensures { (past : Past) → Describes past situation.now → DescribesSession past state.now
-        → IfOk result (λ on. (other : ℕ) → Contains on other ↔ WaitsOn R.kind setup.now past state.now.session other) }
+        → IfOk result (λ on. (other : ℕ) → IsTrue (has on other) ↔ WaitsOn R.kind setup.now past state.now.session other) }
 {
     let Some(statement) = &state.waits else {
-        return Ok(Sessions::new(Vec::new(alloc)));
+        return Ok(SessionSet::none());
     };
     let Some(running) = &state.running else {
-        return Ok(Sessions::new(Vec::new(alloc)));
+        return Ok(SessionSet::none());
     };
     let seen = shown_to(alloc, rules.level(), setup, situation, running, statement)?;
-    blockers(
-        alloc,
-        rules,
-        setup,
-        situation,
-        state.session,
-        &seen,
-        statement,
-    )
+    Ok(blocking(rules, setup, situation, state.session, &seen, statement))
 }
 
-/// Who waits for whom: each session whose statement waits and is blocked, by rising number, with those that block it.
+/// Who waits for whom: for each session whose statement waits those that block it.
 /// NoMemory where an allocation was refused.
 pub fn all_waits<R: Rules>(
     alloc: Global,
     rules: &R,
     setup: &Table,
     situation: &Situation,
-) -> Result<Vec<Wait>, NoMemory>
-    ensures { (past : Past) → Describes past situation.now
-        → IfOk result (λ waits. AreWaits R.kind setup.now past waits.items) }
+) -> Result<WaitGraph, NoMemory>
+    ensures { (past : Past) → Describes past situation.now → IfOk result (AreWaits R.kind setup.now past) }
 {
-    let mut waits = Vec::new(alloc);
+    let mut waits = WaitGraph::none();
     for state in &situation.sessions {
         let on = waits_on(alloc, rules, setup, situation, state)?;
-        if !on.as_slice().is_empty() {
-            waits.push(Wait {
-                session: state.session,
-                on,
-            })?;
-        }
+        waits.put(state.session, on);
     }
     Ok(waits)
 }
@@ -147,33 +151,21 @@ pub fn deadlock<R: Rules>(
         (IsLeastCircle R.kind setup.now past session s)) }
 {
     let mut waits = all_waits(alloc, rules, setup, situation)?;
-    waits.push(Wait {
-        session,
-        on: on.copy(alloc)?,
-    })?;
+    waits.put(session, SessionSet::of(on.as_slice()));
     shortest_circle(alloc, &waits, session)
 }
 
-/// Whether a session waits for somebody.
-fn is_held(waits: &[Wait], session: Session) -> bool
-    ensures { result ≡ list_any (λ wait. wait.session == session && not (length wait.on == 0)) waits.now }
-{
-    waits.iter().any(|wait| wait.session == session && !wait.on.as_slice().is_empty())
-}
-
 /// Whether a session's statement waits and may go on: it waits for nobody, or stands on a cycle.
-/// NoMemory where an allocation was refused.
-fn is_released(alloc: Global, waits: &[Wait], state: &SessionState) -> Result<bool, NoMemory>
-    ensures { IfOk result (λ released. IsTrue released ↔ (IsSome state.now.waits × IsReleased waits.now state.now.session)) }
+fn is_released(waits: &WaitGraph, state: &SessionState) -> bool
+    ensures { IsTrue result ↔ (IsSome state.now.waits × IsReleased waits.now state.now.session) }
 {
     if state.waits.is_none() {
-        return Ok(false);
+        return false;
     }
-    if !is_held(waits, state.session) {
-        return Ok(true);
+    if waits.is_free(state.session) {
+        return true;
     }
-    let circle = shortest_circle(alloc, waits, state.session)?;
-    Ok(circle.is_some())
+    is_on_circle(waits, state.session)
 }
 
 /// The least session whose waiting statement has nothing in its way, or stands on a cycle.
@@ -189,7 +181,7 @@ pub fn retryable<R: Rules>(
 {
     let waits = all_waits(alloc, rules, setup, situation)?;
     for state in &situation.sessions {
-        if is_released(alloc, &waits, state)? {
+        if is_released(&waits, state) {
             return Ok(Some(state.session));
         }
     }

@@ -1,13 +1,9 @@
-use Rattle.std.proofs.Common.{◌≡◌, take}
-use Rattle.std.specs.Prelude.{Some}
-use Rattle.lab_engine.specs.Log.{Past, Txn, active}
-use Rattle.lab_engine.specs.Rules.{BlockedBy}
-use Rattle.lab_engine.specs.Situation.{Describes}
-use Rattle.lab_engine.specs.Sight.{ShowsWritten}
+use Rattle.std.proofs.Common.{take}
+use Rattle.std.specs.Prelude.{IsTrue}
+use Rattle.lab_engine.specs.SessionBits.{has}
 use Rattle.lab_engine.proofs.Rising.{AreThose, sessions_of}
 use Rattle.lab_engine.proofs.waits.blockers.Given as goal
 
 -- of the sessions so far, those that block the statement
 abbrev pub invariant-loop-state : goal.invariant-loop-state
-invariant-loop-state g l = (past : Past) (txn : Txn) → Describes past l.situation → active past l.fn.session ≡ Some txn → ShowsWritten g.R.Rules.kind l.setup past txn l.statement l.seen
-    → AreThose (BlockedBy g.R.Rules.kind l.setup past l.fn.session l.statement) (sessions_of (take l.state-index l.situation.sessions.items)) l.on.items
+invariant-loop-state g l = AreThose (λ n. IsTrue (has l.set n)) (sessions_of (take l.state-index l.situation.sessions.items)) l.on.items

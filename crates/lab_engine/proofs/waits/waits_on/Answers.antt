@@ -1,12 +1,10 @@
-use Rattle.std.proofs.Common.{◌≡◌, ℕ, sym, subst, ◌∙◌}
-use Rattle.std.specs.Prelude.{◌↔◌, Some, Contains}
+use Rattle.std.proofs.Common.{◌≡◌, sym, subst, ◌∙◌}
+use Rattle.std.specs.Prelude.{Some}
 use Rattle.lab_engine.specs.Log.{Txn, active, waiting}
 use Rattle.lab_engine.specs.Situation.{Agree, IsRunning}
 use Rattle.lab_engine.specs.Sight.{ShowsWritten}
-use Rattle.lab_engine.specs.WaitsFor.{AreBlockers, WaitsOn}
-use Rattle.lab_engine.proofs.Waiting.{running_txn, waits_on_blockers}
+use Rattle.lab_engine.proofs.Waiting.{running_txn, waits_on_blocking}
 use Rattle.lab_engine.proofs.waits.waits_on.Goals as goal
-use Rattle.std.proofs.lemmas.Result.{IfOk-weaker}
 
 pub returns : goal.returns
 returns g c = λ past d described.
@@ -16,7 +14,4 @@ returns g c = λ past d described.
     sym described.waits ∙ c.in-Some.is in
     let shows : ShowsWritten g.R.Rules.kind c.args.setup.now past txn.0 c.in-Some.statement c.in_ok-seen.seen =
     subst (λ level. ShowsWritten level c.args.setup.now past txn.0 c.in-Some.statement c.in_ok-seen.seen) c.level.ensures (c.in_ok-seen.ensures past c.args.state.now.session txn.0 d txn.1 txn.2) in
-    IfOk-weaker c.blockers.result (AreBlockers g.R.Rules.kind c.args.setup.now past c.args.state.now.session c.in-Some.statement)
-    (λ on. (other : ℕ) → Contains on other ↔ WaitsOn g.R.Rules.kind c.args.setup.now past c.args.state.now.session other)
-    (λ on. waits_on_blockers g.R.Rules.kind c.args.setup.now past c.args.state.now.session c.in-Some.statement on waits)
-    (c.blockers.ensures past txn.0 d txn.1 shows)
+    waits_on_blocking g.R.Rules.kind c.args.setup.now past c.args.state.now.session c.in-Some.statement c.blocking.result waits (c.blocking.ensures past txn.0 d txn.1 shows)

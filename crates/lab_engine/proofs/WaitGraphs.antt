@@ -1,0 +1,124 @@
+-- A graph of who waits for whom, as the sets of those that each session waits for.
+use Rattle.std.proofs.Common.{◌≡◌, ◌≢◌, ℕ, ◌+◌, ◌-◌, ◌<◌, ◌≤◌, ◌==◌, ◌&&◌, ◌||◌, cond, Bool, true, false, refl, ap, sym, subst, ◌∙◌, inl, inr, arith, List, length, get_or, set, replicate}
+use Rattle.std.specs.Prelude.{IsTrue, Option, Some, None, IfSome, ◌↔◌, is_some}
+use Rattle.std.proofs.lemmas.Bool.{cases_eq, eq-eqb, ne_eqb, eqb-true, both_ways, or_cases, or_left, or_right, and_parts, and_from}
+use Rattle.std.proofs.lemmas.List.{get_or-set_same, get_or-set_other, get_or_default, get_or-replicate}
+use Rattle.lab_engine.specs.SessionBits.{has}
+use Rattle.lab_engine.specs.WaitsFor.{waits_for, is_session, WaitsForOne}
+
+-- a session is from 1 to 9
+pub session_range : (s : ℕ) → is_session s ≡ true → (1 ≤ s) × (s ≤ 9)
+session_range s h = (search (arith, h), search (arith, h))
+
+pub is_one : (s : ℕ) → 1 ≤ s → s ≤ 9 → is_session s ≡ true
+is_one s low high = search (arith, low, high)
+
+-- who waits is a session
+pub waiter_range : (graph : List ℕ) (session other : ℕ) → IsTrue (waits_for graph session other) → (1 ≤ session) × (session ≤ 9)
+unfolding waits_for
+waiter_range graph session other h = session_range session (and_parts _ _ h).0
+
+-- where nobody waits
+pub none_wait : (none : ℕ) → ((n : ℕ) → has none n ≡ false) → (session other : ℕ) → waits_for (replicate 9 none) session other ≡ false
+unfolding waits_for
+none_wait none nobody session other = at (is_session session) refl
+  where
+    at : (own : Bool) → is_session session ≡ own → (own && has (get_or (replicate 9 none) (session - 1) 0) other) ≡ false
+    at false is = refl
+    at true is =
+        let range : (1 ≤ session) × (session ≤ 9) = session_range session is in
+        ap (λ set. has set other) (get_or-replicate 9 (session - 1) none 0 (omega (arith, range.0, range.1))) ∙ nobody other
+
+module _ (graph : List ℕ) (size : length graph ≡ 9) (session : ℕ) (low : 1 ≤ session) (high : session ≤ 9) where
+  within : session - 1 < length graph
+  within = omega (arith, size, low, high)
+
+  -- a session's own set has whom it waits for
+  pub own_set : (default other : ℕ) → has (get_or graph (session - 1) default) other ≡ waits_for graph session other
+  unfolding waits_for
+  own_set default other =
+      ap (λ set. has set other) (get_or_default graph (session - 1) default 0 within)
+      ∙ sym (ap (λ b. b && has (get_or graph (session - 1) 0) other) (is_one session low high))
+
+  -- one session's set put in
+  pub put_set : (new waiter other : ℕ) → waits_for (set graph (session - 1) new) waiter other ≡ cond (waiter == session) (has new other) (waits_for graph waiter other)
+  unfolding waits_for
+  put_set new waiter other = elim (cases_eq waiter session) [
+    | inl same ↦
+        subst (λ k. waits_for (set graph (session - 1) new) k other ≡ cond (k == session) (has new other) (waits_for graph k other)) (sym same)
+        (ap (λ b. b && has (get_or (set graph (session - 1) new) (session - 1) 0) other) (is_one session low high)
+        ∙ ap (λ s. has s other) (get_or-set_same graph (session - 1) new 0 within)
+        ∙ sym (ap (λ b. cond b (has new other) (waits_for graph session other)) (eq-eqb session session refl)))
+    | inr apart ↦ kept apart (is_session waiter) refl ∙ sym (ap (λ b. cond b (has new other) (waits_for graph waiter other)) (ne_eqb waiter session apart))
+  ]
+    where
+      kept : waiter ≢ session → (own : Bool) → is_session waiter ≡ own
+          → (is_session waiter && has (get_or (set graph (session - 1) new) (waiter - 1) 0) other) ≡ (is_session waiter && has (get_or graph (waiter - 1) 0) other)
+      kept apart false is = ap (λ b. b && has (get_or (set graph (session - 1) new) (waiter - 1) 0) other) is ∙ sym (ap (λ b. b && has (get_or graph (waiter - 1) 0) other) is)
+      kept apart true is =
+          let range : (1 ≤ waiter) × (waiter ≤ 9) = session_range waiter is in
+          ap (λ x. is_session waiter && has x other) (get_or-set_other graph (session - 1) (waiter - 1) new 0 (λ same. apart (omega (arith, same, low, range.0))))
+
+-- somebody whom a session waits for is in a set
+module _ (graph : List ℕ) (set own common session : ℕ) (on : (other : ℕ) → has own other ≡ waits_for graph session other)
+    (both : (n : ℕ) → has common n ≡ (has own n && has set n)) where
+  pub waits_for_one : (least : Option ℕ) → IfSome least (λ s. IsTrue (has common s)) → (least ≡ None → (n : ℕ) → has common n ≡ false)
+      → IsTrue (is_some least) ↔ WaitsForOne graph set session
+  waits_for_one least some none = (to least some, from least none)
+    where
+      to : (found : Option ℕ) → IfSome found (λ s. IsTrue (has common s)) → IsTrue (is_some found) → WaitsForOne graph set session
+      to None some is = absurd (both_ways _ refl is)
+      to (Some s) some is = let parts = and_parts (has own s) (has set s) (sym (both s) ∙ some) in (s, sym (on s) ∙ parts.0, parts.1)
+
+      from : (found : Option ℕ) → (found ≡ None → (n : ℕ) → has common n ≡ false) → WaitsForOne graph set session → IsTrue (is_some found)
+      from None none (other, waits, there) = absurd (both_ways _ (none refl other) (both other ∙ and_from _ _ (on other ∙ waits) there))
+      from (Some s) none w = refl
+
+-- of the sessions below a number those that wait for one in a set
+abbrev pub AreWaitersBelow : List ℕ → ℕ → ℕ → ℕ → Type 0
+AreWaitersBelow graph set number waiters = (session : ℕ) → IsTrue (has waiters session) ↔ ((session < number) × WaitsForOne graph set session)
+
+module _ (graph : List ℕ) (set number waiters : ℕ) (h : AreWaitersBelow graph set number waiters) where
+  -- one more that waits for one in it
+  pub waiter_more : (new : ℕ) → ((n : ℕ) → has new n ≡ (n == number || has waiters n)) → WaitsForOne graph set number → AreWaitersBelow graph set (number + 1) new
+  waiter_more new is w session = (to, from)
+    where
+      to : IsTrue (has new session) → (session < number + 1) × WaitsForOne graph set session
+      to there = elim (or_cases (session == number) (has waiters session) (sym (is session) ∙ there)) [
+        | inl p ↦ let same : session ≡ number = eqb-true session number p in (omega (arith, same), subst (WaitsForOne graph set) (sym same) w)
+        | inr p ↦ let old = (h session).0 p in (omega (arith, old.0), old.1)
+      ]
+
+      from : (session < number + 1) × WaitsForOne graph set session → IsTrue (has new session)
+      from (less, waits) = is session ∙ elim (cases_eq session number) [
+        | inl same ↦ or_left _ _ (eq-eqb session number same)
+        | inr apart ↦ or_right _ _ ((h session).1 (search (arith, less, apart), waits))
+      ]
+
+  -- one more that doesn't
+  pub waiter_same : (WaitsForOne graph set number → ⊥) → AreWaitersBelow graph set (number + 1) waiters
+  waiter_same never session = (to, from)
+    where
+      to : IsTrue (has waiters session) → (session < number + 1) × WaitsForOne graph set session
+      to there = let old = (h session).0 there in (omega (arith, old.0), old.1)
+
+      from : (session < number + 1) × WaitsForOne graph set session → IsTrue (has waiters session)
+      from (less, waits) = elim (cases_eq session number) [
+        | inl same ↦ absurd (never (subst (WaitsForOne graph set) same waits))
+        | inr apart ↦ (h session).1 (search (arith, less, apart), waits)
+      ]
+
+-- below 10 are all
+pub all_waiters : (graph : List ℕ) (set number waiters : ℕ) → 10 ≤ number → AreWaitersBelow graph set number waiters → (session : ℕ)
+    → IsTrue (has waiters session) ↔ WaitsForOne graph set session
+all_waiters graph set number waiters all h session = ((λ there. ((h session).0 there).1), (λ w. (h session).1 (below w, w)))
+  where
+    below : WaitsForOne graph set session → session < number
+    below (other, waits, there) = let range : (1 ≤ session) × (session ≤ 9) = waiter_range graph session other waits in omega (arith, range.1, all)
+
+-- below 1 is nobody
+pub no_waiters : (graph : List ℕ) (set none : ℕ) → ((n : ℕ) → has none n ≡ false) → AreWaitersBelow graph set 1 none
+no_waiters graph set none nobody session = ((λ there. absurd (both_ways _ (nobody session) there)), from)
+  where
+    from : (session < 1) × WaitsForOne graph set session → IsTrue (has none session)
+    from (less, (other, waits, there)) = let range : (1 ≤ session) × (session ≤ 9) = waiter_range graph session other waits in absurd (omega (arith, range.0, less))

@@ -1,0 +1,89 @@
+//! Sets of sessions.
+
+ghost use Rattle.std.specs.Prelude.{◌≡◌, ◌≤◌, ◌==◌, ◌||◌, ◌&&◌, ℕ, None, false, IfSome, IsTrue};
+ghost use Rattle.std.specs.List.{list_any};
+ghost use Rattle.lab_engine.specs.SessionBits.{has};
+
+use lab_table::Session;
+use std::marker::Model;
+
+/// A set of sessions.
+#[derive(Clone, Copy)]
+pub struct SessionSet {
+    /// The bit n says whether the set has session n.
+    bits: u16,
+}
+
+impl Model for SessionSet {
+    ghost use Rattle.std.specs.Prelude.{ℕ};
+    ghost use Rattle.lab_engine.specs.SessionBits.{AreSessions};
+
+    ghost Value = { ℕ };
+
+    ghost view = { λ s. s.bits };
+
+    ghost invariant = { λ s. AreSessions s.bits };
+
+    ghost inverse = { λ set. record { bits = set } };
+}
+
+impl SessionSet {
+    /// The set of nobody.
+    pub fn none() -> SessionSet
+        ensures { (n : ℕ) → has result n ≡ false }
+    {
+        SessionSet { bits: 0 }
+    }
+
+    /// The set of one session.
+    pub fn only(session: Session) -> SessionSet
+        ensures { (n : ℕ) → has result n ≡ (n == session) }
+    {
+        SessionSet {
+            bits: 1 << session.number(),
+        }
+    }
+
+    /// The set of these sessions.
+    pub fn of(sessions: &[Session]) -> SessionSet
+        ensures { (n : ℕ) → has result n ≡ list_any (λ session. session == n) sessions.now }
+    {
+        let mut set = SessionSet::none();
+        for session in sessions {
+            set.insert(*session);
+        }
+        set
+    }
+
+    /// Puts a session in.
+    pub fn insert(&mut self, session: Session)
+        ensures { (n : ℕ) → has self.new n ≡ (n == session || has self.old n) }
+    {
+        self.bits |= 1 << session.number();
+    }
+
+    /// Whether a session is in it.
+    pub fn has(self, session: Session) -> bool
+        ensures { result ≡ has self session }
+    {
+        (self.bits >> session.number()) & 1 == 1
+    }
+
+    /// Those that another set has too.
+    pub fn common(self, other: SessionSet) -> SessionSet
+        ensures { (n : ℕ) → has result n ≡ (has self n && has other n) }
+    {
+        SessionSet {
+            bits: self.bits & other.bits,
+        }
+    }
+
+    /// The least session in it, or None where it has nobody.
+    pub fn least(self) -> Option<Session>
+        ensures some { IfSome result (λ session. IsTrue (has self session)) }
+        ensures least { IfSome result (λ session. (n : ℕ) → IsTrue (has self n) → session ≤ n) }
+        ensures none { result ≡ None → (n : ℕ) → has self n ≡ false }
+    {
+        Session::new(self.bits.trailing_zeros() as u8)
+    }
+}
