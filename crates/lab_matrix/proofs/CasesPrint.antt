@@ -1,5 +1,6 @@
 -- The scripts of the cases print within the limits of a text.
-use Rattle.std.proofs.Common.{◌≡◌, ◌≤◌, ◌<◌, ℕ, ℤ, pos, List, [], ◌∷◌, length, Some, None, refl, sym, ap, ◌∙◌, subst, arith}
+use Rattle.std.proofs.Common.{◌≡◌, ◌≤◌, ◌<◌, ◌++◌, ℕ, ℤ, pos, List, [], ◌∷◌, length, Some, None, refl, sym, ap, ◌∙◌, subst, arith, length-append}
+use Rattle.std.specs.Prelude.{codes}
 use Rattle.std.specs.Fmt.{decimal, signed_decimal}
 use Rattle.std.specs.FinMap as map
 use Rattle.std.specs.FinMap.{entries-insert, put, len-entries, len-empty}
@@ -15,13 +16,10 @@ use Rattle.lab_table.specs.declared.statement.Expr.TheVariants.{Set}
 use Rattle.lab_table.specs.declared.statement.Statement.{Statement}
 use Rattle.lab_table.specs.declared.statement.StatementKind.{StatementKind}
 use Rattle.lab_table.specs.declared.statement.StatementKind.TheVariants.{Select, Update, Insert}
-use Rattle.lab_script.specs.Depth.{statement_depth}
-use Rattle.lab_script.specs.Length.{statement_length, setup_length}
 use Rattle.lab_script.specs.Limits.{StatementPrints, ScriptPrints, AllPrint}
 use Rattle.lab_script.specs.Tables.{with_rows, with_lines, setup_tables}
 use Rattle.lab_script.specs.declared.script.Line.{Line}
-use Rattle.lab_script.specs.Printed.{printed_setup}
-use Rattle.lab_script.proofs.Lengths.{length_statement, length_setup}
+use Rattle.lab_script.specs.Printed.{printed_setup, named_rows_or}
 use Rattle.lab_matrix.specs.Listings.{usual_setup, case_script, g0_lines, g1a_lines, g1b_lines, g1c_lines, otv_lines, pmp_lines, p4_lines, g_single_lines, g2_item_lines, g2_lines}
 use Rattle.lab_matrix.specs.declared.name.CaseName.{CaseName}
 use Rattle.lab_matrix.specs.declared.name.CaseName.TheVariants as name
@@ -40,46 +38,42 @@ digits_of n lt = length_signed_le 4 (pos n) (omega (arith, lt)) (omega (arith, l
 abbrev over_test : StatementKind → Statement
 over_test kind = record { table = test_name; kind = kind }
 
--- a statement whose printed form is short by its parts
-short_one : (s : Statement) → statement_depth s ≤ 16 → statement_length s ≤ 1000 → StatementPrints s
-short_one s shallow short = record { shallow = shallow; short = subst (λ n. n ≤ 1000) (sym (length_statement s)) short }
-
 -- an update of a row
 update_prints : (id value : ℕ) → id < 1000 → value < 1000 → StatementPrints (over_test (Update (Set (pos value)) (Some (Compare Id Eq (pos id)))))
 update_prints id value small little =
     let a : length (signed_decimal (pos id)) ≤ 5 = digits_of id small in
     let b : length (signed_decimal (pos value)) ≤ 5 = digits_of value little in
-    short_one _ (omega arith) (omega (arith, a, b))
+    record { shallow = omega arith; short = simp length-append (omega (arith, a, b)) }
 
 -- a select of the rows whose column equals a number
 equal_prints : (col : Col) (n : ℕ) → n < 1000 → StatementPrints (over_test (Select (Some (Compare col Eq (pos n)))))
-equal_prints Id n small = let a : length (signed_decimal (pos n)) ≤ 5 = digits_of n small in short_one _ (omega arith) (omega (arith, a))
-equal_prints Column n small = let a : length (signed_decimal (pos n)) ≤ 5 = digits_of n small in short_one _ (omega arith) (omega (arith, a))
+equal_prints Id n small = let a : length (signed_decimal (pos n)) ≤ 5 = digits_of n small in record { shallow = omega arith; short = simp length-append (omega (arith, a)) }
+equal_prints Column n small = let a : length (signed_decimal (pos n)) ≤ 5 = digits_of n small in record { shallow = omega arith; short = simp length-append (omega (arith, a)) }
 
 -- a select of the rows whose value leaves a rest
 rest_prints : (m r : ℕ) → m < 1000 → r < 1000 → StatementPrints (over_test (Select (Some (Remainder Column m (pos r)))))
 rest_prints m r small little =
     let a : length (decimal m) ≤ 4 = length-decimal-le 4 m (omega arith) (omega (arith, small)) (omega (arith, small)) in
     let b : length (signed_decimal (pos r)) ≤ 5 = digits_of r little in
-    short_one _ (omega arith) (omega (arith, a, b))
+    record { shallow = omega arith; short = simp length-append (omega (arith, a, b)) }
 
 -- a select of two rows
 two_print : StatementPrints (over_test (Select (Some (OneOf Id (pos 1 ∷ pos 2 ∷ [])))))
 two_print =
     let a : length (signed_decimal (pos 1)) ≤ 5 = digits_of 1 (omega arith) in
     let b : length (signed_decimal (pos 2)) ≤ 5 = digits_of 2 (omega arith) in
-    short_one _ (omega arith) (omega (arith, a, b))
+    record { shallow = omega arith; short = simp length-append (omega (arith, a, b)) }
 
 -- a select of all rows
 all_print : StatementPrints (over_test (Select None))
-all_print = short_one _ (omega arith) (omega arith)
+all_print = record { shallow = omega arith; short = omega arith }
 
 -- an insert
 insert_prints : (id value : ℕ) → id < 1000 → value < 1000 → StatementPrints (over_test (Insert id (pos value)))
 insert_prints id value small little =
     let a : length (decimal id) ≤ 4 = length-decimal-le 4 id (omega arith) (omega (arith, small)) (omega (arith, small)) in
     let b : length (signed_decimal (pos value)) ≤ 5 = digits_of value little in
-    short_one _ (omega arith) (omega (arith, a, b))
+    record { shallow = omega arith; short = simp length-append (omega (arith, a, b)) }
 
 -- each statement of G0
 g0_print : AllPrint g0_lines
@@ -190,8 +184,7 @@ setup_short =
     let b : length (signed_decimal (pos 10)) ≤ 5 = digits_of 10 (omega arith) in
     let c : length (decimal 2) ≤ 4 = length-decimal-le 4 2 (omega arith) (omega arith) (omega arith) in
     let d : length (signed_decimal (pos 20)) ≤ 5 = digits_of 20 (omega arith) in
-    let e : length (printed_setup usual_setup) ≡ setup_length ((in_test 1, pos 10) ∷ (in_test 2, pos 20) ∷ []) = length_setup (map.entries usual_setup) ∙ ap setup_length rows in
-    subst (λ n. n ≤ 4000) (sym e) (omega (arith, a, b, c, d))
+    subst (λ (es : List (Row × ℤ)). length (codes "setup " ++ named_rows_or (codes "()") es ++ codes ";") ≤ 4000) (sym rows) (simp length-append (omega (arith, a, b, c, d)))
 
 -- the setup names the table test alone
 setup_named : setup_tables usual_setup ≡ test_name ∷ []

@@ -7,8 +7,8 @@ pub mod Numbers
 pub mod PrintedTokens
 pub mod ReadNumbers
 pub mod Joined
-pub mod Lengths
 pub mod Appended
+mod PutTexts
 pub mod ReadNames
 pub mod ReadRows
 pub mod SetupLoop

@@ -1,7 +1,7 @@
 pub mod Token
 pub mod Grammar
 pub mod Printed
-pub mod Length
+pub mod Sink
 pub mod Depth
 pub mod Limits
 pub mod Ranges

@@ -50,6 +50,7 @@ mod row;
 mod script;
 mod serial;
 mod setup;
+mod sink;
 mod spelling;
 mod statement;
 mod statement_text;

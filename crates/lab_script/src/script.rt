@@ -47,14 +47,6 @@ impl Lines {
         &self.items
     }
 
-    /// Gives the lines back, in order; it takes no memory.
-    pub fn into_vec(self) -> Vec<Line>
-        ensures { result.items ≡ self }
-    {
-        let Lines { items } = self;
-        items
-    }
-
     /// Adds a line at the end; NoMemory where an allocation was refused, and then the lines are unchanged.
     pub fn push(&mut self, line: Line) -> Result<(), NoMemory>
         ensures ok { OnOk result (self.new ≡ self.old ++ line ∷ []) }

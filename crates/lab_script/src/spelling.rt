@@ -1,10 +1,13 @@
-//! The printed form. Each function appends a text; after NoMemory, part of it may stand there.
+//! The printed form, by one printer: a text is appended and measured by the same calls. After a refusal, part of it may
+//! stand there.
 
-ghost use Rattle.std.specs.Prelude.{◌≡◌, ◌≤◌, ◌+◌, ◌∷◌, ◌++◌, ◌||◌, [], drop, codes, if◌then◌else◌, OnOk};
+ghost use Rattle.std.specs.Prelude.{◌≡◌, ◌≤◌, ◌+◌, ◌∷◌, ◌++◌, ◌||◌, drop, codes, OnOk};
 ghost use Rattle.std.specs.Fmt.{decimal, signed_decimal};
-ghost use Rattle.lab_script.specs.Printed.{printed_col, printed_cmp, joined, printed_numbers, printed_pred, printed_where, printed_expr, printed_table_name, printed_row_name, printed_row, printed_named_row, is_and, is_or, rows_or, named_rows_or, printed_statement, printed_command, printed_setup, printed_line};
+ghost use Rattle.lab_script.specs.Printed.{printed_col, printed_cmp, joined, printed_numbers, parenthesized, printed_pred, printed_where, printed_expr, printed_table_name, printed_row_name, printed_row, printed_named_row, is_and, is_or, rows_or, named_rows_or, printed_statement, printed_command, printed_setup, printed_line};
+ghost use Rattle.lab_script.specs.Sink.{Puts};
 
 use crate::script::Line;
+use crate::sink::Sink;
 use itoa::{Buffer, write_digits};
 use lab_table::{
     Cmp, Col, Command, Expr, NoMemory, Pred, PredKind, RowId, RowName, Statement, StatementKind,
@@ -14,28 +17,28 @@ use lab_table::{
 /// Room for a comma, a space and a row, whatever its numbers are: each has at most 20 digits, and one of them a sign.
 const ROW_BYTES: usize = 48;
 
-/// Appends a number in decimal.
-pub fn put_number(out: &mut Vec<u8>, n: i64) -> Result<(), NoMemory>
-    ensures { OnOk result (out.new.items ≡ out.old.items ++ signed_decimal n) }
+/// Puts a number in decimal.
+pub fn put_number<S: Sink>(out: &mut S, n: i64) -> Result<(), S::Refusal>
+    ensures { Puts S.kept S.limit result (S.text out.old) (signed_decimal n) (S.text out.new) }
 {
-    out.extend_from_slice(Buffer::new().format(n).as_bytes())
+    out.put(Buffer::new().format(n).as_bytes())
 }
 
-fn put_natural(out: &mut Vec<u8>, n: u32) -> Result<(), NoMemory>
-    ensures { OnOk result (out.new.items ≡ out.old.items ++ decimal n) }
+fn put_natural<S: Sink>(out: &mut S, n: u32) -> Result<(), S::Refusal>
+    ensures { Puts S.kept S.limit result (S.text out.old) (decimal n) (S.text out.new) }
 {
-    out.extend_from_slice(Buffer::new().format(n).as_bytes())
+    out.put(Buffer::new().format(n).as_bytes())
 }
 
-/// Appends what stands before a row of a table: its name and a space, and nothing for `test`.
-fn put_table_name(out: &mut Vec<u8>, table: TableName) -> Result<(), NoMemory>
-    ensures { OnOk result (out.new.items ≡ out.old.items ++ printed_table_name table) }
+/// Puts what stands before a row of a table: its name and a space, and nothing for `test`.
+fn put_table_name<S: Sink>(out: &mut S, table: TableName) -> Result<(), S::Refusal>
+    ensures { Puts S.kept S.limit result (S.text out.old) (printed_table_name table) (S.text out.new) }
 {
     if table == TableName::test() {
         return Ok(());
     }
-    out.extend_from_slice(table.as_bytes())?;
-    out.extend_from_slice(b" ")
+    out.put(table.as_bytes())?;
+    out.put(b" ")
 }
 
 /// Appends the name of a row: the number of a row of `test`, and the table's name and the number of another, as `stock 1`.
@@ -47,64 +50,51 @@ pub fn put_row_name(out: &mut Vec<u8>, row: RowName) -> Result<(), NoMemory>
     put_natural(out, row.id.number())
 }
 
-fn put_col(out: &mut Vec<u8>, col: Col) -> Result<(), NoMemory>
-    ensures { OnOk result (out.new.items ≡ out.old.items ++ printed_col col) }
+fn put_col<S: Sink>(out: &mut S, col: Col) -> Result<(), S::Refusal>
+    ensures { Puts S.kept S.limit result (S.text out.old) (printed_col col) (S.text out.new) }
 {
     match col {
-        Col::Id => out.extend_from_slice(b"id"),
-        Col::Value => out.extend_from_slice(b"value"),
+        Col::Id => out.put(b"id"),
+        Col::Value => out.put(b"value"),
     }
 }
 
-fn put_cmp(out: &mut Vec<u8>, cmp: Cmp) -> Result<(), NoMemory>
-    ensures { OnOk result (out.new.items ≡ out.old.items ++ printed_cmp cmp) }
+fn put_cmp<S: Sink>(out: &mut S, cmp: Cmp) -> Result<(), S::Refusal>
+    ensures { Puts S.kept S.limit result (S.text out.old) (printed_cmp cmp) (S.text out.new) }
 {
     match cmp {
-        Cmp::Eq => out.extend_from_slice(b" = "),
-        Cmp::Ne => out.extend_from_slice(b" <> "),
-        Cmp::Lt => out.extend_from_slice(b" < "),
-        Cmp::Le => out.extend_from_slice(b" <= "),
-        Cmp::Gt => out.extend_from_slice(b" > "),
-        Cmp::Ge => out.extend_from_slice(b" >= "),
+        Cmp::Eq => out.put(b" = "),
+        Cmp::Ne => out.put(b" <> "),
+        Cmp::Lt => out.put(b" < "),
+        Cmp::Le => out.put(b" <= "),
+        Cmp::Gt => out.put(b" > "),
+        Cmp::Ge => out.put(b" >= "),
     }
 }
 
-fn put_numbers(out: &mut Vec<u8>, numbers: &[Value]) -> Result<(), NoMemory>
-    ensures { OnOk result (out.new.items ≡ out.old.items ++ joined (printed_numbers numbers.now)) }
+fn put_numbers<S: Sink>(out: &mut S, numbers: &[Value]) -> Result<(), S::Refusal>
+    ensures { Puts S.kept S.limit result (S.text out.old) (joined (printed_numbers numbers.now)) (S.text out.new) }
 {
     let Some((first, rest)) = numbers.split_first() else {
         return Ok(());
     };
     put_number(out, first.number())?;
     for number in rest {
-        out.extend_from_slice(b", ")?;
+        out.put(b", ")?;
         put_number(out, number.number())?;
     }
     Ok(())
 }
 
-fn put_open(out: &mut Vec<u8>, enclosed: bool) -> Result<(), NoMemory>
-    ensures { OnOk result (out.new.items ≡ out.old.items ++ (if enclosed then codes "(" else [])) }
+/// Puts a predicate, in parentheses where it stands enclosed.
+fn put_pred<S: Sink>(out: &mut S, pred: &Pred, enclosed: bool) -> Result<(), S::Refusal>
+    ensures { Puts S.kept S.limit result (S.text out.old) (parenthesized enclosed (printed_pred pred.now)) (S.text out.new) }
 {
     if enclosed {
-        out.extend_from_slice(b"(")?;
+        out.put(b"(")?;
+        put_pred(out, pred, false)?;
+        return out.put(b")");
     }
-    Ok(())
-}
-
-fn put_close(out: &mut Vec<u8>, enclosed: bool) -> Result<(), NoMemory>
-    ensures { OnOk result (out.new.items ≡ out.old.items ++ (if enclosed then codes ")" else [])) }
-{
-    if enclosed {
-        out.extend_from_slice(b")")?;
-    }
-    Ok(())
-}
-
-/// Appends a predicate.
-pub fn put_pred(out: &mut Vec<u8>, pred: &Pred) -> Result<(), NoMemory>
-    ensures { OnOk result (out.new.items ≡ out.old.items ++ printed_pred pred.now) }
-{
     match &pred.kind {
         PredKind::Compare { col, cmp, number } => {
             put_col(out, *col)?;
@@ -113,38 +103,30 @@ pub fn put_pred(out: &mut Vec<u8>, pred: &Pred) -> Result<(), NoMemory>
         }
         PredKind::Remainder { col, modulus, rest } => {
             put_col(out, *col)?;
-            out.extend_from_slice(b" % ")?;
+            out.put(b" % ")?;
             put_natural(out, modulus.number())?;
-            out.extend_from_slice(b" = ")?;
+            out.put(b" = ")?;
             put_number(out, rest.number())
         }
         PredKind::OneOf { col, numbers } => {
             put_col(out, *col)?;
-            out.extend_from_slice(b" in (")?;
+            out.put(b" in (")?;
             put_numbers(out, numbers.as_slice())?;
-            out.extend_from_slice(b")")
+            out.put(b")")
         }
         PredKind::Not(p) => {
-            out.extend_from_slice(b"not ")?;
-            put_open(out, is_joined(p))?;
-            put_pred(out, p)?;
-            put_close(out, is_joined(p))
+            out.put(b"not ")?;
+            put_pred(out, p, is_joined(p))
         }
         PredKind::And(p, q) => {
-            put_open(out, is_or(p))?;
-            put_pred(out, p)?;
-            put_close(out, is_or(p))?;
-            out.extend_from_slice(b" and ")?;
-            put_open(out, is_joined(q))?;
-            put_pred(out, q)?;
-            put_close(out, is_joined(q))
+            put_pred(out, p, is_or(p))?;
+            out.put(b" and ")?;
+            put_pred(out, q, is_joined(q))
         }
         PredKind::Or(p, q) => {
-            put_pred(out, p)?;
-            out.extend_from_slice(b" or ")?;
-            put_open(out, is_or(q))?;
-            put_pred(out, q)?;
-            put_close(out, is_or(q))
+            put_pred(out, p, false)?;
+            out.put(b" or ")?;
+            put_pred(out, q, is_or(q))
         }
     }
 }
@@ -163,29 +145,29 @@ pub fn is_joined(pred: &Pred) -> bool
     matches!(pred.kind, PredKind::And(..) | PredKind::Or(..))
 }
 
-fn put_where(out: &mut Vec<u8>, pred: &Option<Pred>) -> Result<(), NoMemory>
-    ensures { OnOk result (out.new.items ≡ out.old.items ++ printed_where pred.now) }
+fn put_where<S: Sink>(out: &mut S, pred: &Option<Pred>) -> Result<(), S::Refusal>
+    ensures { Puts S.kept S.limit result (S.text out.old) (printed_where pred.now) (S.text out.new) }
 {
     match pred {
         None => Ok(()),
         Some(p) => {
-            out.extend_from_slice(b" where ")?;
-            put_pred(out, p)
+            out.put(b" where ")?;
+            put_pred(out, p, false)
         }
     }
 }
 
-fn put_expr(out: &mut Vec<u8>, expr: Expr) -> Result<(), NoMemory>
-    ensures { OnOk result (out.new.items ≡ out.old.items ++ printed_expr expr) }
+fn put_expr<S: Sink>(out: &mut S, expr: Expr) -> Result<(), S::Refusal>
+    ensures { Puts S.kept S.limit result (S.text out.old) (printed_expr expr) (S.text out.new) }
 {
     match expr {
         Expr::Set(n) => put_number(out, n.number()),
         Expr::Plus(n) => {
-            out.extend_from_slice(b"value + ")?;
+            out.put(b"value + ")?;
             put_number(out, n.number())
         }
         Expr::Minus(n) => {
-            out.extend_from_slice(b"value - ")?;
+            out.put(b"value - ")?;
             put_number(out, n.number())
         }
     }
@@ -237,13 +219,13 @@ fn write_row(text: &mut [u8; ROW_BYTES], id: RowId, value: Value) -> usize
     write_byte(text, start, b'(')
 }
 
-/// Appends a row. Its text is built first: one allocation and one copy for it.
-fn put_row(out: &mut Vec<u8>, id: RowId, value: Value) -> Result<(), NoMemory>
-    ensures { OnOk result (out.new.items ≡ out.old.items ++ printed_row id value) }
+/// Puts a row. Its text is built first: one allocation and one copy for it.
+fn put_row<S: Sink>(out: &mut S, id: RowId, value: Value) -> Result<(), S::Refusal>
+    ensures { Puts S.kept S.limit result (S.text out.old) (printed_row id value) (S.text out.new) }
 {
     let mut text = [0; ROW_BYTES];
     let start = write_row(&mut text, id, value);
-    out.extend_from_slice(&text[start..])
+    out.put(&text[start..])
 }
 
 /// Appends a row behind another one.
@@ -257,25 +239,25 @@ fn put_next_row(out: &mut Vec<u8>, id: RowId, value: Value) -> Result<(), NoMemo
     out.extend_from_slice(&text[start..])
 }
 
-/// Appends a row of any table.
-fn put_named_row(out: &mut Vec<u8>, row: RowName, value: Value) -> Result<(), NoMemory>
-    ensures { OnOk result (out.new.items ≡ out.old.items ++ printed_named_row row value) }
+/// Puts a row of any table.
+fn put_named_row<S: Sink>(out: &mut S, row: RowName, value: Value) -> Result<(), S::Refusal>
+    ensures { Puts S.kept S.limit result (S.text out.old) (printed_named_row row value) (S.text out.new) }
 {
     put_table_name(out, row.table)?;
     put_row(out, row.id, value)
 }
 
-/// Appends words and the name of a table.
-fn put_words(out: &mut Vec<u8>, words: &[u8], table: TableName) -> Result<(), NoMemory>
-    ensures { OnOk result (out.new.items ≡ out.old.items ++ (words.now ++ table)) }
+/// Puts words and the name of a table.
+fn put_words<S: Sink>(out: &mut S, words: &[u8], table: TableName) -> Result<(), S::Refusal>
+    ensures { Puts S.kept S.limit result (S.text out.old) (words.now ++ table) (S.text out.new) }
 {
-    out.extend_from_slice(words)?;
-    out.extend_from_slice(table.as_bytes())
+    out.put(words)?;
+    out.put(table.as_bytes())
 }
 
-/// Appends a statement.
-pub fn put_statement(out: &mut Vec<u8>, statement: &Statement) -> Result<(), NoMemory>
-    ensures { OnOk result (out.new.items ≡ out.old.items ++ printed_statement statement.now) }
+/// Puts a statement.
+pub fn put_statement<S: Sink>(out: &mut S, statement: &Statement) -> Result<(), S::Refusal>
+    ensures { Puts S.kept S.limit result (S.text out.old) (printed_statement statement.now) (S.text out.new) }
 {
     let table = statement.table;
     match &statement.kind {
@@ -285,13 +267,13 @@ pub fn put_statement(out: &mut Vec<u8>, statement: &Statement) -> Result<(), NoM
         }
         StatementKind::Update { expr, pred } => {
             put_words(out, b"update ", table)?;
-            out.extend_from_slice(b" set value = ")?;
+            out.put(b" set value = ")?;
             put_expr(out, *expr)?;
             put_where(out, pred)
         }
         StatementKind::Insert { id, value } => {
             put_words(out, b"insert into ", table)?;
-            out.extend_from_slice(b" (id, value) values ")?;
+            out.put(b" (id, value) values ")?;
             put_row(out, *id, *value)
         }
         StatementKind::Delete { pred } => {
@@ -328,32 +310,32 @@ pub fn put_list(out: &mut Vec<u8>, rows: &[(RowName, Value)]) -> Result<(), NoMe
     Ok(())
 }
 
-/// Appends rows of any table.
-pub fn put_named_rows(
-    out: &mut Vec<u8>,
+/// Puts rows of any table.
+pub fn put_named_rows<S: Sink>(
+    out: &mut S,
     none: &[u8],
     rows: &[(RowName, Value)],
-) -> Result<(), NoMemory>
-    ensures { OnOk result (out.new.items ≡ out.old.items ++ named_rows_or none.now rows.now) }
+) -> Result<(), S::Refusal>
+    ensures { Puts S.kept S.limit result (S.text out.old) (named_rows_or none.now rows.now) (S.text out.new) }
 {
     let Some((first, rest)) = rows.split_first() else {
-        return out.extend_from_slice(none);
+        return out.put(none);
     };
     put_named_row(out, first.0, first.1)?;
     for (row, value) in rest {
-        out.extend_from_slice(b", ")?;
+        out.put(b", ")?;
         put_named_row(out, *row, *value)?;
     }
     Ok(())
 }
 
-/// Appends the line of a setup, without its newline.
-pub fn put_setup(out: &mut Vec<u8>, table: &Table) -> Result<(), NoMemory>
-    ensures { OnOk result (out.new.items ≡ out.old.items ++ printed_setup table.now) }
+/// Puts the line of a setup, without its newline.
+pub fn put_setup<S: Sink>(out: &mut S, table: &Table) -> Result<(), S::Refusal>
+    ensures { Puts S.kept S.limit result (S.text out.old) (printed_setup table.now) (S.text out.new) }
 {
-    out.extend_from_slice(b"setup ")?;
+    out.put(b"setup ")?;
     put_named_rows(out, b"()", table.rows())?;
-    out.extend_from_slice(b";")
+    out.put(b";")
 }
 
 /// Appends the line of a command, with its newline.

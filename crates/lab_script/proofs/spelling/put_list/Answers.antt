@@ -1,5 +1,6 @@
-use Rattle.std.proofs.Common.{◌≡◌, ◌∷◌, ◌++◌, [], ap, sym, ◌∙◌, rules, drop}
+use Rattle.std.proofs.Common.{◌≡◌, ◌∷◌, ◌++◌, [], ap, sym, ◌∙◌, arith, drop}
 use Rattle.std.specs.Prelude.{codes}
+use Rattle.std.proofs.lemmas.Grind.{common_steps}
 use Rattle.std.proofs.lemmas.List.{drop_all}
 use Rattle.lab_script.specs.Printed.{printed_row, printed_rows, rows_or}
 use Rattle.lab_script.proofs.Joined.{all_joined, followed}
@@ -12,6 +13,6 @@ returns c =
     let start = c.args.out.now.items in
     let whole : c.args.rows.now ≡ first ∷ rest = c.in-Some.ensures.cases.0 in
     let none : printed_rows (drop c.loop-row.row-index rest) ≡ [] = ap printed_rows (drop_all c.loop-row.row-index rest c.loop-row-test.false) in
-    let put : c.put_row.new.out.items ≡ start ++ (printed_row first.0.id first.1) = search rules in
+    let put : c.put_row.new.out.items ≡ start ++ printed_row first.0.id first.1 = grind (arith, common_steps) in
     all_joined start _ (printed_row first.0.id first.1) (printed_rows rest) _ none (c.loop-row.invariant ∙ ap (λ text. text ++ followed (printed_rows rest)) put)
     ∙ ap (λ rows. start ++ rows_or (codes "none") rows) (sym whole)

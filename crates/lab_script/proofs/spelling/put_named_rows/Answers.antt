@@ -1,16 +1,26 @@
-use Rattle.std.proofs.Common.{◌≡◌, ◌∷◌, ◌++◌, [], ap, sym, ◌∙◌, rules, drop}
-use Rattle.std.proofs.lemmas.List.{drop_all}
-use Rattle.lab_script.specs.Printed.{printed_named_row, printed_named_rows, named_rows_or}
-use Rattle.lab_script.proofs.Joined.{all_joined, followed}
+use Rattle.std.proofs.Common.{◌≡◌, ◌∷◌, ◌++◌, map, drop, ap, sym, ◌∙◌, arith, rules}
+use Rattle.std.proofs.lemmas.Grind.{common_steps}
+use Rattle.lab_script.specs.Printed.{joined, printed_named_row, printed_named_rows}
+use Rattle.lab_script.proofs.Joined.{followed}
+use Rattle.lab_script.proofs.PutTexts.{first_put, same_length}
 use Rattle.lab_script.proofs.spelling.put_named_rows.Goals as goal
 
-pub returns : goal.returns
-returns c =
+pub loop-row-init : goal.loop-row-init
+loop-row-init g c =
+    let kept = g.S.Sink.kept in
+    let old = g.S.Sink.text c.args.out.now in
     let first = c.in-Some.first.now in
     let rest = c.in-Some.rest.now in
-    let start = c.args.out.now.items in
     let whole : c.args.rows.now ≡ first ∷ rest = c.in-Some.ensures.cases.0 in
-    let none : printed_named_rows (drop c.loop-row.row-index rest) ≡ [] = ap printed_named_rows (drop_all c.loop-row.row-index rest c.loop-row-test.false) in
-    let put : c.put_named_row.new.out.items ≡ start ++ (printed_named_row first.0 first.1) = search rules in
-    all_joined start _ (printed_named_row first.0 first.1) (printed_named_rows rest) _ none (c.loop-row.invariant ∙ ap (λ text. text ++ followed (printed_named_rows rest)) put)
-    ∙ ap (λ rows. start ++ named_rows_or c.args.none.now rows) (sym whole)
+    let put : g.S.Sink.text c.put_named_row.new.out ≡ old ++ map kept (printed_named_row first.0 first.1) = search rules in
+    first_put kept old (printed_named_row first.0 first.1) (printed_named_rows rest) put ∙ ap (λ rows. old ++ map kept (joined (printed_named_rows rows))) (sym whole)
+
+pub returns-in_err-put : goal.returns-in_err-put
+returns-in_err-put g c =
+    let long = same_length g.S.Sink.kept (g.S.Sink.text c.loop-row.out) (followed (printed_named_rows (drop c.loop-row.row-index c.in-Some.rest.now))) (g.S.Sink.text c.args.out.now) (joined (printed_named_rows c.args.rows.now)) c.loop-row.invariant in
+    grind (arith, common_steps, long)
+
+pub returns-in_err-put_named_row-2 : goal.returns-in_err-put_named_row-2
+returns-in_err-put_named_row-2 g c =
+    let long = same_length g.S.Sink.kept (g.S.Sink.text c.loop-row.out) (followed (printed_named_rows (drop c.loop-row.row-index c.in-Some.rest.now))) (g.S.Sink.text c.args.out.now) (joined (printed_named_rows c.args.rows.now)) c.loop-row.invariant in
+    grind (arith, common_steps, long)
