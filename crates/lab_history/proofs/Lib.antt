@@ -7,6 +7,7 @@ pub mod Members
 pub mod KeyParts
 pub mod Entries
 pub mod NewStates
+pub mod Equal
 pub mod WritesRead
 pub mod JsonShapes
 pub mod ListsRead

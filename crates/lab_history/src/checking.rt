@@ -16,7 +16,7 @@ use crate::limits::{MAX_OPERATIONS, MAX_TRANSACTIONS, check_limits};
 use crate::operation::{Op, VersionName};
 use crate::parts::Parts;
 use crate::path::{ListPlace, Path};
-use crate::refusal::Refusal;
+use crate::refusal::{Refusal, over};
 use crate::transaction::{Installers, Txn};
 use lab_script::check_statement;
 use lab_table::{RowName, Statement, TxnNo};
@@ -53,9 +53,7 @@ fn check_parts(alloc: Global, parts: &Parts) -> Result<(), Refusal>
 {
     let txns = parts.txns.as_slice();
     if txns.len() > MAX_TRANSACTIONS {
-        return Err(Refusal::Fault(FileFault::OverLimit {
-            which: Limit::Transactions,
-        }));
+        return Err(over(Limit::Transactions));
     }
     check_txns(alloc, txns)?;
     check_installed(parts.installed.entries())?;
@@ -74,9 +72,7 @@ fn check_txns(alloc: Global, txns: &[Txn]) -> Result<(), Refusal>
         }
         let ops = txn.ops.as_slice();
         if ops.len() > MAX_OPERATIONS - operations {
-            return Err(Refusal::Fault(FileFault::OverLimit {
-                which: Limit::Operations,
-            }));
+            return Err(over(Limit::Operations));
         }
         operations += ops.len();
         check_ops(index, txn.no, ops)?;

@@ -12,7 +12,7 @@ ghost use Rattle.lab_history.specs.declared.file_version.FileVersion.{FileVersio
 
 use crate::file_version::FileVersion;
 use crate::limits::MAX_OPERATIONS;
-use crate::member::{key_parts, part, required};
+use crate::member::{key_parts, part, required, whole_of};
 use crate::operation::{State, VersionName};
 use crate::path::{ListPlace, Path};
 use crate::refusal::{Refusal, wrong};
@@ -25,24 +25,14 @@ use std::alloc::Global;
 pub fn txn_of(json: &Json) -> Option<TxnNo>
     ensures { result ≡ txn_in_number (view json.now) }
 {
-    let number = json.as_u64()?;
-    if 1 <= number && number <= 1_000_000 {
-        TxnNo::new(number as u32)
-    } else {
-        None
-    }
+    TxnNo::new(whole_of(json, 1_000_000)?)
 }
 
 /// The number of an operation within its transaction.
 fn op_of(json: &Json) -> Option<u32>
     ensures { result ≡ op_in_number (view json.now) }
 {
-    let number = json.as_u64()?;
-    if 1 <= number && number <= MAX_OPERATIONS as u64 {
-        Some(number as u32)
-    } else {
-        None
-    }
+    whole_of(json, MAX_OPERATIONS as u32)
 }
 
 /// What a row has in the column value.

@@ -1,9 +1,10 @@
 //! Whether what operations saw, listed and wrote is the same.
 
 ghost use Rattle.std.specs.Prelude.{◌≡◌, ◌↔◌, IsTrue};
+ghost use Rattle.std.specs.Bool.{Decides};
 
-use crate::operation::{Rows, State, VersionName, View, Writes};
-use lab_table::{RowName, Value};
+use crate::operation::{Rows, View, Writes};
+use lab_table::RowName;
 
 impl View {
     ghost use Rattle.std.specs.Prelude.{◌≡◌, ◌↔◌, IsTrue};
@@ -12,7 +13,7 @@ impl View {
     pub fn equals(&self, other: &View) -> bool
         ensures { IsTrue result ↔ (self.now ≡ other.now) }
     {
-        same_versions(self.entries(), other.entries())
+        are_same(self.entries(), other.entries())
     }
 }
 
@@ -23,7 +24,7 @@ impl Rows {
     pub fn equals(&self, other: &Rows) -> bool
         ensures { IsTrue result ↔ (self.now ≡ other.now) }
     {
-        same_rows(self.entries(), other.entries())
+        are_same(self.entries(), other.entries())
     }
 }
 
@@ -34,66 +35,14 @@ impl Writes {
     pub fn equals(&self, other: &Writes) -> bool
         ensures { IsTrue result ↔ (self.now ≡ other.now) }
     {
-        same_states(self.entries(), other.entries())
+        are_same(self.entries(), other.entries())
     }
 }
 
-fn same_version(a: &(RowName, VersionName), b: &(RowName, VersionName)) -> bool
+/// Whether two lists have the same entries.
+fn are_same<X: PartialEq>(a: &[(RowName, X)], b: &[(RowName, X)]) -> bool
+    requires { (x y : X) → Decides (X.eq x y) (x ≡ y) }
     ensures { IsTrue result ↔ (a.now ≡ b.now) }
 {
-    a.0 == b.0 && a.1 == b.1
-}
-
-fn same_versions(a: &[(RowName, VersionName)], b: &[(RowName, VersionName)]) -> bool
-    ensures { IsTrue result ↔ (a.now ≡ b.now) }
-{
-    if a.len() != b.len() {
-        return false;
-    }
-    for (index, item) in a.iter().enumerate() {
-        if !same_version(item, &b[index]) {
-            return false;
-        }
-    }
-    true
-}
-
-fn same_row(a: &(RowName, Value), b: &(RowName, Value)) -> bool
-    ensures { IsTrue result ↔ (a.now ≡ b.now) }
-{
-    a.0 == b.0 && a.1 == b.1
-}
-
-fn same_rows(a: &[(RowName, Value)], b: &[(RowName, Value)]) -> bool
-    ensures { IsTrue result ↔ (a.now ≡ b.now) }
-{
-    if a.len() != b.len() {
-        return false;
-    }
-    for (index, item) in a.iter().enumerate() {
-        if !same_row(item, &b[index]) {
-            return false;
-        }
-    }
-    true
-}
-
-fn same_state(a: &(RowName, State), b: &(RowName, State)) -> bool
-    ensures { IsTrue result ↔ (a.now ≡ b.now) }
-{
-    a.0 == b.0 && a.1 == b.1
-}
-
-fn same_states(a: &[(RowName, State)], b: &[(RowName, State)]) -> bool
-    ensures { IsTrue result ↔ (a.now ≡ b.now) }
-{
-    if a.len() != b.len() {
-        return false;
-    }
-    for (index, item) in a.iter().enumerate() {
-        if !same_state(item, &b[index]) {
-            return false;
-        }
-    }
-    true
+    a == b
 }

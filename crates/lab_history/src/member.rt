@@ -1,12 +1,13 @@
 //! What a member of a list begins with: the key of its row, in front of what the list says of the row.
 
-ghost use Rattle.std.specs.Prelude.{◌≡◌, ◌+◌, Some, option_map, IfOk, OnOk};
+ghost use Rattle.std.specs.Prelude.{◌≡◌, ◌≤◌, ◌+◌, Some, option_map, IfSome, IfOk, OnOk};
 ghost use Rattle.serde_json.specs.Data.{string, number, unsigned};
 ghost use Rattle.serde_json.specs.Find.{as_array};
 ghost use Rattle.serde_json.specs.View.{view, items_view};
 ghost use Rattle.lab_history.specs.Faults.{Gives, required as spec_required};
 ghost use Rattle.lab_history.specs.Member.{id_in, table_in, plain_in, full_in, sized, split_key as spec_split_key};
 ghost use Rattle.lab_history.specs.Member as key;
+ghost use Rattle.lab_history.specs.Whole.{whole_in};
 ghost use Rattle.lab_history.specs.declared.path.Path.TheVariants as path;
 
 use crate::file_version::FileVersion;
@@ -26,16 +27,26 @@ pub fn key_parts(version: FileVersion) -> usize
     }
 }
 
+/// A whole number from 1 to this one.
+#[inline(always)]
+pub fn whole_of(json: &Json, most: u32) -> Option<u32>
+    ensures value { result ≡ whole_in 1 most (view json.now) }
+    ensures some { IfSome result (λ number. 1 ≤ number) }
+    ensures bound { IfSome result (λ number. number ≤ most) }
+{
+    let number = json.as_u64()?;
+    if 1 <= number && number <= most as u64 {
+        Some(number as u32)
+    } else {
+        None
+    }
+}
+
 /// An id.
 fn id_of(json: &Json) -> Option<RowId>
     ensures { result ≡ id_in (view json.now) }
 {
-    let number = json.as_u64()?;
-    if 1 <= number && number <= 999_999 {
-        RowId::new(number as u32)
-    } else {
-        None
-    }
+    RowId::new(whole_of(json, 999_999)?)
 }
 
 /// A table's name, in lower case.

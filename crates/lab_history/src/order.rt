@@ -1,4 +1,4 @@
-//! The order of rows, and entries whose rows rise strictly.
+//! Entries whose rows rise strictly.
 
 ghost use Rattle.std.specs.Prelude.{◌≡◌};
 ghost use Rattle.std.specs.FinMap as map;
@@ -6,19 +6,6 @@ ghost use Rattle.lab_table.specs.Row.{row_cmp};
 ghost use Rattle.lab_history.specs.Entries as entry;
 
 use lab_table::RowName;
-use std::cmp::Ordering;
-
-/// The order of two rows. Those of one table are compared by their numbers, without a call.
-#[inline(always)]
-pub fn order_of_rows(a: &RowName, b: &RowName) -> Ordering
-    ensures { result ≡ row_cmp a.now b.now }
-{
-    if a.table == b.table {
-        a.id.cmp(&b.id)
-    } else {
-        a.cmp(b)
-    }
-}
 
 /// Whether a row comes after the one before it, if there is one.
 // Not inlined, so that rows are compared where they stand: else their names are taken apart byte by byte.
@@ -28,7 +15,7 @@ pub fn follows(before: &Option<RowName>, row: &RowName) -> bool
 {
     match before {
         None => true,
-        Some(before) => order_of_rows(before, row).is_lt(),
+        Some(before) => before.cmp(row).is_lt(),
     }
 }
 

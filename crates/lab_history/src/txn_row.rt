@@ -4,7 +4,6 @@ ghost use Rattle.std.specs.Prelude.{◌≡◌, Some, refl};
 ghost use Rattle.std.specs.Cmp.{partial_equiv_from_equiv, po};
 ghost use Rattle.lab_history.specs.TxnRow.{txn_row_cmp, txn_row_test, txn_rows_total, txn_rows_equiv, txn_rows_tested};
 
-use crate::order::order_of_rows;
 use lab_table::{RowName, TxnNo};
 use std::cmp::Ordering;
 use std::marker::Model;
@@ -66,7 +65,7 @@ impl Ord for TxnRow {
     #[inline(always)]
     fn cmp(&self, other: &TxnRow) -> Ordering {
         if self.txn == other.txn {
-            order_of_rows(&self.row, &other.row)
+            self.row.cmp(&other.row)
         } else {
             self.txn.cmp(&other.txn)
         }

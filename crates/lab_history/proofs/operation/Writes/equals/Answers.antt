@@ -6,6 +6,6 @@ use Rattle.lab_history.proofs.operation.Writes.equals.Goals as goal
 
 pub returns : goal.returns
 returns c = (
-  λ t. same_entries_map _ _ (sym c.entries.ensures ∙ ap new_states (c.same_states.ensures.0 t) ∙ c.entries-2.ensures),
-  λ e. c.same_states.ensures.1 (states_same _ _ (c.entries.ensures ∙ ap entries e ∙ sym c.entries-2.ensures)),
+  λ t. same_entries_map _ _ (sym c.entries.ensures ∙ ap new_states (c.are_same.ensures.0 t) ∙ c.entries-2.ensures),
+  λ e. c.are_same.ensures.1 (states_same _ _ (c.entries.ensures ∙ ap entries e ∙ sym c.entries-2.ensures)),
 )
