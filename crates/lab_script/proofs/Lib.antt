@@ -1,7 +1,6 @@
 pub mod Tokens
 pub mod HeldDigits
 pub mod TokenNumbers
-pub mod Loops
 pub mod Numbers
 pub mod PrintedTokens
 pub mod ReadNumbers
@@ -10,7 +9,6 @@ pub mod Lengths
 pub mod Appended
 pub mod ReadNames
 pub mod ReadRows
-pub mod SetupLoop
 pub mod DistinctRows
 pub mod SetupAgain
 pub mod ReadSetup
@@ -48,17 +46,15 @@ pub mod PrintedSetups
 pub mod PrintedScripts
 pub mod EachElement
 pub mod Wheres
-pub mod LongSetups
-pub mod LongStatements
+mod Readings
+mod FaultKinds
+mod LineKinds
 mod StoppedLoops
 mod StoppedSetups
 mod StoppedCommands
 mod PlacedFaults
 pub mod OneFault
 mod OneStatementFault
-mod SameReadings
-mod ReadingValues
-mod LineValues
 mod GrammarFaults
 pub mod FewTables
 pub mod FewRead
