@@ -1,8 +1,7 @@
 -- There is no first fault exactly where the tokens are in the grammar.
-use Rattle.std.proofs.Common.{◌≡◌, ℕ, ◌≤◌, Bool, true, false, List, length, Some, None, refl, sym, ap, ◌∙◌}
+use Rattle.std.proofs.Common.{◌≡◌, ℕ, ◌≤◌, Bool, true, false, List, length, Some, None, refl, ap, ◌∙◌}
 use Rattle.std.specs.Prelude.{◌↔◌, if◌then◌else◌}
 use Rattle.std.proofs.lemmas.Bool.{leb-true, le-leb}
-use Rattle.std.proofs.lemmas.Option.{same_Some}
 use Rattle.lab_table.specs.Table.{Table}
 use Rattle.lab_table.specs.declared.statement.Command.{Command}
 use Rattle.lab_table.specs.declared.statement.Statement.{Statement}
@@ -16,16 +15,15 @@ use Rattle.lab_script.proofs.ReadCommands.{commands_take, commands_again}
 use Rattle.lab_script.proofs.ReadStatements.{whole_takes, whole_again}
 use Rattle.lab_script.proofs.ReadSetup.{setup_takes}
 use Rattle.lab_script.proofs.SetupAgain.{setup_again}
-use Rattle.lab_script.proofs.SameReadings.{value}
-use Rattle.lab_script.proofs.LineValues.{whole_same, commands_same, setup_same}
+use Rattle.lab_script.proofs.Readings.{reads_is}
 
 -- a reading has no fault exactly where it has a value
 
-valued : {X : Type 0} (ts : List Token) (r : Reading X) → fault_in ts r ≡ None → (x : X) × (value r ≡ Some x)
+valued : {X : Type 0} (ts : List Token) (r : Reading X) → fault_in ts r ≡ None → (x : X) × (r ≡ Reads x)
 valued ts (Reads x) none = (x, refl)
 valued ts (Stops kind left) none = absurd cc
 
-faultless : {X : Type 0} (ts : List Token) (r : Reading X) (x : X) → value r ≡ Some x → fault_in ts r ≡ None
+faultless : {X : Type 0} (ts : List Token) (r : Reading X) (x : X) → r ≡ Reads x → fault_in ts r ≡ None
 faultless ts (Reads y) x is = refl
 faultless ts (Stops kind left) x is = absurd cc
 
@@ -36,24 +34,24 @@ few_of true x none = refl
 few_of false x none = absurd cc
 
 commands_valued : (names : List (List ℕ)) (ts : List Token) (r : Reading (List Command)) → commands_fault_in names ts r ≡ None
-    → (cs : List Command) × (value r ≡ Some cs) × (length (with_commands names cs) ≤ 4)
+    → (cs : List Command) × (r ≡ Reads cs) × (length (with_commands names cs) ≤ 4)
 commands_valued names ts (Reads cs) none = (cs, refl, leb-true _ 4 (few_of (are_few (with_commands names cs)) TooManyTables none))
 commands_valued names ts (Stops kind left) none = absurd cc
 
-commands_faultless : (names : List (List ℕ)) (ts : List Token) (r : Reading (List Command)) (cs : List Command) → value r ≡ Some cs → length (with_commands names cs) ≤ 4
+commands_faultless : (names : List (List ℕ)) (ts : List Token) (r : Reading (List Command)) (cs : List Command) → r ≡ Reads cs → length (with_commands names cs) ≤ 4
     → commands_fault_in names ts r ≡ None
 commands_faultless names ts (Reads ds) cs is few =
-    let same : ds ≡ cs = same_Some ds cs is in
+    let same : ds ≡ cs = reads_is ds cs is in
     ap (λ b. if b then None else Some TooManyTables) (ap (λ xs. are_few (with_commands names xs)) same ∙ le-leb (length (with_commands names cs)) 4 few)
 commands_faultless names ts (Stops kind left) cs is few = absurd cc
 
-setup_valued : (ts : List Token) (r : Reading Table) → setup_fault_in ts r ≡ None → (table : Table) × (value r ≡ Some table) × (length (setup_tables table) ≤ 4)
+setup_valued : (ts : List Token) (r : Reading Table) → setup_fault_in ts r ≡ None → (table : Table) × (r ≡ Reads table) × (length (setup_tables table) ≤ 4)
 setup_valued ts (Reads table) none = (table, refl, leb-true _ 4 (few_of (are_few (setup_tables table)) TooManyTables none))
 setup_valued ts (Stops kind left) none = absurd cc
 
-setup_faultless : (ts : List Token) (r : Reading Table) (table : Table) → value r ≡ Some table → length (setup_tables table) ≤ 4 → setup_fault_in ts r ≡ None
+setup_faultless : (ts : List Token) (r : Reading Table) (table : Table) → r ≡ Reads table → length (setup_tables table) ≤ 4 → setup_fault_in ts r ≡ None
 setup_faultless ts (Reads other) table is few =
-    let same : other ≡ table = same_Some other table is in
+    let same : other ≡ table = reads_is other table is in
     ap (λ b. if b then None else Some TooManyTables) (ap (λ t. are_few (setup_tables t)) same ∙ le-leb (length (setup_tables table)) 4 few)
 setup_faultless ts (Stops kind left) table is few = absurd cc
 
@@ -62,18 +60,18 @@ setup_faultless ts (Stops kind left) table is few = absurd cc
 pub no_commands_fault : (names : List (List ℕ)) (room : ℕ) (ts : List Token)
     → (commands_fault names room ts ≡ None) ↔ ((cs : List Command) × IsCommands ts cs × (length cs ≤ room) × (length (with_commands names cs) ≤ 4))
 no_commands_fault names room ts = (
-  λ none. let v = commands_valued names ts (commands_read room ts) none in let t = commands_take room ts v.0 (commands_same room ts ∙ v.1) in (v.0, t.0, t.1, v.2),
-  λ s. commands_faultless names ts (commands_read room ts) s.0 (sym (commands_same room ts) ∙ commands_again s.1 room s.2) s.3,
+  λ none. let v = commands_valued names ts (commands_read room ts) none in let t = commands_take room ts v.0 v.1 in (v.0, t.0, t.1, v.2),
+  λ s. commands_faultless names ts (commands_read room ts) s.0 (commands_again s.1 room s.2) s.3,
 )
 
 pub no_setup_fault : (ts : List Token) → (setup_fault ts ≡ None) ↔ ((table : Table) × IsSetup ts table × (length (setup_tables table) ≤ 4))
 no_setup_fault ts = (
-  λ none. let v = setup_valued ts (setup_read ts) none in (v.0, setup_takes ts v.0 (setup_same ts ∙ v.1), v.2),
-  λ s. setup_faultless ts (setup_read ts) s.0 (sym (setup_same ts) ∙ setup_again s.1) s.2,
+  λ none. let v = setup_valued ts (setup_read ts) none in (v.0, setup_takes ts v.0 v.1, v.2),
+  λ s. setup_faultless ts (setup_read ts) s.0 (setup_again s.1) s.2,
 )
 
 pub no_statement_fault : (ts : List Token) → (statement_fault ts ≡ None) ↔ ((s : Statement) × IsWholeStatement ts s)
 no_statement_fault ts = (
-  λ none. let v = valued ts (whole_statement_read ts) none in (v.0, whole_takes ts v.0 (whole_same ts ∙ v.1)),
-  λ s. faultless ts (whole_statement_read ts) s.0 (sym (whole_same ts) ∙ whole_again s.1),
+  λ none. let v = valued ts (whole_statement_read ts) none in (v.0, whole_takes ts v.0 v.1),
+  λ s. faultless ts (whole_statement_read ts) s.0 (whole_again s.1),
 )

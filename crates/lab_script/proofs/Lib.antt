@@ -2,7 +2,6 @@ pub mod Tokens
 pub mod HeldDigits
 pub mod TokenNumbers
 pub mod SameVariants
-pub mod Loops
 pub mod Numbers
 pub mod PrintedTokens
 pub mod ReadNumbers
@@ -11,7 +10,6 @@ pub mod Appended
 mod PutTexts
 pub mod ReadNames
 pub mod ReadRows
-pub mod SetupLoop
 pub mod DistinctRows
 pub mod SetupAgain
 pub mod ReadSetup
@@ -49,17 +47,15 @@ pub mod PrintedSetups
 pub mod PrintedScripts
 pub mod EachElement
 pub mod Wheres
-pub mod LongSetups
-pub mod LongStatements
+mod Readings
+mod FaultKinds
+mod LineKinds
 mod StoppedLoops
 mod StoppedSetups
 mod StoppedCommands
 mod PlacedFaults
 pub mod OneFault
 mod OneStatementFault
-mod SameReadings
-mod ReadingValues
-mod LineValues
 mod GrammarFaults
 pub mod FewTables
 pub mod FewRead

@@ -1,68 +1,68 @@
--- The commands that are read of a line are those of the grammar, and the other way round.
 use Rattle.std.proofs.Common.{◌≡◌, ℕ, zero, suc, ◌+◌, ◌≤◌, ◌<◌, Bool, cond, List, [], ◌∷◌, ◌++◌, length, Option, Some, None, refl, sym, ap, subst, ◌∙◌, append_assoc, append-nil, length-append, arith, inl, inr}
 use Rattle.std.specs.Prelude.{nat_lt}
 use Rattle.std.proofs.lemmas.Bool.{lt-ltb, ltb-true}
-use Rattle.std.proofs.lemmas.Option.{cond_some}
 use Rattle.lab_table.specs.declared.statement.Command.{Command}
 use Rattle.lab_script.specs.declared.token.Word.TheVariants as word
 use Rattle.lab_script.specs.declared.token.Token.{Token}
 use Rattle.lab_script.specs.declared.token.Token.TheVariants as token
-use Rattle.lab_script.specs.declared.refusal.Refusal.{Refusal}
+use Rattle.lab_script.specs.declared.refusal.GrammarFault.TheVariants.{TooLong}
 use Rattle.lab_script.specs.Grammar.{IsCommand, IsCommands}
 use Rattle.lab_script.specs.Grammar as grammar
-use Rattle.lab_script.specs.Reading.{Fails, ◌>>=◌, after}
-use Rattle.lab_script.specs.ReadingStatements.{statement_at, ended_at}
-use Rattle.lab_script.specs.ReadingCommands.{command_at, terminated_at, added, step_at, more_commands, commands_at}
-use Rattle.lab_script.proofs.TokenNumbers.{bind_some, some_is, some}
+use Rattle.lab_script.specs.Stopping.{Reading, Reads, Stops, ◌>>=◌}
+use Rattle.lab_script.specs.FirstFaults.{statement_read, end_read, command_read, terminated_read, one_added, step_read, more_commands_read, commands_read}
+use Rattle.lab_script.proofs.Readings.{bind_reads, cond_reads, reads, reads_is}
 use Rattle.lab_script.proofs.ReadStatements.{Closes, nothing, semicolon, ended_is}
-use Rattle.lab_script.proofs.Loops.{fails_none}
 use Rattle.lab_script.proofs.OneCommand.{listed, command_long, closed_again, closed_takes, closed_short}
+
+-- The commands that are read of a line are those of the grammar, and the other way round.
 
 -- one statement more
 
 -- there is room for the command of a statement
-added_again : (room : ℕ) (before : List Command) (c : Option Command) → length (before ++ listed c) ≤ room → added room before c ≡ Some (before ++ listed c)
-added_again room before None le = ap (λ (cs : List Command). some cs) (sym (append-nil before))
-added_again room before (Some c) le = ap (λ (b : Bool). cond b (some (before ++ c ∷ [])) None) (lt-ltb (length before) room (omega (arith, length-append before (c ∷ []), le)))
+added_again : (room : ℕ) (before : List Command) (c : Option Command) (left : List Token) → length (before ++ listed c) ≤ room → one_added room before c left ≡ Reads (before ++ listed c)
+added_again room before None left le = ap (λ (cs : List Command). reads cs) (sym (append-nil before))
+added_again room before (Some c) left le =
+    ap (λ (b : Bool). cond b (reads (before ++ c ∷ [])) (Stops TooLong left)) (lt-ltb (length before) room (omega (arith, length-append before (c ∷ []), le)))
 
-added_is : (room : ℕ) (before after : List Command) (c : Option Command) → added room before c ≡ Some after → length before ≤ room → (before ++ listed c ≡ after) × (length after ≤ room)
-added_is room before after None e le =
-    let is : before ≡ after = some_is before after e in
+added_is : (room : ℕ) (before after : List Command) (c : Option Command) (left : List Token) → one_added room before c left ≡ Reads after → length before ≤ room
+    → (before ++ listed c ≡ after) × (length after ≤ room)
+added_is room before after None left e le =
+    let is : before ≡ after = reads_is before after e in
     (append-nil before ∙ is, omega (arith, ap length is))
-added_is room before after (Some c) e le =
-    let g = cond_some (nat_lt (length before) room) (before ++ c ∷ []) after e in
+added_is room before after (Some c) left e le =
+    let g = cond_reads (nat_lt (length before) room) (before ++ c ∷ []) after _ _ e in
     let less : length before < room = ltb-true _ _ g.0 in
     (g.1, omega (arith, less, ap length g.1, length-append before (c ∷ [])))
 
-step_again : {ts : List Token} {cs : List Command} → IsCommand ts cs → (end rest : List Token) → Closes end → ended_at end ≡ Some rest → (room : ℕ) (before : List Command)
-    → length (before ++ cs) ≤ room → step_at room before (ts ++ end) ≡ Some (before ++ cs, rest)
-unfolding step_at
+step_again : {ts : List Token} {cs : List Command} → IsCommand ts cs → (end rest : List Token) → Closes end → end_read end ≡ Reads rest → (room : ℕ) (before : List Command)
+    → length (before ++ cs) ≤ room → step_read room before (ts ++ end) ≡ Reads (before ++ cs, rest)
+unfolding step_read
 step_again h end rest closes ended room before le =
     let c = closed_again h end rest closes ended in
     let same = λ (ds : List Command). length (before ++ ds) ≤ room in
-    rw (c.1, added_again room before c.0 (subst same (sym c.2) le), c.2) refl
+    rw (c.1, added_again room before c.0 rest (subst same (sym c.2) le), c.2) refl
 
 -- a statement that is taken, the end behind it, and the commands up to it
 abbrev StepTaken : ℕ → List Command → List Token → List Command × List Token → Type 0
-StepTaken room before ts x = (front end : List Token) × (cs : List Command) × (ts ≡ front ++ end) × IsCommand front cs × (ended_at end ≡ Some x.1) × (before ++ cs ≡ x.0) × (length x.0 ≤ room)
+StepTaken room before ts x = (front end : List Token) × (cs : List Command) × (ts ≡ front ++ end) × IsCommand front cs × (end_read end ≡ Reads x.1) × (before ++ cs ≡ x.0) × (length x.0 ≤ room)
 
-pub step_takes : (room : ℕ) (before : List Command) (ts : List Token) (x : List Command × List Token) → step_at room before ts ≡ Some x → length before ≤ room → StepTaken room before ts x
-unfolding step_at
+pub step_takes : (room : ℕ) (before : List Command) (ts : List Token) (x : List Command × List Token) → step_read room before ts ≡ Reads x → length before ≤ room → StepTaken room before ts x
+unfolding step_read
 step_takes room before ts x e le =
-    let a = bind_some (terminated_at ts) _ x e in
-    let b = bind_some (added room before a.0.0) _ x a.2 in
+    let a = bind_reads (terminated_read ts) _ x e in
+    let b = bind_reads (one_added room before a.0.0 a.0.1) _ x a.2 in
     let c = closed_takes ts a.0 a.1 in
-    let d = added_is room before b.0 a.0.0 b.1 le in
-    subst (StepTaken room before ts) (some_is (b.0, a.0.1) x b.2) (c.0, c.1, listed a.0.0, c.2, c.3, c.4, d.0, d.1)
+    let d = added_is room before b.0 a.0.0 a.0.1 b.1 le in
+    subst (StepTaken room before ts) (reads_is (b.0, a.0.1) x b.2) (c.0, c.1, listed a.0.0, c.2, c.3, c.4, d.0, d.1)
 
-pub step_short : (room : ℕ) (before : List Command) (ts : List Token) (x : List Command × List Token) → step_at room before ts ≡ Some x → length before ≤ room → length x.1 < length ts
+pub step_short : (room : ℕ) (before : List Command) (ts : List Token) (x : List Command × List Token) → step_read room before ts ≡ Reads x → length before ≤ room → length x.1 < length ts
 step_short room before ts x e le = let s = step_takes room before ts x e le in closed_short ts s.0 s.1 s.2 x.1 s.3 s.4 s.5
 
 -- all statements
 
 -- the commands of a line that are read by one statement and those behind it
-abbrev chained : ℕ → ℕ → List Command → List Token → Option (List Command)
-chained k room before ts = step_at room before ts >>= λ s. more_commands s.1 k room s.0
+abbrev chained : ℕ → ℕ → List Command → List Token → Reading (List Command)
+chained k room before ts = step_read room before ts >>= λ s. more_commands_read s.1 k room s.0
 
 commands_long : {ts : List Token} {cs : List Command} → IsCommands ts cs → 1 ≤ length ts
 commands_long (grammar.one h) = command_long h
@@ -70,31 +70,31 @@ commands_long (grammar.closed {ts} h) = omega (arith, length-append ts (token.Se
 commands_long (grammar.more {ts} {rest = others} h hs) = omega (arith, length-append ts (token.Semicolon ∷ others))
 
 -- the statements behind one are read, as soon as they are with any number to spare
-on_again : (others : List Token) (k room : ℕ) (before : List Command) (total : Option (List Command)) → 1 ≤ length others → length others ≤ k
-    → ((j : ℕ) → length others ≤ suc j → chained j room before others ≡ total) → more_commands others k room before ≡ total
-unfolding more_commands
+on_again : (others : List Token) (k room : ℕ) (before : List Command) (total : Reading (List Command)) → 1 ≤ length others → length others ≤ k
+    → ((j : ℕ) → length others ≤ suc j → chained j room before others ≡ total) → more_commands_read others k room before ≡ total
+unfolding more_commands_read
 on_again [] k room before total some le h = absurd (omega (arith, some))
 on_again (t ∷ ts) zero room before total some le h = absurd (omega (arith, le))
 on_again (t ∷ ts) (suc k) room before total some le h = h k (omega (arith, le))
 
 pub chained_again : {ts : List Token} {cs : List Command} → IsCommands ts cs → (k room : ℕ) (before : List Command) → length ts ≤ suc k → length (before ++ cs) ≤ room
-    → chained k room before ts ≡ Some (before ++ cs)
-unfolding more_commands ended_at
+    → chained k room before ts ≡ Reads (before ++ cs)
+unfolding more_commands_read end_read
 chained_again (grammar.one {ts} {cs} h) k room before le fits =
-    subst (λ (us : List Token). chained k room before us ≡ Some (before ++ cs)) (append-nil ts) (rw (step_again h [] [] nothing refl room before fits) refl)
+    subst (λ (us : List Token). chained k room before us ≡ Reads (before ++ cs)) (append-nil ts) (rw (step_again h [] [] nothing refl room before fits) refl)
 chained_again (grammar.closed {ts} {cs} h) k room before le fits = rw (step_again h (token.Semicolon ∷ []) [] (semicolon []) refl room before fits) refl
 chained_again (grammar.more {ts} {rest = others} {cs} {ds} h hs) k room before le fits =
     let all : length ((before ++ cs) ++ ds) ≤ room = subst (λ (es : List Command). length es ≤ room) (sym (append_assoc before cs ds)) fits in
     let first : length (before ++ cs) ≤ room = omega (arith, all, length-append (before ++ cs) ds) in
     let few : length others ≤ k = omega (arith, le, length-append ts (token.Semicolon ∷ others)) in
     rw (step_again h (token.Semicolon ∷ others) others (semicolon others) refl room before first)
-    (on_again others k room (before ++ cs) _ (commands_long hs) few (λ j l. chained_again hs j room (before ++ cs) l all) ∙ ap (λ (es : List Command). some es) (append_assoc before cs ds))
+    (on_again others k room (before ++ cs) _ (commands_long hs) few (λ j l. chained_again hs j room (before ++ cs) l all) ∙ ap (λ (es : List Command). reads es) (append_assoc before cs ds))
 
 -- the commands of a line of the grammar are read, if there is room for them
-pub commands_again : {ts : List Token} {cs : List Command} → IsCommands ts cs → (room : ℕ) → length cs ≤ room → commands_at room ts ≡ Some cs
-unfolding commands_at more_commands ended_at
+pub commands_again : {ts : List Token} {cs : List Command} → IsCommands ts cs → (room : ℕ) → length cs ≤ room → commands_read room ts ≡ Reads cs
+unfolding commands_read more_commands_read end_read
 commands_again (grammar.one {ts} {cs} h) room le =
-    subst (λ (us : List Token). commands_at room us ≡ Some cs) (append-nil ts) (rw (step_again h [] [] nothing refl room [] le) refl)
+    subst (λ (us : List Token). commands_read room us ≡ Reads cs) (append-nil ts) (rw (step_again h [] [] nothing refl room [] le) refl)
 commands_again (grammar.closed {ts} {cs} h) room le = rw (step_again h (token.Semicolon ∷ []) [] (semicolon []) refl room [] le) refl
 commands_again (grammar.more {ts} {rest = others} {cs} {ds} h hs) room le =
     let first : length cs ≤ room = omega (arith, le, length-append cs ds) in
@@ -105,13 +105,13 @@ commands_again (grammar.more {ts} {rest = others} {cs} {ds} h hs) room le =
 abbrev Chained : List Command → List Token → List Command → Type 0
 Chained before ts all = (cs : List Command) × IsCommands ts cs × (before ++ cs ≡ all)
 
-step_last : (ts front end : List Token) (cs : List Command) → ts ≡ front ++ end → IsCommand front cs → ended_at end ≡ Some [] → IsCommands ts cs
+step_last : (ts front end : List Token) (cs : List Command) → ts ≡ front ++ end → IsCommand front cs → end_read end ≡ Reads [] → IsCommands ts cs
 step_last ts front end cs is h e = elim (ended_is end [] e) [
   | inl both ↦ subst (λ (us : List Token). IsCommands us cs) (sym (is ∙ ap (λ (us : List Token). front ++ us) both.0 ∙ append-nil front)) (grammar.one h)
   | inr closed ↦ subst (λ (us : List Token). IsCommands us cs) (sym (is ∙ ap (λ (us : List Token). front ++ us) closed)) (grammar.closed h)
 ]
 
-step_more : (ts front end others : List Token) (t : Token) (cs ds : List Command) → ts ≡ front ++ end → IsCommand front cs → ended_at end ≡ Some (t ∷ others)
+step_more : (ts front end others : List Token) (t : Token) (cs ds : List Command) → ts ≡ front ++ end → IsCommand front cs → end_read end ≡ Reads (t ∷ others)
     → IsCommands (t ∷ others) ds → IsCommands ts (cs ++ ds)
 step_more ts front end others t cs ds is h e hs = elim (ended_is end (t ∷ others) e) [
   | inl both ↦ absurd (cc both.1)
@@ -123,25 +123,25 @@ joined_on : (earlier cs ds before all : List Command) → earlier ++ cs ≡ befo
 joined_on earlier cs ds before all joined on = sym (append_assoc earlier cs ds) ∙ ap (λ (es : List Command). es ++ ds) joined ∙ on
 
 -- the statements behind one that was taken
-on_takes : (k room : ℕ) (before : List Command) (rest : List Token) (all : List Command) → more_commands rest k room before ≡ Some all → length before ≤ room
-    → (ts front end : List Token) (earlier cs : List Command) → ts ≡ front ++ end → IsCommand front cs → ended_at end ≡ Some rest → earlier ++ cs ≡ before
+on_takes : (k room : ℕ) (before : List Command) (rest : List Token) (all : List Command) → more_commands_read rest k room before ≡ Reads all → length before ≤ room
+    → (ts front end : List Token) (earlier cs : List Command) → ts ≡ front ++ end → IsCommand front cs → end_read end ≡ Reads rest → earlier ++ cs ≡ before
     → Chained earlier ts all × (length all ≤ room)
-unfolding more_commands
+unfolding more_commands_read
 on_takes k room before [] all e le ts front end earlier cs is h ended joined =
-    let same : before ≡ all = some_is before all e in
+    let same : before ≡ all = reads_is before all e in
     ((cs, step_last ts front end cs is h ended, joined ∙ same), omega (arith, le, ap length same))
 on_takes zero room before (t ∷ others) all e le ts front end earlier cs is h ended joined = absurd cc
 on_takes (suc k) room before (t ∷ others) all e le ts front end earlier cs is h ended joined =
-    let a = bind_some (step_at room before (t ∷ others)) _ all e in
+    let a = bind_reads (step_read room before (t ∷ others)) _ all e in
     let s = step_takes room before (t ∷ others) a.0 a.1 le in
     let m = on_takes k room a.0.0 a.0.1 all a.2 s.7 (t ∷ others) s.0 s.1 before s.2 s.3 s.4 s.5 s.6 in
     ((cs ++ m.0.0, step_more ts front end others t cs m.0.0 is h ended m.0.1, joined_on earlier cs m.0.0 before all joined m.0.2), m.1)
 
 -- what is read of a line is its commands in the grammar, and there is room for them
-pub commands_take : (room : ℕ) (ts : List Token) (cs : List Command) → commands_at room ts ≡ Some cs → IsCommands ts cs × (length cs ≤ room)
-unfolding commands_at
+pub commands_take : (room : ℕ) (ts : List Token) (cs : List Command) → commands_read room ts ≡ Reads cs → IsCommands ts cs × (length cs ≤ room)
+unfolding commands_read
 commands_take room ts cs e =
-    let a = bind_some (step_at room [] ts) _ cs e in
+    let a = bind_reads (step_read room [] ts) _ cs e in
     let s = step_takes room [] ts a.0 a.1 (omega arith) in
     let m = on_takes (length a.0.1) room a.0.0 a.0.1 cs a.2 s.7 ts s.0 s.1 [] s.2 s.3 s.4 s.5 s.6 in
     (subst (IsCommands ts) m.0.2 m.0.1, m.1)
@@ -150,7 +150,7 @@ commands_take room ts cs e =
 pub commands_once : {ts : List Token} {cs ds : List Command} → IsCommands ts cs → IsCommands ts ds → cs ≡ ds
 commands_once {ts} {cs} {ds} h i =
     let room = length cs + length ds in
-    some_is cs ds (sym (commands_again h room (omega arith)) ∙ commands_again i room (omega arith))
+    reads_is cs ds (sym (commands_again h room (omega arith)) ∙ commands_again i room (omega arith))
 
 -- nothing is no statement
 pub not_empty : {cs : List Command} → IsCommands [] cs → ⊥
@@ -158,42 +158,9 @@ not_empty h = let long : 1 ≤ 0 = commands_long h in omega (arith, long)
 
 -- a statement doesn't begin as the setup
 pub no_setup : {ts : List Token} {cs : List Command} → IsCommands (token.Word word.Setup ∷ ts) cs → ⊥
-unfolding commands_at step_at terminated_at command_at statement_at
-no_setup {ts} {cs} h = let read : commands_at (length cs) (token.Word word.Setup ∷ ts) ≡ Some cs = commands_again h (length cs) (omega arith) in absurd (cc read)
-
--- the loop over the statements of a line
-
-pub steps_on : (k room : ℕ) (before after : List Command) (ts rest : List Token) (total : Option (List Command)) → 1 ≤ length ts → length ts ≤ k → length before ≤ room
-    → more_commands ts k room before ≡ total
-    → step_at room before ts ≡ Some (after, rest) → (j : ℕ) × (length rest ≤ j) × (more_commands rest j room after ≡ total)
-unfolding more_commands
-steps_on k room before after [] rest total some le fits so_far read = absurd (omega (arith, some))
-steps_on zero room before after (t ∷ ts) rest total some le fits so_far read = absurd (omega (arith, le))
-steps_on (suc k) room before after (t ∷ ts) rest total some le fits so_far read =
-    let less : length rest < length (t ∷ ts) = step_short room before (t ∷ ts) (after, rest) read fits in
-    (k, omega (arith, le, less), sym (rw read refl) ∙ so_far)
-
-pub step_fails : (k room : ℕ) (before : List Command) (e : Refusal) (ts : List Token) (total : Option (List Command)) → 1 ≤ length ts → length ts ≤ k → more_commands ts k room before ≡ total
-    → Fails e (step_at room before ts) → Fails e total
-unfolding more_commands
-step_fails k room before e [] total some le so_far fails = absurd (omega (arith, some))
-step_fails zero room before e (t ∷ ts) total some le so_far fails = absurd (omega (arith, le))
-step_fails (suc k) room before e (t ∷ ts) total some le so_far fails = fails_none e (step_at room before (t ∷ ts)) fails total (λ n. sym so_far ∙ rw n refl)
-
-pub steps_end : (k room : ℕ) (before : List Command) (ts : List Token) (total : Option (List Command)) → length ts ≡ 0 → more_commands ts k room before ≡ total → total ≡ Some before
-unfolding more_commands
-steps_end k room before [] total none so_far = sym so_far
-steps_end k room before (t ∷ ts) total none so_far = absurd (omega (arith, none))
-
--- the first statement
-pub steps_start : (room : ℕ) (none after : List Command) (ts rest : List Token) → none ≡ [] → step_at room none ts ≡ Some (after, rest)
-    → (length after ≤ room) × (more_commands rest (length rest) room after ≡ commands_at room ts)
-unfolding commands_at
-steps_start room none after ts rest is read =
-    let first : step_at room [] ts ≡ Some (after, rest) = subst (λ (cs : List Command). step_at room cs ts ≡ Some (after, rest)) is read in
-    let s = step_takes room [] ts (after, rest) first (omega arith) in
-    (s.7, rw first refl)
+unfolding commands_read step_read terminated_read command_read statement_read
+no_setup {ts} {cs} h = let read : commands_read (length cs) (token.Word word.Setup ∷ ts) ≡ Reads cs = commands_again h (length cs) (omega arith) in absurd (cc read)
 
 -- a statement adds no more than there is room for
-pub step_fits : (room : ℕ) (before after : List Command) (ts rest : List Token) → step_at room before ts ≡ Some (after, rest) → length before ≤ room → length after ≤ room
+pub step_fits : (room : ℕ) (before after : List Command) (ts rest : List Token) → step_read room before ts ≡ Reads (after, rest) → length before ≤ room → length after ≤ room
 step_fits room before after ts rest read le = let s = step_takes room before ts (after, rest) read le in s.7

@@ -1,5 +1,4 @@
--- Setups of the grammar are read as their table.
-use Rattle.std.proofs.Common.{◌≡◌, ℕ, zero, suc, ◌+◌, ◌<◌, ℤ, true, List, [], ◌∷◌, ◌++◌, length, Some, None, refl, sym, ap, subst, ◌∙◌, append_assoc, arith}
+use Rattle.std.proofs.Common.{◌≡◌, ℕ, zero, suc, ◌+◌, ◌<◌, ◌≤◌, ℤ, List, [], ◌∷◌, ◌++◌, length, None, refl, sym, ap, subst, ◌∙◌, append_assoc, arith}
 use Rattle.std.specs.FinMap.{find}
 use Rattle.std.proofs.lemmas.Bool.{le-leb}
 use Rattle.std.proofs.lemmas.List.{length-append}
@@ -10,35 +9,37 @@ use Rattle.lab_script.specs.declared.token.Token.TheVariants as token
 use Rattle.lab_script.specs.Grammar.{IsId, IsRow, IsNamedRow, IsRows, IsRowList, IsEnd, IsSetup, AllDistinct}
 use Rattle.lab_script.specs.Grammar as grammar
 use Rattle.lab_script.specs.Printed.{printed_setup}
-use Rattle.lab_script.specs.Reading.{after, is_end}
-use Rattle.lab_script.specs.ReadingSetup.{row_onto, rows_onto, rows_at, no_rows_at, table_at, setup_at}
+use Rattle.lab_script.specs.Reading.{after}
+use Rattle.lab_script.specs.Stopping.{Reads}
+use Rattle.lab_script.specs.FirstFaults.{row_onto_read, rows_onto_read, rows_read, no_rows_at, table_read, setup_end_read, setup_read}
 use Rattle.lab_script.proofs.ReadRows.{parts_of, named_row_again}
-use Rattle.lab_script.proofs.SetupLoop.{behind_row}
 use Rattle.lab_script.proofs.DistinctRows.{not_before, is_absent, pushed_table, table_of}
 use Rattle.lab_script.proofs.AtomParts.{no_close}
+
+-- Setups of the grammar are read as their table.
 
 -- what is in the grammar is read
 
 -- a row of the grammar is added to those before it, whatever follows it
 row_onto_again : {ts : List Token} {id : Row} {value : ℤ} → IsNamedRow ts id value → (before : List (Row × ℤ)) → find row_cmp id before ≡ None → (rest : List Token)
-    → row_onto (table_of before) (ts ++ rest) ≡ Some (table_of (before ++ (id, value) ∷ []), rest)
-unfolding row_onto
+    → row_onto_read (table_of before) (ts ++ rest) ≡ Reads (table_of (before ++ (id, value) ∷ []), rest)
+unfolding row_onto_read
 row_onto_again {ts} {id} {value} h before none rest =
-    rw (row_onto, named_row_again h rest, is_absent before id none) (ap (λ (t : Table). Some (t, rest)) (sym (pushed_table before (id, value) none)))
+    rw (row_onto_read, named_row_again h rest, is_absent before id none) (ap (λ (t : Table). Reads (t, rest)) (sym (pushed_table before (id, value) none)))
 
 -- rows of the grammar are added to those before them, where no row comes twice
 rows_again : {ts : List Token} {rows : List (Row × ℤ)} → IsRows ts rows → (before : List (Row × ℤ)) → AllDistinct (before ++ rows) → (end : List Token) → after token.Comma end ≡ None
-    → (k : ℕ) → length (ts ++ end) < k → rows_onto k (table_of before) (ts ++ end) ≡ Some (table_of (before ++ rows), end)
-unfolding rows_onto
+    → (k : ℕ) → length (ts ++ end) < k → rows_onto_read k (table_of before) (ts ++ end) ≡ Reads (table_of (before ++ rows), end)
+unfolding rows_onto_read
 rows_again h before all end none zero lt = absurd (omega (arith, lt))
 rows_again (grammar.last {ts} {row} {value} h) before all end none (suc k) lt =
-    rw (rows_onto, row_onto_again h before (not_before before [] (row, value) all) end) (ap (behind_row k (table_of (before ++ (row, value) ∷ [])) end) none)
+    rw (rows_onto_read, row_onto_again h before (not_before before [] (row, value) all) end, none) refl
 rows_again (grammar.more {ts} {rest} {row} {value} {rows} h hs) before all end none (suc k) lt =
     let text : ts ++ token.Comma ∷ rest ++ end ≡ ts ++ (token.Comma ∷ (rest ++ end)) = append_assoc ts (token.Comma ∷ rest) end in
     let listed : before ++ (row, value) ∷ rows ≡ before ++ (row, value) ∷ [] ++ rows = sym (append_assoc before ((row, value) ∷ []) rows) in
     let long : length (ts ++ token.Comma ∷ rest ++ end) ≡ length ts + suc (length (rest ++ end)) = ap length text ∙ length-append ts (token.Comma ∷ (rest ++ end)) in
     let next = rows_again hs (before ++ (row, value) ∷ []) (subst AllDistinct listed all) end none k (omega (arith, lt, long)) in
-    rw (text, rows_onto, row_onto_again h before (not_before before rows (row, value) all) (token.Comma ∷ (rest ++ end))) (next ∙ ap (λ (l : List (Row × ℤ)). Some (table_of l, end)) (sym listed))
+    rw (text, rows_onto_read, row_onto_again h before (not_before before rows (row, value) all) (token.Comma ∷ (rest ++ end))) (next ∙ ap (λ (l : List (Row × ℤ)). Reads (table_of l, end)) (sym listed))
 
 id_no_close : {ts : List Token} {id : ℕ} → IsId ts id → (rest : List Token) → after token.Close (ts ++ rest) ≡ None
 id_no_close (grammar.named id number low high) rest = no_close number rest
@@ -62,16 +63,17 @@ no_comma _ grammar.open_end = refl
 no_comma _ grammar.semicolon = refl
 
 -- the rows of a setup are read as their table
-table_again : {ts : List Token} {rows : List (Row × ℤ)} → IsRowList ts rows → AllDistinct rows → (end : List Token) → IsEnd end → table_at (ts ++ end) ≡ Some (table_of rows, end)
-unfolding table_at rows_at no_rows_at
+table_again : {ts : List Token} {rows : List (Row × ℤ)} → IsRowList ts rows → AllDistinct rows → (end : List Token) → IsEnd end → table_read (ts ++ end) ≡ Reads (table_of rows, end)
+unfolding table_read rows_read no_rows_at
 table_again grammar.none all end e = refl
-table_again (grammar.some {ts} {rows} h) all end e = rw (table_at, rows_shown h end) (rows_again h [] all end (no_comma end e) (suc (length (ts ++ end))) (omega arith))
+table_again (grammar.some {ts} {rows} h) all end e = rw (table_read, rows_shown h end) (rows_again h [] all end (no_comma end e) (suc (length (ts ++ end))) (omega arith))
 
-end_again : (end : List Token) → IsEnd end → is_end end ≡ true
-end_again _ grammar.open_end = refl
-end_again _ grammar.semicolon = refl
+end_again : (table : Table) (end : List Token) → IsEnd end → length (printed_setup table) ≤ 4000 → setup_end_read table end ≡ Reads tt
+unfolding setup_end_read
+end_again table _ grammar.open_end short = rw (le-leb (length (printed_setup table)) 4000 short) refl
+end_again table _ grammar.semicolon short = rw (le-leb (length (printed_setup table)) 4000 short) refl
 
 -- a setup of the grammar is read as its table
-pub setup_again : {ts : List Token} {table : Table} → IsSetup ts table → setup_at ts ≡ Some table
-unfolding setup_at
-setup_again (grammar.setup {ts} {end} {rows} h all e short) = rw (table_again h all end e, end_again end e, le-leb (length (printed_setup (table_of rows))) 4000 short) refl
+pub setup_again : {ts : List Token} {table : Table} → IsSetup ts table → setup_read ts ≡ Reads table
+unfolding setup_read
+setup_again (grammar.setup {ts} {end} {rows} h all e short) = rw (table_again h all end e, end_again (table_of rows) end e short) refl

@@ -11,10 +11,12 @@ use Rattle.lab_script.specs.Token.{tokens}
 use Rattle.lab_script.specs.Printed.{printed_statement}
 use Rattle.lab_script.specs.Limits.{StatementPrints}
 use Rattle.lab_script.specs.Ranges.{StatementInRange}
-use Rattle.lab_script.specs.ReadingStatements.{whole_statement_at}
+use Rattle.lab_script.specs.Stopping.{read_value}
+use Rattle.lab_script.specs.FirstFaults.{whole_statement_read}
 use Rattle.lab_script.specs.Script.{code_of, is_code_byte, SpellsStatement}
 use Rattle.lab_script.specs.StatementText.{is_code_alone, statement_in}
 use Rattle.lab_script.proofs.TokenNumbers.{some_is}
+use Rattle.lab_script.proofs.Readings.{valued}
 use Rattle.lab_script.proofs.ReadStatements.{whole_again, whole_takes}
 use Rattle.lab_script.proofs.StatementText.{all_code}
 use Rattle.lab_script.proofs.PrintedStatements.{statement_spells}
@@ -38,18 +40,18 @@ spelled_alone text s h =
 pub spells_in : (text : List ℕ) (s : Statement) → SpellsStatement text s → statement_in text ≡ Some s
 unfolding statement_in
 spells_in text s h =
-    ap (λ (b : Bool). cond b (whole_statement_at (tokens text)) None) (spelled_alone text s h)
-    ∙ whole_again (record { parts = h.parts; printed = h.printed })
+    ap (λ (b : Bool). cond b (read_value (whole_statement_read (tokens text))) None) (spelled_alone text s h)
+    ∙ ap read_value (whole_again (record { parts = h.parts; printed = h.printed }))
 
 -- what is read from a text it spells
 pub in_spells : (text : List ℕ) (s : Statement) → statement_in text ≡ Some s → SpellsStatement text s
 unfolding statement_in
 in_spells text s read =
-    let found = under_condition (is_code_alone text) (whole_statement_at (tokens text)) s read in
+    let found = under_condition (is_code_alone text) (read_value (whole_statement_read (tokens text))) s read in
     let short = and_parts (nat_le (length text) 4000) _ found.0 in
     let code = and_parts (list_all is_code_byte text) _ short.1 in
     let len : length (code_of text) ≡ length text = eqb-true _ _ code.1 in
-    let whole = whole_takes (tokens text) s found.1 in
+    let whole = whole_takes (tokens text) s (valued (whole_statement_read (tokens text)) s found.1) in
     record {
       bytes = leb-true _ _ short.0;
       ascii = code.0;

@@ -1,20 +1,20 @@
 -- Statements of a line, read by a loop that may stop at a fault.
-use Rattle.std.proofs.Common.{◌≡◌, ℕ, zero, suc, ◌≤◌, ◌<◌, List, [], ◌∷◌, length, Some, refl, sym, subst, ◌∙◌, arith}
+use Rattle.std.proofs.Common.{◌≡◌, ℕ, zero, suc, ◌≤◌, ◌<◌, List, [], ◌∷◌, length, refl, sym, subst, ◌∙◌, arith}
 use Rattle.lab_table.specs.declared.statement.Command.{Command}
 use Rattle.lab_script.specs.declared.token.Token.{Token}
 use Rattle.lab_script.specs.declared.refusal.Refusal.{Refusal}
-use Rattle.lab_script.specs.ReadingCommands.{step_at}
 use Rattle.lab_script.specs.Stopping.{Reading, Reads, StopsAt}
 use Rattle.lab_script.specs.FirstFaults.{step_read, more_commands_read, commands_read}
-use Rattle.lab_script.proofs.ReadCommands.{step_short}
-use Rattle.lab_script.proofs.StoppedLoops.{stops_as}
+use Rattle.lab_script.proofs.ReadCommands.{step_fits, step_short}
+use Rattle.lab_script.proofs.Readings.{stops_as}
 
 -- the first statement
-pub steps_start : (room : ℕ) (none after : List Command) (ts rest : List Token) → none ≡ [] → step_read room none ts ≡ Reads (after, rest) → more_commands_read rest (length rest) room after ≡ commands_read room ts
+pub steps_start : (room : ℕ) (none after : List Command) (ts rest : List Token) → none ≡ [] → step_read room none ts ≡ Reads (after, rest)
+    → (length after ≤ room) × (more_commands_read rest (length rest) room after ≡ commands_read room ts)
 unfolding commands_read
 steps_start room none after ts rest is read =
     let first : step_read room [] ts ≡ Reads (after, rest) = subst (λ (cs : List Command). step_read room cs ts ≡ Reads (after, rest)) is read in
-    rw first refl
+    (step_fits room [] after ts rest first (omega arith), rw first refl)
 
 pub start_stops : (room : ℕ) (none : List Command) (e : Refusal) (ts left : List Token) → none ≡ [] → StopsAt e left (step_read room none ts) → StopsAt e left (commands_read room ts)
 unfolding commands_read
@@ -23,13 +23,13 @@ start_stops room none e ts left is stops =
 
 -- a statement more, which takes a token at least
 pub steps_on : (k room : ℕ) (before after : List Command) (ts rest : List Token) (total : Reading (List Command)) → 1 ≤ length ts → length ts ≤ k → length before ≤ room
-    → more_commands_read ts k room before ≡ total → step_at room before ts ≡ Some (after, rest) → step_read room before ts ≡ Reads (after, rest)
+    → more_commands_read ts k room before ≡ total → step_read room before ts ≡ Reads (after, rest)
     → (j : ℕ) × (length rest ≤ j) × (more_commands_read rest j room after ≡ total)
 unfolding more_commands_read
-steps_on k room before after [] rest total some le fits so_far taken read = absurd (omega (arith, some))
-steps_on zero room before after (t ∷ ts) rest total some le fits so_far taken read = absurd (omega (arith, le))
-steps_on (suc k) room before after (t ∷ ts) rest total some le fits so_far taken read =
-    let less : length rest < length (t ∷ ts) = step_short room before (t ∷ ts) (after, rest) taken fits in
+steps_on k room before after [] rest total some le fits so_far read = absurd (omega (arith, some))
+steps_on zero room before after (t ∷ ts) rest total some le fits so_far read = absurd (omega (arith, le))
+steps_on (suc k) room before after (t ∷ ts) rest total some le fits so_far read =
+    let less : length rest < length (t ∷ ts) = step_short room before (t ∷ ts) (after, rest) read fits in
     (k, omega (arith, le, less), sym (rw read refl) ∙ so_far)
 
 -- where a statement stops, the line does

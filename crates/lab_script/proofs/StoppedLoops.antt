@@ -2,20 +2,13 @@
 use Rattle.std.proofs.Common.{◌≡◌, ℕ, zero, suc, ◌≤◌, ◌<◌, List, length, Some, None, refl, sym, ◌∙◌, subst, arith}
 use Rattle.lab_table.specs.Predicate.{Predicate}
 use Rattle.lab_script.specs.declared.token.Token.{Token}
-use Rattle.lab_script.specs.declared.refusal.GrammarFault.{GrammarFault}
 use Rattle.lab_script.specs.declared.refusal.Refusal.{Refusal}
-use Rattle.lab_script.specs.declared.refusal.Refusal.TheVariants as refusal
 use Rattle.lab_script.specs.Reading.{after}
-use Rattle.lab_script.specs.Stopping.{Reading, Reads, Stops, StopsAt, more_read, joined_read}
-use Rattle.lab_script.proofs.TokenNumbers.{some}
+use Rattle.lab_script.specs.Stopping.{Reading, Reads, StopsAt, more_read, joined_read}
+use Rattle.lab_script.proofs.Readings.{stops_as}
 
 abbrev pub Reader : Type 0 → Type 0
 Reader X = List Token → Reading (X × List Token)
-
--- what stops wherever a reading does stops as that reading does
-pub stops_as : {A B : Type 0} (e : Refusal) (left : List Token) (r : Reading A) → StopsAt e left r → (s : Reading B) → ((kind : GrammarFault) → r ≡ Stops kind left → s ≡ Stops kind left) → StopsAt e left s
-stops_as refusal.NoMemory left r h s f = tt
-stops_as (refusal.Fault kind) left r h s f = f kind h
 
 module _ {A X : Type 0} (member : Reader X) (connective : Token) (join : A → X → A) where
   -- one member more
@@ -28,11 +21,10 @@ module _ {A X : Type 0} (member : Reader X) (connective : Token) (join : A → X
 
   -- the same, where the joined value has a name
   pub goes_on_to : (k : ℕ) (a : A) (x : X) (b : A) (ts rest behind : List Token) (total : Reading (A × List Token)) → length ts ≤ k → more_read k member connective join a ts ≡ total
-      → after connective ts ≡ Some rest → length rest < length ts → member rest ≡ Reads (x, behind) → length behind ≤ length rest → some (join a x) ≡ some b
+      → after connective ts ≡ Some rest → length rest < length ts → member rest ≡ Reads (x, behind) → length behind ≤ length rest → join a x ≡ b
       → (j : ℕ) × (length behind ≤ j) × (more_read j member connective join b behind ≡ total)
   goes_on_to k a x b ts rest behind total le so_far took lt read shorter made =
-      let same : join a x ≡ b = cc in
-      subst (λ (c : A). (j : ℕ) × (length behind ≤ j) × (more_read j member connective join c behind ≡ total)) same (goes_on k a x ts rest behind total le so_far took lt read shorter)
+      subst (λ (c : A). (j : ℕ) × (length behind ≤ j) × (more_read j member connective join c behind ≡ total)) made (goes_on k a x ts rest behind total le so_far took lt read shorter)
 
   -- a connective with no member behind it
   pub next_stops : (k : ℕ) (a : A) (e : Refusal) (ts rest left : List Token) (total : Reading (A × List Token)) → length ts ≤ k → more_read k member connective join a ts ≡ total

@@ -7,7 +7,7 @@ use Rattle.lab_script.specs.declared.refusal.Refusal.{Refusal}
 use Rattle.lab_script.specs.Reading.{after}
 use Rattle.lab_script.specs.Stopping.{Reading, Reads, StopsAt}
 use Rattle.lab_script.specs.FirstFaults.{row_onto_read, rows_onto_read}
-use Rattle.lab_script.proofs.StoppedLoops.{stops_as}
+use Rattle.lab_script.proofs.Readings.{stops_as}
 
 abbrev pub Read : Type 0
 Read = Reading (Table × List Token)

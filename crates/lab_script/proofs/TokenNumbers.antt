@@ -9,7 +9,7 @@ use Rattle.lab_script.specs.declared.token.Token.{Token}
 use Rattle.lab_script.specs.contracts.token.Word as word
 use Rattle.lab_script.specs.contracts.token.WordPartialEq.TheImpl as words
 use Rattle.lab_script.specs.contracts.token.Token as token
-use Rattle.lab_script.specs.Reading.{is_token, when, after, ◌>>=◌}
+use Rattle.lab_script.specs.Reading.{is_token, after}
 use Rattle.lab_script.proofs.SameVariants.{same_variant}
 
 -- words and tokens that their tests find the same are the same
@@ -42,10 +42,6 @@ after_is t (u ∷ us) rest e =
       | inr isnt ↦ absurd (none_is rest (sym (ap (λ (b : Bool). cond b (Some us) None) isnt) ∙ e))
     ]
 
-pub bind_some : {A B : Type 0} (r : Option A) (f : A → Option B) (y : B) → (r >>= f) ≡ Some y → (x : A) × (r ≡ Some x) × (f x ≡ Some y)
-bind_some (Some x) f y e = (x, refl, e)
-bind_some None f y e = absurd cc
-
 -- a test that says what another says
 pub same_test : (b : Bool) (m n : ℕ) → (b ≡ true → m ≤ n) → (m ≤ n → b ≡ true) → nat_le m n ≡ b
 same_test true m n there back = le-leb m n (there refl)
@@ -53,15 +49,6 @@ same_test false m n there back = elim (cases_Bool (nat_le m n)) [
   | inl is ↦ absurd (false≢true (back (leb-true m n is)))
   | inr isnt ↦ isnt
 ]
-
--- what is read where a token may be found was read behind it or in its place
-pub when_takes : {X R : Type 0} (t : Token) (ts : List Token) (found : List Token → Option X) (other : Option X) (x : X) → when (after t ts) found other ≡ Some x
-    → ((rest : List Token) → ts ≡ t ∷ rest → found rest ≡ Some x → R) → (after t ts ≡ None → other ≡ Some x → R) → R
-when_takes {X} {R} t ts found other x e behind instead = choose (after t ts) refl e
-  where
-    choose : (o : Option (List Token)) → after t ts ≡ o → when o found other ≡ Some x → R
-    choose (Some rest) is h = behind rest (after_is t ts rest is) h
-    choose None is h = instead is h
 
 -- a test for zero that fails
 pub some_left : (b : Bool) (n : ℕ) → b ≡ (n == 0) → b ≡ false → 1 ≤ n

@@ -1,5 +1,5 @@
 -- The first fault of a line's tokens from the left, and of a statement's.
-use Rattle.std.specs.Prelude.{◌≡◌, ℕ, zero, suc, ◌-◌, false, nat_le, nat_lt, ◌==◌, length, take, drop, if◌then◌else◌, List, [], ◌∷◌, ◌++◌, Option, Some, None, Result, Ok, Err}
+use Rattle.std.specs.Prelude.{◌≡◌, ℕ, zero, suc, ◌-◌, Bool, true, false, nat_le, nat_lt, ◌==◌, length, take, drop, if◌then◌else◌, List, [], ◌∷◌, ◌++◌, Option, Some, None, Result, Ok, Err}
 use Rattle.std.specs.FinMap as map
 use Rattle.std.specs.List.{prefix_len}
 use Rattle.lab_table.specs.Table.{Table}
@@ -21,8 +21,6 @@ use Rattle.lab_script.specs.Grammar.{over}
 use Rattle.lab_script.specs.Limits.{max_line_bytes, max_statement_bytes}
 use Rattle.lab_script.specs.Printed.{printed_setup, printed_statement}
 use Rattle.lab_script.specs.Reading.{is_token, after}
-use Rattle.lab_script.specs.ReadingCommands.{is_word, is_short}
-use Rattle.lab_script.specs.ReadingSetup.{no_rows_at}
 use Rattle.lab_script.specs.Stopping.{Reading, Reads, Stops, ◌>>=◌, if_found, token_read, tokens_read, name_read, number_read, named_row_read, row_read, where_read}
 use Rattle.lab_script.specs.Stops.{in_predicate}
 use Rattle.lab_script.specs.Tables.{are_few, with_commands, setup_tables}
@@ -99,6 +97,11 @@ whole_statement_read ts = do
     end ← nothing_read rest
     Reads s.0) else Stops TooLong rest
 
+-- whether a token is a word
+abbrev pub is_word : Token → Bool
+is_word (token.Word w) = true
+is_word t = false
+
 -- words, at least one
 unfoldable pub words_read : List Token → Reading (List Token)
 words_read [] = Stops UnknownStatement []
@@ -121,6 +124,11 @@ command_read ts = if_found (after (token.Word word.Begin) ts) (λ rest. Reads (S
       Reads (None, behind)) (do
         s ← statement_read ts
         Reads (Some (command.Run s.0), s.1))))))
+
+-- whether the printed form of a command is as short as it must be
+abbrev pub is_short : Option Command → Bool
+is_short (Some (command.Run s)) = nat_le (length (printed_statement s)) max_statement_bytes
+is_short c = true
 
 -- a statement of a line with its end, at which it stops where it is over its limit
 unfoldable pub terminated_read : List Token → Reading (Option Command × List Token)
@@ -171,6 +179,10 @@ rows_onto_read (suc k) table ts = do
 -- one row or more
 unfoldable pub rows_read : List Token → Reading (Table × List Token)
 rows_read ts = rows_onto_read (suc (length ts)) map.empty ts
+
+-- the parentheses that stand for no row
+unfoldable pub no_rows_at : List Token → Option (List Token)
+no_rows_at ts = if_found (after token.Open ts) (λ rest. after token.Close rest) None
 
 -- no row, or rows
 unfoldable pub table_read : List Token → Reading (Table × List Token)

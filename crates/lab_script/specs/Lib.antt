@@ -13,12 +13,7 @@ pub mod Reading
 pub mod Stops
 pub mod TranscriptView
 pub mod Transcript
-pub mod ReadingRows
-pub mod ReadingSetup
-pub mod ReadingPredicates
-pub mod ReadingStatements
 pub mod StatementText
-pub mod ReadingCommands
 pub mod Stopping
 pub mod FirstFaults
 pub mod Tables

@@ -5,7 +5,8 @@ use Rattle.lab_table.specs.declared.statement.Statement.{Statement}
 use Rattle.lab_script.specs.Token.{tokens}
 use Rattle.lab_script.specs.Limits.{max_line_bytes}
 use Rattle.lab_script.specs.Script.{code_of, is_code_byte}
-use Rattle.lab_script.specs.ReadingStatements.{whole_statement_at}
+use Rattle.lab_script.specs.Stopping.{read_value}
+use Rattle.lab_script.specs.FirstFaults.{whole_statement_read}
 
 -- whether a text is code without a remark, and no longer than a line may be
 abbrev pub is_code_alone : List ℕ → Bool
@@ -13,4 +14,4 @@ is_code_alone text = nat_le (length text) max_line_bytes && (list_all is_code_by
 
 -- the statement that a text spells, if it spells one
 unfoldable pub statement_in : List ℕ → Option Statement
-statement_in text = if is_code_alone text then whole_statement_at (tokens text) else None
+statement_in text = if is_code_alone text then read_value (whole_statement_read (tokens text)) else None

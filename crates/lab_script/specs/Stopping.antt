@@ -1,5 +1,5 @@
 -- Reading tokens from left to right: what is read, or the first fault and the tokens that are left where it stands.
-use Rattle.std.specs.Prelude.{◌≡◌, ℕ, zero, suc, ℤ, pos, ◌-ℤ◌, ◌&&◌, nat_le, length, if◌then◌else◌, List, [], ◌∷◌, Option, Some, None, Result, Ok, Err}
+use Rattle.std.specs.Prelude.{◌≡◌, ℕ, zero, suc, ℤ, pos, ◌-ℤ◌, ◌&&◌, nat_le, length, if◌then◌else◌, List, [], ◌∷◌, ◌++◌, Option, Some, None, Result, Ok, Err}
 use Rattle.lab_table.specs.Predicate.{Predicate}
 use Rattle.lab_table.specs.Predicate as predicate
 use Rattle.lab_table.specs.Row.{Row, numbered}
@@ -7,6 +7,7 @@ use Rattle.lab_table.specs.TableName.{test_name}
 use Rattle.lab_table.specs.declared.predicate.Col.{Col}
 use Rattle.lab_table.specs.declared.predicate.Col.TheVariants as col
 use Rattle.lab_table.specs.declared.predicate.Cmp.{Cmp}
+use Rattle.lab_table.specs.declared.predicate.Cmp.TheVariants as cmp
 use Rattle.lab_script.specs.declared.token.Word.{Word}
 use Rattle.lab_script.specs.declared.token.Word.TheVariants as word
 use Rattle.lab_script.specs.declared.token.Token.{Token}
@@ -17,12 +18,16 @@ use Rattle.lab_script.specs.declared.refusal.Refusal.{Refusal}
 use Rattle.lab_script.specs.declared.refusal.Refusal.TheVariants as refusal
 use Rattle.lab_script.specs.Limits.{max_depth}
 use Rattle.lab_script.specs.Reading.{after}
-use Rattle.lab_script.specs.ReadingPredicates.{cmp_of, one_more}
 
 -- what reading comes to
 pub data Reading (X : Type 0) : Type 0 where
   Reads : X → Reading X
   Stops : GrammarFault → List Token → Reading X
+
+-- what is read, if reading doesn't stop
+abbrev pub read_value : {X : Type 0} → Reading X → Option X
+read_value (Reads x) = Some x
+read_value (Stops kind left) = None
 
 -- what is read behind what was read
 infixl 10 ◌>>=◌
@@ -141,7 +146,17 @@ col_read ts = if_found (after (token.Word word.Id) ts) (λ rest. Reads (col.Id, 
   rest ← token_read (token.Word word.Value) ts
   Reads (col.Value, rest))
 
--- the comparison that a token is, if it is one
+-- the comparison that a token is
+abbrev pub cmp_of : Token → Option Cmp
+cmp_of token.Equal = Some cmp.Eq
+cmp_of token.Unequal = Some cmp.Ne
+cmp_of token.Less = Some cmp.Lt
+cmp_of token.AtMost = Some cmp.Le
+cmp_of token.Greater = Some cmp.Gt
+cmp_of token.AtLeast = Some cmp.Ge
+cmp_of t = None
+
+-- the same at the front
 abbrev pub cmp_in : Option Cmp → Token → List Token → Reading (Cmp × List Token)
 cmp_in (Some m) t ts = Reads (m, ts)
 cmp_in None t ts = Stops UnknownStatement (t ∷ ts)
@@ -158,6 +173,10 @@ modulus_read ts = if_found (after token.Minus ts) (λ rest. do
   Stops NumberOutOfRange n.1) (do
     n ← digits_read ts
     if nat_le 1 n.0 && nat_le n.0 1000000 then Reads n else Stops NumberOutOfRange n.1)
+
+-- a list with one more number
+abbrev pub one_more : List ℤ → ℤ → List ℤ
+one_more zs z = zs ++ z ∷ []
 
 -- numbers with a comma between two of them
 unfoldable pub numbers_read : List Token → Reading (List ℤ × List Token)

@@ -1,14 +1,11 @@
 //! The commands of a line, read from tokens.
 
-ghost use Rattle.std.specs.Prelude.{◌≡◌, ◌∷◌, [], ◌≤◌, if◌then◌else◌, List, length, Some, None, OnOk, IfErr};
+ghost use Rattle.std.specs.Prelude.{◌≡◌, ◌≤◌, true, false, List, length, OnOk, IfErr};
 ghost use Rattle.std.specs.List.{prefix_len};
-ghost use Rattle.lab_script.specs.Reading.{Gives};
-ghost use Rattle.lab_script.specs.ReadingCommands.{is_word, words_at, level_at, command_at, is_short, terminated_at, added, step_at, commands_at};
-ghost use Rattle.lab_script.specs.Stops.{IsOfStatement, IsOfStatements, IsOfTokens};
 ghost use Rattle.lab_script.specs.declared.refusal.GrammarFault.TheVariants.{TooLong};
 ghost use Rattle.lab_script.specs.declared.token.Token.{Token as Shown};
-ghost use Rattle.lab_script.specs.Stopping.{Comes, Reads, Stops};
-ghost use Rattle.lab_script.specs.FirstFaults.{command_read, commands_read, level_read, one_added, step_read, terminated_read, words_read};
+ghost use Rattle.lab_script.specs.Stopping.{Comes};
+ghost use Rattle.lab_script.specs.FirstFaults.{is_word, is_short, command_read, commands_read, level_read, one_added, step_read, terminated_read, words_read};
 
 use crate::parser::Parser;
 use crate::refusal::{GrammarFault, Refusal};
@@ -19,11 +16,9 @@ use std::alloc::Global;
 
 impl Parser<'_> {
     /// The commands of all statements of a line, of which there is room for so many.
-    #[tactic(auto, unfolding(crate::specs::ReadingCommands::commands_at, crate::specs::FirstFaults::commands_read))]
+    #[tactic(auto, unfolding(crate::specs::FirstFaults::commands_read))]
     pub fn commands(&mut self, alloc: Global, room: usize) -> Result<Vec<Command>, Refusal>
-        ensures gives { Gives (λ x. x.items) result (commands_at room self.old) }
-        ensures reads { Comes (λ x. x.items) result self.new (commands_read room self.old) }
-        ensures kind { IfErr result IsOfStatements }
+        ensures { Comes (λ x. x.items) result self.new (commands_read room self.old) }
     {
         let mut commands = Vec::new(alloc);
         self.step(alloc, room, &mut commands)?;
@@ -34,27 +29,23 @@ impl Parser<'_> {
     }
 
     /// Reads a statement with its end, and adds its command.
-    #[tactic(auto, unfolding(crate::specs::ReadingCommands::step_at, crate::specs::FirstFaults::step_read))]
+    #[tactic(auto, unfolding(crate::specs::FirstFaults::step_read))]
     fn step(
         &mut self,
         alloc: Global,
         room: usize,
         commands: &mut Vec<Command>,
     ) -> Result<(), Refusal>
-        ensures gives { Gives (λ x. (commands.new.items, self.new)) result (step_at room commands.old.items self.old) }
-        ensures reads { Comes (λ x. (commands.new.items, self.new)) result self.new (step_read room commands.old.items self.old) }
-        ensures kind { IfErr result IsOfStatements }
+        ensures { Comes (λ x. (commands.new.items, self.new)) result self.new (step_read room commands.old.items self.old) }
     {
         let command = self.terminated(alloc)?;
         add(commands, room, command)
     }
 
     /// A statement with its end, and its command if it gives one.
-    #[tactic(auto, unfolding(crate::specs::ReadingCommands::terminated_at, crate::specs::FirstFaults::terminated_read))]
+    #[tactic(auto, unfolding(crate::specs::FirstFaults::terminated_read))]
     fn terminated(&mut self, alloc: Global) -> Result<Option<Command>, Refusal>
-        ensures gives { Gives (λ x. (x, self.new)) result (terminated_at self.old) }
-        ensures reads { Comes (λ x. (x, self.new)) result self.new (terminated_read self.old) }
-        ensures kind { IfErr result IsOfStatements }
+        ensures { Comes (λ x. (x, self.new)) result self.new (terminated_read self.old) }
     {
         let command = self.command(alloc)?;
         self.ended()?;
@@ -63,11 +54,9 @@ impl Parser<'_> {
     }
 
     /// A statement, and its command if it gives one.
-    #[tactic(auto, unfolding(crate::specs::ReadingCommands::command_at, crate::specs::FirstFaults::command_read))]
+    #[tactic(auto, unfolding(crate::specs::FirstFaults::command_read))]
     fn command(&mut self, alloc: Global) -> Result<Option<Command>, Refusal>
-        ensures gives { Gives (λ x. (x, self.new)) result (command_at self.old) }
-        ensures reads { Comes (λ x. (x, self.new)) result self.new (command_read self.old) }
-        ensures kind { IfErr result IsOfStatement }
+        ensures { Comes (λ x. (x, self.new)) result self.new (command_read self.old) }
     {
         if self.took(Token::Word(Word::Begin)) {
             Ok(Some(Command::Begin))
@@ -87,11 +76,9 @@ impl Parser<'_> {
     }
 
     /// The words that set a level, from behind the first on.
-    #[tactic(auto, unfolding(crate::specs::ReadingCommands::level_at, crate::specs::FirstFaults::level_read))]
+    #[tactic(auto, unfolding(crate::specs::FirstFaults::level_read))]
     fn level(&mut self) -> Result<(), Refusal>
-        ensures gives { Gives (λ x. self.new) result (level_at self.old) }
-        ensures reads { Comes (λ x. self.new) result self.new (level_read self.old) }
-        ensures kind { IfErr result IsOfTokens }
+        ensures { Comes (λ x. self.new) result self.new (level_read self.old) }
     {
         self.expect_all(&[
             Token::Word(Word::Transaction),
@@ -102,11 +89,9 @@ impl Parser<'_> {
     }
 
     /// Words, at least one.
-    #[tactic(auto, unfolding(crate::specs::ReadingCommands::words_at, crate::specs::FirstFaults::words_read))]
+    #[tactic(auto, unfolding(crate::specs::FirstFaults::words_read))]
     fn words(&mut self) -> Result<(), Refusal>
-        ensures gives { Gives (λ x. self.new) result (words_at self.old) }
-        ensures reads { Comes (λ x. self.new) result self.new (words_read self.old) }
-        ensures kind { IfErr result IsOfTokens }
+        ensures { Comes (λ x. self.new) result self.new (words_read self.old) }
     {
         match self.rest.split_first() {
             None => Err(Refusal::Fault(GrammarFault::UnknownStatement)),
@@ -141,9 +126,8 @@ fn words_len(tokens: &[Token]) -> usize
 
 /// The printed form of a command is as short as it must be.
 fn check_short(command: &Option<Command>) -> Result<(), Refusal>
-    ensures gives { Gives (λ x. x) result (if is_short command.now then Some tt else None) }
-    ensures reads { (left : List Shown) → Comes (λ x. x) result left (if is_short command.now then Reads tt else Stops TooLong left) }
-    ensures kind { IfErr result IsOfStatements }
+    ensures short { OnOk result (is_short command.now ≡ true) }
+    ensures long { IfErr result (λ e. (e ≡ Refusal.Fault TooLong) × (is_short command.now ≡ false)) }
 {
     match command {
         Some(Command::Run(statement)) => check_length(statement),
@@ -153,9 +137,7 @@ fn check_short(command: &Option<Command>) -> Result<(), Refusal>
 
 /// Adds a command, if there is one, and room for it.
 fn add(commands: &mut Vec<Command>, room: usize, command: Option<Command>) -> Result<(), Refusal>
-    ensures gives { Gives (λ x. commands.new.items) result (added room commands.old.items command) }
-    ensures reads { (left : List Shown) → Comes (λ x. commands.new.items) result left (one_added room commands.old.items command left) }
-    ensures kind { IfErr result IsOfStatements }
+    ensures { (left : List Shown) → Comes (λ x. commands.new.items) result left (one_added room commands.old.items command left) }
 {
     let Some(command) = command else {
         return Ok(());

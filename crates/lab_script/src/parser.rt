@@ -1,12 +1,12 @@
 //! A parser of a line's tokens, with the tokens and numbers that it reads, and what is read by it: the commands of a
 //! line, and single statements.
 
-ghost use Rattle.std.specs.Prelude.{◌≡◌, ◌==◌, ◌≤◌, ◌<◌, length, List, [], Option, Some, None, IfOk, OnOk, MatchBool, if◌then◌else◌, IfErr, false};
+ghost use Rattle.std.specs.Prelude.{◌≡◌, ◌==◌, ◌≤◌, ◌<◌, length, List, Some, None, IfOk, OnOk, MatchBool, IfErr, false};
 ghost use Rattle.lab_table.specs.declared.statement.Command.{Command as Spelled};
 ghost use Rattle.lab_table.specs.declared.statement.Statement.{Statement as SpelledStatement};
 ghost use Rattle.lab_script.specs.Grammar.{IsCommands, IsWholeStatement};
-ghost use Rattle.lab_script.specs.Reading.{after, after_all, digits_at, magnitude_at, name_at, number_at, Fails, Gives, Admits};
-ghost use Rattle.lab_script.specs.Stops.{IsOfNames, IsOfTokens, IsOfStatements, IsOfLine, IsOfCommands, IsLongSpelled, in_predicate};
+ghost use Rattle.lab_script.specs.Reading.{after, Gives, Admits};
+ghost use Rattle.lab_script.specs.Stops.{IsOfLine, IsOfCommands, IsLongSpelled, in_predicate};
 ghost use Rattle.lab_script.specs.Stopping.{Comes, digits_read, magnitude_read, name_read, number_read, token_read, tokens_read};
 ghost use Rattle.lab_script.specs.FirstFaults.{HasFault, commands_fault, nothing_read, passed, placed_refusal, refusal_behind, statement_fault};
 ghost use Rattle.lab_script.specs.Tables.{max_tables, are_few, with_commands};
@@ -52,9 +52,7 @@ impl<'a> Parser<'a> {
 
     /// Nothing may be left.
     pub fn nothing_left(&self) -> Result<(), Refusal>
-        ensures gives { Gives (λ x. x) result (if length self.now == 0 then Some tt else None) }
-        ensures reads { Comes (λ x. x) result self.now (nothing_read self.now) }
-        ensures kind { IfErr result IsOfTokens }
+        ensures { Comes (λ x. x) result self.now (nothing_read self.now) }
     {
         if self.is_done() {
             Ok(())
@@ -85,10 +83,8 @@ impl<'a> Parser<'a> {
     /// Takes this token, which must be the first.
     #[inline(always)]
     pub fn expect(&mut self, token: Token) -> Result<(), Refusal>
-        ensures gives { Gives (λ x. self.new) result (after token self.old) }
         ensures reads { Comes (λ x. self.new) result self.new (token_read token self.old) }
         ensures shorter { length self.new ≤ length self.old }
-        ensures kind { IfErr result IsOfTokens }
     {
         if self.took(token) {
             Ok(())
@@ -99,9 +95,7 @@ impl<'a> Parser<'a> {
 
     /// Takes these tokens, which must be the first.
     pub fn expect_all(&mut self, tokens: &[Token]) -> Result<(), Refusal>
-        ensures gives { Gives (λ x. self.new) result (after_all tokens.now self.old) }
-        ensures reads { Comes (λ x. self.new) result self.new (tokens_read tokens.now self.old) }
-        ensures kind { IfErr result IsOfTokens }
+        ensures { Comes (λ x. self.new) result self.new (tokens_read tokens.now self.old) }
     {
         for token in tokens {
             self.expect(*token)?;
@@ -110,12 +104,10 @@ impl<'a> Parser<'a> {
     }
 
     /// The name of a table. BadTableName where another word stands.
-    #[tactic(auto, unfolding(crate::specs::Reading::name_at, crate::specs::Stopping::name_read))]
+    #[tactic(auto, unfolding(crate::specs::Stopping::name_read))]
     pub fn name(&mut self) -> Result<TableName, Refusal>
-        ensures gives { Gives (λ x. (x, self.new)) result (name_at self.old) }
         ensures reads { Comes (λ x. (x, self.new)) result self.new (name_read self.old) }
         ensures shorter { length self.new ≤ length self.old }
-        ensures kind { IfErr result IsOfNames }
     {
         match self.rest.split_first() {
             None => Err(Refusal::Fault(GrammarFault::UnknownStatement)),
@@ -133,12 +125,10 @@ impl<'a> Parser<'a> {
     }
 
     /// Digits, and their number.
-    #[tactic(auto, unfolding(crate::specs::Reading::digits_at, crate::specs::Stopping::digits_read))]
+    #[tactic(auto, unfolding(crate::specs::Stopping::digits_read))]
     pub fn digits(&mut self) -> Result<u32, Refusal>
-        ensures gives { Gives (λ x. (x, self.new)) result (digits_at self.old) }
         ensures reads { Comes (λ x. (x, self.new)) result self.new (digits_read self.old) }
         ensures shorter { length self.new ≤ length self.old }
-        ensures kind { IfErr result IsOfTokens }
     {
         match self.rest.split_first() {
             None => Err(Refusal::Fault(GrammarFault::UnknownStatement)),
@@ -153,13 +143,11 @@ impl<'a> Parser<'a> {
     }
 
     /// A number without a sign, up to 1,000,000,000.
-    #[tactic(auto, unfolding(crate::specs::Reading::magnitude_at, crate::specs::Stopping::magnitude_read))]
+    #[tactic(auto, unfolding(crate::specs::Stopping::magnitude_read))]
     pub fn magnitude(&mut self) -> Result<u32, Refusal>
-        ensures gives { Gives (λ x. (x, self.new)) result (magnitude_at self.old) }
         ensures reads { Comes (λ x. (x, self.new)) result self.new (magnitude_read self.old) }
         ensures shorter { length self.new ≤ length self.old }
         ensures below { IfOk result (λ x. x ≤ 1000000000) }
-        ensures kind { IfErr result IsOfTokens }
     {
         let number = self.digits()?;
         if number <= 1_000_000_000 {
@@ -170,12 +158,10 @@ impl<'a> Parser<'a> {
     }
 
     /// A number, from -1,000,000,000 to 1,000,000,000.
-    #[tactic(auto, unfolding(crate::specs::Reading::number_at, crate::specs::Stopping::number_read))]
+    #[tactic(auto, unfolding(crate::specs::Stopping::number_read))]
     pub fn number(&mut self) -> Result<Value, Refusal>
-        ensures gives { Gives (λ x. (x, self.new)) result (number_at self.old) }
         ensures reads { Comes (λ x. (x, self.new)) result self.new (number_read self.old) }
         ensures shorter { length self.new ≤ length self.old }
-        ensures kind { IfErr result IsOfTokens }
     {
         let number = if self.took(Token::Minus) {
             -i64::from(self.magnitude()?)
@@ -279,11 +265,7 @@ pub fn read_statement(alloc: Global, tokens: &[Token]) -> Result<Statement, Refu
 
 /// The stop of a line of which so many tokens are left: behind a `where` of its statement an unknown token is a bad predicate.
 fn placed(refusal: Refusal, tokens: &[Token], left: usize) -> Refusal
-    ensures stops { (read : Option (List Spelled)) → Fails refusal read → Fails result read }
-    ensures stops_statement { (read : Option SpelledStatement) → Fails refusal read → Fails result read }
-    ensures kind { IsOfStatements refusal → IsOfLine tokens.now result }
-    ensures long { IsLongSpelled tokens.now refusal → IsLongSpelled tokens.now result }
-    ensures placed { result ≡ placed_refusal tokens.now refusal left }
+    ensures { result ≡ placed_refusal tokens.now refusal left }
 {
     match refusal {
         Refusal::Fault(GrammarFault::UnknownStatement) => {

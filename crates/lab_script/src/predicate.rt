@@ -1,12 +1,8 @@
 //! Predicates, read from tokens.
 
-ghost use Rattle.std.specs.Prelude.{◌≡◌, ◌≤◌, List, length, Some, IfErr};
-ghost use Rattle.lab_script.specs.declared.token.Token.{Token as Shown};
+ghost use Rattle.std.specs.Prelude.{◌≡◌, ◌≤◌, length, IfOk, IfErr};
 ghost use Rattle.lab_table.specs.Predicate as predicate;
-ghost use Rattle.lab_script.specs.Reading.{Gives};
-ghost use Rattle.lab_script.specs.ReadingPredicates.{term_at, conj_at, pred_at, where_at};
-ghost use Rattle.lab_script.specs.Stops.{IsOfStatement};
-ghost use Rattle.lab_script.specs.Stopping.{Comes, Reads, conj_read, pred_read, term_read, where_read};
+ghost use Rattle.lab_script.specs.Stopping.{Comes, conj_read, pred_read, term_read, where_read};
 
 use crate::limits::MAX_DEPTH;
 use crate::parser::Parser;
@@ -17,11 +13,9 @@ use std::alloc::Global;
 
 impl Parser<'_> {
     /// The predicate behind a `where`, if one stands here.
-    #[tactic(auto, unfolding(crate::specs::ReadingPredicates::where_at, crate::specs::Stopping::where_read))]
+    #[tactic(auto, unfolding(crate::specs::Stopping::where_read))]
     pub fn where_clause(&mut self, alloc: Global) -> Result<Option<Pred>, Refusal>
-        ensures gives { Gives (λ x. (x, self.new)) result (where_at self.old) }
-        ensures reads { Comes (λ x. (x, self.new)) result self.new (where_read self.old) }
-        ensures kind { IfErr result IsOfStatement }
+        ensures { Comes (λ x. (x, self.new)) result self.new (where_read self.old) }
     {
         if self.took(Token::Word(Word::Where)) {
             let pred = self.pred(alloc, MAX_DEPTH)?;
@@ -33,12 +27,10 @@ impl Parser<'_> {
 
     /// A predicate that may have an `or` at its top, under which this many parentheses and `not`s may still be open.
     #[cycle(pred)]
-    #[tactic(auto, unfolding(crate::specs::ReadingPredicates::pred_at, crate::specs::Stopping::pred_read))]
+    #[tactic(auto, unfolding(crate::specs::Stopping::pred_read))]
     fn pred(&mut self, alloc: Global, depth: u8) -> Result<Pred, Refusal>
-        ensures gives { Gives (λ x. (x, self.new)) result (pred_at depth self.old) }
         ensures reads { Comes (λ x. (x, self.new)) result self.new (pred_read depth self.old) }
         ensures shorter { length self.new ≤ length self.old }
-        ensures kind { IfErr result IsOfStatement }
     {
         let mut pred = self.conj(alloc, depth)?;
         while self.took(Token::Word(Word::Or)) {
@@ -50,12 +42,10 @@ impl Parser<'_> {
 
     /// A predicate that may have an `and` at its top.
     #[cycle(pred)]
-    #[tactic(auto, unfolding(crate::specs::ReadingPredicates::conj_at, crate::specs::Stopping::conj_read))]
+    #[tactic(auto, unfolding(crate::specs::Stopping::conj_read))]
     fn conj(&mut self, alloc: Global, depth: u8) -> Result<Pred, Refusal>
-        ensures gives { Gives (λ x. (x, self.new)) result (conj_at depth self.old) }
         ensures reads { Comes (λ x. (x, self.new)) result self.new (conj_read depth self.old) }
         ensures shorter { length self.new ≤ length self.old }
-        ensures kind { IfErr result IsOfStatement }
     {
         let mut pred = self.term(alloc, depth)?;
         while self.took(Token::Word(Word::And)) {
@@ -67,12 +57,10 @@ impl Parser<'_> {
 
     /// A predicate with neither at its top.
     #[cycle(pred)]
-    #[tactic(auto, unfolding(crate::specs::ReadingPredicates::term_at, crate::specs::ReadingPredicates::pred_at, crate::specs::ReadingPredicates::conj_at, crate::specs::Stopping::term_read, crate::specs::Stopping::pred_read, crate::specs::Stopping::conj_read))]
+    #[tactic(auto, unfolding(crate::specs::Stopping::term_read, crate::specs::Stopping::pred_read, crate::specs::Stopping::conj_read))]
     fn term(&mut self, alloc: Global, depth: u8) -> Result<Pred, Refusal>
-        ensures gives { Gives (λ x. (x, self.new)) result (term_at depth self.old) }
         ensures reads { Comes (λ x. (x, self.new)) result self.new (term_read depth self.old) }
         ensures shorter { length self.new ≤ length self.old }
-        ensures kind { IfErr result IsOfStatement }
     {
         if self.took(Token::Word(Word::Not)) {
             if depth == 0 {
@@ -94,9 +82,8 @@ impl Parser<'_> {
 }
 
 fn negation(alloc: Global, pred: Pred) -> Result<Pred, Refusal>
-    ensures gives { Gives (λ x. x) result (Some (predicate.Not pred)) }
-    ensures reads { (left : List Shown) → Comes (λ x. x) result left (Reads (predicate.Not pred)) }
-    ensures kind { IfErr result IsOfStatement }
+    ensures made { IfOk result (λ x. x ≡ predicate.Not pred) }
+    ensures memory { IfErr result (λ e. e ≡ Refusal.NoMemory) }
 {
     Ok(Pred {
         kind: PredKind::Not(Box::new(alloc, pred)?),
@@ -104,9 +91,8 @@ fn negation(alloc: Global, pred: Pred) -> Result<Pred, Refusal>
 }
 
 fn conjunction(alloc: Global, left: Pred, right: Pred) -> Result<Pred, Refusal>
-    ensures gives { Gives (λ x. x) result (Some (predicate.And left right)) }
-    ensures reads { (behind : List Shown) → Comes (λ x. x) result behind (Reads (predicate.And left right)) }
-    ensures kind { IfErr result IsOfStatement }
+    ensures made { IfOk result (λ x. x ≡ predicate.And left right) }
+    ensures memory { IfErr result (λ e. e ≡ Refusal.NoMemory) }
 {
     Ok(Pred {
         kind: PredKind::And(Box::new(alloc, left)?, Box::new(alloc, right)?),
@@ -114,9 +100,8 @@ fn conjunction(alloc: Global, left: Pred, right: Pred) -> Result<Pred, Refusal>
 }
 
 fn disjunction(alloc: Global, left: Pred, right: Pred) -> Result<Pred, Refusal>
-    ensures gives { Gives (λ x. x) result (Some (predicate.Or left right)) }
-    ensures reads { (behind : List Shown) → Comes (λ x. x) result behind (Reads (predicate.Or left right)) }
-    ensures kind { IfErr result IsOfStatement }
+    ensures made { IfOk result (λ x. x ≡ predicate.Or left right) }
+    ensures memory { IfErr result (λ e. e ≡ Refusal.NoMemory) }
 {
     Ok(Pred {
         kind: PredKind::Or(Box::new(alloc, left)?, Box::new(alloc, right)?),

@@ -1,9 +1,6 @@
 //! Rows with their values, read from tokens.
 
-ghost use Rattle.std.specs.Prelude.{◌≤◌, length, IfErr};
-ghost use Rattle.lab_script.specs.Reading.{Gives};
-ghost use Rattle.lab_script.specs.ReadingRows.{id_at, named_row_at, row_at, row_table_at};
-ghost use Rattle.lab_script.specs.Stops.{IsOfNames, IsOfRows, IsOfTokens};
+ghost use Rattle.std.specs.Prelude.{◌≤◌, length};
 ghost use Rattle.lab_script.specs.Stopping.{Comes, id_read, named_row_read, row_read, row_table_read};
 
 use crate::parser::Parser;
@@ -13,12 +10,10 @@ use lab_table::{RowId, RowName, TableName, Value};
 
 impl Parser<'_> {
     /// A row's number, from 1 to 999,999. Digits behind a minus are a number that is out of this range.
-    #[tactic(auto, unfolding(crate::specs::ReadingRows::id_at, crate::specs::Stopping::id_read))]
+    #[tactic(auto, unfolding(crate::specs::Stopping::id_read))]
     pub fn id(&mut self) -> Result<RowId, Refusal>
-        ensures gives { Gives (λ x. (x, self.new)) result (id_at self.old) }
         ensures reads { Comes (λ x. (x, self.new)) result self.new (id_read self.old) }
         ensures shorter { length self.new ≤ length self.old }
-        ensures kind { IfErr result IsOfTokens }
     {
         let negative = self.took(Token::Minus);
         let number = self.digits()?;
@@ -29,12 +24,10 @@ impl Parser<'_> {
     }
 
     /// A row's number with its value: both in parentheses, with a comma between them.
-    #[tactic(auto, unfolding(crate::specs::ReadingRows::row_at, crate::specs::Stopping::row_read))]
+    #[tactic(auto, unfolding(crate::specs::Stopping::row_read))]
     pub fn row(&mut self) -> Result<(RowId, Value), Refusal>
-        ensures gives { Gives (λ x. (x, self.new)) result (row_at self.old) }
         ensures reads { Comes (λ x. (x, self.new)) result self.new (row_read self.old) }
         ensures shorter { length self.new ≤ length self.old }
-        ensures kind { IfErr result IsOfTokens }
     {
         self.expect(Token::Open)?;
         let id = self.id()?;
@@ -45,12 +38,10 @@ impl Parser<'_> {
     }
 
     /// The table of a row of a setup: the name before the row, or `test` where no word stands there.
-    #[tactic(auto, unfolding(crate::specs::ReadingRows::row_table_at, crate::specs::Stopping::row_table_read, crate::specs::Reading::name_at, crate::specs::Stopping::name_read))]
+    #[tactic(auto, unfolding(crate::specs::Stopping::row_table_read, crate::specs::Stopping::name_read))]
     fn row_table(&mut self) -> Result<TableName, Refusal>
-        ensures gives { Gives (λ x. (x, self.new)) result (row_table_at self.old) }
         ensures reads { Comes (λ x. (x, self.new)) result self.new (row_table_read self.old) }
         ensures shorter { length self.new ≤ length self.old }
-        ensures kind { IfErr result IsOfNames }
     {
         match self.rest.split_first() {
             None => Ok(TableName::test()),
@@ -62,12 +53,10 @@ impl Parser<'_> {
     }
 
     /// A row of a setup with its value.
-    #[tactic(auto, unfolding(crate::specs::ReadingRows::named_row_at, crate::specs::Stopping::named_row_read))]
+    #[tactic(auto, unfolding(crate::specs::Stopping::named_row_read))]
     pub fn named_row(&mut self) -> Result<(RowName, Value), Refusal>
-        ensures gives { Gives (λ x. (x, self.new)) result (named_row_at self.old) }
         ensures reads { Comes (λ x. (x, self.new)) result self.new (named_row_read self.old) }
         ensures shorter { length self.new ≤ length self.old }
-        ensures kind { IfErr result IsOfRows }
     {
         let table = self.row_table()?;
         let (id, value) = self.row()?;

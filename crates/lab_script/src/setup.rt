@@ -1,13 +1,12 @@
 //! The setup, read from tokens.
 
-ghost use Rattle.std.specs.Prelude.{◌≡◌, ◌≤◌, ◌<◌, [], false, length, Some, None, IfOk, OnOk, MatchBool, if◌then◌else◌, IfErr};
+ghost use Rattle.std.specs.Prelude.{◌≡◌, ◌≤◌, ◌<◌, [], false, length, Some, None, IfOk, OnOk, MatchBool, IfErr};
 ghost use Rattle.lab_table.specs.Table.{Table as Spelled};
 ghost use Rattle.lab_script.specs.Grammar.{IsSetup};
-ghost use Rattle.lab_script.specs.Reading.{Gives, Admits};
-ghost use Rattle.lab_script.specs.ReadingSetup.{row_onto, rows_at, no_rows_at, table_at, ends_setup, setup_at};
-ghost use Rattle.lab_script.specs.Stops.{IsOfRows, IsOfSetup, IsOfSetupEnd, IsOfSetupRead};
+ghost use Rattle.lab_script.specs.Reading.{Admits};
+ghost use Rattle.lab_script.specs.Stops.{IsOfSetup};
 ghost use Rattle.lab_script.specs.Stopping.{Comes};
-ghost use Rattle.lab_script.specs.FirstFaults.{HasFault, refusal_behind, row_onto_read, rows_read, setup_end_read, setup_fault, setup_read, table_read};
+ghost use Rattle.lab_script.specs.FirstFaults.{no_rows_at, HasFault, refusal_behind, row_onto_read, rows_read, setup_end_read, setup_fault, setup_read, table_read};
 ghost use Rattle.lab_script.specs.Tables.{max_tables, are_few, setup_tables, with_setup};
 ghost use Rattle.lab_script.specs.PassedTables.{with_setup_tokens};
 ghost use Rattle.lab_script.specs.declared.refusal.GrammarFault.TheVariants.{TooManyTables};
@@ -22,12 +21,10 @@ use std::alloc::Global;
 
 impl Parser<'_> {
     /// Adds a row to the table; DuplicateSetupRow where it is present.
-    #[tactic(auto, unfolding(crate::specs::ReadingSetup::row_onto, crate::specs::FirstFaults::row_onto_read))]
+    #[tactic(auto, unfolding(crate::specs::FirstFaults::row_onto_read))]
     fn row_onto(&mut self, alloc: Global, table: &mut Table) -> Result<(), Refusal>
-        ensures gives { Gives (λ x. (table.new, self.new)) result (row_onto table.old self.old) }
         ensures reads { Comes (λ x. (table.new, self.new)) result self.new (row_onto_read table.old self.old) }
         ensures shorter { length self.new ≤ length self.old }
-        ensures kind { IfErr result IsOfRows }
     {
         let row = self.named_row()?;
         if table.add(alloc, row.0, row.1)? {
@@ -39,9 +36,7 @@ impl Parser<'_> {
 
     /// The table of one row or more.
     fn rows(&mut self, alloc: Global) -> Result<Table, Refusal>
-        ensures gives { Gives (λ x. (x, self.new)) result (rows_at self.old) }
-        ensures reads { Comes (λ x. (x, self.new)) result self.new (rows_read self.old) }
-        ensures kind { IfErr result IsOfRows }
+        ensures { Comes (λ x. (x, self.new)) result self.new (rows_read self.old) }
     {
         let mut table = Table::new(alloc);
         loop {
@@ -53,7 +48,7 @@ impl Parser<'_> {
     }
 
     /// Takes the parentheses that stand for no row, if they are the first.
-    #[tactic(auto, unfolding(crate::specs::ReadingSetup::no_rows_at))]
+    #[tactic(auto, unfolding(crate::specs::FirstFaults::no_rows_at))]
     fn took_no_rows(&mut self) -> bool
         ensures { MatchBool result (no_rows_at self.old ≡ Some self.new) ((no_rows_at self.old ≡ None) × (self.new ≡ self.old)) }
     {
@@ -67,11 +62,9 @@ impl Parser<'_> {
     }
 
     /// The table of a setup.
-    #[tactic(auto, unfolding(crate::specs::ReadingSetup::table_at, crate::specs::FirstFaults::table_read))]
+    #[tactic(auto, unfolding(crate::specs::FirstFaults::table_read))]
     fn table(&mut self, alloc: Global) -> Result<Table, Refusal>
-        ensures gives { Gives (λ x. (x, self.new)) result (table_at self.old) }
-        ensures reads { Comes (λ x. (x, self.new)) result self.new (table_read self.old) }
-        ensures kind { IfErr result IsOfRows }
+        ensures { Comes (λ x. (x, self.new)) result self.new (table_read self.old) }
     {
         if self.took_no_rows() {
             Ok(Table::new(alloc))
@@ -84,9 +77,7 @@ impl Parser<'_> {
     /// TooLong where the printed line is over 4,000 bytes; then what stands behind the `;` doesn't matter.
     #[tactic(auto, unfolding(crate::specs::FirstFaults::setup_end_read))]
     fn setup_end(&mut self, table: &Table) -> Result<(), Refusal>
-        ensures gives { Gives (λ x. x) result (if ends_setup table.now self.old then Some tt else None) }
-        ensures reads { Comes (λ x. x) result self.new (setup_end_read table.now self.old) }
-        ensures kind { IfErr result (IsOfSetupEnd table.now) }
+        ensures { Comes (λ x. x) result self.new (setup_end_read table.now self.old) }
     {
         if !self.took(Token::Semicolon) {
             self.nothing_left()?;
@@ -99,11 +90,9 @@ impl Parser<'_> {
     }
 
     /// A setup, all of the line.
-    #[tactic(auto, unfolding(crate::specs::ReadingSetup::setup_at, crate::specs::FirstFaults::setup_read))]
+    #[tactic(auto, unfolding(crate::specs::FirstFaults::setup_read))]
     fn setup(&mut self, alloc: Global) -> Result<Table, Refusal>
-        ensures gives { Gives (λ x. x) result (setup_at self.old) }
-        ensures reads { Comes (λ x. x) result self.new (setup_read self.old) }
-        ensures kind { IfErr result (IsOfSetupRead self.old) }
+        ensures { Comes (λ x. x) result self.new (setup_read self.old) }
     {
         self.expect(Token::Word(Word::Setup))?;
         let table = self.table(alloc)?;

@@ -1,16 +1,11 @@
 //! Statements, read from tokens.
 
-ghost use Rattle.std.specs.Prelude.{◌≡◌, ◌==◌, ◌<◌, nat_le, if◌then◌else◌, List, length, Some, None, OnErr, IfErr};
-ghost use Rattle.lab_table.specs.declared.statement.Statement.{Statement as Spelled};
-ghost use Rattle.lab_script.specs.declared.token.Token.{Token as Shown};
+ghost use Rattle.std.specs.Prelude.{◌≡◌, nat_le, true, false, length, OnOk, IfErr};
 ghost use Rattle.lab_script.specs.Grammar.{over};
 ghost use Rattle.lab_script.specs.Limits.{max_statement_bytes};
 ghost use Rattle.lab_script.specs.Printed.{printed_statement};
-ghost use Rattle.lab_script.specs.Reading.{Gives, RefusesTooLong};
-ghost use Rattle.lab_script.specs.ReadingStatements.{expr_at, select_at, update_at, insert_at, delete_at, statement_at, ended_at, whole_statement_at};
-ghost use Rattle.lab_script.specs.Stops.{IsOfStatement, IsOfStatements, IsOfTokens, IsLongRead};
 ghost use Rattle.lab_script.specs.declared.refusal.GrammarFault.TheVariants.{TooLong};
-ghost use Rattle.lab_script.specs.Stopping.{Comes, Reads, Stops};
+ghost use Rattle.lab_script.specs.Stopping.{Comes};
 ghost use Rattle.lab_script.specs.FirstFaults.{delete_read, end_read, expr_read, insert_read, select_read, statement_read, update_read, whole_statement_read};
 
 use crate::fits::statement_fits;
@@ -22,15 +17,9 @@ use std::alloc::Global;
 
 impl Parser<'_> {
     /// One statement, which is all that is left, but for a semicolon.
-    #[tactic(auto, unfolding(crate::specs::ReadingStatements::whole_statement_at, crate::specs::FirstFaults::whole_statement_read))]
+    #[tactic(auto, unfolding(crate::specs::FirstFaults::whole_statement_read))]
     pub fn whole_statement(&mut self, alloc: Global) -> Result<Statement, Refusal>
-        ensures gives { Gives (λ x. x) result (whole_statement_at self.old) }
-        ensures reads { Comes (λ x. x) result self.new (whole_statement_read self.old) }
-        // A statement that is over its limit at its end is told before what stands behind it.
-        ensures long { (s : Spelled) (end behind : List Shown) → (statement_at self.old ≡ Some (s, end)) → (ended_at end ≡ Some behind)
-            → max_statement_bytes < length (printed_statement s) → RefusesTooLong result }
-        ensures kind { IfErr result IsOfStatements }
-        ensures over { IfErr result (IsLongRead self.old) }
+        ensures { Comes (λ x. x) result self.new (whole_statement_read self.old) }
     {
         let statement = self.statement(alloc)?;
         self.ended()?;
@@ -40,11 +29,9 @@ impl Parser<'_> {
     }
 
     /// One of the four kinds of statement.
-    #[tactic(auto, unfolding(crate::specs::ReadingStatements::statement_at, crate::specs::FirstFaults::statement_read))]
+    #[tactic(auto, unfolding(crate::specs::FirstFaults::statement_read))]
     pub fn statement(&mut self, alloc: Global) -> Result<Statement, Refusal>
-        ensures gives { Gives (λ x. (x, self.new)) result (statement_at self.old) }
-        ensures reads { Comes (λ x. (x, self.new)) result self.new (statement_read self.old) }
-        ensures kind { IfErr result IsOfStatement }
+        ensures { Comes (λ x. (x, self.new)) result self.new (statement_read self.old) }
     {
         if self.took(Token::Word(Word::Select)) {
             self.select(alloc)
@@ -59,11 +46,9 @@ impl Parser<'_> {
     }
 
     /// A select, from behind its first word on.
-    #[tactic(auto, unfolding(crate::specs::ReadingStatements::select_at, crate::specs::FirstFaults::select_read))]
+    #[tactic(auto, unfolding(crate::specs::FirstFaults::select_read))]
     fn select(&mut self, alloc: Global) -> Result<Statement, Refusal>
-        ensures gives { Gives (λ x. (x, self.new)) result (select_at self.old) }
-        ensures reads { Comes (λ x. (x, self.new)) result self.new (select_read self.old) }
-        ensures kind { IfErr result IsOfStatement }
+        ensures { Comes (λ x. (x, self.new)) result self.new (select_read self.old) }
     {
         self.expect_all(&[Token::Star, Token::Word(Word::From)])?;
         let table = self.name()?;
@@ -72,11 +57,9 @@ impl Parser<'_> {
     }
 
     /// An update, from behind its first word on.
-    #[tactic(auto, unfolding(crate::specs::ReadingStatements::update_at, crate::specs::FirstFaults::update_read))]
+    #[tactic(auto, unfolding(crate::specs::FirstFaults::update_read))]
     fn update(&mut self, alloc: Global) -> Result<Statement, Refusal>
-        ensures gives { Gives (λ x. (x, self.new)) result (update_at self.old) }
-        ensures reads { Comes (λ x. (x, self.new)) result self.new (update_read self.old) }
-        ensures kind { IfErr result IsOfStatement }
+        ensures { Comes (λ x. (x, self.new)) result self.new (update_read self.old) }
     {
         let table = self.name()?;
         self.expect_all(&[
@@ -90,11 +73,9 @@ impl Parser<'_> {
     }
 
     /// The new value of an update.
-    #[tactic(auto, unfolding(crate::specs::ReadingStatements::expr_at, crate::specs::FirstFaults::expr_read))]
+    #[tactic(auto, unfolding(crate::specs::FirstFaults::expr_read))]
     fn expr(&mut self) -> Result<Expr, Refusal>
-        ensures gives { Gives (λ x. (x, self.new)) result (expr_at self.old) }
-        ensures reads { Comes (λ x. (x, self.new)) result self.new (expr_read self.old) }
-        ensures kind { IfErr result IsOfTokens }
+        ensures { Comes (λ x. (x, self.new)) result self.new (expr_read self.old) }
     {
         if !self.took(Token::Word(Word::Value)) {
             Ok(Expr::Set(self.number()?))
@@ -107,11 +88,9 @@ impl Parser<'_> {
     }
 
     /// An insert, from behind its first word on.
-    #[tactic(auto, unfolding(crate::specs::ReadingStatements::insert_at, crate::specs::FirstFaults::insert_read))]
+    #[tactic(auto, unfolding(crate::specs::FirstFaults::insert_read))]
     fn insert(&mut self) -> Result<Statement, Refusal>
-        ensures gives { Gives (λ x. (x, self.new)) result (insert_at self.old) }
-        ensures reads { Comes (λ x. (x, self.new)) result self.new (insert_read self.old) }
-        ensures kind { IfErr result IsOfStatement }
+        ensures { Comes (λ x. (x, self.new)) result self.new (insert_read self.old) }
     {
         self.expect(Token::Word(Word::Into))?;
         let table = self.name()?;
@@ -128,11 +107,9 @@ impl Parser<'_> {
     }
 
     /// A delete, from behind its first word on.
-    #[tactic(auto, unfolding(crate::specs::ReadingStatements::delete_at, crate::specs::FirstFaults::delete_read))]
+    #[tactic(auto, unfolding(crate::specs::FirstFaults::delete_read))]
     fn delete(&mut self, alloc: Global) -> Result<Statement, Refusal>
-        ensures gives { Gives (λ x. (x, self.new)) result (delete_at self.old) }
-        ensures reads { Comes (λ x. (x, self.new)) result self.new (delete_read self.old) }
-        ensures kind { IfErr result IsOfStatement }
+        ensures { Comes (λ x. (x, self.new)) result self.new (delete_read self.old) }
     {
         self.expect(Token::Word(Word::From))?;
         let table = self.name()?;
@@ -141,11 +118,9 @@ impl Parser<'_> {
     }
 
     /// The end of a statement: nothing is left, or a semicolon.
-    #[tactic(auto, unfolding(crate::specs::ReadingStatements::ended_at, crate::specs::FirstFaults::end_read))]
+    #[tactic(auto, unfolding(crate::specs::FirstFaults::end_read))]
     pub fn ended(&mut self) -> Result<(), Refusal>
-        ensures gives { Gives (λ x. self.new) result (ended_at self.old) }
-        ensures reads { Comes (λ x. self.new) result self.new (end_read self.old) }
-        ensures kind { IfErr result IsOfTokens }
+        ensures { Comes (λ x. self.new) result self.new (end_read self.old) }
     {
         match self.rest.split_first() {
             None => Ok(()),
@@ -170,11 +145,8 @@ fn over(table: TableName, kind: StatementKind) -> Statement
 /// The printed form is as short as it must be.
 #[tactic(auto, using(crate::proofs::TokenNumbers::same_test))]
 pub fn check_length(statement: &Statement) -> Result<(), Refusal>
-    ensures gives { Gives (λ x. x) result (if nat_le (length (printed_statement statement.now)) max_statement_bytes then Some tt else None) }
-    ensures reads { (left : List Shown) → Comes (λ x. x) result left (if nat_le (length (printed_statement statement.now)) max_statement_bytes then Reads tt else Stops TooLong left) }
-    ensures long { OnErr result (RefusesTooLong result) }
-    ensures kind { IfErr result IsOfStatements }
-    ensures over { OnErr result (max_statement_bytes < length (printed_statement statement.now)) }
+    ensures short { OnOk result (nat_le (length (printed_statement statement.now)) max_statement_bytes ≡ true) }
+    ensures long { IfErr result (λ e. (e ≡ Refusal.Fault TooLong) × (nat_le (length (printed_statement statement.now)) max_statement_bytes ≡ false)) }
 {
     if statement_fits(statement) {
         Ok(())

@@ -2,8 +2,6 @@ use Rattle.std.proofs.Common.{◌≡◌, ℕ, ◌+◌, ◌*◌, ◌≤◌, lengt
 use Rattle.lab_table.specs.Predicate as predicate
 use Rattle.lab_script.specs.declared.token.Word.TheVariants as word
 use Rattle.lab_script.specs.declared.token.Token.TheVariants as token
-use Rattle.lab_script.specs.Reading.{more_of}
-use Rattle.lab_script.specs.ReadingPredicates.{term_at, conj_at, pred_at}
 use Rattle.lab_script.specs.Stopping.{more_read, term_read, conj_read, pred_read}
 use Rattle.lab_script.proofs.parser.Parser.+pred.Given as goal
 
@@ -19,8 +17,7 @@ decreases-term l = 3 * l.depth
 abbrev pub invariant-conj-loop-alloc : goal.invariant-conj-loop-alloc
 invariant-conj-loop-alloc l = record {
   shorter : length l.self ≤ length l.fn.self;
-  so_far : (k : ℕ) × (length l.self ≤ k) × (more_of k (term_at l.fn.depth) (token.Word word.And) predicate.And l.pred l.self ≡ conj_at l.fn.depth l.fn.self);
-  stopped : (k : ℕ) × (length l.self ≤ k) × (more_read k (term_read l.fn.depth) (token.Word word.And) predicate.And l.pred l.self ≡ conj_read l.fn.depth l.fn.self);
+  so_far : (k : ℕ) × (length l.self ≤ k) × (more_read k (term_read l.fn.depth) (token.Word word.And) predicate.And l.pred l.self ≡ conj_read l.fn.depth l.fn.self);
 }
 
 abbrev pub decreases-conj-loop-alloc : goal.decreases-conj-loop-alloc
@@ -29,8 +26,7 @@ decreases-conj-loop-alloc l = length l.self
 abbrev pub invariant-pred-loop-alloc : goal.invariant-pred-loop-alloc
 invariant-pred-loop-alloc l = record {
   shorter : length l.self ≤ length l.fn.self;
-  so_far : (k : ℕ) × (length l.self ≤ k) × (more_of k (conj_at l.fn.depth) (token.Word word.Or) predicate.Or l.pred l.self ≡ pred_at l.fn.depth l.fn.self);
-  stopped : (k : ℕ) × (length l.self ≤ k) × (more_read k (conj_read l.fn.depth) (token.Word word.Or) predicate.Or l.pred l.self ≡ pred_read l.fn.depth l.fn.self);
+  so_far : (k : ℕ) × (length l.self ≤ k) × (more_read k (conj_read l.fn.depth) (token.Word word.Or) predicate.Or l.pred l.self ≡ pred_read l.fn.depth l.fn.self);
 }
 
 abbrev pub decreases-pred-loop-alloc : goal.decreases-pred-loop-alloc

@@ -1,72 +1,46 @@
 use Rattle.std.proofs.Common.{◌≤◌, length, arith}
 use Rattle.std.proofs.lemmas.Result.{err_from_is_err_and}
-use Rattle.lab_script.specs.ReadingCommands.{commands_at}
 use Rattle.lab_script.specs.FirstFaults.{commands_read}
-use Rattle.lab_script.proofs.StoppedCommands as stopped
+use Rattle.lab_script.proofs.ReadCommands.{step_fits, step_short}
+use Rattle.lab_script.proofs.StoppedCommands.{steps_start, start_stops, steps_on, step_stops, steps_end}
 use Rattle.lab_script.proofs.TokenNumbers.{some_left, none_left}
-use Rattle.lab_script.proofs.ReadCommands.{steps_start, step_fits, step_short, steps_on, step_fails, steps_end}
 use Rattle.lab_script.proofs.parser.Parser.commands.Goals as goal
 
 pub loop-alloc-init : goal.loop-alloc-init
 loop-alloc-init c =
-    let s = steps_start c.args.room c.new-commands.result.items c.step.new.commands.items c.args.self.now c.step.new.self c.new-commands.ensures.items c.in_ok-step.ensures.gives in
-    record {
-      fits = s.0;
-      so_far = (length c.step.new.self, omega arith, s.1);
-      stopped = (
-        length c.step.new.self,
-        omega arith,
-        stopped.steps_start c.args.room c.new-commands.result.items c.step.new.commands.items c.args.self.now c.step.new.self c.new-commands.ensures.items c.in_ok-step.ensures.reads,
-      );
-    }
+    let s = steps_start c.args.room c.new-commands.result.items c.step.new.commands.items c.args.self.now c.step.new.self c.new-commands.ensures.items c.in_ok-step.ensures in
+    record { fits = s.0; so_far = (length c.step.new.self, omega arith, s.1) }
 
-pub returns-in_err-step-clause-reads : goal.returns-in_err-step-clause-reads
-returns-in_err-step-clause-reads c =
+pub returns-in_err-step : goal.returns-in_err-step
+returns-in_err-step c =
     let p = err_from_is_err_and c.from_residual.result c.from_residual.ensures.1 in
-    rw (p.1, p.2) (stopped.start_stops c.args.room c.new-commands.result.items c.in_err-step.field-0.0 c.args.self.now c.step.new.self c.new-commands.ensures.items c.in_err-step.ensures.reads)
+    rw (p.1, p.2) (start_stops c.args.room c.new-commands.result.items c.in_err-step.field-0.0 c.args.self.now c.step.new.self c.new-commands.ensures.items c.in_err-step.ensures)
 
 pub loop-alloc-smaller : goal.loop-alloc-smaller
 loop-alloc-smaller c =
-    step_short c.args.room c.loop-alloc.commands.items c.loop-alloc.self (c.step-in-loop-alloc.new.commands.items, c.step-in-loop-alloc.new.self) c.in_ok-step-2.ensures.gives c.loop-alloc.invariant.fits
+    step_short c.args.room c.loop-alloc.commands.items c.loop-alloc.self (c.step-in-loop-alloc.new.commands.items, c.step-in-loop-alloc.new.self) c.in_ok-step-2.ensures c.loop-alloc.invariant.fits
 
 pub loop-alloc-preserved : goal.loop-alloc-preserved
 loop-alloc-preserved c =
     let i = c.loop-alloc.invariant in
     let s = i.so_far in
-    let q = i.stopped in
     let some : 1 ≤ length c.loop-alloc.self = some_left c.is_done.result _ c.is_done.ensures c.loop-alloc-test.true in
     record {
-      fits = step_fits c.args.room c.loop-alloc.commands.items c.step-in-loop-alloc.new.commands.items c.loop-alloc.self c.step-in-loop-alloc.new.self c.in_ok-step-2.ensures.gives i.fits;
+      fits = step_fits c.args.room c.loop-alloc.commands.items c.step-in-loop-alloc.new.commands.items c.loop-alloc.self c.step-in-loop-alloc.new.self c.in_ok-step-2.ensures i.fits;
       so_far =
           steps_on s.0 c.args.room c.loop-alloc.commands.items c.step-in-loop-alloc.new.commands.items c.loop-alloc.self c.step-in-loop-alloc.new.self
-          (commands_at c.args.room c.args.self.now) some s.1 i.fits s.2 c.in_ok-step-2.ensures.gives;
-      stopped =
-          stopped.steps_on q.0 c.args.room c.loop-alloc.commands.items c.step-in-loop-alloc.new.commands.items c.loop-alloc.self c.step-in-loop-alloc.new.self
-          (commands_read c.args.room c.args.self.now) some q.1 i.fits q.2 c.in_ok-step-2.ensures.gives c.in_ok-step-2.ensures.reads;
+          (commands_read c.args.room c.args.self.now) some s.1 i.fits s.2 c.in_ok-step-2.ensures;
     }
 
-pub returns-in_err-step-2-clause-reads : goal.returns-in_err-step-2-clause-reads
-returns-in_err-step-2-clause-reads c =
+pub returns-in_err-step-2 : goal.returns-in_err-step-2
+returns-in_err-step-2 c =
     let p = err_from_is_err_and c.from_residual-in_err-step-2.result c.from_residual-in_err-step-2.ensures.1 in
-    let s = c.loop-alloc.invariant.stopped in
-    let some : 1 ≤ length c.loop-alloc.self = some_left c.is_done.result _ c.is_done.ensures c.loop-alloc-test.true in
-    rw (p.1, p.2) (stopped.step_stops s.0 c.args.room c.loop-alloc.commands.items c.in_err-step-2.field-0.0 c.loop-alloc.self c.step-in-loop-alloc.new.self
-    (commands_read c.args.room c.args.self.now) some s.1 s.2 c.in_err-step-2.ensures.reads)
-
-pub returns-clause-reads : goal.returns-clause-reads
-returns-clause-reads c =
-    let s = c.loop-alloc.invariant.stopped in
-    stopped.steps_end s.0 c.args.room c.loop-alloc.commands.items c.loop-alloc.self (commands_read c.args.room c.args.self.now) (none_left c.is_done.result _ c.is_done.ensures c.loop-alloc-test.false) s.2
-
-pub returns-in_err-step-2-clause-gives : goal.returns-in_err-step-2-clause-gives
-returns-in_err-step-2-clause-gives c =
-    let p = err_from_is_err_and c.from_residual-in_err-step-2.result c.from_residual-in_err-step-2.ensures.1 in
-    let i = c.loop-alloc.invariant in
-    let s = i.so_far in
-    let some : 1 ≤ length c.loop-alloc.self = some_left c.is_done.result _ c.is_done.ensures c.loop-alloc-test.true in
-    rw (p.1, p.2) (step_fails s.0 c.args.room c.loop-alloc.commands.items c.in_err-step-2.field-0.0 c.loop-alloc.self (commands_at c.args.room c.args.self.now) some s.1 s.2 c.in_err-step-2.ensures.gives)
-
-pub returns-clause-gives : goal.returns-clause-gives
-returns-clause-gives c =
     let s = c.loop-alloc.invariant.so_far in
-    steps_end s.0 c.args.room c.loop-alloc.commands.items c.loop-alloc.self (commands_at c.args.room c.args.self.now) (none_left c.is_done.result _ c.is_done.ensures c.loop-alloc-test.false) s.2
+    let some : 1 ≤ length c.loop-alloc.self = some_left c.is_done.result _ c.is_done.ensures c.loop-alloc-test.true in
+    rw (p.1, p.2) (step_stops s.0 c.args.room c.loop-alloc.commands.items c.in_err-step-2.field-0.0 c.loop-alloc.self c.step-in-loop-alloc.new.self
+    (commands_read c.args.room c.args.self.now) some s.1 s.2 c.in_err-step-2.ensures)
+
+pub returns : goal.returns
+returns c =
+    let s = c.loop-alloc.invariant.so_far in
+    steps_end s.0 c.args.room c.loop-alloc.commands.items c.loop-alloc.self (commands_read c.args.room c.args.self.now) (none_left c.is_done.result _ c.is_done.ensures c.loop-alloc-test.false) s.2

@@ -1,13 +1,11 @@
 use Rattle.std.proofs.Common.{◌≡◌, ℕ, ◌≤◌, length}
-use Rattle.lab_script.specs.ReadingCommands.{more_commands, commands_at}
 use Rattle.lab_script.specs.FirstFaults.{more_commands_read, commands_read}
 use Rattle.lab_script.proofs.parser.Parser.commands.Given as goal
 
 abbrev pub invariant-loop-alloc : goal.invariant-loop-alloc
 invariant-loop-alloc l = record {
   fits : length l.commands.items ≤ l.room;
-  so_far : (k : ℕ) × (length l.self ≤ k) × (more_commands l.self k l.room l.commands.items ≡ commands_at l.room l.fn.self);
-  stopped : (k : ℕ) × (length l.self ≤ k) × (more_commands_read l.self k l.room l.commands.items ≡ commands_read l.room l.fn.self);
+  so_far : (k : ℕ) × (length l.self ≤ k) × (more_commands_read l.self k l.room l.commands.items ≡ commands_read l.room l.fn.self);
 }
 
 abbrev pub decreases-loop-alloc : goal.decreases-loop-alloc

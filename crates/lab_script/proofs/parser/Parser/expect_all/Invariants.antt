@@ -1,10 +1,6 @@
 use Rattle.std.proofs.Common.{◌≡◌, drop}
-use Rattle.lab_script.specs.Reading.{after_all}
 use Rattle.lab_script.specs.Stopping.{tokens_read}
 use Rattle.lab_script.proofs.parser.Parser.expect_all.Given as goal
 
 abbrev pub invariant-loop-token : goal.invariant-loop-token
-invariant-loop-token l = record {
-  so_far : after_all (drop l.token-index l.tokens) l.self ≡ after_all l.tokens l.fn.self;
-  stopped : tokens_read (drop l.token-index l.tokens) l.self ≡ tokens_read l.tokens l.fn.self;
-}
+invariant-loop-token l = tokens_read (drop l.token-index l.tokens) l.self ≡ tokens_read l.tokens l.fn.self

@@ -1,15 +1,12 @@
 use Rattle.std.proofs.Common.{◌≡◌, ℕ, ◌≤◌, length}
 use Rattle.lab_script.specs.declared.token.Token.TheVariants as token
-use Rattle.lab_script.specs.Reading.{number_at, more_of}
-use Rattle.lab_script.specs.ReadingPredicates.{one_more, numbers_at}
-use Rattle.lab_script.specs.Stopping.{more_read, number_read, numbers_read}
+use Rattle.lab_script.specs.Stopping.{one_more, more_read, number_read, numbers_read}
 use Rattle.lab_script.proofs.parser.Parser.numbers.Given as goal
 
 abbrev pub invariant-loop-self : goal.invariant-loop-self
 invariant-loop-self l = record {
   shorter : length l.self ≤ length l.fn.self;
-  so_far : (k : ℕ) × (length l.self ≤ k) × (more_of k number_at token.Comma one_more l.numbers.items l.self ≡ numbers_at l.fn.self);
-  stopped : (k : ℕ) × (length l.self ≤ k) × (more_read k number_read token.Comma one_more l.numbers.items l.self ≡ numbers_read l.fn.self);
+  so_far : (k : ℕ) × (length l.self ≤ k) × (more_read k number_read token.Comma one_more l.numbers.items l.self ≡ numbers_read l.fn.self);
 }
 
 abbrev pub decreases-loop-self : goal.decreases-loop-self
