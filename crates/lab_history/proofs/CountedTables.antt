@@ -1,7 +1,7 @@
 -- Tables that were met one by one are as many as there are different ones, and a fifth ends the walk.
 use Rattle.std.proofs.Common.{◌≡◌, ℕ, ◌+◌, ◌≤◌, ◌<◌, ◌⊎◌, inl, inr, map, Bool, true, false, cond, ◌||◌, List, [], ◌∷◌, ◌++◌, length, suc, Option, Some, None, refl, sym, ap, subst, ◌∙◌, arith, one-add}
-use Rattle.std.specs.Prelude.{nat_le, nat_lt, is_some, option_and_then, if◌then◌else◌}
-use Rattle.std.specs.List.{list_any, list_all, AllByRecursion, IsDistinct, flat_map}
+use Rattle.std.specs.Prelude.{nat_le, nat_lt, is_some, option_and_then, option_map, if◌then◌else◌}
+use Rattle.std.specs.List.{list_all, AllByRecursion, IsDistinct, flat_map}
 use Rattle.std.specs.Set.{distinct_count, unique_keys}
 use Rattle.std.specs.Cmp.Lexicographic.{nat_list_eq_equiv, bytes_decides}
 use Rattle.std.proofs.lemmas.Bool.{ltb-true, ltb-false, le-leb, lt-leb, or_parts, and_parts}
@@ -11,6 +11,7 @@ use Rattle.std.proofs.lemmas.Map.Made.{length-from_keys}
 use Rattle.std.proofs.lemmas.Grind.{flat_map-append}
 use Rattle.std.proofs.Math.Bool.{or_assoc, or-false}
 use Rattle.lab_table.specs.TableName.{table_name_eq}
+use Rattle.lab_table.specs.TableSet.{is_among, with_name}
 use Rattle.std.specs.FinMap.{entries, keys}
 use Rattle.lab_table.specs.Row.{Row, of_table}
 use Rattle.lab_table.specs.Placed.{is_of}
@@ -26,17 +27,13 @@ abbrev Names : Type 0
 Names = List (List ℕ)
 
 abbrev is_met : List ℕ → Names → Bool
-is_met name met = list_any (table_name_eq name) met
+is_met name met = is_among met name
 
 -- ---- all of them, however many
 
--- with one more, which is counted once
-abbrev added : Names → List ℕ → Names
-added met name = cond (is_met name met) met (met ++ name ∷ [])
-
 abbrev all_added : Names → Names → Names
 all_added met [] = met
-all_added met (name ∷ names) = all_added (added met name) names
+all_added met (name ∷ names) = all_added (with_name met name) names
 
 -- a name that is none of them stays apart from them behind them
 apart_behind : (x name : List ℕ) (met : Names) → AllByRecursion (λ y. table_name_eq x y ≡ false) met → table_name_eq x name ≡ false → AllByRecursion (λ y. table_name_eq x y ≡ false) (met ++ name ∷ [])
@@ -50,7 +47,7 @@ distinct_behind name (x ∷ met) apart off =
     let parts : (table_name_eq name x ≡ false) × (is_met name met ≡ false) = or_parts (table_name_eq name x) (is_met name met) off in
     (apart_behind x name met apart.0 (nat_list_eq_equiv.symm x name ∙ parts.0), distinct_behind name met apart.1 parts.1)
 
-added_distinct : (met : Names) (name : List ℕ) → IsDistinct table_name_eq met → IsDistinct table_name_eq (added met name)
+added_distinct : (met : Names) (name : List ℕ) → IsDistinct table_name_eq met → IsDistinct table_name_eq (with_name met name)
 added_distinct met name apart =
     elim (is_met name met) as (λ b. is_met name met ≡ b → IsDistinct table_name_eq (cond b met (met ++ name ∷ []))) [
       | true ↦ λ is. apart
@@ -59,11 +56,11 @@ added_distinct met name apart =
 
 all_distinct : (met names : Names) → IsDistinct table_name_eq met → IsDistinct table_name_eq (all_added met names)
 all_distinct met [] apart = apart
-all_distinct met (name ∷ names) apart = all_distinct (added met name) names (added_distinct met name apart)
+all_distinct met (name ∷ names) apart = all_distinct (with_name met name) names (added_distinct met name apart)
 
 -- ---- what they are
 
-any_one : (q : List ℕ) (met : Names) (name : List ℕ) → is_met q (added met name) ≡ (is_met q met || table_name_eq q name)
+any_one : (q : List ℕ) (met : Names) (name : List ℕ) → is_met q (with_name met name) ≡ (is_met q met || table_name_eq q name)
 any_one q met name =
     elim (is_met name met) as (λ b. is_met name met ≡ b → is_met q (cond b met (met ++ name ∷ [])) ≡ (is_met q met || table_name_eq q name)) [
       | true ↦ λ is. known is
@@ -82,7 +79,7 @@ any_one q met name =
 any_added : (q : List ℕ) (met names : Names) → is_met q (all_added met names) ≡ (is_met q met || is_met q names)
 any_added q met [] = sym (or-false (is_met q met))
 any_added q met (name ∷ names) =
-    any_added q (added met name) names ∙ ap (λ b. b || is_met q names) (any_one q met name) ∙ or_assoc (is_met q met) (table_name_eq q name) (is_met q names)
+    any_added q (with_name met name) names ∙ ap (λ b. b || is_met q names) (any_one q met name) ∙ or_assoc (is_met q met) (table_name_eq q name) (is_met q names)
 
 distinct_as : (names : Names) → distinct_count table_name_eq names ≡ distinct_tables names
 distinct_as [] = refl
@@ -104,7 +101,7 @@ length_added names = length-from_keys nat_list_eq_equiv (all_added [] names) nam
 Ended : Option Names → Names → Type 0
 Ended met all = ((met ≡ Some all) × (length all ≤ 4)) ⊎ ((met ≡ None) × (4 < length all))
 
-grows_by_one : (met : Names) (name : List ℕ) → length met ≤ length (added met name)
+grows_by_one : (met : Names) (name : List ℕ) → length met ≤ length (with_name met name)
 grows_by_one met name =
     elim (is_met name met) as (λ b. length met ≤ length (cond b met (met ++ name ∷ []))) [
       | true ↦ omega arith
@@ -113,9 +110,9 @@ grows_by_one met name =
 
 grows : (met names : Names) → length met ≤ length (all_added met names)
 grows met [] = omega arith
-grows met (name ∷ names) = omega (arith, grows_by_one met name, grows (added met name) names)
+grows met (name ∷ names) = omega (arith, grows_by_one met name, grows (with_name met name) names)
 
-one_ended : (met : Names) (name : List ℕ) → length met ≤ 4 → Ended (with_table met name) (added met name)
+one_ended : (met : Names) (name : List ℕ) → length met ≤ 4 → Ended (with_table met name) (with_name met name)
 unfolding Ended
 one_ended met name few = known (is_met name met)
   where
@@ -136,8 +133,8 @@ all_ended : (met names : Names) → length met ≤ 4 → Ended (tables_within me
 unfolding Ended
 all_ended met [] few = inl (refl, few)
 all_ended met (name ∷ names) few =
-    goes_on (with_table met name) (added met name) (all_added (added met name) names) (λ more. tables_within more names) (one_ended met name few) (all_ended (added met name) names)
-    (grows (added met name) names)
+    goes_on (with_table met name) (with_name met name) (all_added (with_name met name) names) (λ more. tables_within more names) (one_ended met name few) (all_ended (with_name met name) names)
+    (grows (with_name met name) names)
 
 -- a walk meets all where there are at most four
 met_if_few : (names : Names) → is_some (tables_within [] names) ≡ nat_le (distinct_tables names) 4
@@ -147,6 +144,11 @@ met_if_few names = by (all_ended [] names (omega arith))
     by : Ended (tables_within [] names) (all_added [] names) → is_some (tables_within [] names) ≡ nat_le (distinct_tables names) 4
     by (inl (is, few)) = ap is_some is ∙ sym (le-leb (distinct_tables names) 4 (omega (arith, few, length_added names)))
     by (inr (is, many)) = ap is_some is ∙ sym (lt-leb (distinct_tables names) 4 (omega (arith, many, length_added names)))
+
+-- whether there is a set shows in its names
+pub seen : {A B : Type 0} (f : A → B) (found : Option A) → is_some found ≡ is_some (option_map f found)
+seen f None = refl
+seen f (Some x) = refl
 
 -- ---- along the lists of a history
 

@@ -1,5 +1,7 @@
 -- The limits of a history.
 use Rattle.std.specs.Prelude.{ℕ}
+-- the most different tables that its lists and its statements name
+pub use Rattle.lab_table.specs.TableSet.{max_tables}
 
 -- the most bytes of a file
 abbrev pub max_file_bytes : ℕ
@@ -12,10 +14,6 @@ max_transactions = 1000
 -- the most operations of all transactions together
 abbrev pub max_operations : ℕ
 max_operations = 10000
-
--- the most different tables that its lists and its statements name
-abbrev pub max_tables : ℕ
-max_tables = 4
 
 -- the most different rows that its lists name
 abbrev pub max_ids : ℕ

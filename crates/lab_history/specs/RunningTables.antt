@@ -1,9 +1,8 @@
 -- The different tables that a history names, met along its lists and statements; none where there is one too many.
 use Rattle.std.specs.Prelude.{ℕ, nat_lt, List, [], ◌∷◌, ◌++◌, length, Option, Some, None, option_and_then, if◌then◌else◌}
-use Rattle.std.specs.List.{list_any}
 use Rattle.std.specs.FinMap as finite
 use Rattle.lab_table.specs.Row.{Row}
-use Rattle.lab_table.specs.TableName.{table_name_eq}
+use Rattle.lab_table.specs.TableSet.{is_among}
 use Rattle.lab_history.specs.History.{History}
 use Rattle.lab_history.specs.Limits.{max_tables}
 use Rattle.lab_history.specs.declared.operation.Op.{Op}
@@ -11,7 +10,7 @@ use Rattle.lab_history.specs.declared.transaction.Txn.{Txn}
 
 -- with one more, which is counted once
 abbrev pub with_table : List (List ℕ) → List ℕ → Option (List (List ℕ))
-with_table met name = if list_any (table_name_eq name) met then Some met else if nat_lt (length met) max_tables then Some (met ++ name ∷ []) else None
+with_table met name = if is_among met name then Some met else if nat_lt (length met) max_tables then Some (met ++ name ∷ []) else None
 
 -- with all of a list
 abbrev pub tables_within : List (List ℕ) → List (List ℕ) → Option (List (List ℕ))

@@ -44,13 +44,12 @@ mod writing;
 pub use fault::{FileFault, Limit, WriteFault};
 pub use hint::Hint;
 pub use history::History;
+pub use lab_table::MAX_TABLES;
 pub use laws::{
     faults_are_true, history_is_read_from_its_file, last_write_is_the_greatest, place_is_the_first,
     versions_hold_one_history,
 };
-pub use limits::{
-    MAX_ENTRIES, MAX_FILE_BYTES, MAX_IDS, MAX_OPERATIONS, MAX_TABLES, MAX_TRANSACTIONS,
-};
+pub use limits::{MAX_ENTRIES, MAX_FILE_BYTES, MAX_IDS, MAX_OPERATIONS, MAX_TRANSACTIONS};
 pub use operation::{Op, Ops, Rows, State, VersionName, View, Writes};
 pub use parts::Parts;
 pub use path::{ListPlace, Path};

@@ -24,9 +24,6 @@ pub const MAX_TRANSACTIONS: usize = 1_000;
 /// The most operations of all its transactions together.
 pub const MAX_OPERATIONS: usize = 10_000;
 
-/// The most different tables in all its lists and statements together.
-pub const MAX_TABLES: usize = 4;
-
 /// The most different rows in all its lists together.
 pub const MAX_IDS: usize = 1_000;
 

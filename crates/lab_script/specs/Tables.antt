@@ -1,30 +1,13 @@
 -- The tables that a script names.
-use Rattle.std.specs.Prelude.{ℕ, ℤ, Bool, cond, List, [], ◌∷◌, ◌++◌, length, nat_le, Option, Some, None}
-use Rattle.std.specs.List.{list_any}
+use Rattle.std.specs.Prelude.{ℕ, ℤ, List, [], ◌∷◌, Option, Some, None}
 use Rattle.std.specs.FinMap as finite
-use Rattle.lab_table.specs.TableName.{table_name_eq}
 use Rattle.lab_table.specs.Row.{Row}
 use Rattle.lab_table.specs.Table.{Table}
 use Rattle.lab_table.specs.declared.statement.Command.{Command}
 use Rattle.lab_table.specs.declared.statement.Command.TheVariants as command
+pub use Rattle.lab_table.specs.TableSet.{max_tables, is_among, with_name, are_few}
 use Rattle.lab_script.specs.declared.script.Line.{Line}
 use Rattle.lab_script.specs.declared.script.Script.{Script}
-
--- the most tables that a script may name
-abbrev pub max_tables : ℕ
-max_tables = 4
-
--- whether a name is one of these
-abbrev pub is_among : List (List ℕ) → List ℕ → Bool
-is_among names name = list_any (λ other. table_name_eq other name) names
-
--- names with one more, where it isn't one of them
-abbrev pub with_name : List (List ℕ) → List ℕ → List (List ℕ)
-with_name names name = cond (is_among names name) names (names ++ name ∷ [])
-
--- whether there are no more than a script may name
-abbrev pub are_few : List (List ℕ) → Bool
-are_few names = nat_le (length names) max_tables
 
 -- names with the table of a command, if it is a statement
 abbrev pub with_command : List (List ℕ) → Command → List (List ℕ)

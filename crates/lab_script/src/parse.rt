@@ -15,9 +15,9 @@ use crate::line::{code_and_remark, is_ascii_code, is_blank_code, session_of};
 use crate::parser::read_commands;
 use crate::script::{Lines, Script};
 use crate::setup::read_setup;
-use crate::tables::Tables;
 use crate::token::{Token, Word, tokens_into};
 use bstr::ByteSlice;
+use lab_table::TableSet;
 use std::alloc::Global;
 
 /// The script that a text spells: the setup, then lines of statements with a session in their remarks.
@@ -32,7 +32,7 @@ pub fn parse_script(alloc: Global, text: &[u8]) -> Result<Script, ScriptFault>
 {
     let mut tokens = Vec::new(alloc);
     let mut script = None;
-    let mut tables = Tables::new();
+    let mut tables = TableSet::new();
     let mut number: u32 = 0;
     for line in text.lines() {
         number += 1;
@@ -49,15 +49,15 @@ pub fn parse_script(alloc: Global, text: &[u8]) -> Result<Script, ScriptFault>
 fn read_line(
     alloc: Global,
     script: &mut Option<Script>,
-    tables: &mut Tables,
+    tables: &mut TableSet,
     number: u32,
     line: &[u8],
     tokens: &mut Vec<Token>,
 ) -> Result<(), ScriptFault>
     requires few { IfSome script.old (λ s. length s.lines ≤ max_commands) }
-    requires named { tables.old ≡ tables_so_far script.old }
+    requires named { tables.old.names ≡ tables_so_far script.old }
     ensures found { OnOk result (LineSpells number line.now script.old script.new) }
-    ensures named { OnOk result (tables.new ≡ tables_so_far script.new) }
+    ensures named { OnOk result (tables.new.names ≡ tables_so_far script.new) }
     ensures fault { IfErr result (IsLineFault number line.now script.old) }
 {
     if number > MAX_LINES || line.len() > MAX_LINE_BYTES {
@@ -102,11 +102,11 @@ fn setup_script(
     alloc: Global,
     number: u32,
     tokens: &[Token],
-    tables: &mut Tables,
+    tables: &mut TableSet,
 ) -> Result<Script, ScriptFault>
-    requires none { tables.old ≡ [] }
+    requires none { tables.old.names ≡ [] }
     ensures found { IfOk result (λ script. (table : PlainTable) × IsSetup tokens.now table × (length (setup_tables table) ≤ max_tables) × (script ≡ record { setup = table; lines = [] })) }
-    ensures named { IfOk result (λ script. tables.new ≡ script_tables script) }
+    ensures named { IfOk result (λ script. tables.new.names ≡ script_tables script) }
     ensures fault { (remark : List ℕ) → IfErr result (IsTokensFault number tokens.now remark None) }
 {
     if !begins_setup(tokens) {
@@ -125,15 +125,15 @@ fn setup_script(
 fn add_commands(
     alloc: Global,
     script: &mut Script,
-    tables: &mut Tables,
+    tables: &mut TableSet,
     number: u32,
     tokens: &[Token],
     remark: &[u8],
 ) -> Result<(), ScriptFault>
     requires few { length script.old.lines ≤ max_commands }
-    requires named { tables.old ≡ script_tables script.old }
+    requires named { tables.old.names ≡ script_tables script.old }
     ensures found { OnOk result (AddsCommands number tokens.now remark.now script.old script.new) }
-    ensures named { OnOk result (tables.new ≡ script_tables script.new) }
+    ensures named { OnOk result (tables.new.names ≡ script_tables script.new) }
     ensures fault { IfErr result (IsTokensFault number tokens.now remark.now (Some script.old)) }
 {
     if begins_setup(tokens) {

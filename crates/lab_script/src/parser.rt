@@ -14,9 +14,9 @@ ghost use Rattle.lab_script.specs.PassedTables.{with_tokens};
 ghost use Rattle.lab_script.specs.declared.refusal.GrammarFault.TheVariants.{TooManyTables};
 
 use crate::refusal::{GrammarFault, Refusal};
-use crate::tables::Tables;
+use crate::tables::{add_commands, add_tokens};
 use crate::token::{Token, Word};
-use lab_table::{Command, Statement, TableName, Value};
+use lab_table::{Command, Statement, TableName, TableSet, Value};
 use std::alloc::Global;
 use std::marker::Model;
 
@@ -179,18 +179,17 @@ pub fn read_commands(
     alloc: Global,
     tokens: &[Token],
     room: usize,
-    tables: &mut Tables,
+    tables: &mut TableSet,
 ) -> Result<Vec<Command>, Refusal>
     // What is read is in the grammar.
     ensures found { IfOk result (λ commands. IsCommands tokens.now commands.items) }
     ensures within { IfOk result (λ commands. length commands.items ≤ room) }
-    ensures tables { IfOk result (λ commands. tables.new ≡ with_commands tables.old commands.items) }
-    ensures few { OnOk result (length tables.new ≤ max_tables) }
+    ensures tables { IfOk result (λ commands. tables.new.names ≡ with_commands tables.old.names commands.items) }
     // What is in the grammar is read where it names few tables, unless memory runs out.
-    ensures only { (commands : List Spelled) → IsCommands tokens.now commands → length commands ≤ room → Admits (are_few (with_commands tables.old commands)) (λ x. x.items) result commands }
+    ensures only { (commands : List Spelled) → IsCommands tokens.now commands → length commands ≤ room → Admits (are_few (with_commands tables.old.names commands)) (λ x. x.items) result commands }
     ensures kind { IfErr result (IsOfCommands tokens.now) }
     // Of the faults from the left it is the first.
-    ensures first { HasFault (commands_fault tables.old room tokens.now) result }
+    ensures first { HasFault (commands_fault tables.old.names room tokens.now) result }
 {
     let mut parser = Parser { rest: tokens };
     match parser.commands(alloc, room) {
@@ -207,17 +206,15 @@ pub fn read_commands(
 }
 
 /// Commands that were read, where their tables and those before are few.
-fn with_few_tables(commands: Vec<Command>, tables: &mut Tables) -> Result<Vec<Command>, Refusal>
+fn with_few_tables(commands: Vec<Command>, tables: &mut TableSet) -> Result<Vec<Command>, Refusal>
     ensures same { IfOk result (λ x. x.items ≡ commands.items) }
-    ensures tables { IfOk result (λ x. tables.new ≡ with_commands tables.old x.items) }
-    ensures few { OnOk result (length tables.new ≤ max_tables) }
-    ensures fewer { OnOk result (length (with_commands tables.old commands.items) ≤ max_tables) }
-    ensures many { IfErr result (λ e. (e ≡ Refusal.Fault TooManyTables) × (max_tables < length (with_commands tables.old commands.items))) }
+    ensures tables { IfOk result (λ x. tables.new.names ≡ with_commands tables.old.names x.items) }
+    ensures few { OnOk result (length (with_commands tables.old.names commands.items) ≤ max_tables) }
+    ensures many { IfErr result (λ e. (e ≡ Refusal.Fault TooManyTables) × (max_tables < length (with_commands tables.old.names commands.items))) }
 {
-    if !tables.add_commands(&commands) {
+    if !add_commands(tables, &commands) {
         return Err(Refusal::Fault(GrammarFault::TooManyTables));
     }
-    tables.are_few();
     Ok(commands)
 }
 
@@ -229,16 +226,15 @@ pub fn read_before(tokens: &[Token], left: usize) -> &[Token]
 }
 
 /// Why reading a line's tokens stopped, of which these were read: a fifth table among them came first.
-fn behind_tables(tables: &mut Tables, refusal: Refusal, read: &[Token]) -> Refusal
-    ensures { result ≡ refusal_behind (with_tokens false tables.old read.now) refusal }
+fn behind_tables(tables: &mut TableSet, refusal: Refusal, read: &[Token]) -> Refusal
+    ensures { result ≡ refusal_behind (with_tokens false tables.old.names read.now) refusal }
 {
     match refusal {
         Refusal::NoMemory => Refusal::NoMemory,
         Refusal::Fault(kind) => {
-            if !tables.add_tokens(read) {
+            if !add_tokens(tables, read) {
                 return Refusal::Fault(GrammarFault::TooManyTables);
             }
-            tables.are_few();
             Refusal::Fault(kind)
         }
     }

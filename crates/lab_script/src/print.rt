@@ -14,8 +14,8 @@ use crate::limits::MAX_COMMANDS;
 use crate::round_trip::{printed_script_spells, printed_statement_spells};
 use crate::script::Script;
 use crate::spelling::{put_command, put_line, put_setup, put_statement};
-use crate::tables::Tables;
-use lab_table::{Command, Statement};
+use crate::tables::{add_lines, add_rows};
+use lab_table::{Command, Statement, TableSet};
 use std::alloc::{AllocError, Global};
 use thiserror::Error;
 
@@ -149,13 +149,12 @@ fn check_tables(script: &Script) -> Result<(), PrintFault>
     ensures few { OnOk result (length (script_tables script.now) ≤ max_tables) }
     ensures many { IfErr result (λ e. (e ≡ PrintFault.TooManyTables) × (max_tables < length (script_tables script.now))) }
 {
-    let mut tables = Tables::new();
-    if !tables.add_rows(script.setup.rows()) {
+    let mut tables = TableSet::new();
+    if !add_rows(&mut tables, script.setup.rows()) {
         return Err(PrintFault::TooManyTables);
     }
-    if !tables.add_lines(script.lines.as_slice()) {
+    if !add_lines(&mut tables, script.lines.as_slice()) {
         return Err(PrintFault::TooManyTables);
     }
-    tables.are_few();
     Ok(())
 }

@@ -14,9 +14,9 @@ ghost use Rattle.lab_script.specs.declared.refusal.GrammarFault.TheVariants.{Too
 use crate::fits::setup_fits;
 use crate::parser::{Parser, read_before};
 use crate::refusal::{GrammarFault, Refusal};
-use crate::tables::Tables;
+use crate::tables::{add_rows, add_setup_tokens};
 use crate::token::{Token, Word};
-use lab_table::Table;
+use lab_table::{Table, TableSet};
 use std::alloc::Global;
 
 impl Parser<'_> {
@@ -109,12 +109,11 @@ impl Parser<'_> {
 /// without a name is one of it; DuplicateSetupRow at the end of a row
 /// that came before; TooLong at the end of a setup whose printed line is over 4,000 bytes.
 /// NoMemory may come in place of any other answer.
-pub fn read_setup(alloc: Global, tokens: &[Token], tables: &mut Tables) -> Result<Table, Refusal>
-    requires none { tables.old ≡ [] }
+pub fn read_setup(alloc: Global, tokens: &[Token], tables: &mut TableSet) -> Result<Table, Refusal>
+    requires none { tables.old.names ≡ [] }
     // What is read is in the grammar.
     ensures found { IfOk result (λ table. IsSetup tokens.now table) }
-    ensures tables { IfOk result (λ table. tables.new ≡ setup_tables table) }
-    ensures few { OnOk result (length tables.new ≤ max_tables) }
+    ensures tables { IfOk result (λ table. tables.new.names ≡ setup_tables table) }
     // What is in the grammar is read where it names few tables, unless memory runs out.
     ensures only { (table : Spelled) → IsSetup tokens.now table → Admits (are_few (setup_tables table)) (λ x. x) result table }
     ensures kind { IfErr result (IsOfSetup tokens.now) }
@@ -129,31 +128,28 @@ pub fn read_setup(alloc: Global, tokens: &[Token], tables: &mut Tables) -> Resul
 }
 
 /// A setup that was read, where its tables are few.
-fn with_few_tables(table: Table, tables: &mut Tables) -> Result<Table, Refusal>
+fn with_few_tables(table: Table, tables: &mut TableSet) -> Result<Table, Refusal>
     ensures same { IfOk result (λ x. x ≡ table) }
-    ensures tables { IfOk result (λ x. tables.new ≡ with_setup tables.old x) }
-    ensures few { OnOk result (length tables.new ≤ max_tables) }
-    ensures fewer { OnOk result (length (with_setup tables.old table) ≤ max_tables) }
-    ensures many { IfErr result (λ e. (e ≡ Refusal.Fault TooManyTables) × (max_tables < length (with_setup tables.old table))) }
+    ensures tables { IfOk result (λ x. tables.new.names ≡ with_setup tables.old.names x) }
+    ensures few { OnOk result (length (with_setup tables.old.names table) ≤ max_tables) }
+    ensures many { IfErr result (λ e. (e ≡ Refusal.Fault TooManyTables) × (max_tables < length (with_setup tables.old.names table))) }
 {
-    if !tables.add_rows(table.rows()) {
+    if !add_rows(tables, table.rows()) {
         return Err(Refusal::Fault(GrammarFault::TooManyTables));
     }
-    tables.are_few();
     Ok(table)
 }
 
 /// Why reading a setup's tokens stopped, of which these were read: a fifth table among them came first.
-fn behind_tables(tables: &mut Tables, refusal: Refusal, read: &[Token]) -> Refusal
-    ensures { result ≡ refusal_behind (with_setup_tokens false tables.old read.now) refusal }
+fn behind_tables(tables: &mut TableSet, refusal: Refusal, read: &[Token]) -> Refusal
+    ensures { result ≡ refusal_behind (with_setup_tokens false tables.old.names read.now) refusal }
 {
     match refusal {
         Refusal::NoMemory => Refusal::NoMemory,
         Refusal::Fault(kind) => {
-            if !tables.add_setup_tokens(read) {
+            if !add_setup_tokens(tables, read) {
                 return Refusal::Fault(GrammarFault::TooManyTables);
             }
-            tables.are_few();
             Refusal::Fault(kind)
         }
     }

@@ -5,6 +5,6 @@ pub returns-in-Ok-clause-found : goal.returns-in-Ok-clause-found
 returns-in-Ok-clause-found c = (
   c.in-Ok.setup,
   c.in-Ok.ensures.found,
-  subst (λ names. length names ≤ 4) c.in-Ok.ensures.tables c.in-Ok.ensures.few,
+  subst (λ names. length names ≤ 4) c.in-Ok.ensures.tables c.read_setup.new.tables.few,
   ap (λ lines. record { setup = c.in-Ok.setup; lines = lines }) (c.new-in-Ok.ensures ∙ c.new.ensures.items),
 )

@@ -24,7 +24,7 @@ returns-in-Ok-clause-within c =
 
 pub returns-in-Ok-clause-only : goal.returns-in-Ok-clause-only
 returns-in-Ok-clause-only c = λ commands h le.
-    admitted (λ x. x.items) (with_commands c.args.tables.now) c.with_few_tables.result c.in-Ok.commands.items commands
+    admitted (λ x. x.items) (with_commands c.args.tables.now.names) c.with_few_tables.result c.in-Ok.commands.items commands
     (reads_is _ _ (sym (commands_again h c.args.room le) ∙ c.in-Ok.ensures)) c.with_few_tables.ensures.same c.with_few_tables.ensures.many
 
 pub returns-in-Ok-clause-kind : goal.returns-in-Ok-clause-kind
@@ -32,8 +32,8 @@ returns-in-Ok-clause-kind c = IfErr-weaker c.with_few_tables.result _ _ (fifth_o
 
 pub returns-in-Ok-clause-first : goal.returns-in-Ok-clause-first
 returns-in-Ok-clause-first c =
-    commands_first c.with_few_tables.result c.args.tables.now c.args.tokens.now c.in-Ok.commands.items (commands_read c.args.room c.args.tokens.now) c.in-Ok.ensures
-    c.with_few_tables.ensures.fewer c.with_few_tables.ensures.many
+    commands_first c.with_few_tables.result c.args.tables.now.names c.args.tokens.now c.in-Ok.commands.items (commands_read c.args.room c.args.tokens.now) c.in-Ok.ensures
+    c.with_few_tables.ensures.few c.with_few_tables.ensures.many
 
 pub returns-in-Err-clause-only : goal.returns-in-Err-clause-only
 returns-in-Err-clause-only c = λ commands h le.
@@ -47,7 +47,7 @@ returns-in-Err-clause-kind c =
 
 pub returns-in-Err-clause-first : goal.returns-in-Err-clause-first
 returns-in-Err-clause-first c =
-    let names = c.args.tables.now in
+    let names = c.args.tables.now.names in
     let ts = c.args.tokens.now in
     let left = c.left-left.ensures in
     let read : c.read_before.result.now ≡ passed ts (length c.commands.new.self) = c.read_before.ensures ∙ ap (passed ts) left in

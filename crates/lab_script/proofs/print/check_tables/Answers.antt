@@ -6,6 +6,6 @@ use Rattle.lab_script.proofs.print.check_tables.Goals as goal
 pub returns-then-not-add_rows-clause-many : goal.returns-then-not-add_rows-clause-many
 returns-then-not-add_rows-clause-many c =
     let rows = ap length (ap (λ names. with_rows names c.rows.result.now) c.new-tables.ensures ∙ ap (with_rows []) c.rows.ensures) in
-    let over : 4 < length (with_rows c.new-tables.result c.rows.result.now) = c.if-not-add_rows.ensures in
+    let over : 4 < length (with_rows c.new-tables.result.names c.rows.result.now) = c.if-not-add_rows.ensures in
     let more = lines_longer (setup_tables c.args.script.now.setup) c.args.script.now.lines in
     (refl, omega (arith, over, rows, more))

@@ -33,7 +33,7 @@ returns-in-Ok-clause-kind c = IfErr-weaker c.with_few_tables.result _ _ (fifth_o
 pub returns-in-Ok-clause-first : goal.returns-in-Ok-clause-first
 returns-in-Ok-clause-first c =
     setup_first c.with_few_tables.result c.args.tokens.now c.in-Ok.table (setup_read c.args.tokens.now) c.in-Ok.ensures
-    (subst (λ names. OnOk c.with_few_tables.result (length (with_setup names c.in-Ok.table) ≤ 4)) c.requires.none c.with_few_tables.ensures.fewer)
+    (subst (λ names. OnOk c.with_few_tables.result (length (with_setup names c.in-Ok.table) ≤ 4)) c.requires.none c.with_few_tables.ensures.few)
     (subst (λ names. IfErr c.with_few_tables.result (IsFifth (with_setup names c.in-Ok.table))) c.requires.none c.with_few_tables.ensures.many)
 
 pub returns-in-Err-clause-only : goal.returns-in-Err-clause-only

@@ -2,7 +2,7 @@ use Rattle.std.proofs.Common.{◌≡◌, ◌+◌, ◌<◌, ◌∷◌, drop, leng
 use Rattle.std.proofs.lemmas.List.{drop_more}
 use Rattle.lab_script.specs.Tables.{with_command, with_lines}
 use Rattle.lab_script.proofs.FewTables.{lines_longer}
-use Rattle.lab_script.proofs.tables.Tables.add_lines.Goals as goal
+use Rattle.lab_script.proofs.tables.add_lines.Goals as goal
 
 pub returns-then-not-add_command : goal.returns-then-not-add_command
 returns-then-not-add_command c =
@@ -11,7 +11,7 @@ returns-then-not-add_command c =
     let x = c.line-item.result in
     let behind = drop (i + 1) xs in
     let left : drop i xs ≡ x ∷ behind = drop_more xs i x c.loop-line-test.true ∙ ap (λ y. y ∷ behind) (sym c.line-item.is) in
-    let more = lines_longer (with_command c.loop-line.self x.command) behind in
-    let all = ap length (sym c.loop-line.invariant ∙ ap (with_lines c.loop-line.self) left) in
-    let over : 4 < length (with_command c.loop-line.self x.command) = c.if-not-add_command.ensures in
+    let more = lines_longer (with_command c.loop-line.tables.names x.command) behind in
+    let all = ap length (sym c.loop-line.invariant ∙ ap (with_lines c.loop-line.tables.names) left) in
+    let over : 4 < length (with_command c.loop-line.tables.names x.command) = c.if-not-add_command.ensures in
     omega (arith, over, more, all)

@@ -2,7 +2,7 @@ use Rattle.std.proofs.Common.{◌≡◌, sym, ap, ◌∙◌}
 use Rattle.std.specs.Cmp.Lexicographic.{bytes_decides}
 use Rattle.lab_table.proofs.OneTable.{all_are}
 use Rattle.lab_history.proofs.CountedTables.{one_met}
-use Rattle.lab_history.proofs.tables.Tables.has_all.Goals as goal
+use Rattle.lab_history.proofs.tables.has_all.Goals as goal
 
 pub returns-then-eq : goal.returns-then-eq
 returns-then-eq g c = λ t.
@@ -14,4 +14,4 @@ returns-then-eq g c = λ t.
     let of_first : first.0.table ≡ table = sym (ap (λ e. e.0.table) c.first-in-Some.view_is) in
     let of_last : last.0.table ≡ other = sym (ap (λ e. e.0.table) c.last-in-Some-last.view_is) in
     let one : table ≡ other = (bytes_decides table other).0 (sym c.eq.ensures ∙ c.if-eq.true) in
-    one_met c.args.self.now table (sym c.has.ensures ∙ t) es (all_are table es first last c.requires (sym c.in-Some.ensures.value) (sym c.in-Some-last.ensures.value) of_first (of_last ∙ sym one))
+    one_met c.args.tables.now.names table (sym c.has.ensures ∙ t) es (all_are table es first last c.requires (sym c.in-Some.ensures.value) (sym c.in-Some-last.ensures.value) of_first (of_last ∙ sym one))

@@ -1,7 +1,7 @@
 use Rattle.std.proofs.Common.{T, sym, subst}
 use Rattle.std.specs.FinMap.{entries_sorted, is_sorted}
 use Rattle.lab_table.specs.Row.{row_cmp}
-use Rattle.lab_history.proofs.tables.Tables.with_all.Goals as goal
+use Rattle.lab_history.proofs.tables.with_all.Goals as goal
 
 pub with_rows-requires : goal.with_rows-requires
 with_rows-requires c = subst (λ es. T (is_sorted row_cmp es)) (sym c.rows.ensures) (entries_sorted c.args.parts.now.initial)

@@ -2,7 +2,7 @@ use Rattle.std.proofs.Common.{◌≡◌, ◌+◌, ◌<◌, ◌∷◌, drop, leng
 use Rattle.std.proofs.lemmas.List.{drop_more}
 use Rattle.lab_script.specs.Tables.{with_name, with_rows}
 use Rattle.lab_script.proofs.FewTables.{rows_longer}
-use Rattle.lab_script.proofs.tables.Tables.add_rows.Goals as goal
+use Rattle.lab_script.proofs.tables.add_rows.Goals as goal
 
 pub returns-then-not-add_row : goal.returns-then-not-add_row
 returns-then-not-add_row c =
@@ -11,7 +11,7 @@ returns-then-not-add_row c =
     let x = c.row-item.result in
     let behind = drop (i + 1) xs in
     let left : drop i xs ≡ x ∷ behind = drop_more xs i x c.loop-row-test.true ∙ ap (λ y. y ∷ behind) (sym c.row-item.is) in
-    let more = rows_longer (with_name c.loop-row.self x.0.table) behind in
-    let all = ap length (sym c.loop-row.invariant ∙ ap (with_rows c.loop-row.self) left) in
-    let over : 4 < length (with_name c.loop-row.self x.0.table) = c.if-not-add_row.ensures in
+    let more = rows_longer (with_name c.loop-row.tables.names x.0.table) behind in
+    let all = ap length (sym c.loop-row.invariant ∙ ap (with_rows c.loop-row.tables.names) left) in
+    let over : 4 < length (with_name c.loop-row.tables.names x.0.table) = c.if-not-add_row.ensures in
     omega (arith, over, more, all)

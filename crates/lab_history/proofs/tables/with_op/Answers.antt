@@ -5,7 +5,7 @@ use Rattle.lab_table.specs.Row.{row_cmp}
 use Rattle.lab_history.specs.RunningTables.{rows_within}
 use Rattle.lab_history.proofs.NewStates.{new_states_sorted}
 use Rattle.lab_history.proofs.CountedTables.{states_met}
-use Rattle.lab_history.proofs.tables.Tables.with_op.Goals as goal
+use Rattle.lab_history.proofs.tables.with_op.Goals as goal
 
 pub with_rows-requires : goal.with_rows-requires
 with_rows-requires c = subst (λ es. T (is_sorted row_cmp es)) (sym c.entries.ensures) (entries_sorted c.args.op.now.view)
@@ -19,7 +19,7 @@ with_rows-requires-3 c = subst T (new_states_sorted c.entries-3.result.now) (sub
 pub returns : goal.returns
 returns c =
     let op = c.args.op.now in
-    let view = c.in_ok-with_rows.ensures ∙ ap (rows_within c.in_ok-with.field-0) c.entries.ensures ∙ ap (option_and_then (λ more. rows_within more (entries op.view))) c.in_ok-with.ensures in
-    let rows = c.in_ok-with_rows-2.ensures ∙ ap (rows_within c.in_ok-with_rows.field-0) c.entries-2.ensures ∙ ap (option_and_then (λ most. rows_within most (entries op.rows))) view in
-    let met = c.in_ok-with_rows-2.field-0 in
+    let view = c.in_ok-tables-2.ensures ∙ ap (rows_within c.in_ok-tables.tables.names) c.entries.ensures ∙ ap (option_and_then (λ more. rows_within more (entries op.view))) c.in_ok-tables.ensures in
+    let rows = c.in_ok-tables-3.ensures ∙ ap (rows_within c.in_ok-tables-2.tables.names) c.entries-2.ensures ∙ ap (option_and_then (λ most. rows_within most (entries op.rows))) view in
+    let met = c.in_ok-tables-3.tables.names in
     c.with_rows-3.ensures ∙ states_met met c.entries-3.result.now ∙ ap (rows_within met) c.entries-3.ensures ∙ ap (option_and_then (λ most. rows_within most (entries op.writes))) rows

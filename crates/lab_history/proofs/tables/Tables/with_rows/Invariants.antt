@@ -1,6 +1,0 @@
-use Rattle.std.proofs.Common.{◌≡◌, drop}
-use Rattle.lab_history.specs.RunningTables.{rows_within}
-use Rattle.lab_history.proofs.tables.Tables.with_rows.Given as goal
-
-abbrev pub invariant-loop-entry : goal.invariant-loop-entry
-invariant-loop-entry g l = rows_within l.tables (drop l.entry-index l.entries) ≡ rows_within l.fn.self l.entries

@@ -1,6 +1,0 @@
-use Rattle.std.proofs.Common.{◌≡◌, drop}
-use Rattle.lab_history.specs.RunningTables.{txns_within}
-use Rattle.lab_history.proofs.tables.Tables.with_txns.Given as goal
-
-abbrev pub invariant-loop-txn : goal.invariant-loop-txn
-invariant-loop-txn l = txns_within l.tables (drop l.txn-index l.txns) ≡ txns_within l.fn.self l.txns

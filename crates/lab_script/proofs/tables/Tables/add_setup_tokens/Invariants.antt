@@ -1,6 +1,0 @@
-use Rattle.std.proofs.Common.{◌≡◌, false, drop}
-use Rattle.lab_script.specs.PassedTables.{with_setup_tokens}
-use Rattle.lab_script.proofs.tables.Tables.add_setup_tokens.Given as goal
-
-abbrev pub invariant-loop-token : goal.invariant-loop-token
-invariant-loop-token l = with_setup_tokens l.named l.self (drop l.token-index l.tokens) ≡ with_setup_tokens false l.fn.self l.fn.tokens
