@@ -3,11 +3,8 @@
 use crate::grammar::{Item, Place};
 use crate::position::{Position, is_in_range, number_of, step_at};
 use crate::token::{Kind, Token, tokens_of};
-use lab_table::{ByRow, NoMemory, RowId, RowName, TableName};
+use lab_table::{ByRow, MAX_TABLES, NoMemory, RowId, RowName, TableName};
 use std::alloc::Global;
-
-/// The most tables that a script may name.
-const MAX_TABLES: usize = 4;
 
 /// The most parentheses and `not`s that may be open.
 const MAX_DEPTH: usize = 16;
