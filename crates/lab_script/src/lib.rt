@@ -47,6 +47,7 @@ mod ranges;
 mod refusal;
 mod round_trip;
 mod row;
+mod row_text;
 mod script;
 mod serial;
 mod setup;
@@ -66,8 +67,8 @@ pub use laws::{
 pub use limits::{MAX_COMMANDS, MAX_DEPTH, MAX_LINE_BYTES, MAX_LINES, MAX_STATEMENT_BYTES};
 pub use parse::parse_script;
 pub use print::{PrintFault, check_statement, print_script, print_statement, put_printable};
+pub use row_text::{put_list, put_row_name};
 pub use script::{Line, Lines, Script};
 pub use serial::run_serial;
-pub use spelling::{put_list, put_row_name};
 pub use statement_text::parse_statement;
 pub use transcript::{Transcript, print_transcript};

@@ -6,7 +6,8 @@ ghost use Rattle.lab_script.specs.TranscriptView.{broken_with, fault_text, limit
 ghost use Rattle.lab_script.specs.Transcript.{heading_text};
 
 use crate::print::{PrintFault, check_statement};
-use crate::spelling::{put_list, put_named_rows, put_row_name, put_statement};
+use crate::row_text::{put_list, put_named_rows, put_row_name};
+use crate::spelling::put_statement;
 use itoa::Buffer;
 use lab_table::{NoMemory, RowName, Session, Statement, TableFault, Value};
 use std::alloc::{AllocError, Global};

@@ -1,7 +1,7 @@
 use Rattle.std.proofs.Common.{◌≡◌, ◌++◌, drop}
 use Rattle.lab_script.specs.Printed.{printed_rows}
 use Rattle.lab_script.proofs.Joined.{followed}
-use Rattle.lab_script.proofs.spelling.put_list.Given as goal
+use Rattle.lab_script.proofs.row_text.put_list.Given as goal
 
 abbrev pub invariant-loop-row : goal.invariant-loop-row
 invariant-loop-row l =

@@ -3,7 +3,7 @@ use Rattle.std.proofs.lemmas.Grind.{common_steps}
 use Rattle.lab_script.specs.Printed.{joined, printed_named_row, printed_named_rows}
 use Rattle.lab_script.proofs.Joined.{followed}
 use Rattle.lab_script.proofs.PutTexts.{first_put, same_length}
-use Rattle.lab_script.proofs.spelling.put_named_rows.Goals as goal
+use Rattle.lab_script.proofs.row_text.put_named_rows.Goals as goal
 
 pub loop-row-init : goal.loop-row-init
 loop-row-init g c =

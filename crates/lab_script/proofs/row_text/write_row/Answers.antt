@@ -1,6 +1,6 @@
 use Rattle.std.proofs.Common.{refl, arith, append_assoc, to_z-of_z, w64}
 use Rattle.std.proofs.lemmas.List.{drop_all}
-use Rattle.lab_script.proofs.spelling.write_row.Goals as goal
+use Rattle.lab_script.proofs.row_text.write_row.Goals as goal
 
 pub returns-clause-written : goal.returns-clause-written
 returns-clause-written c =

@@ -4,7 +4,7 @@ use Rattle.std.proofs.lemmas.Grind.{common_steps}
 use Rattle.std.proofs.lemmas.List.{drop_all}
 use Rattle.lab_script.specs.Printed.{printed_row, printed_rows, rows_or}
 use Rattle.lab_script.proofs.Joined.{all_joined, followed}
-use Rattle.lab_script.proofs.spelling.put_list.Goals as goal
+use Rattle.lab_script.proofs.row_text.put_list.Goals as goal
 
 pub returns : goal.returns
 returns c =
