@@ -1,33 +1,15 @@
 -- Bits of a set of sessions.
-use Rattle.std.proofs.Common.{◌≡◌, ℕ, zero, suc, ◌-◌, ◌*◌, ◌/◌, ◌%◌, ◌^◌, ◌<◌, ◌≤◌, ◌==◌, ◌||◌, ◌&&◌, max, min, Bool, true, false, refl, ap, sym, subst, ◌∙◌, inl, inr, arith}
+use Rattle.std.proofs.Common.{◌≡◌, ℕ, ◌-◌, ◌*◌, ◌/◌, ◌%◌, ◌^◌, ◌<◌, ◌≤◌, ◌==◌, ◌||◌, ◌&&◌, min, true, false, refl, ap, sym, subst, ◌∙◌, inl, inr, arith}
 use Rattle.std.specs.Prelude.{IsTrue, bit_or, bit_and, Option, Some, None, IsSome, IfSome, ◌↔◌}
 use Rattle.std.specs.Int.{bit_at, trailing_zeros, w16}
 use Rattle.std.proofs.lemmas.Bool.{cases_eq, eq-eqb, ne_eqb, eqb-true, both_ways, or_cases, and_parts, cases_lt}
-use Rattle.std.proofs.lemmas.Nat.Bits.{bit_at_or, bit_at_and, bit_at-lt, bit_at-zero, bit_at-pow_same, bit_at-pow_other, shr_and_one, bit_at-trailing_zeros, bit_at_ones, same_from_bits}
+use Rattle.std.proofs.lemmas.Nat.Bits.{bit_at_and, bit_at-lt, bit_at-zero, bit_at_set_same, bit_at_set_other, shr_and_one, bit_at-trailing_zeros, bit_at_ones, same_from_bits}
 use Rattle.std.specs.Int.Bits.{mask_lt}
-use Rattle.std.proofs.Math.Pow.{pow-lt}
-use Rattle.std.proofs.Math.Nat.{mod-eq_of_lt}
 use Rattle.lab_engine.specs.SessionBits.{has, AreSessions}
-
--- a bit of two words together
-either : (a b : ℕ) → a < 2 → b < 2 → (max a b == 1) ≡ ((a == 1) || (b == 1))
-either zero zero _ _ = refl
-either zero (suc zero) _ _ = refl
-either (suc zero) zero _ _ = refl
-either (suc zero) (suc zero) _ _ = refl
-either (suc (suc a)) b small _ = absurd (omega arith)
-either zero (suc (suc b)) _ small = absurd (omega arith)
-either (suc zero) (suc (suc b)) _ small = absurd (omega arith)
 
 -- a bit that both words have
 both : (a b : ℕ) → a < 2 → b < 2 → (min a b == 1) ≡ ((a == 1) && (b == 1))
-both zero zero _ _ = refl
-both zero (suc zero) _ _ = refl
-both (suc zero) zero _ _ = refl
-both (suc zero) (suc zero) _ _ = refl
-both (suc (suc a)) b small _ = absurd (omega arith)
-both zero (suc (suc b)) _ small = absurd (omega arith)
-both (suc zero) (suc (suc b)) _ small = absurd (omega arith)
+both a b small few = grind (arith, small, few)
 
 -- the set of nobody
 pub has_nobody : (n : ℕ) → has 0 n ≡ false
@@ -39,35 +21,19 @@ pub has_common : (a b n : ℕ) → has (bit_and a b) n ≡ (has a n && has b n)
 unfolding has
 has_common a b n = ap (λ x. x == 1) (bit_at_and a b n) ∙ both (bit_at a n) (bit_at b n) (bit_at-lt a n) (bit_at-lt b n)
 
-has_either : (a b n : ℕ) → has (bit_or a b) n ≡ (has a n || has b n)
-unfolding has
-has_either a b n = ap (λ x. x == 1) (bit_at_or a b n) ∙ either (bit_at a n) (bit_at b n) (bit_at-lt a n) (bit_at-lt b n)
-
 -- what is tested
 pub has_tested : (set n : ℕ) → (bit_and (set / 2 ^ n) 1 == 1) ≡ has set n
 unfolding has
 has_tested set n = ap (λ bit. bit == 1) (shr_and_one set n)
 
--- the word of one session
-bit_of : (k : ℕ) → k < 16 → 1 * 2 ^ k % 65536 ≡ 2 ^ k
-bit_of k small = let fits : 2 ^ k < 2 ^ 16 = pow-lt small in ap (λ x. x % 65536) (omega arith) ∙ mod-eq_of_lt fits
-
-has_one : (k n : ℕ) → has (2 ^ k) n ≡ (n == k)
-unfolding has
-has_one k n = elim (cases_eq n k) [
-  | inl same ↦ ap (λ x. bit_at (2 ^ k) x == 1) same ∙ ap (λ x. x == 1) (bit_at-pow_same k) ∙ sym (eq-eqb n k same)
-  | inr other ↦ ap (λ x. x == 1) (bit_at-pow_other k n other) ∙ sym (ne_eqb n k other)
-]
-
-or_swap : (a b : Bool) → (a || b) ≡ (b || a)
-or_swap true true = refl
-or_swap true false = refl
-or_swap false true = refl
-or_swap false false = refl
-
 -- a set with one session more
 pub has_inserted : (set k n : ℕ) → k < 16 → has (bit_or set (1 * 2 ^ k % 65536)) n ≡ (n == k || has set n)
-has_inserted set k n small = ap (λ x. has (bit_or set x) n) (bit_of k small) ∙ has_either set (2 ^ k) n ∙ ap (λ b. has set n || b) (has_one k n) ∙ or_swap (has set n) (n == k)
+unfolding has
+has_inserted set k n small = elim (cases_eq n k) [
+  | inl same ↦ subst (λ m. (bit_at (bit_or set (1 * 2 ^ k % 65536)) m == 1) ≡ (m == k || (bit_at set m == 1))) (sym same)
+      (ap (λ b. b == 1) (bit_at_set_same w16 set k small) ∙ sym (ap (λ b. b || (bit_at set k == 1)) (eq-eqb k k refl)))
+  | inr apart ↦ ap (λ b. b == 1) (bit_at_set_other w16 set k small n apart) ∙ sym (ap (λ b. b || (bit_at set n == 1)) (ne_eqb n k apart))
+]
 
 -- it has only sessions
 pub sessions_inserted : (set k : ℕ) → 1 ≤ k → k ≤ 9 → AreSessions set → AreSessions (bit_or set (1 * 2 ^ k % 65536))
@@ -76,35 +42,15 @@ sessions_inserted set k low high h n there = elim (or_cases (n == k) (has set n)
   | inr p ↦ h n p
 ]
 
--- the set of one session
-pub has_only : (k n : ℕ) → k < 16 → has (1 * 2 ^ k % 65536) n ≡ (n == k)
-has_only k n small = ap (λ x. has x n) (bit_of k small) ∙ has_one k n
-
-pub sessions_only : (k : ℕ) → 1 ≤ k → k ≤ 9 → AreSessions (1 * 2 ^ k % 65536)
-sessions_only k low high n there = let same : n ≡ k = eqb-true n k (sym (has_only k n (omega (arith, high))) ∙ there) in (omega (arith, low, same), omega (arith, high, same))
-
 pub sessions_common : (a b : ℕ) → AreSessions a → AreSessions (bit_and a b)
 sessions_common a b h n there = h n (and_parts _ _ (sym (has_common a b n) ∙ there)).0
 
 pub sessions_nobody : AreSessions 0
 sessions_nobody n there = absurd (both_ways _ (has_nobody n) there)
 
--- a bit under a bit that is set
-under_one : (b : ℕ) → b < 2 → min b 1 ≡ b
-under_one zero small = refl
-under_one (suc zero) small = refl
-under_one (suc (suc b)) small = absurd (omega arith)
-
-under_none : (b : ℕ) → b < 2 → min 0 b ≡ 0
-under_none zero small = refl
-under_none (suc zero) small = refl
-under_none (suc (suc b)) small = absurd (omega arith)
-
 -- a bit that isn't set
 not_set : (b : ℕ) → b < 2 → ((b == 1) ≡ true → ⊥) → b ≡ 0
-not_set zero small none = refl
-not_set (suc zero) small none = absurd (none refl)
-not_set (suc (suc b)) small none = absurd (omega arith)
+not_set b small none = grind (arith, small, none)
 
 -- the lowest bit of a set is its least session
 module _ (set : ℕ) (h : AreSessions set) where
@@ -114,8 +60,8 @@ module _ (set : ℕ) (h : AreSessions set) where
 
   masked : (i : ℕ) → min (bit_at set i) (bit_at (2 ^ 16 - 1) i) ≡ bit_at set i
   masked i = elim (cases_lt i 16) [
-    | inl inside ↦ ap (min (bit_at set i)) (bit_at_ones 16 i inside) ∙ under_one (bit_at set i) (bit_at-lt set i)
-    | inr le ↦ ap (λ b. min b (bit_at (2 ^ 16 - 1) i)) (above i le) ∙ under_none (bit_at (2 ^ 16 - 1) i) (bit_at-lt (2 ^ 16 - 1) i) ∙ sym (above i le)
+    | inl inside ↦ ap (min (bit_at set i)) (bit_at_ones 16 i inside) ∙ omega (arith, bit_at-lt set i)
+    | inr le ↦ ap (λ b. min b (bit_at (2 ^ 16 - 1) i)) (above i le) ∙ omega arith ∙ sym (above i le)
   ]
 
   range : set < 65536

@@ -1,7 +1,9 @@
 -- Layers of those from which walks lead to a goal, by how many stand between.
 use Rattle.std.proofs.Common.{◌≡◌, ℕ, ◌+◌, ◌-◌, ◌≤◌, ◌<◌, ◌==◌, ◌&&◌, ◌⊎◌, refl, sym, ap, subst, ◌∙◌, inl, inr, arith, false, List, [], ◌∷◌, ◌++◌, length, get_or, set, replicate}
 use Rattle.std.specs.Prelude.{IsTrue, Option, Some, None, IfSome, ◌↔◌, is_some}
-use Rattle.std.proofs.lemmas.Bool.{cases_eq, cases_lt, eq-eqb, eqb-true, both_ways, and_parts, and_from}
+use Rattle.std.specs.List.{list_any}
+use Rattle.std.proofs.Math.Bool.{or-false}
+use Rattle.std.proofs.lemmas.Bool.{cases_eq, cases_lt, eq-eqb, eqb-true, both_ways, or_left, and_parts, and_from}
 use Rattle.std.proofs.lemmas.List.{get_or-set_same, get_or-set_other, append-nil, append_assoc}
 use Rattle.lab_engine.specs.SessionBits.{has}
 use Rattle.lab_engine.specs.WaitsFor.{waits_for, WaitsForOne, IsWalk, IsRound}
@@ -12,16 +14,16 @@ use Rattle.lab_engine.proofs.Walks.{shortest_once, once_walk, once_few}
 
 module _ (graph : List ℕ) (goal : ℕ) where
   -- those that wait for the goal
-  first_layer : (only set : ℕ) → ((n : ℕ) → has only n ≡ (n == goal)) → ((s : ℕ) → IsTrue (has set s) ↔ WaitsForOne graph only s) → (s : ℕ) → IsTrue (has set s) ↔ Leads graph 0 s goal
+  first_layer : (only set : ℕ) → ((n : ℕ) → has only n ≡ list_any (λ k. k == n) (goal ∷ [])) → ((s : ℕ) → IsTrue (has set s) ↔ WaitsForOne graph only s) → (s : ℕ) → IsTrue (has set s) ↔ Leads graph 0 s goal
   first_layer only set is waiters s = (to, from)
     where
       to : IsTrue (has set s) → Leads graph 0 s goal
       to there =
           let w : WaitsForOne graph only s = (waiters s).0 there in
-          ([], refl, subst (λ k. IsTrue (waits_for graph s k)) (eqb-true w.0 goal (sym (is w.0) ∙ w.2)) w.1)
+          ([], refl, subst (λ k. IsTrue (waits_for graph s k)) (sym (eqb-true goal w.0 (sym (or-false (goal == w.0)) ∙ sym (is w.0) ∙ w.2))) w.1)
 
       from : Leads graph 0 s goal → IsTrue (has set s)
-      from ([], size, walk) = (waiters s).1 (goal, walk, is goal ∙ eq-eqb goal goal refl)
+      from ([], size, walk) = (waiters s).1 (goal, walk, is goal ∙ or_left _ _ (eq-eqb goal goal refl))
       from (next ∷ rest, size, walk) = absurd (omega (arith, size))
 
   -- those that wait for one of a layer
@@ -40,7 +42,7 @@ module _ (graph : List ℕ) (goal : ℕ) where
       from (next ∷ rest, size, walk) = (waiters s).1 (next, walk.0, (h next).1 (rest, omega (arith, size), walk.1))
 
   -- the layers before the first turn
-  pub layers_first : (only first : ℕ) → ((n : ℕ) → has only n ≡ (n == goal)) → ((s : ℕ) → IsTrue (has first s) ↔ WaitsForOne graph only s) → AreLayers graph goal 1 (replicate 9 first)
+  pub layers_first : (only first : ℕ) → ((n : ℕ) → has only n ≡ list_any (λ k. k == n) (goal ∷ [])) → ((s : ℕ) → IsTrue (has first s) ↔ WaitsForOne graph only s) → AreLayers graph goal 1 (replicate 9 first)
   layers_first only first is waiters between less s =
       let none : between ≡ 0 = omega (arith, less) in
       subst (λ k. IsTrue (has (get_or (replicate 9 first) k 0) s) ↔ Leads graph k s goal) (sym none)

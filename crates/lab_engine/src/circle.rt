@@ -21,7 +21,7 @@ use std::alloc::Global;
 fn layers_to(waits: &WaitGraph, goal: Session) -> [SessionSet; 9]
     ensures { AreLayers waits.now goal 9 result }
 {
-    let mut layers = [waits.waiters(SessionSet::only(goal)); 9];
+    let mut layers = [waits.waiters(SessionSet::of(&[goal])); 9];
     for between in 1..9 {
         layers[between] = waits.waiters(layers[between - 1]);
     }

@@ -35,15 +35,6 @@ impl SessionSet {
         SessionSet { bits: 0 }
     }
 
-    /// The set of one session.
-    pub fn only(session: Session) -> SessionSet
-        ensures { (n : ℕ) → has result n ≡ (n == session) }
-    {
-        SessionSet {
-            bits: 1 << session.number(),
-        }
-    }
-
     /// The set of these sessions.
     pub fn of(sessions: &[Session]) -> SessionSet
         ensures { (n : ℕ) → has result n ≡ list_any (λ session. session == n) sessions.now }

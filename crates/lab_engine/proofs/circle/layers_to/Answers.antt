@@ -8,7 +8,7 @@ pub loop-between-init : goal.loop-between-init
 loop-between-init c = record {
   some = omega arith;
   size = cc;
-  layers = layers_first c.args.waits.now c.args.goal c.only.result c.waiters-layers.result c.only.ensures c.waiters-layers.ensures;
+  layers = layers_first c.args.waits.now c.args.goal c.of.result c.waiters-layers.result c.of.ensures c.waiters-layers.ensures;
 }
 
 pub loop-between-preserved : goal.loop-between-preserved
