@@ -1,5 +1,5 @@
--- Tokens one by one, and what a function that reads them returns.
-use Rattle.std.specs.Prelude.{◌≡◌, ℕ, Bool, false, ◌&&◌, ◌==◌, if◌then◌else◌, List, [], ◌∷◌, Option, Some, None, Result, Ok, Err}
+-- Tokens one by one.
+use Rattle.std.specs.Prelude.{ℕ, Bool, ◌&&◌, ◌==◌, if◌then◌else◌, List, [], ◌∷◌, Option, Some, None}
 use Rattle.std.specs.Cmp.{IsEquivalence, and_equiv, on_equiv, nat_eq_equiv}
 use Rattle.std.specs.Cmp.Lexicographic.{nat_list_eq_equiv}
 use Rattle.lab_table.specs.TableName.{table_name_eq}
@@ -7,9 +7,6 @@ use Rattle.lab_script.specs.declared.token.Word.{Word}
 use Rattle.lab_script.specs.declared.token.Word.TheVariants as word
 use Rattle.lab_script.specs.declared.token.Token.{Token}
 use Rattle.lab_script.specs.declared.token.Token.TheVariants as token
-use Rattle.lab_script.specs.declared.refusal.GrammarFault.TheVariants as grammar
-use Rattle.lab_script.specs.declared.refusal.Refusal.{Refusal}
-use Rattle.lab_script.specs.declared.refusal.Refusal.TheVariants as refusal
 
 -- A number for each word, names alike.
 abbrev pub word_number : Word → ℕ
@@ -82,22 +79,6 @@ is_token a b = token_number a == token_number b && token_digits a == token_digit
 pub tokens_equiv : IsEquivalence is_token
 tokens_equiv =
     and_equiv (and_equiv (on_equiv token_number nat_eq_equiv) (on_equiv token_digits nat_eq_equiv)) (on_equiv token_name nat_list_eq_equiv)
-
--- reading fails too, or memory ran out
-abbrev pub Fails : {Y : Type 0} → Refusal → Option Y → Type 0
-Fails refusal.NoMemory read = Unit {0}
-Fails (refusal.Fault kind) read = read ≡ None
-
--- what a function returned, seen by view, is what reading gives, unless memory ran out
-abbrev pub Gives : {X Y : Type 0} → (X → Y) → Result X Refusal → Option Y → Type 0
-Gives view (Ok x) read = read ≡ Some (view x)
-Gives view (Err e) read = Fails e read
-
--- what a function returned, seen by view, is this where it names few tables, and else a refusal that says so, unless memory ran out
-abbrev pub Admits : {X Y : Type 0} → Bool → (X → Y) → Result X Refusal → Y → Type 0
-Admits few view (Ok x) y = y ≡ view x
-Admits few view (Err refusal.NoMemory) y = Unit {0}
-Admits few view (Err (refusal.Fault kind)) y = (few ≡ false) × (kind ≡ grammar.TooManyTables)
 
 -- what follows this token
 abbrev pub after : Token → List Token → Option (List Token)
