@@ -50,6 +50,7 @@ pub mod Wheres
 mod Readings
 mod FaultKinds
 mod LineKinds
+mod LineFaults
 mod StoppedLoops
 mod StoppedSetups
 mod StoppedCommands

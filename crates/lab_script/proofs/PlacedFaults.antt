@@ -1,5 +1,5 @@
 -- The first fault of a line's tokens, by where reading stopped.
-use Rattle.std.proofs.Common.{◌≡◌, ℕ, false, List, [], length, Some, None, refl, sym, ap, subst, ◌∙◌}
+use Rattle.std.proofs.Common.{◌≡◌, ℕ, false, List, [], length, None, refl, sym, ap, subst}
 use Rattle.lab_table.specs.Table.{Table}
 use Rattle.lab_table.specs.declared.statement.Command.{Command}
 use Rattle.lab_script.specs.declared.token.Token.{Token}
@@ -7,8 +7,7 @@ use Rattle.lab_script.specs.declared.refusal.Refusal.{Refusal}
 use Rattle.lab_script.specs.declared.refusal.Refusal.TheVariants as refusal
 use Rattle.lab_script.specs.Fault.{kind_of, refusal_at, IsFirstInText, TellsFirst}
 use Rattle.lab_script.specs.HeldTokens.{AreStatementTokens}
-use Rattle.lab_script.specs.Reading.{Fails}
-use Rattle.lab_script.specs.Stopping.{Reading, Reads, StopsAt, read_value}
+use Rattle.lab_script.specs.Stopping.{Reading, Reads, StopsAt}
 use Rattle.lab_script.specs.FirstFaults.{passed, placed_refusal, refusal_behind, fault_in, commands_fault_in, setup_fault_in, statement_fault, StopsFirst}
 use Rattle.lab_script.specs.PassedTables.{with_tokens, with_setup_tokens}
 
@@ -16,16 +15,6 @@ use Rattle.lab_script.specs.PassedTables.{with_tokens, with_setup_tokens}
 pub stops_first : {X : Type 0} (ts left : List Token) (read : Reading X) (e : Refusal) → StopsAt e left read → StopsFirst (fault_in ts read) (placed_refusal ts e (length left))
 stops_first ts left read refusal.NoMemory stops = tt
 stops_first ts left read (refusal.Fault kind) stops = ap (fault_in ts) stops
-
--- what reads something doesn't stop
-pub stops_nothing : {X : Type 0} (left : List Token) (read : Reading X) (e : Refusal) (x : X) → read ≡ Reads x → StopsAt e left read → Fails e (Some x)
-stops_nothing left read refusal.NoMemory x is stops = tt
-stops_nothing left read (refusal.Fault kind) x is stops = ap read_value (sym is ∙ stops)
-
-pub placed_fails : {X : Type 0} (ts : List Token) (n : ℕ) (read : Reading X) (e : Refusal) (left : List Token) (x : X) → read ≡ Reads x → StopsAt e left read
-    → Fails (placed_refusal ts e n) (Some x)
-placed_fails ts n read refusal.NoMemory left x is stops = tt
-placed_fails ts n read (refusal.Fault kind) left x is stops = ap read_value (sym is ∙ stops)
 
 -- and reading to the end has none
 pub reads_all : {X : Type 0} (ts : List Token) (read : Reading X) (x : X) → read ≡ Reads x → fault_in ts read ≡ None

@@ -1,10 +1,9 @@
 -- The tokens of the text of one statement.
-use Rattle.std.proofs.Common.{◌≡◌, ℕ, ◌<◌, ◌≤◌, Bool, true, cond, List, [], ◌∷◌, ◌++◌, length, Some, refl, sym, ap, subst, ◌∙◌, inl, inr, ⊎_elim, arith}
+use Rattle.std.proofs.Common.{◌≡◌, ℕ, ◌<◌, ◌≤◌, Bool, true, cond, List, [], ◌∷◌, ◌++◌, length, Option, Some, None, refl, sym, ap, subst, ◌∙◌, inl, inr, ⊎_elim, arith}
 use Rattle.std.specs.List.{list_all}
 use Rattle.std.proofs.lemmas.Bool.{cases_Bool}
 use Rattle.lab_table.specs.declared.statement.Statement.{Statement}
 use Rattle.lab_script.specs.declared.refusal.GrammarFault.{GrammarFault}
-use Rattle.lab_script.specs.declared.refusal.GrammarFault.TheVariants as grammar
 use Rattle.lab_script.specs.declared.refusal.Refusal.{Refusal}
 use Rattle.lab_script.specs.declared.refusal.Refusal.TheVariants as refusal
 use Rattle.lab_script.specs.declared.token.Token.{Token}
@@ -14,8 +13,9 @@ use Rattle.lab_script.specs.Fault.{SaysOfStatement, IsStatementFault, kind_of, r
 use Rattle.lab_script.specs.Grammar.{IsWholeStatement}
 use Rattle.lab_script.specs.HeldTokens.{held_tokens, AreStatementTokens}
 use Rattle.lab_script.specs.Script.{begins_remark, code_of, is_code_byte, HasWhere, BeginsLongStatement, SpellsStatement}
-use Rattle.lab_script.specs.Reading.{Fails}
-use Rattle.lab_script.specs.Stops.{OfLine, IsOfLine, IfTooLong, IsLongSpelled}
+use Rattle.lab_script.specs.FirstFaults.{statement_fault, StopsFirst}
+use Rattle.lab_script.proofs.GrammarFaults.{no_statement_fault}
+use Rattle.lab_script.proofs.LineKinds.{statement_kinds}
 use Rattle.lab_script.proofs.HeldTokens.{held_whole, whole_held, held_where, held_long_statement, long_before_last}
 use Rattle.lab_script.proofs.Wheres.{where_before_last}
 use Rattle.lab_script.proofs.KnownTokens.{closed_known}
@@ -88,17 +88,11 @@ module _ (text : List ℕ) (ts : List Token) (are : AreStatementTokens text ts) 
       (λ (cut : _). held_long_statement (tokens (code_of text)) (long_before_last (held_tokens (code_of text)) (subst BeginsLongStatement cut.1 long)))
       are
 
-  says_of : (f : GrammarFault) → OfLine ts f → IfTooLong (BeginsLongStatement ts) f → SaysOfStatement (kind_of f) text
-  says_of grammar.UnknownStatement is long = (short, ascii)
-  says_of grammar.BadPredicate is long = (short, ascii, where_of is)
-  says_of grammar.BadTableName is long = (short, ascii)
-  says_of grammar.NumberOutOfRange is long = (short, ascii)
-  says_of grammar.TooDeep is long = (short, ascii)
-  says_of grammar.TooLong is long = inr (ascii, long_of long)
-  says_of grammar.DuplicateSetupRow is long = is
-  says_of grammar.TooManyTables is long = is
-
   -- where reading these tokens stopped, the text spells nothing
-  pub stop_fault : (s : Refusal) → ((t : Statement) → IsWholeStatement ts t → Fails s (Some t)) → IsOfLine ts s → IsLongSpelled ts s → IsStatementFault text (refusal_at s 1)
-  stop_fault refusal.NoMemory fails is long = tt
-  stop_fault (refusal.Fault f) fails is long = (refl, λ t spells. let none = fails t (spelled_tokens t spells) in absurd cc, says_of f is long)
+  pub stop_fault : (e : Refusal) → StopsFirst (statement_fault ts) e → IsStatementFault text (refusal_at e 1)
+  stop_fault refusal.NoMemory first = tt
+  stop_fault (refusal.Fault f) first = (
+    refl,
+    λ t spells. let none : ◌≡◌ {A = Option GrammarFault} None (Some f) = sym ((no_statement_fault ts).1 (t, spelled_tokens t spells)) ∙ first in absurd cc,
+    statement_kinds (λ g. SaysOfStatement (kind_of g) text) ts (short, ascii) (λ has. (short, ascii, where_of has)) (short, ascii) (short, ascii) (short, ascii) (λ long. inr (ascii, long_of long)) f first,
+  )

@@ -8,7 +8,7 @@ use Rattle.lab_script.specs.declared.token.Token.{Token}
 use Rattle.lab_script.specs.declared.token.Token.TheVariants as token
 use Rattle.lab_script.specs.Reading.{is_token}
 use Rattle.lab_script.specs.Script.{HasWhere}
-use Rattle.lab_script.specs.Stops.{in_predicate}
+use Rattle.lab_script.specs.FirstFaults.{in_predicate}
 use Rattle.lab_script.proofs.TokenNumbers.{same_token}
 
 -- with one more token in front

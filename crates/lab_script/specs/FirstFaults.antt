@@ -22,7 +22,6 @@ use Rattle.lab_script.specs.Limits.{max_line_bytes, max_statement_bytes}
 use Rattle.lab_script.specs.Printed.{printed_setup, printed_statement}
 use Rattle.lab_script.specs.Reading.{is_token, after}
 use Rattle.lab_script.specs.Stopping.{Reading, Reads, Stops, ◌>>=◌, if_found, token_read, tokens_read, name_read, number_read, named_row_read, row_read, where_read}
-use Rattle.lab_script.specs.Stops.{in_predicate}
 use Rattle.lab_script.specs.Tables.{are_few, with_commands, setup_tables}
 use Rattle.lab_script.specs.PassedTables.{with_tokens, with_setup_tokens}
 
@@ -205,6 +204,11 @@ setup_read ts = do
   x ← table_read rest
   end ← setup_end_read x.0 x.1
   Reads x.0
+
+-- whether tokens end behind a where with no semicolon since it, where what stands before them does so or not
+abbrev pub in_predicate : Bool → List Token → Bool
+in_predicate inside [] = inside
+in_predicate inside (t ∷ ts) = in_predicate (if is_token t (token.Word word.Where) then true else if is_token t token.Semicolon then false else inside) ts
 
 -- the kind of a fault where so many of a line's tokens are left: behind a where of its statement an unknown one is a bad predicate
 abbrev pub placed_kind : List Token → GrammarFault → ℕ → GrammarFault

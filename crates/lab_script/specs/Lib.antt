@@ -10,7 +10,6 @@ pub mod HeldTokens
 pub mod Fault
 pub mod Renumbered
 pub mod Reading
-pub mod Stops
 pub mod TranscriptView
 pub mod Transcript
 pub mod StatementText

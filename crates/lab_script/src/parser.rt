@@ -2,14 +2,11 @@
 //! line, and single statements.
 
 ghost use Rattle.std.specs.Prelude.{◌≡◌, ◌==◌, ◌≤◌, ◌<◌, length, List, Some, None, IfOk, OnOk, MatchBool, IfErr, false};
-ghost use Rattle.lab_table.specs.declared.statement.Command.{Command as Spelled};
-ghost use Rattle.lab_table.specs.declared.statement.Statement.{Statement as SpelledStatement};
 ghost use Rattle.lab_script.specs.Grammar.{IsCommands, IsWholeStatement};
-ghost use Rattle.lab_script.specs.Reading.{after, Gives, Admits};
-ghost use Rattle.lab_script.specs.Stops.{IsOfLine, IsOfCommands, IsLongSpelled, in_predicate};
+ghost use Rattle.lab_script.specs.Reading.{after};
 ghost use Rattle.lab_script.specs.Stopping.{Comes, digits_read, magnitude_read, name_read, number_read, token_read, tokens_read};
-ghost use Rattle.lab_script.specs.FirstFaults.{HasFault, commands_fault, nothing_read, passed, placed_refusal, refusal_behind, statement_fault};
-ghost use Rattle.lab_script.specs.Tables.{max_tables, are_few, with_commands};
+ghost use Rattle.lab_script.specs.FirstFaults.{HasFault, commands_fault, in_predicate, nothing_read, passed, placed_refusal, refusal_behind, statement_fault};
+ghost use Rattle.lab_script.specs.Tables.{max_tables, with_commands};
 ghost use Rattle.lab_script.specs.PassedTables.{with_tokens};
 ghost use Rattle.lab_script.specs.declared.refusal.GrammarFault.TheVariants.{TooManyTables};
 
@@ -185,9 +182,6 @@ pub fn read_commands(
     ensures found { IfOk result (λ commands. IsCommands tokens.now commands.items) }
     ensures within { IfOk result (λ commands. length commands.items ≤ room) }
     ensures tables { IfOk result (λ commands. tables.new.names ≡ with_commands tables.old.names commands.items) }
-    // What is in the grammar is read where it names few tables, unless memory runs out.
-    ensures only { (commands : List Spelled) → IsCommands tokens.now commands → length commands ≤ room → Admits (are_few (with_commands tables.old.names commands)) (λ x. x.items) result commands }
-    ensures kind { IfErr result (IsOfCommands tokens.now) }
     // Of the faults from the left it is the first.
     ensures first { HasFault (commands_fault tables.old.names room tokens.now) result }
 {
@@ -245,10 +239,6 @@ fn behind_tables(tables: &mut TableSet, refusal: Refusal, read: &[Token]) -> Ref
 pub fn read_statement(alloc: Global, tokens: &[Token]) -> Result<Statement, Refusal>
     // What is read is in the grammar.
     ensures found { IfOk result (IsWholeStatement tokens.now) }
-    // What is in the grammar is read, unless memory runs out.
-    ensures only { (statement : SpelledStatement) → IsWholeStatement tokens.now statement → Gives (λ x. x) result (Some statement) }
-    ensures kind { IfErr result (IsOfLine tokens.now) }
-    ensures long { IfErr result (IsLongSpelled tokens.now) }
     // Of the faults from the left it is the first.
     ensures first { HasFault (statement_fault tokens.now) result }
 {

@@ -1,13 +1,10 @@
 //! The setup, read from tokens.
 
 ghost use Rattle.std.specs.Prelude.{◌≡◌, ◌≤◌, ◌<◌, [], false, length, Some, None, IfOk, OnOk, MatchBool, IfErr};
-ghost use Rattle.lab_table.specs.Table.{Table as Spelled};
 ghost use Rattle.lab_script.specs.Grammar.{IsSetup};
-ghost use Rattle.lab_script.specs.Reading.{Admits};
-ghost use Rattle.lab_script.specs.Stops.{IsOfSetup};
 ghost use Rattle.lab_script.specs.Stopping.{Comes};
 ghost use Rattle.lab_script.specs.FirstFaults.{no_rows_at, HasFault, refusal_behind, row_onto_read, rows_read, setup_end_read, setup_fault, setup_read, table_read};
-ghost use Rattle.lab_script.specs.Tables.{max_tables, are_few, setup_tables, with_setup};
+ghost use Rattle.lab_script.specs.Tables.{max_tables, setup_tables, with_setup};
 ghost use Rattle.lab_script.specs.PassedTables.{with_setup_tokens};
 ghost use Rattle.lab_script.specs.declared.refusal.GrammarFault.TheVariants.{TooManyTables};
 
@@ -114,9 +111,6 @@ pub fn read_setup(alloc: Global, tokens: &[Token], tables: &mut TableSet) -> Res
     // What is read is in the grammar.
     ensures found { IfOk result (λ table. IsSetup tokens.now table) }
     ensures tables { IfOk result (λ table. tables.new.names ≡ setup_tables table) }
-    // What is in the grammar is read where it names few tables, unless memory runs out.
-    ensures only { (table : Spelled) → IsSetup tokens.now table → Admits (are_few (setup_tables table)) (λ x. x) result table }
-    ensures kind { IfErr result (IsOfSetup tokens.now) }
     // Of the faults from the left it is the first.
     ensures first { HasFault (setup_fault tokens.now) result }
 {

@@ -1,5 +1,5 @@
 use Rattle.std.proofs.Common.{◌≡◌, false, drop}
-use Rattle.lab_script.specs.Stops.{in_predicate}
+use Rattle.lab_script.specs.FirstFaults.{in_predicate}
 use Rattle.lab_script.proofs.parser.ends_in_predicate.Given as goal
 
 abbrev pub invariant-loop-token : goal.invariant-loop-token

@@ -22,7 +22,7 @@ pub returns-clause-fault : goal.returns-clause-fault
 returns-clause-fault c =
     let are = subst (λ (ts : List Token). AreStatementTokens c.args.text.now ts) (sym c.deref.ensures.value) c.in_ok-tokens.ensures in
     subst (IsStatementFault c.args.text.now) (sym c.at.ensures)
-    (stop_fault c.args.text.now c.deref.result.now are c.if-text-gt-MAX_LINE_BYTES.false (sym c.is_ascii_code.ensures ∙ c.if-not-is_ascii_code.false) c.in-Err.refusal c.in-Err.ensures.only c.in-Err.ensures.kind c.in-Err.ensures.long)
+    (stop_fault c.args.text.now c.deref.result.now are c.if-text-gt-MAX_LINE_BYTES.false (sym c.is_ascii_code.ensures ∙ c.if-not-is_ascii_code.false) c.in-Err.refusal c.in-Err.ensures.first)
 
 pub returns-clause-first : goal.returns-clause-first
 returns-clause-first c =
