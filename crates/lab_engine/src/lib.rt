@@ -17,6 +17,7 @@ mod answer_laws;
 mod candidate;
 mod chain;
 mod circle;
+mod decision;
 mod effect;
 mod engine;
 mod equality;
