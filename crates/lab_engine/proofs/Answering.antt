@@ -1,8 +1,7 @@
 -- What a session gives, and what the rules answer to it.
-use Rattle.std.proofs.Common.{◌≡◌, ◌≢◌, ℕ, Option, Some, None, inl, inr, List, [], ◌∷◌, length, ◌<◌, ◌≤◌, sym, ap, subst, ◌∙◌, arith}
-use Rattle.std.proofs.lemmas.List.{length-reverse}
+use Rattle.std.proofs.Common.{◌≡◌, ◌≢◌, ℕ, Bool, true≢false, Option, Some, None, inl, inr, List, [], ◌∷◌, length, sym, ap, subst, ◌∙◌, arith}
 use Rattle.std.proofs.Common.{refl}
-use Rattle.std.specs.Prelude.{MatchOption, Result, IfOk, Contains, true, false, ◌==◌}
+use Rattle.std.specs.Prelude.{MatchOption, Result, IfOk, Contains, is_some, true, false, ◌==◌}
 use Rattle.std.specs.declared.alloc.AllocError.{AllocError}
 use Rattle.lab_table.specs.Table.{Table, Rows, Writes}
 use Rattle.lab_history.specs.VersionName.{View}
@@ -19,12 +18,10 @@ use Rattle.lab_engine.specs.declared.rules.Conflict.{Conflict}
 use Rattle.lab_engine.specs.Effect.{IsEffectOn, IsRefusalOn, IsResultOn}
 use Rattle.lab_engine.specs.WaitsFor.{AreBlockers}
 use Rattle.lab_table.specs.declared.statement.Command.{Command}
-use Rattle.lab_engine.specs.declared.event.LogEvent.{LogEvent}
-use Rattle.lab_engine.specs.Log.{seen, Past, Txn, past_of, active, waiting, asked, begun}
+use Rattle.lab_engine.specs.Log.{seen, Past, Txn, active, waiting, asked}
 use Rattle.lab_engine.specs.Rules.{Gives, MayAsk, Asks, IsFree, IsCircle, IsEffect, MayCommit}
 use Rattle.lab_engine.specs.Answer.{MayGive, Answers}
 use Rattle.lab_engine.specs.LeastCircle.{IsLeastCircle}
-use Rattle.lab_engine.proofs.EventBounds.{begun_at_most}
 use Rattle.std.proofs.lemmas.Result.{IfOk-weaker}
 
 -- a command that runs no statement is given at rest
@@ -46,12 +43,13 @@ may_ask past session command s is (inr held) =
     let same : Some held.0 ≡ Some s = sym (ap asked held.2) ∙ is in
     inr (held.1 ∙ same)
 
--- fewer have begun than there are events
-pub begun_below : (log : List LogEvent) (n : ℕ) → n ≡ begun (past_of log) → length log < 100000 → n < 100000
-begun_below log n is room =
-    let within : begun (past_of log) ≤ length (past_of log) = begun_at_most (past_of log) in
-    let len : length (past_of log) ≡ length log = length-reverse log in
-    omega (arith, within, len, is, room)
+no_statement : (o : Option Statement) → is_some o ≡ false → o ≡ None
+no_statement None h = refl
+no_statement (Some s) h = absurd (true≢false h)
+
+-- where no statement of a session waits
+pub at_ease : (past : Past) (session : ℕ) (waits : Bool) → waits ≡ is_some (waiting past session) → waits ≡ false → waiting past session ≡ None
+at_ease past session waits is off = no_statement (waiting past session) (sym is ∙ off)
 
 -- ---- statements
 

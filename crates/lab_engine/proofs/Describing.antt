@@ -18,8 +18,7 @@ use Rattle.lab_engine.specs.declared.event.LogEvent.{LogEvent}
 use Rattle.lab_engine.specs.declared.situation.RunningTxn.{RunningTxn}
 use Rattle.lab_engine.specs.declared.situation.SessionState.{SessionState}
 use Rattle.lab_engine.specs.declared.situation.Situation.{Situation}
-use Rattle.lab_engine.specs.Log.{Past, Txn, Version, version_or, version_by, active, active_after, ops_after, asked, waiting, waiting_after, begun_after, commits, commits_after, last_installed}
-use Rattle.lab_engine.specs.Sight.{Listed}
+use Rattle.lab_engine.specs.Log.{Past, Txn, Version, version_or, version_by, active, active_after, ops_after, asked, waiting, waiting_after, begun_after, commits, last_installed}
 use Rattle.lab_engine.specs.Merging.{written_version}
 use Rattle.lab_engine.specs.Chains.{chain_in, chain_after}
 use Rattle.lab_engine.specs.Situation.{Describes, DescribesAll, Agree, IsRunning, statements_of, all_sessions, running_of, waiting_of, grown}

@@ -1,6 +1,6 @@
 //! What an engine answers to a command.
 
-ghost use Rattle.std.specs.Prelude.{◌≡◌, ◌<◌, ◌∷◌, Some, None, length, IfOk};
+ghost use Rattle.std.specs.Prelude.{◌≡◌, ◌<◌, Some, None, length, IfOk};
 ghost use Rattle.lab_table.specs.Table.{Table as PlainTable};
 ghost use Rattle.lab_engine.specs.declared.event.Level.{Level as Kind};
 ghost use Rattle.lab_engine.specs.Sight.{version_in};
@@ -10,13 +10,13 @@ ghost use Rattle.lab_table.specs.Row.{Row};
 ghost use Rattle.lab_table.specs.declared.statement.Statement.{Statement as Asked};
 ghost use Rattle.lab_engine.specs.Log.{Version as Seen};
 ghost use Rattle.lab_table.specs.declared.statement.Command.TheVariants.{Run};
-ghost use Rattle.lab_engine.specs.Log.{Txn, past_of, active};
+ghost use Rattle.lab_engine.specs.Log.{Past, Txn, active};
 ghost use Rattle.lab_engine.specs.Rules.{MayAsk};
 ghost use Rattle.lab_engine.specs.Situation.{Describes, IsRunning};
 ghost use Rattle.lab_engine.specs.Answer.{MayGive, Answers};
 
 use crate::effect::{EffectFault, effect_of};
-use crate::event::{EngineFault, LogEvent, Outcome};
+use crate::event::{EngineFault, Outcome};
 use crate::rules::Rules;
 use crate::sight::{seen_by, shown_to};
 use crate::situation::{RunningTxn, Situation};
@@ -31,18 +31,16 @@ pub fn answer_to<R: Rules>(
     alloc: Global,
     rules: &R,
     setup: &Table,
-    log: &[LogEvent],
     situation: &Situation,
     session: Session,
     command: &Command,
 ) -> Result<Outcome, NoMemory>
-    requires room { length log.now < max_events }
-    requires situation { Describes (past_of log.now) situation.now }
-    requires may { MayGive (past_of log.now) session command.now }
-    ensures { IfOk result (Answers R.kind setup.now (past_of log.now) session command.now) }
+    requires { (past : Past) × Describes past situation.now × (length past < max_events) }
+    ensures { (past : Past) → Describes past situation.now → MayGive past session command.now
+        → IfOk result (Answers R.kind setup.now past session command.now) }
 {
     let Some(running) = situation.running(session) else {
-        return Ok(without_transaction(log, situation, session, command));
+        return Ok(without_transaction(situation, session, command));
     };
     match command {
         Command::Begin => Ok(Outcome::Refused(EngineFault::AlreadyBegun)),
@@ -54,23 +52,17 @@ pub fn answer_to<R: Rules>(
             })),
         },
         Command::Abort => Ok(Outcome::Aborted),
-        Command::Run(statement) => run_statement(
-            alloc, rules, setup, log, situation, session, running, statement,
-        ),
+        Command::Run(statement) => {
+            run_statement(alloc, rules, setup, situation, session, running, statement)
+        }
     }
 }
 
 /// What the rules answer to a command of a session that has no active transaction.
-fn without_transaction(
-    log: &[LogEvent],
-    situation: &Situation,
-    session: Session,
-    command: &Command,
-) -> Outcome
-    requires room { length log.now < max_events }
-    requires situation { Describes (past_of log.now) situation.now }
-    requires none { active (past_of log.now) session ≡ None }
-    ensures { (level : Kind) (setup : PlainTable) → Answers level setup (past_of log.now) session command.now result }
+fn without_transaction(situation: &Situation, session: Session, command: &Command) -> Outcome
+    requires { (past : Past) × Describes past situation.now × (length past < max_events) }
+    ensures { (level : Kind) (setup : PlainTable) (past : Past) → Describes past situation.now → active past session ≡ None
+        → Answers level setup past session command.now result }
 {
     match command {
         Command::Begin => match TxnNo::new(situation.begun + 1) {
@@ -89,17 +81,14 @@ pub fn run_statement<R: Rules>(
     alloc: Global,
     rules: &R,
     setup: &Table,
-    log: &[LogEvent],
     situation: &Situation,
     session: Session,
     running: &RunningTxn,
     statement: &Statement,
 ) -> Result<Outcome, NoMemory>
-    requires room { length log.now < max_events }
-    requires situation { Describes (past_of log.now) situation.now }
-    requires may { MayAsk (past_of log.now) session statement.now }
-    requires running { (txn : Txn) × (active (past_of log.now) session ≡ Some txn) × IsRunning txn running.now }
-    ensures { IfOk result (Answers R.kind setup.now (past_of log.now) session (Run statement.now)) }
+    ensures { (past : Past) (txn : Txn) → Describes past situation.now → MayAsk past session statement.now
+        → active past session ≡ Some txn → IsRunning txn running.now
+        → IfOk result (Answers R.kind setup.now past session (Run statement.now)) }
 {
     let shown = shown_to(alloc, rules.level(), setup, situation, running, statement)?;
     let on = blockers(alloc, rules, setup, situation, session, &shown, statement)?;

@@ -1,19 +1,15 @@
 //! What each engine keeps, and the calls that all engines share.
 
-ghost use Rattle.std.specs.Prelude.{◌≡◌, ◌<◌, ◌∷◌, ◌++◌, [], Some, length, is_some, IsSome, IfSome, IfOk};
-ghost use Rattle.lab_engine.specs.declared.event.EngineFault.TheVariants.{Busy};
-ghost use Rattle.lab_engine.specs.declared.event.Outcome.TheVariants.{Refused};
+ghost use Rattle.std.specs.Prelude.{◌≡◌, ◌<◌, ◌∷◌, ◌++◌, [], Some, Ok, length, is_some, IsSome, IfSome, IfOk, OnErr};
+ghost use Rattle.lab_engine.specs.declared.decision.Decided.{Decided as Chosen};
 ghost use Rattle.lab_engine.specs.Limits.{max_events};
 ghost use Rattle.lab_engine.specs.Log.{past_of, active, waiting};
-ghost use Rattle.lab_engine.specs.Rules.{Permitted};
 ghost use Rattle.lab_engine.specs.Situation.{Describes};
 ghost use Rattle.lab_engine.specs.Answer.{Keeps};
-ghost use Rattle.lab_engine.specs.Engine.{IsStep, IsRetry};
-ghost use Rattle.lab_engine.specs.LeastCircle.{NamesLeastOf, NamesLeastOfWaiting};
 
-use crate::answer::answer_to;
+use crate::decision::{Decided, retry_event, step_event};
 use crate::engine::Engine;
-use crate::event::{EngineFault, Level, LogEvent, Outcome};
+use crate::event::{Level, LogEvent, Outcome};
 use crate::log_query::{is_active, waiting_statement};
 use crate::rules::Rules;
 use crate::situation::Situation;
@@ -23,8 +19,8 @@ use std::alloc::Global;
 use std::marker::Model;
 
 /// An engine of some rules. Beside its setup and its log it keeps where the log leaves sessions and rows, so no call
-/// looks through the log; but a call that is refused memory while it changes that drops it, and the next step finds it
-/// anew. Which session is retryable is found once after each event, before that event is appended.
+/// looks through the log. A call that is refused memory before it has changed that keeps it; one that is refused while it
+/// changes that drops it, and the next step finds it anew. Which session is retryable is found once after each event, before that event is appended.
 #[derive(Drop)]
 pub struct Journal<R: Rules> {
     rules: R,
@@ -50,11 +46,10 @@ impl<R: Rules> Model for Journal<R> {
     ghost invariant = { λ j. Keeps R.kind j.setup (past_of j.log.items) j.retryable j.situation };
 }
 
-/// An event that the rules permit next, its outcome once more, and what is kept of the log after it.
+/// What is kept of a log after one more event, and that event.
 #[derive(Drop)]
 struct Next {
     event: LogEvent,
-    outcome: Outcome,
     retryable: Option<Session>,
     situation: Situation,
 }
@@ -73,6 +68,52 @@ impl<R: Rules> Journal<R> {
             retryable: None,
             situation: None,
         }
+    }
+
+    /// Makes room for one more event, and takes out where the log leaves sessions and rows.
+    fn ready(&mut self, alloc: Global) -> Result<Situation, NoMemory>
+        requires { length self.old.log < max_events }
+        ensures same { self.new ≡ self.old }
+        ensures situation { IfOk result (Describes (past_of self.old.log)) }
+    {
+        self.log.try_reserve(1)?;
+        known_or_found(alloc, self.situation.take(), &self.log)
+    }
+
+    /// Appends an event that was decided on in this situation, in which the log leaves sessions and rows, and answers its
+    /// outcome. Where memory was refused to the decision, that situation is kept.
+    fn append(
+        &mut self,
+        alloc: Global,
+        situation: Situation,
+        decided: Result<Decided, NoMemory>,
+    ) -> Result<Outcome, NoMemory>
+        requires room { length self.old.log < max_events }
+        requires situation { Describes (past_of self.old.log) situation }
+        ensures ok { IfOk result (λ outcome. (d : Chosen) × (decided ≡ Ok d) × (self.new.log ≡ self.old.log ++ d.event ∷ []) × (outcome ≡ d.outcome)) }
+        ensures err { OnErr result (self.new.log ≡ self.old.log) }
+        ensures setup { self.new.setup ≡ self.old.setup }
+        ensures level { self.new.level ≡ self.old.level }
+    {
+        let decided = match decided {
+            Ok(decided) => decided,
+            Err(refusal) => {
+                self.situation = Some(situation);
+                return Err(refusal);
+            }
+        };
+        let next = next_event(
+            alloc,
+            &self.rules,
+            &self.setup,
+            &self.log,
+            situation,
+            decided.event,
+        )?;
+        self.log.push(next.event)?;
+        self.retryable = next.retryable;
+        self.situation = Some(next.situation);
+        Ok(decided.outcome)
     }
 }
 
@@ -105,98 +146,16 @@ fn next_event<R: Rules>(
     requires room { length log.now < max_events }
     requires situation { Describes (past_of log.now) situation }
     ensures event { IfOk result (λ n. n.event ≡ event) }
-    ensures copy { IfOk result (λ n. n.outcome ≡ event.outcome) }
     ensures keeps { IfOk result (λ n. Keeps R.kind setup.now (n.event ∷ past_of log.now) n.retryable (Some n.situation)) }
 {
-    let outcome = event.outcome.copy(alloc)?;
     let mut situation = situation;
     situation.take_in(alloc, &event)?;
     let retryable = retryable(alloc, rules, setup, &situation)?;
     Ok(Next {
         event,
-        outcome,
         retryable,
         situation,
     })
-}
-
-/// What the rules answer to a command, or Busy where the session waits. NoMemory where an allocation was refused.
-fn step_outcome<R: Rules>(
-    alloc: Global,
-    rules: &R,
-    setup: &Table,
-    log: &[LogEvent],
-    situation: &Situation,
-    session: Session,
-    command: &Command,
-) -> Result<Outcome, NoMemory>
-    requires room { length log.now < max_events }
-    requires situation { Describes (past_of log.now) situation.now }
-    ensures permitted { IfOk result (Permitted R.kind setup.now (past_of log.now) session command.now) }
-    ensures least { IfOk result (NamesLeastOf R.kind setup.now (past_of log.now) session command.now) }
-    ensures busy { IfOk result (λ outcome. IsSome (waiting (past_of log.now) session) → outcome ≡ Refused Busy) }
-{
-    if situation.is_waiting(session) {
-        return Ok(Outcome::Refused(EngineFault::Busy));
-    }
-    answer_to(alloc, rules, setup, log, situation, session, command)
-}
-
-/// The event of a step: what the rules answer to a command, or Busy where the session waits.
-/// NoMemory where an allocation was refused.
-fn step_event<R: Rules>(
-    alloc: Global,
-    rules: &R,
-    setup: &Table,
-    log: &[LogEvent],
-    situation: Situation,
-    session: Session,
-    command: &Command,
-) -> Result<Next, NoMemory>
-    requires room { length log.now < max_events }
-    requires situation { Describes (past_of log.now) situation }
-    ensures step { IfOk result (λ n. IsStep R.kind setup.now log.now (log.now ++ n.event ∷ []) session command.now n.outcome) }
-    ensures least { IfOk result (λ n. NamesLeastOf R.kind setup.now (past_of log.now) session command.now n.outcome) }
-    ensures keeps { IfOk result (λ n. Keeps R.kind setup.now (n.event ∷ past_of log.now) n.retryable (Some n.situation)) }
-{
-    let outcome = step_outcome(alloc, rules, setup, log, &situation, session, command)?;
-    let command = command.copy(alloc)?;
-    let event = LogEvent {
-        session,
-        command,
-        outcome,
-    };
-    next_event(alloc, rules, setup, log, situation, event)
-}
-
-/// The event of a retry: what the rules answer to the statement that the session waits with.
-/// NoMemory where an allocation was refused.
-fn retry_event<R: Rules>(
-    alloc: Global,
-    rules: &R,
-    setup: &Table,
-    log: &[LogEvent],
-    situation: Situation,
-    session: Session,
-) -> Result<Next, NoMemory>
-    requires room { length log.now < max_events }
-    requires situation { Describes (past_of log.now) situation }
-    requires waits { IsSome (waiting (past_of log.now) session) }
-    ensures retry { IfOk result (λ n. IsRetry R.kind setup.now log.now (log.now ++ n.event ∷ []) session n.outcome) }
-    ensures least { IfOk result (λ n. NamesLeastOfWaiting R.kind setup.now (past_of log.now) session n.outcome) }
-    ensures keeps { IfOk result (λ n. Keeps R.kind setup.now (n.event ∷ past_of log.now) n.retryable (Some n.situation)) }
-{
-    let Some(statement) = situation.waiting(session) else {
-        unreachable!();
-    };
-    let command = Command::Run(statement.copy(alloc)?);
-    let outcome = answer_to(alloc, rules, setup, log, &situation, session, &command)?;
-    let event = LogEvent {
-        session,
-        command,
-        outcome,
-    };
-    next_event(alloc, rules, setup, log, situation, event)
 }
 
 /// Whether a session has an active transaction, as is known, or else as the log says.
@@ -254,36 +213,30 @@ impl<R: Rules> Engine for Journal<R> {
         session: Session,
         command: &Command,
     ) -> Result<Outcome, NoMemory> {
-        let situation = known_or_found(alloc, self.situation.take(), &self.log)?;
-        let next = step_event(
+        let situation = self.ready(alloc)?;
+        let decided = step_event(
             alloc,
             &self.rules,
             &self.setup,
             &self.log,
-            situation,
+            &situation,
             session,
             command,
-        )?;
-        self.log.push(next.event)?;
-        self.retryable = next.retryable;
-        self.situation = Some(next.situation);
-        Ok(next.outcome)
+        );
+        self.append(alloc, situation, decided)
     }
 
     fn retry(&mut self, alloc: Global, session: Session) -> Result<Outcome, NoMemory> {
-        let situation = known_or_found(alloc, self.situation.take(), &self.log)?;
-        let again = retry_event(
+        let situation = self.ready(alloc)?;
+        let decided = retry_event(
             alloc,
             &self.rules,
             &self.setup,
             &self.log,
-            situation,
+            &situation,
             session,
-        )?;
-        self.log.push(again.event)?;
-        self.retryable = again.retryable;
-        self.situation = Some(again.situation);
-        Ok(again.outcome)
+        );
+        self.append(alloc, situation, decided)
     }
 
     fn retryable(&self) -> Option<Session> {

@@ -8,8 +8,9 @@
 //! Busy until `retry` has run the statement anew. `retryable` names a session for which that is of use.
 //!
 //! A [`Journal`] is an engine of any [`Rules`], which say who blocks a statement and which commits conflict. Beside its
-//! setup and its log it keeps the [`Situation`] in which the log leaves sessions and rows, so no call looks through the
-//! log. The rules of each level, and the engines as journals over them, are in `lab_locking` and `lab_versions`.
+//! setup and its log it keeps the [`Situation`] in which the log leaves sessions and rows, and calls ask that. It is found
+//! by a pass over the log at the first step, and after a step that was refused memory while the situation changed. The
+//! rules of each level, and the engines as journals over them, are in `lab_locking` and `lab_versions`.
 #![tactic(auto)]
 
 mod answer;
@@ -17,6 +18,7 @@ mod answer_laws;
 mod candidate;
 mod chain;
 mod circle;
+mod decision;
 mod effect;
 mod engine;
 mod equality;

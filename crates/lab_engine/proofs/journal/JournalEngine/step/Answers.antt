@@ -1,23 +1,20 @@
-use Rattle.std.proofs.Common.{List, ◌∷◌, ◌++◌, [], sym, subst}
-use Rattle.std.specs.Prelude.{IfSome}
-use Rattle.lab_engine.specs.Log.{past_of}
-use Rattle.lab_engine.specs.Answer.{IsRetryChoice}
-use Rattle.lab_engine.specs.Situation.{Describes}
+use Rattle.std.proofs.Common.{List, ◌∷◌, ◌++◌, [], sym, subst, ap, ◌∙◌}
+use Rattle.std.specs.Prelude.{IfOk}
+use Rattle.std.proofs.lemmas.Result.{IfOk-weaker}
 use Rattle.lab_engine.specs.Engine.{IsStep}
 use Rattle.lab_engine.specs.Journal.{EngineRun}
 use Rattle.lab_engine.specs.declared.event.LogEvent.{LogEvent}
+use Rattle.lab_engine.specs.declared.event.Outcome.{Outcome}
 use Rattle.lab_engine.proofs.journal.JournalEngine.step.Goals as goal
-
-pub invariant_of-self-in_err-push : goal.invariant_of-self-in_err-push
-invariant_of-self-in_err-push g c = record {
-  retryable = subst (λ (log : List LogEvent). IsRetryChoice g.R.Rules.kind c.self.inside.setup (past_of log) c.self.inside.retryable)
-      (sym c.in_err-push.ensures.items) c.self.invariant.retryable;
-  situation = subst (λ known. IfSome known (Describes (past_of c.push.new.self.items))) (sym c.take.ensures.after) tt;
-}
 
 pub returns-clause-ok : goal.returns-clause-ok
 returns-clause-ok g c =
-    subst (λ (k : EngineRun). IsStep g.R.Rules.kind k.setup k.log c.push.new.self.items c.args.session c.args.command.now c.in_ok-next.next.outcome) c.self.view_is
-    (subst (λ (new : List LogEvent). IsStep g.R.Rules.kind c.self.inside.setup c.self.inside.log.items new c.args.session c.args.command.now c.in_ok-next.next.outcome) (sym c.in_ok-push.ensures.items)
-    (subst (λ (log : List LogEvent). IsStep g.R.Rules.kind c.self.inside.setup log (log
-    ++ c.in_ok-next.next.event ∷ []) c.args.session c.args.command.now c.in_ok-next.next.outcome) c.deref-2.ensures.value c.in_ok-next.ensures.step))
+    IfOk-weaker c.append.result _ _
+    (λ outcome p.
+    subst (λ (o : Outcome). IsStep g.R.Rules.kind c.args.self.now.setup c.args.self.now.log c.append.new.self.log c.args.session c.args.command.now o) (sym p.3)
+    (subst (λ (new : List LogEvent). IsStep g.R.Rules.kind c.args.self.now.setup c.args.self.now.log new c.args.session c.args.command.now p.0.outcome)
+    (sym (p.2 ∙ ap (λ (k : EngineRun). k.log ++ p.0.event ∷ []) c.ready.ensures.same))
+    (subst (λ (k : EngineRun). IsStep g.R.Rules.kind k.setup k.log (k.log ++ p.0.event ∷ []) c.args.session c.args.command.now p.0.outcome) (c.self.view_is ∙ c.ready.ensures.same)
+    (subst (λ (log : List LogEvent). IsStep g.R.Rules.kind c.self.inside.setup log (log ++ p.0.event ∷ []) c.args.session c.args.command.now p.0.outcome) c.deref.ensures.value
+    (subst (λ r. IfOk r (λ d. IsStep g.R.Rules.kind c.self.inside.setup c.deref.result.now (c.deref.result.now ++ d.event ∷ []) c.args.session c.args.command.now d.outcome)) p.1 c.step_event-decided.ensures.step)))))
+    c.append.ensures.ok
