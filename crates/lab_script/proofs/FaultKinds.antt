@@ -1,12 +1,9 @@
 -- With which faults reading stops.
 use Rattle.std.proofs.Common.{◌≡◌, ℕ, zero, suc, Bool, true, false, cond, List, [], ◌∷◌, length, Option, Some, None, refl}
-use Rattle.std.specs.Prelude.{◌&&◌, ◌==◌, nat_le, nat_lt}
-use Rattle.std.specs.FinMap as map
+use Rattle.std.specs.Prelude.{◌&&◌, ◌==◌, nat_le}
 use Rattle.lab_table.specs.Predicate.{Predicate}
 use Rattle.lab_table.specs.Predicate as predicate
-use Rattle.lab_table.specs.Table.{Table}
 use Rattle.lab_table.specs.declared.predicate.Cmp.{Cmp}
-use Rattle.lab_table.specs.declared.statement.Command.{Command}
 use Rattle.lab_script.specs.declared.token.Word.{Word}
 use Rattle.lab_script.specs.declared.token.Word.TheVariants as word
 use Rattle.lab_script.specs.declared.token.Token.{Token}
@@ -15,8 +12,8 @@ use Rattle.lab_script.specs.declared.refusal.GrammarFault.{GrammarFault}
 use Rattle.lab_script.specs.declared.refusal.GrammarFault.TheVariants as grammar
 use Rattle.lab_script.specs.Limits.{max_depth}
 use Rattle.lab_script.specs.Reading.{is_token, after}
-use Rattle.lab_script.specs.Stopping.{cmp_of, one_more, Reading, Reads, Stops, ◌>>=◌, if_found, token_read, tokens_read, digits_in, digits_read, magnitude_read, number_read, more_read, id_read, name_in, name_of, name_read, table_of, named_row_read, row_read, row_table_read, col_read, cmp_in, cmp_read, modulus_read, numbers_read, number_list_read, compare_read, remainder_read, one_of_read, atom_read, joined_read, term_read, conj_read, pred_read, where_read}
-use Rattle.lab_script.specs.FirstFaults.{is_word, is_short, no_rows_at, expr_read, select_read, update_read, insert_read, delete_read, statement_read, end_read, nothing_read, words_read, level_read, command_read, terminated_read, one_added, step_read, more_commands_read, commands_read, row_onto_read, rows_onto_read, rows_read, table_read}
+use Rattle.lab_script.specs.Stopping.{cmp_of, one_more, Reading, Reads, Stops, ◌>>=◌, if_found, token_read, tokens_read, digits_in, digits_read, magnitude_read, number_read, more_read, id_read, name_in, name_of, name_read, row_read, col_read, cmp_in, cmp_read, modulus_read, numbers_read, number_list_read, compare_read, remainder_read, one_of_read, atom_read, joined_read, term_read, conj_read, pred_read, where_read}
+use Rattle.lab_script.specs.FirstFaults.{expr_read, select_read, update_read, insert_read, delete_read, statement_read, end_read, nothing_read}
 
 -- all faults with which a reading may stop are of this kind
 abbrev pub StopsOnly : {X : Type 0} → (GrammarFault → Type 0) → Reading X → Type 0
@@ -43,7 +40,7 @@ module _ (Is : GrammarFault → Type 0) where
     pub token_only : (t : Token) (ts : List Token) → StopsOnly Is (token_read t ts)
     token_only t ts = found_only (after t ts) _ _ (λ rest. tt) unknown
 
-    tokens_only : (us ts : List Token) → StopsOnly Is (tokens_read us ts)
+    pub tokens_only : (us ts : List Token) → StopsOnly Is (tokens_read us ts)
     tokens_only [] ts = tt
     tokens_only (u ∷ us) ts = bind_only _ _ (token_only u ts) (λ rest is. tokens_only us rest)
 
@@ -76,7 +73,7 @@ module _ (Is : GrammarFault → Type 0) where
     id_only ts = found_only (after token.Minus ts) _ _ (λ rest. bind_only _ _ (digits_only rest) (λ n is. range))
         (bind_only _ _ (digits_only ts) (λ n is. cond_only (nat_le 1 n.0 && nat_le n.0 999999) _ _ tt (λ not. range)))
 
-    row_only : (ts : List Token) → StopsOnly Is (row_read ts)
+    pub row_only : (ts : List Token) → StopsOnly Is (row_read ts)
     unfolding row_read
     row_only ts =
         bind_only _ _ (token_only token.Open ts) (λ a _.
@@ -85,7 +82,7 @@ module _ (Is : GrammarFault → Type 0) where
         bind_only _ _ (number_only b) (λ v _.
         bind_only _ _ (token_only token.Close v.1) (λ c _. tt)))))
 
-    word_only : (w : Word) (ts : List Token) → StopsOnly Is (name_in w ts)
+    pub word_only : (w : Word) (ts : List Token) → StopsOnly Is (name_in w ts)
     word_only (word.Name n) ts = tt
     word_only w ts = name
 
@@ -97,19 +94,6 @@ module _ (Is : GrammarFault → Type 0) where
     unfolding name_read
     name_only [] = unknown
     name_only (t ∷ ts) = name_of_only t ts
-
-    table_of_only : (t : Token) (ts : List Token) → StopsOnly Is (table_of t ts)
-    table_of_only (token.Word w) ts = word_only w ts
-    table_of_only t ts = tt
-
-    row_table_only : (ts : List Token) → StopsOnly Is (row_table_read ts)
-    unfolding row_table_read
-    row_table_only [] = tt
-    row_table_only (t ∷ ts) = table_of_only t ts
-
-    named_row_only : (ts : List Token) → StopsOnly Is (named_row_read ts)
-    unfolding named_row_read
-    named_row_only ts = bind_only _ _ (row_table_only ts) (λ table _. bind_only _ _ (row_only table.1) (λ r _. tt))
 
     pub nothing_only : (ts : List Token) → StopsOnly Is (nothing_read ts)
     nothing_only ts = cond_only (length ts == 0) _ _ tt (λ not. unknown)
@@ -191,53 +175,3 @@ module _ (Is : GrammarFault → Type 0) where
       unfolding end_read
       end_only [] = tt
       end_only (t ∷ ts) = cond_only (is_token token.Semicolon t) _ _ tt (λ not. unknown)
-
-      words_only : (ts : List Token) → StopsOnly Is (words_read ts)
-      unfolding words_read
-      words_only [] = unknown
-      words_only (t ∷ ts) = cond_only (is_word t) _ _ tt (λ not. unknown)
-
-      command_only : (ts : List Token) → StopsOnly Is (command_read ts)
-      unfolding command_read level_read
-      command_only ts =
-          found_only (after (token.Word word.Begin) ts) _ _ (λ rest. tt)
-          (found_only (after (token.Word word.Commit) ts) _ _ (λ rest. tt)
-          (found_only (after (token.Word word.Abort) ts) _ _ (λ rest. tt)
-          (found_only (after (token.Word word.Rollback) ts) _ _ (λ rest. tt)
-          (found_only (after (token.Word word.Set) ts) _ _ (λ rest. bind_only _ _ (bind_only _ _ (tokens_only (token.Word word.Transaction ∷ token.Word word.Isolation ∷ token.Word word.Level ∷ []) rest) (λ behind _. words_only behind)) (λ behind _. tt))
-          (bind_only _ _ (statement_only ts) (λ s _. tt))))))
-
-      -- the same of lines of commands, that may be too long
-      module _ (long : Is grammar.TooLong) where
-        step_only : (room : ℕ) (cs : List Command) (ts : List Token) → StopsOnly Is (step_read room cs ts)
-        unfolding step_read terminated_read
-        step_only room cs ts =
-            bind_only _ _ (bind_only _ _ (command_only ts) (λ c _. bind_only _ _ (end_only c.1) (λ rest _. cond_only (is_short c.0) _ _ tt (λ not. long)))) (λ c _.
-            bind_only _ _ (added_only c.0 c.1) (λ ds _. tt))
-          where
-            added_only : (c : Option Command) (left : List Token) → StopsOnly Is (one_added room cs c left)
-            added_only None left = tt
-            added_only (Some c) left = cond_only (nat_lt (length cs) room) _ _ tt (λ not. long)
-
-        more_commands_only : (ts : List Token) (k room : ℕ) (cs : List Command) → StopsOnly Is (more_commands_read ts k room cs)
-        unfolding more_commands_read
-        more_commands_only [] k room cs = tt
-        more_commands_only (t ∷ ts) zero room cs = unknown
-        more_commands_only (t ∷ ts) (suc k) room cs = bind_only _ _ (step_only room cs (t ∷ ts)) (λ s _. more_commands_only s.1 k room s.0)
-
-        pub commands_only : (room : ℕ) (ts : List Token) → StopsOnly Is (commands_read room ts)
-        unfolding commands_read
-        commands_only room ts = bind_only _ _ (step_only room [] ts) (λ s _. more_commands_only s.1 (length s.1) room s.0)
-
-    -- the same of the rows of a setup, of which one may come twice
-    module _ (twice : Is grammar.DuplicateSetupRow) where
-      rows_onto_only : (k : ℕ) (table : Table) (ts : List Token) → StopsOnly Is (rows_onto_read k table ts)
-      unfolding rows_onto_read row_onto_read
-      rows_onto_only zero table ts = unknown
-      rows_onto_only (suc k) table ts =
-          bind_only _ _ (bind_only _ _ (named_row_only ts) (λ row _. cond_only (map.contains_key table row.0.0) _ _ twice (λ not. tt))) (λ x _.
-          found_only (after token.Comma x.1) _ _ (λ rest. rows_onto_only k x.0 rest) tt)
-
-      pub table_only : (ts : List Token) → StopsOnly Is (table_read ts)
-      unfolding table_read rows_read
-      table_only ts = found_only (no_rows_at ts) _ _ (λ rest. tt) (rows_onto_only (suc (length ts)) map.empty ts)

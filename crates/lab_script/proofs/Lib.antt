@@ -49,6 +49,7 @@ pub mod EachElement
 pub mod Wheres
 mod Readings
 mod FaultKinds
+mod LineFaultKinds
 mod LineKinds
 mod LineFaults
 mod StoppedLoops

@@ -21,7 +21,8 @@ use Rattle.lab_script.proofs.ReadNumbers.{under}
 use Rattle.lab_script.proofs.ReadStatements.{statement_takes}
 use Rattle.lab_script.proofs.ReadSetup.{table_takes}
 use Rattle.lab_script.proofs.Wheres.{where_in_front}
-use Rattle.lab_script.proofs.FaultKinds.{StopsOnly, bind_only, found_only, cond_only, token_only, nothing_only, statement_only, end_only, commands_only, table_only}
+use Rattle.lab_script.proofs.FaultKinds.{StopsOnly, bind_only, found_only, cond_only, token_only, nothing_only, statement_only, end_only}
+use Rattle.lab_script.proofs.LineFaultKinds.{commands_only, table_only}
 
 -- a fault of a line, where it stands
 abbrev Placed : (GrammarFault → Type 0) → List Token → GrammarFault → Type 0
@@ -38,16 +39,11 @@ long_statement ts s read long =
 
 module _ (Is : GrammarFault → Type 0) (ts : List Token) (unknown : Is grammar.UnknownStatement) (behind_where : HasWhere ts → Is grammar.BadPredicate) (name : Is grammar.BadTableName)
     (range : Is grammar.NumberOutOfRange) (deep : Is grammar.TooDeep) where
-  unknown_placed : Placed Is ts grammar.UnknownStatement
+  pub unknown_placed : Placed Is ts grammar.UnknownStatement
   unknown_placed left = elim (cases_Bool (in_predicate false (take (length ts - left) ts))) [
     | inl is ↦ rw is (behind_where (where_in_front (length ts - left) ts is))
     | inr isnt ↦ rw isnt unknown
   ]
-
-  -- where reading the commands of a line stops
-  pub line_kinds : Is grammar.TooLong → (room : ℕ) (kind : GrammarFault) (left : List Token) → commands_read room ts ≡ Stops kind left → Is (placed_kind ts kind (length left))
-  line_kinds long room kind left stops =
-      (subst (StopsOnly (Placed Is ts)) stops (commands_only (Placed Is ts) unknown_placed (λ n. name) (λ n. range) (λ n. deep) (λ n. long) room ts)) (length left)
 
   -- where reading one statement stops
   pub statement_kinds : (BeginsLongStatement ts → Is grammar.TooLong) → (f : GrammarFault) → statement_fault ts ≡ Some f → Is f
@@ -60,6 +56,13 @@ module _ (Is : GrammarFault → Type 0) (ts : List Token) (unknown : Is grammar.
       cond_only Of (nat_le (length (printed_statement s.0)) max_statement_bytes) _ _
       (bind_only Of _ _ (nothing_only Of unknown_placed (λ n. name) (λ n. range) rest) (λ end _. tt))
       (λ not n. long (long_statement ts s read (leb-false _ _ not)))))) f e
+
+module _ (Is : GrammarFault → Type 0) (ts : List Token) (unknown : Is grammar.UnknownStatement) (behind_where : HasWhere ts → Is grammar.BadPredicate) (name : Is grammar.BadTableName)
+    (range : Is grammar.NumberOutOfRange) (deep : Is grammar.TooDeep) where
+  -- where reading the commands of a line stops
+  pub line_kinds : Is grammar.TooLong → (room : ℕ) (kind : GrammarFault) (left : List Token) → commands_read room ts ≡ Stops kind left → Is (placed_kind ts kind (length left))
+  line_kinds long room kind left stops =
+      (subst (StopsOnly (Placed Is ts)) stops (commands_only (Placed Is ts) (unknown_placed Is ts unknown behind_where name range deep) (λ n. name) (λ n. range) (λ n. deep) (λ n. long) room ts)) (length left)
 
 -- a table that is read and too long is a setup that is
 long_setup : (ts rest : List Token) (x : Table × List Token) → token_read (token.Word word.Setup) ts ≡ Reads rest → table_read rest ≡ Reads x → max_line_bytes < length (printed_setup x.0)
