@@ -9,7 +9,8 @@ use Rattle.lab_script.specs.declared.refusal.GrammarFault.{GrammarFault}
 use Rattle.lab_script.specs.declared.refusal.GrammarFault.TheVariants as grammar
 use Rattle.lab_script.specs.declared.refusal.Refusal.{Refusal}
 use Rattle.lab_script.specs.declared.refusal.Refusal.TheVariants as refusal
-use Rattle.lab_script.specs.Tables.{are_few, with_commands, setup_tables}
+use Rattle.lab_table.specs.TableSet.{are_few}
+use Rattle.lab_script.specs.Tables.{with_commands, setup_tables}
 use Rattle.lab_script.specs.Stopping.{Reading, Reads}
 use Rattle.lab_script.specs.FirstFaults.{commands_fault_in, setup_fault_in, HasFault}
 

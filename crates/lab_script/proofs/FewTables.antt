@@ -11,7 +11,8 @@ use Rattle.lab_script.specs.declared.token.Token.{Token}
 use Rattle.lab_script.specs.declared.token.Token.TheVariants as token
 use Rattle.lab_script.specs.Reading.{is_token}
 use Rattle.lab_script.specs.Script.{extended}
-use Rattle.lab_script.specs.Tables.{is_among, with_name, with_command, with_commands, with_rows, with_lines, setup_tables, script_tables}
+use Rattle.lab_table.specs.TableSet.{is_among, with_name}
+use Rattle.lab_script.specs.Tables.{with_command, with_commands, with_rows, with_lines, setup_tables, script_tables}
 use Rattle.lab_script.specs.PassedTables.{token_table, with_any, is_behind_set, with_tokens, with_setup_token, with_setup_tokens}
 
 -- a name more makes no fewer

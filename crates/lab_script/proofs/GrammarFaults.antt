@@ -8,7 +8,8 @@ use Rattle.lab_table.specs.declared.statement.Statement.{Statement}
 use Rattle.lab_script.specs.declared.token.Token.{Token}
 use Rattle.lab_script.specs.Grammar.{IsCommands, IsSetup, IsWholeStatement}
 use Rattle.lab_script.specs.declared.refusal.GrammarFault.TheVariants.{TooManyTables}
-use Rattle.lab_script.specs.Tables.{are_few, with_commands, setup_tables}
+use Rattle.lab_table.specs.TableSet.{are_few}
+use Rattle.lab_script.specs.Tables.{with_commands, setup_tables}
 use Rattle.lab_script.specs.Stopping.{Reading, Reads, Stops}
 use Rattle.lab_script.specs.FirstFaults.{whole_statement_read, commands_read, setup_read, fault_in, commands_fault_in, setup_fault_in, commands_fault, setup_fault, statement_fault}
 use Rattle.lab_script.proofs.ReadCommands.{commands_take, commands_again}

@@ -15,7 +15,8 @@ use Rattle.lab_script.specs.Limits.{max_commands}
 use Rattle.lab_script.specs.PassedTables.{with_tokens, with_setup_tokens}
 use Rattle.lab_script.specs.Script.{BeginsSetup}
 use Rattle.lab_script.specs.Stopping.{Reading, Reads, Stops}
-use Rattle.lab_script.specs.Tables.{are_few, script_tables, with_commands, setup_tables}
+use Rattle.lab_table.specs.TableSet.{are_few}
+use Rattle.lab_script.specs.Tables.{script_tables, with_commands, setup_tables}
 use Rattle.lab_script.proofs.GrammarFaults.{no_commands_fault, no_setup_fault}
 use Rattle.lab_script.proofs.LineKinds.{line_kinds, setup_kinds}
 use Rattle.lab_script.proofs.ReadCommands.{commands_again}

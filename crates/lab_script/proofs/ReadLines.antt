@@ -14,7 +14,8 @@ use Rattle.lab_script.specs.Script as script
 use Rattle.lab_script.specs.Script.{code_of, remark_of, is_code_byte, session_of, extended, IsFit, AddsCommands, LineSpells}
 use Rattle.lab_script.specs.Fault as wrong
 use Rattle.lab_script.specs.Fault.{IsOver, IsKept, SaysOfTokens, ComesFirst, IsTokensFault, IsLineFault}
-use Rattle.lab_script.specs.Tables.{max_tables, setup_tables}
+use Rattle.lab_table.specs.TableSet.{max_tables}
+use Rattle.lab_script.specs.Tables.{setup_tables}
 use Rattle.lab_script.proofs.HeldTokens.{held_setup, held_commands, held_says}
 
 -- a line within its limits, with this code and remark

@@ -22,7 +22,8 @@ use Rattle.lab_script.specs.Token.{tokens}
 use Rattle.lab_script.specs.Grammar.{IsCommands, IsSetup}
 use Rattle.lab_script.specs.Script.{code_of, remark_of, session_of, is_code_byte, is_ascii_code, is_passed, IsFit, BeginsSetup, HasWhere, BeginsLongSetup, BeginsLongStatement, SpellsStatement, LineSpells, LinesSpell}
 use Rattle.lab_script.specs.Printed.{newline}
-use Rattle.lab_script.specs.Tables.{max_tables, with_commands, setup_tables, script_tables}
+use Rattle.lab_table.specs.TableSet.{max_tables}
+use Rattle.lab_script.specs.Tables.{with_commands, setup_tables, script_tables}
 use Rattle.lab_script.specs.Limits.{max_lines, max_line_bytes, max_commands}
 
 -- a line that is longer than a line may be, or comes after the last that a text may have

@@ -22,7 +22,8 @@ use Rattle.lab_script.specs.Limits.{max_line_bytes, max_statement_bytes}
 use Rattle.lab_script.specs.Printed.{printed_setup, printed_statement}
 use Rattle.lab_script.specs.Reading.{is_token, after}
 use Rattle.lab_script.specs.Stopping.{Reading, Reads, Stops, ◌>>=◌, if_found, token_read, tokens_read, name_read, number_read, named_row_read, row_read, where_read}
-use Rattle.lab_script.specs.Tables.{are_few, with_commands, setup_tables}
+use Rattle.lab_table.specs.TableSet.{are_few}
+use Rattle.lab_script.specs.Tables.{with_commands, setup_tables}
 use Rattle.lab_script.specs.PassedTables.{with_tokens, with_setup_tokens}
 
 -- the new value of an update

@@ -8,7 +8,8 @@ use Rattle.lab_script.specs.declared.script.Line.{Line}
 use Rattle.lab_script.specs.declared.script.Script.{Script}
 use Rattle.lab_script.specs.Depth.{statement_depth}
 use Rattle.lab_script.specs.Printed.{printed_statement, printed_setup}
-use Rattle.lab_script.specs.Tables.{max_tables, script_tables}
+use Rattle.lab_table.specs.TableSet.{max_tables}
+use Rattle.lab_script.specs.Tables.{script_tables}
 
 -- the most lines of a text
 abbrev pub max_lines : ℕ

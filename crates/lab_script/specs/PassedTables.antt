@@ -6,7 +6,7 @@ use Rattle.lab_script.specs.declared.token.Word.TheVariants as word
 use Rattle.lab_script.specs.declared.token.Token.{Token}
 use Rattle.lab_script.specs.declared.token.Token.TheVariants as token
 use Rattle.lab_script.specs.Reading.{is_token}
-use Rattle.lab_script.specs.Tables.{with_name}
+use Rattle.lab_table.specs.TableSet.{with_name}
 
 -- the name of a table that a word is, if it is one
 abbrev pub word_table : Word → Option (List ℕ)

@@ -15,7 +15,8 @@ use Rattle.lab_script.specs.declared.token.Token.TheVariants as token
 use Rattle.lab_script.specs.Token.{is_blank, tokens}
 use Rattle.lab_script.specs.Grammar.{IsCommands, IsSetup, IsStatement, IsEnd, IsRowList, AllDistinct}
 use Rattle.lab_script.specs.Printed.{printed_statement, printed_setup}
-use Rattle.lab_script.specs.Tables.{max_tables, with_commands, setup_tables, script_tables}
+use Rattle.lab_table.specs.TableSet.{max_tables}
+use Rattle.lab_script.specs.Tables.{with_commands, setup_tables, script_tables}
 use Rattle.lab_script.specs.Limits.{max_lines, max_line_bytes, max_commands, max_statement_bytes}
 
 -- whether a remark begins here

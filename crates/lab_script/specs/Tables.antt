@@ -5,7 +5,7 @@ use Rattle.lab_table.specs.Row.{Row}
 use Rattle.lab_table.specs.Table.{Table}
 use Rattle.lab_table.specs.declared.statement.Command.{Command}
 use Rattle.lab_table.specs.declared.statement.Command.TheVariants as command
-pub use Rattle.lab_table.specs.TableSet.{max_tables, is_among, with_name, are_few}
+use Rattle.lab_table.specs.TableSet.{with_name}
 use Rattle.lab_script.specs.declared.script.Line.{Line}
 use Rattle.lab_script.specs.declared.script.Script.{Script}
 

@@ -15,7 +15,8 @@ ghost use Rattle.lab_script.specs.FirstFaults.{commands_fault, setup_fault, stat
 ghost use Rattle.lab_script.specs.Grammar.{IsCommands, IsSetup, IsWholeStatement};
 ghost use Rattle.lab_script.specs.Limits.{max_script_bytes};
 ghost use Rattle.lab_script.specs.Script.{Spells, SpellsStatement};
-ghost use Rattle.lab_script.specs.Tables.{max_tables, with_commands, setup_tables};
+ghost use Rattle.lab_table.specs.TableSet.{max_tables};
+ghost use Rattle.lab_script.specs.Tables.{with_commands, setup_tables};
 ghost use Rattle.lab_script.specs.Token.{word_named};
 ghost use Rattle.lab_script.specs.declared.token.Word.TheVariants as words;
 ghost use Rattle.lab_script.specs.StatementText.{statement_in};

@@ -7,7 +7,8 @@ ghost use Rattle.lab_script.specs.Grammar.{IsSetup};
 ghost use Rattle.lab_script.specs.Script.{Spells, LineSpells, BeginsSetup, AddsCommands};
 ghost use Rattle.lab_script.specs.Fault.{IsFaultOf, IsLineFault, IsTokensFault};
 ghost use Rattle.lab_script.specs.Limits.{max_commands, ScriptPrints};
-ghost use Rattle.lab_script.specs.Tables.{max_tables, setup_tables, script_tables, tables_so_far};
+ghost use Rattle.lab_table.specs.TableSet.{max_tables};
+ghost use Rattle.lab_script.specs.Tables.{setup_tables, script_tables, tables_so_far};
 
 use crate::fault::{ScriptFault, ScriptFaultKind};
 use crate::limits::{MAX_COMMANDS, MAX_LINE_BYTES, MAX_LINES};

@@ -6,7 +6,8 @@ ghost use Rattle.lab_script.specs.Grammar.{IsCommands, IsWholeStatement};
 ghost use Rattle.lab_script.specs.Reading.{after};
 ghost use Rattle.lab_script.specs.Stopping.{Comes, digits_read, magnitude_read, name_read, number_read, token_read, tokens_read};
 ghost use Rattle.lab_script.specs.FirstFaults.{HasFault, commands_fault, in_predicate, nothing_read, passed, placed_refusal, refusal_behind, statement_fault};
-ghost use Rattle.lab_script.specs.Tables.{max_tables, with_commands};
+ghost use Rattle.lab_table.specs.TableSet.{max_tables};
+ghost use Rattle.lab_script.specs.Tables.{with_commands};
 ghost use Rattle.lab_script.specs.PassedTables.{with_tokens};
 ghost use Rattle.lab_script.specs.declared.refusal.GrammarFault.TheVariants.{TooManyTables};
 

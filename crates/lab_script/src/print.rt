@@ -7,7 +7,8 @@ ghost use Rattle.lab_script.specs.Renumbered.{renumbered};
 ghost use Rattle.lab_script.specs.Script.{Spells, SpellsStatement};
 ghost use Rattle.lab_script.specs.StatementText.{statement_in};
 ghost use Rattle.lab_script.specs.Limits.{max_depth, max_statement_bytes, StatementPrints, CommandPrints, IsDeep, IsLong, ScriptPrints, BreaksDepth, BreaksLength, BreaksTables};
-ghost use Rattle.lab_script.specs.Tables.{max_tables, script_tables};
+ghost use Rattle.lab_table.specs.TableSet.{max_tables};
+ghost use Rattle.lab_script.specs.Tables.{script_tables};
 
 use crate::fits::{depth_fits, setup_fits, statement_fits};
 use crate::limits::MAX_COMMANDS;

@@ -4,7 +4,8 @@ ghost use Rattle.std.specs.Prelude.{◌≡◌, ◌≤◌, ◌<◌, [], false, le
 ghost use Rattle.lab_script.specs.Grammar.{IsSetup};
 ghost use Rattle.lab_script.specs.Stopping.{Comes};
 ghost use Rattle.lab_script.specs.FirstFaults.{no_rows_at, HasFault, refusal_behind, row_onto_read, rows_read, setup_end_read, setup_fault, setup_read, table_read};
-ghost use Rattle.lab_script.specs.Tables.{max_tables, setup_tables, with_setup};
+ghost use Rattle.lab_table.specs.TableSet.{max_tables};
+ghost use Rattle.lab_script.specs.Tables.{setup_tables, with_setup};
 ghost use Rattle.lab_script.specs.PassedTables.{with_setup_tokens};
 ghost use Rattle.lab_script.specs.declared.refusal.GrammarFault.TheVariants.{TooManyTables};
 

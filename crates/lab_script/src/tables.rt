@@ -1,7 +1,8 @@
 //! The names of tables that a script uses, of which there are at most four.
 
 ghost use Rattle.std.specs.Prelude.{◌≡◌, ◌<◌, false, length, MatchBool};
-ghost use Rattle.lab_script.specs.Tables.{max_tables, with_name, with_command, with_commands, with_rows, with_lines};
+ghost use Rattle.lab_table.specs.TableSet.{max_tables, with_name};
+ghost use Rattle.lab_script.specs.Tables.{with_command, with_commands, with_rows, with_lines};
 ghost use Rattle.lab_script.specs.PassedTables.{token_table, with_any, is_behind_set, with_tokens, with_setup_token, with_setup_tokens};
 
 use crate::script::Line;

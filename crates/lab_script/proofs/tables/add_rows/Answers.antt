@@ -1,6 +1,7 @@
 use Rattle.std.proofs.Common.{◌≡◌, ◌+◌, ◌<◌, ◌∷◌, drop, length, sym, ap, ◌∙◌, arith}
 use Rattle.std.proofs.lemmas.List.{drop_more}
-use Rattle.lab_script.specs.Tables.{with_name, with_rows}
+use Rattle.lab_table.specs.TableSet.{with_name}
+use Rattle.lab_script.specs.Tables.{with_rows}
 use Rattle.lab_script.proofs.FewTables.{rows_longer}
 use Rattle.lab_script.proofs.tables.add_rows.Goals as goal
 
