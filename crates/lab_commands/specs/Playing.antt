@@ -7,7 +7,7 @@ use Rattle.lab_script.specs.Script.{Spells}
 use Rattle.lab_script.specs.Limits.{IsDeep, IsLong}
 use Rattle.lab_history.specs.History.{History}
 use Rattle.lab_history.specs.FirstPartsFault.{checked}
-use Rattle.lab_history.specs.Tree.{tree_of}
+use Rattle.lab_history_file.specs.Tree.{tree_of}
 use Rattle.lab_history.specs.declared.fault.FileFault.TheVariants.{OverLimit}
 use Rattle.lab_history.specs.declared.fault.Limit.TheVariants.{Bytes, Statement}
 use Rattle.lab_engine.specs.Log.{past_of}

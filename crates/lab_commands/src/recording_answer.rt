@@ -6,7 +6,8 @@ ghost use Rattle.lab_session.specs.LogText.{SomeEvent};
 ghost use Rattle.lab_commands.specs.Playing.{IsLogAnswer, IsHistoryAnswer};
 
 use lab_engine::Recording;
-use lab_history::{FileFault, Limit, WriteFault, write_history};
+use lab_history::{FileFault, Limit};
+use lab_history_file::{WriteFault, write_history};
 use lab_judge::{judge_recording, print_file_fault, print_report};
 use lab_script::PrintFault;
 use lab_session::print_log;

@@ -3,7 +3,8 @@
 use crate::pairs::edges_by_pairs;
 use crate::told::is_told;
 use lab_deps::{Edge, Kind, LocalFault, Unsound, check_local, edges};
-use lab_history::{History, read_history};
+use lab_history::History;
+use lab_history_file::read_history;
 use lab_table::RowName;
 use std::alloc::Global;
 use std::process::Abort;

@@ -1,7 +1,8 @@
 //! What calls are made on that are refused memory.
 
 use lab_engine::{EngineFault, Recording, Sessions, Version, Versions};
-use lab_history::{History, Op, VersionName, read_history};
+use lab_history::{History, Op, VersionName};
+use lab_history_file::read_history;
 use lab_locking::LockEngine;
 use lab_script::parse_script;
 use lab_session::play_script;

@@ -4,7 +4,7 @@ ghost use Rattle.std.specs.Prelude.{◌≡◌, []};
 
 use crate::alike::{Both, edges_by_both};
 use lab_engine::{Engine, Recording};
-use lab_history::write_history;
+use lab_history_file::write_history;
 use lab_locking::LockEngine;
 use lab_script::{Script, parse_script};
 use lab_session::play_script;

@@ -4,7 +4,8 @@ ghost use Rattle.lab_deps.specs.Soundness.{IsSound};
 
 use crate::pairs::edges_by_pairs;
 use lab_deps::{Dependencies, Edge, Kind, Kinds, Sound, check_local};
-use lab_history::{History, Txn, read_history};
+use lab_history::{History, Txn};
+use lab_history_file::read_history;
 use lab_table::{NoMemory, TxnNo};
 use std::alloc::Global;
 

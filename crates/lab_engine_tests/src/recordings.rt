@@ -4,7 +4,8 @@ ghost use Rattle.std.specs.Prelude.{◌≡◌, []};
 
 use crate::plain_recording::plain_history;
 use lab_engine::{Engine, LogEvent};
-use lab_history::{History, write_history};
+use lab_history::History;
+use lab_history_file::write_history;
 use lab_locking::LockEngine;
 use lab_script::{Script, parse_script};
 use lab_session::play_script;

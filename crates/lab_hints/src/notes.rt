@@ -4,7 +4,7 @@ use crate::file::file_hint;
 use crate::play::play_hint;
 use crate::script::script_hint;
 use crate::silent::silent_script_hint;
-use lab_history::read_history;
+use lab_history_file::read_history;
 use lab_script::parse_script;
 use lab_session::PlayFault;
 use lab_table::NoMemory;

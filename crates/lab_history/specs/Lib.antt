@@ -1,3 +1,4 @@
+pub mod RowOrder
 pub mod VersionName
 pub mod Installed
 pub mod History
@@ -10,21 +11,8 @@ pub mod RunningCounts
 pub mod RunningTables
 pub mod FirstPartsFault
 pub mod PartsFault
-pub mod WrittenState
-pub mod Whole
-pub mod FileVersion
-pub mod Member
-pub mod Entries
-pub mod Format
-pub mod FileOf
-pub mod Lift
-pub mod ValueAt
-pub mod PlaceShape
-pub mod FaultOf
 pub mod Keyed
 pub mod TxnRow
 pub mod Index
-pub mod Tree
 pub mod PathText
 pub mod LimitName
-pub mod FileRead

@@ -1,5 +1,5 @@
 -- The limits on whole histories.
-use Rattle.std.specs.Prelude.{⊤, nat_lt, map, sum, Result}
+use Rattle.std.specs.Prelude.{⊤, nat_lt, map, sum, Result, Ok}
 use Rattle.lab_history.specs.Faults.{◌>>=◌, refused_if}
 use Rattle.lab_history.specs.History.{History}
 use Rattle.lab_history.specs.Limits.{max_tables, max_ids, max_entries}
@@ -14,3 +14,7 @@ within_limits h =
     refused_if (nat_lt max_tables (distinct_tables (named_tables h))) (fault.OverLimit limit.Tables) >>= λ _.
     refused_if (nat_lt max_ids (distinct_rows (named_rows h))) (fault.OverLimit limit.Ids) >>= λ _.
     refused_if (nat_lt max_entries (sum (map op_entries (operations h.txns)))) (fault.OverLimit limit.Entries)
+
+-- a history that keeps them, or its first fault
+abbrev pub limited : History → Result History FileFault
+limited h = within_limits h >>= λ _. Ok h

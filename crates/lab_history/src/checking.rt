@@ -4,6 +4,7 @@ ghost use Rattle.std.specs.Prelude.{◌≡◌, ◌≢◌, ◌⊎◌, ◌<◌, �
 ghost use Rattle.lab_history.specs.HistoryRules.{Keeps};
 ghost use Rattle.lab_history.specs.Limits.{max_operations};
 ghost use Rattle.lab_history.specs.Faults.{Gives};
+ghost use Rattle.lab_history.specs.WithinLimits.{within_limits, limited};
 ghost use Rattle.lab_history.specs.PartsFault.{IsPartsFault};
 ghost use Rattle.lab_history.specs.FirstPartsFault.{statement_prints, listed_from, op_checked, ops_checked, txns_checked, installed_checked, checked};
 ghost use Rattle.lab_history.specs.HistoryRules as rules;
@@ -43,6 +44,20 @@ impl History {
             },
             Err(Refusal::NoMemory) => Err((parts, FileFault::NoMemory)),
             Err(Refusal::Fault(fault)) => Err((parts, fault)),
+        }
+    }
+
+    /// The history of these parts, or the first of the limits on tables, rows and entries that they break. All else that
+    /// a history keeps has to be known of them, as it is of what is read of a file. NoMemory, where an allocation was
+    /// refused, may come in place of any other answer.
+    pub fn within_limits(alloc: Global, parts: Parts) -> Result<History, Refusal>
+        requires { within_limits parts ≡ Ok tt → Keeps parts }
+        ensures { Gives (λ history. history) result (limited parts) }
+    {
+        check_limits(alloc, &parts)?;
+        match History::assembled(alloc, parts) {
+            Ok(history) => Ok(history),
+            Err(_) => Err(Refusal::NoMemory),
         }
     }
 }

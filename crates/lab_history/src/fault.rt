@@ -1,4 +1,4 @@
-//! Why there is no history, or no file of one.
+//! Why there is no history.
 
 use crate::path::Path;
 use lab_table::TxnNo;
@@ -71,26 +71,4 @@ pub enum FileFault {
     /// There is too much of something.
     #[error("there is too much of something")]
     OverLimit { which: Limit },
-}
-
-/// Why a history has no file.
-#[derive(Clone, Copy, Debug, PartialEq, Eq, Error)]
-pub enum WriteFault {
-    /// An allocation was refused.
-    #[error("no memory")]
-    NoMemory,
-    /// The text would have more than 8,388,608 bytes.
-    #[error("the text is too long")]
-    TooLong,
-}
-
-impl From<AllocError> for WriteFault {
-    ghost use Rattle.std.specs.Prelude.{◌≡◌};
-    ghost use Rattle.lab_history.specs.declared.fault.WriteFault.TheVariants.{NoMemory};
-
-    ghost from_gives = { λ _ fault. fault ≡ NoMemory };
-
-    fn from(_: AllocError) -> WriteFault {
-        WriteFault::NoMemory
-    }
 }

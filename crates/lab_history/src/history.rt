@@ -51,7 +51,7 @@ impl History {
     }
 
     /// Its parts.
-    pub(crate) fn parts(&self) -> &Parts
+    pub fn parts(&self) -> &Parts
         ensures value { result.now ≡ self.now }
         ensures keeps { Keeps self.now }
     {

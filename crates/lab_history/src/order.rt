@@ -3,7 +3,7 @@
 ghost use Rattle.std.specs.Prelude.{◌≡◌};
 ghost use Rattle.std.specs.FinMap as map;
 ghost use Rattle.lab_table.specs.Row.{row_cmp};
-ghost use Rattle.lab_history.specs.Entries as entry;
+ghost use Rattle.lab_history.specs.RowOrder as rows;
 
 use lab_table::RowName;
 
@@ -11,7 +11,7 @@ use lab_table::RowName;
 // Not inlined, so that rows are compared where they stand: else their names are taken apart byte by byte.
 #[inline(never)]
 pub fn follows(before: &Option<RowName>, row: &RowName) -> bool
-    ensures { result ≡ entry.follows before.now row.now }
+    ensures { result ≡ rows.follows before.now row.now }
 {
     match before {
         None => true,

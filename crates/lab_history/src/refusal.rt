@@ -3,10 +3,10 @@
 ghost use Rattle.std.specs.Prelude.{◌≡◌};
 
 use crate::fault::{FileFault, Limit};
-use crate::path::Path;
 use std::alloc::{AllocError, AllocFailed};
 
-/// Want of memory stands apart from the faults, since no contract says when it comes.
+/// Why a part of a file or of a history was not taken: want of memory, or a fault. Want of memory stands apart from
+/// the faults, since no contract says when it comes.
 #[derive(Clone, Copy, Debug, PartialEq, Eq)]
 pub enum Refusal {
     NoMemory,
@@ -46,14 +46,7 @@ impl From<FileFault> for Refusal {
     }
 }
 
-/// What stops the reading at a value that isn't of the format.
-pub fn wrong(path: Path) -> Refusal
-    ensures { result ≡ Refusal.Fault (FileFault.WrongFormat path) }
-{
-    Refusal::Fault(FileFault::WrongFormat { path })
-}
-
-/// What stops the reading where there is too much of something.
+/// The refusal where there is too much of something.
 pub fn over(which: Limit) -> Refusal
     ensures { result ≡ Refusal.Fault (FileFault.OverLimit which) }
 {

@@ -4,8 +4,8 @@ use Rattle.std.specs.Prelude.{◌↔◌}
 use Rattle.std.proofs.lemmas.Option.{same_Some}
 use Rattle.serde_json.specs.Data.{Data}
 use Rattle.lab_history.specs.History.{History}
-use Rattle.lab_history.specs.FileRead.{IsTextOf}
-use Rattle.lab_history.specs.Format.{history_in}
+use Rattle.lab_history_file.specs.FileRead.{IsTextOf}
+use Rattle.lab_history_file.specs.Format.{history_in}
 use Rattle.lab_deps.specs.Soundness.{IsSound}
 use Rattle.lab_judge.specs.FileJudgement.{IsFileJudgement}
 use Rattle.lab_judge.specs.Judgement.{IsExactJudgement}

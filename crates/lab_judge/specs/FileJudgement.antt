@@ -2,8 +2,8 @@
 use Rattle.std.specs.Prelude.{◌≡◌, ℕ, List, Ok}
 use Rattle.serde_json.specs.Data.{Data}
 use Rattle.lab_history.specs.History.{History}
-use Rattle.lab_history.specs.FileRead.{IsTextOf}
-use Rattle.lab_history.specs.Format.{history_in}
+use Rattle.lab_history_file.specs.FileRead.{IsTextOf}
+use Rattle.lab_history_file.specs.Format.{history_in}
 use Rattle.lab_judge.specs.Judgement.{IsExactJudgement}
 use Rattle.lab_judge.specs.declared.report.Report.{Report}
 

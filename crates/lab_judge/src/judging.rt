@@ -4,9 +4,9 @@ ghost use Rattle.std.specs.Prelude.{◌≡◌, ◌≢◌, ◌⊎◌, ◌↔◌, 
 ghost use Rattle.std.specs.List.Sorted.{IsStrictlyIncreasing};
 ghost use Rattle.serde_json.specs.Data.{Data};
 ghost use Rattle.serde_json.specs.Read.{read as read_text};
-ghost use Rattle.lab_history.specs.FaultOf.{IsTrueFault};
-ghost use Rattle.lab_history.specs.FileRead.{IsTextOf};
-ghost use Rattle.lab_history.specs.Format.{history_in};
+ghost use Rattle.lab_history_file.specs.FaultOf.{IsTrueFault};
+ghost use Rattle.lab_history_file.specs.FileRead.{IsTextOf};
+ghost use Rattle.lab_history_file.specs.Format.{history_in};
 ghost use Rattle.lab_history.specs.History.{History as Spells};
 ghost use Rattle.lab_history.specs.Limits.{max_file_bytes};
 ghost use Rattle.lab_history.specs.declared.fault.Limit.TheVariants.{Bytes};
@@ -37,7 +37,8 @@ use crate::serial::Serial;
 use crate::serializing::serial_verdict;
 use lab_deps::{Dependencies, KindTable, Kinds, LocalFault, Sound, Unsound, check_local};
 use lab_engine::Recording;
-use lab_history::{FileFault, History, read_history};
+use lab_history::{FileFault, History};
+use lab_history_file::read_history;
 use lab_order::{Graph, NoMemory};
 use std::alloc::Global;
 

@@ -4,7 +4,7 @@ use Rattle.std.specs.Prelude.{IfOk, IfErr, MatchResult, IsUtf8}
 use Rattle.serde_json.specs.Data.{Data}
 use Rattle.serde_json.specs.Read.{read}
 use Rattle.lab_history.specs.History.{History}
-use Rattle.lab_history.specs.Format.{history_in}
+use Rattle.lab_history_file.specs.Format.{history_in}
 use Rattle.lab_history.specs.Limits.{max_file_bytes}
 use Rattle.lab_history.specs.declared.fault.FileFault.{FileFault}
 use Rattle.lab_streams.specs.declared.ending.Ending.{Ending}

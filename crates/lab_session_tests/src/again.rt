@@ -5,7 +5,7 @@ ghost use Rattle.lab_engine.specs.Log.{past_of};
 ghost use Rattle.lab_engine.specs.Rules.{IsLegal};
 
 use lab_engine::{MAX_EVENTS, Recording};
-use lab_history::write_history;
+use lab_history_file::write_history;
 use lab_script::parse_script;
 use lab_session::play_script;
 use lab_versions::SnapshotEngine;

@@ -11,7 +11,7 @@ use Rattle.std.specs.Str.{IsUtf8, is_utf8}
 use Rattle.serde_json.specs.Data.{Data}
 use Rattle.serde_json.specs.Read.{read}
 use Rattle.lab_history.specs.History.{History}
-use Rattle.lab_history.specs.Format.{history_in}
+use Rattle.lab_history_file.specs.Format.{history_in}
 use Rattle.lab_history.specs.declared.fault.FileFault.{FileFault}
 use Rattle.lab_history.specs.declared.fault.FileFault.TheVariants.{NoMemory, NotJson, OverLimit}
 use Rattle.lab_history.specs.declared.fault.Limit.TheVariants.{Bytes}

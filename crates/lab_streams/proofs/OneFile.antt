@@ -4,8 +4,8 @@ use Rattle.std.specs.Result.{is_ok, result_ok, result_err}
 use Rattle.std.proofs.lemmas.Bool.{false≢true}
 use Rattle.std.proofs.lemmas.Option.{same_Some, none-some}
 use Rattle.serde_json.specs.Data.{Data}
-use Rattle.lab_history.specs.FileRead.{IsTextOf}
-use Rattle.lab_history.specs.Format.{history_in}
+use Rattle.lab_history_file.specs.FileRead.{IsTextOf}
+use Rattle.lab_history_file.specs.Format.{history_in}
 use Rattle.lab_history.specs.History.{History}
 use Rattle.lab_history.specs.declared.fault.FileFault.{FileFault}
 use Rattle.lab_streams.specs.HistoryFile.{HoldsHistory, IsFormatFault, IsFileFault}

@@ -2,9 +2,9 @@
 use Rattle.std.specs.Prelude.{◌≡◌, ℕ, ◌≤◌, ◌<◌, List, length, Ok, Err}
 use Rattle.serde_json.specs.Data.{Data}
 use Rattle.lab_history.specs.History.{History}
-use Rattle.lab_history.specs.Format.{history_in}
+use Rattle.lab_history_file.specs.Format.{history_in}
 use Rattle.lab_history.specs.Limits.{max_file_bytes}
-use Rattle.lab_history.specs.FileRead.{IsTextOf, IsNoText}
+use Rattle.lab_history_file.specs.FileRead.{IsTextOf, IsNoText}
 use Rattle.lab_history.specs.declared.fault.FileFault.{FileFault}
 use Rattle.lab_history.specs.declared.fault.FileFault.TheVariants.{NotJson, OverLimit}
 use Rattle.lab_history.specs.declared.fault.Limit.TheVariants.{Bytes}

@@ -1,6 +1,0 @@
-use Rattle.lab_history.proofs.Faultless.{faultless}
-use Rattle.lab_history.proofs.FaultsAreTrue.{fault_is_true}
-use Rattle.lab_history.proofs.laws.faults_are_true.Goals as goal
-
-pub returns : goal.returns
-returns c = record { true_fault = fault_is_true; faultless = faultless }

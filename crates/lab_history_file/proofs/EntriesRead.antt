@@ -1,0 +1,157 @@
+-- The lists of a history file are read as the maps that they stand for, and as nothing else.
+use Rattle.std.proofs.Common.{◌≡◌, ◌≢◌, ℕ, ◌+◌, ℤ, List, [], ◌∷◌, Option, Some, None, Result, Ok, refl, sym, ap, subst, ◌∙◌}
+use Rattle.std.specs.FinMap as finite
+use Rattle.std.specs.FinMap.{FinMap}
+use Rattle.serde_json.specs.Data.{Data, array, Items, no_items, item}
+use Rattle.serde_json.specs.Find.{as_array}
+use Rattle.lab_table.specs.Row.{Row, row_cmp}
+use Rattle.lab_history.specs.Faults.{required}
+use Rattle.lab_history_file.specs.Member.{Key, with_key, key_parts, row_in, count, member_in}
+use Rattle.lab_history_file.specs.Entries.{txn_in_number, op_in_number, value_in, written_in, entry_in, one_in, version_name_in, installers_from, installers_of, installers_in, values_in, writes_in, view_in, installed_in}
+use Rattle.lab_history_file.specs.FileOf.{AreEach, IsMapOf, IsPair, IsVersion, IsInstalled}
+use Rattle.lab_history.specs.declared.fault.FileFault.{FileFault}
+use Rattle.lab_history_file.specs.declared.file_version.FileVersion.{FileVersion}
+use Rattle.lab_history.specs.declared.operation.VersionName.{VersionName}
+use Rattle.lab_history.specs.declared.operation.VersionName.TheVariants.{Of}
+use Rattle.lab_history.specs.declared.path.ListPlace.{ListPlace}
+use Rattle.lab_history.specs.declared.path.ListPlace.TheVariants as list
+use Rattle.lab_history.specs.declared.path.Path.TheVariants as path
+use Rattle.lab_history.proofs.Steps.{both_ok, step_on, required_ok, required_is}
+use Rattle.lab_history_file.proofs.JsonShapes.{array_of}
+use Rattle.lab_history_file.proofs.MemberKeys.{one_part, two_parts, member_begins, member_with}
+use Rattle.lab_history_file.proofs.ListsRead.{map_read, map_is_read}
+
+-- ---- members
+
+module _ {X : Type 0} (n : ℕ) (read : FileVersion → ListPlace → ℕ → Items → Result X FileFault) (version : FileVersion) (place : ListPlace) (i : ℕ) where
+  -- a member that is read has a key of its row, and behind it so many parts, which are read
+  pub entry_read : (d : Data) (x : Row × X) → entry_in n read version place i d ≡ Ok x
+      → (key : Key) × (rest : Items) × (d ≡ array (with_key key rest)) × (row_in version key ≡ Some x.0) × (count rest ≡ n) × (read version place i rest ≡ Ok x.1)
+  entry_read d x e =
+      let split = both_ok (member_in n version place i (as_array d)) _ x e in
+      let other = both_ok (read version place i split.0.1) _ x split.2 in
+      let begins = member_begins place i n version (as_array d) split.0 split.1 in
+      let same : (split.0.0, other.0) ≡ x = cc in (
+        begins.0,
+        split.0.1,
+        array_of d _ begins.1,
+        begins.2 ∙ ap (λ (y : Row × X). Some y.0) same,
+        begins.3,
+        other.1 ∙ ap (λ (y : Row × X). Ok y.1) same,
+      )
+
+  -- and one that has, is read
+  entry_is_read : (d : Data) (x : Row × X) (key : Key) (rest : Items) → d ≡ array (with_key key rest) → row_in version key ≡ Some x.0 → count rest ≡ n → read version place i rest ≡ Ok x.1
+      → entry_in n read version place i d ≡ Ok x
+  entry_is_read d x key rest is row size e = step_on _ (ap (λ t. member_in n version place i (as_array t)) is ∙ member_with place i n version key x.0 rest row size) (step_on _ e refl)
+
+-- ---- [key, x]
+
+module _ {X : Type 0} (read : Data → Option X) (version : FileVersion) (place : ListPlace) (i : ℕ) where
+  pair_read : (d : Data) (x : Row × X) → entry_in 1 (one_in read) version place i d ≡ Ok x → IsPair version read d x
+  pair_read d x e =
+      let is = entry_read 1 (one_in read) version place i d x e in
+      let one = one_part is.1 is.4 in
+      (is.0, one.0, is.2 ∙ ap (λ ds. array (with_key is.0 ds)) one.1, is.3, required_ok _ _ _ (subst (λ ds. one_in read version place i ds ≡ Ok x.1) one.1 is.5))
+
+  pair_is_read : (d : Data) (x : Row × X) → IsPair version read d x → entry_in 1 (one_in read) version place i d ≡ Ok x
+  pair_is_read d x is = entry_is_read 1 (one_in read) version place i d x is.0 _ is.2 is.3 refl (required_is _ is.4)
+
+-- ---- [key, txn, op]
+
+module _ (version : FileVersion) (place : ListPlace) (i : ℕ) where
+  name_read : (b c : Data) (v : VersionName) → version_name_in version place i (item b (item c no_items)) ≡ Ok v
+      → (txn op : ℕ) × (txn_in_number b ≡ Some txn) × (op_in_number c ≡ Some op) × (v ≡ Of txn op)
+  name_read b c v e =
+      let txn = both_ok (required (path.Part place i (key_parts version)) (txn_in_number b)) _ v e in
+      let op = both_ok (required (path.Part place i (key_parts version + 1)) (op_in_number c)) _ v txn.2 in
+      let same : Of txn.0 op.0 ≡ v = cc in
+      (txn.0, op.0, required_ok _ _ _ txn.1, required_ok _ _ _ op.1, sym same)
+
+  version_read : (d : Data) (x : Row × VersionName) → entry_in 2 version_name_in version place i d ≡ Ok x → IsVersion version d x
+  version_read d x e =
+      let is = entry_read 2 version_name_in version place i d x e in
+      let two = two_parts is.1 is.4 in
+      let name = name_read two.0 two.1 x.1 (subst (λ ds. version_name_in version place i ds ≡ Ok x.1) two.2 is.5) in
+      (is.0, two.0, two.1, name.0, name.1, is.2 ∙ ap (λ ds. array (with_key is.0 ds)) two.2, is.3, name.2, name.3, name.4)
+
+  version_is_read : (d : Data) (x : Row × VersionName) → IsVersion version d x → entry_in 2 version_name_in version place i d ≡ Ok x
+  version_is_read d x is =
+      entry_is_read 2 version_name_in version place i d x is.0 _ is.5 is.6 refl
+      (step_on _ (required_is (path.Part place i (key_parts version)) is.7)
+      (step_on _ (required_is (path.Part place i (key_parts version + 1)) is.8) (ap (λ v. Ok v) (sym is.9))))
+
+-- ---- [key, [txn, ..]]
+
+abbrev IsInstaller : Data → ℕ → Type 0
+IsInstaller e n = txn_in_number e ≡ Some n
+
+installers_read : (i part at : ℕ) (ds : Items) (ns : List ℕ) → installers_from i part at ds ≡ Ok ns → AreEach IsInstaller ds ns
+installers_read i part at no_items [] e = tt
+installers_read i part at no_items (n ∷ ns) e = absurd cc
+installers_read i part at (item d ds) ns e =
+    let first = both_ok (required (path.Installer i part at) (txn_in_number d)) _ ns e in
+    let rest = both_ok (installers_from i part (at + 1) ds) _ ns first.2 in
+    let same : first.0 ∷ rest.0 ≡ ns = cc in
+    subst (AreEach IsInstaller (item d ds)) same (required_ok _ _ _ first.1, installers_read i part (at + 1) ds rest.0 rest.1)
+
+installers_are_read : (i part at : ℕ) (ds : Items) (ns : List ℕ) → AreEach IsInstaller ds ns → installers_from i part at ds ≡ Ok ns
+installers_are_read i part at no_items [] each = refl
+installers_are_read i part at no_items (n ∷ ns) each = absurd each
+installers_are_read i part at (item d ds) [] each = absurd each
+installers_are_read i part at (item d ds) (n ∷ ns) each =
+    step_on _ (required_is (path.Installer i part at) each.0) (step_on _ (installers_are_read i part (at + 1) ds ns each.1) refl)
+
+some_installers : (d : Data) (ds : Items) (ns : List ℕ) → AreEach IsInstaller (item d ds) ns → ns ≢ []
+some_installers d ds [] each e = each
+some_installers d ds (n ∷ ns) each e = absurd cc
+
+list_parts : (i part : ℕ) (o : Option Items) (ns : List ℕ) → installers_of i part o ≡ Ok ns → (ds : Items) × (o ≡ Some ds) × AreEach IsInstaller ds ns × (ns ≢ [])
+list_parts i part None ns e = absurd cc
+list_parts i part (Some no_items) ns e = absurd cc
+list_parts i part (Some (item d ds)) ns e = let each = installers_read i part 0 (item d ds) ns e in (item d ds, refl, each, some_installers d ds ns each)
+
+list_is_read : (i part : ℕ) (ds : Items) (ns : List ℕ) → AreEach IsInstaller ds ns → ns ≢ [] → installers_of i part (Some ds) ≡ Ok ns
+list_is_read i part no_items [] each some = absurd (some refl)
+list_is_read i part no_items (n ∷ ns) each some = absurd each
+list_is_read i part (item d ds) ns each some = installers_are_read i part 0 (item d ds) ns each
+
+module _ (version : FileVersion) (place : ListPlace) (i : ℕ) where
+  installed_read : (d : Data) (x : Row × List ℕ) → entry_in 1 installers_in version place i d ≡ Ok x → IsInstalled version d x
+  installed_read d x e =
+      let is = entry_read 1 installers_in version place i d x e in
+      let one = one_part is.1 is.4 in
+      let parts = list_parts i (key_parts version) (as_array one.0) x.1 (subst (λ ds. installers_in version place i ds ≡ Ok x.1) one.1 is.5) in
+      (is.0, one.0, is.2 ∙ ap (λ ds. array (with_key is.0 ds)) one.1, is.3, (parts.0, array_of one.0 parts.0 parts.1, parts.2), parts.3)
+
+  installed_is_read : (d : Data) (x : Row × List ℕ) → IsInstalled version d x → entry_in 1 installers_in version place i d ≡ Ok x
+  installed_is_read d x is =
+      entry_is_read 1 installers_in version place i d x is.0 _ is.2 is.3 refl
+      (ap (λ e. installers_of i (key_parts version) (as_array e)) is.4.1 ∙ list_is_read i (key_parts version) is.4.0 x.1 is.4.2 is.5)
+
+-- ---- the lists
+
+module _ (version : FileVersion) (place : ListPlace) (d : Data) where
+  pub values_read : (xs : List (Row × ℤ)) → values_in version place d ≡ Ok xs → IsMapOf (IsPair version value_in) d (finite.from_sorted xs)
+  values_read xs e = map_read _ place (IsPair version value_in) (pair_read value_in version place) d xs e
+
+  pub values_are_read : (m : FinMap row_cmp ℤ) → IsMapOf (IsPair version value_in) d m → values_in version place d ≡ Ok (finite.entries m)
+  values_are_read m is = map_is_read _ place (IsPair version value_in) (pair_is_read value_in version place) d m is
+
+  pub writes_read : (xs : List (Row × Option ℤ)) → writes_in version place d ≡ Ok xs → IsMapOf (IsPair version written_in) d (finite.from_sorted xs)
+  writes_read xs e = map_read _ place (IsPair version written_in) (pair_read written_in version place) d xs e
+
+  pub writes_are_read : (m : FinMap row_cmp (Option ℤ)) → IsMapOf (IsPair version written_in) d m → writes_in version place d ≡ Ok (finite.entries m)
+  writes_are_read m is = map_is_read _ place (IsPair version written_in) (pair_is_read written_in version place) d m is
+
+  pub view_read : (xs : List (Row × VersionName)) → view_in version place d ≡ Ok xs → IsMapOf (IsVersion version) d (finite.from_sorted xs)
+  view_read xs e = map_read _ place (IsVersion version) (version_read version place) d xs e
+
+  pub view_is_read : (m : FinMap row_cmp VersionName) → IsMapOf (IsVersion version) d m → view_in version place d ≡ Ok (finite.entries m)
+  view_is_read m is = map_is_read _ place (IsVersion version) (version_is_read version place) d m is
+
+pub installed_list_read : (version : FileVersion) (d : Data) (xs : List (Row × List ℕ)) → installed_in version d ≡ Ok xs → IsMapOf (IsInstalled version) d (finite.from_sorted xs)
+installed_list_read version d xs e = map_read _ list.Installed (IsInstalled version) (installed_read version list.Installed) d xs e
+
+pub installed_list_is_read : (version : FileVersion) (d : Data) (m : FinMap row_cmp (List ℕ)) → IsMapOf (IsInstalled version) d m → installed_in version d ≡ Ok (finite.entries m)
+installed_list_is_read version d m is = map_is_read _ list.Installed (IsInstalled version) (installed_is_read version list.Installed) d m is

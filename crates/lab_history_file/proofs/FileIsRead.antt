@@ -1,0 +1,40 @@
+-- The history of a file is read from it.
+use Rattle.std.proofs.Common.{◌≡◌, [], Ok, refl}
+use Rattle.serde_json.specs.Data.{Data}
+use Rattle.lab_history_file.specs.FileOf.{IsFileIn}
+use Rattle.lab_history_file.specs.Format.{parts_in, history_in}
+use Rattle.lab_history.specs.History.{History}
+use Rattle.lab_history.specs.HistoryRules.{Keeps}
+use Rattle.lab_history.specs.WithinLimits.{within_limits}
+use Rattle.lab_history.specs.declared.fault.FileFault.TheVariants as fault
+use Rattle.lab_history.specs.declared.fault.Limit.TheVariants as limit
+use Rattle.lab_history_file.specs.declared.file_version.FileVersion.{FileVersion}
+use Rattle.lab_history.proofs.Steps.{step_on, limit_kept}
+use Rattle.lab_history_file.proofs.TransactionsStand.{stand}
+use Rattle.lab_history_file.proofs.PartsRead.{parts_are_read}
+
+-- what keeps the limits isn't refused
+pub kept_within : (h : History) → Keeps h → within_limits h ≡ Ok tt
+kept_within h keeps =
+    step_on _ (limit_kept 4 _ (fault.OverLimit limit.Tables) keeps.tables)
+    (step_on _ (limit_kept 1000 _ (fault.OverLimit limit.Ids) keeps.ids) (limit_kept 200000 _ (fault.OverLimit limit.Entries) keeps.entries))
+
+pub parts_of_file : (version : FileVersion) (d : Data) (h : History) → IsFileIn version d h → parts_in d ≡ Ok h
+parts_of_file version d h file = parts_are_read version d h (record {
+  number = file.number;
+  initial = file.initial;
+  transactions = file.transactions;
+  installed = file.installed;
+  end = file.end;
+  tree = file.tree;
+  number_is = file.number_is;
+  initial_is = file.initial_is;
+  transactions_are = file.transactions_are;
+  installed_is = file.installed_is;
+  end_is = file.end_is;
+  stand = stand [] h.txns file.keeps.distinct file.keeps.few_operations;
+  few = file.keeps.transactions;
+})
+
+pub file_is_read : (version : FileVersion) (d : Data) (h : History) → IsFileIn version d h → history_in d ≡ Ok h
+file_is_read version d h file = step_on _ (parts_of_file version d h file) (step_on _ (kept_within h file.keeps) refl)

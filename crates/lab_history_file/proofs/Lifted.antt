@@ -1,0 +1,113 @@
+-- A file of version 1, as one of version 2, is a file of the same history.
+use Rattle.std.proofs.Common.{◌≡◌, ℕ, List, [], ◌∷◌, Option, Some, Ok, refl, sym, ap, subst, ◌∙◌}
+use Rattle.serde_json.specs.Data.{Data, null, boolean, number, unsigned, string, array, object, Items, no_items, item}
+use Rattle.lab_table.specs.Row.{Row}
+use Rattle.lab_table.specs.TableName.{test_name}
+use Rattle.lab_history_file.specs.Member.{Key, plain, full, with_key, row_in}
+use Rattle.lab_history_file.specs.Entries.{txn_in_number, value_in, written_in}
+use Rattle.lab_history_file.specs.FileOf.{outcome_text, AreEach, IsListOf, IsPair, IsVersion, IsInstalled, IsOperation, IsTransaction, IsFileIn, IsFileOf}
+use Rattle.lab_history_file.specs.Format.{version_said, history_in}
+use Rattle.lab_history_file.specs.Lift.{each_item, in_list, lift_member, lift_list, lift_op, lift_txn, lift}
+use Rattle.lab_history.specs.History.{History}
+use Rattle.lab_history_file.specs.declared.file_version.FileVersion.TheVariants.{One, Two}
+use Rattle.lab_history.specs.declared.operation.Op.{Op}
+use Rattle.lab_history.specs.declared.operation.VersionName.{VersionName}
+use Rattle.lab_history.specs.declared.transaction.Txn.{Txn}
+use Rattle.lab_history_file.proofs.FileIsRead.{file_is_read}
+use Rattle.lab_history_file.proofs.ReadIsFile.{read_is_file}
+use Rattle.lab_history_file.proofs.Faultless.{says}
+use Rattle.lab_history_file.proofs.TransactionsRead.{txn_tree}
+
+-- ---- lists
+
+-- where what each item stands for is what it stands for once it is changed, the changed list stands for the same
+module _ {X : Type 0} (Is Becomes : Data → X → Type 0) (change : Data → Data) (kept : (d : Data) (x : X) → Is d x → Becomes (change d) x) where
+  each_kept : (ds : Items) (xs : List X) → AreEach Is ds xs → AreEach Becomes (each_item change ds) xs
+  each_kept no_items [] each = tt
+  each_kept no_items (x ∷ xs) each = absurd each
+  each_kept (item d ds) [] each = absurd each
+  each_kept (item d ds) (x ∷ xs) each = (kept d x each.0, each_kept ds xs each.1)
+
+  list_kept : (d : Data) (xs : List X) → IsListOf Is d xs → IsListOf Becomes (in_list change d) xs
+  list_kept d xs is = (each_item change is.0, ap (in_list change) is.1, each_kept is.0 xs is.2)
+
+-- ---- members
+
+-- a key of version 1 with `test` in front of it is one of version 2
+abbrev lifted_key : Key → Key
+lifted_key (plain id) = full (string test_name) id
+lifted_key (full table id) = full table id
+
+key_lifts : (key : Key) (row : Row) (rest : Items) → row_in One key ≡ Some row
+    → (lift_member (array (with_key key rest)) ≡ array (with_key (lifted_key key) rest)) × (row_in Two (lifted_key key) ≡ Some row)
+key_lifts (plain id) row rest e = (refl, e)
+key_lifts (full table id) row rest e = absurd cc
+
+pair_lifts : {X : Type 0} (read : Data → Option X) (d : Data) (x : Row × X) → IsPair One read d x → IsPair Two read (lift_member d) x
+pair_lifts read d x is = let key = key_lifts is.0 x.0 _ is.3 in (lifted_key is.0, is.1, ap lift_member is.2 ∙ key.0, key.1, is.4)
+
+version_lifts : (d : Data) (x : Row × VersionName) → IsVersion One d x → IsVersion Two (lift_member d) x
+version_lifts d x is =
+    let key = key_lifts is.0 x.0 _ is.6 in (lifted_key is.0, is.1, is.2, is.3, is.4, ap lift_member is.5 ∙ key.0, key.1, is.7, is.8, is.9)
+
+installed_lifts : (d : Data) (x : Row × List ℕ) → IsInstalled One d x → IsInstalled Two (lift_member d) x
+installed_lifts d x is = let key = key_lifts is.0 x.0 _ is.3 in (lifted_key is.0, is.1, ap lift_member is.2 ∙ key.0, key.1, is.4, is.5)
+
+-- ---- operations and transactions
+
+op_lifts : (d : Data) (op : Op) → IsOperation One d op → IsOperation Two (lift_op d) op
+op_lifts d op is = (
+  lift_list is.0,
+  lift_list is.1,
+  lift_list is.2,
+  is.3,
+  ap lift_op is.4,
+  record { spells = is.5.spells; may = refl },
+  list_kept (IsVersion One) (IsVersion Two) lift_member version_lifts is.1 _ is.6,
+  list_kept (IsPair One value_in) (IsPair Two value_in) lift_member (pair_lifts value_in) is.0 _ is.7,
+  list_kept (IsPair One written_in) (IsPair Two written_in) lift_member (pair_lifts written_in) is.2 _ is.8,
+)
+
+-- a number is no list
+number_stays : (d : Data) (n : ℕ) → txn_in_number d ≡ Some n → in_list lift_op d ≡ d
+number_stays null n e = refl
+number_stays (boolean b) n e = refl
+number_stays (number m) n e = refl
+number_stays (string s) n e = refl
+number_stays (array ds) n e = absurd cc
+number_stays (object ms) n e = refl
+
+txn_lifts : (d : Data) (txn : Txn) → IsTransaction One d txn → IsTransaction Two (lift_txn d) txn
+txn_lifts d txn is = (
+  is.0,
+  in_list lift_op is.1,
+  ap lift_txn is.2 ∙ ap (λ own. txn_tree own (in_list lift_op is.1) (string (outcome_text txn.outcome))) (number_stays is.0 txn.no is.3),
+  is.3,
+  list_kept (IsOperation One) (IsOperation Two) lift_op op_lifts is.1 _ is.4,
+)
+
+-- ---- the whole
+
+file_lifts : (d : Data) (h : History) → IsFileIn One d h → IsFileIn Two (lift d) h
+file_lifts d h file = record {
+  number = number (unsigned 2);
+  initial = lift_list file.initial;
+  transactions = in_list lift_txn file.transactions;
+  installed = lift_list file.installed;
+  end = lift_list file.end;
+  tree = ap lift file.tree;
+  number_is = refl;
+  initial_is = list_kept (IsPair One value_in) (IsPair Two value_in) lift_member (pair_lifts value_in) file.initial _ file.initial_is;
+  transactions_are = list_kept (IsTransaction One) (IsTransaction Two) lift_txn txn_lifts file.transactions _ file.transactions_are;
+  installed_is = list_kept (IsInstalled One) (IsInstalled Two) lift_member installed_lifts file.installed _ file.installed_is;
+  end_is = list_kept (IsPair One value_in) (IsPair Two value_in) lift_member (pair_lifts value_in) file.end _ file.end_is;
+  keeps = file.keeps;
+}
+
+-- a file that says version 1 is one of version 1
+pub lifted_file : (d : Data) (h : History) → version_said d ≡ One → IsFileOf d h → IsFileIn Two (lift d) h
+lifted_file d h one (version, file) = file_lifts d h (subst (λ v. IsFileIn v d h) (sym (says version d h file) ∙ one) file)
+
+-- what is read of it is read of the other
+pub lifted_read : (d : Data) (h : History) → version_said d ≡ One → history_in d ≡ Ok h → history_in (lift d) ≡ Ok h
+lifted_read d h one read = file_is_read Two (lift d) h (lifted_file d h one (read_is_file d h read))

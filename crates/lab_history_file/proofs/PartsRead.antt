@@ -1,0 +1,133 @@
+-- The parts of a history are read as what the table of the format says, and as nothing else.
+use Rattle.std.proofs.Common.{◌≡◌, ℕ, ◌≤◌, ◌==◌, Bool, true, false, [], length, Option, Some, None, Ok, Err, codes, option_and_then, if◌then◌else◌, bytes_eq, refl, sym, ap, subst, ◌∙◌, eqb-true}
+use Rattle.std.specs.Prelude.{⊤}
+use Rattle.std.specs.FinMap as finite
+use Rattle.std.proofs.lemmas.Slice.Eq.{bytes_eq-Decides}
+use Rattle.serde_json.specs.Data.{Data, string, object, no_members, member}
+use Rattle.serde_json.specs.Find.{as_number, as_u64, as_str}
+use Rattle.lab_history.specs.Faults.{◌>>=◌, required}
+use Rattle.lab_history_file.specs.Entries.{value_in, values_in, installed_in}
+use Rattle.lab_history_file.specs.FileVersion.{version_number}
+use Rattle.lab_history_file.specs.FileOf.{IsListOf, IsMapOf, IsPair, IsInstalled, IsTransaction}
+use Rattle.lab_history_file.specs.Format.{format_in, numbered_version, version_in, keyed, root_keys, txns_in, parts_in}
+use Rattle.lab_history.specs.History.{History}
+use Rattle.lab_history.specs.declared.fault.FileFault.TheVariants as fault
+use Rattle.lab_history_file.specs.declared.file_version.FileVersion.{FileVersion}
+use Rattle.lab_history_file.specs.declared.file_version.FileVersion.TheVariants.{One, Two}
+use Rattle.lab_history.specs.declared.path.ListPlace.TheVariants as list
+use Rattle.lab_history.specs.declared.path.Path.TheVariants as path
+use Rattle.lab_history.proofs.Steps.{both_ok, both_some, step_on, required_ok, when_found}
+use Rattle.lab_history_file.proofs.JsonShapes.{string_of, keyed_shape}
+use Rattle.lab_history_file.proofs.ListsRead.{map_again}
+use Rattle.lab_history_file.proofs.EntriesRead.{values_read, values_are_read, installed_list_read, installed_list_is_read}
+use Rattle.lab_history_file.proofs.TransactionsRead.{AllStand, list_read, list_is_read}
+
+-- a history's object
+abbrev pub root_tree : Data → Data → Data → Data → Data → Data → Data
+root_tree end format initial installed transactions number =
+    object (member (codes "end") end (member (codes "format") format (member (codes "initial") initial
+    (member (codes "installed") installed (member (codes "transactions") transactions (member (codes "version") number no_members))))))
+
+-- the parts stand in the value as the table of the format says, and each transaction may stand behind those before it
+pub record HoldsParts (version : FileVersion) (d : Data) (h : History) : Type 0 where
+  pub number : Data
+  pub initial : Data
+  pub transactions : Data
+  pub installed : Data
+  pub end : Data
+  pub tree : d ≡ root_tree end (string (codes "hermitage-history")) initial installed transactions number
+  pub number_is : option_and_then as_u64 (as_number number) ≡ Some (version_number version)
+  pub initial_is : IsMapOf (IsPair version value_in) initial h.initial
+  pub transactions_are : IsListOf (IsTransaction version) transactions h.txns
+  pub installed_is : IsMapOf (IsInstalled version) installed h.installed
+  pub end_is : IsMapOf (IsPair version value_in) end h.end_table
+  pub stand : AllStand [] h.txns
+  pub few : length h.txns ≤ 1000
+
+-- they stand in a value of either version
+abbrev pub Holds : Data → History → Type 0
+Holds d h = (version : FileVersion) × HoldsParts version d h
+
+format_named : (d : Data) (u : ⊤) → option_and_then (λ text. if bytes_eq text (codes "hermitage-history") then Some tt else None) (as_str d) ≡ Some u → d ≡ string (codes "hermitage-history")
+format_named d u e =
+    let text = both_some (as_str d) _ u e in
+    string_of d text.0 text.1 ∙ ap (λ t. string t) ((bytes_eq-Decides text.0 _).0 (when_found _ tt u text.2).0)
+
+-- a number that is read as a version is its number
+numbered : (version : FileVersion) (n : ℕ) → numbered_version n ≡ Ok version → n ≡ version_number version
+numbered version n e = by (n == 1) (n == 2) (eqb-true n 1) (eqb-true n 2) e
+  where
+    by : (one two : Bool) → (one ≡ true → n ≡ 1) → (two ≡ true → n ≡ 2) → (if one then Ok One else if two then Ok Two else Err (fault.WrongVersion n)) ≡ Ok version → n ≡ version_number version
+    by true two first second e = let same : One ≡ version = cc in first refl ∙ ap version_number same
+    by false true first second e = let same : Two ≡ version = cc in second refl ∙ ap version_number same
+    by false false first second e = absurd cc
+
+number_read : (version : FileVersion) (o : Option ℕ) → (required path.Version o >>= numbered_version) ≡ Ok version → o ≡ Some (version_number version)
+number_read version o e =
+    let found = both_ok (required path.Version o) numbered_version version e in
+    required_ok path.Version o found.0 found.1 ∙ ap (λ n. Some n) (numbered version found.0 found.2)
+
+number_is_read : (version : FileVersion) → numbered_version (version_number version) ≡ Ok version
+number_is_read One = refl
+number_is_read Two = refl
+
+tree_read : (end format initial installed transactions number : Data) (h : History) → parts_in (root_tree end format initial installed transactions number) ≡ Ok h
+    → Holds (root_tree end format initial installed transactions number) h
+tree_read end format initial installed transactions number h e =
+    let named = both_ok (format_in (root_tree end format initial installed transactions number)) _ h e in
+    let versioned = both_ok (version_in (root_tree end format initial installed transactions number)) _ h named.2 in
+    let version = versioned.0 in
+    let begun = both_ok (values_in version list.Initial initial) _ h versioned.2 in
+    let txns = both_ok (txns_in version transactions) _ h begun.2 in
+    let those = both_ok (installed_in version installed) _ h txns.2 in
+    let ended = both_ok (values_in version list.End end) _ h those.2 in
+    let made : History = record { initial = finite.from_sorted begun.0; txns = txns.0; installed = finite.from_sorted those.0; end_table = finite.from_sorted ended.0 } in
+    let same : made ≡ h = cc in
+    let are = list_read version transactions txns.0 txns.1 in
+    let spelled = format_named format named.0 (required_ok path.Format _ named.0 named.1) in
+    let holds : HoldsParts version (root_tree end format initial installed transactions number) made = record {
+      initial = initial;
+      transactions = transactions;
+      installed = installed;
+      end = end;
+      number = number;
+      tree = ap (λ f. root_tree end f initial installed transactions number) spelled;
+      number_is = number_read version _ versioned.1;
+      initial_is = values_read version list.Initial initial begun.0 begun.1;
+      transactions_are = are.0;
+      installed_is = installed_list_read version installed those.0 those.1;
+      end_is = values_read version list.End end ended.0 ended.1;
+      stand = are.1;
+      few = are.2;
+    } in
+    subst (Holds (root_tree end format initial installed transactions number)) same (version, holds)
+
+shaped_read : (d end format initial installed transactions number : Data) (h : History) → d ≡ root_tree end format initial installed transactions number → parts_in d ≡ Ok h → Holds d h
+shaped_read d end format initial installed transactions number h is e =
+    subst (λ t. Holds t h) (sym is) (tree_read end format initial installed transactions number h (subst (λ t. parts_in t ≡ Ok h) is e))
+
+-- parts that are read stand in the value
+pub parts_read : (d : Data) (h : History) → parts_in d ≡ Ok h → Holds d h
+parts_read d h e =
+    let named = both_ok (format_in d) _ h e in
+    let versioned = both_ok (version_in d) _ h named.2 in
+    let keys = both_ok (keyed path.Root root_keys d) _ h versioned.2 in
+    let shape = keyed_shape path.Root root_keys d keys.0 keys.1 in
+    shaped_read d shape.0 shape.1.0 shape.1.1.0 shape.1.1.1.0 shape.1.1.1.1.0 shape.1.1.1.1.1.0 h shape.1.1.1.1.1.1 e
+
+-- parts that stand in the value are read
+pub parts_are_read : (version : FileVersion) (d : Data) (h : History) → HoldsParts version d h → parts_in d ≡ Ok h
+parts_are_read version d h holds =
+    let made : History = record {
+      initial = finite.from_sorted (finite.entries h.initial);
+      txns = h.txns;
+      installed = finite.from_sorted (finite.entries h.installed);
+      end_table = finite.from_sorted (finite.entries h.end_table);
+    } in
+    let again : made ≡ h = λ i. record { initial = map_again h.initial i; txns = h.txns; installed = map_again h.installed i; end_table = map_again h.end_table i } in
+    ap parts_in holds.tree
+    ∙ step_on _ (ap (λ o. required path.Version o >>= numbered_version) holds.number_is ∙ number_is_read version)
+    (step_on _ (values_are_read version list.Initial holds.initial h.initial holds.initial_is)
+    (step_on _ (list_is_read version holds.transactions h.txns holds.transactions_are holds.stand holds.few)
+    (step_on _ (installed_list_is_read version holds.installed h.installed holds.installed_is)
+    (step_on _ (values_are_read version list.End holds.end h.end_table holds.end_is) (ap (λ (k : History). Ok k) again)))))

@@ -1,0 +1,38 @@
+-- A value from which a history is read is a file of it.
+use Rattle.std.proofs.Common.{◌≡◌, Ok, subst}
+use Rattle.serde_json.specs.Data.{Data}
+use Rattle.lab_history_file.specs.FileOf.{IsFileOf}
+use Rattle.lab_history_file.specs.Format.{parts_in, history_in}
+use Rattle.lab_history.specs.History.{History}
+use Rattle.lab_history.specs.WithinLimits.{within_limits}
+use Rattle.lab_history.proofs.Steps.{both_ok}
+use Rattle.lab_history_file.proofs.PartsRead.{parts_read}
+use Rattle.lab_history_file.proofs.ReadKeeps.{read_keeps}
+
+file_of_parts : (d : Data) (h : History) → parts_in d ≡ Ok h → within_limits h ≡ Ok tt → IsFileOf d h
+file_of_parts d h e within =
+    let found = parts_read d h e in
+    let holds = found.1 in (
+      found.0,
+      record {
+        number = holds.number;
+        initial = holds.initial;
+        transactions = holds.transactions;
+        installed = holds.installed;
+        end = holds.end;
+        tree = holds.tree;
+        number_is = holds.number_is;
+        initial_is = holds.initial_is;
+        transactions_are = holds.transactions_are;
+        installed_is = holds.installed_is;
+        end_is = holds.end_is;
+        keeps = read_keeps d h e within;
+      },
+    )
+
+pub read_is_file : (d : Data) (h : History) → history_in d ≡ Ok h → IsFileOf d h
+read_is_file d h e =
+    let parts = both_ok (parts_in d) _ h e in
+    let within = both_ok (within_limits parts.0) _ h parts.2 in
+    let same : parts.0 ≡ h = cc in
+    subst (IsFileOf d) same (file_of_parts d parts.0 parts.1 within.1)

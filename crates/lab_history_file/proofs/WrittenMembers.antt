@@ -1,0 +1,25 @@
+-- Members of lists as they are written: a key, and what stands behind it.
+use Rattle.std.proofs.Common.{◌≡◌, ◌≢◌, ℕ, true, List, [], ◌∷◌, Some, None, if◌then◌else◌, refl, ap}
+use Rattle.lab_table.specs.Row.{Row}
+use Rattle.lab_history_file.specs.Entries.{txn_in_number}
+use Rattle.lab_history_file.specs.FileOf.{IsListOf, IsVersion, IsInstalled}
+use Rattle.lab_history.specs.HistoryRules.{is_listed, has_installer}
+use Rattle.lab_history_file.specs.Member.{row_in, key_tree}
+use Rattle.lab_history_file.specs.Tree.{natural_tree, list_tree, pair_tree, version_tree}
+use Rattle.lab_history_file.specs.declared.file_version.FileVersion.TheVariants.{Two}
+use Rattle.lab_history.specs.declared.operation.VersionName.TheVariants.{Of}
+
+-- a version
+pub version_stands : (row : Row) (txn op : ℕ) → is_listed (Of txn op) ≡ true → row_in Two (key_tree row) ≡ Some row → txn_in_number (natural_tree txn) ≡ Some txn
+    → IsVersion Two (version_tree row txn op) (row, Of txn op)
+version_stands row txn op listed read number =
+    (key_tree row, natural_tree txn, natural_tree op, txn, op, refl, read, number, ap (λ b. if b then Some op else None) listed, refl)
+
+some_installer : (ns : List ℕ) → has_installer ns ≡ true → ns ≢ []
+some_installer [] has e = absurd cc
+some_installer (n ∷ ns) has e = absurd cc
+
+-- a row with its installers
+pub installed_stands : (entry : Row × List ℕ) → has_installer entry.1 ≡ true → row_in Two (key_tree entry.0) ≡ Some entry.0
+    → IsListOf (λ e n. txn_in_number e ≡ Some n) (list_tree natural_tree entry.1) entry.1 → IsInstalled Two (pair_tree (list_tree natural_tree) entry) entry
+installed_stands entry has read those = (key_tree entry.0, list_tree natural_tree entry.1, refl, read, those, some_installer entry.1 has)

@@ -1,0 +1,13 @@
+pub mod WrittenState
+pub mod Whole
+pub mod FileVersion
+pub mod Member
+pub mod Entries
+pub mod Format
+pub mod FileOf
+pub mod Lift
+pub mod ValueAt
+pub mod PlaceShape
+pub mod FaultOf
+pub mod Tree
+pub mod FileRead

@@ -1,0 +1,189 @@
+//! What a member of a list begins with: the key of its row, in front of what the list says of the row.
+
+ghost use Rattle.std.specs.Prelude.{◌≡◌, ◌≤◌, ◌+◌, Some, option_map, IfSome, IfOk, OnOk};
+ghost use Rattle.serde_json.specs.Data.{string, number, unsigned};
+ghost use Rattle.serde_json.specs.Find.{as_array};
+ghost use Rattle.serde_json.specs.View.{view, items_view};
+ghost use Rattle.lab_history.specs.Faults.{Gives, required as spec_required};
+ghost use Rattle.lab_history_file.specs.Member.{id_in, table_in, plain_in, full_in, sized, split_key as spec_split_key};
+ghost use Rattle.lab_history_file.specs.Member as key;
+ghost use Rattle.lab_history_file.specs.Whole.{whole_in};
+ghost use Rattle.lab_history.specs.declared.path.Path.TheVariants as path;
+
+use crate::file_version::FileVersion;
+use crate::refusal::wrong;
+use lab_history::{ListPlace, Path, Refusal};
+use lab_table::{NoMemory, RowId, RowName, TableName};
+use serde_json::Value as Json;
+use std::alloc::Global;
+
+/// How many parts of a member are its key.
+pub fn key_parts(version: FileVersion) -> usize
+    ensures { result ≡ key.key_parts version }
+{
+    match version {
+        FileVersion::One => 1,
+        FileVersion::Two => 2,
+    }
+}
+
+/// A whole number from 1 to this one.
+#[inline(always)]
+pub fn whole_of(json: &Json, most: u32) -> Option<u32>
+    ensures value { result ≡ whole_in 1 most (view json.now) }
+    ensures some { IfSome result (λ number. 1 ≤ number) }
+    ensures bound { IfSome result (λ number. number ≤ most) }
+{
+    let number = json.as_u64()?;
+    if 1 <= number && number <= most as u64 {
+        Some(number as u32)
+    } else {
+        None
+    }
+}
+
+/// An id.
+fn id_of(json: &Json) -> Option<RowId>
+    ensures { result ≡ id_in (view json.now) }
+{
+    RowId::new(whole_of(json, 999_999)?)
+}
+
+/// A table's name, in lower case.
+#[tactic(auto, using(crate::proofs::TableNames::name_found, crate::proofs::TableNames::no_name, crate::proofs::TableNames::other_name))]
+fn table_of(alloc: Global, json: &Json) -> Result<Option<TableName>, NoMemory>
+    ensures { IfOk result (λ table. table ≡ table_in (view json.now)) }
+{
+    let Some(text) = json.as_str() else {
+        return Ok(None);
+    };
+    match TableName::new(alloc, text.as_bytes())? {
+        Some(table) => {
+            if table.as_bytes() == text.as_bytes() {
+                Ok(Some(table))
+            } else {
+                Ok(None)
+            }
+        }
+        None => Ok(None),
+    }
+}
+
+fn id_json(id: RowId) -> Json
+    ensures value { view result ≡ number (unsigned id) }
+    ensures read { id_in (number (unsigned id)) ≡ Some id }
+{
+    Json::from(id.number())
+}
+
+fn table_json(alloc: Global, table: TableName) -> Result<Json, NoMemory>
+    ensures value { IfOk result (λ v. view v ≡ string table) }
+    ensures read { OnOk result (table_in (string table) ≡ Some table) }
+{
+    let Ok(text) = String::from_utf8(Vec::from_slice(alloc, table.as_bytes())?) else {
+        // a table's name is ASCII
+        unreachable!()
+    };
+    Ok(Json::String(text))
+}
+
+/// The two parts of a row's key.
+pub fn key_json(alloc: Global, row: RowName) -> Result<(Json, Json), NoMemory>
+    ensures table { IfOk result (λ parts. view parts.0 ≡ string row.table) }
+    ensures id { IfOk result (λ parts. view parts.1 ≡ number (unsigned row.id)) }
+    ensures read { OnOk result (key.row_in FileVersion.Two (key.key_tree row) ≡ Some row) }
+{
+    let table = table_json(alloc, row.table)?;
+    Ok((table, id_json(row.id)))
+}
+
+/// The row of a key that is an id.
+// Not inlined either: a name of a table that a call answers is copied as a whole, and not byte by byte.
+#[inline(never)]
+fn plain_row(place: ListPlace, index: usize, id: &Json) -> Result<RowName, Refusal>
+    ensures { Gives (λ row. row) result (plain_in place index (view id.now)) }
+{
+    match id_of(id) {
+        Some(id) => Ok(RowName::in_test(id)),
+        None => Err(wrong(part(place, index, 0))),
+    }
+}
+
+/// The row of a key that is a table's name and an id.
+// Not inlined, so that a key that is an id stays cheap to read.
+#[inline(never)]
+fn full_row(
+    alloc: Global,
+    place: ListPlace,
+    index: usize,
+    table: &Json,
+    id: &Json,
+) -> Result<RowName, Refusal>
+    ensures { Gives (λ row. row) result (full_in place index (view table.now) (view id.now)) }
+{
+    let Some(table) = table_of(alloc, table)? else {
+        return Err(wrong(part(place, index, 0)));
+    };
+    match id_of(id) {
+        Some(id) => Ok(RowName { table, id }),
+        None => Err(wrong(part(place, index, 1))),
+    }
+}
+
+/// What has to be at a place.
+#[inline(always)]
+pub fn required<X>(found: Option<X>, path: Path) -> Result<X, Refusal>
+    ensures { Gives (λ x. x) result (spec_required path found) }
+{
+    found.ok_or(wrong(path))
+}
+
+/// The place of a part of a member, which is counted from 0.
+pub fn part(list: ListPlace, index: usize, part: usize) -> Path
+    ensures { result ≡ path.Part list index part }
+{
+    Path::Part { list, index, part }
+}
+
+/// The parts of a member that has so many behind its key.
+#[inline(always)]
+#[tactic(auto, using(crate::proofs::Members::parts_sized, crate::proofs::Members::parts_missized))]
+pub fn sized_parts(version: FileVersion, behind: u8, json: &Json) -> Option<&[Json]>
+    ensures { option_map (λ parts. items_view parts.now) result ≡ sized (key.key_parts version + behind) (as_array (view json.now)) }
+{
+    let parts = json.as_array()?.as_slice();
+    if parts.len() == key_parts(version) + behind as usize {
+        Some(parts)
+    } else {
+        None
+    }
+}
+
+/// The row of a member's key, and the parts behind it.
+#[inline(always)]
+#[tactic(auto, using(crate::proofs::Members::no_id, crate::proofs::Members::no_table))]
+pub fn split_key(
+    alloc: Global,
+    version: FileVersion,
+    place: ListPlace,
+    index: usize,
+    parts: &[Json],
+) -> Result<(RowName, &[Json]), Refusal>
+    ensures { Gives (λ split. (split.0, items_view split.1.now)) result (spec_split_key version place index (items_view parts.now)) }
+{
+    let path = Path::Member { list: place, index };
+    match version {
+        FileVersion::One => {
+            let [id, behind @ ..] = parts else {
+                return Err(wrong(path));
+            };
+            Ok((plain_row(place, index, id)?, behind))
+        }
+        FileVersion::Two => {
+            let [table, id, behind @ ..] = parts else {
+                return Err(wrong(path));
+            };
+            Ok((full_row(alloc, place, index, table, id)?, behind))
+        }
+    }
+}

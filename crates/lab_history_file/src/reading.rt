@@ -1,0 +1,138 @@
+//! Reading a history file.
+
+ghost use Rattle.std.specs.Prelude.{◌≡◌, ◌≢◌, ◌⊎◌, ◌≤◌, ◌<◌, length, Ok, Err, Some, None, IfOk, IfErr, MatchResult};
+ghost use Rattle.std.specs.Prelude.{IsUtf8};
+ghost use Rattle.serde_json.specs.View.{view};
+ghost use Rattle.serde_json.specs.Data.{Data};
+ghost use Rattle.serde_json.specs.Read.{read as read_text};
+ghost use Rattle.lab_history.specs.Faults.{Gives};
+ghost use Rattle.lab_history_file.specs.FaultOf.{IsTrueFault};
+ghost use Rattle.lab_history_file.specs.FileRead.{ReadsAs};
+ghost use Rattle.lab_history.specs.Limits.{max_file_bytes};
+ghost use Rattle.lab_history_file.specs.Format.{format_in, version_in, parts_in, history_in};
+
+mod earlier;
+mod keys;
+mod lists;
+mod operation;
+mod transaction;
+
+use crate::file_version::FileVersion;
+use crate::refusal::wrong;
+use keys::{has_keys, text_at};
+use lab_history::{
+    FileFault, History, Installed, Limit, ListPlace, MAX_FILE_BYTES, Parts, Path, Refusal,
+};
+use lab_table::Table;
+use lists::entries_at;
+use serde_json::Value as Json;
+use std::alloc::Global;
+use transaction::txns_of;
+
+/// Whether a value is an object that says it is a history file.
+fn check_format(json: &Json) -> Result<(), Refusal>
+    ensures { Gives (λ _. tt) result (format_in (view json.now)) }
+{
+    if !json.is_object() {
+        return Err(wrong(Path::Root));
+    }
+    match text_at(json, "format") {
+        Some("hermitage-history") => Ok(()),
+        _ => Err(wrong(Path::Format)),
+    }
+}
+
+/// The version of the format that a value says it is of.
+fn version_of(json: &Json) -> Result<FileVersion, Refusal>
+    ensures { Gives (λ version. version) result (version_in (view json.now)) }
+{
+    match json.get("version").and_then(Json::as_u64) {
+        Some(1) => Ok(FileVersion::One),
+        Some(2) => Ok(FileVersion::Two),
+        Some(number) => Err(Refusal::Fault(FileFault::WrongVersion { number })),
+        None => Err(wrong(Path::Version)),
+    }
+}
+
+/// The parts of the history that a value holds.
+fn parts_of(alloc: Global, json: &Json) -> Result<Parts, Refusal>
+    ensures { Gives (λ parts. parts) result (parts_in (view json.now)) }
+{
+    check_format(json)?;
+    let version = version_of(json)?;
+    if !has_keys(
+        json,
+        &[
+            "end",
+            "format",
+            "initial",
+            "installed",
+            "transactions",
+            "version",
+        ],
+    ) {
+        return Err(wrong(Path::Root));
+    }
+    let initial = entries_at(alloc, version, json, "initial", ListPlace::Initial)?;
+    let txns = txns_of(alloc, version, json)?;
+    let installed = entries_at(alloc, version, json, "installed", ListPlace::Installed)?;
+    let end = entries_at(alloc, version, json, "end", ListPlace::End)?;
+    Ok(Parts {
+        initial: Table::from_rising(initial),
+        txns,
+        installed: Installed::new(installed),
+        end_table: Table::from_rising(end),
+    })
+}
+
+/// The parts of the history that a file holds. Its value is given back before the limits are looked at.
+fn parts_in_file(alloc: Global, bytes: &[u8]) -> Result<Parts, Refusal>
+    ensures { ReadsAs parts_in bytes.now result }
+{
+    match Json::from_slice(alloc, bytes) {
+        Ok(json) => parts_of(alloc, &json),
+        Err(error) => {
+            if error.is_memory() {
+                Err(Refusal::NoMemory)
+            } else {
+                Err(Refusal::Fault(FileFault::NotJson))
+            }
+        }
+    }
+}
+
+/// The history that a file of any length holds.
+#[tactic(auto, using(crate::proofs::ReadKeeps::read_keeps))]
+fn history_in_file(alloc: Global, bytes: &[u8]) -> Result<History, Refusal>
+    ensures { ReadsAs history_in bytes.now result }
+{
+    let parts = parts_in_file(alloc, bytes)?;
+    History::within_limits(alloc, parts)
+}
+
+/// The history that a file holds, or the first fault in the order of the file: `OverLimit` of its bytes, `NotJson`,
+/// what is wrong with its parts, and at last `OverLimit` of ids and then of entries. `NoMemory` where an allocation was
+/// refused.
+#[tactic(auto, using(crate::proofs::TextFaults::no_text_fault, crate::proofs::FaultsAreTrue::fault_is_true))]
+pub fn read_history(alloc: Global, bytes: &[u8]) -> Result<History, FileFault>
+    ensures found { IfOk result (λ history. (d : Data) × IsUtf8 bytes.now × (read_text bytes.now ≡ Some d) × (history_in d ≡ Ok history)) }
+    ensures short { IfOk result (λ history. length bytes.now ≤ max_file_bytes) }
+    ensures only { (d : Data) → length bytes.now ≤ max_file_bytes → IsUtf8 bytes.now → read_text bytes.now ≡ Some d
+        → MatchResult result (λ history. history_in d ≡ Ok history) (λ fault. (fault ≡ FileFault.NoMemory) ⊎ (history_in d ≡ Err fault)) }
+    ensures bytes { max_file_bytes < length bytes.now → result ≡ Err (FileFault.OverLimit Limit.Bytes) }
+    ensures not_json { result ≡ Err FileFault.NotJson → (d : Data) → IsUtf8 bytes.now → read_text bytes.now ≢ Some d }
+    ensures true_fault { (d : Data) → length bytes.now ≤ max_file_bytes → IsUtf8 bytes.now → read_text bytes.now ≡ Some d → IfErr result (λ fault. (fault ≡ FileFault.NoMemory) ⊎ IsTrueFault d fault) }
+    ensures no_text { length bytes.now ≤ max_file_bytes → ((d : Data) → IsUtf8 bytes.now → read_text bytes.now ≢ Some d)
+        → IfErr result (λ fault. (fault ≡ FileFault.NoMemory) ⊎ (fault ≡ FileFault.NotJson)) }
+{
+    if bytes.len() > MAX_FILE_BYTES {
+        return Err(FileFault::OverLimit {
+            which: Limit::Bytes,
+        });
+    }
+    match history_in_file(alloc, bytes) {
+        Ok(history) => Ok(history),
+        Err(Refusal::NoMemory) => Err(FileFault::NoMemory),
+        Err(Refusal::Fault(fault)) => Err(fault),
+    }
+}

@@ -1,0 +1,79 @@
+//! The lists of a history file, whose members begin with a row. They are found by their keys.
+
+ghost use Rattle.std.specs.Prelude.{◌≡◌, T, IfOk};
+ghost use Rattle.std.specs.FinMap as map;
+ghost use Rattle.serde_json.specs.View.{view};
+ghost use Rattle.lab_table.specs.Row.{row_cmp};
+ghost use Rattle.lab_history.specs.VersionName.{new_states};
+ghost use Rattle.lab_history_file.specs.Entries.{entry_in, entries_in, writes_in};
+ghost use Rattle.lab_history.specs.Faults.{Gives};
+ghost use Rattle.lab_history_file.specs.Format.{at_key};
+
+use super::keys::items_at;
+use crate::entry::Entry;
+use crate::file_version::FileVersion;
+use crate::member::{required, sized_parts, split_key};
+use lab_history::{FileFault, ListPlace, Path, Refusal, State, follows};
+use lab_table::RowName;
+use serde_json::Value as Json;
+use std::alloc::Global;
+
+/// A member of a list.
+#[inline(always)]
+fn entry_of<E: Entry>(
+    alloc: Global,
+    version: FileVersion,
+    place: ListPlace,
+    index: usize,
+    json: &Json,
+) -> Result<(RowName, E), Refusal>
+    ensures { Gives (λ entry. entry) result (entry_in E.PARTS E.read version place index (view json.now)) }
+{
+    let path = Path::Member { list: place, index };
+    let parts = required(sized_parts(version, E::PARTS, json), path)?;
+    match split_key(alloc, version, place, index, parts) {
+        Ok((row, behind)) => Ok((row, E::read(alloc, version, place, index, behind)?)),
+        Err(refusal) => Err(refusal),
+    }
+}
+
+/// The list at a key.
+pub fn entries_at<E: Entry>(
+    alloc: Global,
+    version: FileVersion,
+    json: &Json,
+    key: &str,
+    place: ListPlace,
+) -> Result<Vec<(RowName, E)>, Refusal>
+    ensures read { Gives (λ entries. entries.items) result (entries_in (entry_in E.PARTS E.read version place) place (at_key key.now (view json.now))) }
+    ensures rises { IfOk result (λ entries. T (map.is_sorted row_cmp entries.items)) }
+{
+    let members = required(items_at(json, key), Path::List(place))?;
+    let mut entries = Vec::with_capacity(alloc, members.len())?;
+    let mut before = None;
+    for (index, member) in members.iter().enumerate() {
+        let entry = entry_of(alloc, version, place, index, member)?;
+        if !follows(&before, &entry.0) {
+            return Err(Refusal::Fault(FileFault::Unsorted {
+                path: Path::List(place),
+            }));
+        }
+        before = Some(entry.0);
+        entries.push(entry)?;
+    }
+    Ok(entries)
+}
+
+/// The written rows with their new states at a key.
+pub fn writes_at(
+    alloc: Global,
+    version: FileVersion,
+    json: &Json,
+    key: &str,
+    place: ListPlace,
+) -> Result<Vec<(RowName, State)>, Refusal>
+    ensures read { Gives (λ entries. new_states entries.items) result (writes_in version place (at_key key.now (view json.now))) }
+    ensures rises { IfOk result (λ entries. T (map.is_sorted row_cmp (new_states entries.items))) }
+{
+    entries_at(alloc, version, json, key, place)
+}

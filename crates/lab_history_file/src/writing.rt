@@ -1,0 +1,62 @@
+//! Writing a history file.
+
+mod operations;
+mod values;
+
+ghost use Rattle.std.specs.Prelude.{◌≡◌, ◌≤◌, ◌<◌, length, Some, Ok, Err, IfOk, OnOk, IsUtf8};
+ghost use Rattle.serde_json.specs.Read.{read as read_text};
+ghost use Rattle.serde_json.specs.View.{view};
+ghost use Rattle.serde_json.specs.Written.{compact_text};
+ghost use Rattle.lab_history_file.specs.FileOf.{IsFileIn};
+ghost use Rattle.lab_history_file.specs.Format.{history_in};
+ghost use Rattle.lab_history.specs.HistoryRules.{Keeps};
+ghost use Rattle.lab_history.specs.Limits.{max_file_bytes};
+ghost use Rattle.lab_history_file.specs.Tree.{tree_of};
+ghost use Rattle.lab_history_file.specs.declared.file_version.FileVersion.TheVariants.{Two};
+
+use crate::write_fault::WriteFault;
+use crate::writing::operations::transactions_json;
+use crate::writing::values::{installed_json, table_json};
+use lab_history::{History, MAX_FILE_BYTES, Parts};
+use lab_table::NoMemory;
+use serde_json::{Value as Json, json};
+use std::alloc::Global;
+
+fn parts_json(alloc: Global, parts: &Parts) -> Result<Json, NoMemory>
+    requires { Keeps parts.now }
+    ensures value { IfOk result (λ v. view v ≡ tree_of parts.now) }
+    ensures file { OnOk result (IsFileIn Two (tree_of parts.now) parts.now) }
+{
+    json!(in alloc; {
+        "end": table_json(alloc, &parts.end_table)?,
+        "format": "hermitage-history",
+        "initial": table_json(alloc, &parts.initial)?,
+        "installed": installed_json(alloc, &parts.installed)?,
+        "transactions": transactions_json(alloc, parts.txns.as_slice())?,
+        "version": 2
+    })
+}
+
+/// The file of a history, of version 2: compact JSON with the keys of each object in the order of their bytes, without
+/// a newline.
+///
+/// TooLong where the text would have more than [`MAX_FILE_BYTES`]; NoMemory where an allocation was refused.
+#[tactic(auto, using(crate::proofs::WritableTree::tree_whole, crate::proofs::WritableTree::tree_flat, crate::proofs::FileIsRead::file_is_read))]
+pub fn write_history(alloc: Global, history: &History) -> Result<Vec<u8>, WriteFault>
+    ensures text { IfOk result (λ text. text.items ≡ compact_text (tree_of history.now)) }
+    ensures utf8 { IfOk result (λ text. IsUtf8 text.items) }
+    // The text, read as JSON, is the value of the history's file.
+    ensures value { IfOk result (λ text. read_text text.items ≡ Some (tree_of history.now)) }
+    // That value is a file of the history, of version 2.
+    ensures file { OnOk result (IsFileIn Two (tree_of history.now) history.now) }
+    // It is read as the same history again.
+    ensures again { OnOk result (history_in (tree_of history.now) ≡ Ok history.now) }
+    ensures within { IfOk result (λ text. length text.items ≤ max_file_bytes) }
+    ensures too_long { result ≡ Err WriteFault.TooLong → max_file_bytes < length (compact_text (tree_of history.now)) }
+{
+    let text = parts_json(alloc, history.parts())?.to_vec(alloc)?;
+    if text.len() > MAX_FILE_BYTES {
+        return Err(WriteFault::TooLong);
+    }
+    Ok(text)
+}
