@@ -1,7 +1,7 @@
 -- Of one input `serial` says one thing.
 use Rattle.std.proofs.Common.{◌≡◌, inl, inr, ℕ, List, sym, ap, ◌∙◌}
-use Rattle.lab_script.specs.declared.fault.ScriptFault.TheVariants as fault
-use Rattle.lab_script.specs.Fault.{fault_text}
+use Rattle.lab_statement.specs.declared.fault.ScriptFault.TheVariants as fault
+use Rattle.lab_statement.specs.Fault.{fault_text}
 use Rattle.lab_script.specs.Transcript.{transcript}
 use Rattle.lab_script.proofs.FirstFault.{fault_spells_nothing}
 use Rattle.lab_script.proofs.OneFault.{one_fault, one_script}

@@ -10,7 +10,8 @@ use Rattle.lab_table.specs.declared.statement.Command.{Command}
 use Rattle.lab_table.specs.declared.statement.Command.TheVariants.{Begin, Commit, Abort, Run}
 use Rattle.lab_script.specs.declared.script.Line.{Line as ScriptLine}
 use Rattle.lab_script.specs.declared.script.Script.{Script}
-use Rattle.lab_script.specs.Limits.{CommandPrints, StatementPrints, ScriptPrints, IsDeep, IsLong}
+use Rattle.lab_statement.specs.Limits.{CommandPrints, StatementPrints, IsDeep, IsLong}
+use Rattle.lab_script.specs.Limits.{ScriptPrints}
 use Rattle.lab_script.specs.Limits.{AllPrint as LinesPrint}
 use Rattle.lab_engine.specs.declared.event.Level.{Level}
 use Rattle.lab_engine.specs.declared.event.EngineFault.TheVariants.{DuplicateKey, OutOfRange, Deadlock, WriteConflict, NoTransaction, AlreadyBegun, Busy}

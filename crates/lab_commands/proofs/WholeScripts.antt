@@ -1,7 +1,7 @@
 -- What is said of what is read of a script is said of the whole input.
 use Rattle.std.proofs.Common.{◌<◌, inl, inr, ℕ, List, take, Bool, arith}
-use Rattle.lab_script.specs.declared.fault.ScriptFault.{ScriptFault}
-use Rattle.lab_script.specs.declared.fault.ScriptFault.TheVariants as fault
+use Rattle.lab_statement.specs.declared.fault.ScriptFault.{ScriptFault}
+use Rattle.lab_statement.specs.declared.fault.ScriptFault.TheVariants as fault
 use Rattle.lab_script.specs.declared.script.Script.{Script}
 use Rattle.lab_script.specs.Fault.{IsFaultOf}
 use Rattle.lab_script.specs.Script.{Spells}

@@ -1,9 +1,10 @@
 -- What `serial` says of an input.
 use Rattle.std.specs.Prelude.{◌≡◌, ℕ, ◌⊎◌, List}
-use Rattle.lab_script.specs.declared.fault.ScriptFault.TheVariants as fault
-use Rattle.lab_script.specs.declared.fault.ScriptFaultKind.{ScriptFaultKind}
+use Rattle.lab_statement.specs.declared.fault.ScriptFault.TheVariants as fault
+use Rattle.lab_statement.specs.declared.fault.ScriptFaultKind.{ScriptFaultKind}
 use Rattle.lab_script.specs.declared.script.Script.{Script}
-use Rattle.lab_script.specs.Fault.{IsFaultOf, fault_text}
+use Rattle.lab_script.specs.Fault.{IsFaultOf}
+use Rattle.lab_statement.specs.Fault.{fault_text}
 use Rattle.lab_script.specs.Script.{Spells}
 use Rattle.lab_script.specs.Transcript.{transcript}
 use Rattle.lab_streams.specs.declared.ending.Ending.{Ending}

@@ -9,9 +9,8 @@ use crate::recording_answer::{history_answer, log_answer};
 use lab_engine::{Level, Recording};
 use lab_hints::note_play;
 use lab_locking::LockEngine;
-use lab_script::{
-    PrintFault, Script, ScriptFault, first_bytes_tell_a_script, parse_script, print_script_fault,
-};
+use lab_script::{Script, first_bytes_tell_a_script, parse_script};
+use lab_statement::{PrintFault, ScriptFault, print_script_fault};
 use lab_session::{PlayFault, play_script, print_play_fault};
 use lab_streams::{Answer, Ending, RunFault, read_input, write_text};
 use lab_table::NoMemory;

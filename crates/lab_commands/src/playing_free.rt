@@ -10,9 +10,8 @@ use lab_engine::{Level, Recording};
 use lab_hints::note_play;
 use lab_history::Limit;
 use lab_locking::LockEngine;
-use lab_script::{
-    PrintFault, Script, ScriptFault, first_bytes_tell_a_script, parse_script, print_script_fault,
-};
+use lab_script::{Script, first_bytes_tell_a_script, parse_script};
+use lab_statement::{PrintFault, ScriptFault, print_script_fault};
 use lab_session::{Gate, PlayFault, play_free, print_play_fault};
 use lab_streams::{Answer, Ending, RunFault, read_input, write_text};
 use lab_table::{NoMemory, Session};

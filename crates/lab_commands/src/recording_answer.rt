@@ -1,7 +1,7 @@
 //! What a recording tells.
 
 ghost use Rattle.std.specs.Prelude.{◌≢◌, ◌≡◌, Err, IfOk};
-ghost use Rattle.lab_script.specs.Limits.{IsDeep, IsLong};
+ghost use Rattle.lab_statement.specs.Limits.{IsDeep, IsLong};
 ghost use Rattle.lab_session.specs.LogText.{SomeEvent};
 ghost use Rattle.lab_commands.specs.Playing.{IsLogAnswer, IsHistoryAnswer};
 
@@ -9,7 +9,7 @@ use lab_engine::Recording;
 use lab_history::{FileFault, Limit};
 use lab_history_file::{WriteFault, write_history};
 use lab_judge::{judge_recording, print_file_fault, print_report};
-use lab_script::PrintFault;
+use lab_statement::PrintFault;
 use lab_session::print_log;
 use lab_streams::{Answer, Ending};
 use lab_table::NoMemory;

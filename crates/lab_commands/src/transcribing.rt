@@ -7,9 +7,8 @@ ghost use Rattle.lab_script.specs.Transcript.{transcript};
 ghost use Rattle.lab_commands.specs.Serial.{IsSerialAnswer};
 
 use lab_hints::note_script;
-use lab_script::{
-    Script, ScriptFault, first_bytes_tell_a_script, parse_script, print_script_fault, run_serial,
-};
+use lab_script::{Script, first_bytes_tell_a_script, parse_script, run_serial};
+use lab_statement::{ScriptFault, print_script_fault};
 use lab_streams::{Answer, Ending, RunFault, read_input, write_text};
 use lab_table::NoMemory;
 use std::alloc::{AllocError, Global};

@@ -5,7 +5,7 @@ use crate::inputs::{Inputs, given};
 use crate::refusal::was_refused;
 use crate::refused_calls::{Call, is_right};
 use crate::refused_statements::{EVERY_KIND, tried};
-use lab_script::parse_statement;
+use lab_statement::parse_statement;
 use lab_table::Statement;
 use std::alloc::Global;
 use std::process::Abort;

@@ -1,7 +1,7 @@
 //! Whether two engines answered the same.
 
 use lab_engine::{EngineFault, LogEvent, Outcome};
-use lab_script::print_statement;
+use lab_statement::print_statement;
 use lab_table::{Command, Statement};
 use std::alloc::Global;
 

@@ -4,7 +4,7 @@
 ghost use Rattle.std.specs.Prelude.{◌≡◌, ◌++◌, OnOk, IfSome};
 ghost use Rattle.std.specs.Option.{option_copied};
 ghost use Rattle.std.specs.Fmt.{signed_decimal};
-ghost use Rattle.lab_script.specs.Printed.{printed_statement};
+ghost use Rattle.lab_statement.specs.Printed.{printed_statement};
 ghost use Rattle.lab_history.specs.HistoryRules.{OpKeeps};
 ghost use Rattle.lab_history.specs.Version.{ops_of, op_at, viewed};
 ghost use Rattle.lab_explain.specs.Clauses.{txn_name, op_name, ran_text, op_text, row_name, state_text, version_of, version_text, seen_version, seen_by, left_by, saw_text, saw_with, left_text};
@@ -15,7 +15,7 @@ use itoa::Buffer;
 use lab_deps::{state_of, viewed};
 use lab_history::{History, Op, VersionName};
 use lab_picture::ops_of;
-use lab_script::{PrintFault, print_statement, put_row_name};
+use lab_statement::{PrintFault, print_statement, put_row_name};
 use lab_table::{NoMemory, RowName, TxnNo, Value};
 use std::alloc::{AllocError, Global};
 

@@ -1,6 +1,6 @@
 //! The rows and tables that a history file names.
 
-use lab_script::{ScriptFault, parse_statement};
+use lab_statement::{ScriptFault, parse_statement};
 use lab_table::{NoMemory, RowId, RowName, TableName, TxnNo};
 use serde_json::Value as Json;
 use std::alloc::{AllocError, Global};

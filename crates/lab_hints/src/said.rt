@@ -6,7 +6,8 @@ use crate::text::{BYTE_ORDER_MARK, Part, text_of};
 use crate::token::tokens_of;
 use crate::walk::{Stop, Walk, Wrong};
 use bstr::ByteSlice;
-use lab_script::{MAX_LINE_BYTES, MAX_LINES, ScriptFault, ScriptFaultKind, parse_statement};
+use lab_script::MAX_LINES;
+use lab_statement::{MAX_LINE_BYTES, ScriptFault, ScriptFaultKind, parse_statement};
 use lab_table::NoMemory;
 use std::alloc::{AllocError, Global};
 

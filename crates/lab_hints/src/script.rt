@@ -2,7 +2,7 @@
 
 use crate::said::{SETUP_RULE, Said, said_of_kind};
 use crate::text::{Part, line_numbered, put, put_shown, text_of};
-use lab_script::{ScriptFault, ScriptFaultKind};
+use lab_statement::{ScriptFault, ScriptFaultKind};
 use lab_table::NoMemory;
 use std::alloc::Global;
 

@@ -5,7 +5,7 @@ use crate::rows::{has_number, items_at};
 use crate::stop::put_stop;
 use crate::text::{Part, put};
 use crate::walk::Walk;
-use lab_script::{ScriptFault, parse_statement};
+use lab_statement::{ScriptFault, parse_statement};
 use lab_table::{NoMemory, TxnNo};
 use serde_json::Value as Json;
 use std::alloc::{AllocError, Global};

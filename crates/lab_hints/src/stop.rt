@@ -5,7 +5,7 @@ use crate::text::{Part, put};
 use crate::token::Token;
 use crate::walk::{Stop, Walk, Wrong};
 use crate::wanted::put_wanted;
-use lab_script::put_row_name;
+use lab_statement::put_row_name;
 use lab_table::{NoMemory, TableName};
 
 /// What every name of a table is like.

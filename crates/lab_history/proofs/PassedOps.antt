@@ -6,9 +6,9 @@ use Rattle.std.specs.FinMap as finite
 use Rattle.std.proofs.lemmas.Bool.{leb-true, le-leb, and_parts, not-false, and_from, not_from_true}
 use Rattle.lab_table.specs.Row.{Row}
 use Rattle.lab_table.specs.declared.statement.Statement.{Statement}
-use Rattle.lab_script.specs.Depth.{statement_depth}
-use Rattle.lab_script.specs.Printed.{printed_statement}
-use Rattle.lab_script.specs.Limits.{StatementPrints}
+use Rattle.lab_statement.specs.Depth.{statement_depth}
+use Rattle.lab_statement.specs.Printed.{printed_statement}
+use Rattle.lab_statement.specs.Limits.{StatementPrints}
 use Rattle.lab_history.specs.Faults.{◌>>=◌, refused_if}
 use Rattle.lab_history.specs.HistoryRules.{is_listed, OpKeeps, OpsKeep}
 use Rattle.lab_history.specs.FirstPartsFault.{statement_prints, listed_from, op_checked, ops_checked}

@@ -19,7 +19,7 @@ use crate::parts::Parts;
 use crate::path::{ListPlace, Path};
 use crate::refusal::{Refusal, over};
 use crate::transaction::{Installers, Txn};
-use lab_script::check_statement;
+use lab_statement::check_statement;
 use lab_table::{RowName, Statement, TxnNo};
 use std::alloc::Global;
 use std::collections::BTreeSet;

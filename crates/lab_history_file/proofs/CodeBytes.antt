@@ -4,7 +4,7 @@ use Rattle.std.specs.Prelude.{IsUtf8, IsAscii}
 use Rattle.std.specs.List.{list_all}
 use Rattle.std.proofs.lemmas.Str.{IsUtf8-from_ascii}
 use Rattle.std.proofs.lemmas.Bool.{and_parts}
-use Rattle.lab_script.specs.Script.{is_code_byte}
+use Rattle.lab_statement.specs.Text.{is_code_byte}
 
 code_byte_below : (b : ℕ) → is_code_byte b ≡ true → b < 128
 code_byte_below b h = grind arith

@@ -3,7 +3,7 @@ use Rattle.std.proofs.Common.{◌≡◌, ℕ, ◌+◌, ⊎_elim, Bool, true, fal
 use Rattle.serde_json.specs.Data.{Data, Items, no_items, item}
 use Rattle.serde_json.specs.Find.{as_str, at, get_item, as_object}
 use Rattle.lab_table.specs.declared.statement.Statement.{Statement}
-use Rattle.lab_script.specs.StatementText.{statement_in}
+use Rattle.lab_statement.specs.StatementText.{statement_in}
 use Rattle.lab_history.specs.Faults.{required}
 use Rattle.lab_history_file.specs.Entries.{txn_in_number, value_in, written_in, values_in, writes_in, view_in}
 use Rattle.lab_history_file.specs.FileOf.{SpellsIn}

@@ -4,7 +4,7 @@ use Rattle.std.specs.FinMap as finite
 use Rattle.serde_json.specs.Data.{Data, object, Items, no_items, item, no_members, member}
 use Rattle.serde_json.specs.Find.{as_str}
 use Rattle.lab_table.specs.declared.statement.Statement.{Statement}
-use Rattle.lab_script.specs.StatementText.{statement_in}
+use Rattle.lab_statement.specs.StatementText.{statement_in}
 use Rattle.lab_history.specs.Faults.{required}
 use Rattle.lab_history_file.specs.Entries.{values_in, writes_in, view_in}
 use Rattle.lab_history_file.specs.FileVersion.{may_have}
@@ -15,7 +15,7 @@ use Rattle.lab_history_file.specs.declared.file_version.FileVersion.{FileVersion
 use Rattle.lab_history.specs.declared.operation.Op.{Op}
 use Rattle.lab_history.specs.declared.path.ListPlace.TheVariants as list
 use Rattle.lab_history.specs.declared.path.Path.TheVariants as path
-use Rattle.lab_script.proofs.StatementRead.{spells_in, in_spells}
+use Rattle.lab_statement.proofs.StatementRead.{spells_in, in_spells}
 use Rattle.lab_history.proofs.Steps.{both_ok, both_some, step_on, required_ok, when_found}
 use Rattle.lab_history_file.proofs.JsonShapes.{string_of, keyed_shape}
 use Rattle.lab_history_file.proofs.ListsRead.{map_again}

@@ -1,8 +1,8 @@
 -- A statement that a text spells prints.
 use Rattle.std.proofs.Common.{ℕ, List}
 use Rattle.lab_table.specs.declared.statement.Statement.{Statement}
-use Rattle.lab_script.specs.Limits.{StatementPrints}
-use Rattle.lab_script.specs.Script.{SpellsStatement}
+use Rattle.lab_statement.specs.Limits.{StatementPrints}
+use Rattle.lab_statement.specs.Text.{SpellsStatement}
 use Rattle.lab_script.proofs.GrammarPrints.{statement_shallow}
 
 pub spelled_prints : (text : List ℕ) (s : Statement) → SpellsStatement text s → StatementPrints s

@@ -6,7 +6,7 @@ use Rattle.serde_json.specs.Data.{Data, string, array, object, Items, no_items, 
 use Rattle.serde_json.specs.Find.{as_number, as_u64}
 use Rattle.lab_table.specs.Row.{Row, row_cmp}
 use Rattle.lab_table.specs.declared.statement.Statement.{Statement}
-use Rattle.lab_script.specs.Script.{SpellsStatement}
+use Rattle.lab_statement.specs.Text.{SpellsStatement}
 use Rattle.lab_history_file.specs.Member.{Key, row_in, with_key}
 use Rattle.lab_history_file.specs.FileVersion.{version_number, may_have}
 use Rattle.lab_history_file.specs.Entries.{txn_in_number, op_in_number, value_in, written_in}

@@ -6,7 +6,7 @@ use Rattle.std.specs.FinMap as finite
 use Rattle.serde_json.specs.Data.{Data, null, Items, no_items, item, Members, no_members, member}
 use Rattle.serde_json.specs.Find.{as_number, as_u64, as_array, as_object, as_str, get}
 use Rattle.lab_table.specs.declared.statement.Statement.{Statement}
-use Rattle.lab_script.specs.StatementText.{statement_in}
+use Rattle.lab_statement.specs.StatementText.{statement_in}
 use Rattle.lab_history.specs.Faults.{◌>>=◌, required, refused_if}
 use Rattle.lab_history_file.specs.FileVersion.{may_have}
 use Rattle.lab_history_file.specs.Member.{count}

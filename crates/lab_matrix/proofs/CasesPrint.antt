@@ -16,7 +16,8 @@ use Rattle.lab_table.specs.declared.statement.Expr.TheVariants.{Set}
 use Rattle.lab_table.specs.declared.statement.Statement.{Statement}
 use Rattle.lab_table.specs.declared.statement.StatementKind.{StatementKind}
 use Rattle.lab_table.specs.declared.statement.StatementKind.TheVariants.{Select, Update, Insert}
-use Rattle.lab_script.specs.Limits.{StatementPrints, ScriptPrints, AllPrint}
+use Rattle.lab_statement.specs.Limits.{StatementPrints}
+use Rattle.lab_script.specs.Limits.{ScriptPrints, AllPrint}
 use Rattle.lab_script.specs.Tables.{with_rows, with_lines, setup_tables}
 use Rattle.lab_script.specs.declared.script.Line.{Line}
 use Rattle.lab_script.specs.Printed.{printed_setup, named_rows_or}

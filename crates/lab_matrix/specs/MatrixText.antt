@@ -1,6 +1,6 @@
 -- The text of the matrix.
 use Rattle.std.specs.Prelude.{ℕ, ◌-◌, List, [], ◌++◌, length, replicate, codes}
-use Rattle.lab_script.specs.Printed.{newline}
+use Rattle.lab_statement.specs.Printed.{newline}
 use Rattle.lab_engine.specs.declared.event.Level.TheVariants as level
 use Rattle.lab_judge.specs.ReportText.{grade_name}
 use Rattle.lab_judge.specs.declared.places.Places.{Places}

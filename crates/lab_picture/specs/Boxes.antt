@@ -1,6 +1,6 @@
 -- The text of operations' boxes.
 use Rattle.std.specs.Prelude.{ℕ, ◌+◌, ◌*◌, ◌==◌, Bool, cond, List, [], ◌∷◌, ◌++◌, codes}
-use Rattle.lab_script.specs.Printed.{printed_statement, printed_list}
+use Rattle.lab_statement.specs.Printed.{printed_statement, printed_list}
 use Rattle.lab_history.specs.declared.operation.Op.{Op}
 use Rattle.lab_picture.specs.declared.layout.Frame.{Frame}
 use Rattle.lab_picture.specs.Layout.{left, upper}

@@ -2,13 +2,13 @@
 
 ghost use Rattle.std.specs.Prelude.{◌≡◌, ◌++◌, ◌≤◌, length, IfOk, OnOk};
 ghost use Rattle.lab_history.specs.HistoryRules.{OpKeeps, OpsKeep};
-ghost use Rattle.lab_script.specs.Printed.{printed_statement};
+ghost use Rattle.lab_statement.specs.Printed.{printed_statement};
 ghost use Rattle.lab_picture.specs.Boxes.{listed_text, whole_text, edge_style, edge_text, rest_lines, inner_text, box_text, boxes_text};
 
 use crate::layout::{BOX_BYTES, Frame, left, upper};
 use crate::text::{in_three, put_escaped, put_one_line, put_place, put_three_lines, put_two_lines};
 use lab_history::Op;
-use lab_script::{PrintFault, print_statement, put_list};
+use lab_statement::{PrintFault, print_statement, put_list};
 use lab_table::NoMemory;
 use std::alloc::{AllocError, Global};
 

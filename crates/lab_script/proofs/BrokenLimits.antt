@@ -10,11 +10,12 @@ use Rattle.lab_table.specs.declared.statement.Command.{Command}
 use Rattle.lab_table.specs.declared.statement.Command.TheVariants.{Begin, Commit, Abort, Run}
 use Rattle.lab_script.specs.declared.script.Line.{Line}
 use Rattle.lab_script.specs.declared.script.Script.{Script}
-use Rattle.lab_script.specs.declared.print.PrintFault.{PrintFault}
-use Rattle.lab_script.specs.declared.print.PrintFault.TheVariants.{NoMemory, TooDeep, TooLong, TooManyTables}
-use Rattle.lab_script.specs.Depth.{statement_depth}
-use Rattle.lab_script.specs.Printed.{printed_statement}
-use Rattle.lab_script.specs.Limits.{StatementPrints, CommandPrints, AllPrint, SomeLine}
+use Rattle.lab_statement.specs.declared.print.PrintFault.{PrintFault}
+use Rattle.lab_statement.specs.declared.print.PrintFault.TheVariants.{NoMemory, TooDeep, TooLong, TooManyTables}
+use Rattle.lab_statement.specs.Depth.{statement_depth}
+use Rattle.lab_statement.specs.Printed.{printed_statement}
+use Rattle.lab_statement.specs.Limits.{StatementPrints, CommandPrints}
+use Rattle.lab_script.specs.Limits.{AllPrint, SomeLine}
 use Rattle.lab_script.specs.Transcript.{statements_on, statements_of, inside_after, is_begin, nobody, transaction_of, transactions, table_with, table_after}
 use Rattle.lab_script.specs.TranscriptView.{Breaks, shown_of, shown, limit_broken, first_broken, unprintable}
 

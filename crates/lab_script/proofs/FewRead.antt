@@ -4,15 +4,16 @@ use Rattle.std.specs.Prelude.{if◌then◌else◌, IfErr, OnOk}
 use Rattle.std.proofs.lemmas.Bool.{le-leb, lt-leb}
 use Rattle.lab_table.specs.Table.{Table}
 use Rattle.lab_table.specs.declared.statement.Command.{Command}
-use Rattle.lab_script.specs.declared.token.Token.{Token}
-use Rattle.lab_script.specs.declared.refusal.GrammarFault.{GrammarFault}
-use Rattle.lab_script.specs.declared.refusal.GrammarFault.TheVariants as grammar
-use Rattle.lab_script.specs.declared.refusal.Refusal.{Refusal}
-use Rattle.lab_script.specs.declared.refusal.Refusal.TheVariants as refusal
+use Rattle.lab_statement.specs.declared.token.Token.{Token}
+use Rattle.lab_statement.specs.declared.refusal.GrammarFault.{GrammarFault}
+use Rattle.lab_statement.specs.declared.refusal.GrammarFault.TheVariants as grammar
+use Rattle.lab_statement.specs.declared.refusal.Refusal.{Refusal}
+use Rattle.lab_statement.specs.declared.refusal.Refusal.TheVariants as refusal
 use Rattle.lab_table.specs.TableSet.{are_few}
 use Rattle.lab_script.specs.Tables.{with_commands, setup_tables}
-use Rattle.lab_script.specs.Stopping.{Reading, Reads}
-use Rattle.lab_script.specs.FirstFaults.{commands_fault_in, setup_fault_in, HasFault}
+use Rattle.lab_statement.specs.Stopping.{Reading, Reads}
+use Rattle.lab_script.specs.FirstFaults.{commands_fault_in, setup_fault_in}
+use Rattle.lab_statement.specs.FirstFaults.{HasFault}
 
 -- a fifth table is refused
 abbrev pub IsFifth : List (List ℕ) → Refusal → Type 0

@@ -7,9 +7,9 @@ use Rattle.lab_table.specs.declared.statement.Command.{Command}
 use Rattle.lab_table.specs.declared.statement.Command.TheVariants as command
 use Rattle.lab_script.specs.declared.script.Line.{Line}
 use Rattle.lab_script.specs.declared.script.Script.{Script}
-use Rattle.lab_script.specs.declared.token.Token.{Token}
-use Rattle.lab_script.specs.declared.token.Token.TheVariants as token
-use Rattle.lab_script.specs.Reading.{is_token}
+use Rattle.lab_statement.specs.declared.token.Token.{Token}
+use Rattle.lab_statement.specs.declared.token.Token.TheVariants as token
+use Rattle.lab_statement.specs.Reading.{is_token}
 use Rattle.lab_script.specs.Script.{extended}
 use Rattle.lab_table.specs.TableSet.{is_among, with_name}
 use Rattle.lab_script.specs.Tables.{with_command, with_commands, with_rows, with_lines, setup_tables, script_tables}

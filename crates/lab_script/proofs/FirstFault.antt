@@ -5,23 +5,24 @@ use Rattle.std.specs.Str.Lines.{lines}
 use Rattle.std.proofs.lemmas.Bool.{false≢true}
 use Rattle.std.proofs.lemmas.List.{append-nil, take_at, length-take-le}
 use Rattle.std.proofs.lemmas.Option.{slice_get_within}
-use Rattle.lab_script.specs.declared.fault.ScriptFault.{ScriptFault}
-use Rattle.lab_script.specs.declared.fault.ScriptFault.TheVariants as fault
-use Rattle.lab_script.specs.declared.fault.ScriptFaultKind.{ScriptFaultKind}
-use Rattle.lab_script.specs.declared.fault.ScriptFaultKind.TheVariants as kinds
+use Rattle.lab_statement.specs.declared.fault.ScriptFault.{ScriptFault}
+use Rattle.lab_statement.specs.declared.fault.ScriptFault.TheVariants as fault
+use Rattle.lab_statement.specs.declared.fault.ScriptFaultKind.{ScriptFaultKind}
+use Rattle.lab_statement.specs.declared.fault.ScriptFaultKind.TheVariants as kinds
 use Rattle.lab_script.specs.declared.script.Script.{Script}
-use Rattle.lab_script.specs.declared.token.Token.{Token}
-use Rattle.lab_script.specs.Token.{tokens}
+use Rattle.lab_statement.specs.declared.token.Token.{Token}
+use Rattle.lab_statement.specs.Token.{tokens}
 use Rattle.lab_script.specs.Grammar.{IsCommands}
 use Rattle.lab_script.specs.Script as script
-use Rattle.lab_script.specs.Script.{code_of, remark_of, session_of, is_passed, IsFit, BeginsSetup, LineSpells, LinesSpell, Spells}
+use Rattle.lab_statement.specs.Text.{code_of, remark_of}
+use Rattle.lab_script.specs.Script.{is_passed, BeginsSetup, LineSpells, LinesSpell, Spells}
 use Rattle.lab_script.specs.Fault as wrong
-use Rattle.lab_script.specs.Fault.{SpellsNothing, SpellsNoFew, LacksSession, SaysOfTokens, IsWrong, IsFaultyLine, IsWithoutSetup, IsFaultOf, IsLineFault}
+use Rattle.lab_script.specs.Fault.{SpellsNothing, SpellsNoFew, LacksSession, SaysOfTokens, IsWrong, IsFaultyLine, IsFaultOf, IsLineFault}
 use Rattle.lab_script.proofs.ReadCommands.{no_setup}
 use Rattle.lab_script.proofs.ReadSetup.{setup_begins}
 use Rattle.lab_script.proofs.ScriptLines.{fit_of, lines_once, lines_join, lines_front, IsFew, line_few}
 use Rattle.lab_table.proofs.Tests.{slice_get-middle}
-use Rattle.lab_script.proofs.TokenNumbers.{some_is}
+use Rattle.lab_statement.proofs.TokenNumbers.{some_is}
 
 -- the lines so far, of which there are so many, spell nothing yet or a script, and these are left
 pub record IsReadTo (text : List ℕ) (number : ℕ) (rest : List (List ℕ)) (script : Option Script) : Type 0 where

@@ -1,38 +1,23 @@
 -- There is no first fault exactly where the tokens are in the grammar.
-use Rattle.std.proofs.Common.{◌≡◌, ℕ, ◌≤◌, Bool, true, false, List, length, Some, None, refl, ap, ◌∙◌}
+use Rattle.std.proofs.Common.{◌≡◌, ℕ, ◌≤◌, List, length, Some, None, refl, ap, ◌∙◌}
 use Rattle.std.specs.Prelude.{◌↔◌, if◌then◌else◌}
 use Rattle.std.proofs.lemmas.Bool.{leb-true, le-leb}
 use Rattle.lab_table.specs.Table.{Table}
 use Rattle.lab_table.specs.declared.statement.Command.{Command}
-use Rattle.lab_table.specs.declared.statement.Statement.{Statement}
-use Rattle.lab_script.specs.declared.token.Token.{Token}
-use Rattle.lab_script.specs.Grammar.{IsCommands, IsSetup, IsWholeStatement}
-use Rattle.lab_script.specs.declared.refusal.GrammarFault.TheVariants.{TooManyTables}
+use Rattle.lab_statement.specs.declared.token.Token.{Token}
+use Rattle.lab_script.specs.Grammar.{IsCommands, IsSetup}
+use Rattle.lab_statement.specs.declared.refusal.GrammarFault.TheVariants.{TooManyTables}
 use Rattle.lab_table.specs.TableSet.{are_few}
 use Rattle.lab_script.specs.Tables.{with_commands, setup_tables}
-use Rattle.lab_script.specs.Stopping.{Reading, Reads, Stops}
-use Rattle.lab_script.specs.FirstFaults.{whole_statement_read, commands_read, setup_read, fault_in, commands_fault_in, setup_fault_in, commands_fault, setup_fault, statement_fault}
+use Rattle.lab_statement.specs.Stopping.{Reading, Reads, Stops}
+use Rattle.lab_script.specs.FirstFaults.{commands_read, setup_read, commands_fault_in, setup_fault_in, commands_fault, setup_fault}
 use Rattle.lab_script.proofs.ReadCommands.{commands_take, commands_again}
-use Rattle.lab_script.proofs.ReadStatements.{whole_takes, whole_again}
 use Rattle.lab_script.proofs.ReadSetup.{setup_takes}
 use Rattle.lab_script.proofs.SetupAgain.{setup_again}
-use Rattle.lab_script.proofs.Readings.{reads_is}
-
--- a reading has no fault exactly where it has a value
-
-valued : {X : Type 0} (ts : List Token) (r : Reading X) → fault_in ts r ≡ None → (x : X) × (r ≡ Reads x)
-valued ts (Reads x) none = (x, refl)
-valued ts (Stops kind left) none = absurd cc
-
-faultless : {X : Type 0} (ts : List Token) (r : Reading X) (x : X) → r ≡ Reads x → fault_in ts r ≡ None
-faultless ts (Reads y) x is = refl
-faultless ts (Stops kind left) x is = absurd cc
+use Rattle.lab_statement.proofs.Readings.{reads_is}
+use Rattle.lab_statement.proofs.GrammarFaults.{few_of}
 
 -- the same where its tables are to be few
-
-few_of : {A : Type 0} (few : Bool) (x : A) → (if few then None else Some x) ≡ None → few ≡ true
-few_of true x none = refl
-few_of false x none = absurd cc
 
 commands_valued : (names : List (List ℕ)) (ts : List Token) (r : Reading (List Command)) → commands_fault_in names ts r ≡ None
     → (cs : List Command) × (r ≡ Reads cs) × (length (with_commands names cs) ≤ 4)
@@ -69,10 +54,4 @@ pub no_setup_fault : (ts : List Token) → (setup_fault ts ≡ None) ↔ ((table
 no_setup_fault ts = (
   λ none. let v = setup_valued ts (setup_read ts) none in (v.0, setup_takes ts v.0 v.1, v.2),
   λ s. setup_faultless ts (setup_read ts) s.0 (setup_again s.1) s.2,
-)
-
-pub no_statement_fault : (ts : List Token) → (statement_fault ts ≡ None) ↔ ((s : Statement) × IsWholeStatement ts s)
-no_statement_fault ts = (
-  λ none. let v = valued ts (whole_statement_read ts) none in (v.0, whole_takes ts v.0 v.1),
-  λ s. faultless ts (whole_statement_read ts) s.0 (whole_again s.1),
 )

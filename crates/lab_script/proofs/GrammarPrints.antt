@@ -1,15 +1,17 @@
--- What the grammar allows keeps the limits of what is printed.
+-- The commands that the grammar has keep the limits when they are printed.
 use Rattle.std.proofs.Common.{◌≡◌, ℕ, suc, ◌≤◌, Bool, true, false, List, [], ◌∷◌, ◌++◌, Option, refl, arith}
 use Rattle.std.specs.Prelude.{◌||◌}
 use Rattle.lab_table.specs.Predicate.{Predicate}
 use Rattle.lab_table.specs.declared.statement.Statement.{Statement}
 use Rattle.lab_table.specs.declared.statement.Command.{Command}
-use Rattle.lab_script.specs.declared.token.Token.{Token}
-use Rattle.lab_script.specs.Grammar.{Kind, P, A, N, IsAtom, IsPred, IsWhere, IsStatement, IsCommand, IsCommands}
-use Rattle.lab_script.specs.Grammar as grammar
-use Rattle.lab_script.specs.Printed.{is_and, is_or}
-use Rattle.lab_script.specs.Depth.{deeper, depth_of, where_depth, statement_depth}
-use Rattle.lab_script.specs.Limits.{CommandPrints}
+use Rattle.lab_statement.specs.declared.token.Token.{Token}
+use Rattle.lab_statement.specs.Grammar.{Kind, P, A, N, IsAtom, IsPred, IsWhere, IsStatement}
+use Rattle.lab_script.specs.Grammar.{IsCommand, IsCommands}
+use Rattle.lab_statement.specs.Printed.{is_and, is_or}
+use Rattle.lab_statement.specs.Depth.{deeper, depth_of, where_depth, statement_depth}
+use Rattle.lab_statement.specs.Limits.{CommandPrints}
+use Rattle.lab_statement.specs.Grammar as grammar
+use Rattle.lab_script.specs.Grammar as line_grammar
 
 -- how deep a predicate of a kind is where it stands as such
 abbrev depth_as : Kind → Predicate → ℕ
@@ -63,12 +65,12 @@ EachPrints [] = Unit {0}
 EachPrints (c ∷ cs) = CommandPrints c × EachPrints cs
 
 command_prints : {ts : List Token} {cs : List Command} → IsCommand ts cs → EachPrints cs
-command_prints grammar.begin = (tt, tt)
-command_prints grammar.commit = (tt, tt)
-command_prints grammar.abort = (tt, tt)
-command_prints grammar.rollback = (tt, tt)
-command_prints (grammar.level w ws) = tt
-command_prints (grammar.run h le) = (record { shallow = statement_shallow h; short = le }, tt)
+command_prints line_grammar.begin = (tt, tt)
+command_prints line_grammar.commit = (tt, tt)
+command_prints line_grammar.abort = (tt, tt)
+command_prints line_grammar.rollback = (tt, tt)
+command_prints (line_grammar.level w ws) = tt
+command_prints (line_grammar.run h le) = (record { shallow = statement_shallow h; short = le }, tt)
 
 both_print : (cs ds : List Command) → EachPrints cs → EachPrints ds → EachPrints (cs ++ ds)
 both_print [] ds h i = i
@@ -76,6 +78,6 @@ both_print (c ∷ cs) ds h i = (h.0, both_print cs ds h.1 i)
 
 -- the commands of a line print
 pub commands_print : {ts : List Token} {cs : List Command} → IsCommands ts cs → EachPrints cs
-commands_print (grammar.one h) = command_prints h
-commands_print (grammar.closed h) = command_prints h
-commands_print (grammar.more {cs} {ds} h hs) = both_print cs ds (command_prints h) (commands_print hs)
+commands_print (line_grammar.one h) = command_prints h
+commands_print (line_grammar.closed h) = command_prints h
+commands_print (line_grammar.more {cs} {ds} h hs) = both_print cs ds (command_prints h) (commands_print hs)

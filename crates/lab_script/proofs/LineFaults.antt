@@ -3,25 +3,27 @@ use Rattle.std.proofs.Common.{◌≡◌, ℕ, true, false, List, [], length, Opt
 use Rattle.std.specs.Prelude.{Bool, ◌-◌, if◌then◌else◌}
 use Rattle.lab_table.specs.Table.{Table}
 use Rattle.lab_table.specs.declared.statement.Command.{Command}
-use Rattle.lab_script.specs.declared.refusal.GrammarFault.{GrammarFault}
-use Rattle.lab_script.specs.declared.refusal.GrammarFault.TheVariants as grammar
-use Rattle.lab_script.specs.declared.refusal.Refusal.{Refusal}
-use Rattle.lab_script.specs.declared.refusal.Refusal.TheVariants as refusal
+use Rattle.lab_statement.specs.declared.refusal.GrammarFault.{GrammarFault}
+use Rattle.lab_statement.specs.declared.refusal.GrammarFault.TheVariants as grammar
+use Rattle.lab_statement.specs.declared.refusal.Refusal.{Refusal}
+use Rattle.lab_statement.specs.declared.refusal.Refusal.TheVariants as refusal
 use Rattle.lab_script.specs.declared.script.Script.{Script}
-use Rattle.lab_script.specs.declared.token.Token.{Token}
-use Rattle.lab_script.specs.Fault.{SpellsNothing, SpellsNoFew, SaysOfTokens, first_fault, ComesFirst, IsTokensFault, kind_of, refusal_at}
-use Rattle.lab_script.specs.FirstFaults.{commands_read, setup_read, placed_kind, behind_tables, passed, commands_fault_in, setup_fault_in, commands_fault, setup_fault, StopsFirst}
+use Rattle.lab_statement.specs.declared.token.Token.{Token}
+use Rattle.lab_script.specs.Fault.{SpellsNothing, SpellsNoFew, SaysOfTokens, first_fault, ComesFirst, IsTokensFault}
+use Rattle.lab_statement.specs.Fault.{kind_of, refusal_at}
+use Rattle.lab_script.specs.FirstFaults.{commands_read, setup_read, passed, commands_fault_in, setup_fault_in, commands_fault, setup_fault}
+use Rattle.lab_statement.specs.FirstFaults.{placed_kind, behind_tables, StopsFirst}
 use Rattle.lab_script.specs.Limits.{max_commands}
 use Rattle.lab_script.specs.PassedTables.{with_tokens, with_setup_tokens}
 use Rattle.lab_script.specs.Script.{BeginsSetup}
-use Rattle.lab_script.specs.Stopping.{Reading, Reads, Stops}
+use Rattle.lab_statement.specs.Stopping.{Reading, Reads, Stops}
 use Rattle.lab_table.specs.TableSet.{are_few}
 use Rattle.lab_script.specs.Tables.{script_tables, with_commands, setup_tables}
 use Rattle.lab_script.proofs.GrammarFaults.{no_commands_fault, no_setup_fault}
 use Rattle.lab_script.proofs.LineKinds.{line_kinds, setup_kinds}
 use Rattle.lab_script.proofs.ReadCommands.{commands_again}
 use Rattle.lab_script.proofs.SetupAgain.{setup_again}
-use Rattle.lab_script.proofs.TokenNumbers.{some_is}
+use Rattle.lab_statement.proofs.TokenNumbers.{some_is}
 
 comes_first : (ts : List Token) (before : Option Script) (f : GrammarFault) → first_fault ts before ≡ Some f → ComesFirst (kind_of f) ts before
 comes_first ts before grammar.UnknownStatement first = first

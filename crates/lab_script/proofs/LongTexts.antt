@@ -6,9 +6,9 @@ use Rattle.std.specs.Str.Lines.{lines}
 use Rattle.std.proofs.lemmas.Bool.{cases_lt}
 use Rattle.std.proofs.lemmas.List.{append-nil, take_all, take_at, take-append-le, take-append-drop, length-take, length-drop}
 use Rattle.std.proofs.lemmas.Option.{slice_get_within}
-use Rattle.lab_script.specs.declared.fault.ScriptFault.{ScriptFault}
-use Rattle.lab_script.specs.declared.fault.ScriptFault.TheVariants as fault
-use Rattle.lab_script.specs.declared.fault.ScriptFaultKind.{ScriptFaultKind}
+use Rattle.lab_statement.specs.declared.fault.ScriptFault.{ScriptFault}
+use Rattle.lab_statement.specs.declared.fault.ScriptFault.TheVariants as fault
+use Rattle.lab_statement.specs.declared.fault.ScriptFaultKind.{ScriptFaultKind}
 use Rattle.lab_script.specs.declared.script.Script.{Script}
 use Rattle.lab_script.specs.Script.{LinesSpell, Spells}
 use Rattle.lab_script.specs.Fault as wrong

@@ -4,20 +4,21 @@ use Rattle.std.proofs.lemmas.Bool.{le-leb, leb-true}
 use Rattle.lab_table.specs.declared.statement.Statement.{Statement}
 use Rattle.lab_table.specs.declared.statement.Command.{Command}
 use Rattle.lab_table.specs.declared.statement.Command.TheVariants as command
-use Rattle.lab_script.specs.declared.token.Word.{Word}
-use Rattle.lab_script.specs.declared.token.Word.TheVariants as word
-use Rattle.lab_script.specs.declared.token.Token.{Token}
-use Rattle.lab_script.specs.declared.token.Token.TheVariants as token
-use Rattle.lab_script.specs.Grammar.{words, IsStatement, IsCommand}
-use Rattle.lab_script.specs.Grammar as grammar
-use Rattle.lab_script.specs.Printed.{printed_statement}
-use Rattle.lab_script.specs.Stopping.{Reads, tokens_read}
-use Rattle.lab_script.specs.FirstFaults.{statement_read, end_read, is_word, words_read, level_read, command_read, is_short, terminated_read}
-use Rattle.lab_script.proofs.Readings.{bind_reads, cond_reads, found_reads, reads, reads_is, tokens_are}
-use Rattle.lab_script.proofs.ReadNumbers.{Taken, under}
-use Rattle.lab_script.proofs.ReadStatements.{statement_again, statement_takes, Closes, nothing, semicolon, unjoined, ended_is}
-
--- The command of one statement that is read is that of the grammar, and the other way round.
+use Rattle.lab_statement.specs.declared.token.Word.{Word}
+use Rattle.lab_statement.specs.declared.token.Word.TheVariants as word
+use Rattle.lab_statement.specs.declared.token.Token.{Token}
+use Rattle.lab_statement.specs.declared.token.Token.TheVariants as token
+use Rattle.lab_statement.specs.Grammar.{words, IsStatement}
+use Rattle.lab_script.specs.Grammar.{IsCommand}
+use Rattle.lab_statement.specs.Printed.{printed_statement}
+use Rattle.lab_statement.specs.Stopping.{Reads, tokens_read}
+use Rattle.lab_statement.specs.FirstFaults.{statement_read, end_read, is_word, is_short}
+use Rattle.lab_script.specs.FirstFaults.{words_read, level_read, command_read, terminated_read}
+use Rattle.lab_statement.proofs.Readings.{bind_reads, cond_reads, found_reads, reads, reads_is, tokens_are}
+use Rattle.lab_statement.proofs.ReadNumbers.{Taken, under}
+use Rattle.lab_statement.proofs.ReadStatements.{statement_again, statement_takes, Closes, nothing, semicolon, unjoined, ended_is}
+use Rattle.lab_statement.specs.Grammar as grammar
+use Rattle.lab_script.specs.Grammar as line_grammar
 
 -- words
 
@@ -70,19 +71,19 @@ run_again (grammar.delete table h) rest closes = rw (statement_again (grammar.de
 -- a statement of the grammar is read
 pub command_again : {ts : List Token} {cs : List Command} → IsCommand ts cs → (rest : List Token) → Closes rest → Given (ts ++ rest) cs rest
 unfolding command_read level_read
-command_again grammar.begin rest closes = (Some command.Begin, refl, refl, refl)
-command_again grammar.commit rest closes = (Some command.Commit, refl, refl, refl)
-command_again grammar.abort rest closes = (Some command.Abort, refl, refl, refl)
-command_again grammar.rollback rest closes = (Some command.Abort, refl, refl, refl)
-command_again (grammar.level w ws) rest closes = (None, rw (words_again w ws rest (wordless closes)) refl, refl, refl)
-command_again (grammar.run {s} h le) rest closes = (Some (command.Run s), run_again h rest closes, le-leb (length (printed_statement s)) 1000 le, refl)
+command_again line_grammar.begin rest closes = (Some command.Begin, refl, refl, refl)
+command_again line_grammar.commit rest closes = (Some command.Commit, refl, refl, refl)
+command_again line_grammar.abort rest closes = (Some command.Abort, refl, refl, refl)
+command_again line_grammar.rollback rest closes = (Some command.Abort, refl, refl, refl)
+command_again (line_grammar.level w ws) rest closes = (None, rw (words_again w ws rest (wordless closes)) refl, refl, refl)
+command_again (line_grammar.run {s} h le) rest closes = (Some (command.Run s), run_again h rest closes, le-leb (length (printed_statement s)) 1000 le, refl)
 
 run_taken : (ts : List Token) (s : Statement × List Token) (x : Option Command × List Token) → Taken IsStatement ts s → Reads (Some (command.Run s.0), s.1) ≡ Reads x
     → is_short x.0 ≡ true → Taken (λ front c. IsCommand front (listed c)) ts x
 run_taken ts s x h e short =
     let is : ◌≡◌ {A = Option Command × List Token} (Some (command.Run s.0), s.1) x = reads_is _ _ e in
     let le : length (printed_statement s.0) ≤ 1000 = leb-true _ _ (ap (λ (y : Option Command × List Token). is_short y.0) is ∙ short) in
-    subst (Taken (λ front c. IsCommand front (listed c)) ts) is (h.0, h.1, grammar.run h.2 le)
+    subst (Taken (λ front c. IsCommand front (listed c)) ts) is (h.0, h.1, line_grammar.run h.2 le)
 
 -- what is read as a statement is one of the grammar, if its command is short
 pub command_takes : (ts : List Token) (x : Option Command × List Token) → command_read ts ≡ Reads x → is_short x.0 ≡ true → Taken (λ front c. IsCommand front (listed c)) ts x
@@ -90,10 +91,10 @@ unfolding command_read level_read
 command_takes ts x e short =
     let made = λ (c : Option Command) (front rest : List Token) (is : ts ≡ front ++ rest) (h : IsCommand front (listed c)) (g : reads (c, rest) ≡ Reads x). subst
     (Taken (λ us d. IsCommand us (listed d)) ts) (reads_is (c, rest) x g) (front, is, h) in
-    found_reads (token.Word word.Begin) ts _ _ x e (λ rest is h. made (Some command.Begin) (words (word.Begin ∷ [])) rest is grammar.begin h)
-    (λ n1 e1. found_reads (token.Word word.Commit) ts _ _ x e1 (λ rest is h. made (Some command.Commit) (words (word.Commit ∷ [])) rest is grammar.commit h)
-    (λ n2 e2. found_reads (token.Word word.Abort) ts _ _ x e2 (λ rest is h. made (Some command.Abort) (words (word.Abort ∷ [])) rest is grammar.abort h)
-    (λ n3 e3. found_reads (token.Word word.Rollback) ts _ _ x e3 (λ rest is h. made (Some command.Abort) (words (word.Rollback ∷ [])) rest is grammar.rollback h)
+    found_reads (token.Word word.Begin) ts _ _ x e (λ rest is h. made (Some command.Begin) (words (word.Begin ∷ [])) rest is line_grammar.begin h)
+    (λ n1 e1. found_reads (token.Word word.Commit) ts _ _ x e1 (λ rest is h. made (Some command.Commit) (words (word.Commit ∷ [])) rest is line_grammar.commit h)
+    (λ n2 e2. found_reads (token.Word word.Abort) ts _ _ x e2 (λ rest is h. made (Some command.Abort) (words (word.Abort ∷ [])) rest is line_grammar.abort h)
+    (λ n3 e3. found_reads (token.Word word.Rollback) ts _ _ x e3 (λ rest is h. made (Some command.Abort) (words (word.Rollback ∷ [])) rest is line_grammar.rollback h)
     (λ n4 e4. found_reads (token.Word word.Set) ts _ _ x e4
     (λ rest is h.
     let a = bind_reads (level_read rest) _ x h in
@@ -101,7 +102,7 @@ command_takes ts x e short =
     let b = bind_reads (tokens_read front rest) _ a.0 a.1 in
     let w = words_take b.0 a.0 b.2 in
     made None (words (word.Set ∷ word.Transaction ∷ word.Isolation ∷ word.Level ∷ w.0 ∷ w.1)) a.0
-    (is ∙ under _ _ _ (tokens_are front rest b.0 b.1 ∙ ap (λ (r : List Token). front ++ r) w.2)) (grammar.level w.0 w.1) a.2)
+    (is ∙ under _ _ _ (tokens_are front rest b.0 b.1 ∙ ap (λ (r : List Token). front ++ r) w.2)) (line_grammar.level w.0 w.1) a.2)
     (λ n5 e5.
     let s = bind_reads (statement_read ts) _ x e5 in
     run_taken ts s.0 x (statement_takes ts s.0 s.1) s.2 short)))))
@@ -110,15 +111,15 @@ command_takes ts x e short =
 
 -- a command is at least one token
 pub command_long : {ts : List Token} {cs : List Command} → IsCommand ts cs → 1 ≤ length ts
-command_long grammar.begin = omega arith
-command_long grammar.commit = omega arith
-command_long grammar.abort = omega arith
-command_long grammar.rollback = omega arith
-command_long (grammar.level w ws) = omega arith
-command_long (grammar.run (grammar.select table h) le) = omega arith
-command_long (grammar.run (grammar.update table g h) le) = omega arith
-command_long (grammar.run (grammar.insert table h) le) = omega arith
-command_long (grammar.run (grammar.delete table h) le) = omega arith
+command_long line_grammar.begin = omega arith
+command_long line_grammar.commit = omega arith
+command_long line_grammar.abort = omega arith
+command_long line_grammar.rollback = omega arith
+command_long (line_grammar.level w ws) = omega arith
+command_long (line_grammar.run (grammar.select table h) le) = omega arith
+command_long (line_grammar.run (grammar.update table g h) le) = omega arith
+command_long (line_grammar.run (grammar.insert table h) le) = omega arith
+command_long (line_grammar.run (grammar.delete table h) le) = omega arith
 
 -- the command of a statement with its end that is read, with what is left
 abbrev Closed : List Token → List Command → List Token → Type 0

@@ -5,19 +5,21 @@ use Rattle.std.specs.Str.Lines.{lines}
 use Rattle.std.proofs.lemmas.Bool.{false≢true, cases_lt}
 use Rattle.std.proofs.lemmas.List.{take_all}
 use Rattle.std.proofs.lemmas.Option.{same_Some, slice_get_within}
-use Rattle.lab_script.specs.declared.fault.ScriptFault.TheVariants as fault
-use Rattle.lab_script.specs.declared.fault.ScriptFaultKind.{ScriptFaultKind}
-use Rattle.lab_script.specs.declared.fault.ScriptFaultKind.TheVariants as kinds
-use Rattle.lab_script.specs.declared.refusal.GrammarFault.{GrammarFault}
-use Rattle.lab_script.specs.declared.refusal.GrammarFault.TheVariants as grammar
+use Rattle.lab_statement.specs.declared.fault.ScriptFault.TheVariants as fault
+use Rattle.lab_statement.specs.declared.fault.ScriptFaultKind.{ScriptFaultKind}
+use Rattle.lab_statement.specs.declared.fault.ScriptFaultKind.TheVariants as kinds
+use Rattle.lab_statement.specs.declared.refusal.GrammarFault.{GrammarFault}
+use Rattle.lab_statement.specs.declared.refusal.GrammarFault.TheVariants as grammar
 use Rattle.lab_script.specs.declared.script.Script.{Script}
-use Rattle.lab_script.specs.declared.token.Token.{Token}
+use Rattle.lab_statement.specs.declared.token.Token.{Token}
 use Rattle.lab_script.specs.Fault as wrong
-use Rattle.lab_script.specs.Fault.{kind_of, first_fault, IsOver, SpellsNothing, SpellsNoFew, SaysOfTokens, ComesFirst, IsWrong, IsFaultyLine, IsWithoutSetup, IsFaultOf}
+use Rattle.lab_statement.specs.Fault.{kind_of}
+use Rattle.lab_script.specs.Fault.{first_fault, IsOver, SpellsNothing, SpellsNoFew, SaysOfTokens, ComesFirst, IsWrong, IsFaultyLine, IsWithoutSetup, IsFaultOf}
 use Rattle.lab_script.specs.Grammar.{IsCommands}
-use Rattle.lab_script.specs.HeldTokens.{held_tokens}
-use Rattle.lab_script.specs.Script.{code_of, remark_of, BeginsSetup, LineSpells, LinesSpell, Spells}
-use Rattle.lab_script.specs.Token.{tokens}
+use Rattle.lab_statement.specs.HeldTokens.{held_tokens}
+use Rattle.lab_statement.specs.Text.{code_of, remark_of}
+use Rattle.lab_script.specs.Script.{BeginsSetup, LineSpells, LinesSpell, Spells}
+use Rattle.lab_statement.specs.Token.{tokens}
 use Rattle.lab_script.proofs.ReadCommands.{no_setup}
 use Rattle.lab_script.proofs.ScriptLines.{lines_once}
 

@@ -2,15 +2,15 @@
 use Rattle.std.proofs.Common.{◌≡◌, ◌⊎◌, inl, inr, ℕ, ◌<◌, ◌≤◌, true, false, List, length, Option, Some, None, refl, sym, subst, ◌∙◌, arith}
 use Rattle.std.specs.List.{list_all}
 use Rattle.std.proofs.lemmas.Bool.{false≢true, cases_lt}
-use Rattle.lab_script.specs.declared.fault.ScriptFault.TheVariants as fault
-use Rattle.lab_script.specs.declared.fault.ScriptFaultKind.{ScriptFaultKind}
-use Rattle.lab_script.specs.declared.fault.ScriptFaultKind.TheVariants as kinds
-use Rattle.lab_script.specs.declared.refusal.GrammarFault.{GrammarFault}
-use Rattle.lab_script.specs.declared.token.Token.{Token}
-use Rattle.lab_script.specs.Fault.{SaysOfStatement, IsStatementFault, TellsFirst, IsFirstInText}
-use Rattle.lab_script.specs.FirstFaults.{statement_fault}
-use Rattle.lab_script.specs.HeldTokens.{AreStatementTokens}
-use Rattle.lab_script.specs.Script.{is_code_byte}
+use Rattle.lab_statement.specs.declared.fault.ScriptFault.TheVariants as fault
+use Rattle.lab_statement.specs.declared.fault.ScriptFaultKind.{ScriptFaultKind}
+use Rattle.lab_statement.specs.declared.fault.ScriptFaultKind.TheVariants as kinds
+use Rattle.lab_statement.specs.declared.refusal.GrammarFault.{GrammarFault}
+use Rattle.lab_statement.specs.declared.token.Token.{Token}
+use Rattle.lab_statement.specs.Fault.{SaysOfStatement, IsStatementFault, TellsFirst, IsFirstInText}
+use Rattle.lab_statement.specs.FirstFaults.{statement_fault}
+use Rattle.lab_statement.specs.HeldTokens.{AreStatementTokens}
+use Rattle.lab_statement.specs.Text.{is_code_byte}
 
 module _ (text : List ℕ) where
   -- the three sorts of faults: the text is over its limit, or it isn't and has a byte that is no code, or its tokens are looked at

@@ -6,23 +6,24 @@ use Rattle.std.proofs.lemmas.Bool.{le-leb}
 use Rattle.std.proofs.lemmas.Fmt.{decimal_digit}
 use Rattle.lab_table.specs.declared.statement.Command.{Command}
 use Rattle.lab_table.specs.declared.statement.Command.TheVariants as command
-use Rattle.lab_script.specs.declared.token.Word.TheVariants as word
-use Rattle.lab_script.specs.declared.token.Token.{Token}
-use Rattle.lab_script.specs.declared.token.Token.TheVariants as token
+use Rattle.lab_statement.specs.declared.token.Word.TheVariants as word
+use Rattle.lab_statement.specs.declared.token.Token.{Token}
+use Rattle.lab_statement.specs.declared.token.Token.TheVariants as token
 use Rattle.lab_script.specs.declared.script.Line.{Line}
 use Rattle.lab_script.specs.declared.script.Script.{Script}
-use Rattle.lab_script.specs.Token.{tokens}
+use Rattle.lab_statement.specs.Token.{tokens}
 use Rattle.lab_script.specs.Grammar.{IsCommand, IsCommands}
 use Rattle.lab_script.specs.Grammar as grammar
-use Rattle.lab_script.specs.Limits.{CommandPrints}
-use Rattle.lab_script.specs.Printed.{printed_command}
-use Rattle.lab_script.specs.Script.{is_code_byte, code_of, remark_of, session_digit, session_of, IsFit, LineSpells, extended}
+use Rattle.lab_statement.specs.Limits.{CommandPrints}
+use Rattle.lab_statement.specs.Printed.{printed_command}
+use Rattle.lab_statement.specs.Text.{is_code_byte, code_of, remark_of}
+use Rattle.lab_script.specs.Script.{session_digit, session_of, IsFit, LineSpells, extended}
 use Rattle.lab_script.specs.Script as script
 use Rattle.lab_script.specs.Ranges.{CommandInRange, SessionInRange}
 use Rattle.lab_script.specs.Tables.{with_command, script_tables}
-use Rattle.lab_script.proofs.PrintedText.{Plain, all_plain, append_plain, append_ascii, Reads, word_ends}
-use Rattle.lab_script.proofs.PrintedStatements.{statement_tokens, statement_reads, statement_fits, statement_plain}
-use Rattle.lab_script.proofs.PrintedNumbers.{decimal_plain}
+use Rattle.lab_statement.proofs.PrintedText.{Plain, all_plain, append_plain, append_ascii, Reads, word_ends}
+use Rattle.lab_statement.proofs.PrintedStatements.{statement_tokens, statement_reads, statement_fits, statement_plain}
+use Rattle.lab_statement.proofs.PrintedNumbers.{decimal_plain}
 
 -- the tokens of a printed command
 abbrev pub command_tokens : Command → List Token

@@ -6,8 +6,8 @@ use Rattle.std.specs.Str.Lines.{lines, lines_of_parts, strip_carriage_return}
 use Rattle.std.proofs.lemmas.Bool.Decides.{nat_tests}
 use Rattle.std.proofs.lemmas.List.Splits.{slice_split-cons_yes, slice_split-cons_no, length-slice_split}
 use Rattle.std.proofs.lemmas.Bool.{and_parts}
-use Rattle.lab_script.specs.Printed.{newline}
-use Rattle.lab_script.specs.Script.{is_code_byte}
+use Rattle.lab_statement.specs.Printed.{newline}
+use Rattle.lab_statement.specs.Text.{is_code_byte}
 
 -- a byte of code is no newline and no carriage return
 pub no_newline : (b : ℕ) → is_code_byte b ≡ true → (b == 10) ≡ false

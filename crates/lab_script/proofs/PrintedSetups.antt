@@ -8,22 +8,26 @@ use Rattle.std.specs.Cmp.Lexicographic.{bytes_decides}
 use Rattle.lab_table.specs.Row.{Row, numbered, rows_total, rows_apart}
 use Rattle.lab_table.specs.TableName.{table_name_eq, test_name}
 use Rattle.lab_table.specs.Table.{Table}
-use Rattle.lab_script.specs.declared.token.Word.TheVariants as word
-use Rattle.lab_script.specs.declared.token.Token.{Token}
-use Rattle.lab_script.specs.declared.token.Token.TheVariants as token
-use Rattle.lab_script.specs.Token.{tokens}
+use Rattle.lab_statement.specs.declared.token.Word.TheVariants as word
+use Rattle.lab_statement.specs.declared.token.Token.{Token}
+use Rattle.lab_statement.specs.declared.token.Token.TheVariants as token
+use Rattle.lab_statement.specs.Token.{tokens}
 use Rattle.lab_script.specs.Grammar.{IsNamedRow, IsRows, IsRowList, IsSetup}
-use Rattle.lab_script.specs.Grammar as grammar
-use Rattle.lab_script.specs.Printed.{joined, printed_row, printed_named_row, printed_named_rows, named_rows_or, printed_setup}
-use Rattle.lab_script.specs.Script.{code_of, LineSpells}
-use Rattle.lab_script.specs.Script as script
+use Rattle.lab_statement.specs.Printed.{joined, printed_row}
+use Rattle.lab_script.specs.Printed.{printed_named_row, printed_named_rows, named_rows_or, printed_setup}
+use Rattle.lab_statement.specs.Text.{code_of}
+use Rattle.lab_script.specs.Script.{LineSpells}
 use Rattle.lab_script.specs.Ranges.{EntryInRange}
 use Rattle.lab_script.specs.Tables.{setup_tables}
-use Rattle.lab_script.proofs.PrintedText.{Plain, all_plain, plain_between, plain_code, Leads, leads_reads, leads_leads, cut_leads, mark_leads, reads_all}
-use Rattle.lab_script.proofs.PrintedNames.{name_token, name_plain, name_reads}
-use Rattle.lab_script.proofs.PrintedNumbers.{comma_leads}
-use Rattle.lab_script.proofs.PrintedPreds.{open_leads, close_leads}
-use Rattle.lab_script.proofs.PrintedStatements.{row_tokens, row_leads, row_fits, row_plain}
+use Rattle.lab_statement.proofs.PrintedText.{Plain, all_plain, plain_between, plain_code, Leads, leads_reads, leads_leads, cut_leads, mark_leads, reads_all}
+use Rattle.lab_statement.proofs.PrintedNames.{name_token, name_plain, name_reads}
+use Rattle.lab_statement.proofs.PrintedNumbers.{comma_leads}
+use Rattle.lab_statement.proofs.PrintedPreds.{open_leads, close_leads}
+use Rattle.lab_statement.proofs.PrintedStatements.{row_tokens, row_leads, row_fits, row_plain}
+use Rattle.lab_statement.specs.Grammar as grammar
+use Rattle.lab_script.specs.Grammar as line_grammar
+use Rattle.lab_statement.specs.Text as script
+use Rattle.lab_script.specs.Script as text
 
 -- the token of a table's name before a row, where it is printed
 abbrev table_tokens : Bool → List ℕ → List Token
@@ -52,8 +56,8 @@ named_row_fits : (row : Row) (z : ℤ) → EntryInRange (row, z) → IsNamedRow 
 named_row_fits row z h = at (table_name_eq row.table test_name) refl
   where
     at : (b : Bool) → table_name_eq row.table test_name ≡ b → IsNamedRow (table_tokens b row.table ++ row_tokens row.id z) row z
-    at true is = subst (λ t. IsNamedRow (row_tokens row.id z) (numbered t row.id) z) (sym ((bytes_decides row.table test_name).0 is)) (grammar.unnamed (row_fits row.id z h.1 h.2))
-    at false is = grammar.named row.table (row_fits row.id z h.1 h.2)
+    at true is = subst (λ t. IsNamedRow (row_tokens row.id z) (numbered t row.id) z) (sym ((bytes_decides row.table test_name).0 is)) (line_grammar.unnamed (row_fits row.id z h.1 h.2))
+    at false is = line_grammar.named row.table (row_fits row.id z h.1 h.2)
 
 -- all of it is code
 named_row_plain : (row : Row) (z : ℤ) → EntryInRange (row, z) → Plain (printed_named_row row z)
@@ -86,14 +90,14 @@ rows_lead (row ∷ rows) r = joined_leads row rows r
 
 -- the tokens of one row or more are in the grammar
 joined_fit : (row : Row × ℤ) (rows : List (Row × ℤ)) → All EntryInRange (row ∷ rows) → IsRows (rows_tokens (row ∷ rows)) (row ∷ rows)
-joined_fit row [] r = let fit = All-head EntryInRange row [] r in grammar.last (named_row_fits row.0 row.1 fit)
+joined_fit row [] r = let fit = All-head EntryInRange row [] r in line_grammar.last (named_row_fits row.0 row.1 fit)
 joined_fit row (next ∷ rows) r =
-    let fit = All-head EntryInRange row (next ∷ rows) r in grammar.more (named_row_fits row.0 row.1 fit) (joined_fit next rows (All-tail EntryInRange row (next ∷ rows) r))
+    let fit = All-head EntryInRange row (next ∷ rows) r in line_grammar.more (named_row_fits row.0 row.1 fit) (joined_fit next rows (All-tail EntryInRange row (next ∷ rows) r))
 
 -- the tokens of the rows of a setup are in the grammar
 rows_fit : (rows : List (Row × ℤ)) → All EntryInRange rows → IsRowList (rows_tokens rows) rows
-rows_fit [] r = grammar.none
-rows_fit (row ∷ rows) r = grammar.some (joined_fit row rows r)
+rows_fit [] r = line_grammar.none
+rows_fit (row ∷ rows) r = line_grammar.some (joined_fit row rows r)
 
 -- all of one printed row or more is code
 joined_plain : (row : Row × ℤ) (rows : List (Row × ℤ)) → All EntryInRange (row ∷ rows) → Plain (joined (printed_named_rows (row ∷ rows)))
@@ -135,7 +139,7 @@ setup_fits : (table : Table) → All EntryInRange (finite.entries table) → len
     → IsSetup (token.Word word.Setup ∷ rows_tokens (finite.entries table) ++ token.Semicolon ∷ []) table
 setup_fits table r le =
     subst (IsSetup (token.Word word.Setup ∷ rows_tokens (finite.entries table) ++ token.Semicolon ∷ [])) (rows_again table)
-    (grammar.setup (rows_fit (finite.entries table) r) (ap (λ (t : Table). length (finite.entries t)) (rows_again table)) grammar.semicolon
+    (line_grammar.setup (rows_fit (finite.entries table) r) (ap (λ (t : Table). length (finite.entries t)) (rows_again table)) grammar.semicolon
     (subst (λ (t : Table). length (printed_setup t) ≤ 4000) (sym (rows_again table)) le))
 
 -- a printed setup gives its table
@@ -146,5 +150,5 @@ setup_spells table r le few =
     let code : code_of (printed_setup table) ≡ printed_setup table = plain_code (printed_setup table) plain in
     let read : tokens (code_of (printed_setup table)) ≡ token.Word word.Setup ∷ rows_tokens (finite.entries table) ++ token.Semicolon ∷ [] =
     ap tokens code ∙ reads_all (printed_setup table) _ (leads_reads (printed_setup table) _ (setup_leads table r)) in
-    script.setup (record { lines = omega arith; bytes = le; ascii = ap (λ (t : List ℕ). list_all script.is_code_byte t) code ∙ plain.ascii })
+    text.setup (record { lines = omega arith; bytes = le; ascii = ap (λ (t : List ℕ). list_all script.is_code_byte t) code ∙ plain.ascii })
     (subst (λ (ts : List Token). IsSetup ts table) (sym read) (setup_fits table r le)) few

@@ -2,19 +2,18 @@ use Rattle.std.proofs.Common.{◌≡◌, ℕ, zero, suc, ◌+◌, ◌≤◌, ◌
 use Rattle.std.specs.Prelude.{nat_lt}
 use Rattle.std.proofs.lemmas.Bool.{lt-ltb, ltb-true}
 use Rattle.lab_table.specs.declared.statement.Command.{Command}
-use Rattle.lab_script.specs.declared.token.Word.TheVariants as word
-use Rattle.lab_script.specs.declared.token.Token.{Token}
-use Rattle.lab_script.specs.declared.token.Token.TheVariants as token
-use Rattle.lab_script.specs.declared.refusal.GrammarFault.TheVariants.{TooLong}
+use Rattle.lab_statement.specs.declared.token.Word.TheVariants as word
+use Rattle.lab_statement.specs.declared.token.Token.{Token}
+use Rattle.lab_statement.specs.declared.token.Token.TheVariants as token
+use Rattle.lab_statement.specs.declared.refusal.GrammarFault.TheVariants.{TooLong}
 use Rattle.lab_script.specs.Grammar.{IsCommand, IsCommands}
 use Rattle.lab_script.specs.Grammar as grammar
-use Rattle.lab_script.specs.Stopping.{Reading, Reads, Stops, ◌>>=◌}
-use Rattle.lab_script.specs.FirstFaults.{statement_read, end_read, command_read, terminated_read, one_added, step_read, more_commands_read, commands_read}
-use Rattle.lab_script.proofs.Readings.{bind_reads, cond_reads, reads, reads_is}
-use Rattle.lab_script.proofs.ReadStatements.{Closes, nothing, semicolon, ended_is}
+use Rattle.lab_statement.specs.Stopping.{Reading, Reads, Stops, ◌>>=◌}
+use Rattle.lab_statement.specs.FirstFaults.{statement_read, end_read}
+use Rattle.lab_script.specs.FirstFaults.{command_read, terminated_read, one_added, step_read, more_commands_read, commands_read}
+use Rattle.lab_statement.proofs.Readings.{bind_reads, cond_reads, reads, reads_is}
+use Rattle.lab_statement.proofs.ReadStatements.{Closes, nothing, semicolon, ended_is}
 use Rattle.lab_script.proofs.OneCommand.{listed, command_long, closed_again, closed_takes, closed_short}
-
--- The commands that are read of a line are those of the grammar, and the other way round.
 
 -- one statement more
 

@@ -2,16 +2,17 @@
 use Rattle.std.proofs.Common.{◌≡◌, ℕ, ◌≤◌, true, false, List, [], length, map, Option, Some, None, refl, sym, ap, subst, ◌∙◌}
 use Rattle.std.specs.List.{list_all}
 use Rattle.lab_table.specs.Table.{Table}
-use Rattle.lab_script.specs.declared.fault.ScriptFault.{ScriptFault}
-use Rattle.lab_script.specs.declared.fault.ScriptFault.TheVariants as fault
-use Rattle.lab_script.specs.declared.fault.ScriptFaultKind.TheVariants as kinds
+use Rattle.lab_statement.specs.declared.fault.ScriptFault.{ScriptFault}
+use Rattle.lab_statement.specs.declared.fault.ScriptFault.TheVariants as fault
+use Rattle.lab_statement.specs.declared.fault.ScriptFaultKind.TheVariants as kinds
 use Rattle.lab_script.specs.declared.script.Script.{Script}
-use Rattle.lab_script.specs.declared.token.Token.{Token}
-use Rattle.lab_script.specs.Token.{is_blank, tokens}
-use Rattle.lab_script.specs.HeldTokens.{held, held_tokens}
+use Rattle.lab_statement.specs.declared.token.Token.{Token}
+use Rattle.lab_statement.specs.Token.{is_blank, tokens}
+use Rattle.lab_statement.specs.HeldTokens.{held, held_tokens}
 use Rattle.lab_script.specs.Grammar.{IsCommands, IsSetup}
 use Rattle.lab_script.specs.Script as script
-use Rattle.lab_script.specs.Script.{code_of, remark_of, is_code_byte, session_of, extended, IsFit, AddsCommands, LineSpells}
+use Rattle.lab_statement.specs.Text.{code_of, remark_of, is_code_byte}
+use Rattle.lab_script.specs.Script.{session_of, IsFit, AddsCommands, LineSpells}
 use Rattle.lab_script.specs.Fault as wrong
 use Rattle.lab_script.specs.Fault.{IsOver, IsKept, SaysOfTokens, ComesFirst, IsTokensFault, IsLineFault}
 use Rattle.lab_table.specs.TableSet.{max_tables}

@@ -1,81 +1,38 @@
-use Rattle.std.proofs.Common.{◌≡◌, ℕ, zero, suc, ◌≤◌, List, [], ◌∷◌, ◌++◌, refl, sym, ap, subst, ◌∙◌, append_assoc, arith, inl, inr}
-use Rattle.std.specs.Prelude.{ℤ, pos, negsuc, ◌-ℤ◌, ◌&&◌, nat_le}
-use Rattle.std.proofs.lemmas.Bool.{le-leb, leb-true, and_parts}
-use Rattle.std.proofs.Math.IntN.{pos-ne-negsuc, +ℤ_idl}
-use Rattle.lab_table.specs.Row.{Row, numbered}
+-- A row of a setup is read exactly where the grammar has one.
+use Rattle.std.proofs.Common.{◌≡◌, ◌⊎◌, inl, inr, ℕ, List, [], ◌∷◌, sym, ap, ◌++◌, refl, subst, ◌∙◌}
 use Rattle.lab_table.specs.TableName.{test_name}
-use Rattle.lab_script.specs.declared.token.Word.TheVariants as word
-use Rattle.lab_script.specs.declared.token.Token.{Token}
-use Rattle.lab_script.specs.declared.token.Token.TheVariants as token
-use Rattle.lab_script.specs.Grammar.{IsNumber, IsId, IsRow, IsNamedRow}
-use Rattle.lab_script.specs.Grammar as grammar
-use Rattle.lab_script.specs.Stopping.{Reads, token_read, digits_read, number_read, id_read, row_read, row_table_read, named_row_read}
-use Rattle.lab_script.proofs.Readings.{bind_reads, cond_reads, found_reads, reads_is, token_is}
-use Rattle.lab_script.proofs.ReadNames.{IsRowTable, row_table_takes}
-use Rattle.lab_script.proofs.ReadNumbers.{Taken, number_again, number_takes, digits_take, under}
+use Rattle.lab_statement.specs.declared.token.Word.TheVariants as word
+use Rattle.lab_statement.specs.declared.token.Token.{Token}
+use Rattle.lab_statement.specs.declared.token.Token.TheVariants as token
+use Rattle.lab_statement.specs.Stopping.{Reads, row_read}
+use Rattle.lab_script.specs.FirstFaults.{table_of, row_table_read, named_row_read}
+use Rattle.lab_statement.proofs.Readings.{reads_is, bind_reads}
+use Rattle.std.specs.Prelude.{ℤ}
+use Rattle.lab_table.specs.Row.{Row, numbered}
+use Rattle.lab_statement.specs.Grammar.{IsRow}
+use Rattle.lab_script.specs.Grammar.{IsNamedRow}
+use Rattle.lab_statement.proofs.ReadNumbers.{Taken, under}
+use Rattle.lab_statement.proofs.ReadNames.{word_takes}
+use Rattle.lab_statement.proofs.ReadRows.{RowTaken, row_again, row_takes}
+use Rattle.lab_statement.specs.Grammar as grammar
+use Rattle.lab_script.specs.Grammar as line_grammar
+
+-- Names that are read are words that are names.
+
+-- a row's table is that of the word before it, or `test`
+abbrev pub IsRowTable : List Token → List ℕ × List Token → Type 0
+IsRowTable ts x = (ts ≡ token.Word (word.Name x.0) ∷ x.1) ⊎ ((x.0 ≡ test_name) × (x.1 ≡ ts))
+
+table_token : (t : Token) (ts : List Token) (x : List ℕ × List Token) → table_of t ts ≡ Reads x → IsRowTable (t ∷ ts) x
+table_token (token.Word w) ts x e = inl (word_takes w ts x e)
+table_token t ts x e = let is : ◌≡◌ {A = List ℕ × List Token} (test_name, t ∷ ts) x = reads_is _ _ e in inr (ap (λ (y : List ℕ × List Token). y.0) (sym is), ap (λ (y : List ℕ × List Token). y.1) (sym is))
+
+pub row_table_takes : (ts : List Token) (x : List ℕ × List Token) → row_table_read ts ≡ Reads x → IsRowTable ts x
+unfolding row_table_read
+row_table_takes [] x e = let is : ◌≡◌ {A = List ℕ × List Token} (test_name, []) x = reads_is _ _ e in inr (ap (λ (y : List ℕ × List Token). y.0) (sym is), ap (λ (y : List ℕ × List Token). y.1) (sym is))
+row_table_takes (t ∷ ts) x e = table_token t ts x e
 
 -- Rows that are read are rows of the grammar, and the other way round.
-
--- what a minus stands before is no id
-pub not_negative : (n id : ℕ) → pos 0 -ℤ pos n ≡ pos id → 1 ≤ id → ⊥
-not_negative zero id is low = let none : 0 ≡ id = cc in omega (arith, none, low)
-not_negative (suc n) id is low = pos-ne-negsuc id n (sym is ∙ +ℤ_idl (negsuc n))
-
-unsigned_again : {ts : List Token} (z : ℤ) (id : ℕ) → IsNumber ts z → z ≡ pos id → 1 ≤ id → id ≤ 999999 → (rest : List Token) → id_read (ts ++ rest) ≡ Reads (id, rest)
-unfolding id_read digits_read
-unsigned_again _ id (grammar.positive n le) is low high rest =
-    let same : n ≡ id = cc in
-    rw (same, le-leb 1 id low, le-leb id 999999 high) refl
-unsigned_again _ id (grammar.negative n le) is low high rest = absurd (not_negative n id is low)
-
--- an id of the grammar is read, whatever follows it
-pub id_again : {ts : List Token} {id : ℕ} → IsId ts id → (rest : List Token) → id_read (ts ++ rest) ≡ Reads (id, rest)
-id_again (grammar.named id number low high) rest = unsigned_again (pos id) id number refl low high rest
-
--- what is read as an id is one of the grammar
-pub id_takes : (ts : List Token) (x : ℕ × List Token) → id_read ts ≡ Reads x → Taken IsId ts x
-unfolding id_read
-id_takes ts x e = found_reads token.Minus ts _ _ x e
-    (λ rest is h. let a = bind_reads (digits_read rest) _ x h in absurd cc)
-    (λ none h.
-    let a = bind_reads (digits_read ts) _ x h in
-    let g = cond_reads (nat_le 1 a.0.0 && nat_le a.0.0 999999) a.0 x _ _ a.2 in
-    let both = and_parts (nat_le 1 a.0.0) (nat_le a.0.0 999999) g.0 in
-    let low : 1 ≤ a.0.0 = leb-true 1 a.0.0 both.0 in
-    let high : a.0.0 ≤ 999999 = leb-true a.0.0 999999 both.1 in
-    subst (Taken IsId ts) g.1 (token.Digits a.0.0 ∷ [], digits_take ts a.0 a.1, grammar.named a.0.0 (grammar.positive a.0.0 (omega arith)) low high))
-
--- the parts of a row, and what follows it
-pub parts_of : (is vs rest : List Token) → is ++ token.Comma ∷ vs ++ token.Close ∷ [] ++ rest ≡ is ++ (token.Comma ∷ (vs ++ token.Close ∷ rest))
-parts_of is vs rest = append_assoc (is ++ token.Comma ∷ vs) (token.Close ∷ []) rest ∙ append_assoc is (token.Comma ∷ vs) (token.Close ∷ rest)
-
--- a row of the grammar is read, whatever follows it
-pub row_again : {ts : List Token} {id : ℕ} {value : ℤ} → IsRow ts id value → (rest : List Token) → row_read (ts ++ rest) ≡ Reads ((id, value), rest)
-unfolding row_read
-row_again (grammar.row {is} {vs} i v) rest = rw (parts_of is vs rest, id_again i (token.Comma ∷ (vs ++ token.Close ∷ rest)), number_again v (token.Close ∷ rest)) refl
-
--- a row at the front, and what is left
-abbrev pub RowTaken : List Token → (ℕ × ℤ) × List Token → Type 0
-RowTaken ts x = Taken (λ front row. IsRow front row.0 row.1) ts x
-
--- what is read as a row is one of the grammar
-pub row_takes : (ts : List Token) (x : (ℕ × ℤ) × List Token) → row_read ts ≡ Reads x → RowTaken ts x
-unfolding row_read
-row_takes ts x e =
-    let a = bind_reads (token_read token.Open ts) _ x e in
-    let i = bind_reads (id_read a.0) _ x a.2 in
-    let b = bind_reads (token_read token.Comma i.0.1) _ x i.2 in
-    let v = bind_reads (number_read b.0) _ x b.2 in
-    let c = bind_reads (token_read token.Close v.0.1) _ x v.2 in
-    let id = id_takes a.0 i.0 i.1 in
-    let value = number_takes b.0 v.0 v.1 in
-    let last : b.0 ≡ value.0 ++ token.Close ∷ c.0 = value.1 ∙ ap (λ (r : List Token). value.0 ++ r) (token_is token.Close v.0.1 c.0 c.1) in
-    let tail : a.0 ≡ id.0 ++ (token.Comma ∷ (value.0 ++ token.Close ∷ c.0)) = id.1 ∙ ap (λ (r : List Token). id.0 ++ r) (token_is token.Comma i.0.1 b.0 b.1 ∙ under _ _ _ last) in
-    subst (RowTaken ts) (reads_is ((i.0.0, v.0.0), c.0) x c.2) (
-      token.Open ∷ id.0 ++ token.Comma ∷ value.0 ++ token.Close ∷ [],
-      token_is token.Open ts a.0 a.1 ∙ under _ _ _ (tail ∙ sym (parts_of id.0 value.0 c.0)),
-      grammar.row id.2 value.2,
-    )
 
 -- no word stands before a row without a name
 unnamed_table : {ts : List Token} {id : ℕ} {value : ℤ} → IsRow ts id value → (rest : List Token) → row_table_read (ts ++ rest) ≡ Reads (test_name, ts ++ rest)
@@ -85,8 +42,8 @@ unnamed_table (grammar.row i v) rest = refl
 -- a row of a setup of the grammar is read, whatever follows it
 pub named_row_again : {ts : List Token} {row : Row} {value : ℤ} → IsNamedRow ts row value → (rest : List Token) → named_row_read (ts ++ rest) ≡ Reads ((row, value), rest)
 unfolding named_row_read row_table_read
-named_row_again (grammar.unnamed h) rest = rw (unnamed_table h rest, row_again h rest) refl
-named_row_again (grammar.named table h) rest = rw (row_again h rest) refl
+named_row_again (line_grammar.unnamed h) rest = rw (unnamed_table h rest, row_again h rest) refl
+named_row_again (line_grammar.named table h) rest = rw (row_again h rest) refl
 
 -- a row of a setup at the front, and what is left
 abbrev pub NamedRowTaken : List Token → (Row × ℤ) × List Token → Type 0
@@ -94,9 +51,9 @@ NamedRowTaken ts x = Taken (λ front row. IsNamedRow front row.0 row.1) ts x
 
 -- a row behind its table
 behind_table : (ts : List Token) (table : List ℕ × List Token) (r : (ℕ × ℤ) × List Token) → IsRowTable ts table → RowTaken table.1 r → NamedRowTaken ts ((numbered table.0 r.0.0, r.0.1), r.1)
-behind_table ts table r (inl named) p = (token.Word (word.Name table.0) ∷ p.0, named ∙ under _ _ _ p.1, grammar.named table.0 p.2)
+behind_table ts table r (inl named) p = (token.Word (word.Name table.0) ∷ p.0, named ∙ under _ _ _ p.1, line_grammar.named table.0 p.2)
 behind_table ts table r (inr (test, all)) p =
-    subst (λ t. NamedRowTaken ts ((numbered t r.0.0, r.0.1), r.1)) (sym test) (p.0, sym all ∙ p.1, grammar.unnamed p.2)
+    subst (λ t. NamedRowTaken ts ((numbered t r.0.0, r.0.1), r.1)) (sym test) (p.0, sym all ∙ p.1, line_grammar.unnamed p.2)
 
 -- what is read as a row of a setup is one of the grammar
 pub named_row_takes : (ts : List Token) (x : (Row × ℤ) × List Token) → named_row_read ts ≡ Reads x → NamedRowTaken ts x

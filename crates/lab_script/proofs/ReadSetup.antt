@@ -4,24 +4,25 @@ use Rattle.std.specs.FinMap.{find, insert, empty, contains_key}
 use Rattle.std.proofs.lemmas.Bool.{leb-true}
 use Rattle.lab_table.specs.Row.{Row, row_cmp}
 use Rattle.lab_table.specs.Table.{Table}
-use Rattle.lab_script.specs.declared.token.Word.TheVariants as word
-use Rattle.lab_script.specs.declared.token.Token.{Token}
-use Rattle.lab_script.specs.declared.token.Token.TheVariants as token
-use Rattle.lab_script.specs.declared.refusal.GrammarFault.{GrammarFault}
-use Rattle.lab_script.specs.Grammar.{IsNamedRow, IsRows, IsRowList, IsEnd, IsSetup, AllDistinct}
-use Rattle.lab_script.specs.Grammar as grammar
+use Rattle.lab_statement.specs.declared.token.Word.TheVariants as word
+use Rattle.lab_statement.specs.declared.token.Token.{Token}
+use Rattle.lab_statement.specs.declared.token.Token.TheVariants as token
+use Rattle.lab_statement.specs.declared.refusal.GrammarFault.{GrammarFault}
+use Rattle.lab_script.specs.Grammar.{IsNamedRow, IsRows, IsRowList, IsSetup, AllDistinct}
+use Rattle.lab_statement.specs.Grammar.{IsEnd}
 use Rattle.lab_script.specs.Printed.{printed_setup}
-use Rattle.lab_script.specs.Reading.{after}
-use Rattle.lab_script.specs.Stopping.{Reads, Stops, if_found, token_read, named_row_read}
-use Rattle.lab_script.specs.FirstFaults.{nothing_read, row_onto_read, rows_onto_read, rows_read, no_rows_at, table_read, setup_ended, setup_end_read, setup_read}
-use Rattle.lab_script.proofs.Readings.{bind_reads, found_reads, nothing_is, reads_is, token_is, under_limit}
-use Rattle.lab_script.proofs.TokenNumbers.{after_is}
-use Rattle.lab_script.proofs.ReadNumbers.{under}
+use Rattle.lab_statement.specs.Reading.{after}
+use Rattle.lab_statement.specs.Stopping.{Reads, Stops, if_found, token_read}
+use Rattle.lab_script.specs.FirstFaults.{named_row_read, row_onto_read, rows_onto_read, rows_read, table_read, setup_ended, setup_end_read, setup_read}
+use Rattle.lab_statement.specs.FirstFaults.{nothing_read, no_rows_at}
+use Rattle.lab_statement.proofs.Readings.{bind_reads, found_reads, nothing_is, reads_is, token_is, under_limit}
+use Rattle.lab_statement.proofs.TokenNumbers.{after_is}
+use Rattle.lab_statement.proofs.ReadNumbers.{under}
 use Rattle.lab_script.proofs.ReadRows.{named_row_takes}
 use Rattle.lab_script.proofs.DistinctRows.{none_distinct, absent_from, pushed_table, pushed_distinct, table_of}
 use Rattle.lab_script.proofs.SetupAgain.{setup_again}
-
--- Setups that are read are setups of the grammar.
+use Rattle.lab_statement.specs.Grammar as grammar
+use Rattle.lab_script.specs.Grammar as line_grammar
 
 -- what is read is in the grammar
 
@@ -59,7 +60,7 @@ record RowsAdded (before : List (Row × ℤ)) (ts : List Token) (x : Table × Li
 
 -- one row is the last
 one_added : (before : List (Row × ℤ)) (ts : List Token) (x : Table × List Token) → AllDistinct before → RowAdded before ts x → RowsAdded before ts x
-one_added before ts x all r = record { rows = r.row ∷ []; front = r.front; text = r.text; spelled = grammar.last r.spelled; distinct = pushed_distinct before r.row all r.absent; table = r.table }
+one_added before ts x all r = record { rows = r.row ∷ []; front = r.front; text = r.text; spelled = line_grammar.last r.spelled; distinct = pushed_distinct before r.row all r.absent; table = r.table }
 
 -- a row, a comma and the rows behind it
 more_added : (before : List (Row × ℤ)) (ts rest : List Token) (x y : Table × List Token) (r : RowAdded before ts y) → y.1 ≡ token.Comma ∷ rest
@@ -70,7 +71,7 @@ more_added before ts rest x y r comma s =
       rows = r.row ∷ s.rows;
       front = r.front ++ token.Comma ∷ s.front;
       text = r.text ∙ ap (λ (u : List Token). r.front ++ u) (comma ∙ under token.Comma _ _ s.text) ∙ sym (append_assoc r.front (token.Comma ∷ s.front) x.1);
-      spelled = grammar.more r.spelled s.spelled;
+      spelled = line_grammar.more r.spelled s.spelled;
       distinct = subst AllDistinct listed s.distinct;
       table = s.table ∙ ap table_of listed;
     }
@@ -113,9 +114,9 @@ table_takes ts x e = chosen (no_rows_at ts) refl e
     chosen : (o : Option (List Token)) → no_rows_at ts ≡ o → if_found o (λ rest. Reads (empty, rest)) (rows_read ts) ≡ Reads x → TableTaken ts x
     chosen None is h =
         let r = rows_take (suc (length ts)) x [] ts none_distinct h in
-        record { rows = r.rows; front = r.front; text = r.text; spelled = grammar.some r.spelled; distinct = r.distinct; table = r.table }
+        record { rows = r.rows; front = r.front; text = r.text; spelled = line_grammar.some r.spelled; distinct = r.distinct; table = r.table }
     chosen (Some rest) is h =
-        subst (TableTaken ts) (reads_is (empty, rest) x h) (record { rows = []; front = token.Open ∷ token.Close ∷ []; text = no_rows_are ts rest is; spelled = grammar.none; distinct = none_distinct; table = refl })
+        subst (TableTaken ts) (reads_is (empty, rest) x h) (record { rows = []; front = token.Open ∷ token.Close ∷ []; text = no_rows_are ts rest is; spelled = line_grammar.none; distinct = none_distinct; table = refl })
 
 -- a setup of this table ends there, and its printed line is within its limit
 abbrev Ended : Table → List Token → Type 0
@@ -145,7 +146,7 @@ setup_takes ts table e =
     let t = table_takes a.0 x.0 x.1 in
     let ended = end_takes x.0.0 x.0.1 end.0 end.1 in
     let made : IsSetup (token.Word word.Setup ∷ t.front ++ x.0.1) (table_of t.rows) =
-    grammar.setup t.spelled t.distinct ended.0 (subst (λ (u : Table). length (printed_setup u) ≤ 4000) t.table ended.1) in
+    line_grammar.setup t.spelled t.distinct ended.0 (subst (λ (u : Table). length (printed_setup u) ≤ 4000) t.table ended.1) in
     let text : token.Word word.Setup ∷ t.front ++ x.0.1 ≡ ts = sym (token_is _ ts a.0 a.1 ∙ under _ _ _ t.text) in
     let same : table_of t.rows ≡ table = sym t.table ∙ reads_is x.0.0 table end.2 in
     subst (λ (us : List Token). IsSetup us table) text (subst (IsSetup (token.Word word.Setup ∷ t.front ++ x.0.1)) same made)
@@ -158,8 +159,8 @@ setup_once {ts} {t} {u} h k = reads_is t u (sym (setup_again h) ∙ setup_again 
 
 -- a setup begins with its word
 pub setup_begins : {ts : List Token} {t : Table} → IsSetup ts t → (rest : List Token) × (ts ≡ token.Word word.Setup ∷ rest)
-setup_begins (grammar.setup {ts} {end} {rows} h all e short) = (ts ++ end, refl)
+setup_begins (line_grammar.setup {ts} {end} {rows} h all e short) = (ts ++ end, refl)
 
 -- the printed line of a setup is within its limit
 pub setup_short : {ts : List Token} {t : Table} → IsSetup ts t → length (printed_setup t) ≤ 4000
-setup_short (grammar.setup h all e short) = short
+setup_short (line_grammar.setup h all e short) = short

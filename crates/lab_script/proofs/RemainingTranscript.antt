@@ -4,7 +4,7 @@ use Rattle.std.specs.Prelude.{◌&&◌}
 use Rattle.lab_table.specs.Table.{Table}
 use Rattle.lab_table.specs.declared.statement.Statement.{Statement}
 use Rattle.lab_script.specs.declared.script.Line.{Line}
-use Rattle.lab_script.specs.declared.print.PrintFault.{PrintFault}
+use Rattle.lab_statement.specs.declared.print.PrintFault.{PrintFault}
 use Rattle.lab_script.specs.Transcript.{Transaction, statements_of, commits_of, inside_after, is_begin, transaction_of, transactions, body_text, committed, table_after, transaction_text, serial_text}
 use Rattle.lab_script.specs.TranscriptView.{TranscriptView, shown_of, shown, broken_with, first_broken}
 

@@ -8,16 +8,17 @@ use Rattle.std.proofs.lemmas.Bool.{and_parts}
 use Rattle.lab_table.specs.declared.statement.Command.{Command}
 use Rattle.lab_script.specs.declared.script.Line.{Line}
 use Rattle.lab_script.specs.declared.script.Script.{Script}
-use Rattle.lab_script.specs.declared.token.Word.TheVariants as word
-use Rattle.lab_script.specs.declared.token.Token.{Token}
-use Rattle.lab_script.specs.declared.token.Token.TheVariants as token
-use Rattle.lab_script.specs.Token.{gap, letters, whole, is_letter, is_blank, mark, tokens, tokens_from}
+use Rattle.lab_statement.specs.declared.token.Word.TheVariants as word
+use Rattle.lab_statement.specs.declared.token.Token.{Token}
+use Rattle.lab_statement.specs.declared.token.Token.TheVariants as token
+use Rattle.lab_statement.specs.Token.{gap, letters, whole, is_letter, is_blank, mark, tokens, tokens_from}
 use Rattle.lab_script.specs.Grammar.{IsCommands}
 use Rattle.lab_script.specs.Script as script
-use Rattle.lab_script.specs.Script.{code_of, remark_of, session_of, is_passed, IsFit, BeginsSetup, extended, LineSpells, LinesSpell}
+use Rattle.lab_statement.specs.Text.{code_of}
+use Rattle.lab_script.specs.Script.{is_passed, IsFit, BeginsSetup, extended, LineSpells, LinesSpell}
 use Rattle.lab_script.proofs.ReadCommands.{commands_once, not_empty}
 use Rattle.lab_script.proofs.ReadSetup.{setup_once, setup_begins}
-use Rattle.lab_script.proofs.TokenNumbers.{some_is}
+use Rattle.lab_statement.proofs.TokenNumbers.{some_is}
 
 -- blanks have no tokens
 pub no_tokens : (code : List ℕ) → list_all is_blank code ≡ true → tokens code ≡ []

@@ -4,19 +4,21 @@ use Rattle.std.proofs.lemmas.Bool.{le-leb}
 use Rattle.std.proofs.lemmas.List.{length-append}
 use Rattle.lab_table.specs.Row.{Row, row_cmp}
 use Rattle.lab_table.specs.Table.{Table}
-use Rattle.lab_script.specs.declared.token.Token.{Token}
-use Rattle.lab_script.specs.declared.token.Token.TheVariants as token
-use Rattle.lab_script.specs.Grammar.{IsId, IsRow, IsNamedRow, IsRows, IsRowList, IsEnd, IsSetup, AllDistinct}
-use Rattle.lab_script.specs.Grammar as grammar
+use Rattle.lab_statement.specs.declared.token.Token.{Token}
+use Rattle.lab_statement.specs.declared.token.Token.TheVariants as token
+use Rattle.lab_statement.specs.Grammar.{IsId, IsRow, IsEnd}
+use Rattle.lab_script.specs.Grammar.{IsNamedRow, IsRows, IsRowList, IsSetup, AllDistinct}
 use Rattle.lab_script.specs.Printed.{printed_setup}
-use Rattle.lab_script.specs.Reading.{after}
-use Rattle.lab_script.specs.Stopping.{Reads}
-use Rattle.lab_script.specs.FirstFaults.{row_onto_read, rows_onto_read, rows_read, no_rows_at, table_read, setup_end_read, setup_read}
-use Rattle.lab_script.proofs.ReadRows.{parts_of, named_row_again}
+use Rattle.lab_statement.specs.Reading.{after}
+use Rattle.lab_statement.specs.Stopping.{Reads}
+use Rattle.lab_script.specs.FirstFaults.{row_onto_read, rows_onto_read, rows_read, table_read, setup_end_read, setup_read}
+use Rattle.lab_statement.specs.FirstFaults.{no_rows_at}
+use Rattle.lab_statement.proofs.ReadRows.{parts_of}
+use Rattle.lab_script.proofs.ReadRows.{named_row_again}
 use Rattle.lab_script.proofs.DistinctRows.{not_before, is_absent, pushed_table, table_of}
-use Rattle.lab_script.proofs.AtomParts.{no_close}
-
--- Setups of the grammar are read as their table.
+use Rattle.lab_statement.proofs.AtomParts.{no_close}
+use Rattle.lab_statement.specs.Grammar as grammar
+use Rattle.lab_script.specs.Grammar as line_grammar
 
 -- what is in the grammar is read
 
@@ -32,9 +34,9 @@ rows_again : {ts : List Token} {rows : List (Row × ℤ)} → IsRows ts rows →
     → (k : ℕ) → length (ts ++ end) < k → rows_onto_read k (table_of before) (ts ++ end) ≡ Reads (table_of (before ++ rows), end)
 unfolding rows_onto_read
 rows_again h before all end none zero lt = absurd (omega (arith, lt))
-rows_again (grammar.last {ts} {row} {value} h) before all end none (suc k) lt =
+rows_again (line_grammar.last {ts} {row} {value} h) before all end none (suc k) lt =
     rw (rows_onto_read, row_onto_again h before (not_before before [] (row, value) all) end, none) refl
-rows_again (grammar.more {ts} {rest} {row} {value} {rows} h hs) before all end none (suc k) lt =
+rows_again (line_grammar.more {ts} {rest} {row} {value} {rows} h hs) before all end none (suc k) lt =
     let text : ts ++ token.Comma ∷ rest ++ end ≡ ts ++ (token.Comma ∷ (rest ++ end)) = append_assoc ts (token.Comma ∷ rest) end in
     let listed : before ++ (row, value) ∷ rows ≡ before ++ (row, value) ∷ [] ++ rows = sym (append_assoc before ((row, value) ∷ []) rows) in
     let long : length (ts ++ token.Comma ∷ rest ++ end) ≡ length ts + suc (length (rest ++ end)) = ap length text ∙ length-append ts (token.Comma ∷ (rest ++ end)) in
@@ -51,12 +53,12 @@ row_shown (grammar.row {is} {vs} i v) rest = rw (parts_of is vs rest) (id_no_clo
 
 named_row_shown : {ts : List Token} {row : Row} {value : ℤ} → IsNamedRow ts row value → (rest : List Token) → no_rows_at (ts ++ rest) ≡ None
 unfolding no_rows_at
-named_row_shown (grammar.unnamed h) rest = row_shown h rest
-named_row_shown (grammar.named table h) rest = refl
+named_row_shown (line_grammar.unnamed h) rest = row_shown h rest
+named_row_shown (line_grammar.named table h) rest = refl
 
 rows_shown : {ts : List Token} {rows : List (Row × ℤ)} → IsRows ts rows → (end : List Token) → no_rows_at (ts ++ end) ≡ None
-rows_shown (grammar.last h) end = named_row_shown h end
-rows_shown (grammar.more {ts} {rest} h hs) end = ap no_rows_at (append_assoc ts (token.Comma ∷ rest) end) ∙ named_row_shown h (token.Comma ∷ rest ++ end)
+rows_shown (line_grammar.last h) end = named_row_shown h end
+rows_shown (line_grammar.more {ts} {rest} h hs) end = ap no_rows_at (append_assoc ts (token.Comma ∷ rest) end) ∙ named_row_shown h (token.Comma ∷ rest ++ end)
 
 no_comma : (end : List Token) → IsEnd end → after token.Comma end ≡ None
 no_comma _ grammar.open_end = refl
@@ -65,8 +67,8 @@ no_comma _ grammar.semicolon = refl
 -- the rows of a setup are read as their table
 table_again : {ts : List Token} {rows : List (Row × ℤ)} → IsRowList ts rows → AllDistinct rows → (end : List Token) → IsEnd end → table_read (ts ++ end) ≡ Reads (table_of rows, end)
 unfolding table_read rows_read no_rows_at
-table_again grammar.none all end e = refl
-table_again (grammar.some {ts} {rows} h) all end e = rw (table_read, rows_shown h end) (rows_again h [] all end (no_comma end e) (suc (length (ts ++ end))) (omega arith))
+table_again line_grammar.none all end e = refl
+table_again (line_grammar.some {ts} {rows} h) all end e = rw (table_read, rows_shown h end) (rows_again h [] all end (no_comma end e) (suc (length (ts ++ end))) (omega arith))
 
 end_again : (table : Table) (end : List Token) → IsEnd end → length (printed_setup table) ≤ 4000 → setup_end_read table end ≡ Reads tt
 unfolding setup_end_read
@@ -76,4 +78,4 @@ end_again table _ grammar.semicolon short = rw (le-leb (length (printed_setup ta
 -- a setup of the grammar is read as its table
 pub setup_again : {ts : List Token} {table : Table} → IsSetup ts table → setup_read ts ≡ Reads table
 unfolding setup_read
-setup_again (grammar.setup {ts} {end} {rows} h all e short) = rw (table_again h all end e, end_again (table_of rows) end e short) refl
+setup_again (line_grammar.setup {ts} {end} {rows} h all e short) = rw (table_again h all end e, end_again (table_of rows) end e short) refl

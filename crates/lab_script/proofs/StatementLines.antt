@@ -10,7 +10,7 @@ use Rattle.lab_table.specs.declared.statement.StatementKind.{StatementKind}
 use Rattle.lab_table.specs.declared.statement.StatementKind.TheVariants.{Select, Update, Insert, Delete}
 use Rattle.lab_table.specs.declared.table.TableFault.{TableFault}
 use Rattle.lab_table.specs.declared.table.TableFault.TheVariants.{NoMemory, DuplicateKey, OutOfRange}
-use Rattle.lab_script.specs.Printed.{printed_statement, printed_row_name, newline, rows_or}
+use Rattle.lab_statement.specs.Printed.{printed_statement, printed_row_name, newline, rows_or}
 use Rattle.lab_script.specs.Transcript.{row_text, kind_refusal_text, refusal_text, answer_text, statement_text, table_with}
 use Rattle.lab_script.specs.TranscriptView.{fault_text}
 use Rattle.lab_table.proofs.Running.{fault_is_due}

@@ -1,12 +1,12 @@
 -- Statements of a line, read by a loop that may stop at a fault.
 use Rattle.std.proofs.Common.{◌≡◌, ℕ, zero, suc, ◌≤◌, ◌<◌, List, [], ◌∷◌, length, refl, sym, subst, ◌∙◌, arith}
 use Rattle.lab_table.specs.declared.statement.Command.{Command}
-use Rattle.lab_script.specs.declared.token.Token.{Token}
-use Rattle.lab_script.specs.declared.refusal.Refusal.{Refusal}
-use Rattle.lab_script.specs.Stopping.{Reading, Reads, StopsAt}
+use Rattle.lab_statement.specs.declared.token.Token.{Token}
+use Rattle.lab_statement.specs.declared.refusal.Refusal.{Refusal}
+use Rattle.lab_statement.specs.Stopping.{Reading, Reads, StopsAt}
 use Rattle.lab_script.specs.FirstFaults.{step_read, more_commands_read, commands_read}
 use Rattle.lab_script.proofs.ReadCommands.{step_fits, step_short}
-use Rattle.lab_script.proofs.Readings.{stops_as}
+use Rattle.lab_statement.proofs.Readings.{stops_as}
 
 -- the first statement
 pub steps_start : (room : ℕ) (none after : List Command) (ts rest : List Token) → none ≡ [] → step_read room none ts ≡ Reads (after, rest)

@@ -1,13 +1,13 @@
 -- Rows of a setup, read by a loop that may stop at a fault.
 use Rattle.std.proofs.Common.{◌≡◌, ℕ, zero, suc, ◌≤◌, ◌<◌, List, length, Some, None, refl, sym, ◌∙◌, arith}
 use Rattle.lab_table.specs.Table.{Table}
-use Rattle.lab_script.specs.declared.token.Token.{Token}
-use Rattle.lab_script.specs.declared.token.Token.TheVariants as token
-use Rattle.lab_script.specs.declared.refusal.Refusal.{Refusal}
-use Rattle.lab_script.specs.Reading.{after}
-use Rattle.lab_script.specs.Stopping.{Reading, Reads, StopsAt}
+use Rattle.lab_statement.specs.declared.token.Token.{Token}
+use Rattle.lab_statement.specs.declared.token.Token.TheVariants as token
+use Rattle.lab_statement.specs.declared.refusal.Refusal.{Refusal}
+use Rattle.lab_statement.specs.Reading.{after}
+use Rattle.lab_statement.specs.Stopping.{Reading, Reads, StopsAt}
 use Rattle.lab_script.specs.FirstFaults.{row_onto_read, rows_onto_read}
-use Rattle.lab_script.proofs.Readings.{stops_as}
+use Rattle.lab_statement.proofs.Readings.{stops_as}
 
 abbrev pub Read : Type 0
 Read = Reading (Table × List Token)

@@ -1,106 +1,42 @@
--- The first fault of a line's tokens from the left, and of a statement's.
-use Rattle.std.specs.Prelude.{◌≡◌, ℕ, zero, suc, ◌-◌, Bool, true, false, nat_le, nat_lt, ◌==◌, length, take, drop, if◌then◌else◌, List, [], ◌∷◌, ◌++◌, Option, Some, None, Result, Ok, Err}
+-- Reading the setup and the commands of a line from left to right, to the end or to the first fault.
+use Rattle.std.specs.Prelude.{ℕ, zero, suc, ℤ, nat_le, length, if◌then◌else◌, List, [], ◌∷◌, ◌++◌, Option, Some, None, ◌-◌, false, nat_lt, take, drop}
+use Rattle.lab_table.specs.Row.{Row, numbered}
+use Rattle.lab_table.specs.TableName.{test_name}
+use Rattle.lab_statement.specs.declared.token.Word.TheVariants as word
+use Rattle.lab_statement.specs.declared.token.Token.{Token}
+use Rattle.lab_statement.specs.declared.token.Token.TheVariants as token
+use Rattle.lab_statement.specs.declared.refusal.GrammarFault.{GrammarFault}
+use Rattle.lab_statement.specs.declared.refusal.GrammarFault.TheVariants.{UnknownStatement, TooLong, DuplicateSetupRow, TooManyTables}
+use Rattle.lab_statement.specs.Reading.{after}
 use Rattle.std.specs.FinMap as map
 use Rattle.std.specs.List.{prefix_len}
 use Rattle.lab_table.specs.Table.{Table}
 use Rattle.lab_table.specs.declared.statement.Command.{Command}
 use Rattle.lab_table.specs.declared.statement.Command.TheVariants as command
-use Rattle.lab_table.specs.declared.statement.Expr.{Expr}
-use Rattle.lab_table.specs.declared.statement.Expr.TheVariants as expr
-use Rattle.lab_table.specs.declared.statement.Statement.{Statement}
 use Rattle.lab_table.specs.declared.statement.StatementKind.TheVariants as kind
-use Rattle.lab_script.specs.declared.token.Word.TheVariants as word
-use Rattle.lab_script.specs.declared.token.Token.{Token}
-use Rattle.lab_script.specs.declared.token.Token.TheVariants as token
-use Rattle.lab_script.specs.declared.refusal.GrammarFault.{GrammarFault}
-use Rattle.lab_script.specs.declared.refusal.GrammarFault.TheVariants as grammar
-use Rattle.lab_script.specs.declared.refusal.GrammarFault.TheVariants.{UnknownStatement, TooLong, DuplicateSetupRow, TooManyTables}
-use Rattle.lab_script.specs.declared.refusal.Refusal.{Refusal}
-use Rattle.lab_script.specs.declared.refusal.Refusal.TheVariants as refusal
-use Rattle.lab_script.specs.Grammar.{over}
-use Rattle.lab_script.specs.Limits.{max_line_bytes, max_statement_bytes}
-use Rattle.lab_script.specs.Printed.{printed_setup, printed_statement}
-use Rattle.lab_script.specs.Reading.{is_token, after}
-use Rattle.lab_script.specs.Stopping.{Reading, Reads, Stops, ◌>>=◌, if_found, token_read, tokens_read, name_read, number_read, named_row_read, row_read, where_read}
+use Rattle.lab_statement.specs.Limits.{max_line_bytes}
+use Rattle.lab_script.specs.Printed.{printed_setup}
+use Rattle.lab_statement.specs.Stopping.{Reading, Reads, Stops, ◌>>=◌, if_found, token_read, tokens_read, row_read, name_in}
 use Rattle.lab_table.specs.TableSet.{are_few}
 use Rattle.lab_script.specs.Tables.{with_commands, setup_tables}
 use Rattle.lab_script.specs.PassedTables.{with_tokens, with_setup_tokens}
+use Rattle.lab_statement.specs.FirstFaults.{behind_tables, end_read, is_short, is_word, no_rows_at, nothing_read, placed_kind, statement_read}
 
--- the new value of an update
-unfoldable pub expr_read : List Token → Reading (Expr × List Token)
-expr_read ts = if_found (after (token.Word word.Value) ts) (λ rest. if_found (after token.Plus rest) (λ behind. do
-  n ← number_read behind
-  Reads (expr.Plus n.0, n.1)) (do
-    behind ← token_read token.Minus rest
-    n ← number_read behind
-    Reads (expr.Minus n.0, n.1))) (do
-      n ← number_read ts
-      Reads (expr.Set n.0, n.1))
+-- the table of a row of a setup, from the token that it begins with: a word names it, and without one it is `test`
+abbrev pub table_of : Token → List Token → Reading (List ℕ × List Token)
+table_of (token.Word w) ts = name_in w ts
+table_of t ts = Reads (test_name, t ∷ ts)
 
--- a select, from behind its first word on
-unfoldable pub select_read : List Token → Reading (Statement × List Token)
-select_read ts = do
-  rest ← tokens_read (token.Star ∷ token.Word word.From ∷ []) ts
-  table ← name_read rest
-  p ← where_read table.1
-  Reads (over table.0 (kind.Select p.0), p.1)
+unfoldable pub row_table_read : List Token → Reading (List ℕ × List Token)
+row_table_read [] = Reads (test_name, [])
+row_table_read (t ∷ ts) = table_of t ts
 
--- an update, from behind its first word on
-unfoldable pub update_read : List Token → Reading (Statement × List Token)
-update_read ts = do
-  table ← name_read ts
-  rest ← tokens_read (token.Word word.Set ∷ token.Word word.Value ∷ token.Equal ∷ []) table.1
-  e ← expr_read rest
-  p ← where_read e.1
-  Reads (over table.0 (kind.Update e.0 p.0), p.1)
-
--- an insert, from behind its first word on
-unfoldable pub insert_read : List Token → Reading (Statement × List Token)
-insert_read ts = do
-  rest ← token_read (token.Word word.Into) ts
-  table ← name_read rest
-  behind ← tokens_read (token.Open ∷ token.Word word.Id ∷ token.Comma ∷ token.Word word.Value ∷ token.Close ∷ token.Word word.Values ∷ []) table.1
-  r ← row_read behind
-  Reads (over table.0 (kind.Insert r.0.0 r.0.1), r.1)
-
--- a delete, from behind its first word on
-unfoldable pub delete_read : List Token → Reading (Statement × List Token)
-delete_read ts = do
-  rest ← token_read (token.Word word.From) ts
-  table ← name_read rest
-  p ← where_read table.1
-  Reads (over table.0 (kind.Delete p.0), p.1)
-
--- one of the four kinds of statement
-unfoldable pub statement_read : List Token → Reading (Statement × List Token)
-statement_read ts = if_found (after (token.Word word.Select) ts) select_read
-    (if_found (after (token.Word word.Update) ts) update_read
-    (if_found (after (token.Word word.Insert) ts) insert_read (do
-      rest ← token_read (token.Word word.Delete) ts
-      delete_read rest)))
-
--- the end of a statement: nothing is left, or a semicolon
-unfoldable pub end_read : List Token → Reading (List Token)
-end_read [] = Reads []
-end_read (t ∷ ts) = if is_token token.Semicolon t then Reads ts else Stops UnknownStatement (t ∷ ts)
-
--- nothing is left
-abbrev pub nothing_read : List Token → Reading (Unit {0})
-nothing_read ts = if length ts == 0 then Reads tt else Stops UnknownStatement ts
-
--- one statement and its end: one that is over its limit stops there, and what stands behind it doesn't matter
-unfoldable pub whole_statement_read : List Token → Reading Statement
-whole_statement_read ts = do
-  s ← statement_read ts
-  rest ← end_read s.1
-  if nat_le (length (printed_statement s.0)) max_statement_bytes then (do
-    end ← nothing_read rest
-    Reads s.0) else Stops TooLong rest
-
--- whether a token is a word
-abbrev pub is_word : Token → Bool
-is_word (token.Word w) = true
-is_word t = false
+-- a row of a setup with its value
+unfoldable pub named_row_read : List Token → Reading ((Row × ℤ) × List Token)
+named_row_read ts = do
+  table ← row_table_read ts
+  r ← row_read table.1
+  Reads ((numbered table.0 r.0.0, r.0.1), r.1)
 
 -- words, at least one
 unfoldable pub words_read : List Token → Reading (List Token)
@@ -124,11 +60,6 @@ command_read ts = if_found (after (token.Word word.Begin) ts) (λ rest. Reads (S
       Reads (None, behind)) (do
         s ← statement_read ts
         Reads (Some (command.Run s.0), s.1))))))
-
--- whether the printed form of a command is as short as it must be
-abbrev pub is_short : Option Command → Bool
-is_short (Some (command.Run s)) = nat_le (length (printed_statement s)) max_statement_bytes
-is_short c = true
 
 -- a statement of a line with its end, at which it stops where it is over its limit
 unfoldable pub terminated_read : List Token → Reading (Option Command × List Token)
@@ -180,10 +111,6 @@ rows_onto_read (suc k) table ts = do
 unfoldable pub rows_read : List Token → Reading (Table × List Token)
 rows_read ts = rows_onto_read (suc (length ts)) map.empty ts
 
--- the parentheses that stand for no row
-unfoldable pub no_rows_at : List Token → Option (List Token)
-no_rows_at ts = if_found (after token.Open ts) (λ rest. after token.Close rest) None
-
 -- no row, or rows
 unfoldable pub table_read : List Token → Reading (Table × List Token)
 table_read ts = if_found (no_rows_at ts) (λ rest. Reads (map.empty, rest)) (rows_read ts)
@@ -206,44 +133,9 @@ setup_read ts = do
   end ← setup_end_read x.0 x.1
   Reads x.0
 
--- whether tokens end behind a where with no semicolon since it, where what stands before them does so or not
-abbrev pub in_predicate : Bool → List Token → Bool
-in_predicate inside [] = inside
-in_predicate inside (t ∷ ts) = in_predicate (if is_token t (token.Word word.Where) then true else if is_token t token.Semicolon then false else inside) ts
-
--- the kind of a fault where so many of a line's tokens are left: behind a where of its statement an unknown one is a bad predicate
-abbrev pub placed_kind : List Token → GrammarFault → ℕ → GrammarFault
-placed_kind ts grammar.UnknownStatement left = if in_predicate false (take (length ts - left) ts) then grammar.BadPredicate else grammar.UnknownStatement
-placed_kind ts grammar.BadPredicate left = grammar.BadPredicate
-placed_kind ts grammar.BadTableName left = grammar.BadTableName
-placed_kind ts grammar.NumberOutOfRange left = grammar.NumberOutOfRange
-placed_kind ts grammar.TooDeep left = grammar.TooDeep
-placed_kind ts grammar.TooLong left = grammar.TooLong
-placed_kind ts grammar.DuplicateSetupRow left = grammar.DuplicateSetupRow
-placed_kind ts grammar.TooManyTables left = grammar.TooManyTables
-
--- the same of why reading stopped
-abbrev pub placed_refusal : List Token → Refusal → ℕ → Refusal
-placed_refusal ts refusal.NoMemory left = refusal.NoMemory
-placed_refusal ts (refusal.Fault kind) left = refusal.Fault (placed_kind ts kind left)
-
--- the fault that reading a line's tokens stops with, if it stops
-abbrev pub fault_in : {X : Type 0} → List Token → Reading X → Option GrammarFault
-fault_in ts (Reads x) = None
-fault_in ts (Stops kind left) = Some (placed_kind ts kind (length left))
-
 -- the tokens that were read before so many were left
 abbrev pub passed : List Token → ℕ → List Token
 passed ts left = take (length ts - left) ts
-
--- a fault behind these names of tables: where they are more than a script may have, the fifth came first
-abbrev pub behind_tables : List (List ℕ) → GrammarFault → GrammarFault
-behind_tables names kind = if are_few names then kind else TooManyTables
-
--- the same of why reading stopped
-abbrev pub refusal_behind : List (List ℕ) → Refusal → Refusal
-refusal_behind names refusal.NoMemory = refusal.NoMemory
-refusal_behind names (refusal.Fault kind) = refusal.Fault (behind_tables names kind)
 
 -- the fault of a line of commands, behind lines that name these tables: a fifth table, or that with which reading stops
 abbrev pub commands_fault_in : List (List ℕ) → List Token → Reading (List Command) → Option GrammarFault
@@ -262,17 +154,3 @@ commands_fault names room ts = commands_fault_in names ts (commands_read room ts
 -- the first fault of the tokens of a setup
 abbrev pub setup_fault : List Token → Option GrammarFault
 setup_fault ts = setup_fault_in ts (setup_read ts)
-
--- the first fault of the tokens of one statement
-abbrev pub statement_fault : List Token → Option GrammarFault
-statement_fault ts = fault_in ts (whole_statement_read ts)
-
--- reading stopped for this reason, or memory ran out
-abbrev pub StopsFirst : Option GrammarFault → Refusal → Type 0
-StopsFirst fault refusal.NoMemory = Unit {0}
-StopsFirst fault (refusal.Fault kind) = fault ≡ Some kind
-
--- what a function returned has this fault, if there is one, unless memory ran out
-abbrev pub HasFault : {X : Type 0} → Option GrammarFault → Result X Refusal → Type 0
-HasFault fault (Ok x) = fault ≡ None
-HasFault fault (Err e) = StopsFirst fault e

@@ -1,11 +1,11 @@
 -- The tables that are named among tokens which were read before reading stopped.
 use Rattle.std.specs.Prelude.{ℕ, Bool, true, false, not, ◌&&◌, if◌then◌else◌, List, [], ◌∷◌, Option, Some, None, is_some}
 use Rattle.lab_table.specs.TableName.{test_name}
-use Rattle.lab_script.specs.declared.token.Word.{Word}
-use Rattle.lab_script.specs.declared.token.Word.TheVariants as word
-use Rattle.lab_script.specs.declared.token.Token.{Token}
-use Rattle.lab_script.specs.declared.token.Token.TheVariants as token
-use Rattle.lab_script.specs.Reading.{is_token}
+use Rattle.lab_statement.specs.declared.token.Word.{Word}
+use Rattle.lab_statement.specs.declared.token.Word.TheVariants as word
+use Rattle.lab_statement.specs.declared.token.Token.{Token}
+use Rattle.lab_statement.specs.declared.token.Token.TheVariants as token
+use Rattle.lab_statement.specs.Reading.{is_token}
 use Rattle.lab_table.specs.TableSet.{with_name}
 
 -- the name of a table that a word is, if it is one

@@ -1,43 +1,24 @@
--- Which text spells which script, and which one spells a statement.
-use Rattle.std.specs.Prelude.{◌≡◌, ℕ, ℤ, ◌+◌, ◌-◌, ◌≤◌, ◌<◌, Bool, true, false, not, ◌&&◌, ◌||◌, ◌==◌, nat_le, if◌then◌else◌, List, [], ◌∷◌, ◌++◌, length, drop, map, Option, Some, None}
+-- Which text spells which script.
+use Rattle.std.specs.Prelude.{◌≡◌, ℕ, ℤ, ◌+◌, ◌-◌, ◌≤◌, ◌<◌, Bool, true, not, ◌&&◌, ◌||◌, ◌==◌, nat_le, if◌then◌else◌, List, [], ◌∷◌, ◌++◌, length, map, Option, Some, None}
 use Rattle.std.specs.Char.{to_ascii_lowercase, is_ascii_alphanumeric}
 use Rattle.std.specs.FinMap as finite
 use Rattle.std.specs.List.{list_all}
 use Rattle.std.specs.Str.Lines.{lines}
-use Rattle.lab_table.specs.declared.statement.Statement.{Statement}
 use Rattle.lab_table.specs.declared.statement.Command.{Command}
 use Rattle.lab_table.specs.Row.{Row}
 use Rattle.lab_table.specs.Table.{Table}
 use Rattle.lab_script.specs.declared.script.Script.{Script}
-use Rattle.lab_script.specs.declared.token.Word.TheVariants as word
-use Rattle.lab_script.specs.declared.token.Token.{Token}
-use Rattle.lab_script.specs.declared.token.Token.TheVariants as token
-use Rattle.lab_script.specs.Token.{is_blank, tokens}
-use Rattle.lab_script.specs.Grammar.{IsCommands, IsSetup, IsStatement, IsEnd, IsRowList, AllDistinct}
-use Rattle.lab_script.specs.Printed.{printed_statement, printed_setup}
+use Rattle.lab_statement.specs.declared.token.Word.TheVariants as word
+use Rattle.lab_statement.specs.declared.token.Token.{Token}
+use Rattle.lab_statement.specs.declared.token.Token.TheVariants as token
+use Rattle.lab_statement.specs.Token.{is_blank, tokens}
+use Rattle.lab_script.specs.Grammar.{IsCommands, IsSetup, IsRowList, AllDistinct}
+use Rattle.lab_script.specs.Printed.{printed_setup}
 use Rattle.lab_table.specs.TableSet.{max_tables}
 use Rattle.lab_script.specs.Tables.{with_commands, setup_tables, script_tables}
-use Rattle.lab_script.specs.Limits.{max_lines, max_line_bytes, max_commands, max_statement_bytes}
-
--- whether a remark begins here
-abbrev pub begins_remark : List ℕ → Bool
-begins_remark [] = false
-begins_remark (a ∷ []) = false
-begins_remark (a ∷ b ∷ bytes) = a == 45 && b == 45
-
--- the code of a line: what stands before its first two dashes
-abbrev pub code_of : List ℕ → List ℕ
-code_of [] = []
-code_of (b ∷ bytes) = if begins_remark (b ∷ bytes) then [] else b ∷ code_of bytes
-
--- the remark of a line: what stands behind its first two dashes
-abbrev pub remark_of : List ℕ → List ℕ
-remark_of [] = []
-remark_of (b ∷ bytes) = if begins_remark (b ∷ bytes) then drop 1 bytes else remark_of bytes
-
--- a tab or a byte that is printed
-abbrev pub is_code_byte : ℕ → Bool
-is_code_byte b = b == 9 || (nat_le 32 b && nat_le b 126)
+use Rattle.lab_script.specs.Limits.{max_lines, max_commands}
+use Rattle.lab_statement.specs.Limits.{max_line_bytes}
+use Rattle.lab_statement.specs.Text.{code_of, is_code_byte, remark_of}
 
 -- whether a word ends here
 abbrev pub ends_word : List ℕ → Bool
@@ -89,10 +70,6 @@ pub data LineSpells (number : ℕ) (line : List ℕ) : Option Script → Option 
 abbrev pub BeginsSetup : List Token → Type 0
 BeginsSetup ts = (rest : List Token) × (ts ≡ token.Word word.Setup ∷ rest)
 
--- whether a where stands among tokens
-abbrev pub HasWhere : List Token → Type 0
-HasWhere ts = (front rest : List Token) × (ts ≡ front ++ token.Word word.Where ∷ rest)
-
 -- tokens that begin with a setup whose printed line is over its limit
 pub record BeginsLongSetup (ts : List Token) : Type 0 where
   pub rows : List (Row × ℤ)
@@ -102,15 +79,6 @@ pub record BeginsLongSetup (ts : List Token) : Type 0 where
   pub spelled : IsRowList front rows
   pub distinct : AllDistinct rows
   pub long : max_line_bytes < length (printed_setup (finite.from_entries rows))
-
--- tokens that begin with a statement whose printed form is over its limit
-pub record BeginsLongStatement (ts : List Token) : Type 0 where
-  pub statement : Statement
-  pub front : List Token
-  pub behind : List Token
-  pub whole : ts ≡ front ++ behind
-  pub spelled : IsStatement front statement
-  pub long : max_statement_bytes < length (printed_statement statement)
 
 -- what the commands of a line's tokens, of the session in its remark, make of a script
 abbrev pub AddsCommands : ℕ → List Token → List ℕ → Script → Script → Type 0
@@ -126,11 +94,3 @@ LinesSpell number before (line ∷ ls) after = (mid : Option Script) × LineSpel
 -- the text spells the script
 abbrev pub Spells : List ℕ → Script → Type 0
 Spells text script = LinesSpell 1 None (lines text) (Some script)
-
--- the text spells the statement: all of it is code
-pub record SpellsStatement (text : List ℕ) (s : Statement) : Type 0 where
-  pub bytes : length text ≤ max_line_bytes
-  pub ascii : list_all is_code_byte text ≡ true
-  pub no_remark : code_of text ≡ text
-  pub parts : (ts end : _) × (tokens text ≡ ts ++ end) × IsStatement ts s × IsEnd end
-  pub printed : length (printed_statement s) ≤ max_statement_bytes

@@ -1,108 +1,106 @@
 //! The commands of a line, read from tokens.
 
-ghost use Rattle.std.specs.Prelude.{◌≡◌, ◌≤◌, true, false, List, length, OnOk, IfErr};
+ghost use Rattle.std.specs.Prelude.{◌≡◌, ◌≤◌, true, false, List, length, OnOk, IfErr, ◌<◌, Some, None, IfOk};
 ghost use Rattle.std.specs.List.{prefix_len};
-ghost use Rattle.lab_script.specs.declared.refusal.GrammarFault.TheVariants.{TooLong};
-ghost use Rattle.lab_script.specs.declared.token.Token.{Token as Shown};
-ghost use Rattle.lab_script.specs.Stopping.{Comes};
-ghost use Rattle.lab_script.specs.FirstFaults.{is_word, is_short, command_read, commands_read, level_read, one_added, step_read, terminated_read, words_read};
+ghost use Rattle.lab_statement.specs.declared.refusal.GrammarFault.TheVariants.{TooLong, TooManyTables};
+ghost use Rattle.lab_statement.specs.declared.token.Token.{Token as Shown};
+ghost use Rattle.lab_statement.specs.Stopping.{Comes};
+ghost use Rattle.lab_statement.specs.FirstFaults.{is_word, is_short, HasFault, refusal_behind};
+ghost use Rattle.lab_script.specs.FirstFaults.{command_read, commands_read, level_read, one_added, step_read, terminated_read, words_read, commands_fault, passed};
+ghost use Rattle.lab_script.specs.Grammar.{IsCommands};
+ghost use Rattle.lab_table.specs.TableSet.{max_tables};
+ghost use Rattle.lab_script.specs.Tables.{with_commands};
+ghost use Rattle.lab_script.specs.PassedTables.{with_tokens};
 
-use crate::parser::Parser;
-use crate::refusal::{GrammarFault, Refusal};
-use crate::statement::check_length;
-use crate::token::{Token, Word};
-use lab_table::Command;
+use crate::tables::{add_commands, add_tokens};
+use lab_statement::{GrammarFault, Parser, Refusal, Token, Word, check_length, placed};
+use lab_table::{Command, TableSet};
 use std::alloc::Global;
 
-impl Parser<'_> {
-    /// The commands of all statements of a line, of which there is room for so many.
-    #[tactic(auto, unfolding(crate::specs::FirstFaults::commands_read))]
-    pub fn commands(&mut self, alloc: Global, room: usize) -> Result<Vec<Command>, Refusal>
-        ensures { Comes (λ x. x.items) result self.new (commands_read room self.old) }
-    {
-        let mut commands = Vec::new(alloc);
-        self.step(alloc, room, &mut commands)?;
-        while !self.is_done() {
-            self.step(alloc, room, &mut commands)?;
-        }
-        Ok(commands)
+/// The commands of all statements of a line, of which there is room for so many.
+#[tactic(auto, unfolding(crate::specs::FirstFaults::commands_read))]
+pub fn commands(alloc: Global, parser: &mut Parser, room: usize) -> Result<Vec<Command>, Refusal>
+    ensures { Comes (λ x. x.items) result parser.new (commands_read room parser.old) }
+{
+    let mut commands = Vec::new(alloc);
+    step(alloc, parser, room, &mut commands)?;
+    while !parser.is_done() {
+        step(alloc, parser, room, &mut commands)?;
     }
+    Ok(commands)
+}
 
-    /// Reads a statement with its end, and adds its command.
-    #[tactic(auto, unfolding(crate::specs::FirstFaults::step_read))]
-    fn step(
-        &mut self,
-        alloc: Global,
-        room: usize,
-        commands: &mut Vec<Command>,
-    ) -> Result<(), Refusal>
-        ensures { Comes (λ x. (commands.new.items, self.new)) result self.new (step_read room commands.old.items self.old) }
-    {
-        let command = self.terminated(alloc)?;
-        add(commands, room, command)
+/// Reads a statement with its end, and adds its command.
+#[tactic(auto, unfolding(crate::specs::FirstFaults::step_read))]
+fn step(alloc: Global, parser: &mut Parser, room: usize, commands: &mut Vec<Command>) -> Result<(), Refusal>
+    ensures { Comes (λ x. (commands.new.items, parser.new)) result parser.new (step_read room commands.old.items parser.old) }
+{
+    let command = terminated(alloc, parser)?;
+    add(commands, room, command)
+}
+
+/// A statement with its end, and its command if it gives one.
+#[tactic(auto, unfolding(crate::specs::FirstFaults::terminated_read))]
+fn terminated(alloc: Global, parser: &mut Parser) -> Result<Option<Command>, Refusal>
+    ensures { Comes (λ x. (x, parser.new)) result parser.new (terminated_read parser.old) }
+{
+    let command = command(alloc, parser)?;
+    parser.ended()?;
+    match check_short(&command) {
+        Ok(()) => Ok(command),
+        Err(refusal) => Err(refusal),
     }
+}
 
-    /// A statement with its end, and its command if it gives one.
-    #[tactic(auto, unfolding(crate::specs::FirstFaults::terminated_read))]
-    fn terminated(&mut self, alloc: Global) -> Result<Option<Command>, Refusal>
-        ensures { Comes (λ x. (x, self.new)) result self.new (terminated_read self.old) }
-    {
-        let command = self.command(alloc)?;
-        self.ended()?;
-        check_short(&command)?;
-        Ok(command)
+/// A statement, and its command if it gives one.
+#[tactic(auto, unfolding(crate::specs::FirstFaults::command_read))]
+fn command(alloc: Global, parser: &mut Parser) -> Result<Option<Command>, Refusal>
+    ensures { Comes (λ x. (x, parser.new)) result parser.new (command_read parser.old) }
+{
+    if parser.took(Token::Word(Word::Begin)) {
+        Ok(Some(Command::Begin))
+    } else if parser.took(Token::Word(Word::Commit)) {
+        Ok(Some(Command::Commit))
+    } else if parser.took(Token::Word(Word::Abort)) {
+        Ok(Some(Command::Abort))
+    } else if parser.took(Token::Word(Word::Rollback)) {
+        Ok(Some(Command::Abort))
+    } else if parser.took(Token::Word(Word::Set)) {
+        level(parser)?;
+        Ok(None)
+    } else {
+        let statement = parser.statement(alloc)?;
+        Ok(Some(Command::Run(statement)))
     }
+}
 
-    /// A statement, and its command if it gives one.
-    #[tactic(auto, unfolding(crate::specs::FirstFaults::command_read))]
-    fn command(&mut self, alloc: Global) -> Result<Option<Command>, Refusal>
-        ensures { Comes (λ x. (x, self.new)) result self.new (command_read self.old) }
-    {
-        if self.took(Token::Word(Word::Begin)) {
-            Ok(Some(Command::Begin))
-        } else if self.took(Token::Word(Word::Commit)) {
-            Ok(Some(Command::Commit))
-        } else if self.took(Token::Word(Word::Abort)) {
-            Ok(Some(Command::Abort))
-        } else if self.took(Token::Word(Word::Rollback)) {
-            Ok(Some(Command::Abort))
-        } else if self.took(Token::Word(Word::Set)) {
-            self.level()?;
-            Ok(None)
-        } else {
-            let statement = self.statement(alloc)?;
-            Ok(Some(Command::Run(statement)))
-        }
-    }
+/// The words that set a level, from behind the first on.
+#[tactic(auto, unfolding(crate::specs::FirstFaults::level_read))]
+fn level(parser: &mut Parser) -> Result<(), Refusal>
+    ensures { Comes (λ x. parser.new) result parser.new (level_read parser.old) }
+{
+    parser.expect_all(&[
+        Token::Word(Word::Transaction),
+        Token::Word(Word::Isolation),
+        Token::Word(Word::Level),
+    ])?;
+    words(parser)
+}
 
-    /// The words that set a level, from behind the first on.
-    #[tactic(auto, unfolding(crate::specs::FirstFaults::level_read))]
-    fn level(&mut self) -> Result<(), Refusal>
-        ensures { Comes (λ x. self.new) result self.new (level_read self.old) }
-    {
-        self.expect_all(&[
-            Token::Word(Word::Transaction),
-            Token::Word(Word::Isolation),
-            Token::Word(Word::Level),
-        ])?;
-        self.words()
-    }
-
-    /// Words, at least one.
-    #[tactic(auto, unfolding(crate::specs::FirstFaults::words_read))]
-    fn words(&mut self) -> Result<(), Refusal>
-        ensures { Comes (λ x. self.new) result self.new (words_read self.old) }
-    {
-        match self.rest.split_first() {
-            None => Err(Refusal::Fault(GrammarFault::UnknownStatement)),
-            Some((first, rest)) => {
-                if !is_word(*first) {
-                    return Err(Refusal::Fault(GrammarFault::UnknownStatement));
-                }
-                let (_, behind) = rest.split_at(words_len(rest));
-                self.rest = behind;
-                Ok(())
+/// Words, at least one.
+#[tactic(auto, unfolding(crate::specs::FirstFaults::words_read))]
+fn words(parser: &mut Parser) -> Result<(), Refusal>
+    ensures { Comes (λ x. parser.new) result parser.new (words_read parser.old) }
+{
+    match parser.tokens().split_first() {
+        None => Err(Refusal::Fault(GrammarFault::UnknownStatement)),
+        Some((first, rest)) => {
+            if !is_word(*first) {
+                return Err(Refusal::Fault(GrammarFault::UnknownStatement));
             }
+            let (_, behind) = rest.split_at(words_len(rest));
+            *parser = Parser::new(behind);
+            Ok(())
         }
     }
 }
@@ -147,4 +145,69 @@ fn add(commands: &mut Vec<Command>, room: usize, command: Option<Command>) -> Re
     }
     commands.push(command)?;
     Ok(())
+}
+
+/// The commands of a line, of which there is room for so many, behind lines that name these tables. The tables of the
+/// commands come to them; a fifth comes before whatever is wrong behind it.
+/// NoMemory may come in place of any other answer.
+pub fn read_commands(
+    alloc: Global,
+    tokens: &[Token],
+    room: usize,
+    tables: &mut TableSet,
+) -> Result<Vec<Command>, Refusal>
+    // What is read is in the grammar.
+    ensures found { IfOk result (λ commands. IsCommands tokens.now commands.items) }
+    ensures within { IfOk result (λ commands. length commands.items ≤ room) }
+    ensures tables { IfOk result (λ commands. tables.new.names ≡ with_commands tables.old.names commands.items) }
+    // Of the faults from the left it is the first.
+    ensures first { HasFault (commands_fault tables.old.names room tokens.now) result }
+{
+    let mut parser = Parser { rest: tokens };
+    match commands(alloc, &mut parser, room) {
+        Ok(commands) => with_few_tables(commands, tables),
+        Err(refusal) => {
+            let left = parser.left();
+            Err(behind_tables(
+                tables,
+                placed(refusal, tokens, left),
+                read_before(tokens, left),
+            ))
+        }
+    }
+}
+
+/// Commands that were read, where their tables and those before are few.
+fn with_few_tables(commands: Vec<Command>, tables: &mut TableSet) -> Result<Vec<Command>, Refusal>
+    ensures same { IfOk result (λ x. x.items ≡ commands.items) }
+    ensures tables { IfOk result (λ x. tables.new.names ≡ with_commands tables.old.names x.items) }
+    ensures few { OnOk result (length (with_commands tables.old.names commands.items) ≤ max_tables) }
+    ensures many { IfErr result (λ e. (e ≡ Refusal.Fault TooManyTables) × (max_tables < length (with_commands tables.old.names commands.items))) }
+{
+    if !add_commands(tables, &commands) {
+        return Err(Refusal::Fault(GrammarFault::TooManyTables));
+    }
+    Ok(commands)
+}
+
+/// The tokens that were read before so many were left.
+pub fn read_before(tokens: &[Token], left: usize) -> &[Token]
+    ensures { result.now ≡ passed tokens.now left }
+{
+    &tokens[..tokens.len().saturating_sub(left)]
+}
+
+/// Why reading a line's tokens stopped, of which these were read: a fifth table among them came first.
+fn behind_tables(tables: &mut TableSet, refusal: Refusal, read: &[Token]) -> Refusal
+    ensures { result ≡ refusal_behind (with_tokens false tables.old.names read.now) refusal }
+{
+    match refusal {
+        Refusal::NoMemory => Refusal::NoMemory,
+        Refusal::Fault(kind) => {
+            if !add_tokens(tables, read) {
+                return Refusal::Fault(GrammarFault::TooManyTables);
+            }
+            Refusal::Fault(kind)
+        }
+    }
 }

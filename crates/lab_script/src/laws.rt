@@ -1,31 +1,23 @@
 //! Laws of the texts. The functions have nothing to do: their contracts are the laws.
 
-ghost use Rattle.std.specs.Prelude.{◌≡◌, ◌≢◌, ◌≤◌, ◌<◌, ◌↔◌, ℕ, List, length, take, Some, None, IsTrue, true};
-ghost use Rattle.lab_table.specs.TableName.{is_table_name};
-ghost use Rattle.lab_table.specs.Words.{is_reserved};
+ghost use Rattle.std.specs.Prelude.{◌≡◌, ◌≤◌, ◌<◌, ◌↔◌, ℕ, List, length, take, None};
 ghost use Rattle.lab_table.specs.Table.{Table};
 ghost use Rattle.lab_table.specs.declared.statement.Command.{Command};
 ghost use Rattle.lab_table.specs.declared.statement.Statement.{Statement};
-ghost use Rattle.lab_script.specs.declared.fault.ScriptFault.{ScriptFault};
-ghost use Rattle.lab_script.specs.declared.fault.ScriptFaultKind.{ScriptFaultKind};
+ghost use Rattle.lab_statement.specs.declared.fault.ScriptFault.{ScriptFault};
+ghost use Rattle.lab_statement.specs.declared.fault.ScriptFaultKind.{ScriptFaultKind};
 ghost use Rattle.lab_script.specs.declared.script.Script.{Script};
-ghost use Rattle.lab_script.specs.declared.token.Token.{Token};
-ghost use Rattle.lab_script.specs.Fault.{IsFaultOf, IsFirstInText, IsStatementFault};
-ghost use Rattle.lab_script.specs.FirstFaults.{commands_fault, setup_fault, statement_fault};
-ghost use Rattle.lab_script.specs.Grammar.{IsCommands, IsSetup, IsWholeStatement};
+ghost use Rattle.lab_statement.specs.declared.token.Token.{Token};
+ghost use Rattle.lab_script.specs.Fault.{IsFaultOf};
+ghost use Rattle.lab_statement.specs.Fault.{IsFirstInText, IsStatementFault};
+ghost use Rattle.lab_script.specs.FirstFaults.{commands_fault, setup_fault};
+ghost use Rattle.lab_statement.specs.FirstFaults.{statement_fault};
+ghost use Rattle.lab_script.specs.Grammar.{IsCommands, IsSetup};
+ghost use Rattle.lab_statement.specs.Grammar.{IsWholeStatement};
 ghost use Rattle.lab_script.specs.Limits.{max_script_bytes};
-ghost use Rattle.lab_script.specs.Script.{Spells, SpellsStatement};
+ghost use Rattle.lab_script.specs.Script.{Spells};
 ghost use Rattle.lab_table.specs.TableSet.{max_tables};
 ghost use Rattle.lab_script.specs.Tables.{with_commands, setup_tables};
-ghost use Rattle.lab_script.specs.Token.{word_named};
-ghost use Rattle.lab_script.specs.declared.token.Word.TheVariants as words;
-ghost use Rattle.lab_script.specs.StatementText.{statement_in};
-
-/// The statement that is read from a text is the one that the text spells by the grammar;
-/// from a text that spells no statement none is read.
-pub fn statement_is_read_from_its_text()
-    ensures { (text : List ℕ) (s : Statement) → (statement_in text ≡ Some s) ↔ SpellsStatement text s }
-{}
 
 /// What a text spells, and its fault, is told by its first bytes, where these are more than 8,388,608: a script has at most
 /// 2,000 lines of at most 4,000 bytes, so a longer text has its first fault there.
@@ -33,12 +25,6 @@ pub fn first_bytes_tell_a_script()
     ensures short { (text : List ℕ) (script : Script) → Spells text script → length text ≤ max_script_bytes }
     ensures spelled { (text : List ℕ) (n : ℕ) (script : Script) → max_script_bytes < n → Spells (take n text) script → Spells text script }
     ensures fault { (text : List ℕ) (n : ℕ) (fault : ScriptFault) → max_script_bytes < n → IsFaultOf (take n text) fault → IsFaultOf text fault }
-{}
-
-/// A text in lower case is a word of the grammar exactly where it is reserved, and a name where it is a table's.
-pub fn words_are_reserved()
-    ensures word { (text : List ℕ) → IsTrue (is_reserved text) ↔ ((word_named text ≢ words.Other) × ((name : List ℕ) → word_named text ≢ words.Name name)) }
-    ensures name { (text name : List ℕ) → (word_named text ≡ words.Name name) ↔ ((name ≡ text) × (is_table_name text ≡ true)) }
 {}
 
 /// A text has one fault at most: two of which each is true of it, as the contract of [`parse_script`](crate::parse_script)

@@ -1,16 +1,7 @@
-//! The limits of a text.
+//! The limits of a script's text.
 
 /// The most lines of a text.
 pub const MAX_LINES: u32 = 2_000;
 
-/// The most bytes of a line, without what ends it.
-pub const MAX_LINE_BYTES: usize = 4_000;
-
 /// The most commands of a script: printed, each has a line of its own behind that of the setup.
 pub const MAX_COMMANDS: usize = 1_999;
-
-/// The most bytes of a statement's printed form.
-pub const MAX_STATEMENT_BYTES: usize = 1_000;
-
-/// The most parentheses and `not`s that are open at one place of a predicate.
-pub const MAX_DEPTH: u8 = 16;

@@ -1,43 +1,12 @@
-//! A line of a script's text: its code, its remark, and the session that the remark names.
+//! A line of a script's text: whether it is blank, and the session that its remark names.
 
 ghost use Rattle.std.specs.Prelude.{◌≡◌};
 ghost use Rattle.std.specs.List.{list_all};
-ghost use Rattle.lab_script.specs.Token.{is_blank};
-ghost use Rattle.lab_script.specs.Script.{code_of, remark_of, is_code_byte, ends_word, session_digit, session_of};
+ghost use Rattle.lab_statement.specs.Token.{is_blank};
+ghost use Rattle.lab_script.specs.Script.{ends_word, session_digit, session_of};
 
-use crate::token::{blanks_len, is_blank};
-use bstr::ByteSlice;
+use lab_statement::{blanks_len, is_blank};
 use lab_table::Session;
-
-/// The code, and the remark behind the first two dashes; no bytes where there is no remark.
-pub fn code_and_remark(line: &[u8]) -> (&[u8], &[u8])
-    ensures code { result.0.now ≡ code_of line.now }
-    ensures remark { result.1.now ≡ remark_of line.now }
-{
-    match line.find(b"--") {
-        None => (line, &[]),
-        Some(place) => (&line[..place], &line[place + 2..]),
-    }
-}
-
-/// A tab or a byte that is printed.
-fn is_code_byte(byte: u8) -> bool
-    ensures { result ≡ is_code_byte byte }
-{
-    byte == b'\t' || (b' ' <= byte && byte <= b'~')
-}
-
-/// Whether all bytes are tabs or printed ones.
-pub fn is_ascii_code(code: &[u8]) -> bool
-    ensures { result ≡ list_all is_code_byte code.now }
-{
-    // Without an end at the first that isn't, many bytes are looked at side by side.
-    let mut all = true;
-    for byte in code {
-        all &= is_code_byte(*byte);
-    }
-    all
-}
 
 /// Whether all bytes are spaces and tabs.
 pub fn is_blank_code(code: &[u8]) -> bool

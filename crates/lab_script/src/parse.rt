@@ -10,14 +10,13 @@ ghost use Rattle.lab_script.specs.Limits.{max_commands, ScriptPrints};
 ghost use Rattle.lab_table.specs.TableSet.{max_tables};
 ghost use Rattle.lab_script.specs.Tables.{setup_tables, script_tables, tables_so_far};
 
-use crate::fault::{ScriptFault, ScriptFaultKind};
-use crate::limits::{MAX_COMMANDS, MAX_LINE_BYTES, MAX_LINES};
-use crate::line::{code_and_remark, is_ascii_code, is_blank_code, session_of};
-use crate::parser::read_commands;
+use crate::command::read_commands;
+use crate::limits::{MAX_COMMANDS, MAX_LINES};
+use crate::line::{is_blank_code, session_of};
 use crate::script::{Lines, Script};
 use crate::setup::read_setup;
-use crate::token::{Token, Word, tokens_into};
 use bstr::ByteSlice;
+use lab_statement::{MAX_LINE_BYTES, ScriptFault, ScriptFaultKind, Token, Word, code_and_remark, is_ascii_code, tokens_into};
 use lab_table::TableSet;
 use std::alloc::Global;
 

@@ -1,102 +1,126 @@
 //! The setup, read from tokens.
 
-ghost use Rattle.std.specs.Prelude.{◌≡◌, ◌≤◌, ◌<◌, [], false, length, Some, None, IfOk, OnOk, MatchBool, IfErr};
+ghost use Rattle.std.specs.Prelude.{◌≤◌, length, ◌≡◌, ◌<◌, [], false, Some, None, IfOk, OnOk, MatchBool, IfErr};
+ghost use Rattle.lab_statement.specs.Stopping.{Comes};
+ghost use Rattle.lab_script.specs.FirstFaults.{named_row_read, row_table_read, row_onto_read, rows_read, setup_end_read, setup_fault, setup_read, table_read};
 ghost use Rattle.lab_script.specs.Grammar.{IsSetup};
-ghost use Rattle.lab_script.specs.Stopping.{Comes};
-ghost use Rattle.lab_script.specs.FirstFaults.{no_rows_at, HasFault, refusal_behind, row_onto_read, rows_read, setup_end_read, setup_fault, setup_read, table_read};
+ghost use Rattle.lab_statement.specs.FirstFaults.{no_rows_at, HasFault, refusal_behind};
 ghost use Rattle.lab_table.specs.TableSet.{max_tables};
 ghost use Rattle.lab_script.specs.Tables.{setup_tables, with_setup};
 ghost use Rattle.lab_script.specs.PassedTables.{with_setup_tokens};
-ghost use Rattle.lab_script.specs.declared.refusal.GrammarFault.TheVariants.{TooManyTables};
+ghost use Rattle.lab_statement.specs.declared.refusal.GrammarFault.TheVariants.{TooManyTables};
 
+use crate::command::read_before;
 use crate::fits::setup_fits;
-use crate::parser::{Parser, read_before};
-use crate::refusal::{GrammarFault, Refusal};
 use crate::tables::{add_rows, add_setup_tokens};
-use crate::token::{Token, Word};
-use lab_table::{Table, TableSet};
+use lab_statement::{GrammarFault, Parser, Refusal, Token, Word};
+use lab_table::{RowName, Table, TableName, TableSet, Value};
 use std::alloc::Global;
 
-impl Parser<'_> {
-    /// Adds a row to the table; DuplicateSetupRow where it is present.
-    #[tactic(auto, unfolding(crate::specs::FirstFaults::row_onto_read))]
-    fn row_onto(&mut self, alloc: Global, table: &mut Table) -> Result<(), Refusal>
-        ensures reads { Comes (λ x. (table.new, self.new)) result self.new (row_onto_read table.old self.old) }
-        ensures shorter { length self.new ≤ length self.old }
-    {
-        let row = self.named_row()?;
-        if table.add(alloc, row.0, row.1)? {
-            Ok(())
-        } else {
-            Err(Refusal::Fault(GrammarFault::DuplicateSetupRow))
-        }
+/// The table of a row of a setup: the name before the row, or `test` where no word stands there.
+#[tactic(auto, unfolding(crate::specs::FirstFaults::row_table_read, lab_statement::specs::Stopping::name_read))]
+fn row_table(parser: &mut Parser) -> Result<TableName, Refusal>
+    ensures reads { Comes (λ x. (x, parser.new)) result parser.new (row_table_read parser.old) }
+    ensures shorter { length parser.new ≤ length parser.old }
+{
+    match parser.tokens().split_first() {
+        None => Ok(TableName::test()),
+        Some((first, _)) => match first {
+            Token::Word(_) => parser.name(),
+            _ => Ok(TableName::test()),
+        },
     }
+}
 
-    /// The table of one row or more.
-    fn rows(&mut self, alloc: Global) -> Result<Table, Refusal>
-        ensures { Comes (λ x. (x, self.new)) result self.new (rows_read self.old) }
-    {
-        let mut table = Table::new(alloc);
-        loop {
-            self.row_onto(alloc, &mut table)?;
-            if !self.took(Token::Comma) {
-                return Ok(table);
-            }
-        }
-    }
+/// A row of a setup with its value.
+#[tactic(auto, unfolding(crate::specs::FirstFaults::named_row_read))]
+pub fn named_row(parser: &mut Parser) -> Result<(RowName, Value), Refusal>
+    ensures reads { Comes (λ x. (x, parser.new)) result parser.new (named_row_read parser.old) }
+    ensures shorter { length parser.new ≤ length parser.old }
+{
+    let table = row_table(parser)?;
+    let (id, value) = parser.row()?;
+    Ok((RowName { table, id }, value))
+}
 
-    /// Takes the parentheses that stand for no row, if they are the first.
-    #[tactic(auto, unfolding(crate::specs::FirstFaults::no_rows_at))]
-    fn took_no_rows(&mut self) -> bool
-        ensures { MatchBool result (no_rows_at self.old ≡ Some self.new) ((no_rows_at self.old ≡ None) × (self.new ≡ self.old)) }
-    {
-        let mut ahead = Parser { rest: self.rest };
-        if ahead.took(Token::Open) && ahead.took(Token::Close) {
-            self.rest = ahead.rest;
-            true
-        } else {
-            false
-        }
+/// Adds a row to the table; DuplicateSetupRow where it is present.
+#[tactic(auto, unfolding(crate::specs::FirstFaults::row_onto_read))]
+fn row_onto(alloc: Global, parser: &mut Parser, table: &mut Table) -> Result<(), Refusal>
+    ensures reads { Comes (λ x. (table.new, parser.new)) result parser.new (row_onto_read table.old parser.old) }
+    ensures shorter { length parser.new ≤ length parser.old }
+{
+    let row = named_row(parser)?;
+    if table.add(alloc, row.0, row.1)? {
+        Ok(())
+    } else {
+        Err(Refusal::Fault(GrammarFault::DuplicateSetupRow))
     }
+}
 
-    /// The table of a setup.
-    #[tactic(auto, unfolding(crate::specs::FirstFaults::table_read))]
-    fn table(&mut self, alloc: Global) -> Result<Table, Refusal>
-        ensures { Comes (λ x. (x, self.new)) result self.new (table_read self.old) }
-    {
-        if self.took_no_rows() {
-            Ok(Table::new(alloc))
-        } else {
-            self.rows(alloc)
+/// The table of one row or more.
+fn rows(alloc: Global, parser: &mut Parser) -> Result<Table, Refusal>
+    ensures { Comes (λ x. (x, parser.new)) result parser.new (rows_read parser.old) }
+{
+    let mut table = Table::new(alloc);
+    loop {
+        row_onto(alloc, parser, &mut table)?;
+        if !parser.took(Token::Comma) {
+            return Ok(table);
         }
     }
+}
 
-    /// The end of the setup of this table, which is its `;` or the end of the line.
-    /// TooLong where the printed line is over 4,000 bytes; then what stands behind the `;` doesn't matter.
-    #[tactic(auto, unfolding(crate::specs::FirstFaults::setup_end_read))]
-    fn setup_end(&mut self, table: &Table) -> Result<(), Refusal>
-        ensures { Comes (λ x. x) result self.new (setup_end_read table.now self.old) }
-    {
-        if !self.took(Token::Semicolon) {
-            self.nothing_left()?;
-        }
-        if setup_fits(table) {
-            self.nothing_left()
-        } else {
-            Err(Refusal::Fault(GrammarFault::TooLong))
-        }
+/// Takes the parentheses that stand for no row, if they are the first.
+#[tactic(auto, unfolding(lab_statement::specs::FirstFaults::no_rows_at))]
+fn took_no_rows(parser: &mut Parser) -> bool
+    ensures { MatchBool result (no_rows_at parser.old ≡ Some parser.new) ((no_rows_at parser.old ≡ None) × (parser.new ≡ parser.old)) }
+{
+    let mut ahead = Parser::new(parser.tokens());
+    if ahead.took(Token::Open) && ahead.took(Token::Close) {
+        *parser = ahead;
+        true
+    } else {
+        false
     }
+}
 
-    /// A setup, all of the line.
-    #[tactic(auto, unfolding(crate::specs::FirstFaults::setup_read))]
-    fn setup(&mut self, alloc: Global) -> Result<Table, Refusal>
-        ensures { Comes (λ x. x) result self.new (setup_read self.old) }
-    {
-        self.expect(Token::Word(Word::Setup))?;
-        let table = self.table(alloc)?;
-        self.setup_end(&table)?;
-        Ok(table)
+/// The table of a setup.
+#[tactic(auto, unfolding(crate::specs::FirstFaults::table_read))]
+fn table(alloc: Global, parser: &mut Parser) -> Result<Table, Refusal>
+    ensures { Comes (λ x. (x, parser.new)) result parser.new (table_read parser.old) }
+{
+    if took_no_rows(parser) {
+        Ok(Table::new(alloc))
+    } else {
+        rows(alloc, parser)
     }
+}
+
+/// The end of the setup of this table, which is its `;` or the end of the line.
+/// TooLong where the printed line is over 4,000 bytes; then what stands behind the `;` doesn't matter.
+#[tactic(auto, unfolding(crate::specs::FirstFaults::setup_end_read))]
+fn setup_end(parser: &mut Parser, table: &Table) -> Result<(), Refusal>
+    ensures { Comes (λ x. x) result parser.new (setup_end_read table.now parser.old) }
+{
+    if !parser.took(Token::Semicolon) {
+        parser.nothing_left()?;
+    }
+    if setup_fits(table) {
+        parser.nothing_left()
+    } else {
+        Err(Refusal::Fault(GrammarFault::TooLong))
+    }
+}
+
+/// A setup, all of the line.
+#[tactic(auto, unfolding(crate::specs::FirstFaults::setup_read))]
+fn setup(alloc: Global, parser: &mut Parser) -> Result<Table, Refusal>
+    ensures { Comes (λ x. x) result parser.new (setup_read parser.old) }
+{
+    parser.expect(Token::Word(Word::Setup))?;
+    let table = table(alloc, parser)?;
+    setup_end(parser, &table)?;
+    Ok(table)
 }
 
 /// The table that the tokens of a setup spell; all of them must belong to it. Its rows' tables come to those that are handed
@@ -116,7 +140,7 @@ pub fn read_setup(alloc: Global, tokens: &[Token], tables: &mut TableSet) -> Res
     ensures first { HasFault (setup_fault tokens.now) result }
 {
     let mut parser = Parser { rest: tokens };
-    match parser.setup(alloc) {
+    match setup(alloc, &mut parser) {
         Ok(table) => with_few_tables(table, tables),
         Err(refusal) => Err(behind_tables(tables, refusal, read_before(tokens, parser.left()))),
     }

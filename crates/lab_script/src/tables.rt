@@ -6,7 +6,7 @@ ghost use Rattle.lab_script.specs.Tables.{with_command, with_commands, with_rows
 ghost use Rattle.lab_script.specs.PassedTables.{token_table, with_any, is_behind_set, with_tokens, with_setup_token, with_setup_tokens};
 
 use crate::script::Line;
-use crate::token::{Token, Word};
+use lab_statement::{Token, Word};
 use lab_table::{Command, RowName, TableName, TableSet, Value};
 
 /// Adds the table of a command, if it is a statement; false where that would be a fifth.

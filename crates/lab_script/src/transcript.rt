@@ -1,14 +1,14 @@
 //! What a script does where its transactions run whole. After NoMemory, part of what was to be appended may stand there.
 
 ghost use Rattle.std.specs.Prelude.{◌≡◌, ◌++◌, [], None, codes, IfOk, IfErr, OnOk, ◌⊎◌, ◌≢◌, Some, Err};
-ghost use Rattle.lab_script.specs.Printed.{named_rows_or, printed_row_name, printed_statement, rows_or};
+ghost use Rattle.lab_script.specs.Printed.{named_rows_or};
+ghost use Rattle.lab_statement.specs.Printed.{printed_row_name, printed_statement, rows_or};
 ghost use Rattle.lab_script.specs.TranscriptView.{broken_with, fault_text, limit_broken};
 ghost use Rattle.lab_script.specs.Transcript.{heading_text};
 
-use crate::print::{PrintFault, check_statement};
-use crate::row_text::{put_list, put_named_rows, put_row_name};
-use crate::spelling::put_statement;
+use crate::row_text::put_named_rows;
 use itoa::Buffer;
+use lab_statement::{PrintFault, check_statement, put_list, put_row_name, put_statement};
 use lab_table::{NoMemory, RowName, Session, Statement, TableFault, Value};
 use std::alloc::{AllocError, Global};
 use std::marker::Model;
@@ -24,7 +24,7 @@ pub struct Transcript {
 impl Model for Transcript {
     ghost use Rattle.std.specs.Prelude.{◌≢◌, Some};
     ghost use Rattle.lab_script.specs.TranscriptView.{TranscriptView};
-    ghost use Rattle.lab_script.specs.declared.print.PrintFault.TheVariants.{TooManyTables};
+    ghost use Rattle.lab_statement.specs.declared.print.PrintFault.TheVariants.{TooManyTables};
 
     ghost Value = { TranscriptView };
 

@@ -4,7 +4,8 @@
 use crate::refusal::{refuse, was_refused};
 use lab_engine::Recording;
 use lab_locking::LockEngine;
-use lab_script::{Line, parse_script, parse_statement};
+use lab_script::{Line, parse_script};
+use lab_statement::parse_statement;
 use lab_session::{Bench, BenchFault, CloseFault, Lab, LabFault, Seat, print_log};
 use lab_table::{Command, Session, Table};
 use std::alloc::Global;

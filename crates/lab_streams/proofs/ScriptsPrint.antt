@@ -5,7 +5,8 @@ use Rattle.lab_table.specs.declared.statement.Command.{Command}
 use Rattle.lab_table.specs.declared.statement.Command.TheVariants.{Begin, Commit, Abort, Run}
 use Rattle.lab_script.specs.declared.script.Line.{Line}
 use Rattle.lab_script.specs.declared.script.Script.{Script}
-use Rattle.lab_script.specs.Limits.{CommandPrints, AllPrint, ScriptPrints, IsDeep, IsLong, BreaksDepth, BreaksLength, BreaksTables, long_setup, many_lines, long_statement}
+use Rattle.lab_statement.specs.Limits.{CommandPrints, IsDeep, IsLong}
+use Rattle.lab_script.specs.Limits.{AllPrint, ScriptPrints, BreaksDepth, BreaksLength, BreaksTables, long_setup, many_lines, long_statement}
 
 -- each line's command prints
 line_prints : (lines : List Line) → AllPrint lines → (line : Line) → Contains lines line → CommandPrints line.command

@@ -1,7 +1,7 @@
 //! Whether what is given back is what was given, throughout.
 
 use lab_history::{Installed, Op, Parts, Txn};
-use lab_script::print_statement;
+use lab_statement::print_statement;
 use lab_table::{Statement, Table};
 use std::alloc::Global;
 

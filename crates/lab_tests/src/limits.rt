@@ -1,9 +1,7 @@
 //! Values that no text can spell: what is said of them instead of their printed form.
 
-use lab_script::{
-    Line, Lines, PrintFault, Script, check_statement, print_script, print_statement,
-    print_transcript, run_serial,
-};
+use lab_script::{Line, Lines, Script, print_script, print_transcript, run_serial};
+use lab_statement::{PrintFault, check_statement, print_statement};
 use lab_table::{
     Col, Command, Numbers, Pred, PredKind, RowId, RowName, Session, Statement, StatementKind,
     Table, TableName, Value,

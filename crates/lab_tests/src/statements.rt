@@ -1,6 +1,6 @@
 //! Texts of one statement, and the fault that each has; and values built by hand.
 
-use lab_script::{ScriptFault, parse_statement, print_script_fault};
+use lab_statement::{ScriptFault, parse_statement, print_script_fault};
 use lab_table::{NoMemory, RowId, RowName, TableFault, TableName};
 use std::alloc::{AllocError, Global};
 use std::test::Fail;

@@ -2,7 +2,7 @@
 
 ghost use Rattle.std.specs.Prelude.{◌≡◌, ◌≤◌, ◌<◌, length, option_and_then, IfOk};
 ghost use Rattle.serde_json.specs.View.{view, items_view};
-ghost use Rattle.lab_script.specs.StatementText.{statement_in};
+ghost use Rattle.lab_statement.specs.StatementText.{statement_in};
 ghost use Rattle.lab_history.specs.Faults.{Gives};
 ghost use Rattle.lab_history_file.specs.FileVersion.{may_have as spec_may_have};
 ghost use Rattle.lab_history_file.specs.Format.{only_in, op_in, ops_from};
@@ -13,7 +13,7 @@ use super::lists::{entries_at, writes_at};
 use crate::file_version::FileVersion;
 use crate::refusal::wrong;
 use lab_history::{FileFault, ListPlace, Op, Ops, Path, Refusal, Rows, View, Writes};
-use lab_script::{ScriptFault, parse_statement};
+use lab_statement::{ScriptFault, parse_statement};
 use lab_table::{NoMemory, Statement, TableName, TxnNo};
 use serde_json::Value as Json;
 use std::alloc::{AllocError, Global};

@@ -3,8 +3,8 @@
 ghost use Rattle.std.specs.Prelude.{◌≡◌, IfOk, OnOk};
 ghost use Rattle.serde_json.specs.Data.{string};
 ghost use Rattle.serde_json.specs.View.{view};
-ghost use Rattle.lab_script.specs.Limits.{StatementPrints};
-ghost use Rattle.lab_script.specs.Printed.{printed_statement};
+ghost use Rattle.lab_statement.specs.Limits.{StatementPrints};
+ghost use Rattle.lab_statement.specs.Printed.{printed_statement};
 ghost use Rattle.lab_history_file.specs.FileOf.{outcome_text, IsListOf, SpellsIn, IsOperation, IsTransaction};
 ghost use Rattle.lab_history.specs.HistoryRules.{operations, OpKeeps, OpsKeep};
 ghost use Rattle.lab_history_file.specs.Tree.{list_tree, op_tree, txn_tree};
@@ -12,7 +12,7 @@ ghost use Rattle.lab_history_file.specs.declared.file_version.FileVersion.TheVar
 
 use crate::writing::values::{rows_json, txn_number_json, view_json, writes_json};
 use lab_history::{Op, Outcome, Txn};
-use lab_script::{PrintFault, print_statement};
+use lab_statement::{PrintFault, print_statement};
 use lab_table::{NoMemory, Statement};
 use serde_json::{Value as Json, json};
 use std::alloc::{AllocError, Global};

@@ -1,6 +1,6 @@
 use Rattle.std.proofs.Common.{◌++◌, ◌+◌, true, false, refl}
 use Rattle.std.specs.Prelude.{codes}
-use Rattle.lab_script.proofs.Appended.{rest_appended}
+use Rattle.lab_statement.proofs.Appended.{rest_appended}
 use Rattle.lab_picture.specs.Heading.{sample_text, dependencies_text}
 use Rattle.lab_picture.proofs.heading.put_dependencies.Goals as goal
 

@@ -1,6 +1,6 @@
 use Rattle.std.proofs.Common.{◌++◌, refl}
 use Rattle.std.specs.Prelude.{codes}
-use Rattle.lab_script.proofs.Appended.{rest_appended}
+use Rattle.lab_statement.proofs.Appended.{rest_appended}
 use Rattle.lab_picture.specs.Heading.{sample_end, sample_path}
 use Rattle.lab_picture.proofs.heading.put_sample_path.Goals as goal
 

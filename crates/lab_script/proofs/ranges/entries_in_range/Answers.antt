@@ -1,5 +1,5 @@
 use Rattle.lab_script.specs.Ranges.{EntryInRange}
-use Rattle.lab_script.proofs.EachElement.{one_more, all_walked}
+use Rattle.lab_statement.proofs.EachElement.{one_more, all_walked}
 use Rattle.lab_script.proofs.ranges.entries_in_range.Goals as goal
 
 pub loop-entry-preserved : goal.loop-entry-preserved

@@ -1,7 +1,7 @@
 use Rattle.std.proofs.Common.{Bool, cond, Some, None, sym, ap, ◌++◌, ◌∙◌, List}
 use Rattle.std.specs.Prelude.{codes, ℤ}
 use Rattle.lab_table.specs.Row.{Row}
-use Rattle.lab_script.specs.Printed.{rows_or}
+use Rattle.lab_statement.specs.Printed.{rows_or}
 use Rattle.lab_script.specs.TranscriptView.{TranscriptView}
 use Rattle.lab_script.proofs.StatementLines.{line_of_rows, line_of_fault, with_rows, with_fault}
 use Rattle.lab_script.proofs.serial.run_statement.Goals as goal

@@ -4,7 +4,8 @@ use Rattle.std.proofs.lemmas.Result.{IfOk-weaker}
 use Rattle.lab_script.specs.Grammar.{IsSetup}
 use Rattle.lab_script.specs.Tables.{with_setup}
 use Rattle.lab_script.specs.PassedTables.{with_setup_tokens}
-use Rattle.lab_script.specs.FirstFaults.{passed, refusal_behind, setup_read, setup_fault_in, StopsFirst}
+use Rattle.lab_script.specs.FirstFaults.{passed, setup_read, setup_fault_in}
+use Rattle.lab_statement.specs.FirstFaults.{refusal_behind, StopsFirst}
 use Rattle.lab_script.proofs.FewRead.{IsFifth, setup_first}
 use Rattle.lab_script.proofs.PlacedFaults.{setup_stop}
 use Rattle.lab_script.proofs.ReadSetup.{setup_takes}
@@ -26,7 +27,7 @@ returns-in-Ok-clause-first c =
 pub returns-in-Err-clause-first : goal.returns-in-Err-clause-first
 returns-in-Err-clause-first c =
     let ts = c.args.tokens.now in
-    let read : c.read_before.result.now ≡ passed ts (length c.setup.new.self) = c.read_before.ensures ∙ ap (passed ts) c.left.ensures in
+    let read : c.read_before.result.now ≡ passed ts (length c.setup.new.parser) = c.read_before.ensures ∙ ap (passed ts) c.left.ensures in
     subst (StopsFirst (setup_fault_in ts (setup_read ts)))
     (sym (c.behind_tables.ensures ∙ (λ i. refusal_behind (with_setup_tokens false (c.requires.none i) (read i)) c.in-Err.refusal)))
-    (setup_stop ts c.setup.new.self (setup_read ts) c.in-Err.refusal c.in-Err.ensures)
+    (setup_stop ts c.setup.new.parser (setup_read ts) c.in-Err.refusal c.in-Err.ensures)

@@ -1,7 +1,7 @@
 use Rattle.std.proofs.Common.{◌≡◌, ◌∷◌, ◌++◌, [], ap, sym, ◌∙◌, rules, drop, map}
 use Rattle.std.proofs.lemmas.List.{drop_all}
-use Rattle.lab_script.specs.Printed.{joined}
-use Rattle.lab_script.proofs.Joined.{all_joined, followed}
+use Rattle.lab_statement.specs.Printed.{joined}
+use Rattle.lab_statement.proofs.Joined.{all_joined, followed}
 use Rattle.lab_session.specs.LogText.{session_text}
 use Rattle.lab_session.proofs.log_text.put_sessions.Goals as goal
 

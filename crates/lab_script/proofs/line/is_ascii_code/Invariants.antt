@@ -1,8 +1,0 @@
-use Rattle.std.proofs.Common.{◌≡◌, drop}
-use Rattle.std.specs.Prelude.{◌&&◌}
-use Rattle.std.specs.List.{list_all}
-use Rattle.lab_script.specs.Script.{is_code_byte}
-use Rattle.lab_script.proofs.line.is_ascii_code.Given as goal
-
-abbrev pub invariant-loop-byte : goal.invariant-loop-byte
-invariant-loop-byte l = (l.all && list_all is_code_byte (drop l.byte-index l.code)) ≡ list_all is_code_byte l.code

@@ -1,6 +1,0 @@
-use Rattle.std.proofs.Common.{◌≡◌, false, drop}
-use Rattle.lab_script.specs.FirstFaults.{in_predicate}
-use Rattle.lab_script.proofs.parser.ends_in_predicate.Given as goal
-
-abbrev pub invariant-loop-token : goal.invariant-loop-token
-invariant-loop-token l = in_predicate l.inside (drop l.token-index l.tokens) ≡ in_predicate false l.tokens

@@ -1,8 +1,0 @@
-use Rattle.std.proofs.Common.{◌≡◌, ◌++◌, drop}
-use Rattle.lab_script.specs.Printed.{printed_rows}
-use Rattle.lab_script.proofs.Joined.{followed}
-use Rattle.lab_script.proofs.row_text.put_list.Given as goal
-
-abbrev pub invariant-loop-row : goal.invariant-loop-row
-invariant-loop-row l =
-    l.out.items ++ followed (printed_rows (drop l.row-index l.rest)) ≡ l.initial.out.items ++ followed (printed_rows l.rest)

@@ -1,0 +1,10 @@
+use Rattle.std.proofs.Common.{◌≡◌, ℕ, ◌<◌, length}
+use Rattle.lab_script.specs.FirstFaults.{rows_onto_read, rows_read}
+use Rattle.lab_script.proofs.setup.rows.Given as goal
+
+-- what is left, added to the table so far, gives the whole
+abbrev pub invariant-loop-table : goal.invariant-loop-table
+invariant-loop-table l = (k : ℕ) × (length l.parser < k) × (rows_onto_read k l.table l.parser ≡ rows_read l.fn.parser)
+
+abbrev pub decreases-loop-table : goal.decreases-loop-table
+decreases-loop-table l = length l.parser

@@ -1,6 +1,0 @@
-use Rattle.std.proofs.Common.{◌+◌, ◌*◌, cond}
-use Rattle.lab_table.specs.Predicate.{parts}
-use Rattle.lab_script.proofs.spelling.+put_pred.Given as goal
-
-abbrev pub decreases-put_pred : goal.decreases-put_pred
-decreases-put_pred g l = 2 * parts l.pred.now + cond l.enclosed 1 0

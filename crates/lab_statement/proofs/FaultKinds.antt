@@ -1,0 +1,177 @@
+-- With which faults reading stops.
+use Rattle.std.proofs.Common.{◌≡◌, ℕ, zero, suc, Bool, true, false, cond, List, [], ◌∷◌, length, Option, Some, None, refl}
+use Rattle.std.specs.Prelude.{◌&&◌, ◌==◌, nat_le}
+use Rattle.lab_table.specs.Predicate.{Predicate}
+use Rattle.lab_table.specs.Predicate as predicate
+use Rattle.lab_table.specs.declared.predicate.Cmp.{Cmp}
+use Rattle.lab_statement.specs.declared.token.Word.{Word}
+use Rattle.lab_statement.specs.declared.token.Word.TheVariants as word
+use Rattle.lab_statement.specs.declared.token.Token.{Token}
+use Rattle.lab_statement.specs.declared.token.Token.TheVariants as token
+use Rattle.lab_statement.specs.declared.refusal.GrammarFault.{GrammarFault}
+use Rattle.lab_statement.specs.declared.refusal.GrammarFault.TheVariants as grammar
+use Rattle.lab_statement.specs.Limits.{max_depth}
+use Rattle.lab_statement.specs.Reading.{is_token, after}
+use Rattle.lab_statement.specs.Stopping.{cmp_of, one_more, Reading, Reads, Stops, ◌>>=◌, if_found, token_read, tokens_read, digits_in, digits_read, magnitude_read, number_read, more_read, id_read, name_in, name_of, name_read, row_read, col_read, cmp_in, cmp_read, modulus_read, numbers_read, number_list_read, compare_read, remainder_read, one_of_read, atom_read, joined_read, term_read, conj_read, pred_read, where_read}
+use Rattle.lab_statement.specs.FirstFaults.{expr_read, select_read, update_read, insert_read, delete_read, statement_read, end_read, nothing_read}
+
+-- all faults with which a reading may stop are of this kind
+abbrev pub StopsOnly : {X : Type 0} → (GrammarFault → Type 0) → Reading X → Type 0
+StopsOnly Is (Reads x) = Unit {0}
+StopsOnly Is (Stops kind left) = Is kind
+
+module _ (Is : GrammarFault → Type 0) where
+  -- a reading of two parts, one behind a token that may be found, and one where a test holds
+  pub bind_only : {A B : Type 0} (r : Reading A) (f : A → Reading B) → StopsOnly Is r → ((x : A) → r ≡ Reads x → StopsOnly Is (f x)) → StopsOnly Is (r >>= f)
+  bind_only (Reads x) f first next = next x refl
+  bind_only (Stops kind left) f first next = first
+
+  pub found_only : {X : Type 0} (o : Option (List Token)) (found : List Token → Reading X) (other : Reading X) → ((rest : List Token) → StopsOnly Is (found rest)) → StopsOnly Is other
+      → StopsOnly Is (if_found o found other)
+  found_only (Some rest) found other behind instead = behind rest
+  found_only None found other behind instead = instead
+
+  pub cond_only : {X : Type 0} (b : Bool) (one other : Reading X) → StopsOnly Is one → (b ≡ false → StopsOnly Is other) → StopsOnly Is (cond b one other)
+  cond_only true one other holds fails = holds
+  cond_only false one other holds fails = fails refl
+
+  -- readings that stop at wrong tokens, at words that are no names and at numbers out of their range
+  module _ (unknown : Is grammar.UnknownStatement) (name : Is grammar.BadTableName) (range : Is grammar.NumberOutOfRange) where
+    pub token_only : (t : Token) (ts : List Token) → StopsOnly Is (token_read t ts)
+    token_only t ts = found_only (after t ts) _ _ (λ rest. tt) unknown
+
+    pub tokens_only : (us ts : List Token) → StopsOnly Is (tokens_read us ts)
+    tokens_only [] ts = tt
+    tokens_only (u ∷ us) ts = bind_only _ _ (token_only u ts) (λ rest is. tokens_only us rest)
+
+    digits_in_only : (t : Token) (ts : List Token) → StopsOnly Is (digits_in t ts)
+    digits_in_only (token.Digits n) ts = tt
+    digits_in_only t ts = unknown
+
+    digits_only : (ts : List Token) → StopsOnly Is (digits_read ts)
+    unfolding digits_read
+    digits_only [] = unknown
+    digits_only (t ∷ ts) = digits_in_only t ts
+
+    magnitude_only : (ts : List Token) → StopsOnly Is (magnitude_read ts)
+    unfolding magnitude_read
+    magnitude_only ts = bind_only _ _ (digits_only ts) (λ n is. cond_only (nat_le n.0 1000000000) _ _ tt (λ not. range))
+
+    number_only : (ts : List Token) → StopsOnly Is (number_read ts)
+    unfolding number_read
+    number_only ts = found_only (after token.Minus ts) _ _ (λ rest. bind_only _ _ (magnitude_only rest) (λ n is. tt)) (bind_only _ _ (magnitude_only ts) (λ n is. tt))
+
+    more_only : {A X : Type 0} (member : List Token → Reading (X × List Token)) → ((ts : List Token) → StopsOnly Is (member ts)) → (k : ℕ) (connective : Token) (join : A → X → A) (a : A) (ts : List Token)
+        → StopsOnly Is (more_read k member connective join a ts)
+    unfolding more_read
+    more_only member only zero connective join a ts = tt
+    more_only member only (suc k) connective join a ts =
+        found_only (after connective ts) _ _ (λ rest. bind_only _ _ (only rest) (λ x is. more_only member only k connective join (join a x.0) x.1)) tt
+
+    id_only : (ts : List Token) → StopsOnly Is (id_read ts)
+    unfolding id_read
+    id_only ts = found_only (after token.Minus ts) _ _ (λ rest. bind_only _ _ (digits_only rest) (λ n is. range))
+        (bind_only _ _ (digits_only ts) (λ n is. cond_only (nat_le 1 n.0 && nat_le n.0 999999) _ _ tt (λ not. range)))
+
+    pub row_only : (ts : List Token) → StopsOnly Is (row_read ts)
+    unfolding row_read
+    row_only ts =
+        bind_only _ _ (token_only token.Open ts) (λ a _.
+        bind_only _ _ (id_only a) (λ id _.
+        bind_only _ _ (token_only token.Comma id.1) (λ b _.
+        bind_only _ _ (number_only b) (λ v _.
+        bind_only _ _ (token_only token.Close v.1) (λ c _. tt)))))
+
+    pub word_only : (w : Word) (ts : List Token) → StopsOnly Is (name_in w ts)
+    word_only (word.Name n) ts = tt
+    word_only w ts = name
+
+    name_of_only : (t : Token) (ts : List Token) → StopsOnly Is (name_of t ts)
+    name_of_only (token.Word w) ts = word_only w ts
+    name_of_only t ts = unknown
+
+    name_only : (ts : List Token) → StopsOnly Is (name_read ts)
+    unfolding name_read
+    name_only [] = unknown
+    name_only (t ∷ ts) = name_of_only t ts
+
+    pub nothing_only : (ts : List Token) → StopsOnly Is (nothing_read ts)
+    nothing_only ts = cond_only (length ts == 0) _ _ tt (λ not. unknown)
+
+    -- the same of predicates and statements, that may go too deep
+    module _ (deep : Is grammar.TooDeep) where
+      cmp_in_only : (o : Option Cmp) (t : Token) (ts : List Token) → StopsOnly Is (cmp_in o t ts)
+      cmp_in_only (Some m) t ts = tt
+      cmp_in_only None t ts = unknown
+
+      cmp_only : (ts : List Token) → StopsOnly Is (cmp_read ts)
+      unfolding cmp_read
+      cmp_only [] = unknown
+      cmp_only (t ∷ ts) = cmp_in_only (cmp_of t) t ts
+
+      modulus_only : (ts : List Token) → StopsOnly Is (modulus_read ts)
+      unfolding modulus_read
+      modulus_only ts = found_only (after token.Minus ts) _ _ (λ rest. bind_only _ _ (digits_only rest) (λ n _. range))
+          (bind_only _ _ (digits_only ts) (λ n _. cond_only (nat_le 1 n.0 && nat_le n.0 1000000) _ _ tt (λ not. range)))
+
+      number_list_only : (ts : List Token) → StopsOnly Is (number_list_read ts)
+      unfolding number_list_read numbers_read
+      number_list_only ts = bind_only _ _ (token_only token.Open ts) (λ a _.
+          found_only (after token.Close a) _ _ (λ rest. tt)
+          (bind_only _ _ (bind_only _ _ (number_only a) (λ z _. more_only number_read number_only (length z.1) token.Comma one_more (z.0 ∷ []) z.1)) (λ zs _.
+          bind_only _ _ (token_only token.Close zs.1) (λ rest _. tt))))
+
+      atom_only : (ts : List Token) → StopsOnly Is (atom_read ts)
+      unfolding atom_read col_read one_of_read remainder_read compare_read
+      atom_only ts =
+          bind_only _ _ (found_only (after (token.Word word.Id) ts) _ _ (λ rest. tt) (bind_only _ _ (token_only (token.Word word.Value) ts) (λ rest _. tt))) (λ c _.
+          found_only (after (token.Word word.In) c.1) _ _ (λ rest. bind_only _ _ (number_list_only rest) (λ zs _. tt))
+          (found_only (after token.Percent c.1) _ _
+          (λ rest. bind_only _ _ (modulus_only rest) (λ m _. bind_only _ _ (token_only token.Equal m.1) (λ behind _. bind_only _ _ (number_only behind) (λ n _. tt))))
+          (bind_only _ _ (cmp_only c.1) (λ m _. bind_only _ _ (number_only m.1) (λ n _. tt)))))
+
+      joined_only : (member : List Token → Reading (Predicate × List Token)) → ((ts : List Token) → StopsOnly Is (member ts)) → (connective : Token) (join : Predicate → Predicate → Predicate) (ts : List Token)
+          → StopsOnly Is (joined_read member connective join ts)
+      unfolding joined_read
+      joined_only member only connective join ts = bind_only _ _ (only ts) (λ p _. more_only member only (length p.1) connective join p.0 p.1)
+
+      term_only : (d : ℕ) (ts : List Token) → StopsOnly Is (term_read d ts)
+      unfolding term_read
+      term_only zero ts = found_only (after (token.Word word.Not) ts) _ _ (λ rest. deep) (found_only (after token.Open ts) _ _ (λ rest. deep) (atom_only ts))
+      term_only (suc d) ts = found_only (after (token.Word word.Not) ts) _ _ (λ rest. bind_only _ _ (term_only d rest) (λ p _. tt))
+          (found_only (after token.Open ts) _ _
+          (λ rest. bind_only _ _ (joined_only _ (joined_only (term_read d) (term_only d) (token.Word word.And) predicate.And) (token.Word word.Or) predicate.Or rest) (λ p _.
+          bind_only _ _ (token_only token.Close p.1) (λ behind _. tt)))
+          (atom_only ts))
+
+      where_only : (ts : List Token) → StopsOnly Is (where_read ts)
+      unfolding where_read pred_read conj_read
+      where_only ts = found_only (after (token.Word word.Where) ts) _ _ (λ rest.
+          bind_only _ _ (joined_only _ (joined_only (term_read max_depth) (term_only max_depth) (token.Word word.And) predicate.And) (token.Word word.Or) predicate.Or rest) (λ p _. tt)) tt
+
+      expr_only : (ts : List Token) → StopsOnly Is (expr_read ts)
+      unfolding expr_read
+      expr_only ts = found_only (after (token.Word word.Value) ts) _ _
+          (λ rest. found_only (after token.Plus rest) _ _ (λ behind. bind_only _ _ (number_only behind) (λ n _. tt))
+          (bind_only _ _ (token_only token.Minus rest) (λ behind _. bind_only _ _ (number_only behind) (λ n _. tt))))
+          (bind_only _ _ (number_only ts) (λ n _. tt))
+
+      pub statement_only : (ts : List Token) → StopsOnly Is (statement_read ts)
+      unfolding statement_read select_read update_read insert_read delete_read
+      statement_only ts =
+          found_only (after (token.Word word.Select) ts) _ _
+          (λ rest. bind_only _ _ (tokens_only (token.Star ∷ token.Word word.From ∷ []) rest) (λ a _. bind_only _ _ (name_only a) (λ table _. bind_only _ _ (where_only table.1) (λ p _. tt))))
+          (found_only (after (token.Word word.Update) ts) _ _
+          (λ rest. bind_only _ _ (name_only rest) (λ table _. bind_only _ _ (tokens_only (token.Word word.Set ∷ token.Word word.Value ∷ token.Equal ∷ []) table.1) (λ a _.
+          bind_only _ _ (expr_only a) (λ e _. bind_only _ _ (where_only e.1) (λ p _. tt)))))
+          (found_only (after (token.Word word.Insert) ts) _ _
+          (λ rest. bind_only _ _ (token_only (token.Word word.Into) rest) (λ a _. bind_only _ _ (name_only a) (λ table _.
+          bind_only _ _ (tokens_only (token.Open ∷ token.Word word.Id ∷ token.Comma ∷ token.Word word.Value ∷ token.Close ∷ token.Word word.Values ∷ []) table.1) (λ b _.
+          bind_only _ _ (row_only b) (λ r _. tt)))))
+          (bind_only _ _ (token_only (token.Word word.Delete) ts) (λ rest _.
+          bind_only _ _ (token_only (token.Word word.From) rest) (λ a _. bind_only _ _ (name_only a) (λ table _. bind_only _ _ (where_only table.1) (λ p _. tt)))))))
+
+      pub end_only : (ts : List Token) → StopsOnly Is (end_read ts)
+      unfolding end_read
+      end_only [] = tt
+      end_only (t ∷ ts) = cond_only (is_token token.Semicolon t) _ _ tt (λ not. unknown)

@@ -1,0 +1,35 @@
+pub mod Tokens
+pub mod HeldDigits
+pub mod TokenNumbers
+pub mod SameVariants
+pub mod Numbers
+pub mod PrintedTokens
+pub mod ReadNumbers
+pub mod Joined
+pub mod Appended
+pub mod PutTexts
+pub mod ReadNames
+pub mod ReadRows
+pub mod AtomParts
+pub mod ReadAtoms
+pub mod ReadPredicates
+pub mod ReadStatements
+pub mod Remarks
+pub mod KnownTokens
+pub mod HeldTokens
+pub mod StatementText
+pub mod PrintedText
+pub mod PrintedNumbers
+pub mod PrintedPreds
+pub mod ReservedWords
+pub mod PrintedNames
+pub mod PrintedStatements
+pub mod StatementRead
+pub mod EachElement
+pub mod Wheres
+pub mod Readings
+pub mod FaultKinds
+pub mod LineKinds
+mod StoppedLoops
+mod PlacedFaults
+pub mod GrammarFaults

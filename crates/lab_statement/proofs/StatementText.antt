@@ -1,0 +1,98 @@
+-- The tokens of the text of one statement.
+use Rattle.std.proofs.Common.{◌≡◌, ℕ, ◌<◌, ◌≤◌, Bool, true, cond, List, [], ◌∷◌, ◌++◌, length, Option, Some, None, refl, sym, ap, subst, ◌∙◌, inl, inr, ⊎_elim, arith}
+use Rattle.std.specs.List.{list_all}
+use Rattle.std.proofs.lemmas.Bool.{cases_Bool}
+use Rattle.lab_table.specs.declared.statement.Statement.{Statement}
+use Rattle.lab_statement.specs.declared.refusal.GrammarFault.{GrammarFault}
+use Rattle.lab_statement.specs.declared.refusal.Refusal.{Refusal}
+use Rattle.lab_statement.specs.declared.refusal.Refusal.TheVariants as refusal
+use Rattle.lab_statement.specs.declared.token.Token.{Token}
+use Rattle.lab_statement.specs.declared.token.Token.TheVariants as token
+use Rattle.lab_statement.specs.Token.{tokens}
+use Rattle.lab_statement.specs.Fault.{SaysOfStatement, IsStatementFault, kind_of, refusal_at}
+use Rattle.lab_statement.specs.Grammar.{IsWholeStatement}
+use Rattle.lab_statement.specs.HeldTokens.{held_tokens, AreStatementTokens}
+use Rattle.lab_statement.specs.Text.{begins_remark, code_of, is_code_byte, HasWhere, BeginsLongStatement, SpellsStatement}
+use Rattle.lab_statement.specs.FirstFaults.{statement_fault, StopsFirst}
+use Rattle.lab_statement.proofs.GrammarFaults.{no_statement_fault}
+use Rattle.lab_statement.proofs.LineKinds.{statement_kinds}
+use Rattle.lab_statement.proofs.HeldTokens.{held_whole, whole_held, held_where, held_long_statement, long_before_last}
+use Rattle.lab_statement.proofs.Wheres.{where_before_last}
+use Rattle.lab_statement.proofs.KnownTokens.{closed_known}
+
+-- code that is as long as the text is the text
+pub all_code : (text : List ℕ) → length text ≤ length (code_of text) → code_of text ≡ text
+all_code [] within = refl
+all_code (b ∷ bytes) within =
+    elim (cases_Bool (begins_remark (b ∷ bytes))) [
+      | inl is ↦
+          let none : code_of (b ∷ bytes) ≡ [] = ap (λ (v : Bool). cond v [] (b ∷ code_of bytes)) is in
+          let short : length (code_of (b ∷ bytes)) ≡ 0 = ap length none in
+          absurd (omega arith)
+      | inr isnt ↦
+          let on : code_of (b ∷ bytes) ≡ b ∷ code_of bytes = ap (λ (v : Bool). cond v [] (b ∷ code_of bytes)) isnt in
+          let len : length (code_of (b ∷ bytes)) ≡ length (b ∷ code_of bytes) = ap length on in
+          on ∙ ap (λ (bs : List ℕ). b ∷ bs) (all_code bytes (omega arith))
+    ]
+
+-- the tokens of a text that is all code, and of one that isn't
+pub code_tokens : (text code : List ℕ) {ts found : List Token} → code ≡ code_of text → length text ≤ length code → ts ≡ found → found ≡ held_tokens code → AreStatementTokens text ts
+code_tokens text code is within same found =
+    let all : code_of text ≡ text = all_code text (subst (λ (c : List ℕ). length text ≤ length c) is within) in
+    inl (all, same ∙ found ∙ ap held_tokens (is ∙ all))
+
+pub remark_tokens : (text code : List ℕ) {ts found : List Token} → code ≡ code_of text → length code < length text → ts ≡ found ++ token.Unknown ∷ [] → found ≡ held_tokens code
+    → AreStatementTokens text ts
+remark_tokens text code is shorter same found =
+    inr (
+      λ all. let len : length code ≡ length text = ap length (is ∙ all) in absurd (omega arith),
+      same ∙ ap (λ (t : List Token). t ++ token.Unknown ∷ []) (found ∙ ap held_tokens is),
+    )
+
+module _ (text : List ℕ) (ts : List Token) (are : AreStatementTokens text ts) (short : length text ≤ 4000) (ascii : list_all is_code_byte text ≡ true) where
+  -- what these tokens spell, the text spells
+  pub text_spells : (s : Statement) → IsWholeStatement ts s → SpellsStatement text s
+  text_spells s closed =
+      ⊎_elim
+      (λ (all : _). let whole = held_whole (tokens text) s (subst (λ (t : List Token). IsWholeStatement t s) all.1 closed) in record {
+        bytes = short;
+        ascii = ascii;
+        no_remark = all.0;
+        parts = whole.parts;
+        printed = whole.printed;
+      })
+      (λ (cut : _). absurd (closed_known (held_tokens (code_of text)) s (subst (λ (t : List Token). IsWholeStatement t s) cut.1 closed)))
+      are
+
+  -- what the text spells, these tokens spell
+  spelled_tokens : (s : Statement) → SpellsStatement text s → IsWholeStatement ts s
+  spelled_tokens s spells =
+      ⊎_elim
+      (λ (all : _). subst (λ (t : List Token). IsWholeStatement t s) (sym all.1) (whole_held (tokens text) s (record { parts = spells.parts; printed = spells.printed })))
+      (λ (cut : _). absurd (cut.0 spells.no_remark))
+      are
+
+  -- a where of these tokens stands in the text
+  where_of : HasWhere ts → HasWhere (tokens (code_of text))
+  where_of has =
+      ⊎_elim
+      (λ (all : _). held_where (tokens (code_of text)) (subst HasWhere (all.1 ∙ ap held_tokens (sym all.0)) has))
+      (λ (cut : _). held_where (tokens (code_of text)) (where_before_last (held_tokens (code_of text)) has.0 has.1 (sym cut.1 ∙ has.2)))
+      are
+
+  -- and a statement with which they begin
+  long_of : BeginsLongStatement ts → BeginsLongStatement (tokens (code_of text))
+  long_of long =
+      ⊎_elim
+      (λ (all : _). held_long_statement (tokens (code_of text)) (subst BeginsLongStatement (all.1 ∙ ap held_tokens (sym all.0)) long))
+      (λ (cut : _). held_long_statement (tokens (code_of text)) (long_before_last (held_tokens (code_of text)) (subst BeginsLongStatement cut.1 long)))
+      are
+
+  -- where reading these tokens stopped, the text spells nothing
+  pub stop_fault : (e : Refusal) → StopsFirst (statement_fault ts) e → IsStatementFault text (refusal_at e 1)
+  stop_fault refusal.NoMemory first = tt
+  stop_fault (refusal.Fault f) first = (
+    refl,
+    λ t spells. let none : ◌≡◌ {A = Option GrammarFault} None (Some f) = sym ((no_statement_fault ts).1 (t, spelled_tokens t spells)) ∙ first in absurd cc,
+    statement_kinds (λ g. SaysOfStatement (kind_of g) text) ts (short, ascii) (λ has. (short, ascii, where_of has)) (short, ascii) (short, ascii) (short, ascii) (λ long. inr (ascii, long_of long)) f first,
+  )

@@ -1,0 +1,53 @@
+-- Tokens among which a where stands.
+use Rattle.std.proofs.Common.{◌≡◌, ℕ, inl, inr, ⊎_elim, Bool, true, false, take, drop, List, [], ◌∷◌, ◌++◌, refl, sym, ap, ◌∙◌, append_assoc}
+use Rattle.std.specs.Prelude.{◌⊎◌, if◌then◌else◌}
+use Rattle.std.proofs.lemmas.Bool.{false≢true}
+use Rattle.std.proofs.lemmas.List.{take-append-drop}
+use Rattle.lab_statement.specs.declared.token.Word.TheVariants as word
+use Rattle.lab_statement.specs.declared.token.Token.{Token}
+use Rattle.lab_statement.specs.declared.token.Token.TheVariants as token
+use Rattle.lab_statement.specs.Reading.{is_token}
+use Rattle.lab_statement.specs.Text.{HasWhere}
+use Rattle.lab_statement.specs.FirstFaults.{in_predicate}
+use Rattle.lab_statement.proofs.TokenNumbers.{same_token}
+
+-- with one more token in front
+pub where_further : (t : Token) (ts : List Token) → HasWhere ts → HasWhere (t ∷ ts)
+where_further t ts has = (t ∷ has.0, has.1, ap (λ (us : List Token). t ∷ us) has.2)
+
+-- what ends behind a where after one token is that where, or was behind one before it
+inside_after : (is_where semicolon inside : Bool) (t : Token) (ts : List Token) → (is_where ≡ true → t ≡ token.Word word.Where)
+    → (if is_where then true else if semicolon then false else inside) ≡ true → (inside ≡ true) ⊎ HasWhere (t ∷ ts)
+inside_after true semicolon inside t ts is e = inr ([], ts, ap (λ (u : Token). u ∷ ts) (is refl))
+inside_after false true inside t ts is e = absurd (false≢true e)
+inside_after false false inside t ts is e = inl e
+
+-- tokens that end behind a where have one, or began behind one
+where_stands : (inside : Bool) (ts : List Token) → in_predicate inside ts ≡ true → (inside ≡ true) ⊎ HasWhere ts
+where_stands inside [] e = inl e
+where_stands inside (t ∷ ts) e =
+    ⊎_elim
+    (inside_after (is_token t (token.Word word.Where)) (is_token t token.Semicolon) inside t ts (same_token t (token.Word word.Where)))
+    (λ (has : HasWhere ts). inr (where_further t ts has))
+    (where_stands (if is_token t (token.Word word.Where) then true else if is_token t token.Semicolon then false else inside) ts e)
+
+-- some tokens at the front that end behind a where
+pub where_in_front : (n : ℕ) (ts : List Token) → in_predicate false (take n ts) ≡ true → HasWhere ts
+where_in_front n ts e = elim (where_stands false (take n ts) e) [
+  | inl is ↦ absurd (false≢true is)
+  | inr has ↦ (
+    has.0,
+    has.1 ++ drop n ts,
+    sym (take-append-drop n ts) ∙ ap (λ (us : List Token). us ++ drop n ts) has.2 ∙ append_assoc has.0 (token.Word word.Where ∷ has.1) (drop n ts),
+  )
+]
+
+-- a last token that is no where isn't the one
+pub where_before_last : (ts front rest : List Token) → ts ++ token.Unknown ∷ [] ≡ front ++ token.Word word.Where ∷ rest → HasWhere ts
+where_before_last [] [] rest e = absurd cc
+where_before_last [] (u ∷ []) rest e = absurd cc
+where_before_last [] (u ∷ v ∷ us) rest e = absurd cc
+where_before_last (t ∷ ts) [] rest e = let first : t ≡ token.Word word.Where = cc in ([], ts, ap (λ (u : Token). u ∷ ts) first)
+where_before_last (t ∷ ts) (u ∷ us) rest e =
+    let behind : ts ++ token.Unknown ∷ [] ≡ us ++ token.Word word.Where ∷ rest = cc in
+    where_further t ts (where_before_last ts us rest behind)

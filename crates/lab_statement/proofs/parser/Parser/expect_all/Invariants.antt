@@ -1,0 +1,6 @@
+use Rattle.std.proofs.Common.{◌≡◌, drop}
+use Rattle.lab_statement.specs.Stopping.{tokens_read}
+use Rattle.lab_statement.proofs.parser.Parser.expect_all.Given as goal
+
+abbrev pub invariant-loop-token : goal.invariant-loop-token
+invariant-loop-token l = tokens_read (drop l.token-index l.tokens) l.self ≡ tokens_read l.tokens l.fn.self

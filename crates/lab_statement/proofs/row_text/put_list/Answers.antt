@@ -1,0 +1,18 @@
+use Rattle.std.proofs.Common.{◌≡◌, ◌∷◌, ◌++◌, [], ap, sym, ◌∙◌, arith, drop}
+use Rattle.std.specs.Prelude.{codes}
+use Rattle.std.proofs.lemmas.Grind.{common_steps}
+use Rattle.std.proofs.lemmas.List.{drop_all}
+use Rattle.lab_statement.specs.Printed.{printed_row, printed_rows, rows_or}
+use Rattle.lab_statement.proofs.Joined.{all_joined, followed}
+use Rattle.lab_statement.proofs.row_text.put_list.Goals as goal
+
+pub returns : goal.returns
+returns c =
+    let first = c.in-Some.first.now in
+    let rest = c.in-Some.rest.now in
+    let start = c.args.out.now.items in
+    let whole : c.args.rows.now ≡ first ∷ rest = c.in-Some.ensures.cases.0 in
+    let none : printed_rows (drop c.loop-row.row-index rest) ≡ [] = ap printed_rows (drop_all c.loop-row.row-index rest c.loop-row-test.false) in
+    let put : c.put_row.new.out.items ≡ start ++ printed_row first.0.id first.1 = grind (arith, common_steps) in
+    all_joined start _ (printed_row first.0.id first.1) (printed_rows rest) _ none (c.loop-row.invariant ∙ ap (λ text. text ++ followed (printed_rows rest)) put)
+    ∙ ap (λ rows. start ++ rows_or (codes "none") rows) (sym whole)

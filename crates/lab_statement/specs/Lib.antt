@@ -1,0 +1,14 @@
+pub mod Token
+pub mod Grammar
+pub mod Printed
+pub mod Sink
+pub mod Depth
+pub mod Limits
+pub mod Ranges
+pub mod Text
+pub mod HeldTokens
+pub mod Fault
+pub mod Reading
+pub mod StatementText
+pub mod Stopping
+pub mod FirstFaults

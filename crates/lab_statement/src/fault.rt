@@ -1,0 +1,113 @@
+//! What is wrong with a script's text.
+
+ghost use Rattle.std.specs.Prelude.{◌≡◌, IfOk};
+ghost use Rattle.lab_statement.specs.Fault.{fault_text};
+
+use itoa::Buffer;
+use lab_table::NoMemory;
+use std::alloc::{AllocError, AllocFailed, Global};
+use thiserror::Error;
+
+/// What is wrong with a line of a script.
+#[derive(Clone, Copy, Debug, PartialEq, Eq)]
+pub enum ScriptFaultKind {
+    /// A byte of the code that is neither a tab nor printed ASCII.
+    NotAscii,
+    /// Something else stands where the setup belongs, or the text has no setup.
+    NoSetup,
+    /// A second setup.
+    SetupRepeated,
+    /// The line's remark names no session.
+    NoSession,
+    /// A token, or the end, that no statement has there.
+    UnknownStatement,
+    /// The same, behind a `where` of the statement.
+    BadPredicate,
+    /// A word that is no table's name where one may stand.
+    BadTableName,
+    /// Digits whose number is out of its range.
+    NumberOutOfRange,
+    /// More than 16 parentheses and `not`s are open.
+    TooDeep,
+    /// A line, a statement's printed form, or the script is over its limit.
+    TooLong,
+    /// A row of the setup whose id came before.
+    DuplicateSetupRow,
+    /// The name of a fifth table; a row of the setup without a name is one of `test`.
+    TooManyTables,
+}
+
+/// Why a text is no script.
+#[derive(Clone, Copy, Debug, PartialEq, Eq, Error)]
+pub enum ScriptFault {
+    /// An allocation was refused.
+    #[error("no memory")]
+    NoMemory,
+    /// The first faulty line, counted from 1, and what is wrong with it.
+    #[error("line {line}: {kind:?}")]
+    At { line: u32, kind: ScriptFaultKind },
+}
+
+impl From<AllocError> for ScriptFault {
+    ghost use Rattle.std.specs.Prelude.{◌≡◌};
+    ghost use Rattle.lab_statement.specs.declared.fault.ScriptFault.TheVariants.{NoMemory};
+
+    ghost from_gives = { λ _ fault. fault ≡ NoMemory };
+
+    fn from(_: AllocError) -> ScriptFault {
+        ScriptFault::NoMemory
+    }
+}
+
+impl<T: Drop> From<AllocFailed<T>> for ScriptFault {
+    ghost use Rattle.std.specs.Prelude.{◌≡◌};
+    ghost use Rattle.lab_statement.specs.declared.fault.ScriptFault.TheVariants.{NoMemory};
+
+    ghost from_gives = { λ _ fault. fault ≡ NoMemory };
+
+    fn from(_: AllocFailed<T>) -> ScriptFault {
+        ScriptFault::NoMemory
+    }
+}
+
+impl ScriptFaultKind {
+    ghost use Rattle.std.specs.Prelude.{◌≡◌};
+    ghost use Rattle.lab_statement.specs.Fault.{kind_name};
+
+    /// Its name, as a printed fault has it.
+    fn name(self) -> &'static str
+        ensures { result.now ≡ kind_name self }
+    {
+        match self {
+            ScriptFaultKind::NotAscii => "NotAscii",
+            ScriptFaultKind::NoSetup => "NoSetup",
+            ScriptFaultKind::SetupRepeated => "SetupRepeated",
+            ScriptFaultKind::NoSession => "NoSession",
+            ScriptFaultKind::UnknownStatement => "UnknownStatement",
+            ScriptFaultKind::BadPredicate => "BadPredicate",
+            ScriptFaultKind::BadTableName => "BadTableName",
+            ScriptFaultKind::NumberOutOfRange => "NumberOutOfRange",
+            ScriptFaultKind::TooDeep => "TooDeep",
+            ScriptFaultKind::TooLong => "TooLong",
+            ScriptFaultKind::DuplicateSetupRow => "DuplicateSetupRow",
+            ScriptFaultKind::TooManyTables => "TooManyTables",
+        }
+    }
+}
+
+/// The line that tells a fault, as `line 3: NoSession` and a newline; nothing for want of memory.
+/// NoMemory where an allocation was refused.
+pub fn print_script_fault(alloc: Global, fault: &ScriptFault) -> Result<Vec<u8>, NoMemory>
+    ensures { IfOk result (λ text. text.items ≡ fault_text fault.now) }
+{
+    let mut text = Vec::new(alloc);
+    if let ScriptFault::At { line, kind } = fault {
+        let mut digits = Buffer::new();
+        text.extend_from_slice(b"line ")?;
+        text.extend_from_slice(digits.format(*line).as_bytes())?;
+        text.extend_from_slice(b": ")?;
+        text.extend_from_slice(kind.name().as_bytes())?;
+        text.push(b'\n')?;
+    }
+    Ok(text)
+}

@@ -1,0 +1,22 @@
+//! Laws of the text of a statement. The functions have nothing to do: their contracts are the laws.
+
+ghost use Rattle.std.specs.Prelude.{◌≡◌, ◌≢◌, ◌↔◌, ℕ, List, Some, IsTrue, true};
+ghost use Rattle.lab_table.specs.TableName.{is_table_name};
+ghost use Rattle.lab_table.specs.Words.{is_reserved};
+ghost use Rattle.lab_table.specs.declared.statement.Statement.{Statement};
+ghost use Rattle.lab_statement.specs.Text.{SpellsStatement};
+ghost use Rattle.lab_statement.specs.Token.{word_named};
+ghost use Rattle.lab_statement.specs.declared.token.Word.TheVariants as words;
+ghost use Rattle.lab_statement.specs.StatementText.{statement_in};
+
+/// The statement that is read from a text is the one that the text spells by the grammar;
+/// from a text that spells no statement none is read.
+pub fn statement_is_read_from_its_text()
+    ensures { (text : List ℕ) (s : Statement) → (statement_in text ≡ Some s) ↔ SpellsStatement text s }
+{}
+
+/// A text in lower case is a word of the grammar exactly where it is reserved, and a name where it is a table's.
+pub fn words_are_reserved()
+    ensures word { (text : List ℕ) → IsTrue (is_reserved text) ↔ ((word_named text ≢ words.Other) × ((name : List ℕ) → word_named text ≢ words.Name name)) }
+    ensures name { (text name : List ℕ) → (word_named text ≡ words.Name name) ↔ ((name ≡ text) × (is_table_name text ≡ true)) }
+{}

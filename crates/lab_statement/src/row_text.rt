@@ -1,0 +1,128 @@
+//! Numbers and rows in printed form, as `spelling` has the rest.
+
+ghost use Rattle.std.specs.Prelude.{◌≡◌, ◌≤◌, ◌+◌, ◌∷◌, ◌++◌, drop, codes, OnOk};
+ghost use Rattle.std.specs.Fmt.{decimal, signed_decimal};
+ghost use Rattle.lab_statement.specs.Printed.{printed_table_name, printed_row_name, printed_row, rows_or};
+ghost use Rattle.lab_statement.specs.Sink.{Puts};
+
+use crate::sink::Sink;
+use itoa::{Buffer, write_digits};
+use lab_table::{NoMemory, RowId, RowName, TableName, Value};
+
+/// Room for a comma, a space and a row, whatever its numbers are: each has at most 20 digits, and one of them a sign.
+const ROW_BYTES: usize = 48;
+
+/// Puts a number in decimal.
+pub fn put_number<S: Sink>(out: &mut S, n: i64) -> Result<(), S::Refusal>
+    ensures { Puts S.kept S.limit result (S.text out.old) (signed_decimal n) (S.text out.new) }
+{
+    out.put(Buffer::new().format(n).as_bytes())
+}
+
+/// Appends a number without a sign in decimal.
+pub fn put_natural<S: Sink>(out: &mut S, n: u32) -> Result<(), S::Refusal>
+    ensures { Puts S.kept S.limit result (S.text out.old) (decimal n) (S.text out.new) }
+{
+    out.put(Buffer::new().format(n).as_bytes())
+}
+
+/// Puts what stands before a row of a table: its name and a space, and nothing for `test`.
+pub fn put_table_name<S: Sink>(out: &mut S, table: TableName) -> Result<(), S::Refusal>
+    ensures { Puts S.kept S.limit result (S.text out.old) (printed_table_name table) (S.text out.new) }
+{
+    if table == TableName::test() {
+        return Ok(());
+    }
+    out.put(table.as_bytes())?;
+    out.put(b" ")
+}
+
+/// Appends the name of a row: the number of a row of `test`, and the table's name and the number of another, as `stock 1`.
+/// NoMemory where an allocation was refused, and then part of it may stand there.
+pub fn put_row_name(out: &mut Vec<u8>, row: RowName) -> Result<(), NoMemory>
+    ensures { OnOk result (out.new.items ≡ out.old.items ++ printed_row_name row) }
+{
+    put_table_name(out, row.table)?;
+    put_natural(out, row.id.number())
+}
+
+/// Writes a byte in front of what stands from `end` on. Answers where it stands.
+fn write_byte(text: &mut [u8; ROW_BYTES], end: usize, byte: u8) -> usize
+    requires { (1 ≤ end) × (end ≤ 48) }
+    ensures start { result + 1 ≡ end }
+    ensures written { drop result text.new ≡ byte ∷ drop end text.old }
+{
+    text[end - 1] = byte;
+    end - 1
+}
+
+/// Writes a number in decimal in front of what stands from `end` on. Answers where it starts.
+fn write_natural(text: &mut [u8; ROW_BYTES], end: usize, n: u64) -> usize
+    requires { (20 ≤ end) × (end ≤ 48) }
+    ensures start { (end ≤ result + 20) × (result ≤ end) }
+    ensures written { drop result text.new ≡ decimal n ++ drop end text.old }
+{
+    write_digits(n, text, end)
+}
+
+/// Writes a number with its sign in front of what stands from `end` on. Answers where it starts.
+fn write_number(text: &mut [u8; ROW_BYTES], end: usize, n: i64) -> usize
+    requires { (21 ≤ end) × (end ≤ 48) }
+    ensures start { (end ≤ result + 21) × (result ≤ end) }
+    ensures written { drop result text.new ≡ signed_decimal n ++ drop end text.old }
+{
+    let start = write_natural(text, end, n.unsigned_abs());
+    if n < 0 {
+        write_byte(text, start, b'-')
+    } else {
+        start
+    }
+}
+
+/// Writes a row to the end of a text, from the back, since a number's last digit is found first. Answers where it starts.
+fn write_row(text: &mut [u8; ROW_BYTES], id: RowId, value: Value) -> usize
+    ensures start { (2 ≤ result) × (result ≤ 48) }
+    ensures written { drop result text.new ≡ printed_row id value }
+{
+    let start = write_byte(text, ROW_BYTES, b')');
+    let start = write_number(text, start, value.number());
+    let start = write_byte(text, start, b' ');
+    let start = write_byte(text, start, b',');
+    let start = write_natural(text, start, u64::from(id.number()));
+    write_byte(text, start, b'(')
+}
+
+/// Puts a row. Its text is built first: one allocation and one copy for it.
+pub fn put_row<S: Sink>(out: &mut S, id: RowId, value: Value) -> Result<(), S::Refusal>
+    ensures { Puts S.kept S.limit result (S.text out.old) (printed_row id value) (S.text out.new) }
+{
+    let mut text = [0; ROW_BYTES];
+    let start = write_row(&mut text, id, value);
+    out.put(&text[start..])
+}
+
+/// Appends a row behind another one.
+fn put_next_row(out: &mut Vec<u8>, id: RowId, value: Value) -> Result<(), NoMemory>
+    ensures { OnOk result (out.new.items ≡ out.old.items ++ (codes ", " ++ printed_row id value)) }
+{
+    let mut text = [0; ROW_BYTES];
+    let start = write_row(&mut text, id, value);
+    let start = write_byte(&mut text, start, b' ');
+    let start = write_byte(&mut text, start, b',');
+    out.extend_from_slice(&text[start..])
+}
+
+/// Appends rows of one table as a list, without the table's name; `none` where there is no row.
+/// NoMemory where an allocation was refused, and then part of the list may stand there.
+pub fn put_list(out: &mut Vec<u8>, rows: &[(RowName, Value)]) -> Result<(), NoMemory>
+    ensures { OnOk result (out.new.items ≡ out.old.items ++ rows_or (codes "none") rows.now) }
+{
+    let Some((first, rest)) = rows.split_first() else {
+        return out.extend_from_slice(b"none");
+    };
+    put_row(out, first.0.id, first.1)?;
+    for (row, value) in rest {
+        put_next_row(out, row.id, *value)?;
+    }
+    Ok(())
+}

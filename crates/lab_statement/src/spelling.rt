@@ -1,0 +1,180 @@
+//! The printed form of statements. Each function appends a text; after NoMemory, part of it may stand there.
+
+ghost use Rattle.std.specs.Prelude.{◌≡◌, ◌++◌, ◌||◌, OnOk};
+ghost use Rattle.lab_statement.specs.Printed.{printed_col, printed_cmp, joined, printed_numbers, parenthesized, printed_pred, printed_where, printed_expr, is_and, is_or, printed_statement, printed_command};
+ghost use Rattle.lab_statement.specs.Sink.{Puts};
+
+use crate::row_text::{put_natural, put_number, put_row};
+use crate::sink::Sink;
+use lab_table::{Cmp, Col, Command, Expr, NoMemory, Pred, PredKind, Statement, StatementKind, TableName, Value};
+
+fn put_col<S: Sink>(out: &mut S, col: Col) -> Result<(), S::Refusal>
+    ensures { Puts S.kept S.limit result (S.text out.old) (printed_col col) (S.text out.new) }
+{
+    match col {
+        Col::Id => out.put(b"id"),
+        Col::Value => out.put(b"value"),
+    }
+}
+
+fn put_cmp<S: Sink>(out: &mut S, cmp: Cmp) -> Result<(), S::Refusal>
+    ensures { Puts S.kept S.limit result (S.text out.old) (printed_cmp cmp) (S.text out.new) }
+{
+    match cmp {
+        Cmp::Eq => out.put(b" = "),
+        Cmp::Ne => out.put(b" <> "),
+        Cmp::Lt => out.put(b" < "),
+        Cmp::Le => out.put(b" <= "),
+        Cmp::Gt => out.put(b" > "),
+        Cmp::Ge => out.put(b" >= "),
+    }
+}
+
+fn put_numbers<S: Sink>(out: &mut S, numbers: &[Value]) -> Result<(), S::Refusal>
+    ensures { Puts S.kept S.limit result (S.text out.old) (joined (printed_numbers numbers.now)) (S.text out.new) }
+{
+    let Some((first, rest)) = numbers.split_first() else {
+        return Ok(());
+    };
+    put_number(out, first.number())?;
+    for number in rest {
+        out.put(b", ")?;
+        put_number(out, number.number())?;
+    }
+    Ok(())
+}
+
+/// Puts a predicate, in parentheses where it stands enclosed.
+fn put_pred<S: Sink>(out: &mut S, pred: &Pred, enclosed: bool) -> Result<(), S::Refusal>
+    ensures { Puts S.kept S.limit result (S.text out.old) (parenthesized enclosed (printed_pred pred.now)) (S.text out.new) }
+{
+    if enclosed {
+        out.put(b"(")?;
+        put_pred(out, pred, false)?;
+        return out.put(b")");
+    }
+    match &pred.kind {
+        PredKind::Compare { col, cmp, number } => {
+            put_col(out, *col)?;
+            put_cmp(out, *cmp)?;
+            put_number(out, number.number())
+        }
+        PredKind::Remainder { col, modulus, rest } => {
+            put_col(out, *col)?;
+            out.put(b" % ")?;
+            put_natural(out, modulus.number())?;
+            out.put(b" = ")?;
+            put_number(out, rest.number())
+        }
+        PredKind::OneOf { col, numbers } => {
+            put_col(out, *col)?;
+            out.put(b" in (")?;
+            put_numbers(out, numbers.as_slice())?;
+            out.put(b")")
+        }
+        PredKind::Not(p) => {
+            out.put(b"not ")?;
+            put_pred(out, p, is_joined(p))
+        }
+        PredKind::And(p, q) => {
+            put_pred(out, p, is_or(p))?;
+            out.put(b" and ")?;
+            put_pred(out, q, is_joined(q))
+        }
+        PredKind::Or(p, q) => {
+            put_pred(out, p, false)?;
+            out.put(b" or ")?;
+            put_pred(out, q, is_or(q))
+        }
+    }
+}
+
+/// Whether a predicate has an or at its top.
+pub fn is_or(pred: &Pred) -> bool
+    ensures { result ≡ is_or pred.now }
+{
+    matches!(pred.kind, PredKind::Or(..))
+}
+
+/// Whether a predicate has an and or an or at its top.
+pub fn is_joined(pred: &Pred) -> bool
+    ensures { result ≡ (is_and pred.now || is_or pred.now) }
+{
+    matches!(pred.kind, PredKind::And(..) | PredKind::Or(..))
+}
+
+fn put_where<S: Sink>(out: &mut S, pred: &Option<Pred>) -> Result<(), S::Refusal>
+    ensures { Puts S.kept S.limit result (S.text out.old) (printed_where pred.now) (S.text out.new) }
+{
+    match pred {
+        None => Ok(()),
+        Some(p) => {
+            out.put(b" where ")?;
+            put_pred(out, p, false)
+        }
+    }
+}
+
+fn put_expr<S: Sink>(out: &mut S, expr: Expr) -> Result<(), S::Refusal>
+    ensures { Puts S.kept S.limit result (S.text out.old) (printed_expr expr) (S.text out.new) }
+{
+    match expr {
+        Expr::Set(n) => put_number(out, n.number()),
+        Expr::Plus(n) => {
+            out.put(b"value + ")?;
+            put_number(out, n.number())
+        }
+        Expr::Minus(n) => {
+            out.put(b"value - ")?;
+            put_number(out, n.number())
+        }
+    }
+}
+
+/// Puts words and the name of a table.
+fn put_words<S: Sink>(out: &mut S, words: &[u8], table: TableName) -> Result<(), S::Refusal>
+    ensures { Puts S.kept S.limit result (S.text out.old) (words.now ++ table) (S.text out.new) }
+{
+    out.put(words)?;
+    out.put(table.as_bytes())
+}
+
+/// Puts a statement.
+pub fn put_statement<S: Sink>(out: &mut S, statement: &Statement) -> Result<(), S::Refusal>
+    ensures { Puts S.kept S.limit result (S.text out.old) (printed_statement statement.now) (S.text out.new) }
+{
+    let table = statement.table;
+    match &statement.kind {
+        StatementKind::Select { pred } => {
+            put_words(out, b"select * from ", table)?;
+            put_where(out, pred)
+        }
+        StatementKind::Update { expr, pred } => {
+            put_words(out, b"update ", table)?;
+            out.put(b" set value = ")?;
+            put_expr(out, *expr)?;
+            put_where(out, pred)
+        }
+        StatementKind::Insert { id, value } => {
+            put_words(out, b"insert into ", table)?;
+            out.put(b" (id, value) values ")?;
+            put_row(out, *id, *value)
+        }
+        StatementKind::Delete { pred } => {
+            put_words(out, b"delete from ", table)?;
+            put_where(out, pred)
+        }
+    }
+}
+
+/// Appends a command.
+pub fn put_command(out: &mut Vec<u8>, command: &Command) -> Result<(), NoMemory>
+    ensures { OnOk result (out.new.items ≡ out.old.items ++ printed_command command.now) }
+{
+    match command {
+        Command::Begin => out.extend_from_slice(b"begin"),
+        Command::Commit => out.extend_from_slice(b"commit"),
+        Command::Abort => out.extend_from_slice(b"abort"),
+        Command::Run(statement) => put_statement(out, statement),
+    }
+}

@@ -1,0 +1,156 @@
+//! Statements, read from tokens.
+
+ghost use Rattle.std.specs.Prelude.{◌≡◌, nat_le, true, false, length, OnOk, IfErr};
+ghost use Rattle.lab_statement.specs.Grammar.{over};
+ghost use Rattle.lab_statement.specs.Limits.{max_statement_bytes};
+ghost use Rattle.lab_statement.specs.Printed.{printed_statement};
+ghost use Rattle.lab_statement.specs.declared.refusal.GrammarFault.TheVariants.{TooLong};
+ghost use Rattle.lab_statement.specs.Stopping.{Comes};
+ghost use Rattle.lab_statement.specs.FirstFaults.{delete_read, end_read, expr_read, insert_read, select_read, statement_read, update_read, whole_statement_read};
+
+use crate::fits::statement_fits;
+use crate::parser::Parser;
+use crate::refusal::{GrammarFault, Refusal};
+use crate::token::{Token, Word};
+use lab_table::{Expr, Statement, StatementKind, TableName};
+use std::alloc::Global;
+
+impl Parser<'_> {
+    /// One statement, which is all that is left, but for a semicolon.
+    #[tactic(auto, unfolding(crate::specs::FirstFaults::whole_statement_read))]
+    pub fn whole_statement(&mut self, alloc: Global) -> Result<Statement, Refusal>
+        ensures { Comes (λ x. x) result self.new (whole_statement_read self.old) }
+    {
+        let statement = self.statement(alloc)?;
+        self.ended()?;
+        check_length(&statement)?;
+        self.nothing_left()?;
+        Ok(statement)
+    }
+
+    /// One of the four kinds of statement.
+    #[tactic(auto, unfolding(crate::specs::FirstFaults::statement_read))]
+    pub fn statement(&mut self, alloc: Global) -> Result<Statement, Refusal>
+        ensures { Comes (λ x. (x, self.new)) result self.new (statement_read self.old) }
+    {
+        if self.took(Token::Word(Word::Select)) {
+            self.select(alloc)
+        } else if self.took(Token::Word(Word::Update)) {
+            self.update(alloc)
+        } else if self.took(Token::Word(Word::Insert)) {
+            self.insert()
+        } else {
+            self.expect(Token::Word(Word::Delete))?;
+            self.delete(alloc)
+        }
+    }
+
+    /// A select, from behind its first word on.
+    #[tactic(auto, unfolding(crate::specs::FirstFaults::select_read))]
+    fn select(&mut self, alloc: Global) -> Result<Statement, Refusal>
+        ensures { Comes (λ x. (x, self.new)) result self.new (select_read self.old) }
+    {
+        self.expect_all(&[Token::Star, Token::Word(Word::From)])?;
+        let table = self.name()?;
+        let pred = self.where_clause(alloc)?;
+        Ok(over(table, StatementKind::Select { pred }))
+    }
+
+    /// An update, from behind its first word on.
+    #[tactic(auto, unfolding(crate::specs::FirstFaults::update_read))]
+    fn update(&mut self, alloc: Global) -> Result<Statement, Refusal>
+        ensures { Comes (λ x. (x, self.new)) result self.new (update_read self.old) }
+    {
+        let table = self.name()?;
+        self.expect_all(&[
+            Token::Word(Word::Set),
+            Token::Word(Word::Value),
+            Token::Equal,
+        ])?;
+        let expr = self.expr()?;
+        let pred = self.where_clause(alloc)?;
+        Ok(over(table, StatementKind::Update { expr, pred }))
+    }
+
+    /// The new value of an update.
+    #[tactic(auto, unfolding(crate::specs::FirstFaults::expr_read))]
+    fn expr(&mut self) -> Result<Expr, Refusal>
+        ensures { Comes (λ x. (x, self.new)) result self.new (expr_read self.old) }
+    {
+        if !self.took(Token::Word(Word::Value)) {
+            Ok(Expr::Set(self.number()?))
+        } else if self.took(Token::Plus) {
+            Ok(Expr::Plus(self.number()?))
+        } else {
+            self.expect(Token::Minus)?;
+            Ok(Expr::Minus(self.number()?))
+        }
+    }
+
+    /// An insert, from behind its first word on.
+    #[tactic(auto, unfolding(crate::specs::FirstFaults::insert_read))]
+    fn insert(&mut self) -> Result<Statement, Refusal>
+        ensures { Comes (λ x. (x, self.new)) result self.new (insert_read self.old) }
+    {
+        self.expect(Token::Word(Word::Into))?;
+        let table = self.name()?;
+        self.expect_all(&[
+            Token::Open,
+            Token::Word(Word::Id),
+            Token::Comma,
+            Token::Word(Word::Value),
+            Token::Close,
+            Token::Word(Word::Values),
+        ])?;
+        let (id, value) = self.row()?;
+        Ok(over(table, StatementKind::Insert { id, value }))
+    }
+
+    /// A delete, from behind its first word on.
+    #[tactic(auto, unfolding(crate::specs::FirstFaults::delete_read))]
+    fn delete(&mut self, alloc: Global) -> Result<Statement, Refusal>
+        ensures { Comes (λ x. (x, self.new)) result self.new (delete_read self.old) }
+    {
+        self.expect(Token::Word(Word::From))?;
+        let table = self.name()?;
+        let pred = self.where_clause(alloc)?;
+        Ok(over(table, StatementKind::Delete { pred }))
+    }
+
+    /// The end of a statement: nothing is left, or a semicolon.
+    #[tactic(auto, unfolding(crate::specs::FirstFaults::end_read))]
+    pub fn ended(&mut self) -> Result<(), Refusal>
+        ensures { Comes (λ x. self.new) result self.new (end_read self.old) }
+    {
+        match self.rest.split_first() {
+            None => Ok(()),
+            Some((first, rest)) => {
+                if *first != Token::Semicolon {
+                    return Err(Refusal::Fault(GrammarFault::UnknownStatement));
+                }
+                self.rest = rest;
+                Ok(())
+            }
+        }
+    }
+}
+
+/// A statement of this kind on the rows of a table.
+fn over(table: TableName, kind: StatementKind) -> Statement
+    ensures { result ≡ over table kind }
+{
+    Statement { table, kind }
+}
+
+/// The printed form is as short as it must be.
+#[tactic(auto, using(crate::proofs::TokenNumbers::same_test))]
+pub fn check_length(statement: &Statement) -> Result<(), Refusal>
+    ensures short { OnOk result (nat_le (length (printed_statement statement.now)) max_statement_bytes ≡ true) }
+    ensures long { IfErr result (λ e. (e ≡ Refusal.Fault TooLong) × (nat_le (length (printed_statement statement.now)) max_statement_bytes ≡ false)) }
+{
+    if statement_fits(statement) {
+        Ok(())
+    } else {
+        Err(Refusal::Fault(GrammarFault::TooLong))
+    }
+}

@@ -1,0 +1,307 @@
+//! The tokens of a line's code.
+
+ghost use Rattle.std.specs.Prelude.{◌≡◌, ◌≤◌, ◌∷◌, [], length, map, IfOk, OnOk, Some, if◌then◌else◌};
+ghost use Rattle.std.specs.Str.{bytes_eq};
+ghost use Rattle.std.specs.List.{prefix_len};
+ghost use Rattle.std.specs.Char.{to_ascii_lowercase};
+ghost use Rattle.lab_table.specs.TableName.{is_table_name};
+ghost use Rattle.lab_statement.specs.declared.token.Token.TheVariants as token;
+ghost use Rattle.lab_statement.specs.declared.token.Word.TheVariants as words;
+ghost use Rattle.lab_statement.specs.Token.{letters, whole, is_letter, is_blank, word_named, mark};
+ghost use Rattle.lab_statement.specs.HeldTokens.{held_from, held_tokens};
+
+use lab_table::{NoMemory, TableName};
+use std::alloc::Global;
+
+/// A word, read in either case.
+#[derive(Clone, Copy, Debug, PartialEq, Eq)]
+pub enum Word {
+    Setup,
+    Begin,
+    Commit,
+    Abort,
+    Rollback,
+    Set,
+    Transaction,
+    Isolation,
+    Level,
+    Select,
+    From,
+    Where,
+    Update,
+    Value,
+    Insert,
+    Into,
+    Id,
+    Values,
+    Delete,
+    And,
+    Or,
+    Not,
+    In,
+    /// The name of a table, which is no word of the grammar.
+    Name(TableName),
+    Other,
+}
+
+/// A token.
+#[derive(Clone, Copy, Debug, PartialEq, Eq)]
+pub enum Token {
+    Word(Word),
+    /// The number that digits spell, or one above the greatest number of any text.
+    Digits(u32),
+    Open,
+    Close,
+    Comma,
+    Semicolon,
+    Star,
+    Equal,
+    Unequal,
+    Less,
+    AtMost,
+    Greater,
+    AtLeast,
+    Percent,
+    Plus,
+    Minus,
+    /// A byte that begins no token.
+    Unknown,
+}
+
+/// One above the greatest number of any text.
+const TOO_LARGE: u64 = 1_000_000_001;
+
+fn is_word(text: &[u8], name: &[u8]) -> bool
+    ensures { result ≡ bytes_eq (map to_ascii_lowercase text.now) (map to_ascii_lowercase name.now) }
+{
+    text.eq_ignore_ascii_case(name)
+}
+
+fn is_letter(byte: u8) -> bool
+    ensures { result ≡ is_letter byte }
+{
+    byte.is_ascii_alphabetic() || byte == b'_'
+}
+
+/// Whether a byte is a space or a tab.
+pub fn is_blank(byte: u8) -> bool
+    ensures { result ≡ is_blank byte }
+{
+    byte == b' ' || byte == b'\t'
+}
+
+/// The name of a table that letters spell, if they spell one.
+fn name_or_other(text: &[u8]) -> Word
+    ensures { result ≡ (if is_table_name (map to_ascii_lowercase text.now) then words.Name (map to_ascii_lowercase text.now) else words.Other) }
+{
+    match TableName::spelled(text) {
+        Some(name) => Word::Name(name),
+        None => Word::Other,
+    }
+}
+
+impl Word {
+    /// The word that letters spell.
+    fn named(text: &[u8]) -> Word
+        ensures { result ≡ word_named (map to_ascii_lowercase text.now) }
+    {
+        if is_word(text, b"setup") {
+            Word::Setup
+        } else if is_word(text, b"begin") {
+            Word::Begin
+        } else if is_word(text, b"commit") {
+            Word::Commit
+        } else if is_word(text, b"abort") {
+            Word::Abort
+        } else if is_word(text, b"rollback") {
+            Word::Rollback
+        } else if is_word(text, b"set") {
+            Word::Set
+        } else if is_word(text, b"transaction") {
+            Word::Transaction
+        } else if is_word(text, b"isolation") {
+            Word::Isolation
+        } else if is_word(text, b"level") {
+            Word::Level
+        } else if is_word(text, b"select") {
+            Word::Select
+        } else if is_word(text, b"from") {
+            Word::From
+        } else if is_word(text, b"where") {
+            Word::Where
+        } else if is_word(text, b"update") {
+            Word::Update
+        } else if is_word(text, b"value") {
+            Word::Value
+        } else if is_word(text, b"insert") {
+            Word::Insert
+        } else if is_word(text, b"into") {
+            Word::Into
+        } else if is_word(text, b"id") {
+            Word::Id
+        } else if is_word(text, b"values") {
+            Word::Values
+        } else if is_word(text, b"delete") {
+            Word::Delete
+        } else if is_word(text, b"and") {
+            Word::And
+        } else if is_word(text, b"or") {
+            Word::Or
+        } else if is_word(text, b"not") {
+            Word::Not
+        } else if is_word(text, b"in") {
+            Word::In
+        } else {
+            name_or_other(text)
+        }
+    }
+}
+
+/// How many letters there are at the front.
+fn letters_len(bytes: &[u8]) -> usize
+    ensures value { result ≡ prefix_len is_letter bytes.now }
+    ensures within { result ≤ length bytes.now }
+{
+    bytes.iter().take_while(|b| is_letter(**b)).count()
+}
+
+/// How many blanks there are at the front.
+pub fn blanks_len(bytes: &[u8]) -> usize
+    ensures value { result ≡ prefix_len is_blank bytes.now }
+    ensures within { result ≤ length bytes.now }
+{
+    bytes.iter().take_while(|b| is_blank(**b)).count()
+}
+
+/// The word at the front, and what follows it.
+#[tactic(auto, using(crate::proofs::Tokens::letters_run))]
+fn word_at(bytes: &[u8]) -> (Word, &[u8])
+    ensures value { held_from (letters []) bytes.now ≡ token.Word result.0 ∷ held_tokens result.1.now }
+    ensures within { length result.1.now ≤ length bytes.now }
+{
+    let (text, rest) = bytes.split_at(letters_len(bytes));
+    (Word::named(text), rest)
+}
+
+/// The digits at the front, behind digits that spell this number, and what follows them.
+#[inline(always)]
+fn digits_at(number: u32, bytes: &[u8]) -> (u32, &[u8])
+    requires { number ≤ 1000000001 }
+    ensures value { held_from (whole (token.Digits number)) bytes.now ≡ token.Digits result.0 ∷ held_tokens result.1.now }
+    ensures within { length result.1.now ≤ length bytes.now }
+{
+    let mut number = u64::from(number);
+    for (i, byte) in bytes.iter().enumerate() {
+        if !byte.is_ascii_digit() {
+            return (number as u32, &bytes[i..]);
+        }
+        number = (10 * number + u64::from(*byte - b'0')).min(TOO_LARGE);
+    }
+    (number as u32, &[])
+}
+
+/// The token that `<` begins, and what follows it.
+fn less_at(after: &[u8]) -> (Token, &[u8])
+    ensures value { held_from (whole token.Less) after.now ≡ result.0 ∷ held_tokens result.1.now }
+    ensures within { length result.1.now ≤ length after.now }
+{
+    match after {
+        [] => (Token::Less, after),
+        [next, rest @ ..] => {
+            if *next == b'>' {
+                (Token::Unequal, rest)
+            } else if *next == b'=' {
+                (Token::AtMost, rest)
+            } else {
+                (Token::Less, after)
+            }
+        }
+    }
+}
+
+/// The token that `>` begins, and what follows it.
+fn greater_at(after: &[u8]) -> (Token, &[u8])
+    ensures value { held_from (whole token.Greater) after.now ≡ result.0 ∷ held_tokens result.1.now }
+    ensures within { length result.1.now ≤ length after.now }
+{
+    match after {
+        [b'=', rest @ ..] => (Token::AtLeast, rest),
+        _ => (Token::Greater, after),
+    }
+}
+
+/// The mark that a byte is, if it is neither blank nor a letter nor a digit.
+fn mark_of(byte: u8) -> Token
+    ensures { result ≡ mark byte }
+{
+    match byte {
+        b'<' => Token::Less,
+        b'>' => Token::Greater,
+        b'(' => Token::Open,
+        b')' => Token::Close,
+        b',' => Token::Comma,
+        b';' => Token::Semicolon,
+        b'*' => Token::Star,
+        b'=' => Token::Equal,
+        b'%' => Token::Percent,
+        b'+' => Token::Plus,
+        b'-' => Token::Minus,
+        _ => Token::Unknown,
+    }
+}
+
+/// The mark that begins with this byte, and what follows it.
+fn mark_at(first: u8, after: &[u8]) -> (Token, &[u8])
+    ensures value { held_from (whole (mark first)) after.now ≡ result.0 ∷ held_tokens result.1.now }
+    ensures within { length result.1.now ≤ length after.now }
+{
+    if first == b'<' {
+        less_at(after)
+    } else if first == b'>' {
+        greater_at(after)
+    } else {
+        (mark_of(first), after)
+    }
+}
+
+/// The tokens of a text, with a number past every range as `TOO_LARGE`; NoMemory where an allocation was refused.
+pub fn tokens_of(alloc: Global, text: &[u8]) -> Result<Vec<Token>, NoMemory>
+    ensures { IfOk result (λ found. found.items ≡ held_tokens text.now) }
+{
+    let mut found = Vec::new(alloc);
+    tokens_into(&mut found, text)?;
+    Ok(found)
+}
+
+/// Puts the tokens of a text, with a number past every range as `TOO_LARGE`, in place of what was found before;
+/// NoMemory where an allocation was refused.
+#[tactic(auto, using(crate::proofs::Tokens::comma_begins))]
+pub fn tokens_into(found: &mut Vec<Token>, text: &[u8]) -> Result<(), NoMemory>
+    ensures { OnOk result (found.new.items ≡ held_tokens text.now) }
+{
+    found.clear();
+    let mut rest = text;
+    // Each branch pushes its own token, so that none is copied on its way. Digits and commas are told first, since the
+    // longest texts are lists of numbers.
+    while let Some((first, after)) = rest.split_first() {
+        if first.is_ascii_digit() {
+            let (number, behind) = digits_at(u32::from(*first - b'0'), after);
+            found.push(Token::Digits(number))?;
+            rest = behind;
+        } else if *first == b',' {
+            found.push(Token::Comma)?;
+            rest = after;
+        } else if is_blank(*first) {
+            rest = after;
+        } else if is_letter(*first) {
+            let (word, behind) = word_at(rest);
+            found.push(Token::Word(word))?;
+            rest = behind;
+        } else {
+            let (mark, behind) = mark_at(*first, after);
+            found.push(mark)?;
+            rest = behind;
+        }
+    }
+    Ok(())
+}
