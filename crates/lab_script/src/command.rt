@@ -32,7 +32,12 @@ pub fn commands(alloc: Global, parser: &mut Parser, room: usize) -> Result<Vec<C
 
 /// Reads a statement with its end, and adds its command.
 #[tactic(auto, unfolding(crate::specs::FirstFaults::step_read))]
-fn step(alloc: Global, parser: &mut Parser, room: usize, commands: &mut Vec<Command>) -> Result<(), Refusal>
+fn step(
+    alloc: Global,
+    parser: &mut Parser,
+    room: usize,
+    commands: &mut Vec<Command>,
+) -> Result<(), Refusal>
     ensures { Comes (λ x. (commands.new.items, parser.new)) result parser.new (step_read room commands.old.items parser.old) }
 {
     let command = terminated(alloc, parser)?;

@@ -16,7 +16,10 @@ use crate::line::{is_blank_code, session_of};
 use crate::script::{Lines, Script};
 use crate::setup::read_setup;
 use bstr::ByteSlice;
-use lab_statement::{MAX_LINE_BYTES, ScriptFault, ScriptFaultKind, Token, Word, code_and_remark, is_ascii_code, tokens_into};
+use lab_statement::{
+    MAX_LINE_BYTES, ScriptFault, ScriptFaultKind, Token, Word, code_and_remark, is_ascii_code,
+    tokens_into,
+};
 use lab_table::TableSet;
 use std::alloc::Global;
 

@@ -6,7 +6,9 @@ ghost use Rattle.lab_statement.specs.Sink.{Puts};
 
 use crate::row_text::{put_natural, put_number, put_row};
 use crate::sink::Sink;
-use lab_table::{Cmp, Col, Command, Expr, NoMemory, Pred, PredKind, Statement, StatementKind, TableName, Value};
+use lab_table::{
+    Cmp, Col, Command, Expr, NoMemory, Pred, PredKind, Statement, StatementKind, TableName, Value,
+};
 
 fn put_col<S: Sink>(out: &mut S, col: Col) -> Result<(), S::Refusal>
     ensures { Puts S.kept S.limit result (S.text out.old) (printed_col col) (S.text out.new) }
