@@ -12,8 +12,7 @@ use Rattle.lab_statement.specs.declared.refusal.GrammarFault.TheVariants as gram
 use Rattle.lab_statement.specs.Reading.{after}
 use Rattle.lab_script.specs.FirstFaults.{table_of, named_row_read, row_table_read, words_read, level_read, command_read, terminated_read, one_added, step_read, more_commands_read, commands_read, row_onto_read, rows_onto_read, rows_read, table_read}
 use Rattle.lab_statement.specs.FirstFaults.{is_word, is_short, no_rows_at}
-use Rattle.lab_statement.proofs.FaultKinds.{StopsOnly, bind_only, found_only, cond_only, tokens_only, word_only, row_only}
-use Rattle.lab_script.proofs.FaultKinds.{statement_only, end_only}
+use Rattle.lab_statement.proofs.FaultKinds.{StopsOnly, bind_only, found_only, cond_only, tokens_only, word_only, row_only, statement_only, end_only}
 
 module _ (Is : GrammarFault → Type 0) (unknown : Is grammar.UnknownStatement) (name : Is grammar.BadTableName) (range : Is grammar.NumberOutOfRange) where
   module _ (deep : Is grammar.TooDeep) where
