@@ -13,7 +13,7 @@ use Rattle.lab_statement.specs.declared.token.Token.TheVariants as token
 use Rattle.lab_statement.specs.Printed.{printed_statement}
 use Rattle.lab_script.specs.Printed.{printed_setup}
 use Rattle.lab_statement.specs.Limits.{max_line_bytes, max_statement_bytes}
-use Rattle.lab_statement.specs.Grammar.{IsEnd, IsRow, IsStatement, row, words}
+use Rattle.lab_statement.specs.Grammar.{IsEnd, IsRow, IsStatement, words}
 
 -- stmt, and the commands that it gives
 pub data IsCommand : List Token → List Command → Type 0 where

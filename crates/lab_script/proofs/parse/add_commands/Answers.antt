@@ -16,4 +16,4 @@ pub returns-in-Err-clause-fault : goal.returns-in-Err-clause-fault
 returns-in-Err-clause-fault c =
     let fits : max_commands - length c.as_slice.result.now ≡ max_commands - length c.args.script.now.lines = ap (λ lines. max_commands - length lines) c.as_slice.ensures in
     subst (IsTokensFault c.args.number c.args.tokens.now c.args.remark.now (Some c.args.script.now)) (sym c.at-in-Err.ensures)
-    (commands_told c.args.script.now c.args.tokens.now c.args.remark.now c.if-begins_setup.ensures c.args.tables.now _ c.args.number c.in-Err.refusal c.requires.named fits c.in-Err.ensures.first)
+    (commands_told c.args.script.now c.args.tokens.now c.args.remark.now c.if-begins_setup.ensures c.args.tables.now.names _ c.args.number c.in-Err.refusal c.requires.named fits c.in-Err.ensures.first)
