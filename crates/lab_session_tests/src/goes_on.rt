@@ -3,8 +3,8 @@
 use lab_engine::{Engine, EngineFault, Level, LogEvent, Outcome};
 use lab_locking::LockEngine;
 use lab_script::parse_script;
-use lab_statement::parse_statement;
 use lab_session::{Lab, LabFault, Seat, print_log};
+use lab_statement::parse_statement;
 use lab_table::{Command, NoMemory, Session, Table};
 use std::alloc::{AllocError, Global};
 use std::sync::atomic::{AtomicBool, Ordering};
