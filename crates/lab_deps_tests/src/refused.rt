@@ -11,7 +11,7 @@ use std::alloc::Global;
 use std::process::Abort;
 use std::test::Fail;
 
-static CALLS: [Call; 26] = [
+static CALLS: [Call; 23] = [
     Call::ByRowCopy,
     Call::NumbersCopy,
     Call::TableCopy,
@@ -29,9 +29,6 @@ static CALLS: [Call; 26] = [
     Call::VersionsPut,
     Call::VersionsOverlay,
     Call::VersionsOverlaidWith,
-    Call::ChainsInstall,
-    Call::SituationOf,
-    Call::SituationTakeIn,
     Call::RecordingOf,
     Call::CheckLocal,
     Call::Edges,

@@ -6,9 +6,7 @@ use crate::refusal::refuse;
 use crate::refused_edges::is_right_of_dependencies;
 use crate::refused_steps::told;
 use crate::refused_versions::{is_right_of_overlays, is_right_of_versions};
-use lab_engine::{
-    EngineFault, LogEvent, MAX_EVENTS, Outcome, RecordFault, Recording, Sessions, Situation,
-};
+use lab_engine::{EngineFault, LogEvent, MAX_EVENTS, Outcome, RecordFault, Recording, Sessions};
 use lab_history::{History, ListPlace, Path};
 use lab_table::{NoMemory, Table};
 use std::alloc::{AllocError, Global};
@@ -33,9 +31,6 @@ pub enum Call {
     VersionsPut,
     VersionsOverlay,
     VersionsOverlaidWith,
-    ChainsInstall,
-    SituationOf,
-    SituationTakeIn,
     RecordingOf,
     CheckLocal,
     Edges,
@@ -149,31 +144,6 @@ fn is_right_of_answers(
     }
 }
 
-/// Goes on by a log's fifth event, the first commit.
-fn is_taken_in(
-    alloc: Global,
-    growth: u16,
-    log: &[LogEvent],
-    named: &Named,
-) -> Result<bool, NoMemory> {
-    if log.len() != 7 {
-        return Ok(false);
-    }
-    let (before, rest) = log.split_at(4);
-    let [event, ..] = rest else {
-        return Ok(false);
-    };
-    let mut situation = Situation::of(alloc, before)?;
-    refuse(alloc, growth);
-    let taken = situation.take_in(alloc, event);
-    let right = situation.events == 5
-        && situation.begun == 2
-        && situation.committed.entries().len() == 1
-        && situation.running(named.sessions[0]).is_none();
-    drop(situation);
-    taken.and(Ok(right))
-}
-
 /// Whether a recording has seven events, this table, and a history with the end table of this one.
 fn is_alike(made: &Recording, setup: &Table, history: &History) -> bool {
     made.log().len() == 7
@@ -198,35 +168,6 @@ fn is_recorded(alloc: Global, recording: &Recording) -> Result<bool, NoMemory> {
     }
 }
 
-/// Describes a log of seven events, of two transactions.
-fn is_described(alloc: Global, log: &[LogEvent]) -> Result<bool, NoMemory> {
-    if log.len() >= MAX_EVENTS {
-        return Ok(false);
-    }
-    let situation = Situation::of(alloc, log)?;
-    let right = situation.events == 7 && situation.begun == 2;
-    drop(situation);
-    Ok(right)
-}
-
-/// Calls on logs.
-fn is_right_of_logs(
-    alloc: Global,
-    growth: u16,
-    call: Call,
-    inputs: &Inputs,
-) -> Result<bool, NoMemory> {
-    let recording = &inputs.run.recording;
-    match call {
-        Call::SituationOf => is_described(alloc, recording.log()),
-        Call::SituationTakeIn => {
-            refuse(alloc, 0);
-            is_taken_in(alloc, growth, recording.log(), &inputs.named)
-        }
-        _ => is_recorded(alloc, recording),
-    }
-}
-
 /// Makes a call with an allocation refused, and says whether it answers what it is to answer.
 pub fn is_right(alloc: Global, growth: u16, call: Call, inputs: &Inputs) -> Result<bool, NoMemory> {
     refuse(alloc, growth);
@@ -244,13 +185,9 @@ pub fn is_right(alloc: Global, growth: u16, call: Call, inputs: &Inputs) -> Resu
         Call::VersionsOfTable | Call::VersionsCopy | Call::VersionsPut => is_right_of_versions(
             alloc, growth, call, inputs,
         ),
-        Call::VersionsWritten
-        | Call::VersionsOverlay
-        | Call::VersionsOverlaidWith
-        | Call::ChainsInstall => is_right_of_overlays(alloc, call, inputs),
-        Call::SituationOf | Call::SituationTakeIn | Call::RecordingOf => is_right_of_logs(
-            alloc, growth, call, inputs,
-        ),
+        Call::VersionsWritten | Call::VersionsOverlay | Call::VersionsOverlaidWith =>
+            is_right_of_overlays(alloc, call, inputs),
+        Call::RecordingOf => is_recorded(alloc, &inputs.run.recording),
         Call::CheckLocal
         | Call::Edges
         | Call::DependenciesOf

@@ -4,7 +4,7 @@
 use crate::inputs::{Inputs, Named, delete};
 use crate::refusal::refuse;
 use crate::refused_calls::Call;
-use lab_engine::{Chains, Versions};
+use lab_engine::Versions;
 use lab_history::{History, VersionName};
 use lab_table::NoMemory;
 use std::alloc::Global;
@@ -71,16 +71,6 @@ fn is_written(alloc: Global, history: &History) -> Result<bool, NoMemory> {
     Ok(is_one)
 }
 
-/// Installs versions by the first transaction.
-fn is_installed(alloc: Global, versions: &Versions, named: &Named) -> Result<bool, NoMemory> {
-    let mut chains = Chains::new(alloc);
-    let installed = chains.install(alloc, versions, named.first, 3);
-    let right = versions.entries().iter().all(|entry| chains.first_since(entry.0, 3)
-        == Some(named.first));
-    drop(chains);
-    installed.and(Ok(right))
-}
-
 /// Calls that take in versions.
 pub fn is_right_of_overlays(alloc: Global, call: Call, inputs: &Inputs) -> Result<bool, NoMemory> {
     let versions = &inputs.run.versions;
@@ -91,10 +81,9 @@ pub fn is_right_of_overlays(alloc: Global, call: Call, inputs: &Inputs) -> Resul
             let overlaid = made.overlay(alloc, versions);
             overlaid.and(Ok(are_those(made, versions)))
         }
-        Call::VersionsOverlaidWith => {
+        _ => {
             let made = Versions::new(alloc).overlaid_with(alloc, versions)?;
             Ok(are_those(made, versions))
         }
-        _ => is_installed(alloc, versions, &inputs.named),
     }
 }

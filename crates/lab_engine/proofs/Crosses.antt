@@ -9,14 +9,14 @@ use Rattle.lab_table.proofs.number.Session.TheSendSync as session
 use Rattle.lab_table.proofs.table.Table.TheSendSync as table
 use Rattle.lab_table.proofs.predicate.Pred.TheLaws.TheKnot as predicate
 use Rattle.lab_table.specs.contracts.statement.Statement as Statement
-use Rattle.lab_engine.proofs.version.Versions.TheSendSync as versions
-use Rattle.lab_engine.proofs.chain.Chains.TheSendSync as chains
+use Rattle.lab_table.proofs.row_name.RowName.TheSendSync as row_name
+use Rattle.lab_engine.proofs.row_states.RowStates.TheSendSync as row_states
 use Rattle.lab_engine.specs.declared.rules.Rules.{Ghosts}
 use Rattle.lab_engine.specs.contracts.journal.Journal as Journal
 use Rattle.lab_engine.specs.contracts.journal.Journal.TheInside as Inside
 use Rattle.lab_engine.specs.contracts.event.LogEvent as LogEvent
-use Rattle.lab_engine.specs.contracts.situation.RunningTxn as RunningTxn
-use Rattle.lab_engine.specs.contracts.situation.SessionState as SessionState
+use Rattle.lab_engine.specs.contracts.session_state.RunningTxn as RunningTxn
+use Rattle.lab_engine.specs.contracts.session_state.SessionState as SessionState
 use Rattle.lab_engine.specs.contracts.situation.Situation as Situation
 
 pub statement : IsSend Statement.the_row
@@ -26,7 +26,7 @@ pub event : IsSend LogEvent.the_row
 event = search (sendable, crosses, predicate.crosses) depth 40 fits 20000
 
 running : IsSend RunningTxn.the_row
-running = search (sendable, crosses, number.the_send, statement, versions.the_send) depth 40 fits 20000
+running = search (sendable, crosses, number.the_send, row_name.the_send, statement) depth 40 fits 20000
 
 state : IsSend SessionState.the_row
 state = search (sendable, crosses, session.the_send, statement, running) depth 40 fits 20000
@@ -34,7 +34,7 @@ state = search (sendable, crosses, session.the_send, statement, running) depth 4
 pub situation : IsSend Situation.the_row
 situation = declared_send Situation.the_type (
   search (sendable, crosses, state) depth 40,
-  (search (sendable, versions.the_send), (search (sendable, chains.the_send), (search sendable, (search sendable, tt)))),
+  (search (sendable, row_states.the_send), (search sendable, (search sendable, tt))),
 )
 
 module _ (R : RattleType) (rules : Ghosts R.Denot) (default : Defaults R.Denot) where

@@ -8,8 +8,8 @@ use Rattle.lab_table.specs.declared.statement.Command.TheVariants.{Begin, Commit
 use Rattle.lab_history.specs.VersionName.{View}
 use Rattle.lab_engine.specs.declared.event.Outcome.{Outcome}
 use Rattle.lab_engine.specs.declared.event.Outcome.TheVariants.{Begun, Rows as Listed, Committed, Aborted, Waits, Refused}
-use Rattle.lab_engine.specs.declared.situation.RunningTxn.{RunningTxn}
-use Rattle.lab_engine.specs.declared.situation.SessionState.{SessionState}
+use Rattle.lab_engine.specs.declared.session_state.RunningTxn.{RunningTxn}
+use Rattle.lab_engine.specs.declared.session_state.SessionState.{SessionState}
 use Rattle.lab_engine.specs.Log.{Past, Txn, active, active_after, ops_after, is_fatal, begun, begun_after}
 use Rattle.lab_engine.specs.Situation.{DescribesSession, Agree, IsRunning, HasRoom}
 

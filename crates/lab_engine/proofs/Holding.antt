@@ -1,24 +1,20 @@
--- What a test of the entries of a map of rows says row by row, and pending writes of rows that a statement would write.
+-- What a test of the entries of a map of rows says row by row, and what statements have read.
 use Rattle.std.proofs.Common.{◌≡◌, ◌∙◌, refl, sym, ap, subst, Bool, true, false, cond, ◌||◌, T, List, [], ◌∷◌, map, reverse, inl, inr}
-use Rattle.std.specs.Prelude.{Option, Some, None, is_some, IsSome}
+use Rattle.std.specs.Prelude.{Option, Some, None}
 use Rattle.std.specs.List.{list_any}
 use Rattle.std.proofs.lemmas.Bool.{or_cases, or_parts, true≢false}
 use Rattle.std.proofs.lemmas.List.Sorted.{list_any-IsPermutation, IsPermutation-reverse}
 use Rattle.std.specs.FinMap.{FinMap, find, is_sorted, get, entries, entries_sorted, get-entries}
 use Rattle.std.specs.FinMap.Entries.{below_all}
 use Rattle.lab_table.specs.Row.{Row, row_cmp, row_eq}
-use Rattle.lab_table.specs.Table.{Table, State}
-use Rattle.lab_table.specs.Statement.{matches, would_write}
+use Rattle.lab_table.specs.Table.{State}
+use Rattle.lab_table.specs.Statement.{matches}
 use Rattle.lab_table.specs.declared.statement.Statement.{Statement}
 use Rattle.lab_table.proofs.Maps.{same_row, row_eq_self, find_below}
 use Rattle.lab_table.proofs.Tests.{both}
 use Rattle.lab_history.specs.declared.operation.Op.{Op}
 use Rattle.lab_history.specs.declared.operation.VersionName.TheVariants.{Initial}
-use Rattle.lab_engine.specs.declared.event.Level.{Level}
-use Rattle.lab_engine.specs.Log.{Past, Version, Txn, version_by, has_read}
-use Rattle.lab_engine.specs.Rules.{HoldsWrite}
-use Rattle.lab_engine.specs.Sight.{Listed, version_in, ShowsWritten}
-use Rattle.lab_engine.specs.Pending.{writes_over}
+use Rattle.lab_engine.specs.Log.{Version, has_read}
 use Rattle.lab_engine.proofs.LockSteps.{none_some}
 use Rattle.std.proofs.lemmas.Option.{same_Some}
 
@@ -78,21 +74,3 @@ any_read statements ops row state same =
     ap (list_any (λ s. matches s row state)) same
     ∙ sym (list_any-IsPermutation (λ s. matches s row state) (map (λ op. op.statement) ops) (reverse (map (λ op. op.statement) ops)) (IsPermutation-reverse (map (λ op. op.statement) ops)))
     ∙ any-read ops row state
-
-module _ (level : Level) (setup : Table) (past : Past) (asker : Txn) (sees : Listed)
-    (s : Statement) (sight : ShowsWritten level setup past asker s sees) (holder : Txn) (pending : Listed) (last : (row : Row) → get pending row ≡ version_by holder row) where
-  -- the transaction has a pending write of a row that the statement would write
-  pub holds_write : writes_over sees s pending ≡ true → HoldsWrite level setup past asker s holder
-  holds_write any =
-      let f = found_of_any (λ entry. would_write s entry.0 (version_in sees entry.0).state) pending any in
-      (f.0, ap is_some (sym (last f.0) ∙ f.2), sym (sight f.0).0 ∙ f.3)
-
-  -- the transaction has none
-  pub holds_no_write : writes_over sees s pending ≡ false → ¬ HoldsWrite level setup past asker s holder
-  holds_no_write any (row, wrote, writes) =
-      at (version_by holder row) refl wrote
-    where
-      at : (own : Option Version) → version_by holder row ≡ own → IsSome own → ⊥
-      at None is some = absurd (true≢false (sym some))
-      at (Some v) is some = true≢false (sym writes ∙ sym (sight row).0
-          ∙ none_of_any (λ entry. would_write s entry.0 (version_in sees entry.0).state) pending any row v (last row ∙ is))

@@ -1,85 +1,16 @@
--- Chains of installed versions: what a commit puts onto them, and what they say of the versions at a begin.
-use Rattle.std.proofs.Common.{◌≡◌, ℕ, ◌≤◌, ◌<◌, refl, sym, ap, subst, ◌∙◌, arith, Bool, true, false, cond, T, List, [], ◌∷◌, ◌++◌, length, length-append, reverse, append_assoc}
-use Rattle.std.specs.Prelude.{Option, Some, None, is_some, option_map, unwrap_or}
+-- Chains of installed versions: what they say of the versions at a begin.
+use Rattle.std.proofs.Common.{◌≡◌, ℕ, ◌≤◌, ◌<◌, refl, sym, ap, subst, ◌∙◌, arith, cond, List, [], ◌∷◌, ◌++◌, length, length-append, append_assoc}
+use Rattle.std.specs.Prelude.{Option, Some, None, is_some, unwrap_or}
 use Rattle.std.specs.Option.{option_or}
-use Rattle.std.specs.Ordering.{is_eq}
 use Rattle.std.proofs.lemmas.Bool.{lt-ltb, le-ltb}
-use Rattle.std.proofs.lemmas.List.{reverse-append}
-use Rattle.std.specs.FinMap.{find, is_sorted, get, entries, entries_sorted, get-entries}
-use Rattle.std.specs.FinMap.Entries.{below_all}
-use Rattle.lab_table.specs.Row.{Row, row_cmp, row_eq, rows_total}
-use Rattle.lab_table.proofs.Maps.{find_below, same_row}
-use Rattle.lab_table.proofs.Tests.{both}
-use Rattle.lab_table.proofs.Orderings.{eq_reversed}
-use Rattle.lab_engine.specs.declared.chain.Installed.{Installed}
+use Rattle.lab_table.specs.Row.{Row}
+use Rattle.lab_engine.specs.declared.row_state.Installed.{Installed}
 use Rattle.lab_engine.specs.declared.event.Outcome.{Outcome}
 use Rattle.lab_engine.specs.declared.event.Outcome.TheVariants.{Begun, Rows as Listed, Committed, Aborted, Waits, Refused}
 use Rattle.lab_engine.specs.Log.{Past, Version, Txn, active, commits, commits_after, version_by, last_installed, writers}
 use Rattle.lab_engine.specs.Laws.{Began}
-use Rattle.lab_engine.specs.Chains.{longer, chain_after, chain, added, first_since, last_before}
-use Rattle.lab_engine.specs.Sight.{Listed as Versions}
-use Rattle.lab_engine.proofs.LockSteps.{none_some}
+use Rattle.lab_engine.specs.Chains.{longer, chain_after, chain, first_since, last_before}
 use Rattle.lab_engine.proofs.Begins.{begins_hold}
-
--- ---- a commit's versions
-
--- two rows are one whichever is compared to the other
-either_way : (a b : Row) → is_eq (row_cmp a b) ≡ row_eq b a
-either_way a b = ap is_eq (rows_total.antisymm a b) ∙ eq_reversed (row_cmp b a)
-
--- a chain that is put in the place of the row's own, and has one version more
-pub put_chain : {A : Type 0} (items : A → List Installed) (row : Row) (x : Installed) (old new : Row → Option A) (v : A) (before : List Installed)
-    → unwrap_or (option_map items (old row)) [] ≡ before → items v ≡ before ++ x ∷ []
-    → ((q : Row) → new q ≡ cond (is_eq (row_cmp row q)) (Some v) (old q)) → (other : Row)
-    → reverse (unwrap_or (option_map items (new other)) []) ≡ cond (row_eq other row) (x ∷ reverse (unwrap_or (option_map items (old other)) []))
-    (reverse (unwrap_or (option_map items (old other)) []))
-put_chain {A} items row x old new v before was has updates other = at (row_eq other row) refl where
-  now : (b : Bool) → row_eq other row ≡ b → new other ≡ cond b (Some v) (old other)
-  now b is = updates other ∙ ap (λ t. cond t (Some v) (old other)) (either_way row other ∙ is)
-
-  at : (b : Bool) → row_eq other row ≡ b
-      → reverse (unwrap_or (option_map items (new other)) []) ≡ cond (row_eq other row) (x ∷ reverse (unwrap_or (option_map items (old other)) []))
-      (reverse (unwrap_or (option_map items (old other)) []))
-  at true is =
-      ap (λ (o : Option A). reverse (unwrap_or (option_map items o) [])) (now true is) ∙ ap reverse has ∙ reverse-append before (x ∷ [])
-      ∙ ap (λ l. x ∷ reverse l) (sym was) ∙ ap (λ r. x ∷ reverse (unwrap_or (option_map items (old r)) [])) (sym (same_row other row is))
-      ∙ ap (λ t. cond t (x ∷ reverse (unwrap_or (option_map items (old other)) [])) (reverse (unwrap_or (option_map items (old other)) []))) (sym is)
-  at false is =
-      ap (λ (o : Option A). reverse (unwrap_or (option_map items o) [])) (now false is)
-      ∙ ap (λ t. cond t (x ∷ reverse (unwrap_or (option_map items (old other)) [])) (reverse (unwrap_or (option_map items (old other)) []))) (sym is)
-
-module _ (by place : ℕ) (row : Row) where
-  -- entries of other rows put nothing onto a chain
-  added_none : (es : List (Row × Version)) (c : List Installed) → find row_cmp row es ≡ None → added by place es row c ≡ c
-  added_none [] c h = refl
-  added_none (e ∷ es) c h = at (added_none es c) (row_eq row e.0) refl h where
-    at : (find row_cmp row es ≡ None → added by place es row c ≡ c) → (b : Bool) → row_eq row e.0 ≡ b → cond b (Some e.1) (find row_cmp row es) ≡ None → added by place (e ∷ es) row c ≡ c
-    at rest true is h = none_some _ (sym h)
-    at rest false is h = ap (λ b. added by place es row (cond b (record { version = e.1; by = by; place = place } ∷ c) c)) is ∙ rest h
-
-  -- the entries of a sorted list put onto a row's chain the row's own
-  pub added_all : (es : List (Row × Version)) (c : List Installed) → T (is_sorted row_cmp es) → added by place es row c ≡ longer by place (find row_cmp row es) c
-  added_all [] c h = refl
-  added_all (e ∷ es) c h = at (added_all es c) (row_eq row e.0) refl where
-    parts : T (below_all row_cmp e.0 es) × T (is_sorted row_cmp es)
-    parts = both (below_all row_cmp e.0 es) (is_sorted row_cmp es) h
-
-    at : (T (is_sorted row_cmp es) → added by place es row c ≡ longer by place (find row_cmp row es) c) → (b : Bool) → row_eq row e.0 ≡ b
-        → added by place (e ∷ es) row c ≡ longer by place (cond (row_eq row e.0) (Some e.1) (find row_cmp row es)) c
-    at rest true is =
-        ap (λ b. added by place es row (cond b (record { version = e.1; by = by; place = place } ∷ c) c)) is
-        ∙ added_none es (record { version = e.1; by = by; place = place } ∷ c) (find_below row es (subst (λ x. T (below_all row_cmp x es)) (sym (same_row row e.0 is)) parts.0))
-        ∙ ap (λ b. longer by place (cond b (Some e.1) (find row_cmp row es)) c) (sym is)
-    at rest false is =
-        ap (λ b. added by place es row (cond b (record { version = e.1; by = by; place = place } ∷ c) c)) is
-        ∙ rest parts.1
-        ∙ ap (λ b. longer by place (cond b (Some e.1) (find row_cmp row es)) c) (sym is)
-
--- the entries of a map put onto a row's chain the row's own
-pub added_map : (by place : ℕ) (row : Row) (last : Versions) (es : List (Row × Version)) (c : List Installed) → es ≡ entries last → added by place es row c ≡ longer by place (get last row) c
-added_map by place row last es c is =
-    ap (λ k. added by place k row c) is ∙ added_all by place row (entries last) c (entries_sorted last)
-    ∙ ap (λ o. longer by place o c) (sym (get-entries last row))
 
 -- ---- what a chain says
 
@@ -173,7 +104,7 @@ module _ (row : Row) where
   last_after n (Refused fault) act place c txns below is = is
 
   -- before a place behind all, the last version of a chain is the last that was installed
-  last_in : (n : ℕ) (past : Past) → length past ≤ n → last_before n (chain past row) ≡ last_installed (commits past) row
+  pub last_in : (n : ℕ) (past : Past) → length past ≤ n → last_before n (chain past row) ≡ last_installed (commits past) row
   last_in n [] within = refl
   last_in n (event ∷ past) within =
       last_after n event.outcome (active past event.session) (length past) (chain past row) (commits past) (omega (arith, within)) (last_in n past (omega (arith, within)))

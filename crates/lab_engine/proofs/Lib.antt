@@ -10,15 +10,20 @@ pub mod Describing
 pub mod EventBounds
 pub mod Holding
 pub mod Narrowing
-pub mod Overwriting
+pub mod SeenRows
+pub mod OtherWriters
 pub mod InstalledChains
 pub mod Answering
 pub mod Merging
 pub mod VersionLists
 pub mod States
 pub mod Effects
-mod KeptChains
 pub mod FailingRows
+mod SessionStates
+mod PendingVersions
+mod KeptChains
+mod RowChanges
+mod RowWalks
 mod Walks
 mod SessionBits
 mod WaitGraphs

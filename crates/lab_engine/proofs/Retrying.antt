@@ -6,7 +6,7 @@ use Rattle.std.proofs.lemmas.List.{take_all}
 use Rattle.lab_table.specs.Table.{Table}
 use Rattle.lab_table.proofs.Tests.{some_of, some_is}
 use Rattle.lab_engine.specs.declared.event.Level.{Level}
-use Rattle.lab_engine.specs.declared.situation.SessionState.{SessionState}
+use Rattle.lab_engine.specs.declared.session_state.SessionState.{SessionState}
 use Rattle.lab_engine.specs.declared.situation.Situation.{Situation}
 use Rattle.lab_engine.specs.Log.{Past, waiting}
 use Rattle.lab_engine.specs.Recording.{IsRetryable, NoneRetryable, IsLeastRetryable}
@@ -44,14 +44,14 @@ none_step level setup past states i state lt is none own session there r = elim 
     ]
 
 -- once all are passed, none is
-pub none_retryable : (level : Level) (setup : Table) (past : Past) (situation : Situation) (passed : ℕ) → Describes past situation → length situation.sessions.items ≤ passed
-    → ((session : ℕ) → IsTrue (is_among session (take passed situation.sessions.items)) → IsRetryable level setup past session → ⊥) → NoneRetryable level setup past
+pub none_retryable : (level : Level) (setup : Table) (past : Past) (situation : Situation) (passed : ℕ) → Describes past situation → length situation.sessions ≤ passed
+    → ((session : ℕ) → IsTrue (is_among session (take passed situation.sessions)) → IsRetryable level setup past session → ⊥) → NoneRetryable level setup past
 none_retryable level setup past situation passed d all none session r =
-    none session (ap (is_among session) (take_all passed situation.sessions.items all) ∙ among situation.sessions.items session (waiter_there past situation session r.0 d r.1)) r
+    none session (ap (is_among session) (take_all passed situation.sessions all) ∙ among situation.sessions session (waiter_there past situation session r.0 d r.1)) r
 
 -- the first that is retryable is the least
-pub least_retryable : (level : Level) (setup : Table) (past : Past) (situation : Situation) (i : ℕ) (state : SessionState) → Describes past situation → i < length situation.sessions.items
-    → state ≡ get_or situation.sessions.items i state → ((session : ℕ) → IsTrue (is_among session (take i situation.sessions.items)) → IsRetryable level setup past session → ⊥)
+pub least_retryable : (level : Level) (setup : Table) (past : Past) (situation : Situation) (i : ℕ) (state : SessionState) → Describes past situation → i < length situation.sessions
+    → state ≡ get_or situation.sessions i state → ((session : ℕ) → IsTrue (is_among session (take i situation.sessions)) → IsRetryable level setup past session → ⊥)
     → IsRetryable level setup past state.session → IsLeastRetryable level setup past state.session
 least_retryable level setup past situation i state d lt is none r =
-    (r, λ other less o. none other (earlier 0 situation.sessions.items i state other (subst (RiseFrom 0) (sym d.sessions) sessions_rise) lt is (waiter_there past situation other o.0 d o.1) less) o)
+    (r, λ other less o. none other (earlier 0 situation.sessions i state other (subst (RiseFrom 0) (sym d.sessions) sessions_rise) lt is (waiter_there past situation other o.0 d o.1) less) o)

@@ -8,7 +8,7 @@ use Rattle.std.proofs.lemmas.Bool.{eq-eqb, or_right}
 use Rattle.std.proofs.lemmas.List.{map_more}
 use Rattle.std.proofs.lemmas.List.Folds.{list_any_more}
 use Rattle.lab_table.proofs.Members.{no_member}
-use Rattle.lab_engine.specs.declared.situation.SessionState.{SessionState}
+use Rattle.lab_engine.specs.declared.session_state.SessionState.{SessionState}
 use Rattle.lab_engine.specs.Situation.{all_sessions}
 
 -- of a list's numbers these are the ones that have a property, in their order

@@ -1,9 +1,9 @@
 -- Bits of a set of sessions.
-use Rattle.std.proofs.Common.{◌≡◌, ℕ, ◌-◌, ◌*◌, ◌/◌, ◌%◌, ◌^◌, ◌<◌, ◌≤◌, ◌==◌, ◌||◌, ◌&&◌, min, true, false, refl, ap, sym, subst, ◌∙◌, inl, inr, arith}
+use Rattle.std.proofs.Common.{◌≡◌, ℕ, ◌-◌, ◌*◌, ◌/◌, ◌%◌, ◌^◌, ◌<◌, ◌≤◌, ◌==◌, ◌||◌, ◌&&◌, min, max, true, false, refl, ap, sym, subst, ◌∙◌, inl, inr, arith}
 use Rattle.std.specs.Prelude.{IsTrue, bit_or, bit_and, Option, Some, None, IsSome, IfSome, ◌↔◌}
 use Rattle.std.specs.Int.{bit_at, trailing_zeros, w16}
 use Rattle.std.proofs.lemmas.Bool.{cases_eq, eq-eqb, ne_eqb, eqb-true, both_ways, or_cases, and_parts, cases_lt}
-use Rattle.std.proofs.lemmas.Nat.Bits.{bit_at_and, bit_at-lt, bit_at-zero, bit_at_set_same, bit_at_set_other, shr_and_one, bit_at-trailing_zeros, bit_at_ones, same_from_bits}
+use Rattle.std.proofs.lemmas.Nat.Bits.{bit_at_and, bit_at_or, bit_at-lt, bit_at-zero, bit_at_set_same, bit_at_set_other, shr_and_one, bit_at-trailing_zeros, bit_at_ones, same_from_bits}
 use Rattle.std.specs.Int.Bits.{mask_lt}
 use Rattle.lab_engine.specs.SessionBits.{has, AreSessions}
 
@@ -20,6 +20,15 @@ has_nobody n = ap (λ b. b == 1) (bit_at-zero n)
 pub has_common : (a b n : ℕ) → has (bit_and a b) n ≡ (has a n && has b n)
 unfolding has
 has_common a b n = ap (λ x. x == 1) (bit_at_and a b n) ∙ both (bit_at a n) (bit_at b n) (bit_at-lt a n) (bit_at-lt b n)
+
+-- a bit that either word has
+either : (a b : ℕ) → a < 2 → b < 2 → (max a b == 1) ≡ ((a == 1) || (b == 1))
+either a b small few = grind (arith, small, few)
+
+-- what is in one of two sets
+pub has_either : (a b n : ℕ) → has (bit_or a b) n ≡ (has a n || has b n)
+unfolding has
+has_either a b n = ap (λ x. x == 1) (bit_at_or a b n) ∙ either (bit_at a n) (bit_at b n) (bit_at-lt a n) (bit_at-lt b n)
 
 -- what is tested
 pub has_tested : (set n : ℕ) → (bit_and (set / 2 ^ n) 1 == 1) ≡ has set n
@@ -44,6 +53,12 @@ sessions_inserted set k low high h n there = elim (or_cases (n == k) (has set n)
 
 pub sessions_common : (a b : ℕ) → AreSessions a → AreSessions (bit_and a b)
 sessions_common a b h n there = h n (and_parts _ _ (sym (has_common a b n) ∙ there)).0
+
+pub sessions_either : (a b : ℕ) → AreSessions a → AreSessions b → AreSessions (bit_or a b)
+sessions_either a b h k n there = elim (or_cases (has a n) (has b n) (sym (has_either a b n) ∙ there)) [
+  | inl p ↦ h n p
+  | inr p ↦ k n p
+]
 
 pub sessions_nobody : AreSessions 0
 sessions_nobody n there = absurd (both_ways _ (has_nobody n) there)

@@ -1,15 +1,13 @@
 -- What a statement is shown of the versions that are seen: as much as its effect and its refusal rest on.
-use Rattle.std.proofs.Common.{◌≡◌, ◌∙◌, refl, sym, ap, subst, ℤ, Bool, true, false, cond, List, ℕ, inl, inr}
-use Rattle.std.specs.Prelude.{Option, Some, None, unwrap_or, option_and_then, option_map, is_some}
+use Rattle.std.proofs.Common.{◌≡◌, ◌∙◌, refl, sym, ap, subst, Bool, true, false, cond, inl, inr}
+use Rattle.std.specs.Prelude.{Option, Some, None, unwrap_or, option_and_then, is_some}
 use Rattle.std.specs.Option.{option_or}
 use Rattle.std.specs.FinMap.{get, insert, get-insert}
-use Rattle.lab_table.specs.Row.{Row, row_eq, rows_total, numbered}
+use Rattle.lab_table.specs.Row.{Row, row_eq, rows_total}
 use Rattle.lab_table.specs.Table.{State, Table}
-use Rattle.lab_table.specs.Statement.{may_match, selects, matched, listed, written, fails, would_write, kind_matched, kind_would_write, applied}
+use Rattle.lab_table.specs.Statement.{may_match, selects, listed, written, fails}
 use Rattle.lab_table.specs.declared.statement.Statement.{Statement}
-use Rattle.lab_table.specs.declared.statement.StatementKind.{StatementKind}
-use Rattle.lab_table.specs.declared.statement.StatementKind.TheVariants.{Select, Update, Insert, Delete}
-use Rattle.std.proofs.lemmas.Bool.{true≢false, false≢true}
+use Rattle.std.proofs.lemmas.Bool.{false≢true}
 use Rattle.lab_table.proofs.Maps.{same_row, row_eq_self}
 use Rattle.lab_table.proofs.OneRow.{no_match}
 use Rattle.lab_table.proofs.Statements.{listed_alike, written_alike, fails_alike}
@@ -88,7 +86,7 @@ initial_shown s row (Some value) = by (selects s row value) refl
 
 -- the own version, else the installed one, else the initial one
 pub first_shown : (s : Statement) (row : Row) (own installed : Option Version) (state : State)
-    → IsShown s row (unwrap_or (option_or own (option_or installed (option_and_then (matching_version s row) state))) (initially None)) (unwrap_or own (unwrap_or installed (initially state)))
+    → IsShown s row (unwrap_or (option_or (option_or own installed) (option_and_then (matching_version s row) state)) (initially None)) (unwrap_or own (unwrap_or installed (initially state)))
 first_shown s row (Some v) installed state = inl refl
 first_shown s row None (Some v) state = inl refl
 first_shown s row None None state = initial_shown s row state
@@ -112,26 +110,3 @@ module _ (s : Statement) (row : Row) (shown sees : Version) where
   shown_fails (inl same) = ap (λ (v : Version). fails s row v.state) same
   shown_fails (inr (out, value, is, off)) =
       ap (λ (v : Version). fails s row v.state) out ∙ fails_alike s row None (Some value) (sym off) ∙ sym (ap (λ (v : Version). fails s row v.state) is)
-
--- what a delete leaves
-abbrev removed : State
-removed = None
-
--- a row that is present and doesn't match isn't written
-unwritten_kind : (table : List ℕ) (kind : StatementKind) (row : Row) (value : ℤ) → kind_matched table kind row (Some value) ≡ None → kind_would_write table kind row (Some value) ≡ false
-unwritten_kind table (Select pred) row value off = refl
-unwritten_kind table (Update expr pred) row value off = ap (λ o. is_some (option_map (λ old. Some (applied expr old)) o)) off
-unwritten_kind table (Insert id new) row value off = by (row_eq row (numbered table id)) off
-  where
-    by : (b : Bool) → cond b (Some value) None ≡ None → is_some (cond b (Some (Some new)) None) ≡ false
-    by true e = absurd cc
-    by false e = refl
-unwritten_kind table (Delete pred) row value off = ap (λ (o : State). is_some (option_map (λ (old : ℤ). removed) o)) off
-
-pub unwritten : (s : Statement) (row : Row) (value : ℤ) → matched s row (Some value) ≡ None → would_write s row (Some value) ≡ false
-unwritten s = unwritten_kind s.table s.kind
-
--- so a row that is written is shown as it is seen
-pub written_same : (s : Statement) (row : Row) (shown sees : Version) → IsShown s row shown sees → would_write s row sees.state ≡ true → shown ≡ sees
-written_same s row shown sees (inl same) writes = same
-written_same s row shown sees (inr (out, value, is, off)) writes = absurd (true≢false (sym writes ∙ ap (λ (v : Version). would_write s row v.state) is ∙ unwritten s row value off))

@@ -1,12 +1,12 @@
 -- What is kept of the sessions, as a list.
-use Rattle.std.proofs.Common.{◌≡◌, ◌≢◌, ℕ, zero, suc, ◌+◌, ◌-◌, ◌≤◌, ◌<◌, false, cond, List, [], ◌∷◌, ◌++◌, map, length, drop, set, get_or, None, refl, sym, ap, subst, ◌∙◌, arith, append_assoc, ◌==◌}
+use Rattle.std.proofs.Common.{◌≡◌, ◌≢◌, ℕ, zero, suc, ◌+◌, ◌-◌, ◌≤◌, ◌<◌, false, cond, List, [], ◌∷◌, map, length, set, get_or, None, refl, sym, ap, subst, ◌∙◌, arith, ◌==◌}
 use Rattle.std.specs.Prelude.{⊤}
-use Rattle.std.proofs.lemmas.Bool.{ne_eqb}
-use Rattle.std.proofs.lemmas.List.{length-map, map-append}
+use Rattle.std.proofs.lemmas.Bool.{eq-eqb, ne_eqb}
+use Rattle.std.proofs.lemmas.List.{length-map, get_or-set_same}
 use Rattle.lab_engine.specs.declared.event.LogEvent.{LogEvent}
-use Rattle.lab_engine.specs.declared.situation.SessionState.{SessionState}
+use Rattle.lab_engine.specs.declared.session_state.SessionState.{SessionState}
 use Rattle.lab_engine.specs.Log.{Past, active, active_after, waiting, waiting_after}
-use Rattle.lab_engine.specs.Situation.{DescribesSession, DescribesAll, Agree, HasRoom, all_sessions}
+use Rattle.lab_engine.specs.Situation.{DescribesSession, DescribesAll, Agree, HasRoom, all_sessions, running_of}
 use Rattle.lab_engine.proofs.EventBounds.{has_room}
 
 -- after an event of another session what is kept of a session still agrees
@@ -66,6 +66,22 @@ sessions_one k [] new d few same = refl
 sessions_one zero (state ∷ states) new d few same = ap (λ n. n ∷ map (λ state. state.session) states) same
 sessions_one (suc k) (state ∷ states) new d few same = ap (λ l. state.session ∷ l) (sessions_one k states new d (omega arith) same)
 
+-- the transaction that is kept of the session at a place
+running_one : (n k session : ℕ) (states : List SessionState) (d : SessionState) → Rise n states → session ≡ n + k → k < length states
+    → running_of states session ≡ (get_or states k d).running
+running_one n k session [] d rise at few = absurd (omega arith)
+running_one n zero session (state ∷ states) d rise at few = ap (λ b. cond b state.running (running_of states session)) (eq-eqb state.session session (omega (arith, rise.0, at)))
+running_one n (suc k) session (state ∷ states) d rise at few =
+    ap (λ b. cond b state.running (running_of states session)) (ne_eqb state.session session (λ same. absurd (omega (arith, same, rise.0, at))))
+    ∙ running_one (suc n) k session states d rise.1 (omega (arith, at)) (omega arith)
+
+-- one state put in the place of another that agrees with the log as well
+same_one : (past : Past) (k : ℕ) (states : List SessionState) (new d : SessionState) → k < length states → (DescribesSession past (get_or states k d) → DescribesSession past new)
+    → DescribesAll past states → DescribesAll past (set states k new)
+same_one past k [] new d few same all = tt
+same_one past zero (state ∷ states) new d few same all = (same all.0, all.1)
+same_one past (suc k) (state ∷ states) new d few same all = (all.0, same_one past k states new d (omega arith) same all.1)
+
 -- a session's state stands at its number, counted from 1
 module _ (states : List SessionState) (n k : ℕ) (state : SessionState) (sessions : map (λ state. state.session) states ≡ all_sessions) (low : 1 ≤ n) (high : n ≤ 9) (place : k ≡ n - 1)
     (is : state ≡ get_or states k state) where
@@ -80,47 +96,40 @@ module _ (states : List SessionState) (n k : ℕ) (state : SessionState) (sessio
   pub sessions_stay : (new : SessionState) → new.session ≡ state.session → map (λ state. state.session) (set states k new) ≡ all_sessions
   sessions_stay new same = sessions_one k states new state there (same ∙ ap (λ s. s.session) is) ∙ sessions
 
+  -- it is described where all are
+  pub described_there : (past : Past) → DescribesAll past states → DescribesSession past state
+  described_there past all = subst (λ s. DescribesSession past s) (sym is) (describes_one past k states state there all)
+
+  -- it is the session's
+  pub own_there : (session : ℕ) → n ≡ session → session ≡ state.session
+  own_there session own =
+      let number : (get_or states k state).session ≡ 1 + k = session_one 1 k states state (all_rise states sessions) there in
+      let there_is : n ≡ (get_or states k state).session = omega (arith, number, place, low) in
+      sym own ∙ there_is ∙ ap (λ s. s.session) (sym is)
+
   -- all states go on with an event where the session's own does
   pub states_go_on : (past : Past) (event : LogEvent) (new : SessionState) → n ≡ event.session → DescribesAll past states
       → (DescribesSession past state → event.session ≡ state.session → DescribesSession (event ∷ past) new) → DescribesAll (event ∷ past) (set states k new)
   states_go_on past event new own all go_on =
-      let rise = all_rise states sessions in
-      let number : (get_or states k state).session ≡ 1 + k = session_one 1 k states state rise there in
-      let there_is : n ≡ (get_or states k state).session = omega (arith, number, place, low) in
-      let same : event.session ≡ state.session = sym own ∙ there_is ∙ ap (λ s. s.session) (sym is) in
-      set_one past event 1 k states new rise (omega (arith, own, place, low)) all (go_on (subst (λ s. DescribesSession past s) (sym is) (describes_one past k states state there all)) same)
+      set_one past event 1 k states new (all_rise states sessions) (omega (arith, own, place, low)) all (go_on (described_there past all) (own_there event.session own))
 
--- the sessions from a number on
-session_next : (n : ℕ) → 1 ≤ n → n ≤ 9 → drop (n - 1) all_sessions ≡ n ∷ drop (n + 1 - 1) all_sessions
-session_next zero low high = absurd (omega arith)
-session_next (suc zero) low high = refl
-session_next (suc (suc zero)) low high = refl
-session_next (suc (suc (suc zero))) low high = refl
-session_next (suc (suc (suc (suc zero)))) low high = refl
-session_next (suc (suc (suc (suc (suc zero))))) low high = refl
-session_next (suc (suc (suc (suc (suc (suc zero)))))) low high = refl
-session_next (suc (suc (suc (suc (suc (suc (suc zero))))))) low high = refl
-session_next (suc (suc (suc (suc (suc (suc (suc (suc zero)))))))) low high = refl
-session_next (suc (suc (suc (suc (suc (suc (suc (suc (suc zero))))))))) low high = refl
-session_next (suc (suc (suc (suc (suc (suc (suc (suc (suc (suc n)))))))))) low high = absurd (omega arith)
+  -- it has the session's transaction
+  pub running_there : running_of states n ≡ state.running
+  running_there = running_one 1 k n states state (all_rise states sessions) (omega (arith, place, low)) there ∙ ap (λ s. s.running) (sym is)
 
-all_more : (past : Past) (states : List SessionState) (state : SessionState) → DescribesAll past states → DescribesSession past state → DescribesAll past (states ++ state ∷ [])
-all_more past [] state all is = (is, tt)
-all_more past (first ∷ states) state all is = (all.0, all_more past states state all.1 is)
+  -- all states agree with the log still where another one in its place does
+  pub states_stay : (past : Past) (new : SessionState) → (DescribesSession past state → DescribesSession past new) → DescribesAll past states → DescribesAll past (set states k new)
+  states_stay past new same all = same_one past k states new state there (λ d. same (subst (λ s. DescribesSession past s) (sym is) d)) all
 
--- one more session that has done nothing
-pub idle_one : (n session : ℕ) (states news : List SessionState)
-    → (map (λ state. state.session) states ++ drop (n - 1) all_sessions ≡ all_sessions) × DescribesAll [] states × (1 ≤ n) × (n ≤ 10) → n < 10 → session ≡ n
-    → news ≡ states ++ record { session = session; waits = None; running = None } ∷ []
-    → (map (λ state. state.session) news ++ drop (n + 1 - 1) all_sessions ≡ all_sessions) × DescribesAll [] news × (1 ≤ n + 1) × (n + 1 ≤ 10)
-idle_one n session states news (sessions, all, low, high) below is new =
-    let state : SessionState = record { session = session; waits = None; running = None } in (
-      ap (λ l. map (λ state. state.session) l ++ drop (n + 1 - 1) all_sessions) new
-          ∙ ap (λ l. l ++ drop (n + 1 - 1) all_sessions) (map-append (λ state. state.session) states (state ∷ []))
-          ∙ append_assoc (map (λ state. state.session) states) (session ∷ []) (drop (n + 1 - 1) all_sessions)
-          ∙ ap (λ l. map (λ state. state.session) states ++ l) (ap (λ k. k ∷ drop (n + 1 - 1) all_sessions) is ∙ sym (session_next n low (omega arith)))
-          ∙ sessions,
-      subst (λ l. DescribesAll [] l) (sym new) (all_more [] states state all (record { waits = refl; running = tt })),
-      omega arith,
-      omega arith,
-    )
+  -- and has its transaction
+  pub running_put : (new : SessionState) → new.session ≡ state.session → running_of (set states k new) n ≡ new.running
+  running_put new same =
+      running_one 1 k n (set states k new) new (all_rise (set states k new) (sessions_stay new same)) (omega (arith, place, low)) (let len = length-set_here in omega (arith, len, there))
+      ∙ ap (λ s. s.running) (get_or-set_same states k new new there)
+    where
+      length-set_here : length (set states k new) ≡ length states
+      length-set_here = sym (length-map (set states k new) (λ state. state.session)) ∙ ap length (sessions_stay new same ∙ sym sessions) ∙ length-map states (λ state. state.session)
+
+-- a session that has done nothing
+pub idle_one : (state : SessionState) → state.waits ≡ None → state.running ≡ None → DescribesSession [] state
+idle_one state none idle = record { waits = none; running = subst (λ r. Agree None r) (sym idle) tt }

@@ -1,5 +1,5 @@
 -- What an engine decides before it changes anything.
-use Rattle.std.specs.Prelude.{◌≡◌, ◌≢◌, ℕ, Option, Some, None, ◌⊎◌, IfSome, MatchOption}
+use Rattle.std.specs.Prelude.{◌≡◌, ◌≢◌, ℕ, Option, Some, None, ◌⊎◌, MatchOption}
 use Rattle.lab_table.specs.Table.{Table}
 use Rattle.lab_table.specs.declared.statement.Statement.{Statement}
 use Rattle.lab_table.specs.declared.statement.Command.{Command}
@@ -28,7 +28,7 @@ Answers level setup past session command outcome = Permitted level setup past se
 abbrev pub IsRetryChoice : Level → Table → Past → Option ℕ → Type 0
 IsRetryChoice level setup past choice = MatchOption choice (NoneRetryable level setup past) (IsLeastRetryable level setup past)
 
--- what is kept beside a log agrees with it: the session that is retryable, and where the log leaves its sessions and rows, if that is known
-pub record Keeps (level : Level) (setup : Table) (past : Past) (choice : Option ℕ) (known : Option Situation) : Type 0 where
+-- what is kept beside a log agrees with it: the session that is retryable, and where the log leaves its sessions and rows
+pub record Keeps (level : Level) (setup : Table) (past : Past) (choice : Option ℕ) (kept : Situation) : Type 0 where
   pub retryable : IsRetryChoice level setup past choice
-  pub situation : IfSome known (Describes past)
+  pub situation : Describes past kept

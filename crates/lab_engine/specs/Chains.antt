@@ -1,9 +1,7 @@
 -- The versions of a row that commits installed, the newest first.
-use Rattle.std.specs.Prelude.{ℕ, nat_lt, cond, Option, Some, None, option_map, unwrap_or, List, [], ◌∷◌, length, reverse}
-use Rattle.std.specs.BTreeMap.{get}
-use Rattle.lab_table.specs.Row.{Row, row_cmp, row_eq}
-use Rattle.lab_engine.specs.declared.chain.Installed.{Installed}
-use Rattle.lab_engine.specs.declared.chain.Chains.{Chains}
+use Rattle.std.specs.Prelude.{ℕ, nat_lt, cond, Option, Some, None, unwrap_or, List, [], ◌∷◌, length}
+use Rattle.lab_table.specs.Row.{Row}
+use Rattle.lab_engine.specs.declared.row_state.Installed.{Installed}
 use Rattle.lab_engine.specs.declared.event.Outcome.{Outcome}
 use Rattle.lab_engine.specs.declared.event.Outcome.TheVariants.{Begun, Rows as Listed, Committed, Aborted, Waits, Refused}
 use Rattle.lab_engine.specs.Log.{Past, Version, Txn, active, version_by}
@@ -27,15 +25,6 @@ chain_after (Refused fault) txn place row chain = chain
 abbrev pub chain : Past → Row → List Installed
 chain [] row = []
 chain (event ∷ past) row = chain_after event.outcome (active past event.session) (length past) row (chain past row)
-
--- the chain that is kept of a row
-abbrev pub chain_in : Chains → Row → List Installed
-chain_in chains row = reverse (unwrap_or (option_map (λ kept. kept.items) (get row_cmp chains.rows row)) [])
-
--- a row's chain with each of its entries in a list put onto it
-abbrev pub added : ℕ → ℕ → List (Row × Version) → Row → List Installed → List Installed
-added by place [] row chain = chain
-added by place (e ∷ es) row chain = added by place es row (cond (row_eq row e.0) (record { version = e.1; by = by; place = place } ∷ chain) chain)
 
 -- who was the first to install a version from a place on
 abbrev pub first_since : ℕ → List Installed → Option ℕ

@@ -3,7 +3,7 @@ use Rattle.std.specs.Prelude.{ℤ, cond, Option, Some, None, option_map, option_
 use Rattle.std.specs.List.{filter_map}
 use Rattle.lab_table.specs.Row.{Row}
 use Rattle.lab_table.specs.Table.{State}
-use Rattle.lab_table.specs.Statement.{listed, fails, would_write}
+use Rattle.lab_table.specs.Statement.{listed, fails}
 use Rattle.lab_table.specs.Statement as statement
 use Rattle.lab_table.specs.declared.statement.Statement.{Statement}
 use Rattle.lab_history.specs.declared.operation.State.{State as Left}
@@ -17,10 +17,6 @@ with_row row made = option_map (λ b. (row, b)) made
 -- the rows of which something is made, with that
 abbrev pub each_row : {A B : Type 0} → (Row → A → Option B) → List (Row × A) → List (Row × B)
 each_row f entries = filter_map (λ entry. with_row entry.0 (f entry.0 entry.1)) entries
-
--- the version of a row that a statement would write
-abbrev pub overwritten_version : Statement → Row → Version → Option Version
-overwritten_version s row version = cond (would_write s row version.state) (Some version) None
 
 -- a state as histories have it
 abbrev pub stored : State → Left

@@ -1,10 +1,10 @@
 -- What a transaction sees, as a map of versions has it.
-use Rattle.std.specs.Prelude.{◌≡◌, ◌⊎◌, ℕ, ℤ, Option, Some, None, unwrap_or, IsTrue}
+use Rattle.std.specs.Prelude.{◌≡◌, ◌⊎◌, ℕ, ℤ, Option, Some, None, unwrap_or}
 use Rattle.std.specs.FinMap as map
 use Rattle.std.specs.FinMap.{FinMap}
 use Rattle.lab_table.specs.Row.{Row, row_cmp}
 use Rattle.lab_table.specs.Table.{Table, State}
-use Rattle.lab_table.specs.Statement.{matched, would_write}
+use Rattle.lab_table.specs.Statement.{matched}
 use Rattle.lab_table.specs.declared.statement.Statement.{Statement}
 pub use Rattle.lab_table.specs.Running.{comes_after}
 use Rattle.lab_history.specs.declared.operation.VersionName.TheVariants.{Initial}
@@ -42,12 +42,6 @@ IsShown s row shown sees = (shown ≡ sees) ⊎ ((shown ≡ initially None) × (
 -- a map of versions is what a statement of a transaction is shown of what that sees
 abbrev pub IsSight : Statement → Level → Table → Past → Txn → Listed → Type 0
 IsSight s level setup past txn versions = (row : Row) → IsShown s row (version_in versions row) (seen level setup past txn row)
-
--- a map of versions has what a transaction sees of each row that a statement would write, and no other row that it would write
-abbrev pub ShowsWritten : Level → Table → Past → Txn → Statement → Listed → Type 0
-ShowsWritten level setup past txn s versions = (row : Row)
-    → (would_write s row (version_in versions row).state ≡ would_write s row (seen level setup past txn row).state)
-    × (IsTrue (would_write s row (seen level setup past txn row).state) → version_in versions row ≡ seen level setup past txn row)
 
 -- the least row at which a commit conflicts, and the first to install it; only at snapshot
 abbrev pub IsFirstConflict : Level → Past → Txn → Conflict → Type 0

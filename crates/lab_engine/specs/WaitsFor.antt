@@ -1,6 +1,5 @@
 -- Who waits for whom, as a graph: for each session, by rising number, the set of those that it waits for.
-use Rattle.std.specs.Prelude.{◌≡◌, ◌==◌, ◌-◌, ℕ, Bool, ◌&&◌, Some, List, [], ◌∷◌, Contains, IsTrue, ◌↔◌, get_or}
-use Rattle.std.specs.List.{list_any}
+use Rattle.std.specs.Prelude.{◌≡◌, ◌-◌, ℕ, Bool, ◌&&◌, Some, List, [], ◌∷◌, Contains, IsTrue, ◌↔◌, get_or}
 use Rattle.std.specs.List.Sorted.{IsStrictlyIncreasing}
 use Rattle.lab_table.specs.Table.{Table}
 use Rattle.lab_table.specs.declared.statement.Statement.{Statement}
@@ -9,11 +8,7 @@ use Rattle.lab_engine.specs.declared.event.Level.{Level}
 use Rattle.lab_engine.specs.Log.{Past, waiting}
 use Rattle.lab_engine.specs.Rules.{BlockedBy}
 use Rattle.lab_engine.specs.SessionBits.{has}
-use Rattle.lab_engine.specs.Situation.{all_sessions}
-
--- whether a number is a session's
-abbrev pub is_session : ℕ → Bool
-is_session n = list_any (λ s. s == n) all_sessions
+pub use Rattle.lab_engine.specs.Sessions.{is_session}
 
 -- whether one session waits for another
 unfoldable pub waits_for : List ℕ → ℕ → ℕ → Bool

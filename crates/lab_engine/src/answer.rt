@@ -18,8 +18,9 @@ ghost use Rattle.lab_engine.specs.Answer.{MayGive, Answers};
 use crate::effect::{EffectFault, effect_of};
 use crate::event::{EngineFault, Outcome};
 use crate::rules::Rules;
-use crate::sight::{seen_by, shown_to};
-use crate::situation::{RunningTxn, Situation};
+use crate::session_state::RunningTxn;
+use crate::sight::seen_by;
+use crate::situation::Situation;
 use crate::version::Versions;
 use crate::waits::{blockers, deadlock};
 use lab_table::{Command, NoMemory, Session, Statement, Table, TxnNo};
@@ -90,10 +91,17 @@ pub fn run_statement<R: Rules>(
         → active past session ≡ Some txn → IsRunning txn running.now
         → IfOk result (Answers R.kind setup.now past session (Run statement.now)) }
 {
-    let shown = shown_to(alloc, rules.level(), setup, situation, running, statement)?;
-    let on = blockers(alloc, rules, setup, situation, session, &shown, statement)?;
+    let on = blockers(alloc, rules, setup, situation, session, running, statement)?;
     if on.as_slice().is_empty() {
-        let seen = seen_by(alloc, rules.level(), setup, situation, running, statement)?;
+        let seen = seen_by(
+            alloc,
+            rules.level(),
+            setup,
+            situation,
+            session,
+            running,
+            statement,
+        )?;
         return unblocked(alloc, statement, &seen);
     }
     match deadlock(alloc, rules, setup, situation, session, &on)? {

@@ -14,7 +14,6 @@ ghost use Rattle.lab_engine.specs.Effect.{IsEffectOn, IsEffectFault};
 ghost use Rattle.lab_engine.specs.declared.effect.EffectFault.TheVariants.{NoMemory};
 
 use crate::candidate::candidates;
-use crate::pending::version_seen;
 use crate::version::{Version, Versions};
 use lab_history::{Rows, State, VersionName, View, Writes};
 use lab_table::{NoMemory, RowName, Statement, Value};
@@ -233,6 +232,19 @@ fn first_candidate_failing(statement: &Statement, entries: &[(RowName, Version)]
     ensures { result ≡ made.first_failing statement.now entries.now }
 {
     first_failing(statement, candidates(statement, entries))
+}
+
+/// The version of a row that is seen: the one listed, else that of a row absent from the start.
+fn version_seen(seen: &Versions, row: RowName) -> Version
+    ensures { result ≡ version_in seen.now row }
+{
+    match seen.get(row) {
+        Some(version) => version,
+        None => Version {
+            name: VersionName::Initial,
+            state: None,
+        },
+    }
 }
 
 /// Why a statement can't run on rows that are seen at these versions, if it can't.

@@ -14,8 +14,8 @@ ghost use Rattle.lab_engine.specs.Gathered as plain;
 ghost use Rattle.lab_engine.specs.Gathered.{Gathers, AreActive, IsWithin};
 
 use crate::event::{LogEvent, Outcome};
+use crate::event_query::{asked_statement, is_fatal_fault};
 use crate::installs::{install, installing};
-use crate::log_query::{asked_statement, is_fatal_fault};
 use crate::version::Versions;
 use lab_history::{Op, Outcome as End};
 use lab_table::{NoMemory, RowName, Session, TxnNo};

@@ -8,47 +8,55 @@
 //! Busy until `retry` has run the statement anew. `retryable` names a session for which that is of use.
 //!
 //! A [`Journal`] is an engine of any [`Rules`], which say who blocks a statement and which commits conflict. Beside its
-//! setup and its log it keeps the [`Situation`] in which the log leaves sessions and rows, and calls ask that. It is found
-//! by a pass over the log at the first step, and after a step that was refused memory while the situation changed. The
-//! rules of each level, and the engines as journals over them, are in `lab_locking` and `lab_versions`.
+//! setup and its log it keeps the [`Situation`] in which the log leaves sessions and rows, and calls ask that: of each
+//! session its active transaction and the statement that it waits with, of each row the versions that commits installed
+//! and those that transactions have pending. A call decides on its event, then makes room for it, and then goes on by
+//! it, which takes no memory. The rules of each level, and the engines as journals over them, are in `lab_locking` and
+//! `lab_versions`.
 #![tactic(auto)]
 
 mod answer;
 mod answer_laws;
 mod candidate;
-mod chain;
 mod circle;
 mod decision;
 mod effect;
 mod engine;
 mod equality;
 mod event;
+mod event_query;
 mod gathering;
 mod installs;
 mod journal;
 mod laws;
-mod log_query;
-mod pending;
 mod recording;
 mod recording_laws;
+mod reserved;
+mod row_state;
+mod row_states;
 mod rules;
 mod session_set;
+mod session_state;
 mod sight;
 mod situation;
 mod version;
 mod wait_graph;
 mod waits;
+mod writers;
 
 pub use answer_laws::{least_circle_unique, one_outcome};
-pub use candidate::candidates;
-pub use chain::{Chains, Installed};
 pub use engine::{Engine, MAX_EVENTS};
 pub use event::{EngineFault, Level, LogEvent, Outcome, Sessions};
 pub use journal::Journal;
 pub use laws::{law_of_begins, law_of_commits, law_of_locks, law_of_numbers, law_of_records};
-pub use pending::{holds_write, version_seen};
 pub use recording::{RecordFault, Recording};
 pub use recording_laws::{law_of_installers, law_of_views, recording_unique};
+pub use row_state::{Installed, RowState};
+pub use row_states::RowStates;
 pub use rules::{Conflict, Rules};
-pub use situation::{RunningTxn, SessionState, Situation};
+pub use session_set::SessionSet;
+pub use session_state::{RunningTxn, SessionState};
+pub use sight::row_seen;
+pub use situation::Situation;
 pub use version::{Version, Versions};
+pub use writers::{would_write, writers_in_way};

@@ -1,15 +1,18 @@
 //! What the rules of a level are asked for.
 
-ghost use Rattle.std.specs.Prelude.{◌≡◌, Some, None, true, false, MatchOption};
+ghost use Rattle.std.specs.Prelude.{◌≡◌, ◌↔◌, ℕ, Some, IsTrue, MatchOption};
 ghost use Rattle.lab_engine.specs.declared.event.Level.{Level as Kind};
 ghost use Rattle.lab_engine.specs.Log.{Past, Txn, active};
 ghost use Rattle.lab_engine.specs.Rules.{Blocks, MayCommit};
 ghost use Rattle.lab_engine.specs.Situation.{Describes, IsRunning};
-ghost use Rattle.lab_engine.specs.Sight.{ShowsWritten, IsFirstConflict};
+ghost use Rattle.lab_engine.specs.Sight.{IsFirstConflict};
+ghost use Rattle.lab_engine.specs.Others.{IsOther};
+ghost use Rattle.lab_engine.specs.SessionBits.{has};
 
 use crate::event::Level;
-use crate::situation::{RunningTxn, Situation};
-use crate::version::Versions;
+use crate::session_set::SessionSet;
+use crate::session_state::RunningTxn;
+use crate::situation::Situation;
 use lab_table::{RowName, Session, Statement, Table, TxnNo};
 
 /// A row that another transaction has installed since the begin of one that wrote it, and the first such transaction.
@@ -31,20 +34,17 @@ pub trait Rules: Default {
     fn level(&self) -> Level
         ensures { result ≡ kind };
 
-    /// Whether a transaction of another session blocks a statement of one that sees these versions of the rows that the
-    /// statement would write, after the events of this situation.
-    fn blocks(
+    /// The sessions that block a statement of a session with this active transaction, after the events of this situation.
+    fn blockers(
         &self,
         setup: &Table,
         situation: &Situation,
-        seen: &Versions,
+        session: Session,
+        running: &RunningTxn,
         statement: &Statement,
-        holder: &RunningTxn,
-    ) -> bool
-        ensures yes { (past : Past) (asker txn : Txn) → Describes past situation.now → ShowsWritten kind setup.now past asker statement.now seen.now
-            → IsRunning txn holder.now → result ≡ true → Blocks kind setup.now past asker statement.now txn }
-        ensures never { (past : Past) (asker txn : Txn) → Describes past situation.now → ShowsWritten kind setup.now past asker statement.now seen.now
-            → IsRunning txn holder.now → result ≡ false → ¬ Blocks kind setup.now past asker statement.now txn };
+    ) -> SessionSet
+        ensures { (past : Past) (txn : Txn) → Describes past situation.now → active past session ≡ Some txn → IsRunning txn running.now
+            → (other : ℕ) → IsTrue (has result other) ↔ IsOther past session other (Blocks kind setup.now past txn statement.now) };
 
     /// Why a session's active transaction may not commit after the events of this situation, if it may not; None where
     /// it may.

@@ -69,6 +69,15 @@ impl SessionSet {
         }
     }
 
+    /// Those that are in it or in another set.
+    pub fn with(self, other: SessionSet) -> SessionSet
+        ensures { (n : ℕ) → has result n ≡ (has self n || has other n) }
+    {
+        SessionSet {
+            bits: self.bits | other.bits,
+        }
+    }
+
     /// The least session in it, or None where it has nobody.
     pub fn least(self) -> Option<Session>
         ensures some { IfSome result (λ session. IsTrue (has self session)) }

@@ -1,57 +1,28 @@
 //! What is kept of a log: where it leaves its sessions and rows.
 
-ghost use Rattle.std.specs.Prelude.{◌≡◌, ◌<◌, [], ◌∷◌, None, length, option_map, is_some, Option, List, Contains, IfOk};
+ghost use Rattle.std.specs.Prelude.{◌≡◌, ◌==◌, ◌&&◌, ◌<◌, ◌≤◌, ℕ, [], ◌∷◌, not, length, option_map, is_some, Contains, IfOk, OnOk};
 ghost use Rattle.std.specs.Prelude as list;
-ghost use Rattle.std.specs.FinMap as map;
-ghost use Rattle.lab_table.specs.Row.{Row};
-ghost use Rattle.lab_table.specs.Table.{Rows};
-ghost use Rattle.lab_history.specs.VersionName.{View};
-ghost use Rattle.lab_history.specs.declared.operation.Op.{Op};
 ghost use Rattle.lab_engine.specs.Limits.{max_events};
-ghost use Rattle.lab_engine.specs.Log.{Past, past_of, Txn, active, active_after, waiting, waiting_after, ops_after, commits_after, begun_after, last_installed};
-ghost use Rattle.lab_engine.specs.Chains.{chain_in, chain_after};
-ghost use Rattle.lab_engine.specs.Situation.{Describes, DescribesSession, DescribesAll, Agree, IsRunning, HasRoom, all_sessions, running_of, waiting_of, grown};
+ghost use Rattle.lab_engine.specs.Log.{Past, active, waiting, begun_after};
+ghost use Rattle.lab_engine.specs.KeptRows.{pending_in, AreReady};
+ghost use Rattle.lab_engine.specs.SessionBits.{has};
+ghost use Rattle.lab_engine.specs.Situation.{Describes, DescribesAll, DescribesRows, HoldsOutcome, HasPlaces, AreCopies, all_sessions, running_of, waiting_of};
 
-use crate::chain::Chains;
 use crate::event::{LogEvent, Outcome};
-use crate::log_query::{asked_statement, is_busy, is_fatal_fault, waits_after};
-use crate::version::Versions;
-use lab_history::{VersionName, Writes};
-use lab_table::{Command, NoMemory, Session, Statement, TxnNo};
+use crate::row_states::RowStates;
+use crate::session_set::SessionSet;
+use crate::session_state::{Copies, RunningTxn, SessionState};
+use lab_history::Writes;
+use lab_table::{NoMemory, RowName, Session, Statement};
 use std::alloc::Global;
-
-/// An active transaction.
-#[derive(Drop)]
-pub struct RunningTxn {
-    /// Its number.
-    pub number: TxnNo,
-    /// How many events stand before its begin.
-    pub before: usize,
-    /// The statements that it ran, in order.
-    pub statements: Vec<Statement>,
-    /// The last version of each row that it wrote.
-    pub last: Versions,
-}
-
-/// What a session is doing.
-#[derive(Drop)]
-pub struct SessionState {
-    pub session: Session,
-    /// The statement that it waits with, if it waits.
-    pub waits: Option<Statement>,
-    /// Its active transaction, if it has one.
-    pub running: Option<RunningTxn>,
-}
 
 /// Where a log leaves its sessions and rows.
 #[derive(Drop)]
 pub struct Situation {
     /// Each of the sessions 1 to 9, by rising number.
-    pub sessions: Vec<SessionState>,
-    /// The last installed version of each row that was ever installed.
-    pub committed: Versions,
-    /// All installed versions of each row, with the places of their commits.
-    pub chains: Chains,
+    pub sessions: [SessionState; 9],
+    /// The versions of the rows, installed and pending.
+    pub rows: RowStates,
     /// How many transactions have begun.
     pub begun: u32,
     /// How many events there were.
@@ -59,27 +30,21 @@ pub struct Situation {
 }
 
 impl Situation {
-    /// The situation after these events, the oldest first. NoMemory where an allocation was refused.
-    pub fn of(alloc: Global, log: &[LogEvent]) -> Result<Situation, NoMemory>
-        requires { length log.now < max_events }
-        ensures { IfOk result (Describes (past_of log.now)) }
+    /// The situation before any event; it takes no memory.
+    pub(crate) fn new(alloc: Global) -> Situation
+        ensures { Describes [] result }
     {
-        let mut situation = Situation {
-            sessions: idle_sessions(alloc)?,
-            committed: Versions::new(alloc),
-            chains: Chains::new(alloc),
+        Situation {
+            sessions: idle_sessions(),
+            rows: RowStates::new(alloc),
             begun: 0,
             events: 0,
-        };
-        for event in log {
-            situation.take_in(alloc, event)?;
         }
-        Ok(situation)
     }
 
     /// The active transaction of a session, or None where it has none.
     pub fn running(&self, session: Session) -> Option<&RunningTxn>
-        ensures { option_map (λ r. r.now) result ≡ running_of self.now.sessions.items session }
+        ensures { option_map (λ r. r.now) result ≡ running_of self.now.sessions session }
     {
         running_in(&self.sessions, session)
     }
@@ -105,81 +70,88 @@ impl Situation {
         self.waiting(session).is_some()
     }
 
-    /// Goes on by one event. After NoMemory the situation is of no use.
-    pub fn take_in(&mut self, alloc: Global, event: &LogEvent) -> Result<(), NoMemory>
-        requires room { (past : Past) × Describes past self.old × (length past < max_events) }
-        ensures { (past : Past) → Describes past self.old → IfOk result (λ _. Describes (event.now ∷ past) self.new) }
+    /// The other sessions that have a version of a row pending.
+    pub fn other_writers(&self, row: RowName, session: Session) -> SessionSet
+        ensures { (other : ℕ) → has result other ≡ (is_some (pending_in self.now.rows row other) && not (other == session)) }
     {
-        install(alloc, &mut self.committed, &self.sessions, event)?;
-        lengthen(alloc, &mut self.chains, &self.sessions, event, self.events)?;
-        advance_session(alloc, &mut self.sessions, event, self.events)?;
-        self.begun = begun_next(&event.outcome, self.begun);
-        self.events += 1;
-        Ok(())
-    }
-}
-
-impl SessionState {
-    /// Goes on by one event of the session, with so many events before it.
-    fn take_in(&mut self, alloc: Global, event: &LogEvent, before: usize) -> Result<(), NoMemory>
-        requires { HasRoom self.old.running }
-        ensures session { self.new.session ≡ self.old.session }
-        ensures state { (past : Past) → DescribesSession past self.old → event.now.session ≡ self.old.session → before ≡ length past
-            → IfOk result (λ _. DescribesSession (event.now ∷ past) self.new) }
-    {
-        self.waits = waits_next(alloc, self.waits.take(), event)?;
-        self.running = running_next(alloc, self.running.take(), event, before)?;
-        Ok(())
-    }
-}
-
-impl RunningTxn {
-    /// A transaction that begins, with so many events before; it takes no memory.
-    fn begin(alloc: Global, number: TxnNo, before: usize) -> RunningTxn
-        ensures { (past : Past) → before ≡ length past → IsRunning (record { no = number; ops = []; before = past }) result }
-    {
-        RunningTxn {
-            number,
-            before,
-            statements: Vec::new(alloc),
-            last: Versions::new(alloc),
+        match self.rows.get(row) {
+            Some(kept) => kept.other_writers(session),
+            None => SessionSet::none(),
         }
     }
 
-    /// Goes on by an operation.
-    fn run(&mut self, alloc: Global, statement: &Statement, writes: &Writes) -> Result<(), NoMemory>
-        requires { length self.old.statements.items < max_events }
-        ensures { (txn : Txn) (op : Op) → IsRunning txn self.old → op.statement ≡ statement.now → op.writes ≡ writes.now
-            → IfOk result (λ _. IsRunning (grown txn op) self.new) }
+    /// Makes room for an event, and copies what is kept of its statement, so that `take_in` takes no memory.
+    /// NoMemory where an allocation was refused.
+    pub(crate) fn reserve(&mut self, alloc: Global, event: &LogEvent) -> Result<Copies, NoMemory>
+        requires { (past : Past) × Describes past self.old }
+        ensures same { (past : Past) → Describes past self.old → Describes past self.new }
+        ensures copies { IfOk result (AreCopies event.now) }
+        ensures room { OnOk result (HoldsOutcome event.now.outcome (running_of self.new.sessions event.now.session) self.new.rows) }
     {
-        let name = VersionName::Of {
-            txn: self.number,
-            op: self.statements.len() as u32 + 1,
-        };
-        let written = Versions::written(alloc, writes, name)?;
-        self.last.overlay(alloc, &written)?;
-        self.statements.push(statement.copy(alloc)?)?;
-        Ok(())
+        self.reserve_room(alloc, event)?;
+        Copies::of(alloc, event)
+    }
+
+    /// Makes room for what an event writes. NoMemory where an allocation was refused.
+    fn reserve_room(&mut self, alloc: Global, event: &LogEvent) -> Result<(), NoMemory>
+        requires { (past : Past) × Describes past self.old }
+        ensures same { (past : Past) → Describes past self.old → Describes past self.new }
+        ensures room { OnOk result (HoldsOutcome event.now.outcome (running_of self.new.sessions event.now.session) self.new.rows) }
+    {
+        match &event.outcome {
+            Outcome::Rows { writes, .. } => {
+                reserve_places(&mut self.sessions, event.session, writes)?;
+                self.rows.reserve_each(alloc, writes)
+            }
+            _ => Ok(()),
+        }
+    }
+
+    /// Goes on by one event, for which there is room; it takes no memory.
+    pub(crate) fn take_in(&mut self, alloc: Global, event: &LogEvent, copies: Copies)
+        requires few { (past : Past) × Describes past self.old × (length past < max_events) }
+        requires room { HoldsOutcome event.now.outcome (running_of self.old.sessions event.now.session) self.old.rows }
+        requires copies { AreCopies event.now copies }
+        ensures { (past : Past) → Describes past self.old → Describes (event.now ∷ past) self.new }
+    {
+        advance_session(
+            alloc,
+            &mut self.sessions,
+            &mut self.rows,
+            event,
+            copies,
+            self.events,
+        );
+        self.begun = begun_next(&event.outcome, self.begun);
+        self.events += 1;
     }
 }
 
-/// Every session, with no transaction.
-fn idle_sessions(alloc: Global) -> Result<Vec<SessionState>, NoMemory>
-    ensures sessions { IfOk result (λ v. list.map (λ state. state.session) v.items ≡ all_sessions) }
-    ensures idle { IfOk result (λ v. DescribesAll [] v.items) }
+/// The session with this number.
+fn session_of(number: u8) -> Session
+    requires low { 1 ≤ number }
+    requires high { number ≤ 9 }
+    ensures { result ≡ number }
 {
-    let mut states = Vec::new(alloc);
-    for number in 1..10 {
-        let Some(session) = Session::new(number) else {
-            unreachable!()
-        };
-        states.push(SessionState {
-            session,
-            waits: None,
-            running: None,
-        })?;
-    }
-    Ok(states)
+    Session::new(number).unwrap()
+}
+
+/// Every session, with no transaction.
+fn idle_sessions() -> [SessionState; 9]
+    ensures sessions { list.map (λ state. state.session) result ≡ all_sessions }
+    ensures idle { DescribesAll [] result }
+{
+    [
+        SessionState::idle(session_of(1)),
+        SessionState::idle(session_of(2)),
+        SessionState::idle(session_of(3)),
+        SessionState::idle(session_of(4)),
+        SessionState::idle(session_of(5)),
+        SessionState::idle(session_of(6)),
+        SessionState::idle(session_of(7)),
+        SessionState::idle(session_of(8)),
+        SessionState::idle(session_of(9)),
+    ]
 }
 
 fn running_in(states: &[SessionState], session: Session) -> Option<&RunningTxn>
@@ -204,132 +176,40 @@ fn waiting_in(states: &[SessionState], session: Session) -> Option<&Statement>
     None
 }
 
-/// The statement that an event's session waits with after it.
-fn waits_next(
-    alloc: Global,
-    held: Option<Statement>,
-    event: &LogEvent,
-) -> Result<Option<Statement>, NoMemory>
-    ensures { IfOk result (λ next. next ≡ waiting_after event.now.command event.now.outcome held) }
-{
-    if is_busy(&event.outcome) {
-        return Ok(held);
-    }
-    drop(held);
-    match waits_after(event) {
-        Some(statement) => Ok(Some(statement.copy(alloc)?)),
-        None => Ok(None),
-    }
-}
-
-/// The active transaction of an event's session after it.
-fn running_next(
-    alloc: Global,
-    running: Option<RunningTxn>,
-    event: &LogEvent,
-    before: usize,
-) -> Result<Option<RunningTxn>, NoMemory>
-    requires { HasRoom running }
-    ensures { (past : Past) (txn : Option Txn) → Agree txn running → before ≡ length past
-        → IfOk result (Agree (active_after event.now.command event.now.outcome past txn)) }
-{
-    match &event.outcome {
-        Outcome::Begun(number) => Ok(Some(RunningTxn::begin(alloc, *number, before))),
-        Outcome::Rows { writes, .. } => run_in(alloc, running, &event.command, writes),
-        Outcome::Committed => Ok(None),
-        Outcome::Aborted => Ok(None),
-        Outcome::Waits { .. } => Ok(running),
-        Outcome::Refused(fault) => {
-            if is_fatal_fault(fault) {
-                Ok(None)
-            } else {
-                Ok(running)
-            }
-        }
-    }
-}
-
-/// The active transaction, if any, after an operation.
-fn run_in(
-    alloc: Global,
-    running: Option<RunningTxn>,
-    command: &Command,
+/// Makes room in a session's transaction, if it has one, for one more statement and the rows that it writes.
+/// NoMemory where an allocation was refused.
+fn reserve_places(
+    states: &mut [SessionState; 9],
+    session: Session,
     writes: &Writes,
-) -> Result<Option<RunningTxn>, NoMemory>
-    requires { HasRoom running }
-    ensures { (txn : Option Txn) (view : View) (rows : Rows) → Agree txn running
-        → IfOk result (Agree (option_map (λ t. record { no = t.no; ops = ops_after command.now view rows writes.now t.ops; before = t.before }) txn)) }
+) -> Result<(), NoMemory>
+    requires { list.map (λ state. state.session) states.old ≡ all_sessions }
+    ensures sessions { list.map (λ state. state.session) states.new ≡ all_sessions }
+    ensures same { (past : Past) → DescribesAll past states.old → DescribesAll past states.new }
+    ensures places { OnOk result (HasPlaces (running_of states.new session) writes.now) }
 {
-    let Some(mut active) = running else {
-        return Ok(None);
-    };
-    let Some(statement) = asked_statement(command) else {
-        return Ok(Some(active));
-    };
-    active.run(alloc, statement, writes)?;
-    Ok(Some(active))
+    states[usize::from(session.number() - 1)].reserve(writes)
 }
 
-/// Goes on by one event in its session, with so many events before it.
+/// Goes on by one event in its session and in the rows, with so many events before it.
 fn advance_session(
     alloc: Global,
-    states: &mut Vec<SessionState>,
+    states: &mut [SessionState; 9],
+    rows: &mut RowStates,
     event: &LogEvent,
+    copies: Copies,
     before: usize,
-) -> Result<(), NoMemory>
-    requires sessions { list.map (λ state. state.session) states.old.items ≡ all_sessions }
-    requires room { (past : Past) × DescribesAll past states.old.items × (length past < max_events) }
+)
+    requires sessions { list.map (λ state. state.session) states.old ≡ all_sessions }
+    requires few { (past : Past) × DescribesAll past states.old × (length past < max_events) }
+    requires room { HoldsOutcome event.now.outcome (running_of states.old event.now.session) rows.old }
+    requires copies { AreCopies event.now copies }
     ensures session { Contains all_sessions event.now.session }
-    ensures sessions { IfOk result (λ _. list.map (λ state. state.session) states.new.items ≡ all_sessions) }
-    ensures states { (past : Past) → DescribesAll past states.old.items → before ≡ length past
-        → IfOk result (λ _. DescribesAll (event.now ∷ past) states.new.items) }
+    ensures sessions { list.map (λ state. state.session) states.new ≡ all_sessions }
+    ensures states { (past : Past) → DescribesAll past states.old → before ≡ length past → DescribesRows past rows.old → DescribesAll (event.now ∷ past) states.new }
+    ensures rows { (past : Past) → DescribesAll past states.old → before ≡ length past → DescribesRows past rows.old → DescribesRows (event.now ∷ past) rows.new }
 {
-    states[usize::from(event.session.number() - 1)].take_in(alloc, event, before)?;
-    Ok(())
-}
-
-/// Puts the versions that a commit installs over those committed before.
-fn install(
-    alloc: Global,
-    committed: &mut Versions,
-    states: &[SessionState],
-    event: &LogEvent,
-) -> Result<(), NoMemory>
-    ensures { (txn : Option Txn) (txns : List Txn) → Agree txn (running_of states.now event.now.session)
-        → ((row : Row) → map.get committed.old row ≡ last_installed txns row)
-        → IfOk result (λ _. (row : Row) → map.get committed.new row ≡ last_installed (commits_after event.now.outcome txn txns) row) }
-{
-    match &event.outcome {
-        Outcome::Committed => {
-            if let Some(running) = running_in(states, event.session) {
-                committed.overlay(alloc, &running.last)?;
-            }
-            Ok(())
-        }
-        _ => Ok(()),
-    }
-}
-
-/// Puts the versions that a commit installs, with so many events before it, at the ends of their rows' chains.
-fn lengthen(
-    alloc: Global,
-    chains: &mut Chains,
-    states: &[SessionState],
-    event: &LogEvent,
-    before: usize,
-) -> Result<(), NoMemory>
-    ensures { (txn : Option Txn) → Agree txn (running_of states.now event.now.session)
-        → IfOk result (λ _. (row : Row) → chain_in chains.new row ≡ chain_after event.now.outcome txn before row (chain_in chains.old row)) }
-{
-    match &event.outcome {
-        Outcome::Committed => {
-            if let Some(running) = running_in(states, event.session) {
-                chains.install(alloc, &running.last, running.number, before)?;
-            }
-            Ok(())
-        }
-        _ => Ok(()),
-    }
+    states[usize::from(event.session.number() - 1)].take_in(alloc, rows, event, copies, before);
 }
 
 fn begun_next(outcome: &Outcome, begun: u32) -> u32

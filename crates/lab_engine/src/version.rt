@@ -6,7 +6,7 @@ ghost use Rattle.std.specs.List.{prefix_len};
 ghost use Rattle.std.specs.FinMap as map;
 ghost use Rattle.std.specs.Option.{option_or};
 ghost use Rattle.lab_table.specs.Row.{Row, row_cmp};
-ghost use Rattle.lab_engine.specs.EachRow.{with_row, each_row, overwritten_version};
+ghost use Rattle.lab_engine.specs.EachRow.{with_row, each_row};
 ghost use Rattle.lab_engine.specs.Sight.{listed_version, matching_version, comes_after};
 ghost use Rattle.lab_history.specs.VersionName.{state_value};
 ghost use Rattle.lab_engine.specs.Merging.{initial_entry, written_entry, written_version, insert_each, insert_missing, merged, without_row};
@@ -126,15 +126,6 @@ impl Versions {
         })
     }
 
-    /// This version of a row, and no other. NoMemory where an allocation was refused.
-    pub(crate) fn only(alloc: Global, row: RowName, version: Version) -> Result<Versions, NoMemory>
-        ensures { IfOk result (λ made. made ≡ map.insert map.empty row version) }
-    {
-        let mut made = Versions::new(alloc);
-        made.put(alloc, row, version)?;
-        Ok(made)
-    }
-
     /// The version of a row, or None where there is none of it.
     pub fn get(&self, row: RowName) -> Option<Version>
         ensures { result ≡ map.get self.now row }
@@ -155,19 +146,6 @@ impl Versions {
     {
         Ok(Versions {
             by_row: self.by_row.copy(alloc)?,
-        })
-    }
-
-    /// Of these versions those that a statement would overwrite. NoMemory where an allocation was refused.
-    pub(crate) fn overwritten_by(
-        &self,
-        alloc: Global,
-        statement: &Statement,
-    ) -> Result<Versions, NoMemory>
-        ensures { IfOk result (λ made. (row : Row) → map.get made row ≡ option_and_then (overwritten_version statement.now row) (map.get self.now row)) }
-    {
-        Ok(Versions {
-            by_row: ByRow::from_rising(entries_overwritten(alloc, statement, self.entries())?),
         })
     }
 
@@ -286,7 +264,8 @@ fn entries_matching(
         .collect(alloc)
 }
 
-fn value_of(state: State) -> Option<Value>
+/// The value of a row in a state that was written; None where that is absent.
+pub(crate) fn value_of(state: State) -> Option<Value>
     ensures { result ≡ state_value state }
 {
     match state {
@@ -313,32 +292,6 @@ fn written_entries(
                 },
             )
         })
-        .collect(alloc)
-}
-
-fn entry_overwritten(
-    statement: &Statement,
-    entry: &(RowName, Version),
-) -> Option<(RowName, Version)>
-    ensures { result ≡ with_row entry.now.0 (overwritten_version statement.now entry.now.0 entry.now.1) }
-{
-    if statement.would_write(entry.0, entry.1.state) {
-        Some((entry.0, entry.1))
-    } else {
-        None
-    }
-}
-
-fn entries_overwritten(
-    alloc: Global,
-    statement: &Statement,
-    entries: &[(RowName, Version)],
-) -> Result<Vec<(RowName, Version)>, NoMemory>
-    ensures { IfOk result (λ v. v.items ≡ each_row (overwritten_version statement.now) entries.now) }
-{
-    entries
-        .iter()
-        .filter_map(|entry| entry_overwritten(statement, entry))
         .collect(alloc)
 }
 

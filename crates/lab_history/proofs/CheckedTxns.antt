@@ -1,13 +1,11 @@
 -- The walk along the transactions, at one of them.
-use Rattle.std.proofs.Common.{◌≡◌, ◌≤◌, ◌<◌, ℕ, ◌+◌, ◌==◌, Bool, true, false, not, List, [], ◌∷◌, ◌++◌, length, take, drop, get_or, Result, Ok, Err, refl, sym, ap, ◌∙◌, subst}
+use Rattle.std.proofs.Common.{◌≡◌, ◌≤◌, ◌<◌, ℕ, ◌+◌, ◌==◌, Bool, true, false, not, List, [], ◌∷◌, ◌++◌, length, take, drop, get_or, Result, Ok, Err, inr, refl, sym, ap, ◌∙◌}
 use Rattle.std.specs.Prelude.{⊤, nat_lt}
+use Rattle.std.specs.Result.{IsErrAnd}
 use Rattle.std.specs.List.{list_any}
 use Rattle.std.proofs.lemmas.Bool.{true≢false, lt-ltb, le-ltb}
 use Rattle.std.proofs.lemmas.List.{at_drop_more, take_more}
-use Rattle.std.specs.Result.{IsErrAnd}
-use Rattle.lab_history.specs.Faults.{◌>>=◌, refused_if, Refuses, Gives}
-use Rattle.lab_history.specs.declared.refusal.Refusal.{Refusal}
-use Rattle.lab_history.specs.declared.refusal.Refusal.TheVariants as refusal
+use Rattle.lab_history.specs.Faults.{◌>>=◌, refused_if, Gives}
 use Rattle.lab_history.specs.HistoryRules.{operations}
 use Rattle.lab_history.specs.FirstPartsFault.{ops_checked, txn_checked, txns_checked}
 use Rattle.lab_history.specs.declared.transaction.Txn.{Txn}
@@ -66,6 +64,6 @@ was_absent false added e h = refl
 was_absent true added e h = absurd (true≢false (sym h ∙ e))
 
 -- a fault that ends the walk is what a function gives
-pub gives_fault : (r : Result ⊤ Refusal) (f : FileFault) (read : Result ⊤ FileFault) → IsErrAnd r (λ s. s ≡ refusal.Fault f) → read ≡ Err f → Gives (λ _. tt) r read
+pub gives_fault : (r : Result ⊤ FileFault) (f : FileFault) (read : Result ⊤ FileFault) → IsErrAnd r (λ g. g ≡ f) → read ≡ Err f → Gives (λ _. tt) r read
 gives_fault (Ok x) f read h e = absurd h
-gives_fault (Err s) f read h e = subst (λ t. Refuses t read) (sym h) e
+gives_fault (Err g) f read h e = inr (e ∙ ap (λ g. Err g) (sym h))

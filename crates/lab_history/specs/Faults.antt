@@ -1,10 +1,8 @@
 -- Reading that ends at its first fault.
-use Rattle.std.specs.Prelude.{◌≡◌, ⊤, Bool, true, false, Option, Some, None, Result, Ok, Err}
+use Rattle.std.specs.Prelude.{◌≡◌, ◌⊎◌, ⊤, Bool, true, false, Option, Some, None, Result, Ok, Err}
 use Rattle.lab_history.specs.declared.fault.FileFault.{FileFault}
 use Rattle.lab_history.specs.declared.fault.FileFault.TheVariants as fault
 use Rattle.lab_history.specs.declared.path.Path.{Path}
-use Rattle.lab_history.specs.declared.refusal.Refusal.{Refusal}
-use Rattle.lab_history.specs.declared.refusal.Refusal.TheVariants as refusal
 
 -- what was read, and then what is read with it; the first fault ends it
 infixl 10 ◌>>=◌
@@ -22,12 +20,7 @@ abbrev pub refused_if : Bool → FileFault → Result ⊤ FileFault
 refused_if true e = Err e
 refused_if false e = Ok tt
 
--- a function stopped because memory ran out, or at the fault that reading has
-abbrev pub Refuses : {Y : Type 0} → Refusal → Result Y FileFault → Type 0
-Refuses refusal.NoMemory read = Unit {0}
-Refuses (refusal.Fault f) read = read ≡ Err f
-
 -- what a function returned, seen by view, is what reading gives, unless memory ran out
-abbrev pub Gives : {X Y : Type 0} → (X → Y) → Result X Refusal → Result Y FileFault → Type 0
+abbrev pub Gives : {X Y : Type 0} → (X → Y) → Result X FileFault → Result Y FileFault → Type 0
 Gives view (Ok x) read = read ≡ Ok (view x)
-Gives view (Err e) read = Refuses e read
+Gives view (Err e) read = (e ≡ fault.NoMemory) ⊎ (read ≡ Err e)

@@ -17,7 +17,6 @@ use crate::limits::{MAX_OPERATIONS, MAX_TRANSACTIONS, check_limits};
 use crate::operation::{Op, VersionName};
 use crate::parts::Parts;
 use crate::path::{ListPlace, Path};
-use crate::refusal::{Refusal, over};
 use crate::transaction::{Installers, Txn};
 use lab_statement::check_statement;
 use lab_table::{RowName, Statement, TxnNo};
@@ -40,35 +39,36 @@ impl History {
         match check_parts(alloc, &parts) {
             Ok(()) => match History::assembled(alloc, parts) {
                 Ok(history) => Ok(history),
-                Err((parts, _)) => Err((parts, FileFault::NoMemory)),
+                Err(parts) => Err((parts, FileFault::NoMemory)),
             },
-            Err(Refusal::NoMemory) => Err((parts, FileFault::NoMemory)),
-            Err(Refusal::Fault(fault)) => Err((parts, fault)),
+            Err(fault) => Err((parts, fault)),
         }
     }
 
     /// The history of these parts, or the first of the limits on tables, rows and entries that they break. All else that
     /// a history keeps has to be known of them, as it is of what is read of a file. NoMemory, where an allocation was
     /// refused, may come in place of any other answer.
-    pub fn within_limits(alloc: Global, parts: Parts) -> Result<History, Refusal>
+    pub fn within_limits(alloc: Global, parts: Parts) -> Result<History, FileFault>
         requires { within_limits parts ≡ Ok tt → Keeps parts }
         ensures { Gives (λ history. history) result (limited parts) }
     {
         check_limits(alloc, &parts)?;
         match History::assembled(alloc, parts) {
             Ok(history) => Ok(history),
-            Err(_) => Err(Refusal::NoMemory),
+            Err(_) => Err(FileFault::NoMemory),
         }
     }
 }
 
 /// The first fault of the parts, in the order of a file's walk.
-fn check_parts(alloc: Global, parts: &Parts) -> Result<(), Refusal>
+fn check_parts(alloc: Global, parts: &Parts) -> Result<(), FileFault>
     ensures { Gives (λ _. tt) result (checked parts.now) }
 {
     let txns = parts.txns.as_slice();
     if txns.len() > MAX_TRANSACTIONS {
-        return Err(over(Limit::Transactions));
+        return Err(FileFault::OverLimit {
+            which: Limit::Transactions,
+        });
     }
     check_txns(alloc, txns)?;
     check_installed(parts.installed.entries())?;
@@ -76,18 +76,20 @@ fn check_parts(alloc: Global, parts: &Parts) -> Result<(), Refusal>
 }
 
 /// Their numbers are distinct, the operations of all together are within the limit, and each operation is sound.
-fn check_txns(alloc: Global, txns: &[Txn]) -> Result<(), Refusal>
+fn check_txns(alloc: Global, txns: &[Txn]) -> Result<(), FileFault>
     ensures { Gives (λ _. tt) result (txns_checked [] 0 txns.now) }
 {
     let mut numbers = BTreeSet::new(alloc);
     let mut operations = 0;
     for (index, txn) in txns.iter().enumerate() {
         if !numbers.insert(txn.no)? {
-            return Err(Refusal::Fault(FileFault::RepeatedTxn { no: txn.no }));
+            return Err(FileFault::RepeatedTxn { no: txn.no });
         }
         let ops = txn.ops.as_slice();
         if ops.len() > MAX_OPERATIONS - operations {
-            return Err(over(Limit::Operations));
+            return Err(FileFault::OverLimit {
+                which: Limit::Operations,
+            });
         }
         operations += ops.len();
         check_ops(index, txn.no, ops)?;

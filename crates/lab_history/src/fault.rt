@@ -2,7 +2,7 @@
 
 use crate::path::Path;
 use lab_table::TxnNo;
-use std::alloc::AllocError;
+use std::alloc::{AllocError, AllocFailed};
 use thiserror::Error;
 
 /// What a history or its file has too many of.
@@ -71,4 +71,26 @@ pub enum FileFault {
     /// There is too much of something.
     #[error("there is too much of something")]
     OverLimit { which: Limit },
+}
+
+impl From<AllocError> for FileFault {
+    ghost use Rattle.std.specs.Prelude.{◌≡◌};
+    ghost use Rattle.lab_history.specs.declared.fault.FileFault.TheVariants.{NoMemory};
+
+    ghost from_gives = { λ _ fault. fault ≡ NoMemory };
+
+    fn from(_: AllocError) -> FileFault {
+        FileFault::NoMemory
+    }
+}
+
+impl<T: Drop> From<AllocFailed<T>> for FileFault {
+    ghost use Rattle.std.specs.Prelude.{◌≡◌};
+    ghost use Rattle.lab_history.specs.declared.fault.FileFault.TheVariants.{NoMemory};
+
+    ghost from_gives = { λ _ fault. fault ≡ NoMemory };
+
+    fn from(_: AllocFailed<T>) -> FileFault {
+        FileFault::NoMemory
+    }
 }

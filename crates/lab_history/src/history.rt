@@ -7,7 +7,7 @@ ghost use Rattle.lab_history.specs.HistoryRules.{Keeps};
 use crate::index::Index;
 use crate::parts::Parts;
 use crate::transaction::{Installed, Txns};
-use lab_table::{NoMemory, Table};
+use lab_table::Table;
 use std::alloc::Global;
 use std::marker::Model;
 
@@ -38,15 +38,15 @@ impl Model for History {
 }
 
 impl History {
-    /// The history of these parts; NoMemory, with the parts as they were, where an allocation was refused.
-    pub(crate) fn assembled(alloc: Global, parts: Parts) -> Result<History, (Parts, NoMemory)>
+    /// The history of these parts, or the parts as they were, where an allocation was refused.
+    pub(crate) fn assembled(alloc: Global, parts: Parts) -> Result<History, Parts>
         requires { Keeps parts }
         ensures ok { IfOk result (λ history. history ≡ parts) }
-        ensures back { IfErr result (λ refused. refused.0 ≡ parts) }
+        ensures back { IfErr result (λ back. back ≡ parts) }
     {
         match Index::of(alloc, &parts) {
             Ok(index) => Ok(History { parts, index }),
-            Err(refused) => Err((parts, refused)),
+            Err(_) => Err(parts),
         }
     }
 

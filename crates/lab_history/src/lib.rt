@@ -13,8 +13,8 @@
 //! Parts that are refused name their first fault, a [`FileFault`], whose [`Path`] leads to the value of their file that
 //! is wrong. Want of memory may come in place of any other answer, and leaves parts as they were.
 //!
-//! The reader of files goes by [`follows`], stops at a [`Refusal`], and makes its history by `History::within_limits`,
-//! which looks at nothing that the reader has looked at.
+//! The reader of files goes by [`follows`], and makes its history by `History::within_limits`, which looks at nothing that
+//! the reader has looked at.
 #![tactic(auto)]
 
 mod checking;
@@ -33,7 +33,6 @@ mod order;
 mod parts;
 mod path;
 mod path_text;
-mod refusal;
 mod tables;
 mod transaction;
 mod txn_row;
@@ -48,5 +47,4 @@ pub use operation::{Op, Ops, Rows, State, VersionName, View, Writes};
 pub use order::follows;
 pub use parts::Parts;
 pub use path::{ListPlace, Path};
-pub use refusal::{Refusal, over};
 pub use transaction::{Installed, Installers, Outcome, Txn, Txns};

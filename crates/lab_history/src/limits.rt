@@ -10,7 +10,6 @@ use crate::fault::{FileFault, Limit};
 use crate::ids::has_few_ids;
 use crate::operation::Op;
 use crate::parts::Parts;
-use crate::refusal::{Refusal, over};
 use crate::tables::has_few_tables;
 use crate::transaction::Txn;
 use std::alloc::Global;
@@ -31,18 +30,22 @@ pub const MAX_IDS: usize = 1_000;
 pub const MAX_ENTRIES: usize = 200_000;
 
 /// Whether parts keep the limits on tables, ids and entries.
-pub fn check_limits(alloc: Global, parts: &Parts) -> Result<(), Refusal>
+pub fn check_limits(alloc: Global, parts: &Parts) -> Result<(), FileFault>
     ensures { Gives (λ _. tt) result (within_limits parts.now) }
 {
     if !has_few_tables(parts) {
-        return Err(over(Limit::Tables));
+        return Err(FileFault::OverLimit {
+            which: Limit::Tables,
+        });
     }
     if !has_few_ids(alloc, parts)? {
-        return Err(over(Limit::Ids));
+        return Err(FileFault::OverLimit { which: Limit::Ids });
     }
     match count_txns(parts.txns.as_slice()) {
         Some(_) => Ok(()),
-        None => Err(over(Limit::Entries)),
+        None => Err(FileFault::OverLimit {
+            which: Limit::Entries,
+        }),
     }
 }
 

@@ -6,7 +6,7 @@ ghost use Rattle.lab_table.specs.Row.{row_cmp};
 ghost use Rattle.lab_history.specs.VersionName.{new_states, state_value};
 
 use crate::order::rises;
-use lab_table::{ByRow, NoMemory, RowName, Statement, TxnNo, Value, value_of};
+use lab_table::{ByRow, NoMemory, RowName, Sequence, Statement, TxnNo, Value, value_of};
 use std::alloc::Global;
 use std::marker::Model;
 
@@ -95,23 +95,7 @@ pub struct Op {
 }
 
 /// The operations of a transaction, in order.
-#[derive(Drop)]
-pub struct Ops {
-    items: Vec<Op>,
-}
-
-impl Model for Ops {
-    ghost use Rattle.std.specs.Prelude.{List};
-    ghost use Rattle.std.specs.Coded.{coded_list};
-    ghost use Rattle.lab_history.specs.declared.operation.Op.{Op};
-    ghost use Rattle.lab_history.specs.contracts.operation.Op as op;
-
-    ghost Value = { List Op };
-
-    ghost coded = { coded_list op.the_row.coded };
-
-    ghost view = { λ o. o.items.items };
-}
+pub type Ops = Sequence<Op>;
 
 impl View {
     /// The view that lists these versions, whose rows rise strictly.
@@ -255,22 +239,6 @@ impl Writes {
         Ok(Writes {
             entries: Vec::from_slice(alloc, &self.entries)?,
         })
-    }
-}
-
-impl Ops {
-    /// These operations.
-    pub fn new(items: Vec<Op>) -> Ops
-        ensures { result ≡ items.items }
-    {
-        Ops { items }
-    }
-
-    /// The operations, in order.
-    pub fn as_slice(&self) -> &[Op]
-        ensures { result.now ≡ self.now }
-    {
-        &self.items
     }
 }
 

@@ -7,7 +7,7 @@ ghost use Rattle.lab_table.specs.Row.{row_cmp};
 
 use crate::operation::Ops;
 use crate::order::rises;
-use lab_table::{RowName, TxnNo, value_of};
+use lab_table::{RowName, Sequence, TxnNo, value_of};
 use std::marker::Model;
 
 /// How a transaction ended.
@@ -29,69 +29,10 @@ pub struct Txn {
 }
 
 /// Transactions, in the order of a file.
-#[derive(Drop)]
-pub struct Txns {
-    items: Vec<Txn>,
-}
-
-impl Model for Txns {
-    ghost use Rattle.std.specs.Prelude.{List};
-    ghost use Rattle.std.specs.Coded.{coded_list};
-    ghost use Rattle.lab_history.specs.declared.transaction.Txn.{Txn};
-    ghost use Rattle.lab_history.specs.contracts.transaction.Txn as txn;
-
-    ghost Value = { List Txn };
-
-    ghost coded = { coded_list txn.the_row.coded };
-
-    ghost view = { λ t. t.items.items };
-}
-
-impl Txns {
-    /// These transactions.
-    pub fn new(items: Vec<Txn>) -> Txns
-        ensures { result ≡ items.items }
-    {
-        Txns { items }
-    }
-
-    /// The transactions, in order.
-    pub fn as_slice(&self) -> &[Txn]
-        ensures { result.now ≡ self.now }
-    {
-        &self.items
-    }
-}
+pub type Txns = Sequence<Txn>;
 
 /// The transactions that installed a row, in order.
-#[derive(Drop)]
-pub struct Installers {
-    items: Vec<TxnNo>,
-}
-
-impl Model for Installers {
-    ghost use Rattle.std.specs.Prelude.{ℕ, List};
-
-    ghost Value = { List ℕ };
-
-    ghost view = { λ i. i.items.items };
-}
-
-impl Installers {
-    /// These installers.
-    pub fn new(items: Vec<TxnNo>) -> Installers
-        ensures { result ≡ items.items }
-    {
-        Installers { items }
-    }
-
-    /// The numbers of the installers, in order.
-    pub fn as_slice(&self) -> &[TxnNo]
-        ensures { result.now ≡ self.now }
-    {
-        &self.items
-    }
-}
+pub type Installers = Sequence<TxnNo>;
 
 /// The transactions that installed each row, by rising row.
 #[derive(Drop)]

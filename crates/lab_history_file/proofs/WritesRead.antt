@@ -1,5 +1,5 @@
 -- Reading a list of written rows: what is read with the states of the code is what contracts read.
-use Rattle.std.proofs.Common.{◌≡◌, ℕ, ◌+◌, Bool, true, false, T, List, ◌∷◌, Option, Some, None, option_map, option_and_then, ℤ, Result, Ok, Err, if◌then◌else◌, IfOk, refl, ap, ◌∙◌, subst, sym}
+use Rattle.std.proofs.Common.{◌≡◌, ℕ, ◌+◌, Bool, true, false, T, List, ◌∷◌, Option, Some, None, option_map, option_and_then, ℤ, Result, Ok, Err, if◌then◌else◌, IfOk, ⊎_elim, inl, inr, refl, ap, ◌∙◌, subst, sym}
 use Rattle.std.specs.FinMap.{is_sorted}
 use Rattle.serde_json.specs.Data.{Data, Items, no_items, item}
 use Rattle.serde_json.specs.Find.{as_array, get_item}
@@ -17,8 +17,6 @@ use Rattle.lab_history.specs.declared.path.Path.{Path}
 use Rattle.lab_history.specs.declared.path.Path.TheVariants as path
 use Rattle.lab_history.specs.declared.path.ListPlace.{ListPlace}
 use Rattle.lab_history.specs.declared.operation.State.{State}
-use Rattle.lab_history.specs.declared.refusal.Refusal.{Refusal}
-use Rattle.lab_history.specs.declared.refusal.Refusal.TheVariants as refusal
 use Rattle.lab_history.proofs.NewStates.{new_states_sorted}
 
 -- a state is seen as what it was made of
@@ -92,13 +90,12 @@ module _ (version : FileVersion) (place : ListPlace) where
   states_read d = states_list (as_array d)
 
 -- what is seen further of what was given
-pub gives_more : {X Y Z : Type 0} (f : X → Y) (g : Y → Z) (result : Result X Refusal) (read : Result Y FileFault) → Gives f result read → Gives (λ x. g (f x)) result (read >>= λ y. Ok (g y))
+pub gives_more : {X Y Z : Type 0} (f : X → Y) (g : Y → Z) (result : Result X FileFault) (read : Result Y FileFault) → Gives f result read → Gives (λ x. g (f x)) result (read >>= λ y. Ok (g y))
 gives_more f g (Ok x) read given = ap (λ r. r >>= λ y. Ok (g y)) given
-gives_more f g (Err refusal.NoMemory) read given = tt
-gives_more f g (Err (refusal.Fault fault)) read given = ap (λ r. r >>= λ y. Ok (g y)) given
+gives_more f g (Err e) read given = ⊎_elim (λ none. inl none) (λ is. inr (ap (λ r. r >>= λ y. Ok (g y)) is)) given
 
 -- a result whose rows rise, seen as new states
-pub rises_seen : {X : Type 0} (items : X → List (Row × State)) (result : Result X Refusal) → IfOk result (λ x. T (is_sorted row_cmp (items x)))
+pub rises_seen : {X : Type 0} (items : X → List (Row × State)) (result : Result X FileFault) → IfOk result (λ x. T (is_sorted row_cmp (items x)))
     → IfOk result (λ x. T (is_sorted row_cmp (new_states (items x))))
 rises_seen items (Ok x) h = subst T (sym (new_states_sorted (items x))) h
 rises_seen items (Err e) h = tt

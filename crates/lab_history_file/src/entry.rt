@@ -1,84 +1,20 @@
-//! The numbers of a history file, and what stands behind the keys of its members.
+//! What stands behind the keys of the members of lists.
 
-ghost use Rattle.std.specs.Prelude.{◌≡◌, ℕ, option_map, Result};
-ghost use Rattle.serde_json.specs.Find.{get_item};
+ghost use Rattle.std.specs.Prelude.{◌≡◌, ℕ, Result};
 ghost use Rattle.serde_json.specs.View.{view, items_view};
 ghost use Rattle.lab_history.specs.Faults.{Gives};
-ghost use Rattle.lab_history_file.specs.Entries.{txn_in_number, op_in_number, value_in, installers_from};
-ghost use Rattle.lab_history_file.specs.WrittenState.{state_in};
+ghost use Rattle.lab_history_file.specs.Entries.{installers_from};
 ghost use Rattle.lab_history.specs.declared.fault.FileFault.{FileFault};
 ghost use Rattle.lab_history.specs.declared.path.ListPlace.{ListPlace};
 ghost use Rattle.lab_history_file.specs.declared.file_version.FileVersion.{FileVersion};
 
-use crate::file_version::FileVersion;
-use crate::member::{key_parts, part, required, whole_of};
-use crate::refusal::wrong;
-use lab_history::{Installers, ListPlace, MAX_OPERATIONS, Path, Refusal, State, VersionName};
-use lab_table::{TxnNo, Value};
+use crate::fault::{required, wrong};
+use crate::member::{MemberPlace, key_parts};
+use crate::part::{Part, op_of, part_at, part_of};
+use lab_history::{FileFault, Installers, ListPlace, Path, VersionName};
+use lab_table::TxnNo;
 use serde_json::Value as Json;
 use std::alloc::Global;
-
-/// The number of a transaction.
-pub fn txn_of(json: &Json) -> Option<TxnNo>
-    ensures { result ≡ txn_in_number (view json.now) }
-{
-    TxnNo::new(whole_of(json, 1_000_000)?)
-}
-
-/// The number of an operation within its transaction.
-fn op_of(json: &Json) -> Option<u32>
-    ensures { result ≡ op_in_number (view json.now) }
-{
-    whole_of(json, MAX_OPERATIONS as u32)
-}
-
-/// What a row has in the column value.
-fn value_of(json: &Json) -> Option<Value>
-    ensures { result ≡ value_in (view json.now) }
-{
-    Value::new(json.as_i64()?)
-}
-
-/// What is written to a row.
-fn written_of(json: &Json) -> Option<State>
-    ensures { result ≡ state_in (view json.now) }
-{
-    match json {
-        Json::Null => Some(State::Absent),
-        Json::Number(_) => Some(State::Present(value_of(json)?)),
-        _ => None,
-    }
-}
-
-/// The numbers of the transactions that installed a row.
-fn numbers_of(
-    alloc: Global,
-    index: usize,
-    part: usize,
-    numbers: &[Json],
-) -> Result<Vec<TxnNo>, Refusal>
-    ensures { Gives (λ found. found.items) result (installers_from index part 0 (items_view numbers.now)) }
-{
-    let mut found = Vec::with_capacity(alloc, numbers.len())?;
-    for (place, number) in numbers.iter().enumerate() {
-        let path = Path::Installer { index, part, place };
-        found.push(required(txn_of(number), path)?)?;
-    }
-    Ok(found)
-}
-
-/// The part behind a key with this number, counted from 0.
-#[inline(always)]
-#[tactic(auto, using(serde_json::proofs::Views::get_item_within, serde_json::proofs::Views::get_item_past))]
-fn part_at(behind: &[Json], number: usize) -> Option<&Json>
-    ensures { option_map (λ part. view part.now) result ≡ get_item number (items_view behind.now) }
-{
-    if number < behind.len() {
-        Some(&behind[number])
-    } else {
-        None
-    }
-}
 
 /// What stands behind the key in a member of a list.
 pub trait Entry: Sized + Drop {
@@ -91,61 +27,24 @@ pub trait Entry: Sized + Drop {
 
     ghost read: { FileVersion → ListPlace → ℕ → Items → Result Self FileFault };
 
-    /// What the parts behind the key of the member with this index are.
-    fn read(
-        alloc: Global,
-        version: FileVersion,
-        place: ListPlace,
-        index: usize,
-        behind: &[Json],
-    ) -> Result<Self, Refusal>
-        ensures { Gives (λ entry. entry) result (read version place index (items_view behind.now)) };
+    /// What the parts behind the key of the member at a place are.
+    fn read(alloc: Global, place: MemberPlace, behind: &[Json]) -> Result<Self, FileFault>
+        ensures { Gives (λ entry. entry) result (read place.version place.list place.index (items_view behind.now)) };
 }
 
-/// `[key, value]`.
-impl Entry for Value {
-    ghost use Rattle.lab_history_file.specs.Entries.{one_in, value_in};
-
-    ghost PARTS = { 1 };
-
-    const PARTS: u8 = 1;
-
-    ghost read = { one_in value_in };
-
-    #[inline(always)]
-    fn read(
-        _: Global,
-        version: FileVersion,
-        place: ListPlace,
-        index: usize,
-        behind: &[Json],
-    ) -> Result<Value, Refusal> {
-        let value = part_at(behind, 0).and_then(value_of);
-        required(value, part(place, index, key_parts(version)))
-    }
-}
-
-/// `[key, value]`, or `[key, null]`.
-impl Entry for State {
+/// `[key, part]`.
+impl<P: Part> Entry for P {
     ghost use Rattle.lab_history_file.specs.Entries.{one_in};
-    ghost use Rattle.lab_history_file.specs.WrittenState.{state_in};
 
     ghost PARTS = { 1 };
 
     const PARTS: u8 = 1;
 
-    ghost read = { one_in state_in };
+    ghost read = { one_in P.part_in };
 
     #[inline(always)]
-    fn read(
-        _: Global,
-        version: FileVersion,
-        place: ListPlace,
-        index: usize,
-        behind: &[Json],
-    ) -> Result<State, Refusal> {
-        let state = part_at(behind, 0).and_then(written_of);
-        required(state, part(place, index, key_parts(version)))
+    fn read(_: Global, place: MemberPlace, behind: &[Json]) -> Result<P, FileFault> {
+        required(part_of(behind, 0), place.part(key_parts(place.version)))
     }
 }
 
@@ -160,20 +59,10 @@ impl Entry for VersionName {
     ghost read = { version_name_in };
 
     #[inline(always)]
-    fn read(
-        _: Global,
-        version: FileVersion,
-        place: ListPlace,
-        index: usize,
-        behind: &[Json],
-    ) -> Result<VersionName, Refusal> {
-        let at = key_parts(version);
-        let Some(txn) = part_at(behind, 0).and_then(txn_of) else {
-            return Err(wrong(part(place, index, at)));
-        };
-        let Some(op) = part_at(behind, 1).and_then(op_of) else {
-            return Err(wrong(part(place, index, at + 1)));
-        };
+    fn read(_: Global, place: MemberPlace, behind: &[Json]) -> Result<VersionName, FileFault> {
+        let at = key_parts(place.version);
+        let txn = required(part_of(behind, 0), place.part(at))?;
+        let op = required(part_at(behind, 1).and_then(op_of), place.part(at + 1))?;
         Ok(VersionName::Of { txn, op })
     }
 }
@@ -189,19 +78,34 @@ impl Entry for Installers {
     ghost read = { installers_in };
 
     #[tactic(auto, using(crate::proofs::Members::no_installer, crate::proofs::Members::some_installer))]
-    fn read(
-        alloc: Global,
-        version: FileVersion,
-        _: ListPlace,
-        index: usize,
-        behind: &[Json],
-    ) -> Result<Installers, Refusal> {
-        let at = key_parts(version);
-        let path = part(ListPlace::Installed, index, at);
+    fn read(alloc: Global, place: MemberPlace, behind: &[Json]) -> Result<Installers, FileFault> {
+        let part = key_parts(place.version);
+        let path = Path::Part {
+            list: ListPlace::Installed,
+            index: place.index,
+            part,
+        };
         let numbers = required(part_at(behind, 0).and_then(Json::as_array), path)?;
         if numbers.is_empty() {
             return Err(wrong(path));
         }
-        Ok(Installers::new(numbers_of(alloc, index, at, numbers)?))
+        Ok(Installers::new(numbers_of(alloc, place.index, part, numbers)?))
     }
+}
+
+/// The numbers of the transactions that installed a row.
+fn numbers_of(
+    alloc: Global,
+    index: usize,
+    part: usize,
+    numbers: &[Json],
+) -> Result<Vec<TxnNo>, FileFault>
+    ensures { Gives (λ found. found.items) result (installers_from index part 0 (items_view numbers.now)) }
+{
+    let mut found = Vec::with_capacity(alloc, numbers.len())?;
+    for (place, number) in numbers.iter().enumerate() {
+        let path = Path::Installer { index, part, place };
+        found.push(required(TxnNo::from_json(number), path)?)?;
+    }
+    Ok(found)
 }

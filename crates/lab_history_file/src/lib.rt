@@ -9,11 +9,12 @@
 #![tactic(auto)]
 
 mod entry;
+mod fault;
 mod file_version;
 mod laws;
 mod member;
+mod part;
 mod reading;
-mod refusal;
 mod write_fault;
 mod writing;
 

@@ -4,18 +4,51 @@ ghost use Rattle.std.specs.Prelude.{◌≡◌, ◌≤◌, ◌+◌, Some, option_
 ghost use Rattle.serde_json.specs.Data.{string, number, unsigned};
 ghost use Rattle.serde_json.specs.Find.{as_array};
 ghost use Rattle.serde_json.specs.View.{view, items_view};
-ghost use Rattle.lab_history.specs.Faults.{Gives, required as spec_required};
+ghost use Rattle.lab_history.specs.Faults.{Gives};
 ghost use Rattle.lab_history_file.specs.Member.{id_in, table_in, plain_in, full_in, sized, split_key as spec_split_key};
 ghost use Rattle.lab_history_file.specs.Member as key;
 ghost use Rattle.lab_history_file.specs.Whole.{whole_in};
-ghost use Rattle.lab_history.specs.declared.path.Path.TheVariants as path;
 
+use crate::fault::{required, wrong};
 use crate::file_version::FileVersion;
-use crate::refusal::wrong;
-use lab_history::{ListPlace, Path, Refusal};
+use lab_history::{FileFault, ListPlace, Path};
 use lab_table::{NoMemory, RowId, RowName, TableName};
 use serde_json::Value as Json;
 use std::alloc::Global;
+
+/// The place of a member of a list in a file of a version, counted from 0.
+#[derive(Clone, Copy)]
+pub struct MemberPlace {
+    pub version: FileVersion,
+    pub list: ListPlace,
+    pub index: usize,
+}
+
+impl MemberPlace {
+    ghost use Rattle.std.specs.Prelude.{◌≡◌};
+    ghost use Rattle.lab_history.specs.declared.path.Path.TheVariants as path;
+
+    /// The path of the member.
+    pub fn path(self) -> Path
+        ensures { result ≡ path.Member self.list self.index }
+    {
+        Path::Member {
+            list: self.list,
+            index: self.index,
+        }
+    }
+
+    /// The path of a part of the member, counted from 0.
+    pub fn part(self, part: usize) -> Path
+        ensures { result ≡ path.Part self.list self.index part }
+    {
+        Path::Part {
+            list: self.list,
+            index: self.index,
+            part,
+        }
+    }
+}
 
 /// How many parts of a member are its key.
 pub fn key_parts(version: FileVersion) -> usize
@@ -100,12 +133,12 @@ pub fn key_json(alloc: Global, row: RowName) -> Result<(Json, Json), NoMemory>
 /// The row of a key that is an id.
 // Not inlined either: a name of a table that a call answers is copied as a whole, and not byte by byte.
 #[inline(never)]
-fn plain_row(place: ListPlace, index: usize, id: &Json) -> Result<RowName, Refusal>
-    ensures { Gives (λ row. row) result (plain_in place index (view id.now)) }
+fn plain_row(place: MemberPlace, id: &Json) -> Result<RowName, FileFault>
+    ensures { Gives (λ row. row) result (plain_in place.list place.index (view id.now)) }
 {
     match id_of(id) {
         Some(id) => Ok(RowName::in_test(id)),
-        None => Err(wrong(part(place, index, 0))),
+        None => Err(wrong(place.part(0))),
     }
 }
 
@@ -114,35 +147,15 @@ fn plain_row(place: ListPlace, index: usize, id: &Json) -> Result<RowName, Refus
 #[inline(never)]
 fn full_row(
     alloc: Global,
-    place: ListPlace,
-    index: usize,
+    place: MemberPlace,
     table: &Json,
     id: &Json,
-) -> Result<RowName, Refusal>
-    ensures { Gives (λ row. row) result (full_in place index (view table.now) (view id.now)) }
+) -> Result<RowName, FileFault>
+    ensures { Gives (λ row. row) result (full_in place.list place.index (view table.now) (view id.now)) }
 {
-    let Some(table) = table_of(alloc, table)? else {
-        return Err(wrong(part(place, index, 0)));
-    };
-    match id_of(id) {
-        Some(id) => Ok(RowName { table, id }),
-        None => Err(wrong(part(place, index, 1))),
-    }
-}
-
-/// What has to be at a place.
-#[inline(always)]
-pub fn required<X>(found: Option<X>, path: Path) -> Result<X, Refusal>
-    ensures { Gives (λ x. x) result (spec_required path found) }
-{
-    found.ok_or(wrong(path))
-}
-
-/// The place of a part of a member, which is counted from 0.
-pub fn part(list: ListPlace, index: usize, part: usize) -> Path
-    ensures { result ≡ path.Part list index part }
-{
-    Path::Part { list, index, part }
+    let table = required(table_of(alloc, table)?, place.part(0))?;
+    let id = required(id_of(id), place.part(1))?;
+    Ok(RowName { table, id })
 }
 
 /// The parts of a member that has so many behind its key.
@@ -164,26 +177,23 @@ pub fn sized_parts(version: FileVersion, behind: u8, json: &Json) -> Option<&[Js
 #[tactic(auto, using(crate::proofs::Members::no_id, crate::proofs::Members::no_table))]
 pub fn split_key(
     alloc: Global,
-    version: FileVersion,
-    place: ListPlace,
-    index: usize,
+    place: MemberPlace,
     parts: &[Json],
-) -> Result<(RowName, &[Json]), Refusal>
-    ensures { Gives (λ split. (split.0, items_view split.1.now)) result (spec_split_key version place index (items_view parts.now)) }
+) -> Result<(RowName, &[Json]), FileFault>
+    ensures { Gives (λ split. (split.0, items_view split.1.now)) result (spec_split_key place.version place.list place.index (items_view parts.now)) }
 {
-    let path = Path::Member { list: place, index };
-    match version {
+    match place.version {
         FileVersion::One => {
             let [id, behind @ ..] = parts else {
-                return Err(wrong(path));
+                return Err(wrong(place.path()));
             };
-            Ok((plain_row(place, index, id)?, behind))
+            Ok((plain_row(place, id)?, behind))
         }
         FileVersion::Two => {
             let [table, id, behind @ ..] = parts else {
-                return Err(wrong(path));
+                return Err(wrong(place.path()));
             };
-            Ok((full_row(alloc, place, index, table, id)?, behind))
+            Ok((full_row(alloc, place, table, id)?, behind))
         }
     }
 }

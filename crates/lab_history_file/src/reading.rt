@@ -17,12 +17,10 @@ mod lists;
 mod operation;
 mod transaction;
 
+use crate::fault::wrong;
 use crate::file_version::FileVersion;
-use crate::refusal::wrong;
 use keys::{has_keys, text_at};
-use lab_history::{
-    FileFault, History, Installed, Limit, ListPlace, MAX_FILE_BYTES, Parts, Path, Refusal,
-};
+use lab_history::{FileFault, History, Installed, Limit, ListPlace, MAX_FILE_BYTES, Parts, Path};
 use lab_table::Table;
 use lists::entries_at;
 use serde_json::Value as Json;
@@ -30,7 +28,7 @@ use std::alloc::Global;
 use transaction::txns_of;
 
 /// Whether a value is an object that says it is a history file.
-fn check_format(json: &Json) -> Result<(), Refusal>
+fn check_format(json: &Json) -> Result<(), FileFault>
     ensures { Gives (λ _. tt) result (format_in (view json.now)) }
 {
     if !json.is_object() {
@@ -43,19 +41,19 @@ fn check_format(json: &Json) -> Result<(), Refusal>
 }
 
 /// The version of the format that a value says it is of.
-fn version_of(json: &Json) -> Result<FileVersion, Refusal>
+fn version_of(json: &Json) -> Result<FileVersion, FileFault>
     ensures { Gives (λ version. version) result (version_in (view json.now)) }
 {
     match json.get("version").and_then(Json::as_u64) {
         Some(1) => Ok(FileVersion::One),
         Some(2) => Ok(FileVersion::Two),
-        Some(number) => Err(Refusal::Fault(FileFault::WrongVersion { number })),
+        Some(number) => Err(FileFault::WrongVersion { number }),
         None => Err(wrong(Path::Version)),
     }
 }
 
 /// The parts of the history that a value holds.
-fn parts_of(alloc: Global, json: &Json) -> Result<Parts, Refusal>
+fn parts_of(alloc: Global, json: &Json) -> Result<Parts, FileFault>
     ensures { Gives (λ parts. parts) result (parts_in (view json.now)) }
 {
     check_format(json)?;
@@ -86,16 +84,16 @@ fn parts_of(alloc: Global, json: &Json) -> Result<Parts, Refusal>
 }
 
 /// The parts of the history that a file holds. Its value is given back before the limits are looked at.
-fn parts_in_file(alloc: Global, bytes: &[u8]) -> Result<Parts, Refusal>
+fn parts_in_file(alloc: Global, bytes: &[u8]) -> Result<Parts, FileFault>
     ensures { ReadsAs parts_in bytes.now result }
 {
     match Json::from_slice(alloc, bytes) {
         Ok(json) => parts_of(alloc, &json),
         Err(error) => {
             if error.is_memory() {
-                Err(Refusal::NoMemory)
+                Err(FileFault::NoMemory)
             } else {
-                Err(Refusal::Fault(FileFault::NotJson))
+                Err(FileFault::NotJson)
             }
         }
     }
@@ -103,7 +101,7 @@ fn parts_in_file(alloc: Global, bytes: &[u8]) -> Result<Parts, Refusal>
 
 /// The history that a file of any length holds.
 #[tactic(auto, using(crate::proofs::ReadKeeps::read_keeps))]
-fn history_in_file(alloc: Global, bytes: &[u8]) -> Result<History, Refusal>
+fn history_in_file(alloc: Global, bytes: &[u8]) -> Result<History, FileFault>
     ensures { ReadsAs history_in bytes.now result }
 {
     let parts = parts_in_file(alloc, bytes)?;
@@ -130,9 +128,5 @@ pub fn read_history(alloc: Global, bytes: &[u8]) -> Result<History, FileFault>
             which: Limit::Bytes,
         });
     }
-    match history_in_file(alloc, bytes) {
-        Ok(history) => Ok(history),
-        Err(Refusal::NoMemory) => Err(FileFault::NoMemory),
-        Err(Refusal::Fault(fault)) => Err(fault),
-    }
+    history_in_file(alloc, bytes)
 }

@@ -1,1 +1,4 @@
-pub mod Blocking
+mod Choosing
+mod HeldMatches
+mod RowReaders
+mod Blocking

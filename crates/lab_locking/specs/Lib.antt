@@ -1,1 +1,3 @@
-pub mod Blockers
+pub mod Chosen
+pub mod Matches
+pub mod Reads

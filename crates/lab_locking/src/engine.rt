@@ -2,8 +2,11 @@
 
 ghost use Rattle.lab_engine.specs.declared.event.Level.TheVariants.{Locking};
 
-use crate::blockers::{has_read, holds_match};
-use lab_engine::{Conflict, Journal, Level, Rules, RunningTxn, Situation, Versions, holds_write};
+use crate::matches::match_holders;
+use crate::reads::readers_in_way;
+use lab_engine::{
+    Conflict, Journal, Level, Rules, RunningTxn, SessionSet, Situation, writers_in_way,
+};
 use lab_table::{Session, Statement, Table};
 
 /// Strict two-phase locking of rows and predicates; each commit is let through.
@@ -17,17 +20,24 @@ impl Rules for LockRules {
         Level::Locking
     }
 
-    fn blocks(
+    fn blockers(
         &self,
         setup: &Table,
         situation: &Situation,
-        seen: &Versions,
+        session: Session,
+        running: &RunningTxn,
         statement: &Statement,
-        holder: &RunningTxn,
-    ) -> bool {
-        holds_match(setup, &situation.committed, statement, holder)
-            || holds_write(seen, statement, holder)
-            || has_read(seen, statement, holder)
+    ) -> SessionSet {
+        match_holders(setup, situation, session, statement)
+            .with(writers_in_way(
+                Level::Locking,
+                setup,
+                situation,
+                session,
+                running,
+                statement,
+            ))
+            .with(readers_in_way(setup, situation, session, running, statement))
     }
 
     fn conflict(&self, situation: &Situation, session: Session) -> Option<Conflict> {

@@ -8,7 +8,8 @@
 //! as any `lab_engine::Engine`.
 #![tactic(auto)]
 
-mod blockers;
 mod engine;
+mod matches;
+mod reads;
 
 pub use engine::LockEngine;

@@ -1,10 +1,8 @@
 -- Names of tables that are added to others.
-use Rattle.std.proofs.Common.{◌≡◌, ℕ, ℤ, ◌≤◌, Bool, true, false, not, ◌&&◌, cond, List, [], ◌∷◌, ◌++◌, map, length, Option, Some, None, refl, ◌∙◌, arith, length-append}
+use Rattle.std.proofs.Common.{◌≡◌, ℕ, ◌≤◌, Bool, true, false, not, ◌&&◌, cond, List, [], ◌∷◌, ◌++◌, map, length, Option, Some, None, refl, ◌∙◌, arith, length-append}
 use Rattle.std.specs.Prelude.{if◌then◌else◌, is_some}
-use Rattle.lab_table.specs.Row.{Row}
 use Rattle.lab_table.specs.TableName.{test_name}
 use Rattle.lab_table.specs.declared.statement.Command.{Command}
-use Rattle.lab_table.specs.declared.statement.Command.TheVariants as command
 use Rattle.lab_script.specs.declared.script.Line.{Line}
 use Rattle.lab_script.specs.declared.script.Script.{Script}
 use Rattle.lab_statement.specs.declared.token.Token.{Token}
@@ -12,8 +10,8 @@ use Rattle.lab_statement.specs.declared.token.Token.TheVariants as token
 use Rattle.lab_statement.specs.Reading.{is_token}
 use Rattle.lab_script.specs.Script.{extended}
 use Rattle.lab_table.specs.TableSet.{is_among, with_name}
-use Rattle.lab_script.specs.Tables.{with_command, with_commands, with_rows, with_lines, setup_tables, script_tables}
-use Rattle.lab_script.specs.PassedTables.{token_table, with_any, is_behind_set, with_tokens, with_setup_token, with_setup_tokens}
+use Rattle.lab_script.specs.Tables.{with_any, with_all, line_table, with_command, with_commands, with_lines, setup_tables, script_tables}
+use Rattle.lab_script.specs.PassedTables.{token_table, is_behind_set, with_tokens, with_setup_token, with_setup_tokens}
 
 -- a name more makes no fewer
 one_longer : (names : List (List ℕ)) (name : List ℕ) → length names ≤ length (with_name names name)
@@ -23,30 +21,16 @@ one_longer names name =
       | false ↦ let more = length-append names (name ∷ []) in omega (arith, more)
     ]
 
-command_longer : (names : List (List ℕ)) (c : Command) → length names ≤ length (with_command names c)
-command_longer names command.Begin = omega arith
-command_longer names command.Commit = omega arith
-command_longer names command.Abort = omega arith
-command_longer names (command.Run s) = one_longer names s.table
-
-pub commands_longer : (names : List (List ℕ)) (cs : List Command) → length names ≤ length (with_commands names cs)
-commands_longer names [] = omega arith
-commands_longer names (c ∷ cs) = let one = command_longer names c in let rest = commands_longer (with_command names c) cs in omega (arith, one, rest)
-
-pub rows_longer : (names : List (List ℕ)) (rows : List (Row × ℤ)) → length names ≤ length (with_rows names rows)
-rows_longer names [] = omega arith
-rows_longer names (row ∷ rows) = let one = one_longer names row.0.table in let rest = rows_longer (with_name names row.0.table) rows in omega (arith, one, rest)
-
-pub lines_longer : (names : List (List ℕ)) (lines : List Line) → length names ≤ length (with_lines names lines)
-lines_longer names [] = omega arith
-lines_longer names (line ∷ lines) =
-    let one = command_longer names line.command in
-    let rest = lines_longer (with_command names line.command) lines in
-    omega (arith, one, rest)
-
 any_longer : (names : List (List ℕ)) (name : Option (List ℕ)) → length names ≤ length (with_any names name)
 any_longer names None = omega arith
 any_longer names (Some name) = one_longer names name
+
+pub all_longer : {X : Type 0} (table : X → Option (List ℕ)) (names : List (List ℕ)) (xs : List X) → length names ≤ length (with_all table names xs)
+all_longer table names [] = omega arith
+all_longer table names (x ∷ xs) = let one = any_longer names (table x) in let rest = all_longer table (with_any names (table x)) xs in omega (arith, one, rest)
+
+pub lines_longer : (names : List (List ℕ)) (lines : List Line) → length names ≤ length (with_lines names lines)
+lines_longer names lines = all_longer line_table names lines
 
 behind_longer : (behind : Bool) (names : List (List ℕ)) (t : Token) → length names ≤ length (if behind then names else with_any names (token_table t))
 behind_longer true names t = omega arith

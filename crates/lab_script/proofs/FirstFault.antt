@@ -1,10 +1,10 @@
 -- Where a text has its first fault, read line by line.
-use Rattle.std.proofs.Common.{◌≡◌, ℕ, zero, suc, ◌+◌, ◌<◌, ◌≤◌, true, false, List, [], ◌∷◌, ◌++◌, length, take, drop, Option, Some, None, Result, Ok, Err, refl, sym, ap, subst, ◌∙◌, inl, inr, ⊎_elim, arith, length-append, append_assoc}
+use Rattle.std.proofs.Common.{◌≡◌, ℕ, ◌+◌, ◌≤◌, true, false, List, [], ◌∷◌, ◌++◌, length, take, Option, Some, None, Result, Ok, Err, refl, sym, ap, subst, ◌∙◌, inl, inr, ⊎_elim, arith, length-append, append_assoc}
 use Rattle.std.specs.Prelude.{is_some, slice_get, MatchResult, IfOk, IfErr, ok_or}
 use Rattle.std.specs.Str.Lines.{lines}
 use Rattle.std.proofs.lemmas.Bool.{false≢true}
-use Rattle.std.proofs.lemmas.List.{append-nil, take_at, length-take-le}
-use Rattle.std.proofs.lemmas.Option.{slice_get_within}
+use Rattle.std.proofs.lemmas.List.{append-nil, take_at}
+use Rattle.std.proofs.lemmas.Option.{same_Some, slice_get_within}
 use Rattle.lab_statement.specs.declared.fault.ScriptFault.{ScriptFault}
 use Rattle.lab_statement.specs.declared.fault.ScriptFault.TheVariants as fault
 use Rattle.lab_statement.specs.declared.fault.ScriptFaultKind.{ScriptFaultKind}
@@ -18,11 +18,11 @@ use Rattle.lab_statement.specs.Text.{code_of, remark_of}
 use Rattle.lab_script.specs.Script.{is_passed, BeginsSetup, LineSpells, LinesSpell, Spells}
 use Rattle.lab_script.specs.Fault as wrong
 use Rattle.lab_script.specs.Fault.{SpellsNothing, SpellsNoFew, LacksSession, SaysOfTokens, IsWrong, IsFaultyLine, IsFaultOf, IsLineFault}
+use Rattle.lab_script.proofs.OneFault.{no_few, none_at_all}
 use Rattle.lab_script.proofs.ReadCommands.{no_setup}
 use Rattle.lab_script.proofs.ReadSetup.{setup_begins}
-use Rattle.lab_script.proofs.ScriptLines.{fit_of, lines_once, lines_join, lines_front, IsFew, line_few}
+use Rattle.lab_script.proofs.ScriptLines.{fit_of, lines_once, lines_join, IsFew, line_few}
 use Rattle.lab_table.proofs.Tests.{slice_get-middle}
-use Rattle.lab_statement.proofs.TokenNumbers.{some_is}
 
 -- the lines so far, of which there are so many, spell nothing yet or a script, and these are left
 pub record IsReadTo (text : List ℕ) (number : ℕ) (rest : List (List ℕ)) (script : Option Script) : Type 0 where
@@ -53,19 +53,16 @@ one_more_read {text} {number} {line} {rest} {before} {after} read spells = recor
 pub all_read : {text : List ℕ} {number : ℕ} {script : Option Script} → IsReadTo text number [] script → LinesSpell 1 None (lines text) script
 all_read {script = script} read = subst (λ (ls : List (List ℕ)). LinesSpell 1 None ls script) (sym (read.whole ∙ append-nil read.front)) read.spelled
 
--- tokens that spell nothing make a line that spells nothing
-nothing_spelled : {number : ℕ} {line : List ℕ} {before after : Option Script}
-    → is_passed line ≡ false → SpellsNothing (tokens (code_of line)) before → LineSpells number line before after → ⊥
-nothing_spelled kept says (script.passed s fit is) = false≢true (sym kept ∙ is)
-nothing_spelled kept says (script.setup fit spelled few) = says.1 _ spelled
-nothing_spelled kept says (script.commands s fit spelled session room few) = says.1 _ spelled room
-
--- nor do tokens that spell nothing with few tables
+-- tokens that spell nothing that names few tables make a line that spells nothing
 no_few_spelled : {number : ℕ} {line : List ℕ} {before after : Option Script}
     → is_passed line ≡ false → SpellsNoFew (tokens (code_of line)) before → LineSpells number line before after → ⊥
 no_few_spelled kept says (script.passed s fit is) = false≢true (sym kept ∙ is)
 no_few_spelled kept says (script.setup fit spelled few) = says.1 _ spelled few
 no_few_spelled kept says (script.commands s fit spelled session room few) = says.1 _ spelled room few
+
+nothing_spelled : {number : ℕ} {line : List ℕ} {before after : Option Script}
+    → is_passed line ≡ false → SpellsNothing (tokens (code_of line)) before → LineSpells number line before after → ⊥
+nothing_spelled {line = line} {before = before} kept says spells = no_few_spelled kept (no_few (tokens (code_of line)) before says) spells
 
 -- no line can stand before its setup
 no_setup_yet : {number : ℕ} {line : List ℕ} {before after : Option Script}
@@ -97,15 +94,13 @@ tokens_are_faulty kinds.NotAscii kept says spells = says
 tokens_are_faulty kinds.NoSetup kept says spells = no_setup_yet kept says.0 says.1 spells
 tokens_are_faulty kinds.SetupRepeated kept says spells = setup_again kept says.0 says.1 spells
 tokens_are_faulty kinds.NoSession kept says spells = session_lacks kept says spells
-tokens_are_faulty kinds.UnknownStatement kept says spells = nothing_spelled kept says spells
 tokens_are_faulty kinds.BadPredicate kept says spells = nothing_spelled kept says.0 spells
-tokens_are_faulty kinds.BadTableName kept says spells = nothing_spelled kept says spells
-tokens_are_faulty kinds.NumberOutOfRange kept says spells = nothing_spelled kept says spells
 tokens_are_faulty kinds.TooDeep kept says spells = nothing_spelled kept says.0 spells
 tokens_are_faulty kinds.TooLong {before = None} kept says spells = nothing_spelled kept says.0 spells
 tokens_are_faulty kinds.TooLong {before = Some script} kept says spells = nothing_spelled kept says spells
 tokens_are_faulty kinds.DuplicateSetupRow kept says spells = nothing_spelled kept says.0 spells
 tokens_are_faulty kinds.TooManyTables kept says spells = no_few_spelled kept says spells
+tokens_are_faulty kind kept says spells = nothing_spelled kept says spells
 
 -- a line that is wrong spells nothing
 pub wrong_is_faulty : {number : ℕ} {line : List ℕ} {before : Option Script} {kind : ScriptFaultKind}
@@ -116,30 +111,9 @@ wrong_is_faulty (wrong.over long) after spells =
 wrong_is_faulty (wrong.not_ascii few short isnt) after spells = false≢true (sym isnt ∙ (fit_of spells).ascii)
 wrong_is_faulty (wrong.of_tokens {kind = kind} kept says first) after spells = tokens_are_faulty kind kept.1 says spells
 
--- a list round the element at a place
-round_place : {A : Type 0} (xs : List A) (i : ℕ) (x : A) → slice_get xs i ≡ Some x → xs ≡ take i xs ++ x ∷ drop (suc i) xs
-round_place [] i x e = absurd cc
-round_place (y ∷ ys) zero x e = let same : y ≡ x = cc in ap (λ z. z ∷ ys) same
-round_place (y ∷ ys) (suc i) x e = ap (λ zs. y ∷ zs) (round_place ys i x e)
-
--- a text with a faulty line spells nothing
-line_spells_nothing : {text : List ℕ} {number : ℕ} {kind : ScriptFaultKind} (s : Script) → IsFaultyLine text number kind → Spells text s → ⊥
-line_spells_nothing {text} {number} s line spells =
-    let ls = lines text in
-    let front = take line.index ls in
-    let parts = lines_front 1 None front (line.line ∷ drop (suc line.index) ls) (Some s)
-    (subst (λ (l : List (List ℕ)). LinesSpell 1 None l (Some s)) (round_place ls line.index line.line line.stands) spells) in
-    let inside : line.index < length ls = slice_get_within ls line.index line.line line.stands in
-    let size : length front ≡ line.index = length-take-le line.index ls (omega arith) in
-    let counted : number ≡ line.index + 1 = line.counted in
-    let place : 1 + length front ≡ number = omega arith in
-    line.faulty parts.2.0
-    (subst (λ (n : ℕ). LineSpells n line.line line.before parts.2.0) place
-    (subst (λ (b : Option Script). LineSpells (1 + length front) line.line b parts.2.0) (lines_once 1 None front parts.1 line.spelled) parts.2.1))
-
 -- a text with a fault spells nothing
 pub fault_spells_nothing : (text : List ℕ) (number : ℕ) (kind : ScriptFaultKind) (s : Script) → IsFaultOf text (fault.At number kind) → Spells text s → ⊥
-fault_spells_nothing text number kind s (inl line) spells = line_spells_nothing s line spells
+fault_spells_nothing text number kind s (inl line) spells = none_at_all text number kind (Some s) line spells
 fault_spells_nothing text number kind s (inr without) spells =
     let none : ◌≡◌ {A = Option Script} None (Some s) = lines_once 1 None (lines text) without.spelled spells in
     absurd cc
@@ -165,7 +139,7 @@ end_fault {text} {number} read =
 -- what reading a text gave is the script that it spells, or there was no memory
 pub only_read : (text : List ℕ) (result : Result Script ScriptFault) → MatchResult result (λ r. Spells text r) (IsFaultOf text)
     → (s : Script) → Spells text s → MatchResult result (λ r. r ≡ s) (λ f. f ≡ fault.NoMemory)
-only_read text (Ok r) is s spells = some_is _ _ (lines_once 1 None (lines text) is spells)
+only_read text (Ok r) is s spells = same_Some _ _ (lines_once 1 None (lines text) is spells)
 only_read text (Err fault.NoMemory) is s spells = refl
 only_read text (Err (fault.At number kind)) is s spells = absurd (fault_spells_nothing text number kind s is spells)
 

@@ -1,83 +1,24 @@
 -- The commands that the grammar has keep the limits when they are printed.
-use Rattle.std.proofs.Common.{◌≡◌, ℕ, suc, ◌≤◌, Bool, true, false, List, [], ◌∷◌, ◌++◌, Option, refl, arith}
-use Rattle.std.specs.Prelude.{◌||◌}
-use Rattle.lab_table.specs.Predicate.{Predicate}
-use Rattle.lab_table.specs.declared.statement.Statement.{Statement}
+use Rattle.std.proofs.Common.{List, [], ◌∷◌, ◌++◌}
 use Rattle.lab_table.specs.declared.statement.Command.{Command}
 use Rattle.lab_statement.specs.declared.token.Token.{Token}
-use Rattle.lab_statement.specs.Grammar.{Kind, P, A, N, IsAtom, IsPred, IsWhere, IsStatement}
-use Rattle.lab_script.specs.Grammar.{IsCommand, IsCommands}
-use Rattle.lab_statement.specs.Printed.{is_and, is_or}
-use Rattle.lab_statement.specs.Depth.{deeper, depth_of, where_depth, statement_depth}
+use Rattle.lab_statement.specs.Each.{Each}
 use Rattle.lab_statement.specs.Limits.{CommandPrints}
-use Rattle.lab_statement.specs.Grammar as grammar
+use Rattle.lab_script.specs.Grammar.{IsCommand, IsCommands}
 use Rattle.lab_script.specs.Grammar as line_grammar
+use Rattle.lab_statement.proofs.ShallowStatements.{statement_shallow}
 
--- how deep a predicate of a kind is where it stands as such
-abbrev depth_as : Kind → Predicate → ℕ
-depth_as N p = deeper (is_and p || is_or p) (depth_of p)
-depth_as A p = deeper (is_or p) (depth_of p)
-depth_as P p = depth_of p
-
-less_deep : (b c : Bool) (d e : ℕ) → deeper (b || c) d ≤ e → deeper c d ≤ e
-less_deep true true d e le = le
-less_deep true false d e le = omega (arith, le)
-less_deep false c d e le = le
-
-not_deep : (b : Bool) (d e : ℕ) → deeper b d ≤ e → d ≤ e
-not_deep true d e le = omega (arith, le)
-not_deep false d e le = le
-
--- a pair of parentheses is one more
-one_deeper : (b : Bool) (d e : ℕ) → d ≤ e → deeper b d ≤ suc e
-one_deeper true d e le = omega (arith, le)
-one_deeper false d e le = omega (arith, le)
-
-atom_shallow : {ts : List Token} {p : Predicate} → IsAtom ts p → depth_as N p ≡ 0
-atom_shallow (grammar.compare c m h) = refl
-atom_shallow (grammar.one_of c h) = refl
-atom_shallow (grammar.remainder c h low high i) = refl
-
--- a predicate under which this many parentheses and nots may be open has no more in its printed form
-pub shallow : {d : ℕ} {kind : Kind} {ts : List Token} {p : Predicate} → IsPred d kind ts p → depth_as kind p ≤ d
-shallow (grammar.atom h) = omega (arith, atom_shallow h)
-shallow (grammar.negation h) = let inner = shallow h in omega (arith, inner)
-shallow (grammar.parenthesized {d} {p} h) = one_deeper (is_and p || is_or p) (depth_of p) d (shallow h)
-shallow (grammar.one_factor {d} {p} h) = less_deep (is_and p) (is_or p) (depth_of p) d (shallow h)
-shallow (grammar.conjunction h i) = let left = shallow h in let right = shallow i in omega (arith, left, right)
-shallow (grammar.one_member {d} {p} h) = not_deep (is_or p) (depth_of p) d (shallow h)
-shallow (grammar.disjunction h i) = let left = shallow h in let right = shallow i in omega (arith, left, right)
-
-where_shallow : {ts : List Token} {p : Option Predicate} → IsWhere ts p → where_depth p ≤ 16
-where_shallow grammar.without = omega arith
-where_shallow (grammar.where_pred h) = shallow h
-
--- a statement of the grammar is no deeper than it may be
-pub statement_shallow : {ts : List Token} {s : Statement} → IsStatement ts s → statement_depth s ≤ 16
-statement_shallow (grammar.select table h) = where_shallow h
-statement_shallow (grammar.update table g h) = where_shallow h
-statement_shallow (grammar.insert table h) = omega arith
-statement_shallow (grammar.delete table h) = where_shallow h
-
--- every command prints
-abbrev pub EachPrints : List Command → Type 0
-EachPrints [] = Unit {0}
-EachPrints (c ∷ cs) = CommandPrints c × EachPrints cs
-
-command_prints : {ts : List Token} {cs : List Command} → IsCommand ts cs → EachPrints cs
-command_prints line_grammar.begin = (tt, tt)
-command_prints line_grammar.commit = (tt, tt)
-command_prints line_grammar.abort = (tt, tt)
-command_prints line_grammar.rollback = (tt, tt)
+command_prints : {ts : List Token} {cs : List Command} → IsCommand ts cs → Each CommandPrints cs
 command_prints (line_grammar.level w ws) = tt
 command_prints (line_grammar.run h le) = (record { shallow = statement_shallow h; short = le }, tt)
+command_prints is = (tt, tt)
 
-both_print : (cs ds : List Command) → EachPrints cs → EachPrints ds → EachPrints (cs ++ ds)
+both_print : (cs ds : List Command) → Each CommandPrints cs → Each CommandPrints ds → Each CommandPrints (cs ++ ds)
 both_print [] ds h i = i
 both_print (c ∷ cs) ds h i = (h.0, both_print cs ds h.1 i)
 
 -- the commands of a line print
-pub commands_print : {ts : List Token} {cs : List Command} → IsCommands ts cs → EachPrints cs
+pub commands_print : {ts : List Token} {cs : List Command} → IsCommands ts cs → Each CommandPrints cs
 commands_print (line_grammar.one h) = command_prints h
 commands_print (line_grammar.closed h) = command_prints h
 commands_print (line_grammar.more {cs} {ds} h hs) = both_print cs ds (command_prints h) (commands_print hs)

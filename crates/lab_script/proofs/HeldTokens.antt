@@ -1,19 +1,53 @@
--- The tokens of a line as the reader holds them spell what the tokens spell.
-use Rattle.std.proofs.Common.{◌≡◌, ℕ, List, [], ◌∷◌, map, Option, Some, None, sym, ap, subst}
+-- What a line is spelled with is held as it is, so its tokens as the reader holds them spell what the tokens spell.
+use Rattle.std.proofs.Common.{List, [], ◌∷◌, map, refl, ◌≡◌, ℕ, Option, Some, None, sym, ap, subst}
+use Rattle.std.specs.Prelude.{ℤ}
+use Rattle.lab_table.specs.Row.{Row}
 use Rattle.lab_table.specs.Table.{Table}
 use Rattle.lab_table.specs.declared.statement.Command.{Command}
+use Rattle.lab_statement.specs.declared.token.Word.{Word}
+use Rattle.lab_statement.specs.declared.token.Token.{Token}
+use Rattle.lab_statement.specs.declared.token.Token.TheVariants as token
+use Rattle.lab_script.specs.Grammar as grammar
+use Rattle.lab_script.specs.Grammar.{IsNamedRow, IsCommand, IsCommands, IsRows, IsRowList, IsSetup}
 use Rattle.lab_statement.specs.declared.fault.ScriptFaultKind.{ScriptFaultKind}
 use Rattle.lab_statement.specs.declared.fault.ScriptFaultKind.TheVariants as kinds
 use Rattle.lab_script.specs.declared.script.Script.{Script}
 use Rattle.lab_statement.specs.declared.token.Word.TheVariants as word
-use Rattle.lab_statement.specs.declared.token.Token.{Token}
-use Rattle.lab_statement.specs.declared.token.Token.TheVariants as token
-use Rattle.lab_script.specs.Grammar.{IsCommands, IsSetup}
 use Rattle.lab_statement.specs.HeldTokens.{held}
 use Rattle.lab_script.specs.Script.{BeginsSetup, BeginsLongSetup}
 use Rattle.lab_script.specs.Fault.{SpellsNothing, SpellsNoFew, LacksSession, SaysOfTokens}
-use Rattle.lab_script.proofs.KnownTokens.{row_list_known, commands_known, setup_known}
-use Rattle.lab_statement.proofs.HeldTokens.{all_held_kept, all_kept, held_where, kept_front, word_kept}
+use Rattle.lab_statement.proofs.HeldTokens.{AllKnown, both, end_known, row_known, statement_known, all_held_kept, all_kept, held_where, kept_front, word_kept}
+
+words_known : (ws : List Word) → AllKnown (map (λ w. token.Word w) ws)
+words_known [] = refl
+words_known (w ∷ ws) = words_known ws
+
+command_known : {ts : List Token} {cs : List Command} → IsCommand ts cs → AllKnown ts
+command_known (IsCommand.level w ws) = words_known ws
+command_known (IsCommand.run is short) = statement_known is
+command_known is = refl
+
+-- the commands of a line
+pub commands_known : {ts : List Token} {cs : List Command} → IsCommands ts cs → AllKnown ts
+commands_known (IsCommands.one is) = command_known is
+commands_known (IsCommands.closed {ts = ts} is) = both ts (token.Semicolon ∷ []) (command_known is) refl
+commands_known (IsCommands.more {ts = ts} {rest = others} is rest) = both ts (token.Semicolon ∷ others) (command_known is) (commands_known rest)
+
+named_row_known : {ts : List Token} {row : Row} {value : ℤ} → IsNamedRow ts row value → AllKnown ts
+named_row_known (grammar.unnamed is) = row_known is
+named_row_known (grammar.named table is) = row_known is
+
+rows_known : {ts : List Token} {rows : List (Row × ℤ)} → IsRows ts rows → AllKnown ts
+rows_known (IsRows.last is) = named_row_known is
+rows_known (IsRows.more {ts = ts} {rest = others} is rest) = both ts (token.Comma ∷ others) (named_row_known is) (rows_known rest)
+
+pub row_list_known : {ts : List Token} {rows : List (Row × ℤ)} → IsRowList ts rows → AllKnown ts
+row_list_known IsRowList.none = refl
+row_list_known (IsRowList.some is) = rows_known is
+
+-- the setup
+pub setup_known : {ts : List Token} {table : Table} → IsSetup ts table → AllKnown ts
+setup_known (IsSetup.setup {ts = ts} {end = end} is distinct ends short) = both ts end (row_list_known is) (end_known ends)
 
 -- setups, commands and statements are the same
 pub held_setup : (ts : List Token) (table : Table) → IsSetup (map held ts) table → IsSetup ts table
@@ -63,12 +97,10 @@ held_says kinds.NotAscii ts remark before says = says
 held_says kinds.NoSetup ts remark before says = (says.0, λ begins. says.1 (begins_held ts begins))
 held_says kinds.SetupRepeated ts remark before says = (says.0, held_begins ts says.1)
 held_says kinds.NoSession ts remark before says = held_lacks ts remark before says
-held_says kinds.UnknownStatement ts remark before says = held_nothing ts before says
 held_says kinds.BadPredicate ts remark before says = (held_nothing ts before says.0, says.1, held_where ts says.2)
-held_says kinds.BadTableName ts remark before says = held_nothing ts before says
-held_says kinds.NumberOutOfRange ts remark before says = held_nothing ts before says
 held_says kinds.TooDeep ts remark before says = (held_nothing ts before says.0, says.1)
 held_says kinds.TooLong ts remark None says = (held_nothing ts None says.0, held_long ts says.1)
 held_says kinds.TooLong ts remark (Some script) says = held_nothing ts (Some script) says
 held_says kinds.DuplicateSetupRow ts remark before says = (held_nothing ts before says.0, says.1)
 held_says kinds.TooManyTables ts remark before says = held_no_few ts before says
+held_says kind ts remark before says = held_nothing ts before says

@@ -9,7 +9,6 @@ pub mod Remarks
 pub mod ScriptLines
 pub mod TextLines
 pub mod ReadLines
-pub mod KnownTokens
 pub mod HeldTokens
 pub mod FirstFault
 pub mod CutTexts
@@ -22,14 +21,10 @@ pub mod PrintedLines
 pub mod PrintedCommands
 pub mod PrintedSetups
 pub mod PrintedScripts
-mod LineFaultKinds
-mod LineKinds
+mod FaultKinds
 mod LineFaults
 mod StoppedSetups
 mod StoppedCommands
-mod PlacedFaults
 pub mod OneFault
-mod OneStatementFault
 mod GrammarFaults
 pub mod FewTables
-pub mod FewRead

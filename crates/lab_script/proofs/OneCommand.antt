@@ -111,15 +111,8 @@ command_takes ts x e short =
 
 -- a command is at least one token
 pub command_long : {ts : List Token} {cs : List Command} → IsCommand ts cs → 1 ≤ length ts
-command_long line_grammar.begin = omega arith
-command_long line_grammar.commit = omega arith
-command_long line_grammar.abort = omega arith
-command_long line_grammar.rollback = omega arith
-command_long (line_grammar.level w ws) = omega arith
 command_long (line_grammar.run (grammar.select table h) le) = omega arith
-command_long (line_grammar.run (grammar.update table g h) le) = omega arith
-command_long (line_grammar.run (grammar.insert table h) le) = omega arith
-command_long (line_grammar.run (grammar.delete table h) le) = omega arith
+command_long h = omega arith
 
 -- the command of a statement with its end that is read, with what is left
 abbrev Closed : List Token → List Command → List Token → Type 0

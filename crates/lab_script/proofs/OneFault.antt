@@ -8,12 +8,9 @@ use Rattle.std.proofs.lemmas.Option.{same_Some, slice_get_within}
 use Rattle.lab_statement.specs.declared.fault.ScriptFault.TheVariants as fault
 use Rattle.lab_statement.specs.declared.fault.ScriptFaultKind.{ScriptFaultKind}
 use Rattle.lab_statement.specs.declared.fault.ScriptFaultKind.TheVariants as kinds
-use Rattle.lab_statement.specs.declared.refusal.GrammarFault.{GrammarFault}
-use Rattle.lab_statement.specs.declared.refusal.GrammarFault.TheVariants as grammar
 use Rattle.lab_script.specs.declared.script.Script.{Script}
 use Rattle.lab_statement.specs.declared.token.Token.{Token}
 use Rattle.lab_script.specs.Fault as wrong
-use Rattle.lab_statement.specs.Fault.{kind_of}
 use Rattle.lab_script.specs.Fault.{first_fault, IsOver, SpellsNothing, SpellsNoFew, SaysOfTokens, ComesFirst, IsWrong, IsFaultyLine, IsWithoutSetup, IsFaultOf}
 use Rattle.lab_script.specs.Grammar.{IsCommands}
 use Rattle.lab_statement.specs.HeldTokens.{held_tokens}
@@ -24,9 +21,14 @@ use Rattle.lab_script.proofs.ReadCommands.{no_setup}
 use Rattle.lab_script.proofs.ScriptLines.{lines_once}
 
 -- the kind of a line's fault, by the first of its tokens; where these have none the session is missing
-abbrev told : Option GrammarFault → ScriptFaultKind
+abbrev told : Option ScriptFaultKind → ScriptFaultKind
 told None = kinds.NoSession
-told (Some first) = kind_of first
+told (Some first) = first
+
+-- tokens that spell nothing spell nothing that names few tables
+pub no_few : (ts : List Token) (before : Option Script) → SpellsNothing ts before → SpellsNoFew ts before
+no_few ts None says = (says.0, λ table is few. says.1 table is)
+no_few ts (Some script) says = (says.0, λ cs is room few. says.1 cs is room)
 
 module _ (ts : List Token) (remark : List ℕ) (hs : List Token) where
   -- the three sorts of faults of tokens that are held so: no setup yet, a setup again, or what the first fault tells
@@ -36,13 +38,9 @@ module _ (ts : List Token) (remark : List ℕ) (hs : List Token) where
       ⊎ (((kind ≡ kinds.SetupRepeated) × (is_some before ≡ true) × BeginsSetup ts)
       ⊎ ((kind ≡ told (first_fault hs before)) × (before ≡ None → BeginsSetup ts) × (is_some before ≡ true → BeginsSetup ts → ⊥)))
 
-  of_first : (before : Option Script) (first : GrammarFault) → SpellsNothing ts before → first_fault hs before ≡ Some first → Sort before (kind_of first)
+  of_first : (before : Option Script) (first : ScriptFaultKind) → SpellsNoFew ts before → first_fault hs before ≡ Some first → Sort before first
   of_first None first says is = inr (inr (ap told (sym is), (λ none. says.0), λ some. absurd (false≢true some)))
   of_first (Some script) first says is = inr (inr (ap told (sym is), (λ none. absurd (false≢true (sym (ap is_some none)))), λ some. says.0))
-
-  of_fifth : (before : Option Script) → SpellsNoFew ts before → first_fault hs before ≡ Some grammar.TooManyTables → Sort before kinds.TooManyTables
-  of_fifth None says is = inr (inr (ap told (sym is), (λ none. says.0), λ some. absurd (false≢true some)))
-  of_fifth (Some script) says is = inr (inr (ap told (sym is), (λ none. absurd (false≢true (sym (ap is_some none)))), λ some. says.0))
 
   sort_of : (kind : ScriptFaultKind) (before : Option Script) → SaysOfTokens kind ts remark before → ComesFirst kind hs before → Sort before kind
   sort_of kinds.NotAscii before says first = absurd says
@@ -51,15 +49,13 @@ module _ (ts : List Token) (remark : List ℕ) (hs : List Token) where
   sort_of kinds.NoSession None says first = absurd says
   sort_of kinds.NoSession (Some script) says first =
       inr (inr (ap told (sym first), (λ none. absurd (false≢true (sym (ap is_some none)))), λ some begins. no_setup (subst (λ us. IsCommands us says.0.0) begins.1 says.0.1)))
-  sort_of kinds.UnknownStatement before says first = of_first before grammar.UnknownStatement says first
-  sort_of kinds.BadPredicate before says first = of_first before grammar.BadPredicate says.0 first
-  sort_of kinds.BadTableName before says first = of_first before grammar.BadTableName says first
-  sort_of kinds.NumberOutOfRange before says first = of_first before grammar.NumberOutOfRange says first
-  sort_of kinds.TooDeep before says first = of_first before grammar.TooDeep says.0 first
-  sort_of kinds.TooLong None says first = of_first None grammar.TooLong says.0 first
-  sort_of kinds.TooLong (Some script) says first = of_first (Some script) grammar.TooLong says first
-  sort_of kinds.DuplicateSetupRow before says first = of_first before grammar.DuplicateSetupRow says.0 first
-  sort_of kinds.TooManyTables before says first = of_fifth before says first
+  sort_of kinds.BadPredicate before says first = of_first before kinds.BadPredicate (no_few ts before says.0) first
+  sort_of kinds.TooDeep before says first = of_first before kinds.TooDeep (no_few ts before says.0) first
+  sort_of kinds.TooLong None says first = of_first None kinds.TooLong (no_few ts None says.0) first
+  sort_of kinds.TooLong (Some script) says first = of_first (Some script) kinds.TooLong (no_few ts (Some script) says) first
+  sort_of kinds.DuplicateSetupRow before says first = of_first before kinds.DuplicateSetupRow (no_few ts before says.0) first
+  sort_of kinds.TooManyTables before says first = of_first before kinds.TooManyTables says first
+  sort_of kind before says first = of_first before kind (no_few ts before says) first
 
   one_sort : (before : Option Script) (kind other : ScriptFaultKind) → Sort before kind → Sort before other → kind ≡ other
   one_sort before kind other (inl p) (inl q) = p.0 ∙ sym q.0
@@ -144,16 +140,16 @@ module _ (text : List ℕ) (n m : ℕ) (kind other : ScriptFaultKind) where
     ]
   ]
 
--- a text without a setup has no faulty line
-with_none : (text : List ℕ) (n m : ℕ) (kind other : ScriptFaultKind) → IsFaultyLine text n kind → IsWithoutSetup text m other → ⊥
-with_none text n m kind other f without =
-    none_faulty text n kind f (length (lines text)) None (slice_get_within (lines text) f.index f.line f.stands)
-    (subst (λ ls. LinesSpell 1 None ls None) (sym (take_all (length (lines text)) (lines text) (omega arith))) without.spelled)
+-- a text whose lines spell something has no faulty line
+pub none_at_all : (text : List ℕ) (n : ℕ) (kind : ScriptFaultKind) (after : Option Script) → IsFaultyLine text n kind → LinesSpell 1 None (lines text) after → ⊥
+none_at_all text n kind after f spelled =
+    none_faulty text n kind f (length (lines text)) after (slice_get_within (lines text) f.index f.line f.stands)
+    (subst (λ ls. LinesSpell 1 None ls after) (sym (take_all (length (lines text)) (lines text) (omega arith))) spelled)
 
 pub one_fault : (text : List ℕ) (n m : ℕ) (kind other : ScriptFaultKind) → IsFaultOf text (fault.At n kind) → IsFaultOf text (fault.At m other) → (n ≡ m) × (kind ≡ other)
 one_fault text n m kind other (inl f) (inl g) = faulty_once text n m kind other f g
-one_fault text n m kind other (inl f) (inr w) = absurd (with_none text n m kind other f w)
-one_fault text n m kind other (inr w) (inl g) = absurd (with_none text m n other kind g w)
+one_fault text n m kind other (inl f) (inr w) = absurd (none_at_all text n kind None f w.spelled)
+one_fault text n m kind other (inr w) (inl g) = absurd (none_at_all text m other None g w.spelled)
 one_fault text n m kind other (inr w) (inr v) = (w.counted ∙ sym v.counted, w.missing ∙ sym v.missing)
 
 -- a text spells one script at most

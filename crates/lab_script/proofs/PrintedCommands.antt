@@ -19,10 +19,11 @@ use Rattle.lab_statement.specs.Printed.{printed_command}
 use Rattle.lab_statement.specs.Text.{is_code_byte, code_of, remark_of}
 use Rattle.lab_script.specs.Script.{session_digit, session_of, IsFit, LineSpells, extended}
 use Rattle.lab_script.specs.Script as script
-use Rattle.lab_script.specs.Ranges.{CommandInRange, SessionInRange}
+use Rattle.lab_statement.specs.Ranges.{CommandInRange}
+use Rattle.lab_script.specs.Ranges.{SessionInRange}
 use Rattle.lab_script.specs.Tables.{with_command, script_tables}
-use Rattle.lab_statement.proofs.PrintedText.{Plain, all_plain, append_plain, append_ascii, Reads, word_ends}
-use Rattle.lab_statement.proofs.PrintedStatements.{statement_tokens, statement_reads, statement_fits, statement_plain}
+use Rattle.lab_statement.proofs.PrintedText.{all_plain, append_plain, append_ascii, Reads, word_ends}
+use Rattle.lab_statement.proofs.PrintedStatements.{statement_tokens, statement_reads, statement_fits}
 use Rattle.lab_statement.proofs.PrintedNumbers.{decimal_plain}
 
 -- the tokens of a printed command
@@ -34,9 +35,9 @@ command_tokens (command.Run s) = statement_tokens s
 
 -- a printed command has its tokens
 pub command_reads : (c : Command) → CommandInRange c → Reads (printed_command c) (command_tokens c)
-command_reads command.Begin h = record { is = λ rest b. word_ends (codes "begin") rest b }
-command_reads command.Commit h = record { is = λ rest b. word_ends (codes "commit") rest b }
-command_reads command.Abort h = record { is = λ rest b. word_ends (codes "abort") rest b }
+command_reads command.Begin h = record { is = λ rest b. word_ends (codes "begin") rest b; plain = all_plain (codes "begin") refl }
+command_reads command.Commit h = record { is = λ rest b. word_ends (codes "commit") rest b; plain = all_plain (codes "commit") refl }
+command_reads command.Abort h = record { is = λ rest b. word_ends (codes "abort") rest b; plain = all_plain (codes "abort") refl }
 command_reads (command.Run s) h = statement_reads s h
 
 -- the tokens of a printed command are in the grammar
@@ -45,13 +46,6 @@ command_fits command.Begin h p = grammar.begin
 command_fits command.Commit h p = grammar.commit
 command_fits command.Abort h p = grammar.abort
 command_fits (command.Run s) h p = grammar.run (statement_fits s h p.shallow) p.short
-
--- all of a printed command is code
-pub command_plain : (c : Command) → CommandInRange c → Plain (printed_command c)
-command_plain command.Begin h = all_plain (codes "begin") refl
-command_plain command.Commit h = all_plain (codes "commit") refl
-command_plain command.Abort h = all_plain (codes "abort") refl
-command_plain (command.Run s) h = statement_plain s h
 
 -- a command that prints has at most 1,000 bytes
 command_short : (c : Command) → CommandPrints c → length (printed_command c) ≤ 1000
@@ -78,7 +72,7 @@ session_is n low high =
 line_session : (line : Line) → SessionInRange line.session → CommandInRange line.command → session_of (remark_of (line_text line)) ≡ Some line.session
 line_session line r h =
     ap (λ (t : List ℕ). session_of (remark_of t)) (append_assoc (printed_command line.command) (codes "; -- T") (decimal line.session))
-    ∙ ap session_of ((command_plain line.command h).remark (codes "; -- T" ++ decimal line.session))
+    ∙ ap session_of ((command_reads line.command h).plain.remark (codes "; -- T" ++ decimal line.session))
     ∙ ap session_digit (decimal_digit line.session (omega arith))
     ∙ session_is line.session r.0 r.1
 
@@ -86,7 +80,7 @@ line_session line r h =
 line_code : (line : Line) → CommandInRange line.command → code_of (line_text line) ≡ printed_command line.command ++ codes "; "
 line_code line h =
     ap code_of (append_assoc (printed_command line.command) (codes "; -- T") (decimal line.session))
-    ∙ (command_plain line.command h).code (codes "; -- T" ++ decimal line.session)
+    ∙ (command_reads line.command h).plain.code (codes "; -- T" ++ decimal line.session)
 
 -- the tokens of a line are those of its command and a semicolon
 line_tokens : (line : Line) → CommandInRange line.command → tokens (code_of (line_text line)) ≡ command_tokens line.command ++ token.Semicolon ∷ []
@@ -103,14 +97,14 @@ line_fit number line r h p le = record {
     command_short line.command p,
     ap length (decimal_digit line.session (omega arith)),
   );
-  ascii = ap (list_all is_code_byte) (line_code line h) ∙ (append_plain (printed_command line.command) (codes "; ") (command_plain line.command h) (all_plain (codes "; ") refl)).ascii;
+  ascii = ap (list_all is_code_byte) (line_code line h) ∙ (append_plain (printed_command line.command) (codes "; ") (command_reads line.command h).plain (all_plain (codes "; ") refl)).ascii;
 }
 
 -- all of a line is printed
 pub line_ascii : (line : Line) → CommandInRange line.command → list_all is_code_byte (line_text line) ≡ true
 line_ascii line h =
     append_ascii (printed_command line.command ++ codes "; -- T") (decimal line.session)
-    (append_ascii (printed_command line.command) (codes "; -- T") (command_plain line.command h).ascii refl) (decimal_plain line.session).ascii
+    (append_ascii (printed_command line.command) (codes "; -- T") (command_reads line.command h).plain.ascii refl) (decimal_plain line.session).ascii
 
 -- a printed line gives its command
 pub line_spells : (number : ℕ) (line : Line) (before : Script) → SessionInRange line.session → CommandInRange line.command → CommandPrints line.command → number ≤ 2000 → length before.lines + 1 ≤ 1999

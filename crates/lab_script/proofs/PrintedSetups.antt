@@ -1,8 +1,7 @@
 -- Printed setups.
 use Rattle.std.proofs.Common.{◌≡◌, ℕ, ◌≤◌, List, [], ◌∷◌, ◌++◌, length, refl, sym, ap, subst, ◌∙◌, append_assoc, arith}
 use Rattle.std.specs.Prelude.{ℤ, Bool, true, false, if◌then◌else◌, codes, None, Some}
-use Rattle.std.specs.List.{list_all, All}
-use Rattle.std.proofs.lemmas.List.Elements.{All-head, All-tail}
+use Rattle.std.specs.List.{list_all}
 use Rattle.std.specs.FinMap as finite
 use Rattle.std.specs.Cmp.Lexicographic.{bytes_decides}
 use Rattle.lab_table.specs.Row.{Row, numbered, rows_total, rows_apart}
@@ -17,13 +16,14 @@ use Rattle.lab_statement.specs.Printed.{joined, printed_row}
 use Rattle.lab_script.specs.Printed.{printed_named_row, printed_named_rows, named_rows_or, printed_setup}
 use Rattle.lab_statement.specs.Text.{code_of}
 use Rattle.lab_script.specs.Script.{LineSpells}
+use Rattle.lab_statement.specs.Each.{Each}
 use Rattle.lab_script.specs.Ranges.{EntryInRange}
 use Rattle.lab_script.specs.Tables.{setup_tables}
-use Rattle.lab_statement.proofs.PrintedText.{Plain, all_plain, plain_between, plain_code, Leads, leads_reads, leads_leads, cut_leads, mark_leads, reads_all}
-use Rattle.lab_statement.proofs.PrintedNames.{name_token, name_plain, name_reads}
+use Rattle.lab_statement.proofs.PrintedText.{plain_code, Leads, literal, leads_reads, leads_leads, cut_leads, mark_leads, reads_all}
+use Rattle.lab_statement.proofs.PrintedNames.{name_token, name_reads}
 use Rattle.lab_statement.proofs.PrintedNumbers.{comma_leads}
 use Rattle.lab_statement.proofs.PrintedPreds.{open_leads, close_leads}
-use Rattle.lab_statement.proofs.PrintedStatements.{row_tokens, row_leads, row_fits, row_plain}
+use Rattle.lab_statement.proofs.PrintedStatements.{row_tokens, row_leads, row_fits}
 use Rattle.lab_statement.specs.Grammar as grammar
 use Rattle.lab_script.specs.Grammar as line_grammar
 use Rattle.lab_statement.specs.Text as script
@@ -39,7 +39,7 @@ abbrev pub named_row_tokens : Row → ℤ → List Token
 named_row_tokens row z = table_tokens (table_name_eq row.table test_name) row.table ++ row_tokens row.id z
 
 space_leads : Leads (codes " ") []
-space_leads = record { is = λ rest. refl }
+space_leads = literal (λ rest. refl) refl
 
 -- a printed row of a setup has its tokens
 named_row_leads : (row : Row) (z : ℤ) → EntryInRange (row, z) → Leads (printed_named_row row z) (named_row_tokens row z)
@@ -59,14 +59,6 @@ named_row_fits row z h = at (table_name_eq row.table test_name) refl
     at true is = subst (λ t. IsNamedRow (row_tokens row.id z) (numbered t row.id) z) (sym ((bytes_decides row.table test_name).0 is)) (line_grammar.unnamed (row_fits row.id z h.1 h.2))
     at false is = line_grammar.named row.table (row_fits row.id z h.1 h.2)
 
--- all of it is code
-named_row_plain : (row : Row) (z : ℤ) → EntryInRange (row, z) → Plain (printed_named_row row z)
-named_row_plain row z h = at (table_name_eq row.table test_name)
-  where
-    at : (b : Bool) → Plain ((if b then [] else row.table ++ codes " ") ++ printed_row row.id z)
-    at true = row_plain row.id z
-    at false = plain_between row.table (codes " ") (printed_row row.id z) (name_plain row.table h.0) (all_plain (codes " ") refl) (row_plain row.id z)
-
 -- the tokens of the rows of a printed setup
 abbrev pub rows_tokens : List (Row × ℤ) → List Token
 rows_tokens [] = token.Open ∷ token.Close ∷ []
@@ -74,42 +66,28 @@ rows_tokens (row ∷ []) = named_row_tokens row.0 row.1
 rows_tokens (row ∷ next ∷ rows) = named_row_tokens row.0 row.1 ++ token.Comma ∷ rows_tokens (next ∷ rows)
 
 -- one printed row or more have their tokens
-joined_leads : (row : Row × ℤ) (rows : List (Row × ℤ)) → All EntryInRange (row ∷ rows) → Leads (joined (printed_named_rows (row ∷ rows))) (rows_tokens (row ∷ rows))
-joined_leads row [] r = let fit = All-head EntryInRange row [] r in named_row_leads row.0 row.1 fit
+joined_leads : (row : Row × ℤ) (rows : List (Row × ℤ)) → Each EntryInRange (row ∷ rows) → Leads (joined (printed_named_rows (row ∷ rows))) (rows_tokens (row ∷ rows))
+joined_leads row [] r = named_row_leads row.0 row.1 r.0
 joined_leads row (next ∷ rows) r =
-    let fit = All-head EntryInRange row (next ∷ rows) r in
     subst (Leads (joined (printed_named_rows (row ∷ next ∷ rows)))) (append_assoc (named_row_tokens row.0 row.1) (token.Comma ∷ []) (rows_tokens (next ∷ rows)))
     (leads_leads (printed_named_row row.0 row.1 ++ codes ", ") (joined (printed_named_rows (next ∷ rows))) (named_row_tokens row.0 row.1 ++ token.Comma ∷ []) (rows_tokens (next ∷ rows))
-    (leads_leads (printed_named_row row.0 row.1) (codes ", ") (named_row_tokens row.0 row.1) (token.Comma ∷ []) (named_row_leads row.0 row.1 fit) comma_leads)
-    (joined_leads next rows (All-tail EntryInRange row (next ∷ rows) r)))
+    (leads_leads (printed_named_row row.0 row.1) (codes ", ") (named_row_tokens row.0 row.1) (token.Comma ∷ []) (named_row_leads row.0 row.1 r.0) comma_leads)
+    (joined_leads next rows r.1))
 
 -- the printed rows of a setup have their tokens
-rows_lead : (rows : List (Row × ℤ)) → All EntryInRange rows → Leads (named_rows_or (codes "()") rows) (rows_tokens rows)
+rows_lead : (rows : List (Row × ℤ)) → Each EntryInRange rows → Leads (named_rows_or (codes "()") rows) (rows_tokens rows)
 rows_lead [] r = leads_leads (codes "(") (codes ")") (token.Open ∷ []) (token.Close ∷ []) open_leads close_leads
 rows_lead (row ∷ rows) r = joined_leads row rows r
 
 -- the tokens of one row or more are in the grammar
-joined_fit : (row : Row × ℤ) (rows : List (Row × ℤ)) → All EntryInRange (row ∷ rows) → IsRows (rows_tokens (row ∷ rows)) (row ∷ rows)
-joined_fit row [] r = let fit = All-head EntryInRange row [] r in line_grammar.last (named_row_fits row.0 row.1 fit)
-joined_fit row (next ∷ rows) r =
-    let fit = All-head EntryInRange row (next ∷ rows) r in line_grammar.more (named_row_fits row.0 row.1 fit) (joined_fit next rows (All-tail EntryInRange row (next ∷ rows) r))
+joined_fit : (row : Row × ℤ) (rows : List (Row × ℤ)) → Each EntryInRange (row ∷ rows) → IsRows (rows_tokens (row ∷ rows)) (row ∷ rows)
+joined_fit row [] r = line_grammar.last (named_row_fits row.0 row.1 r.0)
+joined_fit row (next ∷ rows) r = line_grammar.more (named_row_fits row.0 row.1 r.0) (joined_fit next rows r.1)
 
 -- the tokens of the rows of a setup are in the grammar
-rows_fit : (rows : List (Row × ℤ)) → All EntryInRange rows → IsRowList (rows_tokens rows) rows
+rows_fit : (rows : List (Row × ℤ)) → Each EntryInRange rows → IsRowList (rows_tokens rows) rows
 rows_fit [] r = line_grammar.none
 rows_fit (row ∷ rows) r = line_grammar.some (joined_fit row rows r)
-
--- all of one printed row or more is code
-joined_plain : (row : Row × ℤ) (rows : List (Row × ℤ)) → All EntryInRange (row ∷ rows) → Plain (joined (printed_named_rows (row ∷ rows)))
-joined_plain row [] r = named_row_plain row.0 row.1 (All-head EntryInRange row [] r)
-joined_plain row (next ∷ rows) r =
-    plain_between (printed_named_row row.0 row.1) (codes ", ") (joined (printed_named_rows (next ∷ rows))) (named_row_plain row.0 row.1 (All-head EntryInRange row (next ∷ rows) r))
-    (all_plain (codes ", ") refl) (joined_plain next rows (All-tail EntryInRange row (next ∷ rows) r))
-
--- all of the printed rows of a setup is code
-rows_plain : (rows : List (Row × ℤ)) → All EntryInRange rows → Plain (named_rows_or (codes "()") rows)
-rows_plain [] r = all_plain (codes "()") refl
-rows_plain (row ∷ rows) r = joined_plain row rows r
 
 -- the map of a map's entries is the map
 rows_again : (table : Table) → finite.from_entries (finite.entries table) ≡ table
@@ -117,25 +95,20 @@ rows_again table = finite.same_map rows_total rows_apart _ _ (λ q. finite.get-f
 
 -- the word and the mark round the rows have their tokens
 setup_lead : Leads (codes "setup ") (token.Word word.Setup ∷ [])
-setup_lead = record { is = λ rest. refl }
+setup_lead = literal (λ rest. refl) refl
 
 semicolon_leads : Leads (codes ";") (token.Semicolon ∷ [])
-semicolon_leads = mark_leads 59 token.Semicolon (λ rest. refl) (λ b. refl)
+semicolon_leads = mark_leads 59 token.Semicolon (λ rest. refl) (λ b. refl) refl
 
 -- a printed setup has its tokens
-setup_leads : (table : Table) → All EntryInRange (finite.entries table) → Leads (printed_setup table) (token.Word word.Setup ∷ rows_tokens (finite.entries table) ++ token.Semicolon ∷ [])
+pub setup_leads : (table : Table) → Each EntryInRange (finite.entries table) → Leads (printed_setup table) (token.Word word.Setup ∷ rows_tokens (finite.entries table) ++ token.Semicolon ∷ [])
 setup_leads table r =
     leads_leads (codes "setup " ++ named_rows_or (codes "()") (finite.entries table)) (codes ";") (token.Word word.Setup ∷ rows_tokens (finite.entries table)) (token.Semicolon ∷ [])
     (leads_leads (codes "setup ") (named_rows_or (codes "()") (finite.entries table)) (token.Word word.Setup ∷ []) (rows_tokens (finite.entries table)) setup_lead (rows_lead (finite.entries table) r))
     semicolon_leads
 
--- all of a printed setup is code
-pub setup_plain : (table : Table) → All EntryInRange (finite.entries table) → Plain (printed_setup table)
-setup_plain table r =
-    plain_between (codes "setup ") (named_rows_or (codes "()") (finite.entries table)) (codes ";") (all_plain (codes "setup ") refl) (rows_plain (finite.entries table) r) (all_plain (codes ";") refl)
-
 -- the tokens of a printed setup are in the grammar
-setup_fits : (table : Table) → All EntryInRange (finite.entries table) → length (printed_setup table) ≤ 4000
+setup_fits : (table : Table) → Each EntryInRange (finite.entries table) → length (printed_setup table) ≤ 4000
     → IsSetup (token.Word word.Setup ∷ rows_tokens (finite.entries table) ++ token.Semicolon ∷ []) table
 setup_fits table r le =
     subst (IsSetup (token.Word word.Setup ∷ rows_tokens (finite.entries table) ++ token.Semicolon ∷ [])) (rows_again table)
@@ -143,12 +116,12 @@ setup_fits table r le =
     (subst (λ (t : Table). length (printed_setup t) ≤ 4000) (sym (rows_again table)) le))
 
 -- a printed setup gives its table
-pub setup_spells : (table : Table) → All EntryInRange (finite.entries table) → length (printed_setup table) ≤ 4000 → length (setup_tables table) ≤ 4
+pub setup_spells : (table : Table) → Each EntryInRange (finite.entries table) → length (printed_setup table) ≤ 4000 → length (setup_tables table) ≤ 4
     → LineSpells 1 (printed_setup table) None (Some (record { setup = table; lines = [] }))
 setup_spells table r le few =
-    let plain = setup_plain table r in
-    let code : code_of (printed_setup table) ≡ printed_setup table = plain_code (printed_setup table) plain in
+    let leads = setup_leads table r in
+    let code : code_of (printed_setup table) ≡ printed_setup table = plain_code (printed_setup table) leads.plain in
     let read : tokens (code_of (printed_setup table)) ≡ token.Word word.Setup ∷ rows_tokens (finite.entries table) ++ token.Semicolon ∷ [] =
-    ap tokens code ∙ reads_all (printed_setup table) _ (leads_reads (printed_setup table) _ (setup_leads table r)) in
-    text.setup (record { lines = omega arith; bytes = le; ascii = ap (λ (t : List ℕ). list_all script.is_code_byte t) code ∙ plain.ascii })
+    ap tokens code ∙ reads_all (printed_setup table) _ (leads_reads (printed_setup table) _ leads) in
+    text.setup (record { lines = omega arith; bytes = le; ascii = ap (λ (t : List ℕ). list_all script.is_code_byte t) code ∙ leads.plain.ascii })
     (subst (λ (ts : List Token). IsSetup ts table) (sym read) (setup_fits table r le)) few

@@ -5,7 +5,7 @@ use Rattle.lab_table.specs.declared.statement.Command.{Command}
 use Rattle.lab_statement.specs.declared.token.Word.TheVariants as word
 use Rattle.lab_statement.specs.declared.token.Token.{Token}
 use Rattle.lab_statement.specs.declared.token.Token.TheVariants as token
-use Rattle.lab_statement.specs.declared.refusal.GrammarFault.TheVariants.{TooLong}
+use Rattle.lab_statement.specs.declared.fault.ScriptFaultKind.TheVariants.{TooLong}
 use Rattle.lab_script.specs.Grammar.{IsCommand, IsCommands}
 use Rattle.lab_script.specs.Grammar as grammar
 use Rattle.lab_statement.specs.Stopping.{Reading, Reads, Stops, ◌>>=◌}

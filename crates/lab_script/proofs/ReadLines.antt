@@ -14,7 +14,7 @@ use Rattle.lab_script.specs.Script as script
 use Rattle.lab_statement.specs.Text.{code_of, remark_of, is_code_byte}
 use Rattle.lab_script.specs.Script.{session_of, IsFit, AddsCommands, LineSpells}
 use Rattle.lab_script.specs.Fault as wrong
-use Rattle.lab_script.specs.Fault.{IsOver, IsKept, SaysOfTokens, ComesFirst, IsTokensFault, IsLineFault}
+use Rattle.lab_script.specs.Fault.{IsOver, IsKept, IsTokensFault, IsLineFault}
 use Rattle.lab_table.specs.TableSet.{max_tables}
 use Rattle.lab_script.specs.Tables.{setup_tables}
 use Rattle.lab_script.proofs.HeldTokens.{held_setup, held_commands, held_says}
@@ -49,12 +49,9 @@ module _ {number : ℕ} {line code remark : List ℕ} (split : IsSplit number li
 
     pub tokens_fault : (before : Option Script) (f : ScriptFault) → list_all is_blank code ≡ false → IsTokensFault number ts remark before f → IsLineFault number line before f
     tokens_fault before fault.NoMemory isnt says = tt
-    tokens_fault before (fault.At n kind) isnt says = (
-      says.0,
-      wrong.of_tokens (kept ascii isnt) (subst (λ (r : List ℕ). SaysOfTokens kind (tokens (code_of line)) r before) split.remark_is
-          (held_says kind (tokens (code_of line)) remark before (subst (λ (t : List Token). SaysOfTokens kind t remark before) of_line says.1)))
-          (subst (λ (t : List Token). ComesFirst kind t before) of_line says.2),
-    )
+    tokens_fault before (fault.At n kind) isnt says =
+        let is = subst (λ (p : List Token × List ℕ). IsTokensFault number p.0 p.1 before (fault.At n kind)) (λ i. (of_line i, split.remark_is i)) says in
+        (is.0, wrong.of_tokens (kept ascii isnt) (held_says kind (tokens (code_of line)) (remark_of line) before is.1) is.2)
 
     pub setup_line : (s : Script) → (table : Table) × IsSetup ts table × (length (setup_tables table) ≤ max_tables) × (s ≡ record { setup = table; lines = [] }) → LineSpells number line None (Some s)
     setup_line s (table, is, small, e) =

@@ -7,7 +7,7 @@ use Rattle.lab_table.specs.Table.{Table}
 use Rattle.lab_statement.specs.declared.token.Word.TheVariants as word
 use Rattle.lab_statement.specs.declared.token.Token.{Token}
 use Rattle.lab_statement.specs.declared.token.Token.TheVariants as token
-use Rattle.lab_statement.specs.declared.refusal.GrammarFault.{GrammarFault}
+use Rattle.lab_statement.specs.declared.fault.ScriptFaultKind.{ScriptFaultKind}
 use Rattle.lab_script.specs.Grammar.{IsNamedRow, IsRows, IsRowList, IsSetup, AllDistinct}
 use Rattle.lab_statement.specs.Grammar.{IsEnd}
 use Rattle.lab_script.specs.Printed.{printed_setup}
@@ -16,7 +16,7 @@ use Rattle.lab_statement.specs.Stopping.{Reads, Stops, if_found, token_read}
 use Rattle.lab_script.specs.FirstFaults.{named_row_read, row_onto_read, rows_onto_read, rows_read, table_read, setup_ended, setup_end_read, setup_read}
 use Rattle.lab_statement.specs.FirstFaults.{nothing_read, no_rows_at}
 use Rattle.lab_statement.proofs.Readings.{bind_reads, found_reads, nothing_is, reads_is, token_is, under_limit}
-use Rattle.lab_statement.proofs.TokenNumbers.{after_is}
+use Rattle.lab_statement.proofs.SameTokens.{after_is}
 use Rattle.lab_statement.proofs.ReadNumbers.{under}
 use Rattle.lab_script.proofs.ReadRows.{named_row_takes}
 use Rattle.lab_script.proofs.DistinctRows.{none_distinct, absent_from, pushed_table, pushed_distinct, table_of}
@@ -26,7 +26,7 @@ use Rattle.lab_script.specs.Grammar as line_grammar
 
 -- what is read is in the grammar
 
-absent_reads : {A : Type 0} (b : Bool) (x y : A) (kind : GrammarFault) (left : List Token) → cond b (Stops kind left) (Reads x) ≡ Reads y → (b ≡ false) × (x ≡ y)
+absent_reads : {A : Type 0} (b : Bool) (x y : A) (kind : ScriptFaultKind) (left : List Token) → cond b (Stops kind left) (Reads x) ≡ Reads y → (b ≡ false) × (x ≡ y)
 absent_reads true x y kind left e = absurd cc
 absent_reads false x y kind left e = (refl, reads_is x y e)
 

@@ -5,6 +5,7 @@ use Rattle.std.specs.List.{list_all}
 use Rattle.std.specs.Char.{to_ascii_lowercase, is_ascii_digit}
 use Rattle.std.proofs.lemmas.List.{length-map}
 use Rattle.std.proofs.lemmas.Bool.{and_parts}
+use Rattle.std.proofs.lemmas.Option.{same_Some}
 use Rattle.lab_table.specs.declared.statement.Command.{Command}
 use Rattle.lab_script.specs.declared.script.Line.{Line}
 use Rattle.lab_script.specs.declared.script.Script.{Script}
@@ -18,7 +19,6 @@ use Rattle.lab_statement.specs.Text.{code_of}
 use Rattle.lab_script.specs.Script.{is_passed, IsFit, BeginsSetup, extended, LineSpells, LinesSpell}
 use Rattle.lab_script.proofs.ReadCommands.{commands_once, not_empty}
 use Rattle.lab_script.proofs.ReadSetup.{setup_once, setup_begins}
-use Rattle.lab_statement.proofs.TokenNumbers.{some_is}
 
 -- blanks have no tokens
 pub no_tokens : (code : List ℕ) → list_all is_blank code ≡ true → tokens code ≡ []
@@ -53,7 +53,7 @@ line_once {line = line} (script.setup fit spelled small) (script.setup fits also
 line_once {line = line} (script.commands s fit spelled session room small) (script.passed r fits also) = passed_no_commands line also spelled
 line_once {number} {line} (script.commands {cs = cs} {session = one} s fit spelled session room small) (script.commands {cs = ds} {session = other} r fits also named few tiny) =
     ap (λ c. Some (extended s one number c)) (commands_once spelled also)
-    ∙ ap (λ n. Some (extended s n number ds)) (some_is one other (sym session ∙ named))
+    ∙ ap (λ n. Some (extended s n number ds)) (same_Some one other (sym session ∙ named))
 
 -- lines make one thing at most of what stands before them
 pub lines_once : (number : ℕ) (before : Option Script) (ls : List (List ℕ)) {a b : Option Script} → LinesSpell number before ls a → LinesSpell number before ls b → a ≡ b

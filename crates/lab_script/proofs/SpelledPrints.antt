@@ -5,15 +5,17 @@ use Rattle.std.proofs.lemmas.List.{length-map}
 use Rattle.lab_table.specs.declared.statement.Command.{Command}
 use Rattle.lab_script.specs.declared.script.Line.{Line}
 use Rattle.lab_script.specs.declared.script.Script.{Script}
+use Rattle.lab_statement.specs.Each.{Each}
+use Rattle.lab_statement.specs.Limits.{CommandPrints}
 use Rattle.lab_script.specs.Limits.{AllPrint, ScriptPrints}
 use Rattle.lab_script.specs.Script as script
 use Rattle.lab_script.specs.Script.{LineSpells, LinesSpell, Spells}
-use Rattle.lab_script.proofs.GrammarPrints.{EachPrints, commands_print}
+use Rattle.lab_script.proofs.GrammarPrints.{commands_print}
 use Rattle.lab_script.proofs.ReadSetup.{setup_short}
 use Rattle.lab_script.proofs.FewTables.{tables_extended}
 
 -- lines print, and so do those of commands behind them
-all_print : (lines : List Line) (cs : List Command) (session number : ℕ) → AllPrint lines → EachPrints cs
+all_print : (lines : List Line) (cs : List Command) (session number : ℕ) → AllPrint lines → Each CommandPrints cs
     → AllPrint (lines ++ map (λ c. record { session = session; command = c; text_line = number }) cs)
 all_print [] [] session number lines commands = tt
 all_print [] (c ∷ cs) session number lines commands = (commands.0, all_print [] cs session number tt commands.1)

@@ -2,7 +2,7 @@
 use Rattle.std.proofs.Common.{◌≡◌, ℕ, zero, suc, ◌≤◌, ◌<◌, List, [], ◌∷◌, length, refl, sym, subst, ◌∙◌, arith}
 use Rattle.lab_table.specs.declared.statement.Command.{Command}
 use Rattle.lab_statement.specs.declared.token.Token.{Token}
-use Rattle.lab_statement.specs.declared.refusal.Refusal.{Refusal}
+use Rattle.lab_statement.specs.declared.fault.Refusal.{Refusal}
 use Rattle.lab_statement.specs.Stopping.{Reading, Reads, StopsAt}
 use Rattle.lab_script.specs.FirstFaults.{step_read, more_commands_read, commands_read}
 use Rattle.lab_script.proofs.ReadCommands.{step_fits, step_short}

@@ -3,7 +3,7 @@ use Rattle.std.proofs.Common.{◌≡◌, ℕ, zero, suc, ◌≤◌, ◌<◌, Lis
 use Rattle.lab_table.specs.Table.{Table}
 use Rattle.lab_statement.specs.declared.token.Token.{Token}
 use Rattle.lab_statement.specs.declared.token.Token.TheVariants as token
-use Rattle.lab_statement.specs.declared.refusal.Refusal.{Refusal}
+use Rattle.lab_statement.specs.declared.fault.Refusal.{Refusal}
 use Rattle.lab_statement.specs.Reading.{after}
 use Rattle.lab_statement.specs.Stopping.{Reading, Reads, StopsAt}
 use Rattle.lab_script.specs.FirstFaults.{row_onto_read, rows_onto_read}

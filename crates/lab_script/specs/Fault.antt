@@ -7,8 +7,6 @@ use Rattle.lab_statement.specs.declared.fault.ScriptFault.{ScriptFault}
 use Rattle.lab_statement.specs.declared.fault.ScriptFault.TheVariants as fault
 use Rattle.lab_statement.specs.declared.fault.ScriptFaultKind.{ScriptFaultKind}
 use Rattle.lab_statement.specs.declared.fault.ScriptFaultKind.TheVariants as kinds
-use Rattle.lab_statement.specs.declared.refusal.GrammarFault.{GrammarFault}
-use Rattle.lab_statement.specs.declared.refusal.GrammarFault.TheVariants as grammar
 use Rattle.lab_script.specs.declared.script.Script.{Script}
 use Rattle.lab_statement.specs.declared.token.Token.{Token}
 use Rattle.lab_script.specs.FirstFaults.{commands_fault, setup_fault}
@@ -53,18 +51,16 @@ SaysOfTokens kinds.NotAscii ts remark before = ⊥
 SaysOfTokens kinds.NoSetup ts remark before = (before ≡ None) × (BeginsSetup ts → ⊥)
 SaysOfTokens kinds.SetupRepeated ts remark before = (is_some before ≡ true) × BeginsSetup ts
 SaysOfTokens kinds.NoSession ts remark before = LacksSession ts remark before
-SaysOfTokens kinds.UnknownStatement ts remark before = SpellsNothing ts before
 SaysOfTokens kinds.BadPredicate ts remark before = SpellsNothing ts before × (is_some before ≡ true) × HasWhere ts
-SaysOfTokens kinds.BadTableName ts remark before = SpellsNothing ts before
-SaysOfTokens kinds.NumberOutOfRange ts remark before = SpellsNothing ts before
 SaysOfTokens kinds.TooDeep ts remark before = SpellsNothing ts before × (is_some before ≡ true)
 SaysOfTokens kinds.TooLong ts remark None = SpellsNothing ts None × BeginsLongSetup ts
 SaysOfTokens kinds.TooLong ts remark (Some script) = SpellsNothing ts (Some script)
 SaysOfTokens kinds.DuplicateSetupRow ts remark before = SpellsNothing ts before × (before ≡ None)
 SaysOfTokens kinds.TooManyTables ts remark before = SpellsNoFew ts before
+SaysOfTokens kind ts remark before = SpellsNothing ts before
 
 -- the first fault from the left of tokens, as they are held, behind what the lines before spell: of a setup where that is still to come, else of commands for which there is room
-abbrev pub first_fault : List Token → Option Script → Option GrammarFault
+abbrev pub first_fault : List Token → Option Script → Option ScriptFaultKind
 first_fault ts None = setup_fault ts
 first_fault ts (Some script) = commands_fault (script_tables script) (max_commands - length script.lines) ts
 
@@ -74,14 +70,7 @@ ComesFirst kinds.NotAscii ts before = ⊥
 ComesFirst kinds.NoSetup ts before = ⊤
 ComesFirst kinds.SetupRepeated ts before = ⊤
 ComesFirst kinds.NoSession ts before = first_fault ts before ≡ None
-ComesFirst kinds.UnknownStatement ts before = first_fault ts before ≡ Some grammar.UnknownStatement
-ComesFirst kinds.BadPredicate ts before = first_fault ts before ≡ Some grammar.BadPredicate
-ComesFirst kinds.BadTableName ts before = first_fault ts before ≡ Some grammar.BadTableName
-ComesFirst kinds.NumberOutOfRange ts before = first_fault ts before ≡ Some grammar.NumberOutOfRange
-ComesFirst kinds.TooDeep ts before = first_fault ts before ≡ Some grammar.TooDeep
-ComesFirst kinds.TooLong ts before = first_fault ts before ≡ Some grammar.TooLong
-ComesFirst kinds.DuplicateSetupRow ts before = first_fault ts before ≡ Some grammar.DuplicateSetupRow
-ComesFirst kinds.TooManyTables ts before = first_fault ts before ≡ Some grammar.TooManyTables
+ComesFirst kind ts before = first_fault ts before ≡ Some kind
 
 -- What is wrong with a line with this number, behind what the lines before it spell: it is over a limit;
 -- or it isn't, and its code has another byte; or it is looked at by its tokens.

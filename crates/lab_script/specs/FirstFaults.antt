@@ -5,8 +5,8 @@ use Rattle.lab_table.specs.TableName.{test_name}
 use Rattle.lab_statement.specs.declared.token.Word.TheVariants as word
 use Rattle.lab_statement.specs.declared.token.Token.{Token}
 use Rattle.lab_statement.specs.declared.token.Token.TheVariants as token
-use Rattle.lab_statement.specs.declared.refusal.GrammarFault.{GrammarFault}
-use Rattle.lab_statement.specs.declared.refusal.GrammarFault.TheVariants.{UnknownStatement, TooLong, DuplicateSetupRow, TooManyTables}
+use Rattle.lab_statement.specs.declared.fault.ScriptFaultKind.{ScriptFaultKind}
+use Rattle.lab_statement.specs.declared.fault.ScriptFaultKind.TheVariants.{UnknownStatement, TooLong, DuplicateSetupRow}
 use Rattle.lab_statement.specs.Reading.{after}
 use Rattle.std.specs.FinMap as map
 use Rattle.std.specs.List.{prefix_len}
@@ -16,10 +16,9 @@ use Rattle.lab_table.specs.declared.statement.Command.TheVariants as command
 use Rattle.lab_statement.specs.Limits.{max_line_bytes}
 use Rattle.lab_script.specs.Printed.{printed_setup}
 use Rattle.lab_statement.specs.Stopping.{Reading, Reads, Stops, ◌>>=◌, if_found, token_read, tokens_read, row_read, name_in}
-use Rattle.lab_table.specs.TableSet.{are_few}
 use Rattle.lab_script.specs.Tables.{with_commands, setup_tables}
 use Rattle.lab_script.specs.PassedTables.{with_tokens, with_setup_tokens}
-use Rattle.lab_statement.specs.FirstFaults.{behind_tables, end_read, is_short, is_word, no_rows_at, nothing_read, placed_kind, statement_read}
+use Rattle.lab_statement.specs.FirstFaults.{behind_tables, end_read, fault_of, fifth_table, is_short, is_word, no_rows_at, nothing_read, placed_kind, statement_read}
 
 -- the table of a row of a setup, from the token that it begins with: a word names it, and without one it is `test`
 abbrev pub table_of : Token → List Token → Reading (List ℕ × List Token)
@@ -136,20 +135,18 @@ setup_read ts = do
 abbrev pub passed : List Token → ℕ → List Token
 passed ts left = take (length ts - left) ts
 
--- the fault of a line of commands, behind lines that name these tables: a fifth table, or that with which reading stops
-abbrev pub commands_fault_in : List (List ℕ) → List Token → Reading (List Command) → Option GrammarFault
-commands_fault_in names ts (Reads cs) = if are_few (with_commands names cs) then None else Some TooManyTables
-commands_fault_in names ts (Stops kind left) = Some (behind_tables (with_tokens false names (passed ts (length left))) (placed_kind ts kind (length left)))
+-- the kind of a fault of a line of commands, behind lines that name these tables, where so many of its tokens are left
+abbrev pub commands_placed : List (List ℕ) → List Token → ScriptFaultKind → ℕ → ScriptFaultKind
+commands_placed names ts kind left = behind_tables (with_tokens false names (passed ts left)) (placed_kind ts kind left)
 
 -- the same of a setup, in which no where can stand
-abbrev pub setup_fault_in : List Token → Reading Table → Option GrammarFault
-setup_fault_in ts (Reads table) = if are_few (setup_tables table) then None else Some TooManyTables
-setup_fault_in ts (Stops kind left) = Some (behind_tables (with_setup_tokens false [] (passed ts (length left))) kind)
+abbrev pub setup_placed : List Token → ScriptFaultKind → ℕ → ScriptFaultKind
+setup_placed ts kind left = behind_tables (with_setup_tokens false [] (passed ts left)) kind
 
 -- the first fault of the tokens of a line of commands, for which there is this much room, behind lines that name these tables
-abbrev pub commands_fault : List (List ℕ) → ℕ → List Token → Option GrammarFault
-commands_fault names room ts = commands_fault_in names ts (commands_read room ts)
+abbrev pub commands_fault : List (List ℕ) → ℕ → List Token → Option ScriptFaultKind
+commands_fault names room ts = fault_of (λ cs. fifth_table (with_commands names cs)) (commands_placed names ts) (commands_read room ts)
 
 -- the first fault of the tokens of a setup
-abbrev pub setup_fault : List Token → Option GrammarFault
-setup_fault ts = setup_fault_in ts (setup_read ts)
+abbrev pub setup_fault : List Token → Option ScriptFaultKind
+setup_fault ts = fault_of (λ table. fifth_table (setup_tables table)) (setup_placed ts) (setup_read ts)

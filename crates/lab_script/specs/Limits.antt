@@ -1,5 +1,5 @@
 -- The limits of a script's text, and scripts whose printed form keeps them.
-use Rattle.std.specs.Prelude.{ℕ, ◌≤◌, ◌<◌, List, [], ◌∷◌, length}
+use Rattle.std.specs.Prelude.{ℕ, ◌≤◌, ◌<◌, List, length}
 use Rattle.std.specs.List.{Contains}
 use Rattle.lab_table.specs.declared.statement.Command.{Command}
 use Rattle.lab_script.specs.declared.script.Line.{Line}
@@ -7,6 +7,7 @@ use Rattle.lab_script.specs.declared.script.Script.{Script}
 use Rattle.lab_script.specs.Printed.{printed_setup}
 use Rattle.lab_table.specs.TableSet.{max_tables}
 use Rattle.lab_script.specs.Tables.{script_tables}
+use Rattle.lab_statement.specs.Each.{Each}
 use Rattle.lab_statement.specs.Limits.{CommandPrints, IsDeep, IsLong, max_line_bytes}
 
 -- the most lines of a text
@@ -23,8 +24,7 @@ max_script_bytes = 8388608
 
 -- every command prints
 abbrev pub AllPrint : List Line → Type 0
-AllPrint [] = Unit {0}
-AllPrint (line ∷ lines) = CommandPrints line.command × AllPrint lines
+AllPrint lines = Each (λ line. CommandPrints line.command) lines
 
 -- a script whose printed form keeps the limits
 pub record ScriptPrints (script : Script) : Type 0 where

@@ -7,6 +7,7 @@ use Rattle.lab_statement.specs.declared.token.Token.{Token}
 use Rattle.lab_statement.specs.declared.token.Token.TheVariants as token
 use Rattle.lab_statement.specs.Reading.{is_token}
 use Rattle.lab_table.specs.TableSet.{with_name}
+use Rattle.lab_script.specs.Tables.{with_any}
 
 -- the name of a table that a word is, if it is one
 abbrev pub word_table : Word → Option (List ℕ)
@@ -17,11 +18,6 @@ word_table w = None
 abbrev pub token_table : Token → Option (List ℕ)
 token_table (token.Word w) = word_table w
 token_table t = None
-
--- names with one more, if there is one
-abbrev pub with_any : List (List ℕ) → Option (List ℕ) → List (List ℕ)
-with_any names None = names
-with_any names (Some name) = with_name names name
 
 -- whether the next token of a line is a word of a level or a value, behind a set, and names no table
 abbrev pub is_behind_set : Bool → Token → Bool

@@ -1,25 +1,16 @@
 -- Which scripts have each number in its range.
 use Rattle.std.specs.Prelude.{◌≡◌, true, ℕ, ◌≤◌, ℤ}
-use Rattle.std.specs.List.{All}
 use Rattle.std.specs.FinMap as finite
-use Rattle.lab_table.specs.declared.statement.Command.{Command}
-use Rattle.lab_table.specs.declared.statement.Command.TheVariants as command
 use Rattle.lab_table.specs.Row.{Row}
 use Rattle.lab_table.specs.TableName.{is_table_name}
 use Rattle.lab_script.specs.declared.script.Line.{Line}
 use Rattle.lab_script.specs.declared.script.Script.{Script}
-use Rattle.lab_statement.specs.Ranges.{RowInRange, StatementInRange, ValueInRange}
+use Rattle.lab_statement.specs.Each.{Each}
+use Rattle.lab_statement.specs.Ranges.{CommandInRange, RowInRange, ValueInRange}
 
 -- from 1 to 9
 abbrev pub SessionInRange : ℕ → Type 0
 SessionInRange n = (1 ≤ n) × (n ≤ 9)
-
--- each number of a command
-abbrev pub CommandInRange : Command → Type 0
-CommandInRange command.Begin = Unit {0}
-CommandInRange command.Commit = Unit {0}
-CommandInRange command.Abort = Unit {0}
-CommandInRange (command.Run s) = StatementInRange s
 
 -- the name of a row's table, and the numbers of the row
 abbrev pub EntryInRange : Row × ℤ → Type 0
@@ -31,5 +22,5 @@ LineInRange line = SessionInRange line.session × CommandInRange line.command
 
 -- each number of a script
 pub record ScriptInRange (script : Script) : Type 0 where
-  pub setup : All EntryInRange (finite.entries script.setup)
-  pub lines : All LineInRange script.lines
+  pub setup : Each EntryInRange (finite.entries script.setup)
+  pub lines : Each LineInRange script.lines

@@ -2,18 +2,18 @@
 
 ghost use Rattle.std.specs.Prelude.{◌≡◌, ◌≤◌, true, false, List, length, OnOk, IfErr, ◌<◌, Some, None, IfOk};
 ghost use Rattle.std.specs.List.{prefix_len};
-ghost use Rattle.lab_statement.specs.declared.refusal.GrammarFault.TheVariants.{TooLong, TooManyTables};
+ghost use Rattle.lab_statement.specs.declared.fault.ScriptFaultKind.TheVariants.{TooLong, TooManyTables};
 ghost use Rattle.lab_statement.specs.declared.token.Token.{Token as Shown};
 ghost use Rattle.lab_statement.specs.Stopping.{Comes};
-ghost use Rattle.lab_statement.specs.FirstFaults.{is_word, is_short, HasFault, refusal_behind};
+ghost use Rattle.lab_statement.specs.FirstFaults.{is_word, is_short, HasFault, behind_tables, refusal_as};
 ghost use Rattle.lab_script.specs.FirstFaults.{command_read, commands_read, level_read, one_added, step_read, terminated_read, words_read, commands_fault, passed};
 ghost use Rattle.lab_script.specs.Grammar.{IsCommands};
 ghost use Rattle.lab_table.specs.TableSet.{max_tables};
 ghost use Rattle.lab_script.specs.Tables.{with_commands};
 ghost use Rattle.lab_script.specs.PassedTables.{with_tokens};
 
-use crate::tables::{add_commands, add_tokens};
-use lab_statement::{GrammarFault, Parser, Refusal, Token, Word, check_length, placed};
+use crate::tables::{add_all, add_tokens};
+use lab_statement::{Parser, Refusal, ScriptFaultKind, Token, Word, check_length, placed};
 use lab_table::{Command, TableSet};
 use std::alloc::Global;
 
@@ -98,10 +98,10 @@ fn words(parser: &mut Parser) -> Result<(), Refusal>
     ensures { Comes (λ x. parser.new) result parser.new (words_read parser.old) }
 {
     match parser.tokens().split_first() {
-        None => Err(Refusal::Fault(GrammarFault::UnknownStatement)),
+        None => Err(Refusal::Fault(ScriptFaultKind::UnknownStatement)),
         Some((first, rest)) => {
             if !is_word(*first) {
-                return Err(Refusal::Fault(GrammarFault::UnknownStatement));
+                return Err(Refusal::Fault(ScriptFaultKind::UnknownStatement));
             }
             let (_, behind) = rest.split_at(words_len(rest));
             *parser = Parser::new(behind);
@@ -146,7 +146,7 @@ fn add(commands: &mut Vec<Command>, room: usize, command: Option<Command>) -> Re
         return Ok(());
     };
     if commands.len() >= room {
-        return Err(Refusal::Fault(GrammarFault::TooLong));
+        return Err(Refusal::Fault(ScriptFaultKind::TooLong));
     }
     commands.push(command)?;
     Ok(())
@@ -189,8 +189,8 @@ fn with_few_tables(commands: Vec<Command>, tables: &mut TableSet) -> Result<Vec<
     ensures few { OnOk result (length (with_commands tables.old.names commands.items) ≤ max_tables) }
     ensures many { IfErr result (λ e. (e ≡ Refusal.Fault TooManyTables) × (max_tables < length (with_commands tables.old.names commands.items))) }
 {
-    if !add_commands(tables, &commands) {
-        return Err(Refusal::Fault(GrammarFault::TooManyTables));
+    if !add_all(tables, &commands) {
+        return Err(Refusal::Fault(ScriptFaultKind::TooManyTables));
     }
     Ok(commands)
 }
@@ -204,13 +204,13 @@ pub fn read_before(tokens: &[Token], left: usize) -> &[Token]
 
 /// Why reading a line's tokens stopped, of which these were read: a fifth table among them came first.
 fn behind_tables(tables: &mut TableSet, refusal: Refusal, read: &[Token]) -> Refusal
-    ensures { result ≡ refusal_behind (with_tokens false tables.old.names read.now) refusal }
+    ensures { result ≡ refusal_as (behind_tables (with_tokens false tables.old.names read.now)) refusal }
 {
     match refusal {
         Refusal::NoMemory => Refusal::NoMemory,
         Refusal::Fault(kind) => {
             if !add_tokens(tables, read) {
-                return Refusal::Fault(GrammarFault::TooManyTables);
+                return Refusal::Fault(ScriptFaultKind::TooManyTables);
             }
             Refusal::Fault(kind)
         }

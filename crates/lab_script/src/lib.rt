@@ -34,8 +34,6 @@ mod limits;
 mod line;
 mod parse;
 mod print;
-mod ranges;
-mod round_trip;
 mod row_text;
 mod script;
 mod serial;

@@ -10,10 +10,9 @@ ghost use Rattle.lab_script.specs.Tables.{script_tables};
 
 use crate::fits::setup_fits;
 use crate::limits::MAX_COMMANDS;
-use crate::round_trip::printed_script_spells;
 use crate::script::Script;
 use crate::spelling::{put_line, put_setup};
-use crate::tables::{add_lines, add_rows};
+use crate::tables::add_all;
 use lab_statement::{PrintFault, check_command};
 use lab_table::TableSet;
 use std::alloc::Global;
@@ -42,7 +41,6 @@ pub fn print_script(alloc: Global, script: &Script) -> Result<Vec<u8>, PrintFaul
         check_command(&line.command)?;
         put_line(&mut text, line)?;
     }
-    printed_script_spells(script);
     Ok(text)
 }
 
@@ -52,10 +50,10 @@ fn check_tables(script: &Script) -> Result<(), PrintFault>
     ensures many { IfErr result (λ e. (e ≡ PrintFault.TooManyTables) × (max_tables < length (script_tables script.now))) }
 {
     let mut tables = TableSet::new();
-    if !add_rows(&mut tables, script.setup.rows()) {
+    if !add_all(&mut tables, script.setup.rows()) {
         return Err(PrintFault::TooManyTables);
     }
-    if !add_lines(&mut tables, script.lines.as_slice()) {
+    if !add_all(&mut tables, script.lines.as_slice()) {
         return Err(PrintFault::TooManyTables);
     }
     Ok(())

@@ -4,16 +4,16 @@ ghost use Rattle.std.specs.Prelude.{◌≤◌, length, ◌≡◌, ◌<◌, [], f
 ghost use Rattle.lab_statement.specs.Stopping.{Comes};
 ghost use Rattle.lab_script.specs.FirstFaults.{named_row_read, row_table_read, row_onto_read, rows_read, setup_end_read, setup_fault, setup_read, table_read};
 ghost use Rattle.lab_script.specs.Grammar.{IsSetup};
-ghost use Rattle.lab_statement.specs.FirstFaults.{no_rows_at, HasFault, refusal_behind};
+ghost use Rattle.lab_statement.specs.FirstFaults.{no_rows_at, HasFault, behind_tables, refusal_as};
 ghost use Rattle.lab_table.specs.TableSet.{max_tables};
 ghost use Rattle.lab_script.specs.Tables.{setup_tables, with_setup};
 ghost use Rattle.lab_script.specs.PassedTables.{with_setup_tokens};
-ghost use Rattle.lab_statement.specs.declared.refusal.GrammarFault.TheVariants.{TooManyTables};
+ghost use Rattle.lab_statement.specs.declared.fault.ScriptFaultKind.TheVariants.{TooManyTables};
 
 use crate::command::read_before;
 use crate::fits::setup_fits;
-use crate::tables::{add_rows, add_setup_tokens};
-use lab_statement::{GrammarFault, Parser, Refusal, Token, Word};
+use crate::tables::{add_all, add_setup_tokens};
+use lab_statement::{Parser, Refusal, ScriptFaultKind, Token, Word};
 use lab_table::{RowName, Table, TableName, TableSet, Value};
 use std::alloc::Global;
 
@@ -53,7 +53,7 @@ fn row_onto(alloc: Global, parser: &mut Parser, table: &mut Table) -> Result<(),
     if table.add(alloc, row.0, row.1)? {
         Ok(())
     } else {
-        Err(Refusal::Fault(GrammarFault::DuplicateSetupRow))
+        Err(Refusal::Fault(ScriptFaultKind::DuplicateSetupRow))
     }
 }
 
@@ -108,7 +108,7 @@ fn setup_end(parser: &mut Parser, table: &Table) -> Result<(), Refusal>
     if setup_fits(table) {
         parser.nothing_left()
     } else {
-        Err(Refusal::Fault(GrammarFault::TooLong))
+        Err(Refusal::Fault(ScriptFaultKind::TooLong))
     }
 }
 
@@ -153,21 +153,21 @@ fn with_few_tables(table: Table, tables: &mut TableSet) -> Result<Table, Refusal
     ensures few { OnOk result (length (with_setup tables.old.names table) ≤ max_tables) }
     ensures many { IfErr result (λ e. (e ≡ Refusal.Fault TooManyTables) × (max_tables < length (with_setup tables.old.names table))) }
 {
-    if !add_rows(tables, table.rows()) {
-        return Err(Refusal::Fault(GrammarFault::TooManyTables));
+    if !add_all(tables, table.rows()) {
+        return Err(Refusal::Fault(ScriptFaultKind::TooManyTables));
     }
     Ok(table)
 }
 
 /// Why reading a setup's tokens stopped, of which these were read: a fifth table among them came first.
 fn behind_tables(tables: &mut TableSet, refusal: Refusal, read: &[Token]) -> Refusal
-    ensures { result ≡ refusal_behind (with_setup_tokens false tables.old.names read.now) refusal }
+    ensures { result ≡ refusal_as (behind_tables (with_setup_tokens false tables.old.names read.now)) refusal }
 {
     match refusal {
         Refusal::NoMemory => Refusal::NoMemory,
         Refusal::Fault(kind) => {
             if !add_setup_tokens(tables, read) {
-                return Refusal::Fault(GrammarFault::TooManyTables);
+                return Refusal::Fault(ScriptFaultKind::TooManyTables);
             }
             Refusal::Fault(kind)
         }

@@ -1,61 +1,57 @@
 //! The names of tables that a script uses, of which there are at most four.
 
-ghost use Rattle.std.specs.Prelude.{◌≡◌, ◌<◌, false, length, MatchBool};
-ghost use Rattle.lab_table.specs.TableSet.{max_tables, with_name};
-ghost use Rattle.lab_script.specs.Tables.{with_command, with_commands, with_rows, with_lines};
-ghost use Rattle.lab_script.specs.PassedTables.{token_table, with_any, is_behind_set, with_tokens, with_setup_token, with_setup_tokens};
+ghost use Rattle.std.specs.Prelude.{◌≡◌, ◌<◌, ℕ, false, length, List, MatchBool, Option};
+ghost use Rattle.lab_table.specs.TableSet.{max_tables};
+ghost use Rattle.lab_script.specs.Tables.{command_table, line_table, row_table, with_all, with_any};
+ghost use Rattle.lab_script.specs.PassedTables.{token_table, is_behind_set, with_tokens, with_setup_token, with_setup_tokens};
 
 use crate::script::Line;
 use lab_statement::{Token, Word};
 use lab_table::{Command, RowName, TableName, TableSet, Value};
 
-/// Adds the table of a command, if it is a statement; false where that would be a fifth.
-fn add_command(tables: &mut TableSet, command: &Command) -> bool
-    ensures { MatchBool result (tables.new.names ≡ with_command tables.old.names command.now) (max_tables < length (with_command tables.old.names command.now)) }
-{
-    match command {
-        Command::Run(statement) => tables.add(statement.table),
-        _ => true,
-    }
+/// What may name a table.
+pub trait NamesTable {
+    // The name, if there is one.
+    ghost named: { Self → Option (List ℕ) };
+
+    /// The name, if there is one.
+    fn table(&self) -> Option<TableName>
+        ensures { result ≡ named self.now };
 }
 
-/// Adds the tables of commands; false where a fifth comes among them.
-pub fn add_commands(tables: &mut TableSet, commands: &[Command]) -> bool
-    ensures { MatchBool result (tables.new.names ≡ with_commands tables.old.names commands.now) (max_tables < length (with_commands tables.old.names commands.now)) }
-{
-    for command in commands {
-        if !add_command(tables, command) {
-            return false;
+impl NamesTable for Command {
+    ghost named = { command_table };
+
+    fn table(&self) -> Option<TableName> {
+        match self {
+            Command::Run(statement) => Some(statement.table),
+            _ => None,
         }
     }
-    true
 }
 
-/// Adds the table of a row; false where it would be a fifth.
-fn add_row(tables: &mut TableSet, row: &(RowName, Value)) -> bool
-    ensures { MatchBool result (tables.new.names ≡ with_name tables.old.names row.now.0.table) (max_tables < length (with_name tables.old.names row.now.0.table)) }
-{
-    tables.add(row.0.table)
-}
+impl NamesTable for Line {
+    ghost named = { line_table };
 
-/// Adds the tables of rows; false where a fifth comes among them.
-pub fn add_rows(tables: &mut TableSet, rows: &[(RowName, Value)]) -> bool
-    ensures { MatchBool result (tables.new.names ≡ with_rows tables.old.names rows.now) (max_tables < length (with_rows tables.old.names rows.now)) }
-{
-    for row in rows {
-        if !add_row(tables, row) {
-            return false;
-        }
+    fn table(&self) -> Option<TableName> {
+        self.command.table()
     }
-    true
 }
 
-/// Adds the tables of lines; false where a fifth comes among them.
-pub fn add_lines(tables: &mut TableSet, lines: &[Line]) -> bool
-    ensures { MatchBool result (tables.new.names ≡ with_lines tables.old.names lines.now) (max_tables < length (with_lines tables.old.names lines.now)) }
+impl NamesTable for (RowName, Value) {
+    ghost named = { row_table };
+
+    fn table(&self) -> Option<TableName> {
+        Some(self.0.table)
+    }
+}
+
+/// Adds the tables that these name; false where a fifth comes among them.
+pub fn add_all<T: NamesTable>(tables: &mut TableSet, items: &[T]) -> bool
+    ensures { MatchBool result (tables.new.names ≡ with_all T.named tables.old.names items.now) (max_tables < length (with_all T.named tables.old.names items.now)) }
 {
-    for line in lines {
-        if !add_command(tables, &line.command) {
+    for item in items {
+        if !add_any(tables, item.table()) {
             return false;
         }
     }

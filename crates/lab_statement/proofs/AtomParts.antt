@@ -37,11 +37,7 @@ col_takes ts x e = found_reads (token.Word word.Id) ts _ _ x e
 pub cmp_again : (m : Cmp) (rest : List Token) → cmp_read (cmp_token m ∷ rest) ≡ Reads (m, rest)
 unfolding cmp_read
 cmp_again cmp.Eq rest = refl
-cmp_again cmp.Ne rest = refl
-cmp_again cmp.Lt rest = refl
-cmp_again cmp.Le rest = refl
-cmp_again cmp.Gt rest = refl
-cmp_again cmp.Ge rest = refl
+cmp_again m rest = refl
 
 -- a sign before what stands behind it
 abbrev shown : Cmp × List Token → List Token

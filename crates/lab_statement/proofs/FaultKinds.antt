@@ -1,26 +1,32 @@
 -- With which faults reading stops.
-use Rattle.std.proofs.Common.{◌≡◌, ℕ, zero, suc, Bool, true, false, cond, List, [], ◌∷◌, length, Option, Some, None, refl}
-use Rattle.std.specs.Prelude.{◌&&◌, ◌==◌, nat_le}
+use Rattle.std.proofs.Common.{◌≡◌, ℕ, zero, suc, Bool, true, false, cond, List, [], ◌∷◌, length, Option, Some, None, refl, ◌<◌, take, subst, inl, inr}
+use Rattle.std.specs.Prelude.{◌==◌, nat_le, ◌-◌}
 use Rattle.lab_table.specs.Predicate.{Predicate}
-use Rattle.lab_table.specs.Predicate as predicate
 use Rattle.lab_table.specs.declared.predicate.Cmp.{Cmp}
 use Rattle.lab_statement.specs.declared.token.Word.{Word}
 use Rattle.lab_statement.specs.declared.token.Word.TheVariants as word
 use Rattle.lab_statement.specs.declared.token.Token.{Token}
 use Rattle.lab_statement.specs.declared.token.Token.TheVariants as token
-use Rattle.lab_statement.specs.declared.refusal.GrammarFault.{GrammarFault}
-use Rattle.lab_statement.specs.declared.refusal.GrammarFault.TheVariants as grammar
-use Rattle.lab_statement.specs.Limits.{max_depth}
+use Rattle.lab_statement.specs.declared.fault.ScriptFaultKind.{ScriptFaultKind}
+use Rattle.lab_statement.specs.declared.fault.ScriptFaultKind.TheVariants as kinds
+use Rattle.lab_statement.specs.Limits.{max_statement_bytes}
 use Rattle.lab_statement.specs.Reading.{is_token, after}
-use Rattle.lab_statement.specs.Stopping.{cmp_of, one_more, Reading, Reads, Stops, ◌>>=◌, if_found, token_read, tokens_read, digits_in, digits_read, magnitude_read, number_read, more_read, id_read, name_in, name_of, name_read, row_read, col_read, cmp_in, cmp_read, modulus_read, numbers_read, number_list_read, compare_read, remainder_read, one_of_read, atom_read, joined_read, term_read, conj_read, pred_read, where_read}
-use Rattle.lab_statement.specs.FirstFaults.{expr_read, select_read, update_read, insert_read, delete_read, statement_read, end_read, nothing_read}
+use Rattle.lab_statement.specs.Stopping.{cmp_of, Reading, Reads, Stops, ◌>>=◌, if_found, token_read, tokens_read, digits_in, digits_read, magnitude_read, number_read, more_read, id_read, name_in, name_of, name_read, row_read, col_read, cmp_in, cmp_read, modulus_read, numbers_read, number_list_read, compare_read, remainder_read, one_of_read, atom_read, joined_read, term_read, conj_read, pred_read, where_read}
+use Rattle.lab_statement.specs.FirstFaults.{expr_read, select_read, update_read, insert_read, delete_read, statement_read, end_read, nothing_read, in_predicate, statement_fault, whole_statement_read, placed_kind}
+use Rattle.std.proofs.lemmas.Bool.{cases_Bool, leb-false}
+use Rattle.lab_table.specs.declared.statement.Statement.{Statement}
+use Rattle.lab_statement.specs.Printed.{printed_statement}
+use Rattle.lab_statement.specs.Text.{HasWhere, BeginsLongStatement}
+use Rattle.lab_statement.proofs.GrammarFaults.{fault_is}
+use Rattle.lab_statement.proofs.ReadStatements.{statement_takes}
+use Rattle.lab_statement.proofs.Wheres.{where_in_front}
 
 -- all faults with which a reading may stop are of this kind
-abbrev pub StopsOnly : {X : Type 0} → (GrammarFault → Type 0) → Reading X → Type 0
+abbrev pub StopsOnly : {X : Type 0} → (ScriptFaultKind → Type 0) → Reading X → Type 0
 StopsOnly Is (Reads x) = Unit {0}
 StopsOnly Is (Stops kind left) = Is kind
 
-module _ (Is : GrammarFault → Type 0) where
+module _ (Is : ScriptFaultKind → Type 0) where
   -- a reading of two parts, one behind a token that may be found, and one where a test holds
   pub bind_only : {A B : Type 0} (r : Reading A) (f : A → Reading B) → StopsOnly Is r → ((x : A) → r ≡ Reads x → StopsOnly Is (f x)) → StopsOnly Is (r >>= f)
   bind_only (Reads x) f first next = next x refl
@@ -36,7 +42,7 @@ module _ (Is : GrammarFault → Type 0) where
   cond_only false one other holds fails = fails refl
 
   -- readings that stop at wrong tokens, at words that are no names and at numbers out of their range
-  module _ (unknown : Is grammar.UnknownStatement) (name : Is grammar.BadTableName) (range : Is grammar.NumberOutOfRange) where
+  module _ (unknown : Is kinds.UnknownStatement) (name : Is kinds.BadTableName) (range : Is kinds.NumberOutOfRange) where
     pub token_only : (t : Token) (ts : List Token) → StopsOnly Is (token_read t ts)
     token_only t ts = found_only (after t ts) _ _ (λ rest. tt) unknown
 
@@ -70,17 +76,11 @@ module _ (Is : GrammarFault → Type 0) where
 
     id_only : (ts : List Token) → StopsOnly Is (id_read ts)
     unfolding id_read
-    id_only ts = found_only (after token.Minus ts) _ _ (λ rest. bind_only _ _ (digits_only rest) (λ n is. range))
-        (bind_only _ _ (digits_only ts) (λ n is. cond_only (nat_le 1 n.0 && nat_le n.0 999999) _ _ tt (λ not. range)))
+    id_only ts = search (bind_only, found_only, cond_only, digits_only) depth 7
 
     pub row_only : (ts : List Token) → StopsOnly Is (row_read ts)
     unfolding row_read
-    row_only ts =
-        bind_only _ _ (token_only token.Open ts) (λ a _.
-        bind_only _ _ (id_only a) (λ id _.
-        bind_only _ _ (token_only token.Comma id.1) (λ b _.
-        bind_only _ _ (number_only b) (λ v _.
-        bind_only _ _ (token_only token.Close v.1) (λ c _. tt)))))
+    row_only ts = search (bind_only, token_only, id_only, number_only) depth 9
 
     pub word_only : (w : Word) (ts : List Token) → StopsOnly Is (name_in w ts)
     word_only (word.Name n) ts = tt
@@ -99,7 +99,7 @@ module _ (Is : GrammarFault → Type 0) where
     nothing_only ts = cond_only (length ts == 0) _ _ tt (λ not. unknown)
 
     -- the same of predicates and statements, that may go too deep
-    module _ (deep : Is grammar.TooDeep) where
+    module _ (deep : Is kinds.TooDeep) where
       cmp_in_only : (o : Option Cmp) (t : Token) (ts : List Token) → StopsOnly Is (cmp_in o t ts)
       cmp_in_only (Some m) t ts = tt
       cmp_in_only None t ts = unknown
@@ -111,24 +111,15 @@ module _ (Is : GrammarFault → Type 0) where
 
       modulus_only : (ts : List Token) → StopsOnly Is (modulus_read ts)
       unfolding modulus_read
-      modulus_only ts = found_only (after token.Minus ts) _ _ (λ rest. bind_only _ _ (digits_only rest) (λ n _. range))
-          (bind_only _ _ (digits_only ts) (λ n _. cond_only (nat_le 1 n.0 && nat_le n.0 1000000) _ _ tt (λ not. range)))
+      modulus_only ts = search (bind_only, found_only, cond_only, digits_only) depth 7
 
       number_list_only : (ts : List Token) → StopsOnly Is (number_list_read ts)
       unfolding number_list_read numbers_read
-      number_list_only ts = bind_only _ _ (token_only token.Open ts) (λ a _.
-          found_only (after token.Close a) _ _ (λ rest. tt)
-          (bind_only _ _ (bind_only _ _ (number_only a) (λ z _. more_only number_read number_only (length z.1) token.Comma one_more (z.0 ∷ []) z.1)) (λ zs _.
-          bind_only _ _ (token_only token.Close zs.1) (λ rest _. tt))))
+      number_list_only ts = search (bind_only, found_only, token_only, number_only, more_only) depth 9
 
       atom_only : (ts : List Token) → StopsOnly Is (atom_read ts)
       unfolding atom_read col_read one_of_read remainder_read compare_read
-      atom_only ts =
-          bind_only _ _ (found_only (after (token.Word word.Id) ts) _ _ (λ rest. tt) (bind_only _ _ (token_only (token.Word word.Value) ts) (λ rest _. tt))) (λ c _.
-          found_only (after (token.Word word.In) c.1) _ _ (λ rest. bind_only _ _ (number_list_only rest) (λ zs _. tt))
-          (found_only (after token.Percent c.1) _ _
-          (λ rest. bind_only _ _ (modulus_only rest) (λ m _. bind_only _ _ (token_only token.Equal m.1) (λ behind _. bind_only _ _ (number_only behind) (λ n _. tt))))
-          (bind_only _ _ (cmp_only c.1) (λ m _. bind_only _ _ (number_only m.1) (λ n _. tt)))))
+      atom_only ts = search (bind_only, found_only, token_only, number_list_only, modulus_only, number_only, cmp_only) depth 9
 
       joined_only : (member : List Token → Reading (Predicate × List Token)) → ((ts : List Token) → StopsOnly Is (member ts)) → (connective : Token) (join : Predicate → Predicate → Predicate) (ts : List Token)
           → StopsOnly Is (joined_read member connective join ts)
@@ -138,40 +129,50 @@ module _ (Is : GrammarFault → Type 0) where
       term_only : (d : ℕ) (ts : List Token) → StopsOnly Is (term_read d ts)
       unfolding term_read
       term_only zero ts = found_only (after (token.Word word.Not) ts) _ _ (λ rest. deep) (found_only (after token.Open ts) _ _ (λ rest. deep) (atom_only ts))
-      term_only (suc d) ts = found_only (after (token.Word word.Not) ts) _ _ (λ rest. bind_only _ _ (term_only d rest) (λ p _. tt))
-          (found_only (after token.Open ts) _ _
-          (λ rest. bind_only _ _ (joined_only _ (joined_only (term_read d) (term_only d) (token.Word word.And) predicate.And) (token.Word word.Or) predicate.Or rest) (λ p _.
-          bind_only _ _ (token_only token.Close p.1) (λ behind _. tt)))
-          (atom_only ts))
+      term_only (suc d) ts = search (bind_only, found_only, token_only, joined_only, atom_only, term_only d) depth 9
 
       where_only : (ts : List Token) → StopsOnly Is (where_read ts)
       unfolding where_read pred_read conj_read
-      where_only ts = found_only (after (token.Word word.Where) ts) _ _ (λ rest.
-          bind_only _ _ (joined_only _ (joined_only (term_read max_depth) (term_only max_depth) (token.Word word.And) predicate.And) (token.Word word.Or) predicate.Or rest) (λ p _. tt)) tt
+      where_only ts = search (bind_only, found_only, joined_only, term_only) depth 9
 
       expr_only : (ts : List Token) → StopsOnly Is (expr_read ts)
       unfolding expr_read
-      expr_only ts = found_only (after (token.Word word.Value) ts) _ _
-          (λ rest. found_only (after token.Plus rest) _ _ (λ behind. bind_only _ _ (number_only behind) (λ n _. tt))
-          (bind_only _ _ (token_only token.Minus rest) (λ behind _. bind_only _ _ (number_only behind) (λ n _. tt))))
-          (bind_only _ _ (number_only ts) (λ n _. tt))
+      expr_only ts = search (bind_only, found_only, token_only, number_only) depth 9
 
       pub statement_only : (ts : List Token) → StopsOnly Is (statement_read ts)
       unfolding statement_read select_read update_read insert_read delete_read
-      statement_only ts =
-          found_only (after (token.Word word.Select) ts) _ _
-          (λ rest. bind_only _ _ (tokens_only (token.Star ∷ token.Word word.From ∷ []) rest) (λ a _. bind_only _ _ (name_only a) (λ table _. bind_only _ _ (where_only table.1) (λ p _. tt))))
-          (found_only (after (token.Word word.Update) ts) _ _
-          (λ rest. bind_only _ _ (name_only rest) (λ table _. bind_only _ _ (tokens_only (token.Word word.Set ∷ token.Word word.Value ∷ token.Equal ∷ []) table.1) (λ a _.
-          bind_only _ _ (expr_only a) (λ e _. bind_only _ _ (where_only e.1) (λ p _. tt)))))
-          (found_only (after (token.Word word.Insert) ts) _ _
-          (λ rest. bind_only _ _ (token_only (token.Word word.Into) rest) (λ a _. bind_only _ _ (name_only a) (λ table _.
-          bind_only _ _ (tokens_only (token.Open ∷ token.Word word.Id ∷ token.Comma ∷ token.Word word.Value ∷ token.Close ∷ token.Word word.Values ∷ []) table.1) (λ b _.
-          bind_only _ _ (row_only b) (λ r _. tt)))))
-          (bind_only _ _ (token_only (token.Word word.Delete) ts) (λ rest _.
-          bind_only _ _ (token_only (token.Word word.From) rest) (λ a _. bind_only _ _ (name_only a) (λ table _. bind_only _ _ (where_only table.1) (λ p _. tt)))))))
+      statement_only ts = search (bind_only, found_only, token_only, tokens_only, name_only, where_only, expr_only, row_only) depth 12
 
       pub end_only : (ts : List Token) → StopsOnly Is (end_read ts)
       unfolding end_read
       end_only [] = tt
       end_only (t ∷ ts) = cond_only (is_token token.Semicolon t) _ _ tt (λ not. unknown)
+
+-- a fault of a line, where it stands
+abbrev pub Placed : (ScriptFaultKind → Type 0) → List Token → ScriptFaultKind → Type 0
+Placed Is ts kind = (left : ℕ) → Is (placed_kind ts kind left)
+
+long_statement : (ts : List Token) (s : Statement × List Token) → statement_read ts ≡ Reads s → max_statement_bytes < length (printed_statement s.0) → BeginsLongStatement ts
+long_statement ts s read long =
+    let taken = statement_takes ts s read in
+    record { statement = s.0; front = taken.0; behind = s.1; whole = taken.1; spelled = taken.2; long = long }
+
+module _ (Is : ScriptFaultKind → Type 0) (ts : List Token) (unknown : Is kinds.UnknownStatement) (behind_where : HasWhere ts → Is kinds.BadPredicate) (name : Is kinds.BadTableName)
+    (range : Is kinds.NumberOutOfRange) (deep : Is kinds.TooDeep) where
+  pub unknown_placed : Placed Is ts kinds.UnknownStatement
+  unknown_placed left = elim (cases_Bool (in_predicate false (take (length ts - left) ts))) [
+    | inl is ↦ rw is (behind_where (where_in_front (length ts - left) ts is))
+    | inr isnt ↦ rw isnt unknown
+  ]
+
+  -- where reading one statement stops
+  pub statement_kinds : (BeginsLongStatement ts → Is kinds.TooLong) → (f : ScriptFaultKind) → statement_fault ts ≡ Some f → Is f
+  unfolding whole_statement_read
+  statement_kinds long f e =
+      let Of = Placed Is ts in
+      let only : StopsOnly Of (whole_statement_read ts) = bind_only Of _ _ (statement_only Of unknown_placed (λ n. name) (λ n. range) (λ n. deep) ts) (λ s read.
+      bind_only Of _ _ (end_only Of unknown_placed (λ n. name) (λ n. range) (λ n. deep) s.1) (λ rest _.
+      cond_only Of (nat_le (length (printed_statement s.0)) max_statement_bytes) _ _
+      (bind_only Of _ _ (nothing_only Of unknown_placed (λ n. name) (λ n. range) rest) (λ end _. tt))
+      (λ not n. long (long_statement ts s read (leb-false _ _ not))))) in
+      fault_is (λ s. None) (placed_kind ts) Is (whole_statement_read ts) f e (λ s read none. absurd cc) (λ kind left stops. (subst (StopsOnly Of) stops only) (length left))

@@ -1,33 +1,70 @@
--- There is no first fault exactly where the tokens are in the grammar.
-use Rattle.std.proofs.Common.{◌≡◌, Bool, true, false, List, Some, None, refl}
+-- The first fault of tokens: where reading stops, and none exactly where they are in the grammar.
+use Rattle.std.proofs.Common.{◌≡◌, ℕ, ◌<◌, ◌≤◌, Bool, true, false, List, length, Option, Some, None, refl, subst, ap}
 use Rattle.std.specs.Prelude.{◌↔◌, if◌then◌else◌}
+use Rattle.std.proofs.lemmas.Bool.{le-leb, leb-true, lt-leb}
+use Rattle.lab_table.specs.TableSet.{are_few}
 use Rattle.lab_table.specs.declared.statement.Statement.{Statement}
+use Rattle.lab_statement.specs.declared.fault.ScriptFaultKind.{ScriptFaultKind}
+use Rattle.lab_statement.specs.declared.fault.ScriptFaultKind.TheVariants.{TooManyTables}
 use Rattle.lab_statement.specs.declared.token.Token.{Token}
 use Rattle.lab_statement.specs.Grammar.{IsWholeStatement}
-use Rattle.lab_statement.specs.Stopping.{Reading, Reads, Stops}
-use Rattle.lab_statement.specs.FirstFaults.{whole_statement_read, fault_in, statement_fault}
+use Rattle.lab_statement.specs.Stopping.{Reading, Reads, Stops, StopsAt}
+use Rattle.lab_statement.specs.FirstFaults.{whole_statement_read, placed_kind, fault_of, fifth_table, statement_fault, refusal_as, StopsFirst}
+use Rattle.std.proofs.lemmas.Option.{same_Some}
 use Rattle.lab_statement.proofs.ReadStatements.{whole_takes, whole_again}
+use Rattle.lab_statement.specs.declared.fault.Refusal.{Refusal}
+use Rattle.lab_statement.specs.declared.fault.Refusal.TheVariants as refusal
+use Rattle.lab_statement.specs.Fault.{refusal_at, IsFirstInText}
+use Rattle.lab_statement.specs.HeldTokens.{AreStatementTokens}
 
--- a reading has no fault exactly where it has a value
+-- a reading has no fault exactly where it has a value that has none
+module _ {X : Type 0} (of : X → Option ScriptFaultKind) (placed : ScriptFaultKind → ℕ → ScriptFaultKind) where
+  pub valued : (r : Reading X) → fault_of of placed r ≡ None → (x : X) × (r ≡ Reads x) × (of x ≡ None)
+  valued (Reads x) none = (x, refl, none)
+  valued (Stops kind left) none = absurd cc
 
-valued : {X : Type 0} (ts : List Token) (r : Reading X) → fault_in ts r ≡ None → (x : X) × (r ≡ Reads x)
-valued ts (Reads x) none = (x, refl)
-valued ts (Stops kind left) none = absurd cc
+  pub faultless : (r : Reading X) (x : X) → r ≡ Reads x → of x ≡ None → fault_of of placed r ≡ None
+  faultless r x is none = rw is none
 
-faultless : {X : Type 0} (ts : List Token) (r : Reading X) (x : X) → r ≡ Reads x → fault_in ts r ≡ None
-faultless ts (Reads y) x is = refl
-faultless ts (Stops kind left) x is = absurd cc
+  -- what holds of the fault of each value and of each stop holds of the fault
+  pub fault_is : (Is : ScriptFaultKind → Type 0) (r : Reading X) (f : ScriptFaultKind) → fault_of of placed r ≡ Some f → ((x : X) → r ≡ Reads x → of x ≡ Some f → Is f)
+      → ((kind : ScriptFaultKind) (left : List Token) → r ≡ Stops kind left → Is (placed kind (length left))) → Is f
+  fault_is Is (Reads x) f e valued stopped = valued x refl e
+  fault_is Is (Stops kind left) f e valued stopped = subst Is (same_Some (placed kind (length left)) f e) (stopped kind left refl)
 
--- the same where its tables are to be few
+-- names of tables that are few, and of which one is a fifth
+none_of : (few : Bool) → (if few then None else Some TooManyTables) ≡ None → few ≡ true
+none_of true none = refl
+none_of false none = absurd cc
 
-pub few_of : {A : Type 0} (few : Bool) (x : A) → (if few then None else Some x) ≡ None → few ≡ true
-few_of true x none = refl
-few_of false x none = absurd cc
+pub are_four : (names : List (List ℕ)) → fifth_table names ≡ None → length names ≤ 4
+are_four names none = leb-true (length names) 4 (none_of (are_few names) none)
 
--- commands, setups and statements without a fault
+pub no_fifth : (names : List (List ℕ)) → length names ≤ 4 → fifth_table names ≡ None
+no_fifth names few = rw (le-leb (length names) 4 few) refl
 
+pub a_fifth : (names : List (List ℕ)) → 4 < length names → fifth_table names ≡ Some TooManyTables
+a_fifth names many = rw (lt-leb (length names) 4 many) refl
+
+-- statements without a fault
 pub no_statement_fault : (ts : List Token) → (statement_fault ts ≡ None) ↔ ((s : Statement) × IsWholeStatement ts s)
 no_statement_fault ts = (
-  λ none. let v = valued ts (whole_statement_read ts) none in (v.0, whole_takes ts v.0 v.1),
-  λ s. faultless ts (whole_statement_read ts) s.0 (whole_again s.1),
+  λ none. let v = valued (λ s. None) (placed_kind ts) (whole_statement_read ts) none in (v.0, whole_takes ts v.0 v.1),
+  λ s. faultless (λ s. None) (placed_kind ts) (whole_statement_read ts) s.0 (whole_again s.1) refl,
 )
+
+-- where reading stops is the first fault
+pub stops_first : {X : Type 0} (of : X → Option ScriptFaultKind) (placed : ScriptFaultKind → ℕ → ScriptFaultKind) (left : List Token) (read : Reading X) (e : Refusal) → StopsAt e left read
+    → StopsFirst (fault_of of placed read) (refusal_as (λ kind. placed kind (length left)) e)
+stops_first of placed left read refusal.NoMemory stops = tt
+stops_first of placed left read (refusal.Fault kind) stops = ap (fault_of of placed) stops
+
+-- a kind that is made another twice
+pub as_both : (f g : ScriptFaultKind → ScriptFaultKind) (e : Refusal) → refusal_as f (refusal_as g e) ≡ refusal_as (λ kind. f (g kind)) e
+as_both f g refusal.NoMemory = refl
+as_both f g (refusal.Fault kind) = refl
+
+-- what is told of the text of a statement where reading its tokens stopped
+pub first_in_text : (text : List ℕ) (ts : List Token) (e : Refusal) → AreStatementTokens text ts → StopsFirst (statement_fault ts) e → IsFirstInText text (refusal_at e 1)
+first_in_text text ts refusal.NoMemory are stops = tt
+first_in_text text ts (refusal.Fault kind) are stops = λ short code. (ts, are, stops)

@@ -1,9 +1,8 @@
 pub mod Tokens
 pub mod HeldDigits
-pub mod TokenNumbers
-pub mod SameVariants
+pub mod SameTokens
+pub mod Tests
 pub mod Numbers
-pub mod PrintedTokens
 pub mod ReadNumbers
 pub mod Joined
 pub mod Appended
@@ -15,21 +14,20 @@ pub mod ReadAtoms
 pub mod ReadPredicates
 pub mod ReadStatements
 pub mod Remarks
-pub mod KnownTokens
 pub mod HeldTokens
 pub mod StatementText
 pub mod PrintedText
 pub mod PrintedNumbers
+pub mod PrintedTokens
 pub mod PrintedPreds
 pub mod ReservedWords
 pub mod PrintedNames
 pub mod PrintedStatements
 pub mod StatementRead
-pub mod EachElement
+pub mod ShallowStatements
 pub mod Wheres
 pub mod Readings
 pub mod FaultKinds
-pub mod LineKinds
 mod StoppedLoops
-mod PlacedFaults
 pub mod GrammarFaults
+pub mod OneStatementFault

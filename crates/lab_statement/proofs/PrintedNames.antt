@@ -13,7 +13,7 @@ use Rattle.lab_statement.specs.declared.token.Token.{Token}
 use Rattle.lab_statement.specs.declared.token.Token.TheVariants as token
 use Rattle.lab_statement.specs.Token.{letters, is_letter, is_blank, tokens, tokens_from}
 use Rattle.lab_statement.proofs.Tokens.{goes_on, word_begins}
-use Rattle.lab_statement.proofs.PrintedText.{is_plain, Plain, all_plain, Reads, word_ends}
+use Rattle.lab_statement.proofs.PrintedText.{is_plain, all_plain, Reads, word_ends}
 use Rattle.lab_statement.proofs.ReservedWords.{name_named}
 
 -- the token of a table's name
@@ -58,6 +58,12 @@ name_begins [] rest long h = absurd (omega arith)
 name_begins (b ∷ text) rest long h =
     let parts = and_parts (is_name_letter b) (list_all is_name_letter text) h in word_begins b (text ++ rest) (name_unblank b parts.0) (name_letter b parts.0)
 
+-- and are code
+letters_plain : (text : List ℕ) → list_all is_name_letter text ≡ true → list_all is_plain text ≡ true
+letters_plain [] h = refl
+letters_plain (b ∷ text) h =
+    let parts = and_parts (is_name_letter b) (list_all is_name_letter text) h in and_from (is_plain b) (list_all is_plain text) (name_byte b parts.0) (letters_plain text parts.1)
+
 -- the name of a table is a word
 pub name_reads : (table : List ℕ) → is_table_name table ≡ true → Reads table (name_token table ∷ [])
 name_reads table named =
@@ -65,13 +71,5 @@ name_reads table named =
     record {
       is = λ rest h. name_begins table rest parts.0 parts.1 ∙ letters_on table [] rest parts.1 ∙ word_ends table rest h
           ∙ ap (λ w. token.Word w ∷ tokens rest) (name_named table named);
+      plain = all_plain table (letters_plain table parts.1);
     }
-
-letters_plain : (text : List ℕ) → list_all is_name_letter text ≡ true → list_all is_plain text ≡ true
-letters_plain [] h = refl
-letters_plain (b ∷ text) h =
-    let parts = and_parts (is_name_letter b) (list_all is_name_letter text) h in and_from (is_plain b) (list_all is_plain text) (name_byte b parts.0) (letters_plain text parts.1)
-
--- all of the name of a table is code
-pub name_plain : (table : List ℕ) → is_table_name table ≡ true → Plain table
-name_plain table named = all_plain table (letters_plain table (letters_of table named).1)

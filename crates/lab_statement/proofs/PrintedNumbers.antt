@@ -1,8 +1,7 @@
 -- Printed numbers: their tokens, and that all of them is code.
 use Rattle.std.proofs.Common.{◌≡◌, ℕ, zero, suc, ◌/◌, ◌%◌, ◌≤◌, ◌<◌, Bool, true, false, cond, List, [], ◌∷◌, ◌++◌, refl, ap, ◌∙◌, arith, subst}
 use Rattle.std.specs.Prelude.{◌&&◌, ◌==◌, ℤ, pos, negsuc, ◌-ℤ◌, codes}
-use Rattle.std.specs.List.{list_all, All}
-use Rattle.std.proofs.lemmas.List.Elements.{All-head, All-tail}
+use Rattle.std.specs.List.{list_all}
 use Rattle.std.specs.Fmt.{digits, digits_onto, digit_glyph, decimal, signed_decimal}
 use Rattle.std.proofs.lemmas.Bool.Decides.{nat_tests}
 use Rattle.std.proofs.lemmas.Int.{ints}
@@ -11,27 +10,16 @@ use Rattle.lab_statement.specs.declared.token.Token.TheVariants as token
 use Rattle.lab_statement.specs.Grammar.{IsNumber, IsNumbers, IsNumberList}
 use Rattle.lab_statement.specs.Grammar as grammar
 use Rattle.lab_statement.specs.Printed.{joined, printed_numbers}
+use Rattle.lab_statement.specs.Each.{Each}
 use Rattle.lab_statement.specs.Ranges.{ValueInRange}
 use Rattle.lab_statement.proofs.Numbers.{decimal_are}
-use Rattle.lab_statement.proofs.PrintedText.{is_plain, Plain, all_plain, dash_plain, plain_no_dash, plain_between, empty_plain, Reads, Leads, mark_leads, empty_reads, reads_between, leads_then, number_ends}
+use Rattle.lab_statement.proofs.Tokens.{whole_run}
+use Rattle.lab_statement.proofs.PrintedText.{is_plain, Plain, all_plain, dash_plain, plain_no_dash, Reads, Leads, literal, empty_reads, reads_between, number_ends}
 
 -- the tokens of a printed number
 abbrev pub number_tokens : ℤ → List Token
 number_tokens (pos n) = token.Digits n ∷ []
 number_tokens (negsuc n) = token.Minus ∷ token.Digits (suc n) ∷ []
-
--- a printed number without a sign has its token
-pub decimal_reads : (n : ℕ) → n ≤ 1000000000 → Reads (decimal n) (token.Digits n ∷ [])
-decimal_reads n le = record { is = λ rest h. decimal_are n rest le ∙ number_ends n rest h }
-
--- a dash and a printed number have their tokens
-minus_reads : (n : ℕ) → n ≤ 1000000000 → Reads (45 ∷ decimal n) (token.Minus ∷ token.Digits n ∷ [])
-minus_reads n le = leads_then (45 ∷ []) (decimal n) (token.Minus ∷ []) (token.Digits n ∷ []) (mark_leads 45 token.Minus (λ rest. refl) (λ b. refl)) (decimal_reads n le)
-
--- a printed number has its tokens
-pub number_reads : (z : ℤ) → ValueInRange z → Reads (signed_decimal z) (number_tokens z)
-number_reads (pos n) r = decimal_reads n (omega (arith, ints))
-number_reads (negsuc n) r = minus_reads (suc n) (omega (arith, ints))
 
 -- zero less a number
 negated : (n : ℕ) → pos 0 -ℤ pos (suc n) ≡ negsuc n
@@ -89,10 +77,21 @@ minus_plain (b ∷ text) h = dash_plain b text (plain_no_dash b (list_all is_pla
 pub decimal_plain : (n : ℕ) → Plain (decimal n)
 decimal_plain n = solid_plain (decimal n) (decimal_solid n)
 
--- all of a printed number is code
-pub signed_plain : (z : ℤ) → Plain (signed_decimal z)
-signed_plain (pos n) = decimal_plain n
-signed_plain (negsuc n) = minus_plain (decimal (suc n)) (decimal_solid (suc n))
+-- a printed number without a sign has its token
+pub decimal_reads : (n : ℕ) → n ≤ 1000000000 → Reads (decimal n) (token.Digits n ∷ [])
+decimal_reads n le = record { is = λ rest h. decimal_are n rest le ∙ number_ends n rest h; plain = decimal_plain n }
+
+-- a dash and a printed number have their tokens
+minus_reads : (n : ℕ) → n ≤ 1000000000 → Reads (45 ∷ decimal n) (token.Minus ∷ token.Digits n ∷ [])
+minus_reads n le = record {
+  is = λ rest h. whole_run token.Minus (decimal n ++ rest) (λ b. refl) ∙ ap (λ (ts : List Token). token.Minus ∷ ts) ((decimal_reads n le).is rest h);
+  plain = minus_plain (decimal n) (decimal_solid n);
+}
+
+-- a printed number has its tokens
+pub number_reads : (z : ℤ) → ValueInRange z → Reads (signed_decimal z) (number_tokens z)
+number_reads (pos n) r = decimal_reads n (omega (arith, ints))
+number_reads (negsuc n) r = minus_reads (suc n) (omega (arith, ints))
 
 -- the tokens of numbers with commas between them
 abbrev pub list_tokens : List ℤ → List Token
@@ -102,28 +101,22 @@ list_tokens (z ∷ y ∷ zs) = number_tokens z ++ token.Comma ∷ list_tokens (y
 
 -- a comma between two numbers or rows
 pub comma_leads : Leads (codes ", ") (token.Comma ∷ [])
-comma_leads = record { is = λ rest. refl }
+comma_leads = literal (λ rest. refl) refl
 
 -- a printed list of numbers has its tokens
-pub list_reads : (zs : List ℤ) → All ValueInRange zs → Reads (joined (printed_numbers zs)) (list_tokens zs)
+pub list_reads : (zs : List ℤ) → Each ValueInRange zs → Reads (joined (printed_numbers zs)) (list_tokens zs)
 list_reads [] r = empty_reads
-list_reads (z ∷ []) r = number_reads z (All-head ValueInRange z [] r)
+list_reads (z ∷ []) r = number_reads z r.0
 list_reads (z ∷ y ∷ zs) r =
     reads_between (signed_decimal z) (codes ", ") (joined (printed_numbers (y ∷ zs))) (number_tokens z) (token.Comma ∷ []) (list_tokens (y ∷ zs))
-    (number_reads z (All-head ValueInRange z (y ∷ zs) r)) (λ rest. refl) comma_leads (list_reads (y ∷ zs) (All-tail ValueInRange z (y ∷ zs) r))
+    (number_reads z r.0) (λ rest. refl) comma_leads (list_reads (y ∷ zs) r.1)
 
 -- the tokens of one number or more are in the grammar
-numbers_fit : (z : ℤ) (zs : List ℤ) → All ValueInRange (z ∷ zs) → IsNumbers (list_tokens (z ∷ zs)) (z ∷ zs)
-numbers_fit z [] r = grammar.last (number_fits z (All-head ValueInRange z [] r))
-numbers_fit z (y ∷ zs) r = grammar.more (number_fits z (All-head ValueInRange z (y ∷ zs) r)) (numbers_fit y zs (All-tail ValueInRange z (y ∷ zs) r))
+numbers_fit : (z : ℤ) (zs : List ℤ) → Each ValueInRange (z ∷ zs) → IsNumbers (list_tokens (z ∷ zs)) (z ∷ zs)
+numbers_fit z [] r = grammar.last (number_fits z r.0)
+numbers_fit z (y ∷ zs) r = grammar.more (number_fits z r.0) (numbers_fit y zs r.1)
 
 -- the tokens of a printed list of numbers are in the grammar
-pub list_fits : (zs : List ℤ) → All ValueInRange zs → IsNumberList (list_tokens zs) zs
+pub list_fits : (zs : List ℤ) → Each ValueInRange zs → IsNumberList (list_tokens zs) zs
 list_fits [] r = grammar.none
 list_fits (z ∷ zs) r = grammar.some (numbers_fit z zs r)
-
--- all of a printed list of numbers is code
-pub list_plain : (zs : List ℤ) → Plain (joined (printed_numbers zs))
-list_plain [] = empty_plain
-list_plain (z ∷ []) = signed_plain z
-list_plain (z ∷ y ∷ zs) = plain_between (signed_decimal z) (codes ", ") (joined (printed_numbers (y ∷ zs))) (signed_plain z) (all_plain (codes ", ") refl) (list_plain (y ∷ zs))

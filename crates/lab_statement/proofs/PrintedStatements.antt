@@ -20,10 +20,11 @@ use Rattle.lab_statement.specs.Limits.{StatementPrints}
 use Rattle.lab_statement.specs.Printed.{printed_where, printed_expr, printed_row, printed_pred, printed_kind, printed_statement}
 use Rattle.lab_statement.specs.Text.{SpellsStatement}
 use Rattle.lab_statement.specs.Ranges.{WhereInRange, ExprInRange, RowInRange, ValueInRange, KindInRange, StatementInRange}
-use Rattle.lab_statement.proofs.PrintedText.{Plain, empty_plain, all_plain, dash_plain, append_plain, plain_between, plain_code, Leads, Reads, Breaks, empty_reads, reads_all, leads_reads, leads_leads, leads_then, cut_leads, reads_then, reads_between}
-use Rattle.lab_statement.proofs.PrintedNames.{name_token, name_plain, name_reads}
-use Rattle.lab_statement.proofs.PrintedNumbers.{comma_leads, number_tokens, number_reads, number_fits, decimal_reads, decimal_plain, signed_plain}
-use Rattle.lab_statement.proofs.PrintedPreds.{pred_tokens, pred_reads, pred_fits, pred_plain, open_leads, close_leads}
+use Rattle.lab_statement.proofs.PrintedText.{Plain, all_plain, dash_plain, append_plain, plain_code, Leads, Reads, Breaks, empty_reads, reads_all, leads_reads, leads_leads, leads_then, cut_leads, reads_then, reads_between, literal}
+use Rattle.lab_statement.proofs.PrintedNames.{name_token, name_reads}
+use Rattle.lab_statement.proofs.PrintedNumbers.{comma_leads, number_tokens, number_reads, number_fits, decimal_reads}
+use Rattle.lab_statement.proofs.PrintedTokens.{pred_tokens, pred_fits}
+use Rattle.lab_statement.proofs.PrintedPreds.{pred_reads, open_leads, close_leads}
 
 -- the tokens behind a statement
 abbrev pub where_tokens : Option Predicate → List Token
@@ -32,7 +33,7 @@ where_tokens (Some p) = token.Word word.Where ∷ pred_tokens p
 
 -- the word before a predicate has its token
 where_leads : Leads (codes " where ") (token.Word word.Where ∷ [])
-where_leads = record { is = λ rest. refl }
+where_leads = literal (λ rest. refl) refl
 
 -- what stands behind a statement breaks a word or a number at its end
 where_breaks : (p : Option Predicate) → Breaks (printed_where p)
@@ -49,23 +50,22 @@ where_fits : (p : Option Predicate) → WhereInRange p → where_depth p ≤ 16 
 where_fits None h le = grammar.without
 where_fits (Some p) h le = grammar.where_pred (pred_fits p h le)
 
--- all of what is printed behind a statement is code
-where_plain : (p : Option Predicate) → Plain (printed_where p)
-where_plain None = empty_plain
-where_plain (Some p) = append_plain (codes " where ") (printed_pred p) (all_plain (codes " where ") refl) (pred_plain p)
-
 -- the tokens of a printed new value
 abbrev pub expr_tokens : Expr → List Token
 expr_tokens (expr.Set z) = number_tokens z
 expr_tokens (expr.Plus z) = token.Word word.Value ∷ token.Plus ∷ number_tokens z
 expr_tokens (expr.Minus z) = token.Word word.Value ∷ token.Minus ∷ number_tokens z
 
+-- a dash before a space begins no remark
+minus_plain : Plain (codes "value - ")
+minus_plain = append_plain (codes "value ") (codes "- ") (all_plain (codes "value ") refl) (dash_plain 32 [] refl (all_plain (codes " ") refl))
+
 -- the words and marks before a number that is added or taken off have their tokens
 plus_leads : Leads (codes "value + ") (token.Word word.Value ∷ token.Plus ∷ [])
-plus_leads = record { is = λ rest. refl }
+plus_leads = literal (λ rest. refl) refl
 
 minus_leads : Leads (codes "value - ") (token.Word word.Value ∷ token.Minus ∷ [])
-minus_leads = record { is = λ rest. refl }
+minus_leads = record { is = λ rest. refl; plain = minus_plain }
 
 -- a printed new value has its tokens
 expr_reads : (e : Expr) → ExprInRange e → Reads (printed_expr e) (expr_tokens e)
@@ -78,16 +78,6 @@ expr_fits : (e : Expr) → ExprInRange e → IsExpr (expr_tokens e) e
 expr_fits (expr.Set z) h = grammar.set (number_fits z h)
 expr_fits (expr.Plus z) h = grammar.plus (number_fits z h)
 expr_fits (expr.Minus z) h = grammar.minus (number_fits z h)
-
--- a dash before a space begins no remark
-minus_plain : Plain (codes "value - ")
-minus_plain = append_plain (codes "value ") (codes "- ") (all_plain (codes "value ") refl) (dash_plain 32 [] refl (all_plain (codes " ") refl))
-
--- all of a printed new value is code
-expr_plain : (e : Expr) → Plain (printed_expr e)
-expr_plain (expr.Set z) = signed_plain z
-expr_plain (expr.Plus z) = append_plain (codes "value + ") (signed_decimal z) (all_plain (codes "value + ") refl) (signed_plain z)
-expr_plain (expr.Minus z) = append_plain (codes "value - ") (signed_decimal z) minus_plain (signed_plain z)
 
 -- the tokens of a printed row
 abbrev pub row_tokens : ℕ → ℤ → List Token
@@ -105,14 +95,6 @@ row_leads id z r h =
 pub row_fits : (id : ℕ) (z : ℤ) → RowInRange id → ValueInRange z → IsRow (row_tokens id z) id z
 row_fits id z r h = grammar.row (grammar.named id (grammar.positive id (omega arith)) r.0 r.1) (number_fits z h)
 
--- all of a printed row is code
-pub row_plain : (id : ℕ) (z : ℤ) → Plain (printed_row id z)
-row_plain id z =
-    append_plain (codes "(" ++ decimal id ++ codes ", " ++ signed_decimal z) (codes ")")
-    (plain_between (codes "(" ++ decimal id) (codes ", ") (signed_decimal z)
-    (append_plain (codes "(") (decimal id) (all_plain (codes "(") refl) (decimal_plain id)) (all_plain (codes ", ") refl) (signed_plain z))
-    (all_plain (codes ")") refl)
-
 -- the tokens of a printed statement of this kind
 abbrev pub kind_tokens : List ℕ → StatementKind → List Token
 kind_tokens table (kind.Select p) = token.Word word.Select ∷ token.Star ∷ token.Word word.From ∷ name_token table ∷ where_tokens p
@@ -128,23 +110,23 @@ statement_tokens s = kind_tokens s.table s.kind
 
 -- the first words of each statement have their tokens
 select_leads : Leads (codes "select * from ") (token.Word word.Select ∷ token.Star ∷ token.Word word.From ∷ [])
-select_leads = record { is = λ rest. refl }
+select_leads = literal (λ rest. refl) refl
 
 delete_leads : Leads (codes "delete from ") (token.Word word.Delete ∷ token.Word word.From ∷ [])
-delete_leads = record { is = λ rest. refl }
+delete_leads = literal (λ rest. refl) refl
 
 update_leads : Leads (codes "update ") (token.Word word.Update ∷ [])
-update_leads = record { is = λ rest. refl }
+update_leads = literal (λ rest. refl) refl
 
 insert_leads : Leads (codes "insert into ") (token.Word word.Insert ∷ token.Word word.Into ∷ [])
-insert_leads = record { is = λ rest. refl }
+insert_leads = literal (λ rest. refl) refl
 
 -- and so have the words behind the name of a table
 set_leads : Leads (codes " set value = ") (token.Word word.Set ∷ token.Word word.Value ∷ token.Equal ∷ [])
-set_leads = record { is = λ rest. refl }
+set_leads = literal (λ rest. refl) refl
 
 values_leads : Leads (codes " (id, value) values ") (token.Open ∷ token.Word word.Id ∷ token.Comma ∷ token.Word word.Value ∷ token.Close ∷ token.Word word.Values ∷ [])
-values_leads = record { is = λ rest. refl }
+values_leads = literal (λ rest. refl) refl
 
 module _ (table : List ℕ) (named : is_table_name table ≡ true) where
   select_reads : Reads (codes "select * from " ++ table) (token.Word word.Select ∷ token.Star ∷ token.Word word.From ∷ name_token table ∷ [])
@@ -187,20 +169,6 @@ module _ (table : List ℕ) (named : is_table_name table ≡ true) where
   kind_fits (kind.Insert id z) h le = grammar.insert table (row_fits id z h.0 h.1)
   kind_fits (kind.Delete p) h le = grammar.delete table (where_fits p h le)
 
-  -- all of a printed statement is code
-  kind_plain : (k : StatementKind) → Plain (printed_kind table k)
-  kind_plain (kind.Select p) =
-      append_plain (codes "select * from " ++ table) (printed_where p) (append_plain (codes "select * from ") table (all_plain (codes "select * from ") refl) (name_plain table named)) (where_plain p)
-  kind_plain (kind.Update e p) =
-      append_plain (codes "update " ++ table ++ codes " set value = " ++ printed_expr e) (printed_where p)
-      (append_plain (codes "update " ++ table ++ codes " set value = ") (printed_expr e)
-      (plain_between (codes "update ") table (codes " set value = ") (all_plain (codes "update ") refl) (name_plain table named) (all_plain (codes " set value = ") refl)) (expr_plain e)) (where_plain p)
-  kind_plain (kind.Insert id z) =
-      append_plain (codes "insert into " ++ table ++ codes " (id, value) values ") (printed_row id z)
-      (plain_between (codes "insert into ") table (codes " (id, value) values ") (all_plain (codes "insert into ") refl) (name_plain table named) (all_plain (codes " (id, value) values ") refl)) (row_plain id z)
-  kind_plain (kind.Delete p) =
-      append_plain (codes "delete from " ++ table) (printed_where p) (append_plain (codes "delete from ") table (all_plain (codes "delete from ") refl) (name_plain table named)) (where_plain p)
-
 -- the same of a statement
 pub statement_reads : (s : Statement) → StatementInRange s → Reads (printed_statement s) (statement_tokens s)
 statement_reads s h = kind_reads s.table h.0 s.kind h.1
@@ -208,21 +176,18 @@ statement_reads s h = kind_reads s.table h.0 s.kind h.1
 pub statement_fits : (s : Statement) → StatementInRange s → statement_depth s ≤ 16 → IsStatement (statement_tokens s) s
 statement_fits s h le = kind_fits s.table h.0 s.kind h.1 le
 
-pub statement_plain : (s : Statement) → StatementInRange s → Plain (printed_statement s)
-statement_plain s h = kind_plain s.table h.0 s.kind
-
 -- a printed statement spells the statement
 pub statement_spells : (s : Statement) → StatementInRange s → StatementPrints s → SpellsStatement (printed_statement s) s
 statement_spells s h prints =
-    let plain = statement_plain s h in
+    let reads = statement_reads s h in
     record {
       bytes = omega arith;
-      ascii = plain.ascii;
-      no_remark = plain_code (printed_statement s) plain;
+      ascii = reads.plain.ascii;
+      no_remark = plain_code (printed_statement s) reads.plain;
       parts = (
         statement_tokens s,
         [],
-        reads_all (printed_statement s) (statement_tokens s) (statement_reads s h)
+        reads_all (printed_statement s) (statement_tokens s) reads
             ∙ sym (append-nil (statement_tokens s)),
         statement_fits s h prints.shallow,
         grammar.open_end,

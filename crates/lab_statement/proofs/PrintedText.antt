@@ -35,67 +35,6 @@ pub number_ends : (n : ℕ) (rest : List ℕ) → breaks_here rest ≡ true → 
 number_ends n [] h = refl
 number_ends n (b ∷ bs) h = digit_ends n b bs (both (is_letter b) (is_ascii_digit b) h).1
 
--- the text has these tokens, whatever follows it
-pub record Leads (text : List ℕ) (ts : List Token) : Type 0 where
-  pub is : (rest : List ℕ) → tokens (text ++ rest) ≡ ts ++ tokens rest
-
--- the text has these tokens, where a word or a number at its end is broken
-pub record Reads (text : List ℕ) (ts : List Token) : Type 0 where
-  pub is : (rest : List ℕ) → breaks_here rest ≡ true → tokens (text ++ rest) ≡ ts ++ tokens rest
-
--- a text breaks the word or the number before it, where it is followed by what breaks them
-abbrev pub Breaks : List ℕ → Type 0
-Breaks text = (rest : List ℕ) → breaks_here rest ≡ true → breaks_here (text ++ rest) ≡ true
-
--- a text breaks the word or the number before it
-abbrev pub Cuts : List ℕ → Type 0
-Cuts text = (rest : List ℕ) → breaks_here (text ++ rest) ≡ true
-
--- tokens whatever follows are tokens before what breaks a word
-pub leads_reads : (text : List ℕ) (ts : List Token) → Leads text ts → Reads text ts
-leads_reads text ts l = record { is = λ rest h. l.is rest }
-
--- no text has no token
-pub empty_reads : Reads [] []
-empty_reads = record { is = λ rest h. refl }
-
--- a text that has its tokens whatever follows, and then another
-pub leads_then : (a b : List ℕ) (ts us : List Token) → Leads a ts → Reads b us → Reads (a ++ b) (ts ++ us)
-leads_then a b ts us l r = record {
-  is = λ rest h. ap tokens (append_assoc a b rest) ∙ l.is (b ++ rest) ∙ ap (λ (x : List Token). ts ++ x) (r.is rest h) ∙ sym (append_assoc ts us (tokens rest));
-}
-
--- a text, and then another that breaks a word or a number at its end
-pub reads_then : (a b : List ℕ) (ts us : List Token) → Reads a ts → Breaks b → Reads b us → Reads (a ++ b) (ts ++ us)
-reads_then a b ts us l breaks r = record {
-  is = λ rest h. ap tokens (append_assoc a b rest) ∙ l.is (b ++ rest) (breaks rest h) ∙ ap (λ (x : List Token). ts ++ x) (r.is rest h) ∙ sym (append_assoc ts us (tokens rest));
-}
-
--- two texts that have their tokens whatever follows
-pub leads_leads : (a b : List ℕ) (ts us : List Token) → Leads a ts → Leads b us → Leads (a ++ b) (ts ++ us)
-leads_leads a b ts us l r = record {
-  is = λ rest. ap tokens (append_assoc a b rest) ∙ l.is (b ++ rest) ∙ ap (λ (x : List Token). ts ++ x) (r.is rest) ∙ sym (append_assoc ts us (tokens rest));
-}
-
--- a text that cuts the word or the number before it, and has its tokens whatever follows
-pub cut_leads : (a b : List ℕ) (ts us : List Token) → Reads a ts → Cuts b → Leads b us → Leads (a ++ b) (ts ++ us)
-cut_leads a b ts us r cuts l = record {
-  is = λ rest. ap tokens (append_assoc a b rest) ∙ r.is (b ++ rest) (cuts rest) ∙ ap (λ (x : List Token). ts ++ x) (l.is rest) ∙ sym (append_assoc ts us (tokens rest));
-}
-
--- two texts, and between them a third that cuts the first and has its tokens whatever follows
-pub reads_between : (a middle b : List ℕ) (ts ms us : List Token) → Reads a ts → Cuts middle → Leads middle ms → Reads b us → Reads (a ++ middle ++ b) (ts ++ (ms ++ us))
-reads_between a middle b ts ms us r cuts m s =
-    subst (Reads (a ++ middle ++ b)) (append_assoc ts ms us) (leads_then (a ++ middle) b (ts ++ ms) us (cut_leads a middle ts ms r cuts m) s)
-
--- a mark that no byte makes longer
-pub mark_leads : (b : ℕ) (t : Token) → ((rest : List ℕ) → tokens (b ∷ rest) ≡ tokens_from (whole t) rest) → ((n : ℕ) → longer_token t n ≡ None) → Leads (b ∷ []) (t ∷ [])
-mark_leads b t begins still = record { is = λ rest. begins rest ∙ whole_run t rest still }
-
--- the tokens of a whole text
-pub reads_all : (text : List ℕ) (ts : List Token) → Reads text ts → tokens text ≡ ts
-reads_all text ts r = ap tokens (sym (append-nil text)) ∙ r.is [] refl ∙ append-nil ts
-
 -- a byte that is printed in a line's code and is no dash
 abbrev pub is_plain : ℕ → Bool
 is_plain b = is_code_byte b && not (b == 45)
@@ -162,3 +101,66 @@ plain_between a middle b p m q = append_plain (a ++ middle) b (append_plain a mi
 -- all of the text is code
 pub plain_code : (text : List ℕ) → Plain text → code_of text ≡ text
 plain_code text p = ap code_of (sym (append-nil text)) ∙ p.code [] ∙ append-nil text
+
+-- the text has these tokens, whatever follows it, and is code
+pub record Leads (text : List ℕ) (ts : List Token) : Type 0 where
+  pub is : (rest : List ℕ) → tokens (text ++ rest) ≡ ts ++ tokens rest
+  pub plain : Plain text
+
+-- the text has these tokens, where a word or a number at its end is broken, and is code
+pub record Reads (text : List ℕ) (ts : List Token) : Type 0 where
+  pub is : (rest : List ℕ) → breaks_here rest ≡ true → tokens (text ++ rest) ≡ ts ++ tokens rest
+  pub plain : Plain text
+
+-- a text breaks the word or the number before it, where it is followed by what breaks them
+abbrev pub Breaks : List ℕ → Type 0
+Breaks text = (rest : List ℕ) → breaks_here rest ≡ true → breaks_here (text ++ rest) ≡ true
+
+-- a text breaks the word or the number before it
+abbrev pub Cuts : List ℕ → Type 0
+Cuts text = (rest : List ℕ) → breaks_here (text ++ rest) ≡ true
+
+-- tokens whatever follows are tokens before what breaks a word
+pub leads_reads : (text : List ℕ) (ts : List Token) → Leads text ts → Reads text ts
+leads_reads text ts l = record { is = λ rest h. l.is rest; plain = l.plain }
+
+-- no text has no token
+pub empty_reads : Reads [] []
+empty_reads = record { is = λ rest h. refl; plain = empty_plain }
+
+-- plain bytes with these tokens
+pub literal : {text : List ℕ} {ts : List Token} → ((rest : List ℕ) → tokens (text ++ rest) ≡ ts ++ tokens rest) → list_all is_plain text ≡ true → Leads text ts
+literal {text} is plain = record { is = is; plain = all_plain text plain }
+
+-- the tokens of one text behind another
+behind : (a b rest : List ℕ) (ts us : List Token) → tokens (a ++ (b ++ rest)) ≡ ts ++ tokens (b ++ rest) → tokens (b ++ rest) ≡ us ++ tokens rest → tokens ((a ++ b) ++ rest) ≡ (ts ++ us) ++ tokens rest
+behind a b rest ts us first second = ap tokens (append_assoc a b rest) ∙ first ∙ ap (λ (x : List Token). ts ++ x) second ∙ sym (append_assoc ts us (tokens rest))
+
+-- a text that has its tokens whatever follows, and then another
+pub leads_then : (a b : List ℕ) (ts us : List Token) → Leads a ts → Reads b us → Reads (a ++ b) (ts ++ us)
+leads_then a b ts us l r = record { is = λ rest h. behind a b rest ts us (l.is (b ++ rest)) (r.is rest h); plain = append_plain a b l.plain r.plain }
+
+-- a text, and then another that breaks a word or a number at its end
+pub reads_then : (a b : List ℕ) (ts us : List Token) → Reads a ts → Breaks b → Reads b us → Reads (a ++ b) (ts ++ us)
+reads_then a b ts us l breaks r = record { is = λ rest h. behind a b rest ts us (l.is (b ++ rest) (breaks rest h)) (r.is rest h); plain = append_plain a b l.plain r.plain }
+
+-- two texts that have their tokens whatever follows
+pub leads_leads : (a b : List ℕ) (ts us : List Token) → Leads a ts → Leads b us → Leads (a ++ b) (ts ++ us)
+leads_leads a b ts us l r = record { is = λ rest. behind a b rest ts us (l.is (b ++ rest)) (r.is rest); plain = append_plain a b l.plain r.plain }
+
+-- a text that cuts the word or the number before it, and has its tokens whatever follows
+pub cut_leads : (a b : List ℕ) (ts us : List Token) → Reads a ts → Cuts b → Leads b us → Leads (a ++ b) (ts ++ us)
+cut_leads a b ts us r cuts l = record { is = λ rest. behind a b rest ts us (r.is (b ++ rest) (cuts rest)) (l.is rest); plain = append_plain a b r.plain l.plain }
+
+-- two texts, and between them a third that cuts the first and has its tokens whatever follows
+pub reads_between : (a middle b : List ℕ) (ts ms us : List Token) → Reads a ts → Cuts middle → Leads middle ms → Reads b us → Reads (a ++ middle ++ b) (ts ++ (ms ++ us))
+reads_between a middle b ts ms us r cuts m s =
+    subst (Reads (a ++ middle ++ b)) (append_assoc ts ms us) (leads_then (a ++ middle) b (ts ++ ms) us (cut_leads a middle ts ms r cuts m) s)
+
+-- a mark that no byte makes longer, and that begins no remark
+pub mark_leads : (b : ℕ) (t : Token) → ((rest : List ℕ) → tokens (b ∷ rest) ≡ tokens_from (whole t) rest) → ((n : ℕ) → longer_token t n ≡ None) → list_all is_plain (b ∷ []) ≡ true → Leads (b ∷ []) (t ∷ [])
+mark_leads b t begins still = literal (λ rest. begins rest ∙ whole_run t rest still)
+
+-- the tokens of a whole text
+pub reads_all : (text : List ℕ) (ts : List Token) → Reads text ts → tokens text ≡ ts
+reads_all text ts r = ap tokens (sym (append-nil text)) ∙ r.is [] refl ∙ append-nil ts

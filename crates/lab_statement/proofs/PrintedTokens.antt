@@ -8,22 +8,24 @@ use Rattle.lab_statement.specs.declared.token.Token.{Token}
 use Rattle.lab_statement.specs.declared.token.Token.TheVariants as token
 use Rattle.lab_statement.specs.Printed.{is_and, is_or}
 use Rattle.lab_statement.specs.Depth.{deeper, depth_of}
-use Rattle.lab_statement.specs.Grammar.{Kind, P, A, N, IsPred, IsAtom}
+use Rattle.lab_statement.specs.Grammar.{Kind, P, A, N, IsPred, col_token, cmp_token}
 use Rattle.lab_statement.specs.Grammar as grammar
+use Rattle.lab_statement.specs.Ranges.{PredInRange}
+use Rattle.lab_statement.proofs.PrintedNumbers.{number_tokens, number_fits, list_tokens, list_fits}
 
 -- tokens, in parentheses where the test is true
 abbrev pub wrapped : Bool → List Token → List Token
 wrapped true ts = token.Open ∷ ts ++ token.Close ∷ []
 wrapped false ts = ts
 
--- the tokens of the printed form, from those of its atoms
-abbrev pub tokens_of : (Predicate → List Token) → Predicate → List Token
-tokens_of atom (predicate.Compare c m n) = atom (predicate.Compare c m n)
-tokens_of atom (predicate.Remainder c m r) = atom (predicate.Remainder c m r)
-tokens_of atom (predicate.OneOf c ns) = atom (predicate.OneOf c ns)
-tokens_of atom (predicate.Not p) = token.Word word.Not ∷ wrapped (is_and p || is_or p) (tokens_of atom p)
-tokens_of atom (predicate.And p q) = wrapped (is_or p) (tokens_of atom p) ++ token.Word word.And ∷ wrapped (is_and q || is_or q) (tokens_of atom q)
-tokens_of atom (predicate.Or p q) = tokens_of atom p ++ token.Word word.Or ∷ wrapped (is_or q) (tokens_of atom q)
+-- the tokens of a printed predicate
+abbrev pub pred_tokens : Predicate → List Token
+pred_tokens (predicate.Compare c m z) = col_token c ∷ cmp_token m ∷ number_tokens z
+pred_tokens (predicate.Remainder c m r) = col_token c ∷ token.Percent ∷ token.Digits m ∷ token.Equal ∷ number_tokens r
+pred_tokens (predicate.OneOf c zs) = col_token c ∷ token.Word word.In ∷ token.Open ∷ list_tokens zs ++ token.Close ∷ []
+pred_tokens (predicate.Not p) = token.Word word.Not ∷ wrapped (is_and p || is_or p) (pred_tokens p)
+pred_tokens (predicate.And p q) = wrapped (is_or p) (pred_tokens p) ++ token.Word word.And ∷ wrapped (is_and q || is_or q) (pred_tokens q)
+pred_tokens (predicate.Or p q) = pred_tokens p ++ token.Word word.Or ∷ wrapped (is_or q) (pred_tokens q)
 
 -- the kind that a predicate's printed form has
 abbrev kind_of : Predicate → Kind
@@ -42,52 +44,42 @@ any_kind p (predicate.Not q) h = grammar.one_member (grammar.one_factor h)
 any_kind p (predicate.And q r) h = grammar.one_member h
 any_kind p (predicate.Or q r) h = h
 
--- each atom's tokens are in the grammar
-abbrev pub AtomsFit : (Predicate → List Token) → Predicate → Type 0
-AtomsFit atom (predicate.Compare c m n) = IsAtom (atom (predicate.Compare c m n)) (predicate.Compare c m n)
-AtomsFit atom (predicate.Remainder c m r) = IsAtom (atom (predicate.Remainder c m r)) (predicate.Remainder c m r)
-AtomsFit atom (predicate.OneOf c ns) = IsAtom (atom (predicate.OneOf c ns)) (predicate.OneOf c ns)
-AtomsFit atom (predicate.Not p) = AtomsFit atom p
-AtomsFit atom (predicate.And p q) = AtomsFit atom p × AtomsFit atom q
-AtomsFit atom (predicate.Or p q) = AtomsFit atom p × AtomsFit atom q
-
 inside : (d k : ℕ) (ts : List Token) (p : Predicate) → ((e : ℕ) → k ≤ e → IsPred e P ts p) → suc k ≤ d → IsPred d N (token.Open ∷ ts ++ token.Close ∷ []) p
 inside zero k ts p h le = absurd (omega arith)
 inside (suc d) k ts p h le = grammar.parenthesized (h d (omega arith))
 
-module _ (atom : Predicate → List Token) where
-  abbrev Good : Predicate → Type 0
-  Good p = (d : ℕ) → depth_of p ≤ d → IsPred d (kind_of p) (tokens_of atom p) p
+abbrev Good : Predicate → Type 0
+Good p = (d : ℕ) → depth_of p ≤ d → IsPred d (kind_of p) (pred_tokens p) p
 
-  as_conj : (d : ℕ) (p : Predicate) → Good p → deeper (is_or p) (depth_of p) ≤ d → IsPred d A (wrapped (is_or p) (tokens_of atom p)) p
-  as_conj d (predicate.Compare c m n) h le = grammar.one_factor (h d le)
-  as_conj d (predicate.Remainder c m r) h le = grammar.one_factor (h d le)
-  as_conj d (predicate.OneOf c ns) h le = grammar.one_factor (h d le)
-  as_conj d (predicate.Not p) h le = grammar.one_factor (h d le)
-  as_conj d (predicate.And p q) h le = h d le
-  as_conj d (predicate.Or p q) h le = grammar.one_factor (inside d (depth_of (predicate.Or p q)) (tokens_of atom (predicate.Or p q)) (predicate.Or p q) h le)
+as_conj : (d : ℕ) (p : Predicate) → Good p → deeper (is_or p) (depth_of p) ≤ d → IsPred d A (wrapped (is_or p) (pred_tokens p)) p
+as_conj d (predicate.Compare c m n) h le = grammar.one_factor (h d le)
+as_conj d (predicate.Remainder c m r) h le = grammar.one_factor (h d le)
+as_conj d (predicate.OneOf c ns) h le = grammar.one_factor (h d le)
+as_conj d (predicate.Not p) h le = grammar.one_factor (h d le)
+as_conj d (predicate.And p q) h le = h d le
+as_conj d (predicate.Or p q) h le = grammar.one_factor (inside d (depth_of (predicate.Or p q)) (pred_tokens (predicate.Or p q)) (predicate.Or p q) h le)
 
-  as_term : (d : ℕ) (p : Predicate) → Good p → deeper (is_and p || is_or p) (depth_of p) ≤ d → IsPred d N (wrapped (is_and p || is_or p) (tokens_of atom p)) p
-  as_term d (predicate.Compare c m n) h le = h d le
-  as_term d (predicate.Remainder c m r) h le = h d le
-  as_term d (predicate.OneOf c ns) h le = h d le
-  as_term d (predicate.Not p) h le = h d le
-  as_term d (predicate.And p q) h le = inside d (depth_of (predicate.And p q)) (tokens_of atom (predicate.And p q)) (predicate.And p q) (λ e l. grammar.one_member (h e l)) le
-  as_term d (predicate.Or p q) h le = inside d (depth_of (predicate.Or p q)) (tokens_of atom (predicate.Or p q)) (predicate.Or p q) h le
+as_term : (d : ℕ) (p : Predicate) → Good p → deeper (is_and p || is_or p) (depth_of p) ≤ d → IsPred d N (wrapped (is_and p || is_or p) (pred_tokens p)) p
+as_term d (predicate.Compare c m n) h le = h d le
+as_term d (predicate.Remainder c m r) h le = h d le
+as_term d (predicate.OneOf c ns) h le = h d le
+as_term d (predicate.Not p) h le = h d le
+as_term d (predicate.And p q) h le = inside d (depth_of (predicate.And p q)) (pred_tokens (predicate.And p q)) (predicate.And p q) (λ e l. grammar.one_member (h e l)) le
+as_term d (predicate.Or p q) h le = inside d (depth_of (predicate.Or p q)) (pred_tokens (predicate.Or p q)) (predicate.Or p q) h le
 
-  negated : (d : ℕ) (p : Predicate) → Good p → suc (deeper (is_and p || is_or p) (depth_of p)) ≤ d
-      → IsPred d N (token.Word word.Not ∷ wrapped (is_and p || is_or p) (tokens_of atom p)) (predicate.Not p)
-  negated zero p h le = absurd (omega arith)
-  negated (suc d) p h le = grammar.negation (as_term d p h (omega arith))
+negated : (d : ℕ) (p : Predicate) → Good p → suc (deeper (is_and p || is_or p) (depth_of p)) ≤ d
+    → IsPred d N (token.Word word.Not ∷ wrapped (is_and p || is_or p) (pred_tokens p)) (predicate.Not p)
+negated zero p h le = absurd (omega arith)
+negated (suc d) p h le = grammar.negation (as_term d p h (omega arith))
 
-  good : (p : Predicate) → AtomsFit atom p → Good p
-  good (predicate.Compare c m n) fit = λ d le. grammar.atom fit
-  good (predicate.Remainder c m r) fit = λ d le. grammar.atom fit
-  good (predicate.OneOf c ns) fit = λ d le. grammar.atom fit
-  good (predicate.Not p) fit = λ d le. negated d p (good p fit) le
-  good (predicate.And p q) fit = λ d le. grammar.conjunction (as_conj d p (good p fit.0) (omega arith)) (as_term d q (good q fit.1) (omega arith))
-  good (predicate.Or p q) fit = λ d le. grammar.disjunction (any_kind p p (good p fit.0 d (omega arith))) (as_conj d q (good q fit.1) (omega arith))
+good : (p : Predicate) → PredInRange p → Good p
+good (predicate.Compare c m z) h d le = grammar.atom (grammar.compare c m (number_fits z h))
+good (predicate.Remainder c m r) h d le = grammar.atom (grammar.remainder c (grammar.positive m (omega arith)) h.0.0 h.0.1 (number_fits r h.1))
+good (predicate.OneOf c zs) h d le = grammar.atom (grammar.one_of c (list_fits zs h))
+good (predicate.Not p) h d le = negated d p (good p h) le
+good (predicate.And p q) h d le = grammar.conjunction (as_conj d p (good p h.0) (omega arith)) (as_term d q (good q h.1) (omega arith))
+good (predicate.Or p q) h d le = grammar.disjunction (any_kind p p (good p h.0 d (omega arith))) (as_conj d q (good q h.1) (omega arith))
 
--- the tokens of a predicate's printed form are a text of it
-pub printed_is : (atom : Predicate → List Token) (p : Predicate) → AtomsFit atom p → depth_of p ≤ 16 → IsPred 16 P (tokens_of atom p) p
-printed_is atom p fit le = any_kind p p (good atom p fit 16 le)
+-- the tokens of a printed predicate are in the grammar
+pub pred_fits : (p : Predicate) → PredInRange p → depth_of p ≤ 16 → IsPred 16 P (pred_tokens p) p
+pred_fits p h le = any_kind p p (good p h 16 le)

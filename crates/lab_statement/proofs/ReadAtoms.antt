@@ -19,19 +19,11 @@ use Rattle.lab_statement.proofs.AtomParts.{col_again, col_takes, cmp_again, cmp_
 
 no_word : (m : Cmp) (rest : List Token) → after (token.Word word.In) (cmp_token m ∷ rest) ≡ None
 no_word cmp.Eq rest = refl
-no_word cmp.Ne rest = refl
-no_word cmp.Lt rest = refl
-no_word cmp.Le rest = refl
-no_word cmp.Gt rest = refl
-no_word cmp.Ge rest = refl
+no_word m rest = refl
 
 no_percent : (m : Cmp) (rest : List Token) → after token.Percent (cmp_token m ∷ rest) ≡ None
 no_percent cmp.Eq rest = refl
-no_percent cmp.Ne rest = refl
-no_percent cmp.Lt rest = refl
-no_percent cmp.Le rest = refl
-no_percent cmp.Gt rest = refl
-no_percent cmp.Ge rest = refl
+no_percent m rest = refl
 
 -- an atom of the grammar is read, whatever follows it
 pub atom_again : {ts : List Token} {p : Predicate} → IsAtom ts p → (rest : List Token) → atom_read (ts ++ rest) ≡ Reads (p, rest)

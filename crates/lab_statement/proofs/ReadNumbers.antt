@@ -2,7 +2,7 @@
 use Rattle.std.proofs.Common.{◌≡◌, ℕ, ◌≤◌, Bool, cond, List, [], ◌∷◌, ◌++◌, refl, ap, subst, ◌∙◌}
 use Rattle.std.specs.Prelude.{ℤ, pos, ◌-ℤ◌, nat_le}
 use Rattle.std.proofs.lemmas.Bool.{le-leb, leb-true}
-use Rattle.lab_statement.specs.declared.refusal.GrammarFault.TheVariants.{NumberOutOfRange}
+use Rattle.lab_statement.specs.declared.fault.ScriptFaultKind.TheVariants.{NumberOutOfRange}
 use Rattle.lab_statement.specs.declared.token.Token.{Token}
 use Rattle.lab_statement.specs.declared.token.Token.TheVariants as token
 use Rattle.lab_statement.specs.Grammar.{IsNumber}

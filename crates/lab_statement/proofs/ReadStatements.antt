@@ -14,7 +14,7 @@ use Rattle.lab_statement.specs.Printed.{printed_statement}
 use Rattle.lab_statement.specs.Reading.{is_token, after}
 use Rattle.lab_statement.specs.Stopping.{Reads, token_read, tokens_read, name_read, row_read, where_read}
 use Rattle.lab_statement.specs.FirstFaults.{expr_read, select_read, update_read, insert_read, delete_read, statement_read, end_read, nothing_read, whole_statement_read}
-use Rattle.lab_statement.proofs.TokenNumbers.{same_token}
+use Rattle.lab_statement.proofs.SameTokens.{same_token}
 use Rattle.lab_statement.proofs.Readings.{bind_reads, cond_reads, found_reads, nothing_is, reads, reads_is, token_is, tokens_are, under_limit}
 use Rattle.lab_statement.proofs.ReadNumbers.{Taken, number_again, number_then, under}
 use Rattle.lab_statement.proofs.ReadNames.{name_takes}

@@ -4,13 +4,13 @@ use Rattle.std.specs.Prelude.{◌==◌}
 use Rattle.std.proofs.lemmas.Bool.{eqb-true}
 use Rattle.std.proofs.lemmas.List.{nil_from_length}
 use Rattle.lab_statement.specs.declared.token.Token.{Token}
-use Rattle.lab_statement.specs.declared.refusal.GrammarFault.{GrammarFault}
-use Rattle.lab_statement.specs.declared.refusal.Refusal.{Refusal}
-use Rattle.lab_statement.specs.declared.refusal.Refusal.TheVariants as refusal
+use Rattle.lab_statement.specs.declared.fault.ScriptFaultKind.{ScriptFaultKind}
+use Rattle.lab_statement.specs.declared.fault.Refusal.{Refusal}
+use Rattle.lab_statement.specs.declared.fault.Refusal.TheVariants as refusal
 use Rattle.lab_statement.specs.Reading.{after}
 use Rattle.lab_statement.specs.Stopping.{Reading, Reads, Stops, StopsAt, read_value, ◌>>=◌, if_found, token_read, tokens_read}
 use Rattle.lab_statement.specs.FirstFaults.{nothing_read}
-use Rattle.lab_statement.proofs.TokenNumbers.{after_is}
+use Rattle.lab_statement.proofs.SameTokens.{after_is}
 
 -- Reads as a function
 abbrev pub reads : {A : Type 0} → A → Reading A
@@ -21,7 +21,7 @@ pub reads_is : {A : Type 0} (x y : A) → Reads x ≡ Reads y → x ≡ y
 reads_is x y e = cc
 
 -- what stops wherever a reading does stops as that reading does
-pub stops_as : {A B : Type 0} (e : Refusal) (left : List Token) (r : Reading A) → StopsAt e left r → (s : Reading B) → ((kind : GrammarFault) → r ≡ Stops kind left → s ≡ Stops kind left) → StopsAt e left s
+pub stops_as : {A B : Type 0} (e : Refusal) (left : List Token) (r : Reading A) → StopsAt e left r → (s : Reading B) → ((kind : ScriptFaultKind) → r ≡ Stops kind left → s ≡ Stops kind left) → StopsAt e left s
 stops_as refusal.NoMemory left r h s f = tt
 stops_as (refusal.Fault kind) left r h s f = f kind h
 
@@ -36,12 +36,12 @@ bind_reads (Reads x) f y e = (x, refl, e)
 bind_reads (Stops kind left) f y e = absurd cc
 
 -- a test holds, where reading stops unless it does
-pub cond_reads : {A : Type 0} (b : Bool) (x y : A) (kind : GrammarFault) (left : List Token) → cond b (Reads x) (Stops kind left) ≡ Reads y → (b ≡ true) × (x ≡ y)
+pub cond_reads : {A : Type 0} (b : Bool) (x y : A) (kind : ScriptFaultKind) (left : List Token) → cond b (Reads x) (Stops kind left) ≡ Reads y → (b ≡ true) × (x ≡ y)
 cond_reads true x y kind left e = (refl, reads_is x y e)
 cond_reads false x y kind left e = absurd cc
 
 -- a limit is kept, where reading stops unless it is
-pub under_limit : {A : Type 0} (b : Bool) (r : Reading A) (y : A) (kind : GrammarFault) (left : List Token) → cond b r (Stops kind left) ≡ Reads y → (b ≡ true) × (r ≡ Reads y)
+pub under_limit : {A : Type 0} (b : Bool) (r : Reading A) (y : A) (kind : ScriptFaultKind) (left : List Token) → cond b r (Stops kind left) ≡ Reads y → (b ≡ true) × (r ≡ Reads y)
 under_limit true r y kind left e = (refl, e)
 under_limit false r y kind left e = absurd cc
 

@@ -1,30 +1,22 @@
 -- The statement that a text spells is what reading the text gives.
 use Rattle.std.proofs.Common.{◌≡◌, ℕ, Bool, true, cond, List, length, Option, Some, None, ◌≢◌, refl, sym, ap, ◌∙◌, arith}
-use Rattle.std.specs.Prelude.{◌&&◌, nat_le}
+use Rattle.std.specs.Prelude.{nat_le}
 use Rattle.std.specs.List.{list_all}
-use Rattle.std.proofs.lemmas.Bool.{eqb-true, eq-eqb, le-leb, leb-true, and_parts}
+use Rattle.std.proofs.lemmas.Bool.{eqb-true, eq-eqb, le-leb, leb-true, and_from, and_parts}
+use Rattle.std.proofs.lemmas.Option.{same_Some}
 use Rattle.lab_table.specs.declared.statement.Statement.{Statement}
 use Rattle.lab_statement.specs.declared.fault.ScriptFault.{ScriptFault}
 use Rattle.lab_statement.specs.declared.fault.ScriptFault.TheVariants as fault
 use Rattle.lab_statement.specs.Fault.{IsStatementFault}
 use Rattle.lab_statement.specs.Token.{tokens}
-use Rattle.lab_statement.specs.Printed.{printed_statement}
-use Rattle.lab_statement.specs.Limits.{StatementPrints}
-use Rattle.lab_statement.specs.Ranges.{StatementInRange}
 use Rattle.lab_statement.specs.Stopping.{read_value}
 use Rattle.lab_statement.specs.FirstFaults.{whole_statement_read}
 use Rattle.lab_statement.specs.Text.{code_of, is_code_byte, SpellsStatement}
 use Rattle.lab_statement.specs.StatementText.{is_code_alone, statement_in}
-use Rattle.lab_statement.proofs.TokenNumbers.{some_is}
 use Rattle.lab_statement.proofs.Readings.{valued}
 use Rattle.lab_statement.proofs.ReadStatements.{whole_again, whole_takes}
 use Rattle.lab_statement.proofs.StatementText.{all_code}
-use Rattle.lab_statement.proofs.PrintedStatements.{statement_spells}
 use Rattle.lab_table.proofs.Tests.{under_condition}
-
--- three conditions that hold, at once
-all_true : (a b c : Bool) → a ≡ true → b ≡ true → c ≡ true → (a && (b && c)) ≡ true
-all_true a b c e f g = rw (e, f, g) refl
 
 -- where nothing can be found, nothing is
 nothing_found : {A : Type 0} (r : Option A) → ((y : A) → r ≡ Some y → ⊥) → r ≡ None
@@ -34,7 +26,7 @@ nothing_found (Some y) none = absurd (none y refl)
 -- a text that spells a statement is code alone
 spelled_alone : (text : List ℕ) (s : Statement) → SpellsStatement text s → is_code_alone text ≡ true
 spelled_alone text s h =
-    all_true _ _ _ (le-leb (length text) 4000 h.bytes) h.ascii (eq-eqb (length (code_of text)) (length text) (ap length h.no_remark))
+    and_from _ _ (le-leb (length text) 4000 h.bytes) (and_from _ _ h.ascii (eq-eqb (length (code_of text)) (length text) (ap length h.no_remark)))
 
 -- what a text spells is read from it
 pub spells_in : (text : List ℕ) (s : Statement) → SpellsStatement text s → statement_in text ≡ Some s
@@ -60,21 +52,13 @@ in_spells text s read =
       printed = whole.printed;
     }
 
--- from a printed statement the same statement is read
-pub printed_in : (s : Statement) → StatementPrints s → StatementInRange s → statement_in (printed_statement s) ≡ Some s
-printed_in s prints range = spells_in (printed_statement s) s (statement_spells s range prints)
-
 -- from a text that spells nothing nothing is read
 pub none_in : (text : List ℕ) → ((s : Statement) → SpellsStatement text s → ⊥) → statement_in text ≡ None
 none_in text none = nothing_found (statement_in text) (λ s read. none s (in_spells text s read))
 
--- a text from which nothing is read spells nothing
-pub nothing_in : (text : List ℕ) → statement_in text ≡ None → (s : Statement) → SpellsStatement text s → ⊥
-nothing_in text none s spells = let read = spells_in text s spells in absurd cc
-
 -- a text spells one statement at most
 pub spells_once : (text : List ℕ) (s t : Statement) → SpellsStatement text s → SpellsStatement text t → s ≡ t
-spells_once text s t one other = some_is s t (sym (spells_in text s one) ∙ spells_in text t other)
+spells_once text s t one other = same_Some s t (sym (spells_in text s one) ∙ spells_in text t other)
 
 -- where a text has a fault, it spells nothing, or there was no memory
 pub fault_only : (text : List ℕ) (f : ScriptFault) → IsStatementFault text f → (s : Statement) → SpellsStatement text s → f ≡ fault.NoMemory

@@ -3,22 +3,21 @@ use Rattle.std.proofs.Common.{◌≡◌, ℕ, ◌<◌, ◌≤◌, Bool, true, co
 use Rattle.std.specs.List.{list_all}
 use Rattle.std.proofs.lemmas.Bool.{cases_Bool}
 use Rattle.lab_table.specs.declared.statement.Statement.{Statement}
-use Rattle.lab_statement.specs.declared.refusal.GrammarFault.{GrammarFault}
-use Rattle.lab_statement.specs.declared.refusal.Refusal.{Refusal}
-use Rattle.lab_statement.specs.declared.refusal.Refusal.TheVariants as refusal
+use Rattle.lab_statement.specs.declared.fault.ScriptFaultKind.{ScriptFaultKind}
+use Rattle.lab_statement.specs.declared.fault.Refusal.{Refusal}
+use Rattle.lab_statement.specs.declared.fault.Refusal.TheVariants as refusal
 use Rattle.lab_statement.specs.declared.token.Token.{Token}
 use Rattle.lab_statement.specs.declared.token.Token.TheVariants as token
 use Rattle.lab_statement.specs.Token.{tokens}
-use Rattle.lab_statement.specs.Fault.{SaysOfStatement, IsStatementFault, kind_of, refusal_at}
+use Rattle.lab_statement.specs.Fault.{SaysOfStatement, IsStatementFault, refusal_at}
 use Rattle.lab_statement.specs.Grammar.{IsWholeStatement}
 use Rattle.lab_statement.specs.HeldTokens.{held_tokens, AreStatementTokens}
 use Rattle.lab_statement.specs.Text.{begins_remark, code_of, is_code_byte, HasWhere, BeginsLongStatement, SpellsStatement}
 use Rattle.lab_statement.specs.FirstFaults.{statement_fault, StopsFirst}
 use Rattle.lab_statement.proofs.GrammarFaults.{no_statement_fault}
-use Rattle.lab_statement.proofs.LineKinds.{statement_kinds}
-use Rattle.lab_statement.proofs.HeldTokens.{held_whole, whole_held, held_where, held_long_statement, long_before_last}
+use Rattle.lab_statement.proofs.FaultKinds.{statement_kinds}
+use Rattle.lab_statement.proofs.HeldTokens.{closed_known, held_whole, whole_held, held_where, held_long_statement, long_before_last}
 use Rattle.lab_statement.proofs.Wheres.{where_before_last}
-use Rattle.lab_statement.proofs.KnownTokens.{closed_known}
 
 -- code that is as long as the text is the text
 pub all_code : (text : List ℕ) → length text ≤ length (code_of text) → code_of text ≡ text
@@ -93,6 +92,6 @@ module _ (text : List ℕ) (ts : List Token) (are : AreStatementTokens text ts) 
   stop_fault refusal.NoMemory first = tt
   stop_fault (refusal.Fault f) first = (
     refl,
-    λ t spells. let none : ◌≡◌ {A = Option GrammarFault} None (Some f) = sym ((no_statement_fault ts).1 (t, spelled_tokens t spells)) ∙ first in absurd cc,
-    statement_kinds (λ g. SaysOfStatement (kind_of g) text) ts (short, ascii) (λ has. (short, ascii, where_of has)) (short, ascii) (short, ascii) (short, ascii) (λ long. inr (ascii, long_of long)) f first,
+    λ t spells. let none : ◌≡◌ {A = Option ScriptFaultKind} None (Some f) = sym ((no_statement_fault ts).1 (t, spelled_tokens t spells)) ∙ first in absurd cc,
+    statement_kinds (λ kind. SaysOfStatement kind text) ts (short, ascii) (λ has. (short, ascii, where_of has)) (short, ascii) (short, ascii) (short, ascii) (λ long. inr (ascii, long_of long)) f first,
   )

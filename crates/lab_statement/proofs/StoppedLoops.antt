@@ -2,7 +2,7 @@
 use Rattle.std.proofs.Common.{◌≡◌, ℕ, zero, suc, ◌≤◌, ◌<◌, List, length, Some, None, refl, sym, ◌∙◌, subst, arith}
 use Rattle.lab_table.specs.Predicate.{Predicate}
 use Rattle.lab_statement.specs.declared.token.Token.{Token}
-use Rattle.lab_statement.specs.declared.refusal.Refusal.{Refusal}
+use Rattle.lab_statement.specs.declared.fault.Refusal.{Refusal}
 use Rattle.lab_statement.specs.Reading.{after}
 use Rattle.lab_statement.specs.Stopping.{Reading, Reads, StopsAt, more_read, joined_read}
 use Rattle.lab_statement.proofs.Readings.{stops_as}

@@ -1,7 +1,7 @@
 -- How tokens go on.
 use Rattle.std.proofs.Common.{◌≡◌, ℕ, ◌+◌, ◌-◌, ◌*◌, ◌<◌, Bool, true, false, cond, ◌==◌, List, [], ◌∷◌, ◌++◌, length, take, drop, map, Option, Some, None, refl, sym, ap, ◌∙◌, append_assoc, suc, arith, subst, get_or, drop-cons, add-one, inl, inr}
 use Rattle.std.proofs.Math.Numerals.{one-add}
-use Rattle.std.specs.Prelude.{is_some, unwrap_or, option_map}
+use Rattle.std.specs.Prelude.{is_some, unwrap_or}
 use Rattle.std.specs.List.{prefix_len}
 use Rattle.std.specs.Char.{to_ascii_lowercase, is_ascii_digit}
 use Rattle.std.proofs.lemmas.List.{append-nil}
@@ -9,7 +9,7 @@ use Rattle.std.proofs.lemmas.Bool.{cases_Bool, false_from_ne_true, eqb-true}
 use Rattle.lab_statement.specs.declared.token.Word.{Word}
 use Rattle.lab_statement.specs.declared.token.Token.{Token}
 use Rattle.lab_statement.specs.declared.token.Token.TheVariants as token
-use Rattle.lab_statement.specs.Token.{Part, gap, letters, whole, is_letter, is_blank, word_named, mark, begun, longer, ended, longer_token, tokens, tokens_from}
+use Rattle.lab_statement.specs.Token.{Part, letters, whole, is_letter, is_blank, word_named, mark, begun, longer, ended, longer_token, tokens, tokens_from}
 use Rattle.lab_statement.specs.HeldTokens.{held, held_from, held_tokens}
 
 pub goes_on : (part more : Part) (b : ℕ) (bs : List ℕ) → longer part b ≡ Some more → tokens_from part (b ∷ bs) ≡ tokens_from more bs
@@ -55,37 +55,20 @@ front_stops p (x ∷ xs) b after e =
           subst (λ (y : ℕ). p y ≡ false) head isnt
     ]
 
-second : {A : Type 0} (v w : Bool) (x y z : A) → v ≡ false → w ≡ true → cond v x (cond w y z) ≡ y
-second false true x y z p q = refl
-second true w x y z p q = absurd cc
-second false false x y z p q = absurd cc
-
-third : {A : Type 0} (u v w : Bool) (t x y z : A) → u ≡ false → v ≡ false → w ≡ true → cond u t (cond v x (cond w y z)) ≡ y
-third false v w t x y z r p q = second v w x y z p q
-third true v w t x y z r p q = absurd cc
-
-from_part : (bs : List ℕ) (p q : Part) → p ≡ q → tokens_from p bs ≡ tokens_from q bs
-from_part bs p q e = ap (λ (x : Part). tokens_from x bs) e
-
 pub word_begins : (b : ℕ) (bs : List ℕ) → is_blank b ≡ false → is_letter b ≡ true → tokens (b ∷ bs) ≡ tokens_from (letters []) (b ∷ bs)
-word_begins b bs p q =
-    from_part bs _ _ (second (is_blank b) (is_letter b) gap (letters (to_ascii_lowercase b ∷ [])) (cond (is_ascii_digit b) (whole (token.Digits (b - 48))) (whole (mark b))) p q)
-    ∙ sym (goes_on (letters []) (letters (to_ascii_lowercase b ∷ [])) b bs (ap (λ (v : Bool). cond v (Some (letters (to_ascii_lowercase b ∷ []))) None) q))
+word_begins b bs p q = rw (p, q) refl
 
 pub digit_goes_on : (n b : ℕ) (bs : List ℕ) → is_ascii_digit b ≡ true → tokens_from (whole (token.Digits n)) (b ∷ bs) ≡ tokens_from (whole (token.Digits (10 * n + (b - 48)))) bs
-digit_goes_on n b bs q =
-    goes_on (whole (token.Digits n)) (whole (token.Digits (10 * n + (b - 48)))) b bs (ap (λ (v : Bool). option_map whole (cond v (Some (token.Digits (10 * n + (b - 48)))) None)) q)
+digit_goes_on n b bs q = rw q refl
 
 pub digit_ends : (n b : ℕ) (bs : List ℕ) → is_ascii_digit b ≡ false → tokens_from (whole (token.Digits n)) (b ∷ bs) ≡ token.Digits n ∷ tokens (b ∷ bs)
-digit_ends n b bs q = breaks (whole (token.Digits n)) b bs (ap (λ (v : Bool). option_map whole (cond v (Some (token.Digits (10 * n + (b - 48)))) None)) q)
+digit_ends n b bs q = rw q refl
 
 first_of_digits : (b : ℕ) → 10 * 0 + (b - 48) ≡ b - 48
 first_of_digits b = omega arith
 
 pub digits_begin : (b : ℕ) (bs : List ℕ) → is_blank b ≡ false → is_letter b ≡ false → is_ascii_digit b ≡ true → tokens (b ∷ bs) ≡ tokens_from (whole (token.Digits 0)) (b ∷ bs)
-digits_begin b bs p q r =
-    from_part bs _ _ (third (is_blank b) (is_letter b) (is_ascii_digit b) gap (letters (to_ascii_lowercase b ∷ [])) (whole (token.Digits (b - 48))) (whole (mark b)) p q r)
-    ∙ ap (λ (n : ℕ). tokens_from (whole (token.Digits n)) bs) (sym (first_of_digits b)) ∙ sym (digit_goes_on 0 b bs r)
+digits_begin b bs p q r = rw (p, q, r) (ap (λ (n : ℕ). tokens_from (whole (token.Digits n)) bs) (sym (first_of_digits b)))
 
 pub digits_on : (n i : ℕ) (bs : List ℕ) → i < length bs → is_ascii_digit (get_or bs i 0) ≡ true
     → tokens_from (whole (token.Digits n)) (drop i bs) ≡ tokens_from (whole (token.Digits (10 * n + (get_or bs i 0 - 48)))) (drop (i + 1) bs)
@@ -134,13 +117,9 @@ isnt_eq a b h = false_from_ne_true (a == b) (λ e. h (eqb-true a b e))
 pub other_mark : (b : ℕ) (bs : List ℕ) (t : Token) → t ≡ mark b → (b ≡ 60 → ⊥) → (b ≡ 62 → ⊥) → held_from (whole (mark b)) bs ≡ t ∷ held_tokens bs
 other_mark b bs t e p q = mark_run b bs (isnt_eq b 60 p) (isnt_eq b 62 q) ∙ ap (λ (u : Token). u ∷ held_tokens bs) (sym e)
 
-word_run : (bs text rest : List ℕ) (len : ℕ) (word : Word) → len ≡ prefix_len is_letter bs → text ≡ take len bs → rest ≡ drop len bs
-    → word ≡ word_named (map to_ascii_lowercase text) → tokens_from (letters []) bs ≡ token.Word word ∷ tokens rest
-word_run bs text rest len word p q r e = rw (e, q, r, p) (letters_run bs [])
-
 pub whole_word : (bs text rest : List ℕ) (len : ℕ) (word : Word) → len ≡ prefix_len is_letter bs → text ≡ take len bs → rest ≡ drop len bs
     → word ≡ word_named (map to_ascii_lowercase text) → held_from (letters []) bs ≡ token.Word word ∷ held_tokens rest
-whole_word bs text rest len word p q r e = ap (map held) (word_run bs text rest len word p q r e)
+whole_word bs text rest len word p q r e = rw (e, q, r, p) (ap (map held) (letters_run bs []))
 
 -- a token put behind those found, which begins what is left
 pub placed : (now found : List Token) (t : Token) (rest text after : List ℕ) → now ≡ found ++ t ∷ [] → found ++ held_tokens rest ≡ held_tokens text → held_tokens rest ≡ t ∷ held_tokens after

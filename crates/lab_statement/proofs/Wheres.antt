@@ -9,7 +9,7 @@ use Rattle.lab_statement.specs.declared.token.Token.TheVariants as token
 use Rattle.lab_statement.specs.Reading.{is_token}
 use Rattle.lab_statement.specs.Text.{HasWhere}
 use Rattle.lab_statement.specs.FirstFaults.{in_predicate}
-use Rattle.lab_statement.proofs.TokenNumbers.{same_token}
+use Rattle.lab_statement.proofs.SameTokens.{same_token}
 
 -- with one more token in front
 pub where_further : (t : Token) (ts : List Token) → HasWhere ts → HasWhere (t ∷ ts)

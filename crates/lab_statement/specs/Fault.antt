@@ -1,5 +1,5 @@
 -- What a fault says of the text of one statement, and its line.
-use Rattle.std.specs.Prelude.{◌≡◌, ℕ, ◌<◌, ◌≤◌, ◌⊎◌, true, false, List, [], ◌++◌, length, Option, Some, None, codes}
+use Rattle.std.specs.Prelude.{◌≡◌, ℕ, ◌<◌, ◌≤◌, ◌⊎◌, true, false, List, [], ◌++◌, length, Some, codes}
 use Rattle.std.specs.Fmt.{decimal}
 use Rattle.std.specs.List.{list_all}
 use Rattle.lab_table.specs.declared.statement.Statement.{Statement}
@@ -7,10 +7,8 @@ use Rattle.lab_statement.specs.declared.fault.ScriptFault.{ScriptFault}
 use Rattle.lab_statement.specs.declared.fault.ScriptFault.TheVariants as fault
 use Rattle.lab_statement.specs.declared.fault.ScriptFaultKind.{ScriptFaultKind}
 use Rattle.lab_statement.specs.declared.fault.ScriptFaultKind.TheVariants as kinds
-use Rattle.lab_statement.specs.declared.refusal.GrammarFault.{GrammarFault}
-use Rattle.lab_statement.specs.declared.refusal.GrammarFault.TheVariants as grammar
-use Rattle.lab_statement.specs.declared.refusal.Refusal.{Refusal}
-use Rattle.lab_statement.specs.declared.refusal.Refusal.TheVariants as refusal
+use Rattle.lab_statement.specs.declared.fault.Refusal.{Refusal}
+use Rattle.lab_statement.specs.declared.fault.Refusal.TheVariants as refusal
 use Rattle.lab_statement.specs.declared.token.Token.{Token}
 use Rattle.lab_statement.specs.FirstFaults.{statement_fault}
 use Rattle.lab_statement.specs.HeldTokens.{AreStatementTokens}
@@ -24,47 +22,27 @@ use Rattle.lab_statement.specs.Limits.{max_line_bytes}
 abbrev pub SaysOfStatement : ScriptFaultKind → List ℕ → Type 0
 SaysOfStatement kinds.NotAscii text = (length text ≤ max_line_bytes) × (list_all is_code_byte text ≡ false)
 SaysOfStatement kinds.TooLong text = (max_line_bytes < length text) ⊎ ((list_all is_code_byte text ≡ true) × BeginsLongStatement (tokens (code_of text)))
-SaysOfStatement kinds.NoSetup text = ⊥
-SaysOfStatement kinds.SetupRepeated text = ⊥
-SaysOfStatement kinds.NoSession text = ⊥
 SaysOfStatement kinds.UnknownStatement text = (length text ≤ max_line_bytes) × (list_all is_code_byte text ≡ true)
 SaysOfStatement kinds.BadPredicate text = (length text ≤ max_line_bytes) × (list_all is_code_byte text ≡ true) × HasWhere (tokens (code_of text))
 SaysOfStatement kinds.BadTableName text = (length text ≤ max_line_bytes) × (list_all is_code_byte text ≡ true)
 SaysOfStatement kinds.NumberOutOfRange text = (length text ≤ max_line_bytes) × (list_all is_code_byte text ≡ true)
 SaysOfStatement kinds.TooDeep text = (length text ≤ max_line_bytes) × (list_all is_code_byte text ≡ true)
-SaysOfStatement kinds.DuplicateSetupRow text = ⊥
-SaysOfStatement kinds.TooManyTables text = ⊥
+SaysOfStatement kind text = ⊥
 
 -- the fault is true of the text of one statement
 abbrev pub IsStatementFault : List ℕ → ScriptFault → Type 0
 IsStatementFault text fault.NoMemory = Unit {0}
 IsStatementFault text (fault.At line kind) = (line ≡ 1) × ((s : Statement) → SpellsStatement text s → ⊥) × SaysOfStatement kind text
 
--- the kind of fault that a script with such a line has
-abbrev pub kind_of : GrammarFault → ScriptFaultKind
-kind_of grammar.UnknownStatement = kinds.UnknownStatement
-kind_of grammar.BadPredicate = kinds.BadPredicate
-kind_of grammar.BadTableName = kinds.BadTableName
-kind_of grammar.NumberOutOfRange = kinds.NumberOutOfRange
-kind_of grammar.TooDeep = kinds.TooDeep
-kind_of grammar.TooLong = kinds.TooLong
-kind_of grammar.DuplicateSetupRow = kinds.DuplicateSetupRow
-kind_of grammar.TooManyTables = kinds.TooManyTables
-
 -- the fault of a script whose line with this number stopped so
 abbrev pub refusal_at : Refusal → ℕ → ScriptFault
 refusal_at refusal.NoMemory number = fault.NoMemory
-refusal_at (refusal.Fault f) number = fault.At number (kind_of f)
-
--- the kind is that of the first fault of the grammar
-abbrev pub TellsFirst : Option GrammarFault → ScriptFaultKind → Type 0
-TellsFirst None kind = ⊥
-TellsFirst (Some first) kind = kind ≡ kind_of first
+refusal_at (refusal.Fault kind) number = fault.At number kind
 
 -- in the text of one statement, that is short enough and code, the fault is the first from the left of its tokens, as they are held
 abbrev pub IsFirstInText : List ℕ → ScriptFault → Type 0
 IsFirstInText text fault.NoMemory = Unit {0}
-IsFirstInText text (fault.At line kind) = length text ≤ max_line_bytes → list_all is_code_byte text ≡ true → (ts : List Token) × AreStatementTokens text ts × TellsFirst (statement_fault ts) kind
+IsFirstInText text (fault.At line kind) = length text ≤ max_line_bytes → list_all is_code_byte text ≡ true → (ts : List Token) × AreStatementTokens text ts × (statement_fault ts ≡ Some kind)
 
 -- the name of a kind
 abbrev pub kind_name : ScriptFaultKind → List ℕ

@@ -9,11 +9,11 @@ use Rattle.lab_table.specs.declared.statement.StatementKind.TheVariants as kind
 use Rattle.lab_statement.specs.declared.token.Word.TheVariants as word
 use Rattle.lab_statement.specs.declared.token.Token.{Token}
 use Rattle.lab_statement.specs.declared.token.Token.TheVariants as token
-use Rattle.lab_statement.specs.declared.refusal.GrammarFault.{GrammarFault}
-use Rattle.lab_statement.specs.declared.refusal.GrammarFault.TheVariants as grammar
-use Rattle.lab_statement.specs.declared.refusal.GrammarFault.TheVariants.{UnknownStatement, TooLong, TooManyTables}
-use Rattle.lab_statement.specs.declared.refusal.Refusal.{Refusal}
-use Rattle.lab_statement.specs.declared.refusal.Refusal.TheVariants as refusal
+use Rattle.lab_statement.specs.declared.fault.ScriptFaultKind.{ScriptFaultKind}
+use Rattle.lab_statement.specs.declared.fault.ScriptFaultKind.TheVariants as kinds
+use Rattle.lab_statement.specs.declared.fault.ScriptFaultKind.TheVariants.{UnknownStatement, TooLong, TooManyTables}
+use Rattle.lab_statement.specs.declared.fault.Refusal.{Refusal}
+use Rattle.lab_statement.specs.declared.fault.Refusal.TheVariants as refusal
 use Rattle.lab_statement.specs.Grammar.{over}
 use Rattle.lab_statement.specs.Limits.{max_statement_bytes}
 use Rattle.lab_statement.specs.Printed.{printed_statement}
@@ -112,45 +112,38 @@ in_predicate inside [] = inside
 in_predicate inside (t ∷ ts) = in_predicate (if is_token t (token.Word word.Where) then true else if is_token t token.Semicolon then false else inside) ts
 
 -- the kind of a fault where so many of a line's tokens are left: behind a where of its statement an unknown one is a bad predicate
-abbrev pub placed_kind : List Token → GrammarFault → ℕ → GrammarFault
-placed_kind ts grammar.UnknownStatement left = if in_predicate false (take (length ts - left) ts) then grammar.BadPredicate else grammar.UnknownStatement
-placed_kind ts grammar.BadPredicate left = grammar.BadPredicate
-placed_kind ts grammar.BadTableName left = grammar.BadTableName
-placed_kind ts grammar.NumberOutOfRange left = grammar.NumberOutOfRange
-placed_kind ts grammar.TooDeep left = grammar.TooDeep
-placed_kind ts grammar.TooLong left = grammar.TooLong
-placed_kind ts grammar.DuplicateSetupRow left = grammar.DuplicateSetupRow
-placed_kind ts grammar.TooManyTables left = grammar.TooManyTables
+abbrev pub placed_kind : List Token → ScriptFaultKind → ℕ → ScriptFaultKind
+placed_kind ts kinds.UnknownStatement left = if in_predicate false (take (length ts - left) ts) then kinds.BadPredicate else kinds.UnknownStatement
+placed_kind ts kind left = kind
 
--- the same of why reading stopped
-abbrev pub placed_refusal : List Token → Refusal → ℕ → Refusal
-placed_refusal ts refusal.NoMemory left = refusal.NoMemory
-placed_refusal ts (refusal.Fault kind) left = refusal.Fault (placed_kind ts kind left)
+-- why reading stopped, with the kind of its fault made another
+abbrev pub refusal_as : (ScriptFaultKind → ScriptFaultKind) → Refusal → Refusal
+refusal_as other refusal.NoMemory = refusal.NoMemory
+refusal_as other (refusal.Fault kind) = refusal.Fault (other kind)
 
--- the fault that reading a line's tokens stops with, if it stops
-abbrev pub fault_in : {X : Type 0} → List Token → Reading X → Option GrammarFault
-fault_in ts (Reads x) = None
-fault_in ts (Stops kind left) = Some (placed_kind ts kind (length left))
+-- the fault of what is read, if it has one, or else that with which reading stops, as it is where so many tokens are left
+abbrev pub fault_of : {X : Type 0} → (X → Option ScriptFaultKind) → (ScriptFaultKind → ℕ → ScriptFaultKind) → Reading X → Option ScriptFaultKind
+fault_of of placed (Reads x) = of x
+fault_of of placed (Stops kind left) = Some (placed kind (length left))
+
+-- a fifth table, where names of tables are more than a script may have
+abbrev pub fifth_table : List (List ℕ) → Option ScriptFaultKind
+fifth_table names = if are_few names then None else Some TooManyTables
 
 -- a fault behind these names of tables: where they are more than a script may have, the fifth came first
-abbrev pub behind_tables : List (List ℕ) → GrammarFault → GrammarFault
+abbrev pub behind_tables : List (List ℕ) → ScriptFaultKind → ScriptFaultKind
 behind_tables names kind = if are_few names then kind else TooManyTables
 
--- the same of why reading stopped
-abbrev pub refusal_behind : List (List ℕ) → Refusal → Refusal
-refusal_behind names refusal.NoMemory = refusal.NoMemory
-refusal_behind names (refusal.Fault kind) = refusal.Fault (behind_tables names kind)
-
 -- the first fault of the tokens of one statement
-abbrev pub statement_fault : List Token → Option GrammarFault
-statement_fault ts = fault_in ts (whole_statement_read ts)
+abbrev pub statement_fault : List Token → Option ScriptFaultKind
+statement_fault ts = fault_of (λ s. None) (placed_kind ts) (whole_statement_read ts)
 
 -- reading stopped for this reason, or memory ran out
-abbrev pub StopsFirst : Option GrammarFault → Refusal → Type 0
+abbrev pub StopsFirst : Option ScriptFaultKind → Refusal → Type 0
 StopsFirst fault refusal.NoMemory = Unit {0}
 StopsFirst fault (refusal.Fault kind) = fault ≡ Some kind
 
 -- what a function returned has this fault, if there is one, unless memory ran out
-abbrev pub HasFault : {X : Type 0} → Option GrammarFault → Result X Refusal → Type 0
+abbrev pub HasFault : {X : Type 0} → Option ScriptFaultKind → Result X Refusal → Type 0
 HasFault fault (Ok x) = fault ≡ None
 HasFault fault (Err e) = StopsFirst fault e

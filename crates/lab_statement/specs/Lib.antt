@@ -4,6 +4,7 @@ pub mod Printed
 pub mod Sink
 pub mod Depth
 pub mod Limits
+pub mod Each
 pub mod Ranges
 pub mod Text
 pub mod HeldTokens

@@ -1,6 +1,5 @@
 -- Which predicates and statements have each number in its range.
 use Rattle.std.specs.Prelude.{◌≡◌, true, ℕ, ◌≤◌, ℤ, pos, negsuc, ◌≤ℤ◌, Option, Some, None}
-use Rattle.std.specs.List.{All}
 use Rattle.lab_table.specs.Predicate.{Predicate}
 use Rattle.lab_table.specs.Predicate as predicate
 use Rattle.lab_table.specs.declared.statement.Statement.{Statement}
@@ -8,7 +7,10 @@ use Rattle.lab_table.specs.declared.statement.StatementKind.{StatementKind}
 use Rattle.lab_table.specs.declared.statement.StatementKind.TheVariants as kind
 use Rattle.lab_table.specs.declared.statement.Expr.{Expr}
 use Rattle.lab_table.specs.declared.statement.Expr.TheVariants as expr
+use Rattle.lab_table.specs.declared.statement.Command.{Command}
+use Rattle.lab_table.specs.declared.statement.Command.TheVariants as command
 use Rattle.lab_table.specs.TableName.{is_table_name}
+use Rattle.lab_statement.specs.Each.{Each}
 
 -- from -1,000,000,000 to 1,000,000,000
 abbrev pub ValueInRange : ℤ → Type 0
@@ -26,7 +28,7 @@ ModulusInRange m = (1 ≤ m) × (m ≤ 1000000)
 abbrev pub PredInRange : Predicate → Type 0
 PredInRange (predicate.Compare c m z) = ValueInRange z
 PredInRange (predicate.Remainder c m r) = ModulusInRange m × ValueInRange r
-PredInRange (predicate.OneOf c zs) = All ValueInRange zs
+PredInRange (predicate.OneOf c zs) = Each ValueInRange zs
 PredInRange (predicate.Not p) = PredInRange p
 PredInRange (predicate.And p q) = PredInRange p × PredInRange q
 PredInRange (predicate.Or p q) = PredInRange p × PredInRange q
@@ -52,3 +54,10 @@ KindInRange (kind.Delete p) = WhereInRange p
 -- the name of a statement's table, and each number of it
 abbrev pub StatementInRange : Statement → Type 0
 StatementInRange s = (is_table_name s.table ≡ true) × KindInRange s.kind
+
+-- the table's name and each number of what a command runs
+abbrev pub CommandInRange : Command → Type 0
+CommandInRange command.Begin = Unit {0}
+CommandInRange command.Commit = Unit {0}
+CommandInRange command.Abort = Unit {0}
+CommandInRange (command.Run s) = StatementInRange s

@@ -10,17 +10,17 @@ use Rattle.lab_statement.specs.declared.token.Word.{Word}
 use Rattle.lab_statement.specs.declared.token.Word.TheVariants as word
 use Rattle.lab_statement.specs.declared.token.Token.{Token}
 use Rattle.lab_statement.specs.declared.token.Token.TheVariants as token
-use Rattle.lab_statement.specs.declared.refusal.GrammarFault.{GrammarFault}
-use Rattle.lab_statement.specs.declared.refusal.GrammarFault.TheVariants.{UnknownStatement, BadTableName, NumberOutOfRange, TooDeep}
-use Rattle.lab_statement.specs.declared.refusal.Refusal.{Refusal}
-use Rattle.lab_statement.specs.declared.refusal.Refusal.TheVariants as refusal
+use Rattle.lab_statement.specs.declared.fault.ScriptFaultKind.{ScriptFaultKind}
+use Rattle.lab_statement.specs.declared.fault.ScriptFaultKind.TheVariants.{UnknownStatement, BadTableName, NumberOutOfRange, TooDeep}
+use Rattle.lab_statement.specs.declared.fault.Refusal.{Refusal}
+use Rattle.lab_statement.specs.declared.fault.Refusal.TheVariants as refusal
 use Rattle.lab_statement.specs.Limits.{max_depth}
 use Rattle.lab_statement.specs.Reading.{after}
 
 -- what reading comes to
 pub data Reading (X : Type 0) : Type 0 where
   Reads : X → Reading X
-  Stops : GrammarFault → List Token → Reading X
+  Stops : ScriptFaultKind → List Token → Reading X
 
 -- what is read, if reading doesn't stop
 abbrev pub read_value : {X : Type 0} → Reading X → Option X

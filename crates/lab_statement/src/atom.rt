@@ -3,8 +3,8 @@
 ghost use Rattle.std.specs.Prelude.{◌≡◌, ◌≤◌, length};
 ghost use Rattle.lab_statement.specs.Stopping.{cmp_of, Comes, atom_read, cmp_read, col_read, compare_read, modulus_read, number_list_read, numbers_read, one_of_read, remainder_read};
 
+use crate::fault::{Refusal, ScriptFaultKind};
 use crate::parser::Parser;
-use crate::refusal::{GrammarFault, Refusal};
 use crate::token::{Token, Word};
 use lab_table::{Cmp, Col, Modulus, Numbers, Pred, PredKind, Value};
 use std::alloc::Global;
@@ -75,9 +75,9 @@ impl Parser<'_> {
         ensures shorter { length self.new ≤ length self.old }
     {
         match self.rest.split_first() {
-            None => Err(Refusal::Fault(GrammarFault::UnknownStatement)),
+            None => Err(Refusal::Fault(ScriptFaultKind::UnknownStatement)),
             Some((first, rest)) => match cmp_of(*first) {
-                None => Err(Refusal::Fault(GrammarFault::UnknownStatement)),
+                None => Err(Refusal::Fault(ScriptFaultKind::UnknownStatement)),
                 Some(cmp) => {
                     self.rest = rest;
                     Ok(cmp)
@@ -109,9 +109,9 @@ impl Parser<'_> {
         let negative = self.took(Token::Minus);
         let number = self.digits()?;
         if negative {
-            return Err(Refusal::Fault(GrammarFault::NumberOutOfRange));
+            return Err(Refusal::Fault(ScriptFaultKind::NumberOutOfRange));
         }
-        Modulus::new(number).ok_or(Refusal::Fault(GrammarFault::NumberOutOfRange))
+        Modulus::new(number).ok_or(Refusal::Fault(ScriptFaultKind::NumberOutOfRange))
     }
 
     /// What stands behind the `in` of a list.

@@ -59,14 +59,49 @@ impl From<AllocError> for ScriptFault {
     }
 }
 
-impl<T: Drop> From<AllocFailed<T>> for ScriptFault {
+/// Why reading the tokens of a line stopped, whichever line it is.
+#[derive(Debug, Drop)]
+pub enum Refusal {
+    /// An allocation was refused.
+    NoMemory,
+    /// The tokens spell nothing of the grammar.
+    Fault(ScriptFaultKind),
+}
+
+impl Refusal {
     ghost use Rattle.std.specs.Prelude.{◌≡◌};
-    ghost use Rattle.lab_statement.specs.declared.fault.ScriptFault.TheVariants.{NoMemory};
+    ghost use Rattle.lab_statement.specs.Fault.{refusal_at};
 
-    ghost from_gives = { λ _ fault. fault ≡ NoMemory };
+    /// The fault of a script whose line with this number stopped so.
+    pub fn at(self, line: u32) -> ScriptFault
+        ensures { result ≡ refusal_at self line }
+    {
+        match self {
+            Refusal::NoMemory => ScriptFault::NoMemory,
+            Refusal::Fault(kind) => ScriptFault::At { line, kind },
+        }
+    }
+}
 
-    fn from(_: AllocFailed<T>) -> ScriptFault {
-        ScriptFault::NoMemory
+impl From<AllocError> for Refusal {
+    ghost use Rattle.std.specs.Prelude.{◌≡◌};
+    ghost use Rattle.lab_statement.specs.declared.fault.Refusal.TheVariants.{NoMemory};
+
+    ghost from_gives = { λ _ refusal. refusal ≡ NoMemory };
+
+    fn from(_: AllocError) -> Refusal {
+        Refusal::NoMemory
+    }
+}
+
+impl<T: Drop> From<AllocFailed<T>> for Refusal {
+    ghost use Rattle.std.specs.Prelude.{◌≡◌};
+    ghost use Rattle.lab_statement.specs.declared.fault.Refusal.TheVariants.{NoMemory};
+
+    ghost from_gives = { λ _ refusal. refusal ≡ NoMemory };
+
+    fn from(_: AllocFailed<T>) -> Refusal {
+        Refusal::NoMemory
     }
 }
 

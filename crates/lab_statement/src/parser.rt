@@ -4,9 +4,9 @@ ghost use Rattle.std.specs.Prelude.{◌≡◌, ◌==◌, ◌≤◌, ◌<◌, len
 ghost use Rattle.lab_statement.specs.Grammar.{IsWholeStatement};
 ghost use Rattle.lab_statement.specs.Reading.{after};
 ghost use Rattle.lab_statement.specs.Stopping.{Comes, digits_read, magnitude_read, name_read, number_read, token_read, tokens_read};
-ghost use Rattle.lab_statement.specs.FirstFaults.{HasFault, in_predicate, nothing_read, placed_refusal, statement_fault};
+ghost use Rattle.lab_statement.specs.FirstFaults.{HasFault, in_predicate, nothing_read, placed_kind, refusal_as, statement_fault};
 
-use crate::refusal::{GrammarFault, Refusal};
+use crate::fault::{Refusal, ScriptFaultKind};
 use crate::token::{Token, Word};
 use lab_table::{Statement, TableName, Value};
 use std::alloc::Global;
@@ -63,7 +63,7 @@ impl<'a> Parser<'a> {
         if self.is_done() {
             Ok(())
         } else {
-            Err(Refusal::Fault(GrammarFault::UnknownStatement))
+            Err(Refusal::Fault(ScriptFaultKind::UnknownStatement))
         }
     }
 
@@ -95,7 +95,7 @@ impl<'a> Parser<'a> {
         if self.took(token) {
             Ok(())
         } else {
-            Err(Refusal::Fault(GrammarFault::UnknownStatement))
+            Err(Refusal::Fault(ScriptFaultKind::UnknownStatement))
         }
     }
 
@@ -116,16 +116,16 @@ impl<'a> Parser<'a> {
         ensures shorter { length self.new ≤ length self.old }
     {
         match self.rest.split_first() {
-            None => Err(Refusal::Fault(GrammarFault::UnknownStatement)),
+            None => Err(Refusal::Fault(ScriptFaultKind::UnknownStatement)),
             Some((first, rest)) => match first {
                 Token::Word(word) => match word {
                     Word::Name(name) => {
                         self.rest = rest;
                         Ok(*name)
                     }
-                    _ => Err(Refusal::Fault(GrammarFault::BadTableName)),
+                    _ => Err(Refusal::Fault(ScriptFaultKind::BadTableName)),
                 },
-                _ => Err(Refusal::Fault(GrammarFault::UnknownStatement)),
+                _ => Err(Refusal::Fault(ScriptFaultKind::UnknownStatement)),
             },
         }
     }
@@ -137,13 +137,13 @@ impl<'a> Parser<'a> {
         ensures shorter { length self.new ≤ length self.old }
     {
         match self.rest.split_first() {
-            None => Err(Refusal::Fault(GrammarFault::UnknownStatement)),
+            None => Err(Refusal::Fault(ScriptFaultKind::UnknownStatement)),
             Some((first, rest)) => match first {
                 Token::Digits(number) => {
                     self.rest = rest;
                     Ok(*number)
                 }
-                _ => Err(Refusal::Fault(GrammarFault::UnknownStatement)),
+                _ => Err(Refusal::Fault(ScriptFaultKind::UnknownStatement)),
             },
         }
     }
@@ -159,7 +159,7 @@ impl<'a> Parser<'a> {
         if number <= 1_000_000_000 {
             Ok(number)
         } else {
-            Err(Refusal::Fault(GrammarFault::NumberOutOfRange))
+            Err(Refusal::Fault(ScriptFaultKind::NumberOutOfRange))
         }
     }
 
@@ -174,7 +174,7 @@ impl<'a> Parser<'a> {
         } else {
             i64::from(self.magnitude()?)
         };
-        Value::new(number).ok_or(Refusal::Fault(GrammarFault::NumberOutOfRange))
+        Value::new(number).ok_or(Refusal::Fault(ScriptFaultKind::NumberOutOfRange))
     }
 }
 
@@ -195,15 +195,15 @@ pub fn read_statement(alloc: Global, tokens: &[Token]) -> Result<Statement, Refu
 
 /// The stop of a line of which so many tokens are left: behind a `where` of its statement an unknown token is a bad predicate.
 pub fn placed(refusal: Refusal, tokens: &[Token], left: usize) -> Refusal
-    ensures { result ≡ placed_refusal tokens.now refusal left }
+    ensures { result ≡ refusal_as (λ kind. placed_kind tokens.now kind left) refusal }
 {
     match refusal {
-        Refusal::Fault(GrammarFault::UnknownStatement) => {
+        Refusal::Fault(ScriptFaultKind::UnknownStatement) => {
             let read = tokens.len().saturating_sub(left);
             if ends_in_predicate(&tokens[..read]) {
-                Refusal::Fault(GrammarFault::BadPredicate)
+                Refusal::Fault(ScriptFaultKind::BadPredicate)
             } else {
-                Refusal::Fault(GrammarFault::UnknownStatement)
+                Refusal::Fault(ScriptFaultKind::UnknownStatement)
             }
         }
         other => other,

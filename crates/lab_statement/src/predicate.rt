@@ -1,14 +1,14 @@
 //! Predicates, read from tokens.
 
-ghost use Rattle.std.specs.Prelude.{◌≡◌, ◌≤◌, length, IfOk, IfErr};
+ghost use Rattle.std.specs.Prelude.{◌≡◌, ◌≤◌, length, IfOk};
 ghost use Rattle.lab_table.specs.Predicate as predicate;
 ghost use Rattle.lab_statement.specs.Stopping.{Comes, conj_read, pred_read, term_read, where_read};
 
+use crate::fault::{Refusal, ScriptFaultKind};
 use crate::limits::MAX_DEPTH;
 use crate::parser::Parser;
-use crate::refusal::{GrammarFault, Refusal};
 use crate::token::{Token, Word};
-use lab_table::{Pred, PredKind};
+use lab_table::{NoMemory, Pred, PredKind};
 use std::alloc::Global;
 
 impl Parser<'_> {
@@ -64,14 +64,14 @@ impl Parser<'_> {
     {
         if self.took(Token::Word(Word::Not)) {
             if depth == 0 {
-                return Err(Refusal::Fault(GrammarFault::TooDeep));
+                return Err(Refusal::Fault(ScriptFaultKind::TooDeep));
             }
             let pred = self.term(alloc, depth - 1)?;
-            return negation(alloc, pred);
+            return Ok(negation(alloc, pred)?);
         }
         if self.took(Token::Open) {
             if depth == 0 {
-                return Err(Refusal::Fault(GrammarFault::TooDeep));
+                return Err(Refusal::Fault(ScriptFaultKind::TooDeep));
             }
             let pred = self.pred(alloc, depth - 1)?;
             self.expect(Token::Close)?;
@@ -81,27 +81,24 @@ impl Parser<'_> {
     }
 }
 
-fn negation(alloc: Global, pred: Pred) -> Result<Pred, Refusal>
-    ensures made { IfOk result (λ x. x ≡ predicate.Not pred) }
-    ensures memory { IfErr result (λ e. e ≡ Refusal.NoMemory) }
+fn negation(alloc: Global, pred: Pred) -> Result<Pred, NoMemory>
+    ensures { IfOk result (λ x. x ≡ predicate.Not pred) }
 {
     Ok(Pred {
         kind: PredKind::Not(Box::new(alloc, pred)?),
     })
 }
 
-fn conjunction(alloc: Global, left: Pred, right: Pred) -> Result<Pred, Refusal>
-    ensures made { IfOk result (λ x. x ≡ predicate.And left right) }
-    ensures memory { IfErr result (λ e. e ≡ Refusal.NoMemory) }
+fn conjunction(alloc: Global, left: Pred, right: Pred) -> Result<Pred, NoMemory>
+    ensures { IfOk result (λ x. x ≡ predicate.And left right) }
 {
     Ok(Pred {
         kind: PredKind::And(Box::new(alloc, left)?, Box::new(alloc, right)?),
     })
 }
 
-fn disjunction(alloc: Global, left: Pred, right: Pred) -> Result<Pred, Refusal>
-    ensures made { IfOk result (λ x. x ≡ predicate.Or left right) }
-    ensures memory { IfErr result (λ e. e ≡ Refusal.NoMemory) }
+fn disjunction(alloc: Global, left: Pred, right: Pred) -> Result<Pred, NoMemory>
+    ensures { IfOk result (λ x. x ≡ predicate.Or left right) }
 {
     Ok(Pred {
         kind: PredKind::Or(Box::new(alloc, left)?, Box::new(alloc, right)?),

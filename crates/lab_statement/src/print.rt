@@ -8,7 +8,6 @@ ghost use Rattle.lab_statement.specs.StatementText.{statement_in};
 ghost use Rattle.lab_statement.specs.Limits.{max_depth, max_statement_bytes, StatementPrints, CommandPrints, IsDeep, IsLong};
 
 use crate::fits::{depth_fits, statement_fits};
-use crate::round_trip::printed_statement_spells;
 use crate::spelling::{put_command, put_statement};
 use lab_table::{Command, Statement};
 use std::alloc::{AllocError, Global};
@@ -59,7 +58,6 @@ pub fn print_statement(alloc: Global, statement: &Statement) -> Result<Vec<u8>, 
     check_statement(statement)?;
     let mut text = Vec::new(alloc);
     put_statement(&mut text, statement)?;
-    printed_statement_spells(statement);
     Ok(text)
 }
 

@@ -3,8 +3,8 @@
 ghost use Rattle.std.specs.Prelude.{◌≤◌, length};
 ghost use Rattle.lab_statement.specs.Stopping.{Comes, id_read, row_read};
 
+use crate::fault::{Refusal, ScriptFaultKind};
 use crate::parser::Parser;
-use crate::refusal::{GrammarFault, Refusal};
 use crate::token::Token;
 use lab_table::{RowId, Value};
 
@@ -18,9 +18,9 @@ impl Parser<'_> {
         let negative = self.took(Token::Minus);
         let number = self.digits()?;
         if negative {
-            return Err(Refusal::Fault(GrammarFault::NumberOutOfRange));
+            return Err(Refusal::Fault(ScriptFaultKind::NumberOutOfRange));
         }
-        RowId::new(number).ok_or(Refusal::Fault(GrammarFault::NumberOutOfRange))
+        RowId::new(number).ok_or(Refusal::Fault(ScriptFaultKind::NumberOutOfRange))
     }
 
     /// A row's number with its value: both in parentheses, with a comma between them.

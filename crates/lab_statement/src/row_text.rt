@@ -1,8 +1,10 @@
 //! Numbers and rows in printed form, as `spelling` has the rest.
 
-ghost use Rattle.std.specs.Prelude.{◌≡◌, ◌≤◌, ◌+◌, ◌∷◌, ◌++◌, drop, codes, OnOk};
+ghost use Rattle.std.specs.Prelude.{◌≡◌, ◌≤◌, ◌+◌, ◌∷◌, ◌++◌, drop, codes, OnOk, true};
 ghost use Rattle.std.specs.Fmt.{decimal, signed_decimal};
+ghost use Rattle.lab_table.specs.TableName.{is_table_name};
 ghost use Rattle.lab_statement.specs.Printed.{printed_table_name, printed_row_name, printed_row, rows_or};
+ghost use Rattle.lab_statement.specs.Ranges.{RowInRange, ValueInRange};
 ghost use Rattle.lab_statement.specs.Sink.{Puts};
 
 use crate::sink::Sink;
@@ -28,7 +30,8 @@ pub fn put_natural<S: Sink>(out: &mut S, n: u32) -> Result<(), S::Refusal>
 
 /// Puts what stands before a row of a table: its name and a space, and nothing for `test`.
 pub fn put_table_name<S: Sink>(out: &mut S, table: TableName) -> Result<(), S::Refusal>
-    ensures { Puts S.kept S.limit result (S.text out.old) (printed_table_name table) (S.text out.new) }
+    ensures name { OnOk result (is_table_name table ≡ true) }
+    ensures text { Puts S.kept S.limit result (S.text out.old) (printed_table_name table) (S.text out.new) }
 {
     if table == TableName::test() {
         return Ok(());
@@ -81,6 +84,7 @@ fn write_number(text: &mut [u8; ROW_BYTES], end: usize, n: i64) -> usize
 
 /// Writes a row to the end of a text, from the back, since a number's last digit is found first. Answers where it starts.
 fn write_row(text: &mut [u8; ROW_BYTES], id: RowId, value: Value) -> usize
+    ensures in_range { RowInRange id × ValueInRange value }
     ensures start { (2 ≤ result) × (result ≤ 48) }
     ensures written { drop result text.new ≡ printed_row id value }
 {
@@ -94,7 +98,8 @@ fn write_row(text: &mut [u8; ROW_BYTES], id: RowId, value: Value) -> usize
 
 /// Puts a row. Its text is built first: one allocation and one copy for it.
 pub fn put_row<S: Sink>(out: &mut S, id: RowId, value: Value) -> Result<(), S::Refusal>
-    ensures { Puts S.kept S.limit result (S.text out.old) (printed_row id value) (S.text out.new) }
+    ensures in_range { RowInRange id × ValueInRange value }
+    ensures text { Puts S.kept S.limit result (S.text out.old) (printed_row id value) (S.text out.new) }
 {
     let mut text = [0; ROW_BYTES];
     let start = write_row(&mut text, id, value);

@@ -1,7 +1,10 @@
 //! The printed form of statements. Each function appends a text; after NoMemory, part of it may stand there.
 
-ghost use Rattle.std.specs.Prelude.{◌≡◌, ◌++◌, ◌||◌, OnOk};
+ghost use Rattle.std.specs.Prelude.{◌≡◌, ◌++◌, ◌||◌, OnOk, true};
+ghost use Rattle.lab_table.specs.TableName.{is_table_name};
 ghost use Rattle.lab_statement.specs.Printed.{printed_col, printed_cmp, joined, printed_numbers, parenthesized, printed_pred, printed_where, printed_expr, is_and, is_or, printed_statement, printed_command};
+ghost use Rattle.lab_statement.specs.Each.{Each};
+ghost use Rattle.lab_statement.specs.Ranges.{ValueInRange, PredInRange, WhereInRange, ExprInRange, StatementInRange, CommandInRange};
 ghost use Rattle.lab_statement.specs.Sink.{Puts};
 
 use crate::row_text::{put_natural, put_number, put_row};
@@ -33,7 +36,8 @@ fn put_cmp<S: Sink>(out: &mut S, cmp: Cmp) -> Result<(), S::Refusal>
 }
 
 fn put_numbers<S: Sink>(out: &mut S, numbers: &[Value]) -> Result<(), S::Refusal>
-    ensures { Puts S.kept S.limit result (S.text out.old) (joined (printed_numbers numbers.now)) (S.text out.new) }
+    ensures in_range { OnOk result (Each ValueInRange numbers.now) }
+    ensures text { Puts S.kept S.limit result (S.text out.old) (joined (printed_numbers numbers.now)) (S.text out.new) }
 {
     let Some((first, rest)) = numbers.split_first() else {
         return Ok(());
@@ -48,7 +52,8 @@ fn put_numbers<S: Sink>(out: &mut S, numbers: &[Value]) -> Result<(), S::Refusal
 
 /// Puts a predicate, in parentheses where it stands enclosed.
 fn put_pred<S: Sink>(out: &mut S, pred: &Pred, enclosed: bool) -> Result<(), S::Refusal>
-    ensures { Puts S.kept S.limit result (S.text out.old) (parenthesized enclosed (printed_pred pred.now)) (S.text out.new) }
+    ensures in_range { OnOk result (PredInRange pred.now) }
+    ensures text { Puts S.kept S.limit result (S.text out.old) (parenthesized enclosed (printed_pred pred.now)) (S.text out.new) }
 {
     if enclosed {
         out.put(b"(")?;
@@ -106,7 +111,8 @@ pub fn is_joined(pred: &Pred) -> bool
 }
 
 fn put_where<S: Sink>(out: &mut S, pred: &Option<Pred>) -> Result<(), S::Refusal>
-    ensures { Puts S.kept S.limit result (S.text out.old) (printed_where pred.now) (S.text out.new) }
+    ensures in_range { OnOk result (WhereInRange pred.now) }
+    ensures text { Puts S.kept S.limit result (S.text out.old) (printed_where pred.now) (S.text out.new) }
 {
     match pred {
         None => Ok(()),
@@ -118,7 +124,8 @@ fn put_where<S: Sink>(out: &mut S, pred: &Option<Pred>) -> Result<(), S::Refusal
 }
 
 fn put_expr<S: Sink>(out: &mut S, expr: Expr) -> Result<(), S::Refusal>
-    ensures { Puts S.kept S.limit result (S.text out.old) (printed_expr expr) (S.text out.new) }
+    ensures in_range { OnOk result (ExprInRange expr) }
+    ensures text { Puts S.kept S.limit result (S.text out.old) (printed_expr expr) (S.text out.new) }
 {
     match expr {
         Expr::Set(n) => put_number(out, n.number()),
@@ -135,7 +142,8 @@ fn put_expr<S: Sink>(out: &mut S, expr: Expr) -> Result<(), S::Refusal>
 
 /// Puts words and the name of a table.
 fn put_words<S: Sink>(out: &mut S, words: &[u8], table: TableName) -> Result<(), S::Refusal>
-    ensures { Puts S.kept S.limit result (S.text out.old) (words.now ++ table) (S.text out.new) }
+    ensures name { OnOk result (is_table_name table ≡ true) }
+    ensures text { Puts S.kept S.limit result (S.text out.old) (words.now ++ table) (S.text out.new) }
 {
     out.put(words)?;
     out.put(table.as_bytes())
@@ -143,7 +151,9 @@ fn put_words<S: Sink>(out: &mut S, words: &[u8], table: TableName) -> Result<(),
 
 /// Puts a statement.
 pub fn put_statement<S: Sink>(out: &mut S, statement: &Statement) -> Result<(), S::Refusal>
-    ensures { Puts S.kept S.limit result (S.text out.old) (printed_statement statement.now) (S.text out.new) }
+    // Their types keep the numbers in range: where each was put, that is known of the statement.
+    ensures in_range { OnOk result (StatementInRange statement.now) }
+    ensures text { Puts S.kept S.limit result (S.text out.old) (printed_statement statement.now) (S.text out.new) }
 {
     let table = statement.table;
     match &statement.kind {
@@ -171,7 +181,8 @@ pub fn put_statement<S: Sink>(out: &mut S, statement: &Statement) -> Result<(), 
 
 /// Appends a command.
 pub fn put_command(out: &mut Vec<u8>, command: &Command) -> Result<(), NoMemory>
-    ensures { OnOk result (out.new.items ≡ out.old.items ++ printed_command command.now) }
+    ensures in_range { OnOk result (CommandInRange command.now) }
+    ensures text { OnOk result (out.new.items ≡ out.old.items ++ printed_command command.now) }
 {
     match command {
         Command::Begin => out.extend_from_slice(b"begin"),

@@ -4,13 +4,13 @@ ghost use Rattle.std.specs.Prelude.{◌≡◌, nat_le, true, false, length, OnOk
 ghost use Rattle.lab_statement.specs.Grammar.{over};
 ghost use Rattle.lab_statement.specs.Limits.{max_statement_bytes};
 ghost use Rattle.lab_statement.specs.Printed.{printed_statement};
-ghost use Rattle.lab_statement.specs.declared.refusal.GrammarFault.TheVariants.{TooLong};
+ghost use Rattle.lab_statement.specs.declared.fault.ScriptFaultKind.TheVariants.{TooLong};
 ghost use Rattle.lab_statement.specs.Stopping.{Comes};
 ghost use Rattle.lab_statement.specs.FirstFaults.{delete_read, end_read, expr_read, insert_read, select_read, statement_read, update_read, whole_statement_read};
 
+use crate::fault::{Refusal, ScriptFaultKind};
 use crate::fits::statement_fits;
 use crate::parser::Parser;
-use crate::refusal::{GrammarFault, Refusal};
 use crate::token::{Token, Word};
 use lab_table::{Expr, Statement, StatementKind, TableName};
 use std::alloc::Global;
@@ -126,7 +126,7 @@ impl Parser<'_> {
             None => Ok(()),
             Some((first, rest)) => {
                 if *first != Token::Semicolon {
-                    return Err(Refusal::Fault(GrammarFault::UnknownStatement));
+                    return Err(Refusal::Fault(ScriptFaultKind::UnknownStatement));
                 }
                 self.rest = rest;
                 Ok(())
@@ -143,7 +143,7 @@ fn over(table: TableName, kind: StatementKind) -> Statement
 }
 
 /// The printed form is as short as it must be.
-#[tactic(auto, using(crate::proofs::TokenNumbers::same_test))]
+#[tactic(auto, using(crate::proofs::Tests::same_test))]
 pub fn check_length(statement: &Statement) -> Result<(), Refusal>
     ensures short { OnOk result (nat_le (length (printed_statement statement.now)) max_statement_bytes ≡ true) }
     ensures long { IfErr result (λ e. (e ≡ Refusal.Fault TooLong) × (nat_le (length (printed_statement statement.now)) max_statement_bytes ≡ false)) }
@@ -151,6 +151,6 @@ pub fn check_length(statement: &Statement) -> Result<(), Refusal>
     if statement_fits(statement) {
         Ok(())
     } else {
-        Err(Refusal::Fault(GrammarFault::TooLong))
+        Err(Refusal::Fault(ScriptFaultKind::TooLong))
     }
 }

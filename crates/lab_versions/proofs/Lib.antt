@@ -1,1 +1,2 @@
-pub mod Conflicts
+mod LeastTaken
+mod Conflicts

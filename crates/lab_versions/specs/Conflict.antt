@@ -1,11 +1,22 @@
--- Rows that a transaction wrote and that others have installed since its begin.
-use Rattle.std.specs.Prelude.{ℕ, Option, None, option_map, List, [], ◌∷◌}
-use Rattle.std.specs.Option.{option_or}
-use Rattle.lab_table.specs.Row.{Row}
+-- The least of a transaction's rows that others have installed since its begin.
+use Rattle.std.specs.Prelude.{◌≡◌, ℕ, Bool, true, Option, Some, None, List, IsTrue}
+use Rattle.std.specs.List.{list_any}
+use Rattle.std.specs.Ordering.{is_lt}
+use Rattle.lab_table.specs.Row.{Row, row_cmp, row_eq}
 use Rattle.lab_engine.specs.declared.rules.Conflict.{Conflict}
-use Rattle.lab_engine.specs.Log.{Version}
+use Rattle.lab_engine.specs.Rules.{IsBelow}
 
--- the first row of a list of versions that somebody has taken, with who took it
-abbrev pub first_taken : (Row → Option ℕ) → List (Row × Version) → Option Conflict
-first_taken taken [] = None
-first_taken taken (e ∷ es) = option_or (option_map (λ by. record { row = e.0; by = by }) (taken e.0)) (first_taken taken es)
+-- a row is one of some rows
+abbrev pub IsAmong : Row → List Row → Type 0
+IsAmong row rows = IsTrue (list_any (row_eq row) rows)
+
+-- the least of some rows that somebody has taken, with who took it; none where nobody has taken any
+abbrev pub IsLeastTaken : (Row → Option ℕ) → List Row → Option Conflict → Type 0
+IsLeastTaken taken rows None = (row : Row) → IsAmong row rows → taken row ≡ None
+IsLeastTaken taken rows (Some least) = IsAmong least.row rows × (taken least.row ≡ Some least.by)
+    × ((row : Row) → IsBelow row least.row → IsAmong row rows → taken row ≡ None)
+
+-- whether a row comes before the one that was found, if one was
+abbrev pub comes_before : Row → Option Conflict → Bool
+comes_before row None = true
+comes_before row (Some found) = is_lt (row_cmp row found.row)

@@ -2,7 +2,9 @@
 
 ghost use Rattle.lab_engine.specs.declared.event.Level.TheVariants.{Committed};
 
-use lab_engine::{Conflict, Journal, Level, Rules, RunningTxn, Situation, Versions, holds_write};
+use lab_engine::{
+    Conflict, Journal, Level, Rules, RunningTxn, SessionSet, Situation, writers_in_way,
+};
 use lab_table::{Session, Statement, Table};
 
 /// A statement is blocked by those that have written a row that it would write; each commit is let through.
@@ -16,15 +18,22 @@ impl Rules for CommittedRules {
         Level::Committed
     }
 
-    fn blocks(
+    fn blockers(
         &self,
         setup: &Table,
         situation: &Situation,
-        seen: &Versions,
+        session: Session,
+        running: &RunningTxn,
         statement: &Statement,
-        holder: &RunningTxn,
-    ) -> bool {
-        holds_write(seen, statement, holder)
+    ) -> SessionSet {
+        writers_in_way(
+            Level::Committed,
+            setup,
+            situation,
+            session,
+            running,
+            statement,
+        )
     }
 
     fn conflict(&self, situation: &Situation, session: Session) -> Option<Conflict> {

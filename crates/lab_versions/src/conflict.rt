@@ -1,22 +1,35 @@
 //! Which row of a transaction another one was the first to install since its begin.
 
 ghost use Rattle.std.specs.Prelude.{◌≡◌};
-ghost use Rattle.std.specs.FinMap as map;
-ghost use Rattle.lab_engine.specs.Chains.{chain_in, first_since};
-ghost use Rattle.lab_versions.specs.Conflict.{first_taken};
+ghost use Rattle.lab_engine.specs.Chains.{first_since};
+ghost use Rattle.lab_engine.specs.KeptRows.{chain_in};
+ghost use Rattle.lab_versions.specs.Conflict.{IsLeastTaken, comes_before};
 
-use lab_engine::{Chains, Conflict, Versions};
+use lab_engine::{Conflict, RowStates};
+use lab_table::RowName;
+
+/// Whether a row comes before the one that was found, if one was.
+fn is_before(row: RowName, found: &Option<Conflict>) -> bool
+    ensures { result ≡ comes_before row found.now }
+{
+    match found {
+        Some(conflict) => row < conflict.row,
+        None => true,
+    }
+}
 
 /// The least of these rows that somebody installed by a commit with at least so many events before it, and who was the
 /// first to do so; None where nobody did.
-pub fn first_conflict(own: &Versions, chains: &Chains, before: usize) -> Option<Conflict>
-    ensures { result ≡ first_taken (λ row. first_since before (chain_in chains.now row)) (map.entries own.now) }
+pub fn first_conflict(written: &[RowName], rows: &RowStates, before: usize) -> Option<Conflict>
+    ensures { IsLeastTaken (λ row. first_since before (chain_in rows.now row)) written.now result }
 {
-    let entries = own.entries();
-    for entry in entries {
-        if let Some(by) = chains.first_since(entry.0, before) {
-            return Some(Conflict { row: entry.0, by });
+    let mut least = None;
+    for row in written {
+        if is_before(*row, &least) {
+            if let Some(by) = rows.first_since(*row, before) {
+                least = Some(Conflict { row: *row, by });
+            }
         }
     }
-    None
+    least
 }

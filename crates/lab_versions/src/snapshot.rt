@@ -3,7 +3,7 @@
 ghost use Rattle.lab_engine.specs.declared.event.Level.TheVariants.{Snapshot};
 
 use crate::conflict::first_conflict;
-use lab_engine::{Conflict, Journal, Level, Rules, RunningTxn, Situation, Versions};
+use lab_engine::{Conflict, Journal, Level, Rules, RunningTxn, SessionSet, Situation};
 use lab_table::{Session, Statement, Table};
 
 /// Nobody blocks a statement; a commit conflicts where a row that it wrote was installed by another since its begin.
@@ -17,20 +17,20 @@ impl Rules for SnapshotRules {
         Level::Snapshot
     }
 
-    fn blocks(
+    fn blockers(
         &self,
         setup: &Table,
         situation: &Situation,
-        seen: &Versions,
+        session: Session,
+        running: &RunningTxn,
         statement: &Statement,
-        holder: &RunningTxn,
-    ) -> bool {
-        false
+    ) -> SessionSet {
+        SessionSet::none()
     }
 
     fn conflict(&self, situation: &Situation, session: Session) -> Option<Conflict> {
         let running = situation.running(session)?;
-        first_conflict(&running.last, &situation.chains, running.before)
+        first_conflict(&running.written, &situation.rows, running.before)
     }
 }
 

@@ -11,9 +11,10 @@ ghost use Rattle.lab_history_file.specs.Format.{at_key};
 
 use super::keys::items_at;
 use crate::entry::Entry;
+use crate::fault::required;
 use crate::file_version::FileVersion;
-use crate::member::{required, sized_parts, split_key};
-use lab_history::{FileFault, ListPlace, Path, Refusal, State, follows};
+use crate::member::{MemberPlace, sized_parts, split_key};
+use lab_history::{FileFault, ListPlace, Path, State, follows};
 use lab_table::RowName;
 use serde_json::Value as Json;
 use std::alloc::Global;
@@ -22,18 +23,15 @@ use std::alloc::Global;
 #[inline(always)]
 fn entry_of<E: Entry>(
     alloc: Global,
-    version: FileVersion,
-    place: ListPlace,
-    index: usize,
+    place: MemberPlace,
     json: &Json,
-) -> Result<(RowName, E), Refusal>
-    ensures { Gives (λ entry. entry) result (entry_in E.PARTS E.read version place index (view json.now)) }
+) -> Result<(RowName, E), FileFault>
+    ensures { Gives (λ entry. entry) result (entry_in E.PARTS E.read place.version place.list place.index (view json.now)) }
 {
-    let path = Path::Member { list: place, index };
-    let parts = required(sized_parts(version, E::PARTS, json), path)?;
-    match split_key(alloc, version, place, index, parts) {
-        Ok((row, behind)) => Ok((row, E::read(alloc, version, place, index, behind)?)),
-        Err(refusal) => Err(refusal),
+    let parts = required(sized_parts(place.version, E::PARTS, json), place.path())?;
+    match split_key(alloc, place, parts) {
+        Ok((row, behind)) => Ok((row, E::read(alloc, place, behind)?)),
+        Err(fault) => Err(fault),
     }
 }
 
@@ -43,20 +41,25 @@ pub fn entries_at<E: Entry>(
     version: FileVersion,
     json: &Json,
     key: &str,
-    place: ListPlace,
-) -> Result<Vec<(RowName, E)>, Refusal>
-    ensures read { Gives (λ entries. entries.items) result (entries_in (entry_in E.PARTS E.read version place) place (at_key key.now (view json.now))) }
+    list: ListPlace,
+) -> Result<Vec<(RowName, E)>, FileFault>
+    ensures read { Gives (λ entries. entries.items) result (entries_in (entry_in E.PARTS E.read version list) list (at_key key.now (view json.now))) }
     ensures rises { IfOk result (λ entries. T (map.is_sorted row_cmp entries.items)) }
 {
-    let members = required(items_at(json, key), Path::List(place))?;
+    let members = required(items_at(json, key), Path::List(list))?;
     let mut entries = Vec::with_capacity(alloc, members.len())?;
     let mut before = None;
     for (index, member) in members.iter().enumerate() {
-        let entry = entry_of(alloc, version, place, index, member)?;
+        let place = MemberPlace {
+            version,
+            list,
+            index,
+        };
+        let entry = entry_of(alloc, place, member)?;
         if !follows(&before, &entry.0) {
-            return Err(Refusal::Fault(FileFault::Unsorted {
-                path: Path::List(place),
-            }));
+            return Err(FileFault::Unsorted {
+                path: Path::List(list),
+            });
         }
         before = Some(entry.0);
         entries.push(entry)?;
@@ -70,10 +73,10 @@ pub fn writes_at(
     version: FileVersion,
     json: &Json,
     key: &str,
-    place: ListPlace,
-) -> Result<Vec<(RowName, State)>, Refusal>
-    ensures read { Gives (λ entries. new_states entries.items) result (writes_in version place (at_key key.now (view json.now))) }
+    list: ListPlace,
+) -> Result<Vec<(RowName, State)>, FileFault>
+    ensures read { Gives (λ entries. new_states entries.items) result (writes_in version list (at_key key.now (view json.now))) }
     ensures rises { IfOk result (λ entries. T (map.is_sorted row_cmp (new_states entries.items))) }
 {
-    entries_at(alloc, version, json, key, place)
+    entries_at(alloc, version, json, key, list)
 }

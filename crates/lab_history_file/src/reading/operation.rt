@@ -10,9 +10,9 @@ ghost use Rattle.lab_history.specs.Limits.{max_operations};
 
 use super::keys::{has_keys, text_at};
 use super::lists::{entries_at, writes_at};
+use crate::fault::{required, wrong};
 use crate::file_version::FileVersion;
-use crate::refusal::wrong;
-use lab_history::{FileFault, ListPlace, Op, Ops, Path, Refusal, Rows, View, Writes};
+use lab_history::{FileFault, ListPlace, Op, Ops, Path, Rows, View, Writes};
 use lab_statement::{ScriptFault, parse_statement};
 use lab_table::{NoMemory, Statement, TableName, TxnNo};
 use serde_json::Value as Json;
@@ -62,21 +62,19 @@ fn op_of(
     number: TxnNo,
     op: usize,
     json: &Json,
-) -> Result<Op, Refusal>
+) -> Result<Op, FileFault>
     requires { op < max_operations }
     ensures { Gives (λ read. read) result (op_in version txn number op (view json.now)) }
 {
     if !has_keys(json, &["rows", "statement", "view", "writes"]) {
         return Err(wrong(Path::Operation { txn, op }));
     }
-    let Some(text) = text_at(json, "statement") else {
-        return Err(wrong(Path::Statement { txn, op }));
-    };
+    let text = required(text_at(json, "statement"), Path::Statement { txn, op })?;
     let Some(statement) = statement_of(alloc, version, text)? else {
-        return Err(Refusal::Fault(FileFault::BadStatement {
+        return Err(FileFault::BadStatement {
             txn: number,
             op: op as u32 + 1,
-        }));
+        });
     };
     let view = entries_at(alloc, version, json, "view", ListPlace::View { txn, op })?;
     let rows = entries_at(alloc, version, json, "rows", ListPlace::Rows { txn, op })?;
@@ -103,7 +101,7 @@ pub fn ops_of(
     txn: usize,
     number: TxnNo,
     items: &[Json],
-) -> Result<Ops, Refusal>
+) -> Result<Ops, FileFault>
     requires { length items.now ≤ max_operations }
     ensures read { Gives (λ ops. ops) result (ops_from version txn number 0 (items_view items.now)) }
     ensures count { IfOk result (λ ops. length ops ≡ length items.now) }

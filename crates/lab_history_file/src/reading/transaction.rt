@@ -12,12 +12,10 @@ ghost use Rattle.lab_history.specs.Limits.{max_operations};
 use super::earlier::Earlier;
 use super::keys::{has_keys, items_at, text_at};
 use super::operation::ops_of;
-use crate::entry::txn_of;
+use crate::fault::{required, wrong};
 use crate::file_version::FileVersion;
-use crate::refusal::wrong;
-use lab_history::{
-    FileFault, Limit, MAX_OPERATIONS, MAX_TRANSACTIONS, Outcome, Path, Refusal, Txn, Txns, over,
-};
+use crate::part::Part;
+use lab_history::{FileFault, Limit, MAX_OPERATIONS, MAX_TRANSACTIONS, Outcome, Path, Txn, Txns};
 use lab_table::TxnNo;
 use serde_json::Value as Json;
 use std::alloc::Global;
@@ -26,7 +24,7 @@ use std::alloc::Global;
 fn number_of(json: &Json) -> Option<TxnNo>
     ensures { result ≡ txn_in_number (at_key (codes "no") (view json.now)) }
 {
-    txn_of(json.get("no")?)
+    TxnNo::from_json(json.get("no")?)
 }
 
 /// How a transaction ended.
@@ -51,27 +49,23 @@ fn transaction_of(
     earlier: &Earlier,
     index: usize,
     json: &Json,
-) -> Result<Txn, Refusal>
+) -> Result<Txn, FileFault>
     ensures read { Gives (λ txn. txn) result (txn_in version earlier.now index (view json.now)) }
     ensures few { IfOk result (λ txn. length (operations earlier.now) + length txn.ops ≤ max_operations) }
 {
     if !has_keys(json, &["no", "ops", "outcome"]) {
         return Err(wrong(Path::Transaction { txn: index }));
     }
-    let Some(no) = number_of(json) else {
-        return Err(wrong(Path::Number { txn: index }));
-    };
+    let no = required(number_of(json), Path::Number { txn: index })?;
     if earlier.has(no) {
-        return Err(Refusal::Fault(FileFault::RepeatedTxn { no }));
+        return Err(FileFault::RepeatedTxn { no });
     }
-    let Some(outcome) = outcome_of(json) else {
-        return Err(wrong(Path::Outcome { txn: index }));
-    };
-    let Some(items) = items_at(json, "ops") else {
-        return Err(wrong(Path::Operations { txn: index }));
-    };
+    let outcome = required(outcome_of(json), Path::Outcome { txn: index })?;
+    let items = required(items_at(json, "ops"), Path::Operations { txn: index })?;
     if earlier.operations() + items.len() > MAX_OPERATIONS {
-        return Err(over(Limit::Operations));
+        return Err(FileFault::OverLimit {
+            which: Limit::Operations,
+        });
     }
     let ops = ops_of(alloc, version, index, no, items)?;
     Ok(Txn { no, outcome, ops })
@@ -79,14 +73,14 @@ fn transaction_of(
 
 /// The transactions of a history.
 #[tactic(auto, using(crate::proofs::TxnsRead::txn_read, crate::proofs::TxnsRead::txn_fault, crate::proofs::TxnsRead::txns_end, crate::proofs::Counts::items_count))]
-pub fn txns_of(alloc: Global, version: FileVersion, json: &Json) -> Result<Txns, Refusal>
+pub fn txns_of(alloc: Global, version: FileVersion, json: &Json) -> Result<Txns, FileFault>
     ensures { Gives (λ txns. txns) result (txns_in version (at_key (codes "transactions") (view json.now))) }
 {
-    let Some(items) = items_at(json, "transactions") else {
-        return Err(wrong(Path::Transactions));
-    };
+    let items = required(items_at(json, "transactions"), Path::Transactions)?;
     if items.len() > MAX_TRANSACTIONS {
-        return Err(over(Limit::Transactions));
+        return Err(FileFault::OverLimit {
+            which: Limit::Transactions,
+        });
     }
     let mut txns = Earlier::with_capacity(alloc, items.len())?;
     for (index, item) in items.iter().enumerate() {

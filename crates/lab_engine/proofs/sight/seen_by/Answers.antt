@@ -2,19 +2,27 @@ use Rattle.std.specs.Prelude.{◌≡◌, Option, None, unwrap_or, option_and_the
 use Rattle.std.specs.Option.{option_or}
 use Rattle.std.proofs.Common.{◌∙◌, ap, sym, subst}
 use Rattle.std.specs.FinMap.{get}
+use Rattle.std.proofs.lemmas.Result.{IfOk-weaker}
+use Rattle.lab_engine.specs.Chains.{last_before}
+use Rattle.lab_engine.specs.KeptRows.{chain_in, pending_in}
 use Rattle.lab_engine.specs.Log.{Version, commits, version_by, last_installed, sight, seen}
 use Rattle.lab_engine.specs.Sight.{initially, matching_version, IsShown}
+use Rattle.lab_engine.proofs.SeenRows.{found_is}
 use Rattle.lab_engine.proofs.Shown.{first_shown}
 use Rattle.lab_engine.proofs.sight.seen_by.Goals as goal
 
 pub returns : goal.returns
-returns c past session txn describes is_active running row =
+returns c past txn describes is_active running =
+    IfOk-weaker c.over_matching.result _ _ (λ made is row.
     let s = c.args.statement.now in
+    let rows = c.args.situation.now.rows in
     let own : Option Version = version_by txn row in
     let installed : Option Version = last_installed (commits (sight c.args.level past txn)) row in
     let initial : Option Version = option_and_then (matching_version s row) (get c.args.setup.now row) in
-    let found : get c.overlay.new.self row ≡ option_or own (option_or installed initial) =
-    c.in_ok-overlay.ensures row
-    ∙ ap (λ o. option_or o (get c.in_ok-seen.seen row)) (running.last row)
-    ∙ ap (option_or own) (c.in_ok-seen.ensures past session txn describes is_active running row) in
-    subst (λ o. IsShown s row (unwrap_or o (initially None)) (seen c.args.level c.args.setup.now past txn row)) (sym found) (first_shown s row own installed (get c.args.setup.now row))
+    let found : get made row ≡ option_or (option_or own installed) initial =
+    is row
+    ∙ ap (λ o. option_or o initial) (c.in_ok-versions.ensures row
+    ∙ ap (λ n. option_or (pending_in rows row c.args.session) (last_before n (chain_in rows row))) c.place_seen-place.ensures
+    ∙ found_is past c.args.situation.now c.args.session txn c.args.running.now describes is_active running c.args.level row) in
+    subst (λ o. IsShown s row (unwrap_or o (initially None)) (seen c.args.level c.args.setup.now past txn row)) (sym found) (first_shown s row own installed (get c.args.setup.now row)))
+    c.over_matching.ensures

@@ -2,8 +2,7 @@ use Rattle.std.proofs.Common.{◌≡◌, sym, subst, ◌∙◌}
 use Rattle.std.specs.Prelude.{Some}
 use Rattle.lab_engine.specs.Log.{Txn, active, waiting}
 use Rattle.lab_engine.specs.Situation.{Agree, IsRunning}
-use Rattle.lab_engine.specs.Sight.{ShowsWritten}
-use Rattle.lab_engine.proofs.Waiting.{running_txn, waits_on_blocking}
+use Rattle.lab_engine.proofs.Waiting.{running_txn, others_block, waits_on_blocking}
 use Rattle.lab_engine.proofs.waits.waits_on.Goals as goal
 
 pub returns : goal.returns
@@ -12,6 +11,5 @@ returns g c = λ past d described.
     running_txn past c.args.state.now.session c.in-Some-running.running (subst (Agree (active past c.args.state.now.session)) c.in-Some-running.is described.running) in
     let waits : waiting past c.args.state.now.session ≡ Some c.in-Some.statement =
     sym described.waits ∙ c.in-Some.is in
-    let shows : ShowsWritten g.R.Rules.kind c.args.setup.now past txn.0 c.in-Some.statement c.in_ok-seen.seen =
-    subst (λ level. ShowsWritten level c.args.setup.now past txn.0 c.in-Some.statement c.in_ok-seen.seen) c.level.ensures (c.in_ok-seen.ensures past c.args.state.now.session txn.0 d txn.1 txn.2) in
-    waits_on_blocking g.R.Rules.kind c.args.setup.now past c.args.state.now.session c.in-Some.statement c.blocking.result waits (c.blocking.ensures past txn.0 d txn.1 shows)
+    waits_on_blocking g.R.Rules.kind c.args.setup.now past c.args.state.now.session c.in-Some.statement c.blockers.result waits
+    (others_block g.R.Rules.kind c.args.setup.now past c.args.state.now.session c.in-Some.statement txn.0 c.blockers.result txn.1 (c.blockers.ensures past txn.0 d txn.1 txn.2))

@@ -1,8 +1,7 @@
-use Rattle.std.proofs.Common.{◌≡◌, ◌≤◌, ◌<◌, ◌+◌, [], length, take, sym, ap, subst, ◌∙◌, arith}
+use Rattle.std.proofs.Common.{◌≡◌, ◌≤◌, ◌<◌, ◌+◌, inr, [], length, take, sym, ap, ◌∙◌, arith}
 use Rattle.std.proofs.lemmas.Grind.{common_steps}
 use Rattle.std.specs.Ordering.{nat_cmp}
 use Rattle.std.specs.BTreeSet.{contains}
-use Rattle.lab_history.specs.Faults.{Refuses}
 use Rattle.lab_history.specs.HistoryRules.{operations}
 use Rattle.lab_history.specs.FirstPartsFault.{ops_checked, txns_checked}
 use Rattle.lab_history.specs.declared.fault.FileFault.TheVariants as fault
@@ -16,7 +15,7 @@ returns-then-not-branch c =
     let i = c.loop-index.index in
     let t = c.index-txns-index.result in
     let met = sym (c.loop-index.invariant.1 t.no) ∙ was_there (contains nat_cmp c.loop-index.numbers t.no) c.in_ok-insert.field-0 c.in_ok-insert.ensures.added c.if-not-branch.true in
-    sym c.loop-index.invariant.0 ∙ walk_stops ts i t c.loop-index-test.true c.index-txns-index.is (fault.RepeatedTxn t.no) (repeated (take i ts) i t met)
+    inr (sym c.loop-index.invariant.0 ∙ walk_stops ts i t c.loop-index-test.true c.index-txns-index.is (fault.RepeatedTxn t.no) (repeated (take i ts) i t met))
 
 pub returns-then-ops-operations : goal.returns-then-ops-operations
 returns-then-ops-operations c =
@@ -26,8 +25,7 @@ returns-then-ops-operations c =
     let new = sym (c.loop-index.invariant.1 t.no) ∙ was_absent (contains nat_cmp c.loop-index.numbers t.no) c.in_ok-insert.field-0 c.in_ok-insert.ensures.added c.if-not-branch.false in
     let ops : c.as_slice-ops.result.now ≡ t.ops = c.as_slice-ops.ensures in
     let many : 10000 < length (operations (take i ts)) + length t.ops = omega (arith, c.if-ops-operations.true, ap length ops, c.loop-index.invariant.2, c.loop-index.invariant.3) in
-    subst (λ r. Refuses r (txns_checked [] 0 ts)) (sym c.over.ensures)
-    (sym c.loop-index.invariant.0 ∙ walk_stops ts i t c.loop-index-test.true c.index-txns-index.is (fault.OverLimit limit.Operations) (too_many (take i ts) i t new many))
+    inr (sym c.loop-index.invariant.0 ∙ walk_stops ts i t c.loop-index-test.true c.index-txns-index.is (fault.OverLimit limit.Operations) (too_many (take i ts) i t new many))
 
 pub returns-in_err-check_ops : goal.returns-in_err-check_ops
 returns-in_err-check_ops c =

@@ -1,8 +1,6 @@
-use Rattle.std.proofs.Common.{◌≤◌, ◌<◌, ◌∙◌, sym, ap, subst}
+use Rattle.std.proofs.Common.{◌≤◌, ◌<◌, ◌∙◌, inr, sym, ap}
 use Rattle.std.proofs.lemmas.Bool.{leb-true, leb-false}
-use Rattle.lab_history.specs.Faults.{Refuses}
 use Rattle.lab_history.specs.HistoryRules.{named_tables, distinct_tables, named_rows, distinct_rows}
-use Rattle.lab_history.specs.WithinLimits.{within_limits}
 use Rattle.lab_history.specs.RunningCounts.{txns_counted}
 use Rattle.lab_history.proofs.LimitsKept.{entries_within, entries_over, ids_over, tables_over}
 use Rattle.lab_history.proofs.limits.check_limits.Goals as goal
@@ -11,14 +9,14 @@ pub returns-then-not-has_few_tables : goal.returns-then-not-has_few_tables
 returns-then-not-has_few_tables c =
     let parts = c.args.parts.now in
     let many : 4 < distinct_tables (named_tables parts) = leb-false (distinct_tables (named_tables parts)) 4 (sym c.has_few_tables.ensures ∙ c.if-not-has_few_tables.true) in
-    subst (λ s. Refuses s (within_limits parts)) (sym c.over.ensures) (tables_over parts many)
+    inr (tables_over parts many)
 
 pub returns-then-not-branch : goal.returns-then-not-branch
 returns-then-not-branch c =
     let parts = c.args.parts.now in
     let tables : distinct_tables (named_tables parts) ≤ 4 = leb-true (distinct_tables (named_tables parts)) 4 (sym c.has_few_tables.ensures ∙ c.if-not-has_few_tables.false) in
     let many : 1000 < distinct_rows (named_rows parts) = leb-false (distinct_rows (named_rows parts)) 1000 (sym c.in_ok-has_few_ids.ensures ∙ c.if-not-branch.true) in
-    subst (λ s. Refuses s (within_limits parts)) (sym c.over-then-not-branch.ensures) (ids_over parts tables many)
+    inr (ids_over parts tables many)
 
 pub returns-in-Some : goal.returns-in-Some
 returns-in-Some c =
@@ -32,4 +30,4 @@ returns-in-None c =
     let parts = c.args.parts.now in
     let tables : distinct_tables (named_tables parts) ≤ 4 = leb-true (distinct_tables (named_tables parts)) 4 (sym c.has_few_tables.ensures ∙ c.if-not-has_few_tables.false) in
     let ids : distinct_rows (named_rows parts) ≤ 1000 = leb-true (distinct_rows (named_rows parts)) 1000 (sym c.in_ok-has_few_ids.ensures ∙ c.if-not-branch.false) in
-    subst (λ s. Refuses s (within_limits parts)) (sym c.over-in-None.ensures) (entries_over parts tables ids (sym (c.count_txns.ensures ∙ ap (txns_counted 0) c.as_slice.ensures) ∙ c.in-None.is))
+    inr (entries_over parts tables ids (sym (c.count_txns.ensures ∙ ap (txns_counted 0) c.as_slice.ensures) ∙ c.in-None.is))

@@ -1,9 +1,9 @@
 use Rattle.std.proofs.Common.{◌≤◌, length, arith}
+use Rattle.std.proofs.lemmas.Bool.Decides.{nat_tests}
 use Rattle.std.proofs.lemmas.Result.{err_from_is_err_and}
 use Rattle.lab_script.specs.FirstFaults.{commands_read}
 use Rattle.lab_script.proofs.ReadCommands.{step_fits, step_short}
 use Rattle.lab_script.proofs.StoppedCommands.{steps_start, start_stops, steps_on, step_stops, steps_end}
-use Rattle.lab_statement.proofs.TokenNumbers.{some_left, none_left}
 use Rattle.lab_script.proofs.command.commands.Goals as goal
 
 pub loop-alloc-init : goal.loop-alloc-init
@@ -24,7 +24,7 @@ pub loop-alloc-preserved : goal.loop-alloc-preserved
 loop-alloc-preserved c =
     let i = c.loop-alloc.invariant in
     let s = i.so_far in
-    let some : 1 ≤ length c.loop-alloc.parser = some_left c.is_done.result _ c.is_done.ensures c.loop-alloc-test.true in
+    let some : 1 ≤ length c.loop-alloc.parser = grind (arith, nat_tests, c.is_done.ensures, c.loop-alloc-test.true) in
     record {
       fits = step_fits c.args.room c.loop-alloc.commands.items c.step-in-loop-alloc.new.commands.items c.loop-alloc.parser c.step-in-loop-alloc.new.parser c.in_ok-step-2.ensures i.fits;
       so_far =
@@ -36,11 +36,11 @@ pub returns-in_err-step-2 : goal.returns-in_err-step-2
 returns-in_err-step-2 c =
     let p = err_from_is_err_and c.from_residual-in_err-step-2.result c.from_residual-in_err-step-2.ensures.1 in
     let s = c.loop-alloc.invariant.so_far in
-    let some : 1 ≤ length c.loop-alloc.parser = some_left c.is_done.result _ c.is_done.ensures c.loop-alloc-test.true in
+    let some : 1 ≤ length c.loop-alloc.parser = grind (arith, nat_tests, c.is_done.ensures, c.loop-alloc-test.true) in
     rw (p.1, p.2) (step_stops s.0 c.args.room c.loop-alloc.commands.items c.in_err-step-2.field-0.0 c.loop-alloc.parser c.step-in-loop-alloc.new.parser
     (commands_read c.args.room c.args.parser.now) some s.1 s.2 c.in_err-step-2.ensures)
 
 pub returns : goal.returns
 returns c =
     let s = c.loop-alloc.invariant.so_far in
-    steps_end s.0 c.args.room c.loop-alloc.commands.items c.loop-alloc.parser (commands_read c.args.room c.args.parser.now) (none_left c.is_done.result _ c.is_done.ensures c.loop-alloc-test.false) s.2
+    steps_end s.0 c.args.room c.loop-alloc.commands.items c.loop-alloc.parser (commands_read c.args.room c.args.parser.now) (grind (arith, nat_tests, c.is_done.ensures, c.loop-alloc-test.false)) s.2

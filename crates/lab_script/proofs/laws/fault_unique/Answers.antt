@@ -1,5 +1,5 @@
 use Rattle.lab_script.proofs.OneFault.{one_fault}
-use Rattle.lab_script.proofs.OneStatementFault.{one_statement_fault}
+use Rattle.lab_statement.proofs.OneStatementFault.{one_statement_fault}
 use Rattle.lab_script.proofs.laws.fault_unique.Goals as goal
 
 pub returns : goal.returns

@@ -1,10 +1,13 @@
 use Rattle.std.proofs.Common.{◌≡◌, ◌++◌, drop, flat_map}
 use Rattle.lab_script.specs.Printed.{printed_line}
+use Rattle.lab_statement.specs.Each.{Each}
+use Rattle.lab_script.specs.Ranges.{LineInRange}
 use Rattle.lab_script.specs.Limits.{AllPrint}
 use Rattle.lab_script.proofs.print.print_script.Given as goal
 
 abbrev pub invariant-loop-line : goal.invariant-loop-line
 invariant-loop-line l = record {
+  in_range : Each LineInRange (drop l.line-index l.lines) → Each LineInRange l.lines;
   text : l.text.items ++ flat_map printed_line (drop l.line-index l.lines) ≡ l.initial.text.items ++ flat_map printed_line l.lines;
   prints : AllPrint (drop l.line-index l.lines) → AllPrint l.lines;
 }

@@ -1,5 +1,7 @@
-use Rattle.std.proofs.Common.{◌≡◌, ◌∷◌, ◌++◌, map, drop, ap, sym, ◌∙◌, arith, rules}
+use Rattle.std.proofs.Common.{◌≡◌, ◌∷◌, ◌++◌, map, drop, ap, sym, subst, ◌∙◌, arith, rules}
 use Rattle.std.proofs.lemmas.Grind.{common_steps}
+use Rattle.lab_statement.specs.Each.{Each}
+use Rattle.lab_script.specs.Ranges.{EntryInRange}
 use Rattle.lab_statement.specs.Printed.{joined}
 use Rattle.lab_script.specs.Printed.{printed_named_row, printed_named_rows}
 use Rattle.lab_statement.proofs.Joined.{followed}
@@ -14,14 +16,18 @@ loop-row-init g c =
     let rest = c.in-Some.rest.now in
     let whole : c.args.rows.now ≡ first ∷ rest = c.in-Some.ensures.cases.0 in
     let put : g.S.Sink.text c.put_named_row.new.out ≡ old ++ map kept (printed_named_row first.0 first.1) = search rules in
-    first_put kept old (printed_named_row first.0 first.1) (printed_named_rows rest) put ∙ ap (λ rows. old ++ map kept (joined (printed_named_rows rows))) (sym whole)
+    let fit : EntryInRange first = search rules in
+    record {
+      in_range = λ fits. subst (Each EntryInRange) (sym whole) (fit, fits);
+      text = first_put kept old (printed_named_row first.0 first.1) (printed_named_rows rest) put ∙ ap (λ rows. old ++ map kept (joined (printed_named_rows rows))) (sym whole);
+    }
 
 pub returns-in_err-put : goal.returns-in_err-put
 returns-in_err-put g c =
-    let long = same_length g.S.Sink.kept (g.S.Sink.text c.loop-row.out) (followed (printed_named_rows (drop c.loop-row.row-index c.in-Some.rest.now))) (g.S.Sink.text c.args.out.now) (joined (printed_named_rows c.args.rows.now)) c.loop-row.invariant in
+    let long = same_length g.S.Sink.kept (g.S.Sink.text c.loop-row.out) (followed (printed_named_rows (drop c.loop-row.row-index c.in-Some.rest.now))) (g.S.Sink.text c.args.out.now) (joined (printed_named_rows c.args.rows.now)) c.loop-row.invariant.text in
     grind (arith, common_steps, long)
 
 pub returns-in_err-put_named_row-2 : goal.returns-in_err-put_named_row-2
 returns-in_err-put_named_row-2 g c =
-    let long = same_length g.S.Sink.kept (g.S.Sink.text c.loop-row.out) (followed (printed_named_rows (drop c.loop-row.row-index c.in-Some.rest.now))) (g.S.Sink.text c.args.out.now) (joined (printed_named_rows c.args.rows.now)) c.loop-row.invariant in
+    let long = same_length g.S.Sink.kept (g.S.Sink.text c.loop-row.out) (followed (printed_named_rows (drop c.loop-row.row-index c.in-Some.rest.now))) (g.S.Sink.text c.args.out.now) (joined (printed_named_rows c.args.rows.now)) c.loop-row.invariant.text in
     grind (arith, common_steps, long)

@@ -1,9 +1,13 @@
 use Rattle.std.proofs.Common.{◌≡◌, ◌++◌, drop, map}
+use Rattle.lab_statement.specs.Each.{Each}
+use Rattle.lab_script.specs.Ranges.{EntryInRange}
 use Rattle.lab_statement.specs.Printed.{joined}
 use Rattle.lab_script.specs.Printed.{printed_named_rows}
 use Rattle.lab_statement.proofs.Joined.{followed}
 use Rattle.lab_script.proofs.row_text.put_named_rows.Given as goal
 
 abbrev pub invariant-loop-row : goal.invariant-loop-row
-invariant-loop-row g l =
-    g.S.Sink.text l.out ++ map g.S.Sink.kept (followed (printed_named_rows (drop l.row-index l.rest))) ≡ g.S.Sink.text l.fn.out ++ map g.S.Sink.kept (joined (printed_named_rows l.fn.rows))
+invariant-loop-row g l = record {
+  in_range : Each EntryInRange (drop l.row-index l.rest) → Each EntryInRange l.fn.rows;
+  text : g.S.Sink.text l.out ++ map g.S.Sink.kept (followed (printed_named_rows (drop l.row-index l.rest))) ≡ g.S.Sink.text l.fn.out ++ map g.S.Sink.kept (joined (printed_named_rows l.fn.rows));
+}

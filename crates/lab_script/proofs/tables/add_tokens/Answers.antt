@@ -1,7 +1,8 @@
 use Rattle.std.proofs.Common.{◌≡◌, ◌+◌, ◌<◌, ◌∷◌, drop, length, sym, ap, subst, ◌∙◌, arith}
 use Rattle.std.specs.Prelude.{if◌then◌else◌}
 use Rattle.std.proofs.lemmas.List.{drop_more}
-use Rattle.lab_script.specs.PassedTables.{token_table, with_any, is_behind_set, with_tokens}
+use Rattle.lab_script.specs.PassedTables.{token_table, is_behind_set, with_tokens}
+use Rattle.lab_script.specs.Tables.{with_any}
 use Rattle.lab_script.proofs.FewTables.{tokens_longer}
 use Rattle.lab_script.proofs.tables.add_tokens.Goals as goal
 

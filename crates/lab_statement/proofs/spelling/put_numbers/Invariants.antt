@@ -1,8 +1,12 @@
 use Rattle.std.proofs.Common.{◌≡◌, ◌++◌, drop, map}
+use Rattle.lab_statement.specs.Each.{Each}
+use Rattle.lab_statement.specs.Ranges.{ValueInRange}
 use Rattle.lab_statement.specs.Printed.{joined, printed_numbers}
 use Rattle.lab_statement.proofs.Joined.{followed}
 use Rattle.lab_statement.proofs.spelling.put_numbers.Given as goal
 
 abbrev pub invariant-loop-number : goal.invariant-loop-number
-invariant-loop-number g l =
-    g.S.Sink.text l.out ++ map g.S.Sink.kept (followed (printed_numbers (drop l.number-index l.rest))) ≡ g.S.Sink.text l.fn.out ++ map g.S.Sink.kept (joined (printed_numbers l.fn.numbers))
+invariant-loop-number g l = record {
+  in_range : Each ValueInRange (drop l.number-index l.rest) → Each ValueInRange l.fn.numbers;
+  text : g.S.Sink.text l.out ++ map g.S.Sink.kept (followed (printed_numbers (drop l.number-index l.rest))) ≡ g.S.Sink.text l.fn.out ++ map g.S.Sink.kept (joined (printed_numbers l.fn.numbers));
+}

@@ -1,11 +1,9 @@
-use Rattle.std.proofs.Common.{◌≡◌, drop}
-use Rattle.std.specs.FinMap as map
-use Rattle.lab_engine.specs.Chains.{chain_in, first_since}
-use Rattle.lab_versions.specs.Conflict.{first_taken}
+use Rattle.std.proofs.Common.{take}
+use Rattle.lab_engine.specs.Chains.{first_since}
+use Rattle.lab_engine.specs.KeptRows.{chain_in}
+use Rattle.lab_versions.specs.Conflict.{IsLeastTaken}
 use Rattle.lab_versions.proofs.conflict.first_conflict.Given as goal
 
--- the conflict is found among the entries that are left as among all
-abbrev pub invariant-loop-entry : goal.invariant-loop-entry
-invariant-loop-entry l =
-    first_taken (λ row. first_since l.fn.before (chain_in l.chains row)) (drop l.entry-index l.entries)
-    ≡ first_taken (λ row. first_since l.fn.before (chain_in l.chains row)) (map.entries l.own)
+-- the least of the rows so far
+abbrev pub invariant-loop-row : goal.invariant-loop-row
+invariant-loop-row l = IsLeastTaken (λ row. first_since l.before (chain_in l.rows row)) (take l.row-index l.written) l.least

@@ -1,5 +1,4 @@
-use Rattle.std.proofs.Common.{List, ◌∷◌, ◌++◌, [], sym, subst, ap, ◌∙◌}
-use Rattle.std.specs.Prelude.{IfOk}
+use Rattle.std.proofs.Common.{List, ◌∷◌, ◌++◌, [], sym, subst}
 use Rattle.std.proofs.lemmas.Result.{IfOk-weaker}
 use Rattle.lab_engine.specs.Engine.{IsStep}
 use Rattle.lab_engine.specs.Journal.{EngineRun}
@@ -9,12 +8,11 @@ use Rattle.lab_engine.proofs.journal.JournalEngine.step.Goals as goal
 
 pub returns-clause-ok : goal.returns-clause-ok
 returns-clause-ok g c =
-    IfOk-weaker c.append.result _ _
+    IfOk-weaker c.take_in.result _ _
     (λ outcome p.
-    subst (λ (o : Outcome). IsStep g.R.Rules.kind c.args.self.now.setup c.args.self.now.log c.append.new.self.log c.args.session c.args.command.now o) (sym p.3)
-    (subst (λ (new : List LogEvent). IsStep g.R.Rules.kind c.args.self.now.setup c.args.self.now.log new c.args.session c.args.command.now p.0.outcome)
-    (sym (p.2 ∙ ap (λ (k : EngineRun). k.log ++ p.0.event ∷ []) c.ready.ensures.same))
-    (subst (λ (k : EngineRun). IsStep g.R.Rules.kind k.setup k.log (k.log ++ p.0.event ∷ []) c.args.session c.args.command.now p.0.outcome) (c.self.view_is ∙ c.ready.ensures.same)
-    (subst (λ (log : List LogEvent). IsStep g.R.Rules.kind c.self.inside.setup log (log ++ p.0.event ∷ []) c.args.session c.args.command.now p.0.outcome) c.deref.ensures.value
-    (subst (λ r. IfOk r (λ d. IsStep g.R.Rules.kind c.self.inside.setup c.deref.result.now (c.deref.result.now ++ d.event ∷ []) c.args.session c.args.command.now d.outcome)) p.1 c.step_event-decided.ensures.step)))))
-    c.append.ensures.ok
+    subst (λ (o : Outcome). IsStep g.R.Rules.kind c.args.self.now.setup c.args.self.now.log c.take_in.new.self.log c.args.session c.args.command.now o) (sym p.1)
+    (subst (λ (new : List LogEvent). IsStep g.R.Rules.kind c.args.self.now.setup c.args.self.now.log new c.args.session c.args.command.now c.in_ok-decided.decided.outcome) (sym p.0)
+    (subst (λ (k : EngineRun). IsStep g.R.Rules.kind k.setup k.log (k.log ++ c.in_ok-decided.decided.event ∷ []) c.args.session c.args.command.now c.in_ok-decided.decided.outcome) c.self.view_is
+    (subst (λ (log : List LogEvent). IsStep g.R.Rules.kind c.self.inside.setup log (log ++ c.in_ok-decided.decided.event ∷ []) c.args.session c.args.command.now c.in_ok-decided.decided.outcome) c.deref.ensures.value
+    c.in_ok-decided.ensures.step))))
+    c.take_in.ensures.ok

@@ -7,5 +7,5 @@ use Rattle.lab_history_file.proofs.reading.lists.entries_at.Goals as goal
 
 pub returns-clause-rises : goal.returns-clause-rises
 returns-clause-rises g c =
-    all_sorted (entry_in g.E.Entry.PARTS g.E.Entry.read c.args.version c.args.place) c.args.place (at_key c.args.key.now (view c.args.json.now)) c.in_ok-members.members.now c.loop-index.entries.items
+    all_sorted (entry_in g.E.Entry.PARTS g.E.Entry.read c.args.version c.args.list) c.args.list (at_key c.args.key.now (view c.args.json.now)) c.in_ok-members.members.now c.loop-index.entries.items
     c.loop-index.index c.loop-index.before (search rules) c.loop-index.invariant

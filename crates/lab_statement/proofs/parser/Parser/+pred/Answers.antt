@@ -28,7 +28,7 @@ conj-loop-alloc-preserved t c =
       so_far =
           goes_on_to (term_read c.args.depth) (token.Word word.And) predicate.And s.0 c.loop-alloc.pred c.in_ok-right.right c.in_ok-pred-2.pred c.loop-alloc.self c.took.new.self
           c.term-in-loop-alloc.new.self (conj_read c.args.depth c.args.self.now) s.1 s.2 c.loop-alloc-test.ensures.gives c.loop-alloc-test.ensures.shorter
-          c.in_ok-right.ensures.reads c.in_ok-right.ensures.shorter (sym c.in_ok-pred-2.ensures.made);
+          c.in_ok-right.ensures.reads c.in_ok-right.ensures.shorter (sym c.in_ok-pred-2.ensures);
     }
 
 pub conj-returns-in_err-right-clause-reads : goal.conj-returns-in_err-right-clause-reads
@@ -65,7 +65,7 @@ pred-loop-alloc-preserved t c =
       so_far =
           goes_on_to (conj_read c.args.depth) (token.Word word.Or) predicate.Or s.0 c.loop-alloc.pred c.in_ok-right.right c.in_ok-pred-2.pred c.loop-alloc.self c.took.new.self
           c.conj-in-loop-alloc.new.self (pred_read c.args.depth c.args.self.now) s.1 s.2 c.loop-alloc-test.ensures.gives c.loop-alloc-test.ensures.shorter
-          c.in_ok-right.ensures.reads c.in_ok-right.ensures.shorter (sym c.in_ok-pred-2.ensures.made);
+          c.in_ok-right.ensures.reads c.in_ok-right.ensures.shorter (sym c.in_ok-pred-2.ensures);
     }
 
 pub pred-returns-in_err-right-clause-reads : goal.pred-returns-in_err-right-clause-reads

@@ -1,0 +1,96 @@
+-- Other sessions with a pending write of a row that a statement would write.
+use Rattle.std.proofs.Common.{◌≡◌, ◌∙◌, ℕ, refl, sym, ap, subst, Bool, true, false, ◌&&◌, not, List, [], ◌∷◌, inl, inr}
+use Rattle.std.specs.Prelude.{◌==◌, ◌↔◌, Option, Some, None, is_some, IsTrue, IsSome}
+use Rattle.std.specs.List.{list_any}
+use Rattle.std.proofs.lemmas.Bool.{both_ways, and_parts, and_from, or_cases, or_left, or_right, eq-eqb, not-true, ne_eqb}
+use Rattle.lab_table.specs.Row.{Row, row_eq}
+use Rattle.lab_table.specs.Table.{Table, State}
+use Rattle.lab_table.specs.Statement.{may_match, would_write}
+use Rattle.lab_table.specs.declared.statement.Statement.{Statement}
+use Rattle.lab_table.proofs.Maps.{same_row, row_eq_self}
+use Rattle.lab_table.proofs.OneRow.{not_written}
+use Rattle.lab_engine.specs.declared.event.Level.{Level}
+use Rattle.lab_engine.specs.declared.session_state.RunningTxn.{RunningTxn}
+use Rattle.lab_engine.specs.declared.session_state.SessionState.{SessionState}
+use Rattle.lab_engine.specs.Log.{Past, Version, Txn, active, version_by, seen}
+use Rattle.lab_engine.specs.Others.{IsOther}
+use Rattle.lab_engine.specs.Rules.{HoldsWrite}
+use Rattle.lab_engine.specs.SessionBits.{has}
+use Rattle.lab_engine.specs.Situation.{Agree, DescribesSession, IsRunning, written_by}
+use Rattle.lab_engine.proofs.Waiting.{running_txn}
+use Rattle.std.proofs.lemmas.Option.{same_Some}
+
+-- a test that holds of a row of a list
+any_row : (p : Row → Bool) (rows : List Row) → list_any p rows ≡ true → (row : Row) × IsTrue (list_any (row_eq row) rows) × IsTrue (p row)
+any_row p [] any = absurd (both_ways _ refl any)
+any_row p (r ∷ rows) any = elim (or_cases (p r) (list_any p rows) any) [
+  | inl here ↦ (r, or_left _ _ (row_eq_self r), here)
+  | inr there ↦ let f : (row : Row) × IsTrue (list_any (row_eq row) rows) × IsTrue (p row) = any_row p rows there in (f.0, or_right _ _ f.1, f.2)
+]
+
+row_any : (p : Row → Bool) (rows : List Row) (row : Row) → IsTrue (list_any (row_eq row) rows) → IsTrue (p row) → list_any p rows ≡ true
+row_any p [] row among holds = absurd (both_ways _ refl among)
+row_any p (r ∷ rows) row among holds = elim (or_cases (row_eq row r) (list_any (row_eq row) rows) among) [
+  | inl here ↦ or_left _ _ (subst (λ k. IsTrue (p k)) (same_row row r here) holds)
+  | inr there ↦ or_right _ _ (row_any p rows row there holds)
+]
+
+module _ (level : Level) (setup : Table) (past : Past) (txn : Txn) (s : Statement) where
+  -- a row that the statement would write
+  abbrev Writes : Row → Type 0
+  Writes row = IsTrue (would_write s row (seen level setup past txn row).state)
+
+  module _ (session : ℕ) (state : SessionState) (d : DescribesSession past state) where
+    -- the transaction of another session's state holds such a write where a test of the rows that it wrote says so
+    pub written_holds : (kept : RunningTxn) (test : Row → Bool) → state.running ≡ Some kept → (state.session == session) ≡ false
+        → ((row : Row) → test row ≡ would_write s row (seen level setup past txn row).state)
+        → IsTrue (list_any test kept.written.items) ↔ IsOther past session state.session (HoldsWrite level setup past txn s)
+    written_holds kept test is apart same = (to, from)
+      where
+        holder : (t : Txn) × (active past state.session ≡ Some t) × IsRunning t kept
+        holder = running_txn past state.session kept (subst (Agree (active past state.session)) is d.running)
+
+        to : IsTrue (list_any test kept.written.items) → IsOther past session state.session (HoldsWrite level setup past txn s)
+        to any =
+            let f = any_row test kept.written.items any in
+            (holder.0, (λ e. both_ways _ apart (eq-eqb state.session session (sym e))), holder.1, (f.0, sym (holder.2.written f.0) ∙ f.1, sym (same f.0) ∙ f.2))
+
+        from : IsOther past session state.session (HoldsWrite level setup past txn s) → IsTrue (list_any test kept.written.items)
+        from (t, _, act, (row, some, writes)) =
+            let one : t ≡ holder.0 = same_Some t holder.0 (sym act ∙ holder.1) in
+            row_any test kept.written.items row (holder.2.written row ∙ subst (λ (k : Txn). IsSome (version_by k row)) one some) (same row ∙ writes)
+
+  module _ (session : ℕ) (row : Row) (only : (other : Row) → may_match s other ≡ true → other ≡ row) where
+    -- the row that a statement would write is the one that it names
+    named : (q : Row) (state : State) → IsTrue (would_write s q state) → q ≡ row
+    named q state writes = elim (may_match s q) as (λ b. may_match s q ≡ b → q ≡ row) [
+      | true ↦ λ may. only q may
+      | false ↦ λ off. absurd (both_ways _ (not_written s q off state) writes)
+    ] refl
+
+    -- where it wouldn't write that, nobody has written a row that it would write
+    pub unwritten_free : would_write s row (seen level setup past txn row).state ≡ false → (holder : Txn) → ¬ HoldsWrite level setup past txn s holder
+    unwritten_free never holder (q, some, writes) =
+        both_ways _ never (subst Writes (named q (seen level setup past txn q).state writes) writes)
+
+    -- where it would, those have that have written it
+    pub named_writers : (other set : ℕ) (pending : Option Version) → Writes row → pending ≡ written_by (active past other) row
+        → has set other ≡ (is_some pending && not (other == session)) → IsTrue (has set other) ↔ IsOther past session other (HoldsWrite level setup past txn s)
+    named_writers other set pending writes is has_is = (to, from)
+      where
+        wrote : (t : Option Txn) → active past other ≡ t → is_some (written_by t row) ≡ true → (holder : Txn) × (active past other ≡ Some holder) × IsSome (version_by holder row)
+        wrote None act some = absurd (both_ways _ refl some)
+        wrote (Some holder) act some = (holder, act, some)
+
+        to : IsTrue (has set other) → IsOther past session other (HoldsWrite level setup past txn s)
+        to there =
+            let parts = and_parts (is_some pending) (not (other == session)) (sym has_is ∙ there) in
+            let w = wrote (active past other) refl (sym (ap is_some is) ∙ parts.0) in
+            (w.0, (λ e. both_ways _ (not-true _ parts.1) (eq-eqb other session (sym e))), w.1, (row, w.2, writes))
+
+        from : IsOther past session other (HoldsWrite level setup past txn s) → IsTrue (has set other)
+        from (holder, apart, act, (q, some, writes_q)) =
+            let same : q ≡ row = named q (seen level setup past txn q).state writes_q in
+            has_is ∙ and_from _ _
+            (ap is_some is ∙ ap (λ t. is_some (written_by t row)) act ∙ subst (λ (k : Row). IsSome (version_by holder k)) same some)
+            (ap not (ne_eqb other session (λ e. apart (sym e))))

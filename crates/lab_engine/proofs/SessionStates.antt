@@ -1,0 +1,243 @@
+-- What is kept of a session and of the rows goes on by an event of the session.
+use Rattle.std.proofs.Common.{◌≡◌, ◌≢◌, ◌∙◌, ℕ, ◌+◌, ◌<◌, ◌≤◌, ◌==◌, ◌||◌, ◌&&◌, cond, Bool, true, false, List, [], ◌∷◌, ◌++◌, map as each, length, Option, Some, None, refl, sym, ap, subst, arith, inl, inr, option_map}
+use Rattle.std.specs.Prelude.{is_some, is_none}
+use Rattle.std.specs.Option.{option_or}
+use Rattle.std.proofs.lemmas.Bool.{cases_eq, eq-eqb, ne_eqb, true≢false}
+use Rattle.std.proofs.lemmas.List.{length-map, length-reverse, reverse-append}
+use Rattle.std.proofs.lemmas.Option.{same_Some}
+use Rattle.std.specs.FinMap as map
+use Rattle.lab_table.specs.Row.{Row}
+use Rattle.lab_table.specs.Table.{State, Rows, Writes}
+use Rattle.lab_table.specs.declared.statement.Statement.{Statement}
+use Rattle.lab_table.specs.declared.statement.Command.{Command}
+use Rattle.lab_table.specs.declared.statement.Command.TheVariants.{Begin, Commit, Abort, Run}
+use Rattle.lab_history.specs.VersionName.{View}
+use Rattle.lab_history.specs.declared.operation.Op.{Op}
+use Rattle.lab_history.specs.declared.operation.VersionName.TheVariants.{Of}
+use Rattle.lab_engine.specs.declared.event.EngineFault.TheVariants.{DuplicateKey, OutOfRange, Deadlock, WriteConflict, NoTransaction, AlreadyBegun, Busy}
+use Rattle.lab_engine.specs.declared.event.LogEvent.{LogEvent}
+use Rattle.lab_engine.specs.declared.event.Outcome.{Outcome}
+use Rattle.lab_engine.specs.declared.event.Outcome.TheVariants.{Begun, Rows as Listed, Committed, Aborted, Waits, Refused}
+use Rattle.lab_engine.specs.declared.row_states.RowStates.{RowStates}
+use Rattle.lab_engine.specs.declared.session_state.RunningTxn.{RunningTxn}
+use Rattle.lab_engine.specs.declared.session_state.SessionState.{SessionState}
+use Rattle.lab_engine.specs.Log.{Past, Txn, Version, version_or, version_by, active, active_after, ops_after, asked, waiting, waiting_after}
+use Rattle.lab_engine.specs.Merging.{written_version}
+use Rattle.lab_engine.specs.Chains.{chain, chain_after, longer}
+use Rattle.lab_engine.specs.KeptRows.{chain_in, pending_in}
+use Rattle.lab_engine.specs.EventQuery.{busy}
+use Rattle.lab_engine.specs.Situation.{DescribesSession, DescribesRows, Agree, IsRunning, statements_of, has_written, grown, written_by}
+
+-- ---- the statement that waits
+
+-- Busy leaves it
+pub busy_keeps : (command : Command) (outcome : Outcome) (held : Option Statement) → busy outcome ≡ true → held ≡ waiting_after command outcome held
+busy_keeps command (Begun n) held is = absurd (true≢false (sym is))
+busy_keeps command (Listed view rows writes) held is = absurd (true≢false (sym is))
+busy_keeps command Committed held is = absurd (true≢false (sym is))
+busy_keeps command Aborted held is = absurd (true≢false (sym is))
+busy_keeps command (Waits on) held is = absurd (true≢false (sym is))
+busy_keeps command (Refused (DuplicateKey id)) held is = absurd (true≢false (sym is))
+busy_keeps command (Refused (OutOfRange id)) held is = absurd (true≢false (sym is))
+busy_keeps command (Refused (Deadlock circle)) held is = absurd (true≢false (sym is))
+busy_keeps command (Refused (WriteConflict row by)) held is = absurd (true≢false (sym is))
+busy_keeps command (Refused NoTransaction) held is = absurd (true≢false (sym is))
+busy_keeps command (Refused AlreadyBegun) held is = absurd (true≢false (sym is))
+busy_keeps command (Refused Busy) held is = refl
+
+-- what else comes doesn't ask which one did
+pub others_renew : (command : Command) (outcome : Outcome) (held : Option Statement) → busy outcome ≡ false → waiting_after command outcome None ≡ waiting_after command outcome held
+others_renew command (Begun n) held is = refl
+others_renew command (Listed view rows writes) held is = refl
+others_renew command Committed held is = refl
+others_renew command Aborted held is = refl
+others_renew command (Waits on) held is = refl
+others_renew command (Refused (DuplicateKey id)) held is = refl
+others_renew command (Refused (OutOfRange id)) held is = refl
+others_renew command (Refused (Deadlock circle)) held is = refl
+others_renew command (Refused (WriteConflict row by)) held is = refl
+others_renew command (Refused NoTransaction) held is = refl
+others_renew command (Refused AlreadyBegun) held is = refl
+others_renew command (Refused Busy) held is = absurd (true≢false is)
+
+-- ---- one more operation
+
+-- the version of a row after one more operation, which has this number
+grown_version : (number place : ℕ) (ops : List Op) (written : Option State) (old : Option Version) → place ≡ length ops + 1
+    → option_or (written_version (Of number place) written) old ≡ version_or number (length ops + 1) written old
+grown_version number place ops None old is = refl
+grown_version number place ops (Some state) old is = ap (λ n. Some (record { name = Of number n; state = state })) is
+
+-- a row is written then, if it was or is
+written_then : (number place : ℕ) (written : Option State) (old : Option Version) → (is_some old || (is_some written && is_none old)) ≡ is_some (version_or number place written old)
+written_then number place None None = refl
+written_then number place None (Some v) = refl
+written_then number place (Some state) None = refl
+written_then number place (Some state) (Some v) = refl
+
+-- as many statements are kept as there were operations
+counted : (txn : Txn) (running : RunningTxn) → IsRunning txn running → length (statements_of running) ≡ length txn.ops
+counted txn running is = ap length is.statements ∙ length-reverse (each (λ op. op.statement) txn.ops) ∙ length-map txn.ops (λ op. op.statement)
+
+module _ (txn : Txn) (op : Op) (old new : RunningTxn) (running : IsRunning txn old) where
+  -- the transaction has run a statement more
+  pub runs_on : new.number ≡ old.number → new.before ≡ old.before → statements_of new ≡ statements_of old ++ op.statement ∷ [] → (pending : Row → Option Version)
+      → ((row : Row) → pending row ≡ version_by txn row)
+      → ((row : Row) → has_written new row ≡ (has_written old row || (is_some (map.get op.writes row) && is_none (pending row)))) → IsRunning (grown txn op) new
+  runs_on number before statements pending is written = record {
+    number = number ∙ running.number;
+    before = before ∙ running.before;
+    statements = statements ∙ ap (λ l. l ++ op.statement ∷ []) running.statements ∙ sym (reverse-append (op.statement ∷ []) (each (λ op. op.statement) txn.ops));
+    written = λ row.
+        written row ∙ ap (λ b. b || (is_some (map.get op.writes row) && is_none (pending row))) (running.written row)
+        ∙ ap (λ (o : Option Version). is_some (version_by txn row) || (is_some (map.get op.writes row) && is_none o)) (is row)
+        ∙ written_then txn.no (length txn.ops + 1) (map.get op.writes row) (version_by txn row);
+  }
+
+  -- a row's version is then
+  pub version_then : (row : Row) (pending : Option Version) → pending ≡ version_by txn row
+      → option_or (written_version (Of old.number (length (statements_of old) + 1)) (map.get op.writes row)) pending ≡ version_by (grown txn op) row
+  version_then row pending is =
+      ap (option_or (written_version (Of old.number (length (statements_of old) + 1)) (map.get op.writes row))) is
+      ∙ ap (λ n. option_or (written_version (Of n (length (statements_of old) + 1)) (map.get op.writes row)) (version_by txn row)) running.number
+      ∙ grown_version txn.no (length (statements_of old) + 1) txn.ops (map.get op.writes row) (version_by txn row) (ap (λ n. n + 1) (counted txn old running))
+
+-- an operation of a statement is one more where the command runs it
+pub ops_run : (command : Command) (s : Statement) (view : View) (rows : Rows) (writes : Writes) (txn : Txn) → asked command ≡ Some s
+    → grown txn (record { statement = s; view = view; rows = rows; writes = writes }) ≡ record { no = txn.no; ops = ops_after command view rows writes txn.ops; before = txn.before }
+ops_run Begin s view rows writes txn h = cc
+ops_run Commit s view rows writes txn h = cc
+ops_run Abort s view rows writes txn h = cc
+ops_run (Run t) s view rows writes txn h = ap (λ o. grown txn (record { statement = o; view = view; rows = rows; writes = writes })) (sym (same_Some t s h))
+
+-- and else none is
+pub ops_idle : (command : Command) (view : View) (rows : Rows) (writes : Writes) (txn : Txn) → asked command ≡ None
+    → txn ≡ record { no = txn.no; ops = ops_after command view rows writes txn.ops; before = txn.before }
+ops_idle Begin view rows writes txn h = refl
+ops_idle Commit view rows writes txn h = refl
+ops_idle Abort view rows writes txn h = refl
+ops_idle (Run t) view rows writes txn h = cc
+
+-- a transaction, if any, after an operation
+abbrev pub after_op : Command → View → Rows → Writes → Option Txn → Option Txn
+after_op command view rows writes txn = option_map (λ t. record { no = t.no; ops = ops_after command view rows writes t.ops; before = t.before }) txn
+
+-- ---- a session that an event is of
+
+-- one session's versions after an event
+module _ (old new : RowStates) (session : ℕ) (before after : Option Txn) (was : (row : Row) → pending_in old row session ≡ written_by before row) where
+  pub nothing_changes : ((row : Row) → written_by after row ≡ written_by before row) → ((row : Row) (n : ℕ) → pending_in new row n ≡ pending_in old row n)
+      → (row : Row) (n : ℕ) → pending_in new row n ≡ cond (n == session) (written_by after row) (pending_in old row n)
+  nothing_changes same kept row n = kept row n ∙ elim (cases_eq n session) [
+    | inl is ↦ ap (pending_in old row) is ∙ was row ∙ sym (same row) ∙ sym (ap (λ b. cond b (written_by after row) (pending_in old row n)) (eq-eqb n session is))
+    | inr apart ↦ sym (ap (λ b. cond b (written_by after row) (pending_in old row n)) (ne_eqb n session apart))
+  ]
+
+module _ (past : Past) (event : LogEvent) (session : ℕ) (own : event.session ≡ session) where
+  is_own : (event.session == session) ≡ true
+  is_own = eq-eqb event.session session own
+
+  -- what it waits with
+  pub waits_then : (next : Option Statement) → next ≡ waiting_after event.command event.outcome (waiting past session) → next ≡ waiting (event ∷ past) session
+  waits_then next is = is ∙ sym (ap (λ b. cond b (waiting_after event.command event.outcome (waiting past session)) (waiting past session)) is_own)
+
+  -- its transaction
+  pub runs_then : (running : Option RunningTxn) → Agree (active_after event.command event.outcome past (active past session)) running → Agree (active (event ∷ past) session) running
+  runs_then running agree = subst (λ b. Agree (cond b (active_after event.command event.outcome past (active past session)) (active past session)) running) (sym is_own) agree
+
+  -- the rows
+  pub rows_then : (old new : RowStates) (before : ℕ) → before ≡ length past → DescribesRows past old
+      → ((row : Row) → chain_in new row ≡ chain_after event.outcome (active past session) before row (chain_in old row))
+      → ((row : Row) (n : ℕ) → pending_in new row n ≡ cond (n == session) (written_by (active_after event.command event.outcome past (active past session)) row) (pending_in old row n))
+      → DescribesRows (event ∷ past) new
+  rows_then old new before place is chains pending = record {
+    chains = λ row.
+        chains row ∙ ap (λ n. chain_after event.outcome (active past session) n row (chain_in old row)) place
+        ∙ ap (chain_after event.outcome (active past session) (length past) row) (is.chains row)
+        ∙ ap (λ n. chain_after event.outcome (active past n) (length past) row (chain past row)) (sym own);
+    pending = λ row n. pending row n ∙ elim (cases_eq n session) [
+      | inl same ↦
+          ap (λ b. cond b (written_by (active_after event.command event.outcome past (active past session)) row) (pending_in old row n)) (eq-eqb n session same)
+          ∙ ap (λ k. written_by (active_after event.command event.outcome past (active past k)) row) (sym same)
+          ∙ sym (ap (λ b. written_by (cond b (active_after event.command event.outcome past (active past n)) (active past n)) row) (eq-eqb event.session n (own ∙ sym same)))
+      | inr apart ↦
+          ap (λ b. cond b (written_by (active_after event.command event.outcome past (active past session)) row) (pending_in old row n)) (ne_eqb n session apart)
+          ∙ is.pending row n
+          ∙ sym (ap (λ b. written_by (cond b (active_after event.command event.outcome past (active past n)) (active past n)) row)
+          (ne_eqb event.session n (λ same. apart (sym same ∙ own))))
+    ];
+  }
+
+-- ---- a transaction that ends
+
+module _ (rows : RowStates) (session : ℕ) where
+  -- what a session has pending is what its transaction, if any, has written
+  abbrev pub IsPending : Option Txn → Type 0
+  IsPending txn = (row : Row) → pending_in rows row session ≡ written_by txn row
+
+  -- what is settled of the rows that it wrote is settled of all
+  pub all_settled : (txn : Option Txn) (running : RunningTxn) → Agree txn (Some running) → IsPending txn → (row : Row) (n : ℕ)
+      → cond (has_written running row && n == session) None (pending_in rows row n) ≡ cond (n == session) None (pending_in rows row n)
+  all_settled None running agree was row n = absurd agree
+  all_settled (Some t) running agree was row n = elim (cases_eq n session) [
+    | inl same ↦ at (has_written running row) refl same
+    | inr apart ↦ off (has_written running row) (n == session) (ne_eqb n session apart)
+  ]
+    where
+      off : (b own : Bool) → own ≡ false → cond (b && own) None (pending_in rows row n) ≡ cond own None (pending_in rows row n)
+      off true own is = refl
+      off false own is = sym (ap (λ b. cond b None (pending_in rows row n)) is)
+
+      at : (b : Bool) → has_written running row ≡ b → n ≡ session → cond (has_written running row && n == session) None (pending_in rows row n) ≡ cond (n == session) None (pending_in rows row n)
+      at true is same = ap (λ b. cond (b && n == session) None (pending_in rows row n)) is
+      at false is same =
+          ap (λ b. cond (b && n == session) None (pending_in rows row n)) is ∙ ap (pending_in rows row) same ∙ was row
+          ∙ nothing (version_by t row) (sym (agree.written row) ∙ is) ∙ sym (ap (λ b. cond b None (pending_in rows row n)) (eq-eqb n session same))
+        where
+          nothing : (o : Option Version) → is_some o ≡ false → o ≡ None
+          nothing None h = refl
+          nothing (Some v) h = absurd (true≢false h)
+
+  -- where it has none, nothing is to be settled
+  pub none_settled : (txn : Option Txn) → Agree txn None → IsPending txn → (row : Row) (n : ℕ) → pending_in rows row n ≡ cond (n == session) None (pending_in rows row n)
+  none_settled None agree was row n = elim (cases_eq n session) [
+    | inl same ↦ ap (pending_in rows row) same ∙ was row ∙ sym (ap (λ b. cond b None (pending_in rows row n)) (eq-eqb n session same))
+    | inr apart ↦ sym (ap (λ b. cond b None (pending_in rows row n)) (ne_eqb n session apart))
+  ]
+  none_settled (Some t) agree was row n = absurd agree
+
+  -- a commit puts what it wrote onto the chains
+  pub installs_all : (txn : Option Txn) (running : RunningTxn) (place : ℕ) → Agree txn (Some running) → IsPending txn → (row : Row)
+      → cond (has_written running row) (longer running.number place (pending_in rows row session) (chain_in rows row)) (chain_in rows row) ≡ chain_after Committed txn place row (chain_in rows row)
+  installs_all None running place agree was row = absurd agree
+  installs_all (Some t) running place agree was row = at (version_by t row) refl
+    where
+      at : (o : Option Version) → version_by t row ≡ o
+          → cond (has_written running row) (longer running.number place (pending_in rows row session) (chain_in rows row)) (chain_in rows row) ≡ longer t.no place (version_by t row) (chain_in rows row)
+      at None is =
+          ap (λ b. cond b (longer running.number place (pending_in rows row session) (chain_in rows row)) (chain_in rows row)) (agree.written row ∙ ap is_some is)
+          ∙ sym (ap (λ o. longer t.no place o (chain_in rows row)) is)
+      at (Some v) is =
+          ap (λ b. cond b (longer running.number place (pending_in rows row session) (chain_in rows row)) (chain_in rows row)) (agree.written row ∙ ap is_some is)
+          ∙ ap (λ o. longer running.number place o (chain_in rows row)) (was row) ∙ ap (λ n. longer n place (version_by t row) (chain_in rows row)) agree.number
+
+  pub installs_none : (txn : Option Txn) (place : ℕ) → Agree txn None → (row : Row) → chain_in rows row ≡ chain_after Committed txn place row (chain_in rows row)
+  installs_none None place agree row = refl
+  installs_none (Some t) place agree row = absurd agree
+
+-- ---- after an operation
+
+pub after_none : (command : Command) (view : View) (rows : Rows) (writes : Writes) (txn : Option Txn) → Agree txn None → Agree (after_op command view rows writes txn) None
+after_none command view rows writes None agree = tt
+after_none command view rows writes (Some t) agree = absurd agree
+
+-- a transaction that runs a statement
+pub runs_agree : (command : Command) (s : Statement) (view : View) (rows : Rows) (writes : Writes) (txn : Option Txn) (before : Option RunningTxn) (old new : RunningTxn) → asked command ≡ Some s
+    → before ≡ Some old → Agree txn before → (pending : Row → Option Version) → ((row : Row) → pending row ≡ written_by txn row)
+    → ((t : Txn) (op : Op) → IsRunning t old → ((row : Row) → pending row ≡ version_by t row) → op.statement ≡ s → op.writes ≡ writes → IsRunning (grown t op) new)
+    → Agree (after_op command view rows writes txn) (Some new)
+runs_agree command s view rows writes txn before old new asks is agree pending was run = at txn (subst (λ r. Agree txn r) is agree) was
+  where
+    at : (txn : Option Txn) → Agree txn (Some old) → ((row : Row) → pending row ≡ written_by txn row) → Agree (after_op command view rows writes txn) (Some new)
+    at None agree was = agree
+    at (Some t) agree was = subst (λ k. IsRunning k new) (ops_run command s view rows writes t asks) (run t (record { statement = s; view = view; rows = rows; writes = writes }) agree was refl refl)

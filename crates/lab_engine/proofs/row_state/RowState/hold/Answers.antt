@@ -1,0 +1,11 @@
+use Rattle.std.proofs.Common.{◌≤◌, ◌+◌, ◌-◌, subst, sym}
+use Rattle.std.proofs.lemmas.List.{length-reverse}
+use Rattle.std.specs.Vec.{vec_capacity}
+use Rattle.lab_engine.specs.Kept.{IsReady}
+use Rattle.lab_engine.proofs.PendingVersions.{roomy_held}
+use Rattle.lab_engine.proofs.row_state.RowState.hold.Goals as goal
+
+pub invariant_of-self : goal.invariant_of-self
+invariant_of-self c =
+    roomy_held _ _ c.self.inside.pending c.self.invariant (c.from.result - 1) _
+    (subst (λ n. n + 9 ≤ vec_capacity c.self.inside.installed) (length-reverse c.self.inside.installed.items) (subst IsReady (sym c.self.view_is) c.requires))

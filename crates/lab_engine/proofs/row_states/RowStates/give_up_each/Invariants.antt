@@ -1,0 +1,13 @@
+use Rattle.std.proofs.Common.{◌≡◌, ℕ, drop, cond, ◌&&◌, ◌==◌, None}
+use Rattle.std.specs.List.{list_any}
+use Rattle.lab_table.specs.Row.{Row, row_eq}
+use Rattle.lab_engine.specs.KeptRows.{chain_in, pending_in}
+use Rattle.lab_engine.proofs.row_states.RowStates.give_up_each.Given as goal
+
+-- without those of the rows that are left it is what it is to be
+abbrev pub invariant-loop-row : goal.invariant-loop-row
+invariant-loop-row l = record {
+  chain : (row : Row) → chain_in l.self row ≡ chain_in l.fn.self row;
+  pending : (row : Row) (n : ℕ) → cond (list_any (row_eq row) (drop l.row-index l.rows) && n == l.session) None (pending_in l.self row n)
+      ≡ cond (list_any (row_eq row) l.rows && n == l.session) None (pending_in l.fn.self row n);
+}

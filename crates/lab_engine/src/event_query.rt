@@ -1,0 +1,57 @@
+//! Questions to one event.
+
+ghost use Rattle.std.specs.Prelude.{◌≡◌, option_map};
+ghost use Rattle.lab_engine.specs.Log.{asked, is_fatal};
+ghost use Rattle.lab_engine.specs.EventQuery.{busy};
+
+use crate::event::{EngineFault, Outcome};
+use lab_table::{Command, Statement};
+
+/// Whether a refusal ends the transaction.
+pub fn is_fatal_fault(fault: &EngineFault) -> bool
+    ensures { result ≡ is_fatal fault.now }
+{
+    match fault {
+        EngineFault::DuplicateKey { .. } => true,
+        EngineFault::OutOfRange { .. } => true,
+        EngineFault::Deadlock { .. } => true,
+        EngineFault::WriteConflict { .. } => true,
+        EngineFault::NoTransaction => false,
+        EngineFault::AlreadyBegun => false,
+        EngineFault::Busy => false,
+    }
+}
+
+/// Whether an outcome is Busy.
+pub fn is_busy(outcome: &Outcome) -> bool
+    ensures { result ≡ busy outcome.now }
+{
+    match outcome {
+        Outcome::Begun(_) => false,
+        Outcome::Rows { .. } => false,
+        Outcome::Committed => false,
+        Outcome::Aborted => false,
+        Outcome::Waits { .. } => false,
+        Outcome::Refused(fault) => match fault {
+            EngineFault::DuplicateKey { .. } => false,
+            EngineFault::OutOfRange { .. } => false,
+            EngineFault::Deadlock { .. } => false,
+            EngineFault::WriteConflict { .. } => false,
+            EngineFault::NoTransaction => false,
+            EngineFault::AlreadyBegun => false,
+            EngineFault::Busy => true,
+        },
+    }
+}
+
+/// The statement that a command runs, if it runs one.
+pub fn asked_statement(command: &Command) -> Option<&Statement>
+    ensures { option_map (λ s. s.now) result ≡ asked command.now }
+{
+    match command {
+        Command::Begin => None,
+        Command::Commit => None,
+        Command::Abort => None,
+        Command::Run(statement) => Some(statement),
+    }
+}

@@ -1,0 +1,188 @@
+//! What is kept of a row.
+
+ghost use Rattle.std.specs.Prelude.{◌≡◌, ◌==◌, ◌&&◌, ℕ, not, cond, is_some, None, Some, [], reverse, OnOk};
+ghost use Rattle.std.specs.Option.{option_or};
+ghost use Rattle.lab_engine.specs.Chains as plain;
+ghost use Rattle.lab_engine.specs.Chains.{longer};
+ghost use Rattle.lab_engine.specs.Kept.{pending_of, IsReady};
+ghost use Rattle.lab_engine.specs.SessionBits.{has};
+
+use crate::session_set::SessionSet;
+use crate::version::Version;
+use lab_table::{NoMemory, Session, TxnNo};
+use std::alloc::Global;
+use std::marker::Model;
+
+/// A version that a commit installed.
+#[derive(Clone, Copy, Debug, PartialEq, Eq)]
+pub struct Installed {
+    pub version: Version,
+    /// The transaction that installed it.
+    pub by: TxnNo,
+    /// How many events stand before the commit.
+    pub place: usize,
+}
+
+/// The versions of a row: those that commits installed, in order of the commits, and the pending one of each session.
+/// Each pending version has a place reserved among those installed, so its commit takes no memory.
+#[derive(Drop)]
+pub struct RowState {
+    installed: Vec<Installed>,
+    /// By rising number of the session.
+    pending: [Option<Version>; 9],
+}
+
+impl Model for RowState {
+    ghost use Rattle.std.specs.Prelude.{length, reverse};
+    ghost use Rattle.std.specs.Vec.{vec_capacity};
+    ghost use Rattle.lab_engine.specs.Kept.{Kept, coded_kept, IsRoomy};
+    ghost use Rattle.lab_engine.specs.contracts.version.Version as version;
+    ghost use Rattle.lab_engine.specs.contracts.row_state.Installed as entry;
+
+    ghost Value = { Kept };
+
+    ghost coded = { coded_kept version.the_row.coded entry.the_row.coded };
+
+    ghost view = { λ s. record { chain = reverse s.installed.items; pending = s.pending; places = vec_capacity s.installed } };
+
+    ghost invariant = { λ s. IsRoomy (length s.installed.items) s.pending (vec_capacity s.installed) };
+}
+
+impl RowState {
+    /// Nothing is installed, and nothing pending; it takes no memory.
+    pub(crate) fn new(alloc: Global) -> RowState
+        ensures chain { result.chain ≡ [] }
+        ensures pending { (session : ℕ) → pending_of result session ≡ None }
+    {
+        RowState {
+            installed: Vec::new(alloc),
+            pending: [None; 9],
+        }
+    }
+
+    /// The version that a session has pending.
+    pub fn pending(&self, session: Session) -> Option<Version>
+        ensures { result ≡ pending_of self.now session }
+    {
+        self.pending[usize::from(session.number()) - 1]
+    }
+
+    /// The last version that was installed by a commit with fewer than so many events before it.
+    pub fn last_before(&self, place: usize) -> Option<Version>
+        ensures { result ≡ plain.last_before place self.now.chain }
+    {
+        last_until(&self.installed, place)
+    }
+
+    /// What a session sees that sees the commits with fewer than so many events before them: its pending version, else
+    /// the last installed one; None where that is the one of the setup.
+    pub fn seen_by(&self, session: Session, place: usize) -> Option<Version>
+        ensures { result ≡ option_or (pending_of self.now session) (plain.last_before place self.now.chain) }
+    {
+        match self.pending(session) {
+            Some(version) => Some(version),
+            None => self.last_before(place),
+        }
+    }
+
+    /// The transaction that was the first to install the row by a commit with at least so many events before it.
+    pub fn first_since(&self, place: usize) -> Option<TxnNo>
+        ensures { result ≡ plain.first_since place self.now.chain }
+    {
+        first_from(&self.installed, place)
+    }
+
+    /// Whether a session has a version pending, and isn't this one.
+    fn is_other_writer(&self, other: Session, session: Session) -> bool
+        ensures { result ≡ (is_some (pending_of self.now other) && not (other == session)) }
+    {
+        self.pending(other).is_some() && other != session
+    }
+
+    /// The other sessions that have a version pending.
+    pub fn other_writers(&self, session: Session) -> SessionSet
+        ensures { (other : ℕ) → has result other ≡ (is_some (pending_of self.now other) && not (other == session)) }
+    {
+        let mut writers = SessionSet::none();
+        for number in 1..10 {
+            if let Some(other) = Session::new(number) {
+                if self.is_other_writer(other, session) {
+                    writers.insert(other);
+                }
+            }
+        }
+        writers
+    }
+
+    /// Makes room for one more version of each session. NoMemory where an allocation was refused; nothing has changed
+    /// then.
+    pub(crate) fn reserve(&mut self) -> Result<(), NoMemory>
+        ensures chain { self.new.chain ≡ self.old.chain }
+        ensures pending { self.new.pending ≡ self.old.pending }
+        ensures ready { OnOk result (IsReady self.new) }
+        ensures still { IsReady self.old → IsReady self.new }
+    {
+        self.installed.try_reserve(9)
+    }
+
+    /// From now on a session has this version pending, in the place of the one that it had, if any.
+    pub(crate) fn hold(&mut self, session: Session, version: Version)
+        requires { IsReady self.old }
+        ensures chain { self.new.chain ≡ self.old.chain }
+        ensures pending { (other : ℕ) → pending_of self.new other ≡ cond (other == session) (Some version) (pending_of self.old other) }
+        ensures ready { IsReady self.new }
+    {
+        self.pending[usize::from(session.number()) - 1] = Some(version);
+    }
+
+    /// From now on a session has none pending.
+    pub(crate) fn give_up(&mut self, session: Session)
+        ensures chain { self.new.chain ≡ self.old.chain }
+        ensures pending { (other : ℕ) → pending_of self.new other ≡ cond (other == session) None (pending_of self.old other) }
+    {
+        self.pending[usize::from(session.number()) - 1] = None;
+    }
+
+    /// Installs what a session has pending, if anything, by its transaction's commit with so many events before it.
+    pub(crate) fn install(&mut self, session: Session, by: TxnNo, place: usize)
+        ensures chain { self.new.chain ≡ longer by place (pending_of self.old session) self.old.chain }
+        ensures pending { (other : ℕ) → pending_of self.new other ≡ cond (other == session) None (pending_of self.old other) }
+    {
+        let Some(version) = self.pending(session) else {
+            return;
+        };
+        self.pending[usize::from(session.number()) - 1] = None;
+        let installed = self.installed.push(Installed { version, by, place });
+        prove!(installed.is_ok());
+    }
+}
+
+/// The transaction that was the first to install the row from a place on, found from the newest on.
+fn first_from(chain: &[Installed], place: usize) -> Option<TxnNo>
+    ensures { result ≡ plain.first_since place (reverse chain.now) }
+{
+    let mut first = None;
+    let mut left = chain;
+    while let Some((last, rest)) = left.split_last() {
+        if last.place < place {
+            return first;
+        }
+        first = Some(last.by);
+        left = rest;
+    }
+    first
+}
+
+/// The last version of a chain that was installed before a place, found from the newest on.
+fn last_until(chain: &[Installed], place: usize) -> Option<Version>
+    ensures { result ≡ plain.last_before place (reverse chain.now) }
+{
+    let mut left = chain;
+    while let Some((newest, rest)) = left.split_last() {
+        if newest.place < place {
+            return Some(newest.version);
+        }
+        left = rest;
+    }
+    None
+}
