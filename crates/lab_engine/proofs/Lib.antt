@@ -14,6 +14,7 @@ pub mod SeenRows
 pub mod OtherWriters
 pub mod InstalledChains
 pub mod Answering
+pub mod EndPlaces
 pub mod Merging
 pub mod VersionLists
 pub mod States

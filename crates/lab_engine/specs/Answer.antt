@@ -1,5 +1,5 @@
 -- What an engine decides before it changes anything.
-use Rattle.std.specs.Prelude.{◌≡◌, ◌≢◌, ℕ, Option, Some, None, ◌⊎◌, MatchOption}
+use Rattle.std.specs.Prelude.{◌≡◌, ◌≢◌, ◌+◌, ◌≤◌, ℕ, cond, Option, Some, None, is_some, List, [], ◌∷◌, length, ◌⊎◌, MatchOption}
 use Rattle.lab_table.specs.Table.{Table}
 use Rattle.lab_table.specs.declared.statement.Statement.{Statement}
 use Rattle.lab_table.specs.declared.statement.Command.{Command}
@@ -8,9 +8,10 @@ use Rattle.lab_engine.specs.declared.event.Level.{Level}
 use Rattle.lab_engine.specs.declared.event.EngineFault.TheVariants.{Busy}
 use Rattle.lab_engine.specs.declared.event.Outcome.{Outcome}
 use Rattle.lab_engine.specs.declared.event.Outcome.TheVariants.{Refused}
-use Rattle.lab_engine.specs.Log.{Past, waiting}
+use Rattle.lab_engine.specs.Log.{Past, active, waiting}
 use Rattle.lab_engine.specs.Rules.{Permitted}
 use Rattle.lab_engine.specs.Recording.{NoneRetryable, IsLeastRetryable}
+use Rattle.lab_engine.specs.Sessions.{all_sessions}
 use Rattle.lab_engine.specs.Situation.{Describes}
 use Rattle.lab_engine.specs.LeastCircle.{NamesLeastOf}
 use Rattle.lab_engine.specs.declared.situation.Situation.{Situation}
@@ -28,7 +29,17 @@ Answers level setup past session command outcome = Permitted level setup past se
 abbrev pub IsRetryChoice : Level → Table → Past → Option ℕ → Type 0
 IsRetryChoice level setup past choice = MatchOption choice (NoneRetryable level setup past) (IsLeastRetryable level setup past)
 
--- what is kept beside a log agrees with it: the session that is retryable, and where the log leaves its sessions and rows
-pub record Keeps (level : Level) (setup : Table) (past : Past) (choice : Option ℕ) (kept : Situation) : Type 0 where
+-- how many of some sessions have an active transaction
+abbrev pub active_among : Past → List ℕ → ℕ
+active_among past [] = 0
+active_among past (session ∷ sessions) = cond (is_some (active past session)) 1 0 + active_among past sessions
+
+-- among so many places for events there is one for each event, and one for the end of each active transaction
+abbrev pub HasPlacesOfEnds : Past → ℕ → Type 0
+HasPlacesOfEnds past places = length past + active_among past all_sessions ≤ places
+
+-- what is kept beside a log agrees with it: the session that is retryable, where the log leaves its sessions and rows, and the room for events
+pub record Keeps (level : Level) (setup : Table) (past : Past) (choice : Option ℕ) (kept : Situation) (places : ℕ) : Type 0 where
   pub retryable : IsRetryChoice level setup past choice
   pub situation : Describes past kept
+  pub places_of_ends : HasPlacesOfEnds past places

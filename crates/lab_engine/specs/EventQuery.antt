@@ -2,7 +2,18 @@
 use Rattle.std.specs.Prelude.{Bool, true, false}
 use Rattle.lab_engine.specs.declared.event.Outcome.{Outcome}
 use Rattle.lab_engine.specs.declared.event.Outcome.TheVariants.{Begun, Rows as Listed, Committed, Aborted, Waits, Refused}
+use Rattle.lab_engine.specs.declared.event.EngineFault.{EngineFault}
 use Rattle.lab_engine.specs.declared.event.EngineFault.TheVariants.{DuplicateKey, OutOfRange, Deadlock, WriteConflict, NoTransaction, AlreadyBegun, Busy}
+
+-- whether a refusal is that of a commit that conflicts
+abbrev pub is_conflict : EngineFault → Bool
+is_conflict (DuplicateKey id) = false
+is_conflict (OutOfRange id) = false
+is_conflict (Deadlock circle) = false
+is_conflict (WriteConflict row by) = true
+is_conflict NoTransaction = false
+is_conflict AlreadyBegun = false
+is_conflict Busy = false
 
 -- whether an outcome is Busy
 abbrev pub busy : Outcome → Bool
@@ -18,3 +29,12 @@ busy (Refused (WriteConflict row by)) = false
 busy (Refused NoTransaction) = false
 busy (Refused AlreadyBegun) = false
 busy (Refused Busy) = true
+
+-- whether an outcome is that of a commit or an abort of an active transaction, which it ends
+abbrev pub is_ending : Outcome → Bool
+is_ending (Begun n) = false
+is_ending (Listed view rows writes) = false
+is_ending Committed = true
+is_ending Aborted = true
+is_ending (Waits on) = false
+is_ending (Refused fault) = is_conflict fault

@@ -1,6 +1,6 @@
 //! What an engine answers to a command.
 
-ghost use Rattle.std.specs.Prelude.{◌≡◌, ◌<◌, Some, None, length, IfOk};
+ghost use Rattle.std.specs.Prelude.{◌≡◌, ◌<◌, Some, None, length, IsSome, IfOk, OnErr};
 ghost use Rattle.lab_table.specs.Table.{Table as PlainTable};
 ghost use Rattle.lab_engine.specs.declared.event.Level.{Level as Kind};
 ghost use Rattle.lab_engine.specs.Sight.{version_in};
@@ -10,7 +10,7 @@ ghost use Rattle.lab_table.specs.Row.{Row};
 ghost use Rattle.lab_table.specs.declared.statement.Statement.{Statement as Asked};
 ghost use Rattle.lab_engine.specs.Log.{Version as Seen};
 ghost use Rattle.lab_table.specs.declared.statement.Command.TheVariants.{Run};
-ghost use Rattle.lab_engine.specs.Log.{Past, Txn, active};
+ghost use Rattle.lab_engine.specs.Log.{Past, Txn, active, asked};
 ghost use Rattle.lab_engine.specs.Rules.{MayAsk};
 ghost use Rattle.lab_engine.specs.Situation.{Describes, IsRunning};
 ghost use Rattle.lab_engine.specs.Answer.{MayGive, Answers};
@@ -27,7 +27,7 @@ use lab_table::{Command, NoMemory, Session, Statement, Table, TxnNo};
 use std::alloc::{AllocError, Global};
 
 /// What the rules answer to a command of a session that doesn't wait, or waits with this command.
-/// NoMemory where an allocation was refused.
+/// NoMemory where an allocation was refused; a command without a statement takes no memory.
 pub fn answer_to<R: Rules>(
     alloc: Global,
     rules: &R,
@@ -37,8 +37,9 @@ pub fn answer_to<R: Rules>(
     command: &Command,
 ) -> Result<Outcome, NoMemory>
     requires { (past : Past) × Describes past situation.now × (length past < max_events) }
-    ensures { (past : Past) → Describes past situation.now → MayGive past session command.now
+    ensures answer { (past : Past) → Describes past situation.now → MayGive past session command.now
         → IfOk result (Answers R.kind setup.now past session command.now) }
+    ensures err { OnErr result (IsSome (asked command.now)) }
 {
     let Some(running) = situation.running(session) else {
         return Ok(without_transaction(situation, session, command));

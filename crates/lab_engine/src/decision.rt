@@ -1,31 +1,26 @@
-//! Which event the rules permit next.
+//! What the rules permit next.
 
-ghost use Rattle.std.specs.Prelude.{◌≡◌, ◌<◌, ◌∷◌, ◌++◌, [], length, IsSome, IfOk};
+ghost use Rattle.std.specs.Prelude.{◌≡◌, ◌<◌, Some, length, IsSome, IfOk, OnErr};
+ghost use Rattle.lab_table.specs.declared.statement.Statement.{Statement as Asked};
+ghost use Rattle.lab_table.specs.declared.statement.Command.TheVariants.{Run};
 ghost use Rattle.lab_engine.specs.declared.event.EngineFault.TheVariants.{Busy};
 ghost use Rattle.lab_engine.specs.declared.event.Outcome.TheVariants.{Refused};
 ghost use Rattle.lab_engine.specs.Limits.{max_events};
-ghost use Rattle.lab_engine.specs.Log.{Past, past_of, waiting};
+ghost use Rattle.lab_engine.specs.Log.{Past, asked, waiting};
 ghost use Rattle.lab_engine.specs.Rules.{Permitted};
 ghost use Rattle.lab_engine.specs.Situation.{Describes};
-ghost use Rattle.lab_engine.specs.Engine.{IsStep, IsRetry};
-ghost use Rattle.lab_engine.specs.LeastCircle.{NamesLeastOf, NamesLeastOfWaiting};
+ghost use Rattle.lab_engine.specs.LeastCircle.{NamesLeastOf};
 
 use crate::answer::answer_to;
-use crate::event::{EngineFault, LogEvent, Outcome};
+use crate::event::{EngineFault, Outcome};
 use crate::rules::Rules;
 use crate::situation::Situation;
 use lab_table::{Command, NoMemory, Session, Table};
 use std::alloc::Global;
 
-/// An event that the rules permit next, and its outcome once more.
-#[derive(Drop)]
-pub struct Decided {
-    pub event: LogEvent,
-    pub outcome: Outcome,
-}
-
-/// What the rules answer to a command, or Busy where the session waits. NoMemory where an allocation was refused.
-fn step_outcome<R: Rules>(
+/// What the rules answer to a command, or Busy where the session waits. NoMemory where an allocation was refused; a
+/// command without a statement takes no memory.
+pub fn step_outcome<R: Rules>(
     alloc: Global,
     rules: &R,
     setup: &Table,
@@ -37,6 +32,7 @@ fn step_outcome<R: Rules>(
     ensures permitted { (past : Past) → Describes past situation.now → IfOk result (Permitted R.kind setup.now past session command.now) }
     ensures least { (past : Past) → Describes past situation.now → IfOk result (NamesLeastOf R.kind setup.now past session command.now) }
     ensures busy { (past : Past) → Describes past situation.now → IfOk result (λ outcome. IsSome (waiting past session) → outcome ≡ Refused Busy) }
+    ensures err { OnErr result (IsSome (asked command.now)) }
 {
     if situation.is_waiting(session) {
         return Ok(Outcome::Refused(EngineFault::Busy));
@@ -44,65 +40,31 @@ fn step_outcome<R: Rules>(
     answer_to(alloc, rules, setup, situation, session, command)
 }
 
-/// The event of a step: what the rules answer to a command, or Busy where the session waits.
-/// NoMemory where an allocation was refused.
-pub fn step_event<R: Rules>(
-    alloc: Global,
-    rules: &R,
-    setup: &Table,
-    log: &[LogEvent],
-    situation: &Situation,
-    session: Session,
-    command: &Command,
-) -> Result<Decided, NoMemory>
-    requires room { length log.now < max_events }
-    requires situation { Describes (past_of log.now) situation.now }
-    ensures step { IfOk result (λ d. IsStep R.kind setup.now log.now (log.now ++ d.event ∷ []) session command.now d.outcome) }
-    ensures least { IfOk result (λ d. NamesLeastOf R.kind setup.now (past_of log.now) session command.now d.outcome) }
+/// A copy of a command. NoMemory where an allocation was refused; one without a statement takes no memory.
+pub fn copy_of(alloc: Global, command: &Command) -> Result<Command, NoMemory>
+    ensures copy { IfOk result (λ copy. copy ≡ command.now) }
+    ensures err { OnErr result (IsSome (asked command.now)) }
 {
-    let outcome = step_outcome(alloc, rules, setup, situation, session, command)?;
-    let command = command.copy(alloc)?;
-    let copy = outcome.copy(alloc)?;
-    let event = LogEvent {
-        session,
-        command,
-        outcome,
-    };
-    Ok(Decided {
-        event,
-        outcome: copy,
-    })
+    match command {
+        Command::Begin => Ok(Command::Begin),
+        Command::Commit => Ok(Command::Commit),
+        Command::Abort => Ok(Command::Abort),
+        Command::Run(_) => command.copy(alloc),
+    }
 }
 
-/// The event of a retry: what the rules answer to the statement that the session waits with.
-/// NoMemory where an allocation was refused.
-pub fn retry_event<R: Rules>(
+/// The command that a session waits with, which is for one that waits. NoMemory where an allocation was refused.
+pub fn waiting_command(
     alloc: Global,
-    rules: &R,
-    setup: &Table,
-    log: &[LogEvent],
     situation: &Situation,
     session: Session,
-) -> Result<Decided, NoMemory>
-    requires room { length log.now < max_events }
-    requires situation { Describes (past_of log.now) situation.now }
-    requires waits { IsSome (waiting (past_of log.now) session) }
-    ensures retry { IfOk result (λ d. IsRetry R.kind setup.now log.now (log.now ++ d.event ∷ []) session d.outcome) }
-    ensures least { IfOk result (λ d. NamesLeastOfWaiting R.kind setup.now (past_of log.now) session d.outcome) }
+) -> Result<Command, NoMemory>
+    requires { (past : Past) × Describes past situation.now × IsSome (waiting past session) }
+    ensures { (past : Past) → Describes past situation.now
+        → IfOk result (λ command. (s : Asked) × (waiting past session ≡ Some s) × (command ≡ Run s)) }
 {
     let Some(statement) = situation.waiting(session) else {
         unreachable!();
     };
-    let command = Command::Run(statement.copy(alloc)?);
-    let outcome = answer_to(alloc, rules, setup, situation, session, &command)?;
-    let copy = outcome.copy(alloc)?;
-    let event = LogEvent {
-        session,
-        command,
-        outcome,
-    };
-    Ok(Decided {
-        event,
-        outcome: copy,
-    })
+    Ok(Command::Run(statement.copy(alloc)?))
 }

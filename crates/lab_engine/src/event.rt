@@ -1,6 +1,7 @@
 //! The events of a log.
 
-ghost use Rattle.std.specs.Prelude.{◌≡◌, IfOk};
+ghost use Rattle.std.specs.Prelude.{◌≡◌, false, IfOk, OnErr};
+ghost use Rattle.lab_engine.specs.EventQuery.{is_conflict, is_ending};
 
 use lab_history::{Rows, View, Writes};
 use lab_table::{Command, NoMemory, RowName, Session, TxnNo};
@@ -111,9 +112,10 @@ impl Sessions {
 }
 
 impl EngineFault {
-    /// A copy; NoMemory where an allocation was refused.
+    /// A copy; NoMemory where an allocation was refused. That of a conflict takes no memory.
     pub fn copy(&self, alloc: Global) -> Result<EngineFault, NoMemory>
-        ensures { IfOk result (λ copy. copy ≡ self.now) }
+        ensures copy { IfOk result (λ copy. copy ≡ self.now) }
+        ensures err { OnErr result (is_conflict self.now ≡ false) }
     {
         Ok(match self {
             EngineFault::DuplicateKey { id } => EngineFault::DuplicateKey { id: *id },
@@ -132,9 +134,10 @@ impl EngineFault {
 }
 
 impl Outcome {
-    /// A copy; NoMemory where an allocation was refused.
+    /// A copy; NoMemory where an allocation was refused. That of a transaction's end takes no memory.
     pub fn copy(&self, alloc: Global) -> Result<Outcome, NoMemory>
-        ensures { IfOk result (λ copy. copy ≡ self.now) }
+        ensures copy { IfOk result (λ copy. copy ≡ self.now) }
+        ensures err { OnErr result (is_ending self.now ≡ false) }
     {
         match self {
             Outcome::Begun(number) => Ok(Outcome::Begun(*number)),

@@ -2,7 +2,7 @@
 
 ghost use Rattle.std.specs.Prelude.{◌≡◌, option_map};
 ghost use Rattle.lab_engine.specs.Log.{asked, is_fatal};
-ghost use Rattle.lab_engine.specs.EventQuery.{busy};
+ghost use Rattle.lab_engine.specs.EventQuery.{busy, is_conflict, is_ending};
 
 use crate::event::{EngineFault, Outcome};
 use lab_table::{Command, Statement};
@@ -41,6 +41,35 @@ pub fn is_busy(outcome: &Outcome) -> bool
             EngineFault::AlreadyBegun => false,
             EngineFault::Busy => true,
         },
+    }
+}
+
+/// Whether a refusal is that of a commit that conflicts.
+fn is_conflict_fault(fault: &EngineFault) -> bool
+    ensures { result ≡ is_conflict fault.now }
+{
+    match fault {
+        EngineFault::DuplicateKey { .. } => false,
+        EngineFault::OutOfRange { .. } => false,
+        EngineFault::Deadlock { .. } => false,
+        EngineFault::WriteConflict { .. } => true,
+        EngineFault::NoTransaction => false,
+        EngineFault::AlreadyBegun => false,
+        EngineFault::Busy => false,
+    }
+}
+
+/// Whether an outcome is that of a commit or an abort of an active transaction, which it ends.
+pub fn ends_transaction(outcome: &Outcome) -> bool
+    ensures { result ≡ is_ending outcome.now }
+{
+    match outcome {
+        Outcome::Begun(_) => false,
+        Outcome::Rows { .. } => false,
+        Outcome::Committed => true,
+        Outcome::Aborted => true,
+        Outcome::Waits { .. } => false,
+        Outcome::Refused(fault) => is_conflict_fault(fault),
     }
 }
 

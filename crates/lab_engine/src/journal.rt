@@ -1,11 +1,19 @@
 //! What each engine keeps, and the calls that all engines share.
 
-ghost use Rattle.std.specs.Prelude.{◌≡◌, ◌<◌, ◌∷◌, ◌++◌, [], length, IfOk, OnErr};
+ghost use Rattle.std.specs.Prelude.{◌≡◌, ◌<◌, ◌∷◌, ◌++◌, [], true, false, length, Contains, IsSome, IfOk, OnOk, OnErr};
+ghost use Rattle.std.specs.Vec.{vec_capacity};
+ghost use Rattle.lab_engine.specs.Answer.{HasPlacesOfEnds};
+ghost use Rattle.lab_engine.specs.EventQuery.{is_ending};
 ghost use Rattle.lab_engine.specs.Limits.{max_events};
+ghost use Rattle.lab_engine.specs.Log.{past_of, active};
+ghost use Rattle.lab_engine.specs.Rules.{Permitted};
+ghost use Rattle.lab_engine.specs.Sessions.{all_sessions};
 
-use crate::decision::{Decided, retry_event, step_event};
+use crate::answer::answer_to;
+use crate::decision::{copy_of, step_outcome, waiting_command};
 use crate::engine::Engine;
 use crate::event::{Level, LogEvent, Outcome};
+use crate::event_query::ends_transaction;
 use crate::reserved::append;
 use crate::rules::Rules;
 use crate::situation::Situation;
@@ -16,7 +24,8 @@ use std::marker::Model;
 
 /// An engine of some rules. Beside its setup and its log it keeps where the log leaves sessions and rows, so no call
 /// looks through the log. A call decides on its event, makes room for it, and then appends it, which takes no memory.
-/// Which session is retryable is found once after each event.
+/// The log keeps a place for the end of each active transaction. Which session is retryable is found once after each
+/// event.
 #[derive(Drop)]
 pub struct Journal<R: Rules> {
     rules: R,
@@ -27,6 +36,7 @@ pub struct Journal<R: Rules> {
 }
 
 impl<R: Rules> Model for Journal<R> {
+    ghost use Rattle.std.specs.Vec.{vec_capacity};
     ghost use Rattle.lab_engine.specs.Journal.{EngineRun, coded_run};
     ghost use Rattle.lab_engine.specs.Log.{past_of};
     ghost use Rattle.lab_engine.specs.Answer.{Keeps};
@@ -39,7 +49,7 @@ impl<R: Rules> Model for Journal<R> {
 
     ghost view = { λ j. record { level = R.kind; setup = j.setup; log = j.log.items } };
 
-    ghost invariant = { λ j. Keeps R.kind j.setup (past_of j.log.items) j.retryable j.situation };
+    ghost invariant = { λ j. Keeps R.kind j.setup (past_of j.log.items) j.retryable j.situation (vec_capacity j.log) };
 }
 
 impl<R: Rules> Journal<R> {
@@ -58,22 +68,53 @@ impl<R: Rules> Journal<R> {
         }
     }
 
-    /// Appends an event that was decided on, and answers its outcome. NoMemory where an allocation was refused; nothing
-    /// has changed then.
-    fn take_in(&mut self, alloc: Global, decided: Decided) -> Result<Outcome, NoMemory>
-        requires { length self.old.log < max_events }
-        ensures ok { IfOk result (λ outcome. (self.new.log ≡ self.old.log ++ decided.event ∷ []) × (outcome ≡ decided.outcome)) }
+    /// Goes on by what was decided on a command, and answers it. NoMemory where an allocation was refused, and then
+    /// nothing has changed; a transaction's end takes no memory.
+    fn go_on(
+        &mut self,
+        alloc: Global,
+        session: Session,
+        command: Command,
+        outcome: Outcome,
+    ) -> Result<Outcome, NoMemory>
+        requires few { length self.old.log < max_events }
+        requires permitted { Permitted self.old.level self.old.setup (past_of self.old.log) session command outcome }
+        ensures ok { IfOk result (λ answer. (self.new.log ≡ self.old.log ++ record { session = session; command = command; outcome = outcome } ∷ []) × (answer ≡ outcome)) }
         ensures err { OnErr result (self.new.log ≡ self.old.log) }
+        ensures end { OnErr result (is_ending outcome ≡ false) }
         ensures setup { self.new.setup ≡ self.old.setup }
         ensures level { self.new.level ≡ self.old.level }
     {
-        self.log.try_reserve(1)?;
-        let copies = self.situation.reserve(alloc, &decided.event)?;
-        self.situation.take_in(alloc, &decided.event, copies);
-        append(&mut self.log, decided.event);
+        let answer = outcome.copy(alloc)?;
+        let event = LogEvent {
+            session,
+            command,
+            outcome,
+        };
+        reserve_place(&mut self.log, &event)?;
+        let copies = self.situation.reserve(alloc, &event)?;
+        self.situation.take_in(alloc, &event, copies);
+        append(&mut self.log, event);
         self.retryable = retryable(&self.rules, &self.setup, &self.situation);
-        Ok(decided.outcome)
+        Ok(answer)
     }
+}
+
+/// Makes room for an event: that of a transaction's end has its place, and any other leaves one for the end of each
+/// session's transaction. NoMemory where an allocation was refused.
+fn reserve_place(log: &mut Vec<LogEvent>, event: &LogEvent) -> Result<(), NoMemory>
+    requires active { is_ending event.now.outcome ≡ true → IsSome (active (past_of log.old.items) event.now.session) }
+    requires session { is_ending event.now.outcome ≡ true → Contains all_sessions event.now.session }
+    requires places { HasPlacesOfEnds (past_of log.old.items) (vec_capacity log.old) }
+    ensures log { log.new.items ≡ log.old.items }
+    ensures places { HasPlacesOfEnds (past_of log.old.items) (vec_capacity log.new) }
+    ensures next { OnOk result (HasPlacesOfEnds (event.now ∷ past_of log.old.items) (vec_capacity log.new)) }
+    ensures end { OnErr result (is_ending event.now.outcome ≡ false) }
+{
+    if ends_transaction(&event.outcome) {
+        return Ok(());
+    }
+    log.try_reserve(10)
 }
 
 impl<R: Rules> Engine for Journal<R> {
@@ -109,28 +150,29 @@ impl<R: Rules> Engine for Journal<R> {
         session: Session,
         command: &Command,
     ) -> Result<Outcome, NoMemory> {
-        let decided = step_event(
+        let outcome = step_outcome(
             alloc,
             &self.rules,
             &self.setup,
-            &self.log,
             &self.situation,
             session,
             command,
         )?;
-        self.take_in(alloc, decided)
+        let command = copy_of(alloc, command)?;
+        self.go_on(alloc, session, command, outcome)
     }
 
     fn retry(&mut self, alloc: Global, session: Session) -> Result<Outcome, NoMemory> {
-        let decided = retry_event(
+        let command = waiting_command(alloc, &self.situation, session)?;
+        let outcome = answer_to(
             alloc,
             &self.rules,
             &self.setup,
-            &self.log,
             &self.situation,
             session,
+            &command,
         )?;
-        self.take_in(alloc, decided)
+        self.go_on(alloc, session, command, outcome)
     }
 
     fn retryable(&self) -> Option<Session> {

@@ -1,6 +1,6 @@
 //! What is kept of a session.
 
-ghost use Rattle.std.specs.Prelude.{◌≡◌, ◌==◌, ◌<◌, ◌+◌, ◌∷◌, ℕ, [], None, Some, Option, cond, length, option_map, IfOk, OnOk};
+ghost use Rattle.std.specs.Prelude.{◌≡◌, ◌==◌, ◌<◌, ◌+◌, ◌∷◌, ℕ, [], None, Some, Option, false, cond, length, option_map, IfOk, OnOk, OnErr};
 ghost use Rattle.std.specs.Option.{option_or};
 ghost use Rattle.std.specs.FinMap as map;
 ghost use Rattle.lab_table.specs.Row.{Row};
@@ -13,6 +13,7 @@ ghost use Rattle.lab_engine.specs.declared.event.Outcome.TheVariants.{Committed}
 ghost use Rattle.lab_engine.specs.Limits.{max_events};
 ghost use Rattle.lab_engine.specs.Log.{Past, Txn, asked, active_after, ops_after, version_by, waiting_after};
 ghost use Rattle.lab_engine.specs.Chains.{chain_after};
+ghost use Rattle.lab_engine.specs.EventQuery.{is_ending};
 ghost use Rattle.lab_engine.specs.KeptRows.{chain_in, pending_in, AreReady};
 ghost use Rattle.lab_engine.specs.Merging.{written_version};
 ghost use Rattle.lab_engine.specs.Situation.{DescribesSession, DescribesRows, Agree, IsRunning, HasRoom, HasPlaces, HoldsOutcome, AreCopies, grown, ran, written_by};
@@ -58,9 +59,10 @@ pub struct Copies {
 }
 
 impl Copies {
-    /// Those of an event. NoMemory where an allocation was refused.
+    /// Those of an event. NoMemory where an allocation was refused; a transaction's end takes no memory.
     pub(crate) fn of(alloc: Global, event: &LogEvent) -> Result<Copies, NoMemory>
-        ensures { IfOk result (AreCopies event.now) }
+        ensures copies { IfOk result (AreCopies event.now) }
+        ensures err { OnErr result (is_ending event.now.outcome ≡ false) }
     {
         let Command::Run(statement) = &event.command else {
             return Ok(Copies {

@@ -1,9 +1,10 @@
 //! What is kept of a log: where it leaves its sessions and rows.
 
-ghost use Rattle.std.specs.Prelude.{◌≡◌, ◌==◌, ◌&&◌, ◌<◌, ◌≤◌, ℕ, [], ◌∷◌, not, length, option_map, is_some, Contains, IfOk, OnOk};
+ghost use Rattle.std.specs.Prelude.{◌≡◌, ◌==◌, ◌&&◌, ◌<◌, ◌≤◌, ℕ, [], ◌∷◌, not, false, length, option_map, is_some, Contains, IfOk, OnOk, OnErr};
 ghost use Rattle.std.specs.Prelude as list;
 ghost use Rattle.lab_engine.specs.Limits.{max_events};
 ghost use Rattle.lab_engine.specs.Log.{Past, active, waiting, begun_after};
+ghost use Rattle.lab_engine.specs.EventQuery.{is_ending};
 ghost use Rattle.lab_engine.specs.KeptRows.{pending_in, AreReady};
 ghost use Rattle.lab_engine.specs.SessionBits.{has};
 ghost use Rattle.lab_engine.specs.Situation.{Describes, DescribesAll, DescribesRows, HoldsOutcome, HasPlaces, AreCopies, all_sessions, running_of, waiting_of};
@@ -81,12 +82,13 @@ impl Situation {
     }
 
     /// Makes room for an event, and copies what is kept of its statement, so that `take_in` takes no memory.
-    /// NoMemory where an allocation was refused.
+    /// NoMemory where an allocation was refused; a transaction's end takes no memory.
     pub(crate) fn reserve(&mut self, alloc: Global, event: &LogEvent) -> Result<Copies, NoMemory>
         requires { (past : Past) × Describes past self.old }
         ensures same { (past : Past) → Describes past self.old → Describes past self.new }
         ensures copies { IfOk result (AreCopies event.now) }
         ensures room { OnOk result (HoldsOutcome event.now.outcome (running_of self.new.sessions event.now.session) self.new.rows) }
+        ensures err { OnErr result (is_ending event.now.outcome ≡ false) }
     {
         self.reserve_room(alloc, event)?;
         Copies::of(alloc, event)
@@ -97,6 +99,7 @@ impl Situation {
         requires { (past : Past) × Describes past self.old }
         ensures same { (past : Past) → Describes past self.old → Describes past self.new }
         ensures room { OnOk result (HoldsOutcome event.now.outcome (running_of self.new.sessions event.now.session) self.new.rows) }
+        ensures err { OnErr result (is_ending event.now.outcome ≡ false) }
     {
         match &event.outcome {
             Outcome::Rows { writes, .. } => {

@@ -101,7 +101,7 @@ fn give_lines<E: Engine + Drop, G: Gate, R: Wait>(
         }
     }
     if index > 0 && lab.is_active(rt, session) {
-        return give(rt, alloc, lab, seat, &Command::Abort);
+        return lab.submit(rt, alloc, seat, Command::Abort);
     }
     Ok(seat)
 }

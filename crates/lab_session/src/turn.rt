@@ -1,6 +1,7 @@
 //! What is done under the lock of a lab: each function here is lent the bench for one turn.
 
-ghost use Rattle.std.specs.Prelude.{◌≡◌, ◌≢◌, None, Some, true, false, length, IsSome, IfOk, IfErr, OnErr, IfSome, IfNone, Err};
+ghost use Rattle.std.specs.Prelude.{◌≡◌, ◌≢◌, ◌<◌, None, Some, true, false, length, IsSome, IfOk, IfErr, OnOk, OnErr, IfSome, IfNone, Err};
+ghost use Rattle.std.specs.Vec.{vec_capacity};
 ghost use Rattle.lab_engine.specs.Limits.{max_events};
 ghost use Rattle.lab_engine.specs.declared.event.EngineFault.TheVariants.{Busy};
 ghost use Rattle.lab_engine.specs.declared.event.Outcome.TheVariants.{Refused};
@@ -16,7 +17,7 @@ use crate::change::Change;
 use crate::fault::LabFault;
 use crate::seat::{Call, Seat, is_answered};
 use lab_engine::Engine;
-use lab_table::Command;
+use lab_table::{Command, NoMemory};
 use std::alloc::Global;
 
 /// What came of a command that was stepped.
@@ -32,6 +33,18 @@ fn lab_fault(fault: BenchFault, waiting: bool) -> LabFault
     match fault {
         BenchFault::NoMemory => LabFault::NoMemory { waiting },
         BenchFault::Full => LabFault::Full { waiting },
+    }
+}
+
+/// Makes room for a command that is answered. Any but an abort leaves a place for one behind it, so that the abort of
+/// what a session has active needs no memory in its list. NoMemory where an allocation was refused.
+fn reserve_call(calls: &mut Vec<Call>, command: &Command) -> Result<(), NoMemory>
+    ensures calls { calls.new.items ≡ calls.old.items }
+    ensures place { OnOk result (length calls.new.items < vec_capacity calls.new) }
+{
+    match command {
+        Command::Abort => calls.try_reserve(1),
+        _ => calls.try_reserve(2),
     }
 }
 
@@ -56,7 +69,7 @@ pub(crate) fn asked<E: Engine>(
     ensures full { IfErr result (λ e. e.1 ≡ LabFault.Full false → length bench.old.log ≡ max_events) }
     ensures told { IfErr result (λ e. TellsFull e.1) }
 {
-    if seat.calls.try_reserve(1).is_err() {
+    if reserve_call(&mut seat.calls, &command).is_err() {
         return Err((command, LabFault::NoMemory { waiting: false }));
     }
     let receipt = match bench.step(alloc, seat.session, &command) {

@@ -108,7 +108,8 @@ fn script_of(alloc: Global, one: u8, other: u8) -> Option<Script> {
     })
 }
 
-/// An engine that refuses a session each command for want of memory.
+/// An engine that refuses a session each command for want of memory, as long as it has no active transaction: that of
+/// one ends without memory.
 #[derive(Drop)]
 struct Refusing {
     engine: LockEngine,
@@ -148,7 +149,7 @@ impl Engine for Refusing {
         session: Session,
         command: &Command,
     ) -> Result<Outcome, NoMemory> {
-        if session.number() == self.session {
+        if session.number() == self.session && !self.engine.is_active(session) {
             return Err(AllocError);
         }
         self.engine.step(alloc, session, command)

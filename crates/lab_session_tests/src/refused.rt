@@ -30,15 +30,23 @@ enum Call {
     Close,
 }
 
-/// Four events, so that a fifth needs an allocation.
+/// Eleven events, three of session 1, so that one more needs allocations in the log, which keeps room for ends, and in
+/// the seat.
 const STEPPED: &[u8] = b"setup (1, 10), (2, 20);
 begin; -- T1
 begin; -- T2
 select * from test where id = 1; -- T1
 select * from test where id = 1; -- T1
+select * from test where id = 1; -- T2
+select * from test where id = 1; -- T2
+commit; -- T2
+commit; -- T2
+commit; -- T2
+commit; -- T2
+commit; -- T2
 ";
 
-/// Session 2 waits, and session 1 ends. Eight events, so that a ninth needs an allocation.
+/// Session 2 waits, and session 1 ends. Eleven events, so that one more needs an allocation in the log.
 const RETRIED: &[u8] = b"setup (1, 10), (2, 20);
 begin; -- T1
 update test set value = 11 where id = 1; -- T1
@@ -46,6 +54,9 @@ begin; -- T2
 update test set value = 12 where id = 1; -- T2
 begin; -- T3
 select * from test where id = 2; -- T3
+commit; -- T3
+commit; -- T3
+commit; -- T3
 commit; -- T3
 commit; -- T1
 ";
@@ -478,6 +489,13 @@ const LAB_LOG: &[u8] = b"T1 begin: begun 1
 T2 begin: begun 2
 T1 select * from test where id = 1: rows (1, 10)
 T1 select * from test where id = 1: rows (1, 10)
+T2 select * from test where id = 1: rows (1, 10)
+T2 select * from test where id = 1: rows (1, 10)
+T2 commit: committed
+T2 commit: refused NoTransaction
+T2 commit: refused NoTransaction
+T2 commit: refused NoTransaction
+T2 commit: refused NoTransaction
 T1 update test set value = 11 where id = 1: rows (1, 10)
 ";
 

@@ -4,19 +4,19 @@ use Rattle.lab_engine.proofs.Describing.{running_txn, running_none}
 use Rattle.lab_engine.proofs.Answering.{gives, may_ask, conflict_none, conflict_some, ran}
 use Rattle.lab_engine.proofs.answer.answer_to.Goals as goal
 
-pub returns-in_default : goal.returns-in_default
-returns-in_default g c past d may = c.without_transaction.ensures _ _ past d (running_none past c.args.situation.now d c.args.session (sym c.in_default.ensures))
+pub returns-in_default-clause-answer : goal.returns-in_default-clause-answer
+returns-in_default-clause-answer g c past d may = c.without_transaction.ensures _ _ past d (running_none past c.args.situation.now d c.args.session (sym c.in_default.ensures))
 
-pub returns-in-Begin : goal.returns-in-Begin
-returns-in-Begin g c past d may = let t = running_txn past c.args.situation.now d c.args.session c.in-Some.running.now (sym c.in-Some.ensures) in
+pub returns-in-Begin-clause-answer : goal.returns-in-Begin-clause-answer
+returns-in-Begin-clause-answer g c past d may = let t = running_txn past c.args.situation.now d c.args.session c.in-Some.running.now (sym c.in-Some.ensures) in
     ((t.0, gives _ _ _ _ t.0 c.in-Begin.is refl may t.1), (λ eq. cc), λ s run circle eq. cc)
 
-pub returns-in-Abort : goal.returns-in-Abort
-returns-in-Abort g c past d may = let t = running_txn past c.args.situation.now d c.args.session c.in-Some.running.now (sym c.in-Some.ensures) in
+pub returns-in-Abort-clause-answer : goal.returns-in-Abort-clause-answer
+returns-in-Abort-clause-answer g c past d may = let t = running_txn past c.args.situation.now d c.args.session c.in-Some.running.now (sym c.in-Some.ensures) in
     ((t.0, gives _ _ _ _ t.0 c.in-Abort.is refl may t.1), (λ eq. cc), λ s run circle eq. cc)
 
-pub returns-in-None : goal.returns-in-None
-returns-in-None g c past d may = let t = running_txn past c.args.situation.now d c.args.session c.in-Some.running.now (sym c.in-Some.ensures) in (
+pub returns-in-None-clause-answer : goal.returns-in-None-clause-answer
+returns-in-None-clause-answer g c past d may = let t = running_txn past c.args.situation.now d c.args.session c.in-Some.running.now (sym c.in-Some.ensures) in (
   (
     t.0,
     gives _ _ _ _ t.0 c.in-Commit.is refl may t.1,
@@ -26,12 +26,12 @@ returns-in-None g c past d may = let t = running_txn past c.args.situation.now d
   λ s run circle eq. cc,
 )
 
-pub returns-in-Some-conflict : goal.returns-in-Some-conflict
-returns-in-Some-conflict g c past d may = let t = running_txn past c.args.situation.now d c.args.session c.in-Some.running.now (sym c.in-Some.ensures) in
+pub returns-in-Some-conflict-clause-answer : goal.returns-in-Some-conflict-clause-answer
+returns-in-Some-conflict-clause-answer g c past d may = let t = running_txn past c.args.situation.now d c.args.session c.in-Some.running.now (sym c.in-Some.ensures) in
     let p = conflict_some _ _ t.0 _ c.in-Some-conflict.conflict c.in-Some-conflict.is (c.conflict.ensures past t.0 d t.1) in
     ((t.0, gives _ _ _ _ t.0 c.in-Commit.is refl may t.1, p.0, p.1, p.2), (λ eq. cc), λ s run circle eq. cc)
 
-pub returns-in-Run : goal.returns-in-Run
-returns-in-Run g c past d may = let t = running_txn past c.args.situation.now d c.args.session c.in-Some.running.now (sym c.in-Some.ensures) in
+pub returns-in-Run-clause-answer : goal.returns-in-Run-clause-answer
+returns-in-Run-clause-answer g c past d may = let t = running_txn past c.args.situation.now d c.args.session c.in-Some.running.now (sym c.in-Some.ensures) in
     ran g.R.Rules.kind c.args.setup.now past c.args.session _ _ _ c.in-Run.is
     (c.run_statement.ensures past t.0 d (may_ask past c.args.session _ _ (ap asked c.in-Run.is) may) t.1 t.2)

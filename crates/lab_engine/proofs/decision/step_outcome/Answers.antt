@@ -10,14 +10,14 @@ returns-then-is_waiting-clause-permitted g c past d = sym (c.is_waiting.ensures 
 pub returns-clause-permitted : goal.returns-clause-permitted
 returns-clause-permitted g c past d =
     let none = at_ease past c.args.session c.is_waiting.result (c.is_waiting.ensures past d) c.if-is_waiting.false in
-    IfOk-weaker c.answer_to.result _ _ (λ outcome answers. answers.0) (c.answer_to.ensures past d (inl none))
+    IfOk-weaker c.answer_to.result _ _ (λ outcome answers. answers.0) (c.answer_to.ensures.answer past d (inl none))
 
 pub returns-clause-least : goal.returns-clause-least
 returns-clause-least g c past d =
     let none = at_ease past c.args.session c.is_waiting.result (c.is_waiting.ensures past d) c.if-is_waiting.false in
-    IfOk-weaker c.answer_to.result _ _ (λ outcome answers. answers.2) (c.answer_to.ensures past d (inl none))
+    IfOk-weaker c.answer_to.result _ _ (λ outcome answers. answers.2) (c.answer_to.ensures.answer past d (inl none))
 
 pub returns-clause-busy : goal.returns-clause-busy
 returns-clause-busy g c past d =
     let none = at_ease past c.args.session c.is_waiting.result (c.is_waiting.ensures past d) c.if-is_waiting.false in
-    IfOk-weaker c.answer_to.result _ _ (λ outcome answers some. absurd (true≢false (sym some ∙ ap is_some none))) (c.answer_to.ensures past d (inl none))
+    IfOk-weaker c.answer_to.result _ _ (λ outcome answers some. absurd (true≢false (sym some ∙ ap is_some none))) (c.answer_to.ensures.answer past d (inl none))

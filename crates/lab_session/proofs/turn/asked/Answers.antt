@@ -13,7 +13,7 @@ use Rattle.lab_session.proofs.turn.asked.Goals as goal
 pub returns-then-not-is_answered-clause-asked : goal.returns-then-not-is_answered-clause-asked
 returns-then-not-is_answered-clause-asked g c =
     let inside : Seated = record { session = c.seat.inside.session; calls = c.seat.inside.calls.items; holds = c.seat.inside.holds } in
-    let after : Seated = record { session = c.seat.inside.session; calls = c.try_reserve.new.self.items; holds = Some c.args.command } in
+    let after : Seated = record { session = c.seat.inside.session; calls = c.reserve_call.new.calls.items; holds = Some c.args.command } in
     let answer : is_answer c.in-Ok.receipt.outcome ≡ false = search rules in
     subst (λ s. IsAsked c.args.bench.now c.step.new.self s after c.args.command false) c.seat.view_is (record {
       receipt = c.in-Ok.receipt;
@@ -32,7 +32,7 @@ returns-clause-asked g c =
     let after : Seated = record { session = c.seat.inside.session; calls = c.push.new.self.items; holds = c.seat.inside.holds } in
     let answer : is_answer c.in-Ok.receipt.outcome ≡ true = search rules in
     let grows : GrowsBy inside after c.args.command c.in-Ok.receipt =
-    grown inside c.args.command c.in-Ok.receipt c.try_reserve.new.self.items c.push.new.self.items c.seat.inside.holds c.try_reserve.ensures.items c.in-Ok-push.ensures.items answer in
+    grown inside c.args.command c.in-Ok.receipt c.reserve_call.new.calls.items c.push.new.self.items c.seat.inside.holds c.reserve_call.ensures.calls c.in-Ok-push.ensures.items answer in
     subst (λ s. IsAsked c.args.bench.now c.step.new.self s after c.args.command true) c.seat.view_is (record {
       receipt = c.in-Ok.receipt;
       step = c.in-Ok.ensures.step;
