@@ -1,24 +1,9 @@
 -- What an answer may be, by who gives the command, and which.
-use Rattle.std.proofs.Common.{◌≡◌, ◌≢◌, ◌⊎◌, inl, inr, ℕ, ◌+◌, refl, sym, ap, subst, false, List, [], Some, None}
-use Rattle.std.specs.Prelude.{◌↔◌, Contains, IsTrue}
-use Rattle.std.specs.List.Sorted.{IsStrictlyIncreasing}
-use Rattle.lab_table.specs.Row.{Row}
-use Rattle.lab_table.specs.Table.{Table, Rows, Writes}
-use Rattle.lab_table.specs.Statement.{fails}
-use Rattle.lab_table.specs.declared.statement.Statement.{Statement}
-use Rattle.lab_table.specs.declared.statement.Command.{Command}
-use Rattle.lab_table.specs.declared.statement.Command.TheVariants.{Begin, Commit, Abort, Run}
-use Rattle.lab_history.specs.VersionName.{View}
-use Rattle.lab_engine.specs.declared.event.Level.{Level}
+use Rattle.std.proofs.Common.{◌≡◌, ◌≢◌, ◌⊎◌, inl, inr, ℕ, ◌+◌, refl, sym, ap, subst, false, List, [], Some, None, ◌↔◌, Contains, IsTrue}
+use Rattle.lab_engine.proofs.Common.{Row, Table, Rows, Writes, fails, Statement, Command, Commit, Run, View, Level, DuplicateKey, OutOfRange, Deadlock, WriteConflict, Busy, Outcome, Begun, Listed, Committed, Aborted, Waits, Refused, Past, Txn, active, begun, seen, BlockedBy, IsFree, IsCircle, IsEffect, IsInsertOf, IsUpdate, IsBelow, MayCommit, Conflicts, IsStrictlyIncreasing, Begin, Abort, NoTransaction, AlreadyBegun, IsLeastCircle}
 use Rattle.lab_engine.specs.declared.event.Level.TheVariants.{Snapshot}
 use Rattle.lab_engine.specs.declared.event.EngineFault.{EngineFault}
-use Rattle.lab_engine.specs.declared.event.EngineFault.TheVariants.{DuplicateKey, OutOfRange, Deadlock, WriteConflict, NoTransaction, AlreadyBegun, Busy}
-use Rattle.lab_engine.specs.declared.event.Outcome.{Outcome}
-use Rattle.lab_engine.specs.declared.event.Outcome.TheVariants.{Begun, Rows as Listed, Committed, Aborted, Waits, Refused}
-use Rattle.lab_engine.specs.Log.{Past, Txn, active, begun, seen}
-use Rattle.lab_engine.specs.Rules.{BlockedBy, IsFree, IsCircle, IsEffect, IsInsertOf, IsUpdate, IsBelow, MayCommit, Conflicts}
 use Rattle.lab_engine.specs.Answer.{Answers}
-use Rattle.lab_engine.specs.LeastCircle.{IsLeastCircle}
 
 -- a row is the least at which an update fails
 pub record IsFirstFailing (level : Level) (setup : Table) (past : Past) (txn : Txn) (s : Statement) (row : Row) : Type 0 where

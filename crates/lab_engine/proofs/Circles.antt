@@ -1,19 +1,8 @@
 -- Cycles of sessions, each blocked by the next, as walks along the graph of who waits for whom.
-use Rattle.std.proofs.Common.{◌≡◌, ◌≢◌, ℕ, zero, suc, ◌+◌, ◌≤◌, refl, sym, subst, ◌∙◌, arith, Bool, true, false, List, [], ◌∷◌, inl, inr, length}
-use Rattle.std.specs.Prelude.{◌==◌, IsTrue, Option, Some, None, Result, Ok, Err, IfOk, IfSome, MatchOption, Contains}
-use Rattle.std.specs.List.{list_any}
-use Rattle.std.proofs.lemmas.Bool.{both_ways, cases_eq, eq-eqb, or_left, or_right}
-use Rattle.lab_table.specs.Table.{Table}
-use Rattle.lab_table.specs.declared.statement.Statement.{Statement}
-use Rattle.lab_engine.specs.declared.event.Level.{Level}
-use Rattle.lab_engine.specs.Log.{Past, waiting}
-use Rattle.lab_engine.specs.Rules.{BlockedBy, IsChain, IsCircle, MayAsk}
-use Rattle.lab_engine.specs.Recording.{IsRetryable}
-use Rattle.lab_engine.specs.WaitsFor.{waits_for, IsWalk, IsRound, WaitsOn, AreWaits}
+use Rattle.std.proofs.Common.{◌≡◌, ◌≢◌, ℕ, suc, ◌+◌, ◌≤◌, refl, sym, subst, ◌∙◌, arith, false, List, [], ◌∷◌, inl, inr, length, ◌==◌, IsTrue, Option, Some, None, Result, Ok, Err, IfOk, IfSome, MatchOption, Contains, ◌⊎◌, ◌<◌, ap}
+use Rattle.lab_engine.proofs.Common.{false_from_ne_true, list_any, both_ways, cases_eq, Table, Statement, Level, Past, waiting, BlockedBy, IsChain, IsCircle, MayAsk, IsRetryable, waits_for, IsWalk, IsRound, WaitsOn, AreWaits, same_Some, NotAfter, IsLeastCircle}
 use Rattle.lab_engine.specs.Released.{IsReleased}
-use Rattle.lab_engine.specs.LeastCircle.{NotAfter, IsLeastCircle}
-use Rattle.lab_engine.proofs.Waiting.{asked_is, AreWaitsWith}
-use Rattle.std.proofs.lemmas.Option.{same_Some}
+use Rattle.lab_engine.proofs.Waiting.{contains_any, asked_is, AreWaitsWith}
 
 -- a walk begins with a step
 first_step : (waits : List ℕ) (session : ℕ) (rest : List ℕ) (goal : ℕ) → IsWalk waits session rest goal → (other : ℕ) × IsTrue (waits_for waits session other)
@@ -45,15 +34,9 @@ walk_of : (level : Level) (setup : Table) (past : Past) (waits : List ℕ) (goal
 walk_of level setup past waits goal [] waiter asked all own chain = own goal chain
 walk_of level setup past waits goal (next ∷ rest) waiter asked all own (b, s, is, chain) = (own next b, walk_of level setup past waits goal rest next s all (all next s is) chain)
 
--- who is in a list is found there
-found_in : (xs : List ℕ) (x : ℕ) → Contains xs x → list_any (λ m. m == x) xs ≡ true
-found_in [] x (k, lt, is) = absurd (omega arith)
-found_in (y ∷ xs) x (zero, lt, is) = or_left _ _ (eq-eqb y x is)
-found_in (y ∷ xs) x (suc k, lt, is) = or_right _ _ (found_in xs x (k, omega arith, is))
-
 -- where a session isn't in a list, nobody in the list is that session
 apart_from : (session : ℕ) (rest : List ℕ) (next : ℕ) → list_any (λ m. m == session) rest ≡ false → Contains rest next → next ≢ session
-apart_from session rest next none there same = both_ways _ none (found_in rest session (subst (Contains rest) same there))
+apart_from session rest next none there same = both_ways _ none (contains_any rest session (subst (Contains rest) same there))
 
 -- a round of the graph with what a session asks for is a cycle
 round_circle : (level : Level) (setup : Table) (past : Past) (waits : List ℕ) (session : ℕ) (s : Statement) → AreWaitsWith level setup past session s waits
@@ -115,39 +98,52 @@ deadlock_is level setup past waits session s h may (Ok None) found shortest leas
     nobody (first ∷ rest) c = none refl rest (circle_walk level setup past waits session s h may first rest c)
 deadlock_is level setup past waits session s h may (Err e) found shortest least none = tt
 
+-- of a session that waits the graph has the blockers of its statement
+waits_own : (level : Level) (setup : Table) (past : Past) (waits : List ℕ) (session : ℕ) (s : Statement) → AreWaits level setup past waits → waiting past session ≡ Some s → AreWaitsWith level setup past session s waits
+waits_own level setup past waits session s h is = (
+  (λ other. (
+    (λ w. let held = (h session other).0 w in subst (λ t. BlockedBy level setup past session t other) (same_Some held.0 s (sym held.1 ∙ is)) held.2),
+    (λ b. (h session other).1 (s, is, b)),
+  )),
+  (λ waiter other _. h waiter other),
+)
+
 -- a waiting session that is released is retryable
 pub released_retryable : (level : Level) (setup : Table) (past : Past) (waits : List ℕ) (session : ℕ) (s : Statement) → AreWaits level setup past waits → waiting past session ≡ Some s
     → IsReleased waits session → IsRetryable level setup past session
-released_retryable level setup past waits session s h is (inl nobody) = (s, is, inl (λ other b. both_ways _ (nobody other) ((h session other).1 (s, is, b))))
-released_retryable level setup past waits session s h is (inr ([], round)) = absurd round
-released_retryable level setup past waits session s h is (inr (first ∷ rest, (own, walk, once))) = (
-  s,
-  is,
-  inr (
-    first ∷ rest,
-    (
-      own,
-      once,
-      chain_of level setup past waits session rest session s (λ next c other. (h next other).0)
-          (λ other w. let held = (h session other).0 w in subst (λ t. BlockedBy level setup past session t other) (same_Some held.0 s (sym held.1 ∙ is)) held.2) walk,
-    ),
-  ),
-)
+released_retryable level setup past waits session s h is (inl nobody) = (s, is, inl (λ other b. both_ways _ (nobody other) (((waits_own level setup past waits session s h is).0 other).1 b)))
+released_retryable level setup past waits session s h is (inr (circle, round)) = (s, is, inr (circle, round_circle level setup past waits session s (waits_own level setup past waits session s h is) circle round))
 
 -- a retryable session is released
 pub retryable_released : (level : Level) (setup : Table) (past : Past) (waits : List ℕ) (session : ℕ) → AreWaits level setup past waits → IsRetryable level setup past session
     → IsReleased waits session
-retryable_released level setup past waits session h (s, is, inl free) = inl nobody
-  where
-    at : (other : ℕ) (b : Bool) → waits_for waits session other ≡ b → b ≡ false
-    at other true q = let held = (h session other).0 q in absurd (free other (subst (λ t. BlockedBy level setup past session t other) (same_Some held.0 s (sym held.1 ∙ is)) held.2))
-    at other false q = refl
-
-    nobody : (other : ℕ) → waits_for waits session other ≡ false
-    nobody other = at other (waits_for waits session other) refl
+retryable_released level setup past waits session h (s, is, inl free) = inl (λ other. false_from_ne_true _ (λ there. free other (((waits_own level setup past waits session s h is).0 other).0 there)))
 retryable_released level setup past waits session h (s, is, inr ([], c)) = absurd c
 retryable_released level setup past waits session h (s, is, inr (first ∷ rest, c)) =
-    inr (
-      first ∷ rest,
-      (c.0, walk_of level setup past waits session rest session s (λ next t waits_with other b. (h next other).1 (t, waits_with, b)) (λ other b. (h session other).1 (s, is, b)) c.2, c.1),
-    )
+    inr (first ∷ rest, (c.0, circle_walk level setup past waits session s (waits_own level setup past waits session s h is) (inr is) first rest c, c.1))
+
+-- two lists of which neither comes after the other are one
+neither_after : (ns ms : List ℕ) → NotAfter ns ms → NotAfter ms ns → ns ≡ ms
+neither_after [] [] h k = refl
+neither_after [] (m ∷ ms) h k = absurd k
+neither_after (n ∷ ns) [] h k = absurd h
+neither_after (n ∷ ns) (m ∷ ms) h k = at (neither_after ns ms) h k
+  where
+    at : (NotAfter ns ms → NotAfter ms ns → ns ≡ ms) → (n < m) ⊎ ((n ≡ m) × NotAfter ns ms) → (m < n) ⊎ ((m ≡ n) × NotAfter ms ns) → n ∷ ns ≡ m ∷ ms
+    at rest (inl less) (inl more) = absurd (omega arith)
+    at rest (inl less) (inr (same, k)) = absurd (omega arith)
+    at rest (inr (same, h)) (inl more) = absurd (omega arith)
+    at rest (inr (same, h)) (inr (alike, k)) = ap (λ x. x ∷ ns) same ∙ ap (λ xs. m ∷ xs) (rest h k)
+
+pub one_least_circle : (level : Level) (setup : Table) (past : Past) (session : ℕ) (s : Statement) (circle other : List ℕ) → IsLeastCircle level setup past session s circle
+    → IsLeastCircle level setup past session s other → circle ≡ other
+one_least_circle level setup past session s circle other h k = neither_after circle other (h.least other k.is_circle back) (k.least circle h.is_circle same)
+  where
+    same : length circle ≡ length other
+    same =
+        let le : length circle ≤ length other = h.shortest other k.is_circle in
+        let ge : length other ≤ length circle = k.shortest circle h.is_circle in
+        omega (arith, le, ge)
+
+    back : length other ≡ length circle
+    back = omega (arith, same)

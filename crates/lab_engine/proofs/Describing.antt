@@ -1,17 +1,6 @@
 -- What a situation says of sessions, rows and numbers.
-use Rattle.std.proofs.Common.{◌≡◌, ◌≢◌, ℕ, zero, suc, ◌+◌, cond, List, [], ◌∷◌, map as each, Option, Some, None, refl, sym, ap, subst, ◌∙◌, arith, inl, inr, Contains, IsSome, option_map, T}
-use Rattle.std.specs.Prelude.{is_some}
-use Rattle.std.proofs.lemmas.Bool.Decides.{eqb_tells}
-use Rattle.lab_table.specs.Row.{Row}
-use Rattle.lab_table.proofs.Tests.{none_of}
-use Rattle.lab_engine.specs.declared.event.LogEvent.{LogEvent}
-use Rattle.lab_engine.specs.declared.row_states.RowStates.{RowStates}
-use Rattle.lab_engine.specs.declared.session_state.RunningTxn.{RunningTxn}
-use Rattle.lab_engine.specs.declared.session_state.SessionState.{SessionState}
-use Rattle.lab_engine.specs.declared.situation.Situation.{Situation}
-use Rattle.lab_engine.specs.Log.{Past, Txn, active, active_after, waiting, waiting_after, begun_after}
-use Rattle.lab_engine.specs.KeptRows.{kept_at, chain_kept, pending_kept, IsSame}
-use Rattle.lab_engine.specs.Situation.{Describes, DescribesAll, DescribesRows, Agree, IsRunning, all_sessions, running_of, waiting_of}
+use Rattle.std.proofs.Common.{◌≡◌, ◌≢◌, ℕ, zero, suc, ◌+◌, cond, List, [], ◌∷◌, map as each, Option, Some, None, refl, sym, ap, subst, ◌∙◌, arith, inl, inr, Contains, IsSome, option_map, T, is_some}
+use Rattle.lab_engine.proofs.Common.{Row, none_of, LogEvent, RunningTxn, SessionState, Situation, Past, Txn, active, active_after, waiting, waiting_after, begun_after, kept_at, chain_kept, pending_kept, IsSame, Describes, DescribesAll, DescribesRows, Agree, IsRunning, all_sessions, running_of, waiting_of, eqb_tells, RowStates}
 
 no_txn : (txn : Option Txn) → ¬ IsSome txn → Agree txn None
 no_txn None h = tt
@@ -35,11 +24,11 @@ pub running_agrees : (past : Past) (situation : Situation) → Describes past si
 running_agrees past situation is session =
     agrees_in past situation.sessions session is.states (λ some. subst (λ l. Contains l session) (sym is.sessions) (is.active_is session some))
 
-kept_txn : (txn : Option Txn) (running : RunningTxn) → Agree txn (Some running) → (t : Txn) × (txn ≡ Some t) × IsRunning t running
+pub kept_txn : (txn : Option Txn) (running : RunningTxn) → Agree txn (Some running) → (t : Txn) × (txn ≡ Some t) × IsRunning t running
 kept_txn None running agree = absurd agree
 kept_txn (Some t) running agree = (t, refl, agree)
 
-kept_none : (txn : Option Txn) → Agree txn None → txn ≡ None
+pub kept_none : (txn : Option Txn) → Agree txn None → txn ≡ None
 kept_none None agree = refl
 kept_none (Some t) agree = absurd agree
 
@@ -68,9 +57,8 @@ waits_agree past situation is session =
 
 some_agree : (txn : Option Txn) (running : Option RunningTxn) → Agree txn running → is_some running ≡ is_some txn
 some_agree None None agree = refl
-some_agree None (Some running) agree = absurd agree
-some_agree (Some txn) None agree = absurd agree
 some_agree (Some txn) (Some running) agree = refl
+some_agree txn running agree = absurd agree
 
 -- a situation keeps an active transaction of a session that has one
 pub active_agrees : (past : Past) (situation : Situation) → Describes past situation → (session : ℕ) → is_some (running_of situation.sessions session) ≡ is_some (active past session)

@@ -1,27 +1,10 @@
 -- What is made of each row that is seen, row by row, and which row keeps a statement from running.
-use Rattle.std.proofs.Common.{◌≡◌, ◌∙◌, refl, sym, ap, subst, ℤ, true, false, cond, T, List, [], ◌∷◌}
-use Rattle.std.specs.Prelude.{Option, Some, None, option_map, option_and_then, unwrap_or}
-use Rattle.std.specs.List.{cons_option}
-use Rattle.std.specs.Ordering.{is_lt}
-use Rattle.std.specs.FinMap.{FinMap, find, is_sorted, get, entries, entries_sorted, get-entries, from_sorted, get-from_sorted}
-use Rattle.std.specs.FinMap.Entries.{below_all}
-use Rattle.lab_table.specs.Row.{Row, row_cmp, row_eq}
-use Rattle.lab_table.specs.Table.{State, Rows}
-use Rattle.lab_table.specs.Statement.{is_read_only, inserted, listed, written, fails}
+use Rattle.std.proofs.Common.{◌≡◌, ◌∙◌, refl, sym, ap, subst, ℤ, true, false, cond, T, List, [], ◌∷◌, is_lt, Option, Some, None, option_map, option_and_then, unwrap_or}
+use Rattle.lab_engine.proofs.Common.{Written, cons_option, FinMap, find, is_sorted, get, entries, entries_sorted, get-entries, from_sorted, get-from_sorted, below_all, Row, row_cmp, row_eq, State, Rows, inserted, listed, written, fails, Statement, same_row, find_below, both, joined, View, state_value, new_states, VersionName, Version, in_view, version_in, is_read_only, with_row, each_row, stored, rewritten, change_is}
 use Rattle.lab_table.specs.Statement as statement
-use Rattle.lab_table.specs.declared.statement.Statement.{Statement}
-use Rattle.lab_table.proofs.Maps.{same_row, find_below}
-use Rattle.lab_table.proofs.Tests.{both, joined}
-use Rattle.lab_history.specs.VersionName.{View, state_value, new_states}
-use Rattle.lab_history.specs.declared.operation.VersionName.{VersionName}
-use Rattle.lab_history.specs.declared.operation.State.{State as Left}
-use Rattle.lab_engine.specs.Log.{Version}
-use Rattle.lab_engine.specs.Rules.{in_view}
-use Rattle.lab_engine.specs.Sight.{Listed, version_in}
-use Rattle.lab_engine.specs.EachRow.{with_row, each_row, stored, rewritten}
+use Rattle.lab_engine.specs.Sight.{Listed}
 use Rattle.lab_engine.proofs.Holding.{absent}
 use Rattle.lab_table.proofs.Statements.{absent_unlisted}
-use Rattle.lab_table.proofs.OneRow.{change_is}
 
 module _ {A B : Type 0} (f : Row → A → Option B) where
   below_each : (x : Row) (es : List (Row × A)) → T (below_all row_cmp x es) → T (below_all row_cmp x (each_row f es))
@@ -76,11 +59,11 @@ module _ {A B : Type 0} (f : Row → A → Option B) where
       ∙ find_each q (entries m) (entries_sorted m) ∙ ap (option_and_then (f q)) (sym (get-entries m q))
 
 -- new states as the code has them, made of each row
-pub states_of_each : {A : Type 0} (f : Row → A → Option Left) (es : List (Row × A)) → new_states (each_row f es) ≡ each_row (λ row v. option_map state_value (f row v)) es
+pub states_of_each : {A : Type 0} (f : Row → A → Option Written) (es : List (Row × A)) → new_states (each_row f es) ≡ each_row (λ row v. option_map state_value (f row v)) es
 states_of_each f [] = refl
 states_of_each {A} f (e ∷ es) = at (f e.0 e.1) (states_of_each f es)
   where
-    at : (o : Option Left) → new_states (each_row f es) ≡ each_row (λ row v. option_map state_value (f row v)) es
+    at : (o : Option Written) → new_states (each_row f es) ≡ each_row (λ row v. option_map state_value (f row v)) es
         → new_states (cons_option (with_row e.0 o) (each_row f es)) ≡ cons_option (with_row e.0 (option_map state_value o)) (each_row (λ row v. option_map state_value (f row v)) es)
     at None rest = rest
     at (Some left) rest = ap (λ es'. (e.0, state_value left) ∷ es') rest
@@ -115,51 +98,34 @@ rows_made s m es items rows of_map made is q =
 
 -- a state as histories have it is the state
 stored_is : (o : Option State) → option_map state_value (option_map stored o) ≡ o
-stored_is None = refl
 stored_is (Some None) = refl
-stored_is (Some (Some value)) = refl
+stored_is other = refl
 
 made_is : (f : ℤ → Option State) (o : State) → option_map state_value (option_and_then (λ old. option_map stored (f old)) o) ≡ option_and_then f o
 made_is f None = refl
 made_is f (Some old) = stored_is (f old)
 
--- a statement rewrites a row as it writes it, and doesn't write an absent one
-record Rewrites (s : Statement) : Type 0 where
-  as_written : (q : Row) (state : State) → fails s q state ≡ false → option_map state_value (rewritten s q state) ≡ written s q state
-  absent_one : (q : Row) → written s q None ≡ None
-
-change_rewrites : (s : Statement) → is_read_only s ≡ false → inserted s ≡ None → Rewrites s
-change_rewrites s changes none =
-    let change = change_is s changes none in
-    record {
-      as_written = λ q state runs. made_is (statement.rewritten s) (listed s q state) ∙ sym (change.writes q state runs);
-      absent_one = λ q. change.writes_listed q None (absent_unlisted s q);
-    }
-
-rewrites_seen : (s : Statement) → Rewrites s → (q : Row) (o : Option Version) → fails s q (unwrap_or o absent).state ≡ false
+-- a statement that neither only lists nor adds a row rewrites a row as it writes it, and doesn't write an absent one
+rewrites_seen : (s : Statement) → is_read_only s ≡ false → inserted s ≡ None → (q : Row) (o : Option Version) → fails s q (unwrap_or o absent).state ≡ false
     → option_and_then (λ (v : Version). option_map state_value (rewritten s q v.state)) o ≡ written s q (unwrap_or o absent).state
-rewrites_seen s all q None h = sym (all.absent_one q)
-rewrites_seen s all q (Some v) h = all.as_written q v.state h
+rewrites_seen s changes none q None h = sym ((change_is s changes none).writes_listed q None (absent_unlisted s q))
+rewrites_seen s changes none q (Some v) h = made_is (statement.rewritten s) (listed s q v.state) ∙ sym ((change_is s changes none).writes q v.state h)
 
 -- new states as the code has them: sorted, and those that a statement writes of the rows seen, if none of these keeps it from running
-pub record AreWritten (s : Statement) (m : Listed) (items : List (Row × Left)) : Type 0 where
+pub record AreWritten (s : Statement) (m : Listed) (items : List (Row × Written)) : Type 0 where
   pub sorted : T (is_sorted row_cmp (new_states items))
   pub found : ((q : Row) → fails s q (version_in m q).state ≡ false) → (q : Row) → find row_cmp q (new_states items) ≡ written s q (version_in m q).state
 
-states_made : (s : Statement) → Rewrites s → (m : Listed) (es : List (Row × Version)) (items : List (Row × Left)) → es ≡ entries m → items ≡ each_row (λ row (v : Version). rewritten s row v.state) es
-    → AreWritten s m items
-states_made s all m es items of_map made =
-    let f : Row → Version → Option Left = λ row v. rewritten s row v.state in
+-- what such a statement writes
+pub change_made : (s : Statement) (m : Listed) (es : List (Row × Version)) (items : List (Row × Written)) → is_read_only s ≡ false → inserted s ≡ None
+    → es ≡ entries m → items ≡ each_row (λ row (v : Version). rewritten s row v.state) es → AreWritten s m items
+change_made s m es items changes none of_map made =
+    let f : Row → Version → Option Written = λ row v. rewritten s row v.state in
     let g : Row → Version → Option State = λ row v. option_map state_value (rewritten s row v.state) in
     let same : new_states items ≡ each_row g (entries m) = ap new_states (made ∙ ap (each_row f) of_map) ∙ states_of_each f (entries m) in
     record {
       sorted = subst (λ k. T (is_sorted row_cmp k)) (sym same) (sorted_each g (entries m) (entries_sorted m));
       found = λ runs q.
           ap (find row_cmp q) same ∙ find_each g q (entries m) (entries_sorted m) ∙ ap (option_and_then (g q)) (sym (get-entries m q))
-          ∙ rewrites_seen s all q (get m q) (runs q);
+          ∙ rewrites_seen s changes none q (get m q) (runs q);
     }
-
--- what a statement writes that neither only lists nor adds a row
-pub change_made : (s : Statement) (m : Listed) (es : List (Row × Version)) (items : List (Row × Left)) → is_read_only s ≡ false → inserted s ≡ None
-    → es ≡ entries m → items ≡ each_row (λ row (v : Version). rewritten s row v.state) es → AreWritten s m items
-change_made s m es items changes none of_map made = states_made s (change_rewrites s changes none) m es items of_map made

@@ -1,17 +1,6 @@
 -- Nothing that a log tells is more than its events are.
 use Rattle.std.proofs.Common.{◌≡◌, ℕ, suc, ◌≤◌, ◌<◌, true, false, cond, [], ◌∷◌, map, length, Option, Some, None, ap, subst, ◌∙◌, arith, option_map, ◌==◌}
-use Rattle.std.specs.Prelude.{⊤}
-use Rattle.std.proofs.lemmas.List.{length-map, length-reverse}
-use Rattle.lab_table.specs.Table.{Rows, Writes}
-use Rattle.lab_table.specs.declared.statement.Command.{Command}
-use Rattle.lab_table.specs.declared.statement.Command.TheVariants.{Begin, Commit, Abort, Run}
-use Rattle.lab_history.specs.VersionName.{View}
-use Rattle.lab_engine.specs.declared.event.Outcome.{Outcome}
-use Rattle.lab_engine.specs.declared.event.Outcome.TheVariants.{Begun, Rows as Listed, Committed, Aborted, Waits, Refused}
-use Rattle.lab_engine.specs.declared.session_state.RunningTxn.{RunningTxn}
-use Rattle.lab_engine.specs.declared.session_state.SessionState.{SessionState}
-use Rattle.lab_engine.specs.Log.{Past, Txn, active, active_after, ops_after, is_fatal, begun, begun_after}
-use Rattle.lab_engine.specs.Situation.{DescribesSession, Agree, IsRunning, HasRoom}
+use Rattle.lab_engine.proofs.Common.{length-map, length-reverse, Rows, Writes, Command, Run, View, Outcome, Begun, Listed, Waits, Refused, RunningTxn, SessionState, Past, Txn, active, active_after, ops_after, is_fatal, begun, begun_after, DescribesSession, Agree, IsRunning, HasRoom, ⊤}
 
 -- an active transaction, if any, has run at most so many operations
 abbrev AtMost : ℕ → Option Txn → Type 0
@@ -25,18 +14,15 @@ more n (Some txn) h = omega arith
 ran_one : (command : Command) (view : View) (rows : Rows) (writes : Writes) (n : ℕ) (txn : Option Txn) → AtMost n txn
     → AtMost (suc n) (option_map (λ t. record { no = t.no; ops = ops_after command view rows writes t.ops; before = t.before }) txn)
 ran_one command view rows writes n None h = tt
-ran_one Begin view rows writes n (Some txn) h = omega arith
-ran_one Commit view rows writes n (Some txn) h = omega arith
-ran_one Abort view rows writes n (Some txn) h = omega arith
 ran_one (Run s) view rows writes n (Some txn) h = omega arith
+ran_one other view rows writes n (Some txn) h = omega arith
 
 after_one : (command : Command) (outcome : Outcome) (past : Past) (n : ℕ) (txn : Option Txn) → AtMost n txn → AtMost (suc n) (active_after command outcome past txn)
 after_one command (Begun number) past n txn h = omega arith
 after_one command (Listed view rows writes) past n txn h = ran_one command view rows writes n txn h
-after_one command Committed past n txn h = tt
-after_one command Aborted past n txn h = tt
 after_one command (Waits on) past n txn h = more n txn h
 after_one command (Refused fault) past n txn h = elim (is_fatal fault) as (λ b. AtMost (suc n) (cond b None txn)) [ true ↦ tt | false ↦ more n txn h ]
+after_one command other past n txn h = tt
 
 at_most : (past : Past) (session : ℕ) → AtMost (length past) (active past session)
 at_most [] session = tt
@@ -52,11 +38,7 @@ ops_at_most past session txn is = subst (λ t. AtMost (length past) t) is (at_mo
 
 begun_more : (outcome : Outcome) (b n : ℕ) → b ≤ n → begun_after outcome b ≤ suc n
 begun_more (Begun number) b n h = omega arith
-begun_more (Listed view rows writes) b n h = omega arith
-begun_more Committed b n h = omega arith
-begun_more Aborted b n h = omega arith
-begun_more (Waits on) b n h = omega arith
-begun_more (Refused fault) b n h = omega arith
+begun_more other b n h = omega arith
 
 -- at most as many transactions have begun as there were events
 pub begun_at_most : (past : Past) → begun past ≤ length past

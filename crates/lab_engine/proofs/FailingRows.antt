@@ -1,27 +1,11 @@
 -- The first row that keeps a statement from running.
-use Rattle.std.proofs.Common.{◌≡◌, ◌∙◌, refl, sym, ap, subst, Bool, true, false, cond, ◌||◌, ◌&&◌, T, List, [], ◌∷◌, ◌⊎◌, inl, inr}
-use Rattle.std.specs.Prelude.{ℤ, Option, Some, None, is_some, unwrap_or, option_map, IsTrue}
-use Rattle.std.specs.List.{list_any}
+use Rattle.std.proofs.Common.{◌≡◌, ◌∙◌, refl, sym, ap, subst, Bool, true, false, cond, ◌||◌, ◌&&◌, T, List, [], ◌∷◌, ◌⊎◌, inl, inr, Less, ℤ, Option, Some, None, is_some, unwrap_or, option_map, IsTrue}
+use Rattle.lab_engine.proofs.Common.{none_some, list_any, find, is_sorted, get, entries, entries_sorted, get-entries, below_all, Row, row_cmp, row_eq, rows_total, inserted, fails, Statement, same_row, row_eq_self, both, Version, IsBelow, IsInsertOf, version_in, same_Some, is_update, absent_runs, insert_is, is_less, first_failing}
 use Rattle.std.specs.Ordering.{is_lt, ordering_reverse}
-use Rattle.std.specs.declared.cmp.Ordering.TheVariants.{Less}
-use Rattle.std.specs.FinMap.{find, is_sorted, get, entries, entries_sorted, get-entries}
-use Rattle.std.specs.FinMap.Entries.{below_all}
-use Rattle.lab_table.specs.Row.{Row, row_cmp, row_eq, rows_total}
-use Rattle.lab_table.specs.Statement.{is_update, inserted, fails}
-use Rattle.lab_table.specs.declared.statement.Statement.{Statement}
-use Rattle.lab_table.proofs.Maps.{same_row, row_eq_self}
-use Rattle.lab_table.proofs.OneRow.{absent_runs, insert_is}
-use Rattle.lab_table.proofs.Tests.{both}
-use Rattle.lab_table.proofs.Orderings.{is_less}
-use Rattle.lab_engine.specs.Log.{Version}
-use Rattle.lab_engine.specs.Rules.{IsBelow, IsInsertOf}
-use Rattle.lab_engine.specs.Sight.{Listed, version_in}
-use Rattle.lab_engine.specs.EachRow.{first_failing}
+use Rattle.lab_engine.specs.Sight.{Listed}
 use Rattle.lab_engine.specs.Effect.{IsEffectFault}
 use Rattle.lab_engine.specs.declared.effect.EffectFault.TheVariants.{OutOfRange}
-use Rattle.lab_engine.proofs.LockSteps.{none_some}
 use Rattle.lab_engine.proofs.Holding.{absent, none_of_any, behind}
-use Rattle.std.proofs.lemmas.Option.{same_Some}
 
 -- where none fails, a test of all finds none
 none_failing : (s : Statement) (es : List (Row × Version)) → first_failing s es ≡ None → list_any (λ e. fails s e.0 e.1.state) es ≡ false
@@ -90,13 +74,13 @@ first_is s (e ∷ es) row h first = at (first_is s es row parts.1) (fails s e.0 
           ];
         }
 
-module _ (s : Statement) (m : Listed) (es : List (Row × Version)) (of_map : es ≡ entries m) (nothing : (q : Row) → fails s q None ≡ false) where
+module _ (s : Statement) (m : Listed) (es : List (Row × Version)) (of_map : es ≡ entries m) where
   -- where no row that is seen fails, none does
-  runs_all : first_failing s es ≡ None → (q : Row) → fails s q (version_in m q).state ≡ false
-  runs_all none q = at (get m q) refl
+  pub update_runs : first_failing s es ≡ None → (q : Row) → fails s q (version_in m q).state ≡ false
+  update_runs none q = at (get m q) refl
     where
       at : (o : Option Version) → get m q ≡ o → fails s q (unwrap_or o absent).state ≡ false
-      at None is = nothing q
+      at None is = absent_runs s q
       at (Some v) is = none_of_any (λ e. fails s e.0 e.1.state) m (none_failing s (entries m) (ap (first_failing s) (sym of_map) ∙ none)) q v is
 
   -- the first row that fails
@@ -106,7 +90,7 @@ module _ (s : Statement) (m : Listed) (es : List (Row × Version)) (of_map : es 
       (ap (λ o. fails s row (unwrap_or o absent).state) (get-entries m row ∙ f.found) ∙ f.fails_there, λ other below. at f other below (get m other) refl)
     where
       at : IsFirst s (λ q. find row_cmp q (entries m)) row → (other : Row) → IsBelow other row → (o : Option Version) → get m other ≡ o → fails s other (unwrap_or o absent).state ≡ false
-      at f other below None is = nothing other
+      at f other below None is = absent_runs s other
       at f other below (Some u) is = f.before other u below (sym (get-entries m other) ∙ is)
 
 -- an insert fails where its row is present
@@ -126,13 +110,9 @@ insert_runs s m (row, value) is off q = (insert_is s row value is).is_refused q 
     at true same = ap (λ k. is_some (version_in m k).state) (same_row q row same) ∙ off
     at false other = refl
 
--- a statement runs where no row that is seen fails
-pub update_runs : (s : Statement) (m : Listed) (es : List (Row × Version)) → es ≡ entries m → first_failing s es ≡ None → (q : Row) → fails s q (version_in m q).state ≡ false
-update_runs s m es of_map none = runs_all s m es of_map (absent_runs s) none
-
 -- else, where it is an update, the first such row is named
 pub update_fails : (s : Statement) (m : Listed) (es : List (Row × Version)) (row : Row) → is_update s ≡ true → es ≡ entries m
     → first_failing s es ≡ Some row → IsEffectFault (version_in m) s (OutOfRange row)
 update_fails s m es row updates of_map first =
-    let f = fails_first s m es of_map (absent_runs s) row first in
+    let f = fails_first s m es of_map row first in
     (updates, f.0, f.1)

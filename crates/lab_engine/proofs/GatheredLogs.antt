@@ -1,30 +1,10 @@
 -- What a log tells, event by event.
-use Rattle.std.proofs.Common.{◌≡◌, ℕ, zero, suc, ◌+◌, ◌-◌, ◌≤◌, ◌<◌, ◌++◌, reverse, arith, refl, sym, ap, subst, ◌∙◌, Bool, true, false, cond, List, [], ◌∷◌, map as each, length, take, drop, get_or, set, inl, inr}
-use Rattle.std.specs.Prelude.{Option, Some, None, is_some, option_map, slice_get}
-use Rattle.std.specs.Option.{option_or}
-use Rattle.std.proofs.lemmas.Bool.Decides.{eqb_tells}
-use Rattle.std.proofs.lemmas.Grind.{reverse_onto}
-use Rattle.std.proofs.lemmas.List.{append-nil, length-map, length-set, length-reverse, get_or-set_same, get_or-set_other, reverse-append, reverse-reverse, take-append-drop}
-use Rattle.lab_table.specs.Row.{Row}
-use Rattle.lab_table.specs.Table.{Table}
-use Rattle.lab_table.specs.declared.statement.Command.{Command}
-use Rattle.lab_history.specs.declared.operation.Op.{Op}
-use Rattle.lab_history.specs.declared.transaction.Txn.{Txn as Recorded}
-use Rattle.lab_engine.specs.declared.event.Outcome.{Outcome}
-use Rattle.lab_engine.specs.declared.event.Outcome.TheVariants.{Begun, Rows as Listed, Committed, Aborted, Waits, Refused}
-use Rattle.lab_engine.specs.declared.event.Level.{Level}
-use Rattle.lab_engine.specs.declared.event.LogEvent.{LogEvent}
-use Rattle.lab_engine.specs.declared.gathering.GatheredTxn.{GatheredTxn}
-use Rattle.lab_engine.specs.Log.{Past, past_of, Txn, Version, is_fatal, active, active_after, commits_after, commits, begun, last_version, version_by, writers, numbers, installers, last_installed}
-use Rattle.lab_engine.specs.Rules.{IsLegal}
-use Rattle.lab_engine.specs.Recording.{recorded_txn, recorded_txns}
-use Rattle.lab_engine.specs.Gathered.{number_of, number_after, number_at, AreActive, recorded, IsWithin, gathered_by, installing, version_told, installed_over, installs_by}
-use Rattle.lab_engine.proofs.LockSteps.{none_some}
+use Rattle.std.proofs.Common.{◌≡◌, ℕ, ◌+◌, ◌-◌, ◌≤◌, ◌<◌, ◌++◌, reverse, arith, refl, sym, ap, subst, ◌∙◌, Bool, true, false, cond, List, [], ◌∷◌, map as each, length, take, drop, get_or, set, inl, inr, Option, Some, None, is_some, option_map, slice_get}
+use Rattle.lab_engine.proofs.Common.{none_some, option_or, append-nil, length-map, length-set, length-reverse, get_or-set_same, get_or-set_other, reverse-append, Row, Table, Command, Op, Outcome, Listed, Committed, Refused, Level, LogEvent, Past, past_of, Txn, Version, is_fatal, active, active_after, commits_after, commits, begun, last_version, version_by, writers, numbers, installers, last_installed, IsLegal, recorded_txn, recorded_txns, number_of, number_after, number_at, AreActive, recorded, IsWithin, gathered_by, installing, installed_over, installs_by, same_Some, eqb_tells, reverse_onto, reverse-reverse, take-append-drop, slice_get-map, version_told, Recorded, GatheredTxn}
 use Rattle.lab_engine.proofs.EventBounds.{ops_at_most}
 use Rattle.lab_engine.proofs.Numbers.{numbers_hold}
 use Rattle.lab_engine.proofs.Records.{records_hold}
 use Rattle.lab_engine.proofs.GatheredNumbers.{at_number, recorded_length}
-use Rattle.std.proofs.lemmas.Option.{same_Some}
 
 -- ---- a legal log is legal so far
 
@@ -40,13 +20,9 @@ legal_front level setup log k legal =
 -- ---- the numbers of the active transactions
 
 number_goes : (command : Command) (outcome : Outcome) (past : Past) (txn : Option Txn) → number_of (active_after command outcome past txn) ≡ number_after outcome (number_of txn)
-number_goes command (Begun n) past txn = refl
 number_goes command (Listed view rows writes) past None = refl
-number_goes command (Listed view rows writes) past (Some t) = refl
-number_goes command Committed past txn = refl
-number_goes command Aborted past txn = refl
-number_goes command (Waits on) past txn = refl
 number_goes command (Refused fault) past txn = elim (is_fatal fault) as (λ b. number_of (cond b None txn) ≡ cond b None (number_of txn)) [ true ↦ refl | false ↦ refl ]
+number_goes command other past txn = refl
 
 -- they are kept by an event
 pub active_goes : (past : Past) (event : LogEvent) (numbers news : List (Option ℕ)) (place : ℕ) (next : Option ℕ) → AreActive past numbers → 1 ≤ event.session → event.session ≤ 9
@@ -78,11 +54,6 @@ active_goes past event numbers news place next are low high there made placed = 
 
 -- ---- gathered transactions
 
-at_map : (txns : List GatheredTxn) (i : ℕ) → slice_get (each recorded txns) i ≡ option_map recorded (slice_get txns i)
-at_map [] i = refl
-at_map (t ∷ txns) zero = refl
-at_map (t ∷ txns) (suc i) = at_map txns i
-
 module _ (level : Level) (setup : Table) (past : Past) (legal : IsLegal level setup past) (txns : List GatheredTxn) (tells : each recorded txns ≡ recorded_txns past) where
   count : length txns ≡ begun past
   count = sym (length-map txns recorded) ∙ ap length tells ∙ recorded_length past
@@ -93,7 +64,7 @@ module _ (level : Level) (setup : Table) (past : Past) (legal : IsLegal level se
       let in_range = (numbers_hold level setup past legal).numbered session t is in
       let own : 1 + (t.no - 1) ≡ t.no = omega (arith, in_range.0) in
       here (slice_get txns (t.no - 1)) refl
-      (sym (at_map txns (t.no - 1)) ∙ ap (λ l. slice_get l (t.no - 1)) tells ∙ at_number (recorded_txn past) 1 (begun past) (t.no - 1) (omega (arith, in_range.0, in_range.1))
+      (sym (slice_get-map recorded txns (t.no - 1)) ∙ ap (λ l. slice_get l (t.no - 1)) tells ∙ at_number (recorded_txn past) 1 (begun past) (t.no - 1) (omega (arith, in_range.0, in_range.1))
       ∙ ap (λ n. Some (recorded_txn past n)) own)
     where
       here : (w : Option GatheredTxn) → slice_get txns (t.no - 1) ≡ w → option_map recorded w ≡ Some (recorded_txn past t.no)
@@ -132,24 +103,18 @@ module _ (level : Level) (setup : Table) (past : Past) (legal : IsLegal level se
   pub installed_goes : (session : ℕ) (outcome : Outcome) (row : Row)
       → installed_over (installing outcome (gathered_by txns (number_of (active past session)))) row (last_installed (commits past) row) ≡ last_installed
       (commits_after outcome (active past session) (commits past)) row
-  installed_goes session (Begun n) row = refl
-  installed_goes session (Listed view rows writes) row = refl
   installed_goes session Committed row = here (active past session) refl where
     here : (w : Option Txn) → active past session ≡ w → installed_over (gathered_by txns (number_of w)) row (last_installed (commits past) row) ≡ last_installed
         (commits_after Committed w (commits past)) row
     here None is = refl
     here (Some t) is =
         ap (λ o. installed_over o row (last_installed (commits past) row)) (gathered session t is).1 ∙ ap (λ v. option_or v (last_installed (commits past) row)) (version_is session t is row)
-  installed_goes session Aborted row = refl
-  installed_goes session (Waits on) row = refl
-  installed_goes session (Refused fault) row = refl
+  installed_goes session other row = refl
 
   -- who installs by it
   pub installers_go : (session : ℕ) (outcome : Outcome) (row : Row)
       → installers past row ++ installs_by (installing outcome (gathered_by txns (number_of (active past session)))) row ≡ numbers
       (writers row (commits_after outcome (active past session) (commits past)))
-  installers_go session (Begun n) row = append-nil (installers past row)
-  installers_go session (Listed view rows writes) row = append-nil (installers past row)
   installers_go session Committed row = here (active past session) refl where
     one : (t : Txn) (b : Bool) → installers past row ++ cond b (t.no ∷ []) [] ≡ numbers (cond b (t ∷ writers row (commits past)) (writers row (commits past)))
     one t true = sym (reverse_onto (each (λ (k : Txn). k.no) (writers row (commits past))) t.no [])
@@ -163,9 +128,7 @@ module _ (level : Level) (setup : Table) (past : Past) (legal : IsLegal level se
         ∙ ap (λ n. installers past row ++ cond (is_some (version_told own.0 row)) (n ∷ []) []) own.2
         ∙ ap (λ v. installers past row ++ cond (is_some v) (t.no ∷ []) []) (version_is session t is row)
         ∙ one t (is_some (version_by t row))
-  installers_go session Aborted row = append-nil (installers past row)
-  installers_go session (Waits on) row = append-nil (installers past row)
-  installers_go session (Refused fault) row = append-nil (installers past row)
+  installers_go session other row = append-nil (installers past row)
 
 -- a row that nothing was installed of has no installers
 pub none_installed : (row : Row) (txns : List Txn) → last_installed txns row ≡ None → writers row txns ≡ []

@@ -1,9 +1,6 @@
 -- What is made of each of the numbers of transactions.
-use Rattle.std.proofs.Common.{◌≡◌, ℕ, zero, suc, ◌+◌, ◌-◌, ◌≤◌, ◌<◌, ◌++◌, arith, refl, sym, ap, ◌∙◌, List, [], ◌∷◌, map as each, length}
-use Rattle.std.specs.Prelude.{Some, slice_get}
-use Rattle.std.proofs.lemmas.List.{map-append, length-map}
-use Rattle.lab_engine.specs.Log.{Past, begun}
-use Rattle.lab_engine.specs.Recording.{numbers_from, recorded_txn, recorded_txns}
+use Rattle.std.proofs.Common.{◌≡◌, ℕ, zero, suc, ◌+◌, ◌-◌, ◌≤◌, ◌<◌, ◌++◌, arith, refl, sym, ap, ◌∙◌, List, [], ◌∷◌, map as each, length, Some, slice_get}
+use Rattle.lab_engine.proofs.Common.{map-append, length-map, Past, begun, numbers_from, recorded_txn, recorded_txns}
 
 -- ---- numbers
 

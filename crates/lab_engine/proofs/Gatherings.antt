@@ -1,19 +1,7 @@
 -- What is gathered goes on with the log.
-use Rattle.std.proofs.Common.{◌≡◌, ℕ, ◌+◌, ◌<◌, ◌≤◌, ◌-◌, ◌++◌, arith, refl, sym, ap, subst, ◌∙◌, List, [], ◌∷◌, map as each, length, take, get_or}
-use Rattle.std.specs.Prelude.{Option, Some, None}
-use Rattle.std.proofs.lemmas.List.{take_more, length-reverse, length-take-le}
-use Rattle.std.specs.FinMap.{get, empty, get-empty}
-use Rattle.lab_table.specs.Row.{Row, row_cmp}
-use Rattle.lab_table.specs.Table.{Table}
-use Rattle.lab_engine.specs.declared.event.Level.{Level}
-use Rattle.lab_engine.specs.declared.event.LogEvent.{LogEvent}
-use Rattle.lab_engine.specs.declared.event.Outcome.{Outcome}
-use Rattle.lab_engine.specs.declared.event.Outcome.TheVariants.{Begun, Rows as Listed, Committed, Aborted, Waits, Refused}
-use Rattle.lab_engine.specs.declared.gathering.GatheredTxn.{GatheredTxn}
+use Rattle.std.proofs.Common.{◌≡◌, ℕ, ◌+◌, ◌<◌, ◌≤◌, ◌-◌, ◌++◌, arith, refl, sym, ap, subst, ◌∙◌, List, [], ◌∷◌, map as each, length, take, get_or, Option, Some, None}
+use Rattle.lab_engine.proofs.Common.{length-reverse, get, get-empty, Row, row_cmp, Table, Level, LogEvent, Outcome, Committed, Past, past_of, active, IsLegal, number_of, number_at, AreActive, recorded, txns_after, gathered_by, installing, IsWithin, installed_over, installs_by, numbers_of, Gathers, take_more, length-take-le, empty, IsShort, GatheredTxn}
 use Rattle.lab_engine.specs.declared.gathering.Gathering.{Gathering}
-use Rattle.lab_engine.specs.Log.{Past, past_of, active}
-use Rattle.lab_engine.specs.Rules.{IsLegal}
-use Rattle.lab_engine.specs.Gathered.{number_of, number_at, AreActive, recorded, txns_after, gathered_by, installing, IsShort, IsWithin, installed_over, installs_by, numbers_of, Gathers}
 use Rattle.lab_engine.proofs.Runs.{past_of-push}
 use Rattle.lab_engine.proofs.GatheredLogs.{legal_front, within, few_ops, installed_goes, installers_go}
 use Rattle.lab_engine.proofs.TxnsAfterEvents.{txns_go}
@@ -52,12 +40,8 @@ module _ (level : Level) (setup : Table) (past : Past) (event : LogEvent) (old :
       short (Some t) is = few_ops level setup past legal.0 old.txns.items tells.txns event.session room t is
 
       at : (outcome : Outcome) (w : Option GatheredTxn) → gathered_by old.txns.items (number_of (active past event.session)) ≡ w → IsShort (installing outcome w)
-      at (Begun n) w is = tt
-      at (Listed view rows writes) w is = tt
       at Committed w is = short w is
-      at Aborted w is = tt
-      at (Waits on) w is = tt
-      at (Refused fault) w is = tt
+      at other w is = tt
 
   is_within : IsWithin (number_at old.active.items place) (length old.txns.items)
   is_within = subst (λ by. IsWithin by (length old.txns.items)) (sym by_is) (within level setup past legal.0 old.txns.items tells.txns event.session)

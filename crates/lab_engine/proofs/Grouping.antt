@@ -1,20 +1,9 @@
--- Rows with who installed them, gathered from installs that are sorted by row.
-use Rattle.std.proofs.Common.{◌≡◌, ℕ, suc, ◌≤◌, ◌<◌, ◌++◌, arith, refl, sym, ap, subst, ◌∙◌, Bool, true, false, cond, ◌&&◌, not, T, List, [], ◌∷◌, map, length, append_assoc}
-use Rattle.std.specs.Prelude.{⊤, Option, Some, None, filter, slice_index_or}
-use Rattle.std.specs.List.Sorted.{IsSortedByKey, IsStableByKey}
-use Rattle.std.specs.Ordering.{is_eq, is_lt}
+-- Who installs which rows, and rows with who installed them, gathered from installs that are sorted by row.
+use Rattle.std.proofs.Common.{◌≡◌, ℕ, suc, ◌≤◌, ◌<◌, ◌++◌, arith, refl, sym, ap, subst, ◌∙◌, Bool, true, false, cond, ◌&&◌, not, T, List, [], ◌∷◌, map, length, append_assoc, is_eq, is_lt, Ordering, Less, Equal, Greater, Option, Some, is_some, filter}
 use Rattle.std.specs.Cmp.{Equal-is, tied_itself}
-use Rattle.std.specs.declared.cmp.Ordering.{Ordering}
-use Rattle.std.specs.declared.cmp.Ordering.TheVariants.{Less, Equal, Greater}
-use Rattle.std.proofs.lemmas.List.Sorted.{ranks_by, sorted_far}
-use Rattle.std.specs.FinMap.{get, find, is_sorted, from_sorted, get-from_sorted}
-use Rattle.std.specs.FinMap.Entries.{below_all}
-use Rattle.lab_table.specs.Row.{Row, row_cmp, row_eq, rows_total, rows_apart, rows_tested, row_test}
-use Rattle.lab_table.proofs.Maps.{same_row}
-use Rattle.lab_table.proofs.Orderings.{turned}
-use Rattle.lab_table.proofs.Tests.{joined, true_and_false}
-use Rattle.lab_engine.specs.Recording.{if_any}
-use Rattle.lab_engine.specs.Gathered.{numbers_of, groups_from}
+use Rattle.lab_engine.proofs.Common.{get, find, is_sorted, from_sorted, get-from_sorted, below_all, Row, row_cmp, row_eq, rows_total, rows_apart, row_test, same_row, joined, if_any, numbers_of, groups_from, IsSortedByKey, IsStableByKey, rows_tested, turned, true_and_false, ⊤, Option, Some, None, filter, slice_index_or, ranks_by, sorted_far, map-append, entries, entries_sorted, get-entries, find_below, both, Version}
+use Rattle.std.proofs.lemmas.List.Elements.{filter-append}
+use Rattle.lab_engine.specs.Sight.{Listed}
 
 -- rows each with who installed it
 abbrev Installs : Type 0
@@ -65,6 +54,12 @@ none_of row y (i ∷ is) less h =
 
 -- ---- groups
 
+-- who installed a row where nobody did before the first of a list
+one_first : (i : Row × ℕ) (b : Bool) (rest : Installs) → cond b (Some (map (λ (k : Row × ℕ). k.1) (cond b (i ∷ rest) rest))) (if_any (map (λ (k : Row × ℕ). k.1) (cond b (i ∷ rest) rest))) ≡ if_any
+    (map (λ (k : Row × ℕ). k.1) (cond b (i ∷ rest) rest))
+one_first i true rest = refl
+one_first i false rest = refl
+
 -- who installed a row, of those that are left and those of the first row before them
 group_found : (row : Row) (before : List ℕ) (x : Row × ℕ) (xs : Installs) → Rising (x ∷ xs)
     → find row_cmp row (groups_from before (x ∷ xs)) ≡ cond (row_eq row x.0) (Some (before ++ numbers_of row (x ∷ xs))) (if_any (numbers_of row (x ∷ xs)))
@@ -85,17 +80,12 @@ group_found row before x (y ∷ ys) up = split (group_found row (before ++ x.1 �
     put_together true = ap Some (append_assoc before (x.1 ∷ []) (map (λ (k : Row × ℕ). k.1) own))
     put_together false = refl
 
-    first : (b : Bool) (rest : Installs) → cond b (Some ([] ++ map (λ (k : Row × ℕ). k.1) (cond b (y ∷ rest) rest))) (if_any (map (λ (k : Row × ℕ). k.1) (cond b (y ∷ rest) rest))) ≡ if_any
-        (map (λ (k : Row × ℕ). k.1) (cond b (y ∷ rest) rest))
-    first true rest = refl
-    first false rest = refl
-
     ends : (find row_cmp row (groups_from [] (y ∷ ys)) ≡ cond (row_eq row y.0) (Some ([] ++ numbers_of row (y ∷ ys))) (if_any (numbers_of row (y ∷ ys)))) → (row_test x.0 y.0) ≡ false → (b : Bool)
         → row_eq row x.0 ≡ b → cond b (Some (before ++ x.1 ∷ [])) (find row_cmp row (groups_from [] (y ∷ ys))) ≡ whole b
     ends next f true t =
         let less : row_cmp row y.0 ≡ Less = ap (λ k. row_cmp k y.0) (same_row row x.0 t) ∙ above x.0 y.0 up.0.0 f in
         ap (λ l. Some (before ++ x.1 ∷ l)) (sym (none_of row y.0 (y ∷ ys) less (ap is_lt (tied_itself rows_total y.0), up.1.0)))
-    ends next f false t = next ∙ first (row_eq row y.0) (filter (λ (k : Row × ℕ). row_eq row k.0) ys)
+    ends next f false t = next ∙ one_first y (row_eq row y.0) (filter (λ (k : Row × ℕ). row_eq row k.0) ys)
 
     split : (find row_cmp row (groups_from (before ++ x.1 ∷ []) (y ∷ ys)) ≡ cond (row_eq row y.0) (Some ((before ++ x.1 ∷ []) ++ numbers_of row (y ∷ ys))) (if_any (numbers_of row (y ∷ ys))))
         → (find row_cmp row (groups_from [] (y ∷ ys)) ≡ cond (row_eq row y.0) (Some ([] ++ numbers_of row (y ∷ ys))) (if_any (numbers_of row (y ∷ ys)))) → (b : Bool) → (row_test x.0 y.0) ≡ b
@@ -139,12 +129,7 @@ groups_sorted (x ∷ xs) es up is = subst (λ l. T (is_sorted row_cmp l)) (sym i
 
 found : (row : Row) (is : Installs) → Rising is → find row_cmp row (groups_from [] is) ≡ if_any (numbers_of row is)
 found row [] up = refl
-found row (x ∷ xs) up = group_found row [] x xs up ∙ at (row_eq row x.0) (filter (λ (k : Row × ℕ). row_eq row k.0) xs)
-  where
-    at : (b : Bool) (rest : Installs) → cond b (Some ([] ++ map (λ (k : Row × ℕ). k.1) (cond b (x ∷ rest) rest))) (if_any (map (λ (k : Row × ℕ). k.1) (cond b (x ∷ rest) rest))) ≡ if_any
-        (map (λ (k : Row × ℕ). k.1) (cond b (x ∷ rest) rest))
-    at true rest = refl
-    at false rest = refl
+found row (x ∷ xs) up = group_found row [] x xs up ∙ one_first x (row_eq row x.0) (filter (λ (k : Row × ℕ). row_eq row k.0) xs)
 
 -- installs of one row keep their order when they are sorted by row
 kept : (row : Row) (old new : Installs) → IsStableByKey (λ e. e.0) row_cmp old new → numbers_of row new ≡ numbers_of row old
@@ -171,3 +156,24 @@ pub groups_found : (row : Row) (old new : Installs) (es : List (Row × List ℕ)
     → get (from_sorted {R = row_cmp} es) row ≡ if_any (numbers_of row old)
 groups_found row old new es stable up is =
     get-from_sorted row_cmp es row (groups_sorted new es up is) ∙ ap (find row_cmp row) is ∙ found row new (rises new up) ∙ ap if_any (kept row old new stable)
+
+-- of rows that rise each is noted at most once
+noted_each : (row : Row) (n : ℕ) (es : List (Row × Version)) → T (is_sorted row_cmp es) → numbers_of row (map (λ (e : Row × Version). (e.0, n)) es) ≡ cond (is_some (find row_cmp row es)) (n ∷ []) []
+noted_each row n [] h = refl
+noted_each row n (e ∷ es) h =
+    let parts = both (below_all row_cmp e.0 es) (is_sorted row_cmp es) h in
+    let rest : List (Row × ℕ) = filter (λ (i : Row × ℕ). row_eq row i.0) (map (λ (e : Row × Version). (e.0, n)) es) in
+    elim (row_eq row e.0) as (λ b. row_eq row e.0 ≡ b → map (λ (i : Row × ℕ). i.1) (cond b ((e.0, n) ∷ rest) rest) ≡ cond (is_some (cond b (Some e.1) (find row_cmp row es))) (n ∷ []) []) [
+      | true ↦ λ t. ap (λ l. n ∷ l)
+          (noted_each row n es parts.1 ∙ ap (λ (o : Option Version). cond (is_some o) (n ∷ []) []) (find_below row es (subst (λ x. T (below_all row_cmp x es)) (sym (same_row row e.0 t)) parts.0)))
+      | false ↦ λ t. noted_each row n es parts.1
+    ] refl
+
+-- the installers of a row, with those who install it now
+pub noted : (row : Row) (n : ℕ) (last : Listed) (es : List (Row × Version)) (old new : List (Row × ℕ)) → es ≡ entries last → new ≡ old ++ map (λ (e : Row × Version). (e.0, n)) es
+    → numbers_of row new ≡ numbers_of row old ++ cond (is_some (get last row)) (n ∷ []) []
+noted row n last es old new are is =
+    ap (numbers_of row) (is ∙ ap (λ (l : List (Row × Version)). old ++ map (λ (e : Row × Version). (e.0, n)) l) are)
+    ∙ ap (map (λ (i : Row × ℕ). i.1)) (filter-append (λ (i : Row × ℕ). row_eq row i.0) old (map (λ (e : Row × Version). (e.0, n)) (entries last)))
+    ∙ map-append (λ (i : Row × ℕ). i.1) (filter (λ (i : Row × ℕ). row_eq row i.0) old) (filter (λ (i : Row × ℕ). row_eq row i.0) (map (λ (e : Row × Version). (e.0, n)) (entries last)))
+    ∙ ap (λ l. numbers_of row old ++ l) (noted_each row n (entries last) (entries_sorted last) ∙ ap (λ (o : Option Version). cond (is_some o) (n ∷ []) []) (sym (get-entries last row)))

@@ -1,22 +1,6 @@
 -- What a test of the entries of a map of rows says row by row, and what statements have read.
-use Rattle.std.proofs.Common.{◌≡◌, ◌∙◌, refl, sym, ap, subst, Bool, true, false, cond, ◌||◌, T, List, [], ◌∷◌, map, reverse, inl, inr}
-use Rattle.std.specs.Prelude.{Option, Some, None}
-use Rattle.std.specs.List.{list_any}
-use Rattle.std.proofs.lemmas.Bool.{or_cases, or_parts, true≢false}
-use Rattle.std.proofs.lemmas.List.Sorted.{list_any-IsPermutation, IsPermutation-reverse}
-use Rattle.std.specs.FinMap.{FinMap, find, is_sorted, get, entries, entries_sorted, get-entries}
-use Rattle.std.specs.FinMap.Entries.{below_all}
-use Rattle.lab_table.specs.Row.{Row, row_cmp, row_eq}
-use Rattle.lab_table.specs.Table.{State}
-use Rattle.lab_table.specs.Statement.{matches}
-use Rattle.lab_table.specs.declared.statement.Statement.{Statement}
-use Rattle.lab_table.proofs.Maps.{same_row, row_eq_self, find_below}
-use Rattle.lab_table.proofs.Tests.{both}
-use Rattle.lab_history.specs.declared.operation.Op.{Op}
-use Rattle.lab_history.specs.declared.operation.VersionName.TheVariants.{Initial}
-use Rattle.lab_engine.specs.Log.{Version, has_read}
-use Rattle.lab_engine.proofs.LockSteps.{none_some}
-use Rattle.std.proofs.lemmas.Option.{same_Some}
+use Rattle.std.proofs.Common.{◌≡◌, ◌∙◌, refl, sym, ap, subst, Bool, true, false, cond, ◌||◌, T, List, [], ◌∷◌, map, reverse, inl, inr, Option, Some, None}
+use Rattle.lab_engine.proofs.Common.{none_some, list_any, or_cases, or_parts, true≢false, FinMap, find, is_sorted, get, entries, entries_sorted, get-entries, below_all, Row, row_cmp, row_eq, State, matches, Statement, same_row, row_eq_self, find_below, both, Op, Initial, Version, has_read, same_Some, list_any-IsPermutation, IsPermutation-reverse}
 
 -- the version of a row that is absent from the start
 abbrev pub absent : Version

@@ -1,31 +1,18 @@
 -- Chains of installed versions: what they say of the versions at a begin.
-use Rattle.std.proofs.Common.{◌≡◌, ℕ, ◌≤◌, ◌<◌, refl, sym, ap, subst, ◌∙◌, arith, cond, List, [], ◌∷◌, ◌++◌, length, length-append, append_assoc}
-use Rattle.std.specs.Prelude.{Option, Some, None, is_some, unwrap_or}
-use Rattle.std.specs.Option.{option_or}
-use Rattle.std.proofs.lemmas.Bool.{lt-ltb, le-ltb}
-use Rattle.lab_table.specs.Row.{Row}
+use Rattle.std.proofs.Common.{◌≡◌, ℕ, ◌≤◌, ◌<◌, refl, sym, ap, subst, ◌∙◌, arith, cond, List, [], ◌∷◌, ◌++◌, length, length-append, append_assoc, lt-ltb, le-ltb, Option, Some, None, is_some, unwrap_or}
+use Rattle.lab_engine.proofs.Common.{option_or, Row, Outcome, Committed, Past, Version, Txn, active, commits, commits_after, version_by, last_installed, writers, Began, longer, chain_after, chain, first_since, last_before}
 use Rattle.lab_engine.specs.declared.row_state.Installed.{Installed}
-use Rattle.lab_engine.specs.declared.event.Outcome.{Outcome}
-use Rattle.lab_engine.specs.declared.event.Outcome.TheVariants.{Begun, Rows as Listed, Committed, Aborted, Waits, Refused}
-use Rattle.lab_engine.specs.Log.{Past, Version, Txn, active, commits, commits_after, version_by, last_installed, writers}
-use Rattle.lab_engine.specs.Laws.{Began}
-use Rattle.lab_engine.specs.Chains.{longer, chain_after, chain, first_since, last_before}
 use Rattle.lab_engine.proofs.Begins.{begins_hold}
 
 -- ---- what a chain says
 
 module _ (row : Row) where
   none_from : (n : ℕ) (outcome : Outcome) (act : Option Txn) (place : ℕ) (c : List Installed) → place < n → first_since n c ≡ None → first_since n (chain_after outcome act place row c) ≡ None
-  none_from n (Begun number) act place c below is = is
-  none_from n (Listed view rows writes) act place c below is = is
-  none_from n Committed None place c below is = is
   none_from n Committed (Some t) place c below is = at (version_by t row) where
     at : (v : Option Version) → first_since n (longer t.no place v c) ≡ None
     at None = is
     at (Some v) = ap (λ b. cond b None (Some (unwrap_or (first_since n c) t.no))) (lt-ltb place n below)
-  none_from n Aborted act place c below is = is
-  none_from n (Waits on) act place c below is = is
-  none_from n (Refused fault) act place c below is = is
+  none_from n other act place c below is = is
 
   -- nobody has installed a row from a place behind all on
   none_since : (n : ℕ) (past : Past) → length past ≤ n → first_since n (chain past row) ≡ None
@@ -48,9 +35,6 @@ module _ (row : Row) (before : Past) where
   one_more : (outcome : Outcome) (act : Option Txn) (past : Past) → length before ≤ length past → (s : SinceThen row past before)
       → (newer : List Txn) × (writers row (commits_after outcome act (commits past)) ≡ newer ++ writers row (commits before))
       × (first_since (length before) (chain_after outcome act (length past) row (chain past row)) ≡ last_no newer)
-  one_more (Begun number) act past later s = (s.newer, s.writers_are, s.first_is)
-  one_more (Listed view rows writes) act past later s = (s.newer, s.writers_are, s.first_is)
-  one_more Committed None past later s = (s.newer, s.writers_are, s.first_is)
   one_more Committed (Some t) past later s = at (version_by t row) refl where
     at : (v : Option Version) → version_by t row ≡ v
         → (newer : List Txn) × (cond (is_some (version_by t row)) (t ∷ writers row (commits past)) (writers row (commits past)) ≡ newer ++ writers row (commits before))
@@ -67,9 +51,7 @@ module _ (row : Row) (before : Past) where
           ∙ ap (λ b. cond b None (Some (unwrap_or (first_since (length before) (chain past row)) t.no))) (le-ltb (length past) (length before) later)
           ∙ ap (λ o. Some (unwrap_or o t.no)) s.first_is,
     )
-  one_more Aborted act past later s = (s.newer, s.writers_are, s.first_is)
-  one_more (Waits on) act past later s = (s.newer, s.writers_are, s.first_is)
-  one_more (Refused fault) act past later s = (s.newer, s.writers_are, s.first_is)
+  one_more other act past later s = (s.newer, s.writers_are, s.first_is)
 
   since_then : (since : Past) → SinceThen row (since ++ before) before
   since_then [] = record {
@@ -92,16 +74,11 @@ since_begin past session txn row is =
 module _ (row : Row) where
   last_after : (n : ℕ) (outcome : Outcome) (act : Option Txn) (place : ℕ) (c : List Installed) (txns : List Txn) → place < n → last_before n c ≡ last_installed txns row
       → last_before n (chain_after outcome act place row c) ≡ last_installed (commits_after outcome act txns) row
-  last_after n (Begun number) act place c txns below is = is
-  last_after n (Listed view rows writes) act place c txns below is = is
-  last_after n Committed None place c txns below is = is
   last_after n Committed (Some t) place c txns below is = at (version_by t row) where
     at : (v : Option Version) → last_before n (longer t.no place v c) ≡ option_or v (last_installed txns row)
     at None = is
     at (Some v) = ap (λ b. cond b (Some v) (last_before n c)) (lt-ltb place n below)
-  last_after n Aborted act place c txns below is = is
-  last_after n (Waits on) act place c txns below is = is
-  last_after n (Refused fault) act place c txns below is = is
+  last_after n other act place c txns below is = is
 
   -- before a place behind all, the last version of a chain is the last that was installed
   pub last_in : (n : ℕ) (past : Past) → length past ≤ n → last_before n (chain past row) ≡ last_installed (commits past) row
@@ -110,16 +87,11 @@ module _ (row : Row) where
       last_after n event.outcome (active past event.session) (length past) (chain past row) (commits past) (omega (arith, within)) (last_in n past (omega (arith, within)))
 
   later_after : (n : ℕ) (outcome : Outcome) (act : Option Txn) (place : ℕ) (c : List Installed) → n ≤ place → last_before n (chain_after outcome act place row c) ≡ last_before n c
-  later_after n (Begun number) act place c later = refl
-  later_after n (Listed view rows writes) act place c later = refl
-  later_after n Committed None place c later = refl
   later_after n Committed (Some t) place c later = at (version_by t row) where
     at : (v : Option Version) → last_before n (longer t.no place v c) ≡ last_before n c
     at None = refl
     at (Some v) = ap (λ b. cond b (Some v) (last_before n c)) (le-ltb place n later)
-  later_after n Aborted act place c later = refl
-  later_after n (Waits on) act place c later = refl
-  later_after n (Refused fault) act place c later = refl
+  later_after n other act place c later = refl
 
   -- so is it before the place of an earlier moment
   last_then : (before since : Past) → last_before (length before) (chain (since ++ before) row) ≡ last_installed (commits before) row

@@ -1,22 +1,9 @@
 -- What is made of what is kept of rows, by rising row.
-use Rattle.std.proofs.Common.{◌≡◌, ◌∙◌, ℕ, refl, sym, ap, subst, cond, T, List, [], ◌∷◌}
-use Rattle.std.specs.Prelude.{Option, Some, None, option_and_then}
-use Rattle.std.specs.Option.{option_or}
-use Rattle.std.specs.List.{AllByRecursion}
+use Rattle.std.proofs.Common.{◌≡◌, ◌∙◌, ℕ, refl, sym, ap, subst, cond, T, List, [], ◌∷◌, Option, Some, None, option_and_then, is_lt, is_eq, Less}
+use Rattle.lab_engine.proofs.Common.{option_or, AllByRecursion, find, is_sorted, get, from_sorted, get-from_sorted, below_all, Row, row_cmp, joined, Version, last_before, Kept, pending_of, chain_kept, pending_kept, each_row}
 use Rattle.std.specs.List.Sorted.{IsStrictlySortedBy}
 use Rattle.std.specs.Map.{keys_of, lookup}
 use Rattle.std.specs.BTreeMap.{is_at}
-use Rattle.std.specs.Ordering.{is_lt, is_eq}
-use Rattle.std.specs.declared.cmp.Ordering.TheVariants.{Less}
-use Rattle.std.specs.FinMap.{find, is_sorted, get, from_sorted, get-from_sorted}
-use Rattle.std.specs.FinMap.Entries.{below_all}
-use Rattle.lab_table.specs.Row.{Row, row_cmp}
-use Rattle.lab_table.proofs.Tests.{joined}
-use Rattle.lab_engine.specs.Log.{Version}
-use Rattle.lab_engine.specs.Chains.{last_before}
-use Rattle.lab_engine.specs.Kept.{Kept, pending_of}
-use Rattle.lab_engine.specs.KeptRows.{chain_kept, pending_kept}
-use Rattle.lab_engine.specs.EachRow.{each_row}
 use Rattle.lab_engine.proofs.Effects.{sorted_each, find_each}
 
 module _ {A : Type 0} where
@@ -31,7 +18,7 @@ module _ {A : Type 0} where
   sorted_kept (e ∷ es) h = joined (below_all row_cmp e.0 es) (is_sorted row_cmp es) (below_kept e.0 es h.0) (sorted_kept es h.1)
 
   -- a row is found among them as the map finds it
-  find_kept : (row : Row) (es : List (Row × A)) → find row_cmp row es ≡ lookup (is_at (row_cmp row)) es
+  pub find_kept : (row : Row) (es : List (Row × A)) → find row_cmp row es ≡ lookup (is_at (row_cmp row)) es
   find_kept row [] = refl
   find_kept row (e ∷ es) = ap (cond (is_eq (row_cmp row e.0)) (Some e.1)) (find_kept row es)
 

@@ -1,3 +1,4 @@
+pub mod Common
 pub mod Locks
 pub mod LockSteps
 pub mod Commits
@@ -22,19 +23,15 @@ pub mod Effects
 pub mod FailingRows
 mod SessionStates
 mod PendingVersions
-mod KeptChains
+pub mod KeptChains
 mod RowChanges
 mod RowWalks
 mod Walks
 mod SessionBits
 mod WaitGraphs
-mod LeastCircles
 mod RisingLists
-mod LeastRows
-mod InsertOrUpdate
 mod AnswerKinds
 pub mod OneOutcome
-mod OneStep
 mod WaitLayers
 pub mod Rising
 pub mod Waiting
@@ -45,9 +42,7 @@ pub mod GatheredLogs
 pub mod TxnsAfterEvents
 pub mod GatheredNumbers
 mod Gatherings
-mod Installing
 mod Grouping
-pub mod GatheredMaps
 pub mod Recordings
 pub mod ListedVersions
 pub mod BrokenLimits

@@ -1,12 +1,7 @@
 -- What an event of one session does to locks.
-use Rattle.std.specs.Option.{option_or}
+pub use Rattle.lab_engine.proofs.Common.{none_some}
+use Rattle.lab_engine.proofs.Common.{option_or, Row, Table, Command, Outcome, Begun, Listed, Waits, Refused, Past, Version, Txn, is_fatal, active_after, version_by, last_installed, initial_version, KeepsOff, AllKeepOff, eqb_tells, ◌==◌, Option, Some, None, unwrap_or, true, false, ⊤}
 use Rattle.std.proofs.Common.{◌≡◌, ◌≢◌, ℕ, refl, sym, ap, subst, ◌∙◌, cond, List, [], ◌∷◌, ◌⊎◌, inl, inr}
-use Rattle.std.specs.Prelude.{◌==◌, Option, Some, None, unwrap_or}
-use Rattle.std.proofs.lemmas.Bool.Decides.{eqb_tells}
-use Rattle.lab_table.specs.Row.{Row}
-use Rattle.lab_table.specs.Table.{Table}
-use Rattle.lab_engine.specs.Log.{Past, Version, Txn, version_by, last_installed, initial_version}
-use Rattle.lab_engine.specs.Laws.{KeepsOff, AllKeepOff}
 
 -- an active transaction after an event: that of the event's session, or of another one, which stays
 pub split : (e s : ℕ) (x y : Option Txn) (t : Txn) → cond (e == s) x y ≡ Some t → ((e ≡ s) × (x ≡ Some t)) ⊎ ((e ≢ s) × (y ≡ Some t))
@@ -33,21 +28,26 @@ step e after act installed own_first own_second neither s z t u row v apart is_t
       ]
     ]
 
--- an event that leaves the transactions as they are
-pub unchanged : (e : ℕ) (act : ℕ → Option Txn) (installed : Row → Version) → AllKeepOff act installed → AllKeepOff (λ s. cond (e == s) (act s) (act s)) installed
-unchanged e act installed all = step e (λ t. t) act installed
-    (λ z t u row v apart is_t is_u pending. all e z t u row v apart is_t is_u pending)
-    (λ s t u row v apart is_t is_u pending. all s e t u row v (λ same. apart (sym same)) is_t is_u pending)
-    (λ s z t u row v apart _ _ is_t is_u pending. all s z t u row v apart is_t is_u pending)
+-- an outcome by which its session's transaction ends or stays as it is
+abbrev pub Leaves : Outcome → Type 0
+Leaves (Begun n) = ⊥
+Leaves (Listed view rows writes) = ⊥
+Leaves other = ⊤
 
-pub none_some : {A : Type 0} {x : A} (P : Type 0) → ◌≡◌ {A = Option A} None (Some x) → P
-none_some P h = cc
+-- who is active after one was active before
+pub was_active : (command : Command) (outcome : Outcome) (past : Past) (before : Option Txn) (t : Txn) → Leaves outcome → active_after command outcome past before ≡ Some t → before ≡ Some t
+was_active command (Begun n) past before t leaves h = absurd leaves
+was_active command (Listed view rows writes) past before t leaves h = absurd leaves
+was_active command (Waits on) past before t leaves h = h
+was_active command (Refused fault) past before t leaves h = elim (is_fatal fault) as (λ b. cond b None before ≡ Some t → before ≡ Some t) [ true ↦ λ none. none_some _ none | false ↦ λ same. same ] h
+was_active command other past before t leaves h = none_some _ h
 
--- an event that ends the transaction of its session
-pub ended : (e : ℕ) (act : ℕ → Option Txn) (installed : Row → Version) → AllKeepOff act installed → AllKeepOff (λ s. cond (e == s) None (act s)) installed
-ended e act installed all = step e (λ t. None) act installed
-    (λ z t u row v apart is_t is_u pending. none_some _ is_t)
-    (λ s t u row v apart is_t is_u pending. none_some _ is_u)
+-- such an event
+pub left : (e : ℕ) (after : Option Txn → Option Txn) (act : ℕ → Option Txn) (installed : Row → Version) → ((before : Option Txn) (t : Txn) → after before ≡ Some t → before ≡ Some t) → AllKeepOff act installed
+    → AllKeepOff (λ s. cond (e == s) (after (act s)) (act s)) installed
+left e after act installed was all = step e after act installed
+    (λ z t u row v apart is_t is_u pending. all e z t u row v apart (was (act e) t is_t) is_u pending)
+    (λ s t u row v apart is_t is_u pending. all s e t u row v (λ same. apart (sym same)) is_t (was (act e) u is_u) pending)
     (λ s z t u row v apart _ _ is_t is_u pending. all s z t u row v apart is_t is_u pending)
 
 -- an event that begins a transaction
@@ -61,11 +61,6 @@ begins e n past act installed all = step e (λ t. Some (record { no = n; ops = [
     subst (λ k. KeepsOff (installed row) v row k) h (record { unwritten = refl; unread = refl; unread_pending = refl }))
     (λ s z t u row v apart _ _ is_t is_u pending. all s z t u row v apart is_t is_u pending)
 
--- the committed version of a row after a commit of a transaction that didn't write it
-commit_elsewhere : (setup : Table) (txns : List Txn) (t : Txn) (row : Row) → version_by t row ≡ None
-    → unwrap_or (last_installed (t ∷ txns) row) (initial_version setup row) ≡ unwrap_or (last_installed txns row) (initial_version setup row)
-commit_elsewhere setup txns t row h = ap (λ w. unwrap_or (option_or w (last_installed txns row)) (initial_version setup row)) h
-
 -- an event that commits a transaction
 pub commits_one : (setup : Table) (e : ℕ) (txns : List Txn) (act : ℕ → Option Txn) (t : Txn) → act e ≡ Some t
     → AllKeepOff act (λ row. unwrap_or (last_installed txns row) (initial_version setup row))
@@ -75,4 +70,4 @@ commits_one setup e txns act t is_own all = step e (λ _. None) act _
     (λ s t' u row v apart is_t is_u pending. none_some _ is_u)
     (λ s z t' u row v apart from_s from_z is_t is_u pending.
     let away : version_by t row ≡ None = (all s e t' t row v (λ same. from_s (sym same)) is_t is_own pending).unwritten in
-    subst (λ c. KeepsOff c v row u) (sym (commit_elsewhere setup txns t row away)) (all s z t' u row v apart is_t is_u pending))
+    subst (λ c. KeepsOff c v row u) (sym (ap (λ w. unwrap_or (option_or w (last_installed txns row)) (initial_version setup row)) away)) (all s z t' u row v apart is_t is_u pending))

@@ -1,24 +1,12 @@
 -- Sorted lists of rows with their versions, two of which are merged.
-use Rattle.std.proofs.Common.{◌≡◌, ℕ, zero, suc, ◌+◌, true, false, cond, T, [], ◌∷◌, ◌++◌, take, drop, Option, Some, None, Bool, is_some, refl, sym, ap, ◌∙◌, subst, append_assoc, one-add}
+use Rattle.std.proofs.Common.{◌≡◌, ℕ, suc, ◌+◌, true, false, cond, T, [], ◌∷◌, ◌++◌, take, drop, Option, Some, None, Bool, is_some, refl, sym, ap, ◌∙◌, subst, append_assoc, one-add, is_lt, is_gt, Ordering, Less, Equal, Greater}
 use Rattle.std.specs.Bool.{⊤}
-use Rattle.std.specs.Option.{option_or}
-use Rattle.std.specs.List.{prefix_len}
-use Rattle.std.specs.Ordering.{is_lt, is_gt}
-use Rattle.std.specs.declared.cmp.Ordering.{Ordering}
-use Rattle.std.specs.declared.cmp.Ordering.TheVariants.{Less, Equal, Greater}
-use Rattle.std.specs.FinMap.{find, is_sorted, get, from_sorted, insert, put, entries, entries_sorted, get-entries, get-from_sorted, get-insert}
-use Rattle.std.specs.FinMap.Entries.{below_all, by_order, is_sorted-put, find-put}
-use Rattle.lab_table.specs.Row.{Row, row_cmp, row_eq, rows_total, rows_apart, row_test}
-use Rattle.std.proofs.lemmas.Bool.{false≢true}
-use Rattle.lab_table.proofs.Maps.{find_below, same_row}
+use Rattle.lab_engine.proofs.Common.{option_or, prefix_len, find, is_sorted, get, from_sorted, insert, entries, entries_sorted, get-entries, get-from_sorted, get-insert, below_all, Row, row_cmp, row_eq, rows_total, rows_apart, row_test, find_below, same_row, both, Version, comes_after, put, by_order, is_sorted-put, find-put, is_less, turned, turned_back, merged, without_row, insert_each, insert_missing, lower}
 use Rattle.lab_table.proofs.Putting.{is_own}
-use Rattle.lab_table.proofs.Tests.{both}
-use Rattle.lab_table.proofs.Orderings.{is_less, turned, turned_back}
-use Rattle.lab_table.proofs.SortedRows.{lower}
-use Rattle.lab_engine.specs.Log.{Version}
-use Rattle.lab_engine.specs.Sight.{Listed, comes_after}
-use Rattle.lab_engine.specs.Merging.{merged, without_row, insert_each, insert_missing}
+use Rattle.lab_engine.specs.Sight.{Listed}
+use Rattle.lab_history.proofs.FirstValues.{or_none}
 use Rattle.lab_engine.proofs.VersionLists.{Entries}
+use Rattle.lab_engine.proofs.RowChanges.{by_row}
 
 -- a version before those that come after the row, in the place of the row's own if it is there
 split : (row : Row) (v : Version) (es : Entries) → take (prefix_len (comes_after row) es) es ++ (row, v) ∷ without_row row (drop (prefix_len (comes_after row) es) es) ≡ put row_cmp row v es
@@ -35,18 +23,17 @@ split row v (e ∷ es) = at (split row v es) (row_cmp row e.0) refl
         ap (λ n. take n (e ∷ es) ++ (row, v) ∷ without_row row (drop n (e ∷ es))) (one-add (prefix_len (comes_after row) es)) ∙ ap (λ l. e ∷ l) rest
 
 -- each entry of a list put into another
-put_each : Entries → Entries → Entries
+abbrev put_each : Entries → Entries → Entries
 put_each es [] = es
 put_each es (e ∷ over) = put_each (put row_cmp e.0 e.1 es) over
 
 -- each entry of a list stands before all of another
-AllBelow : Entries → Entries → Type 0
+abbrev AllBelow : Entries → Entries → Type 0
 AllBelow [] over = ⊤
 AllBelow (x ∷ xs) over = T (below_all row_cmp x.0 over) × AllBelow xs over
 
 -- an entry before all that are put stays in front
 past_one : (x : Row × Version) (es over : Entries) → T (below_all row_cmp x.0 over) → x ∷ put_each es over ≡ put_each (x ∷ es) over
-unfolding put_each
 past_one x es [] h = refl
 past_one x es (e ∷ over) h =
     let parts = both (is_lt (row_cmp x.0 e.0)) (below_all row_cmp x.0 over) h in
@@ -55,13 +42,11 @@ past_one x es (e ∷ over) h =
 
 -- so do all that stand before
 past : (xs es over : Entries) → AllBelow xs over → xs ++ put_each es over ≡ put_each (xs ++ es) over
-unfolding AllBelow
 past [] es over h = refl
 past (x ∷ xs) es over h = ap (λ l. x ∷ l) (past xs es over h.1) ∙ past_one x (xs ++ es) over h.0
 
 -- what a row comes after stands before what the row stands before
 front_below : (row : Row) (es over : Entries) → T (below_all row_cmp row over) → AllBelow (take (prefix_len (comes_after row) es) es) over
-unfolding AllBelow
 front_below row [] over h = tt
 front_below row (e ∷ es) over h = at (front_below row es over h) (row_cmp row e.0) refl
   where
@@ -72,7 +57,6 @@ front_below row (e ∷ es) over h = at (front_below row es over h) (row_cmp row 
 
 -- to merge is to put each entry
 merged_put : (under over : Entries) → T (is_sorted row_cmp over) → merged under over ≡ put_each under over
-unfolding put_each AllBelow
 merged_put under [] h = refl
 merged_put under (e ∷ over) h =
     let parts = both (below_all row_cmp e.0 over) (is_sorted row_cmp over) h in
@@ -84,7 +68,6 @@ merged_put under (e ∷ over) h =
     ∙ ap (λ l. put_each l over) (split e.0 e.1 under)
 
 each_sorted : (es over : Entries) → T (is_sorted row_cmp es) → T (is_sorted row_cmp (put_each es over))
-unfolding put_each
 each_sorted es [] h = h
 each_sorted es (e ∷ over) h = each_sorted (put row_cmp e.0 e.1 es) over (is_sorted-put row_cmp rows_total e.0 e.1 es h)
 
@@ -98,7 +81,6 @@ first_stays row e over old below =
     ] refl
 
 each_found : (row : Row) (es over : Entries) → T (is_sorted row_cmp over) → find row_cmp row (put_each es over) ≡ option_or (find row_cmp row over) (find row_cmp row es)
-unfolding put_each
 each_found row es [] h = refl
 each_found row es (e ∷ over) h =
     let parts = both (below_all row_cmp e.0 over) (is_sorted row_cmp over) h in
@@ -121,9 +103,8 @@ merged_found below above made row is =
 
 -- what is left of a sorted list is in order
 sorted-drop : (n : ℕ) (es : Entries) → T (is_sorted row_cmp es) → T (is_sorted row_cmp (drop n es))
-sorted-drop zero es h = h
-sorted-drop (suc n) [] h = h
 sorted-drop (suc n) (e ∷ es) h = sorted-drop n es (both (below_all row_cmp e.0 es) (is_sorted row_cmp es) h).1
+sorted-drop n es h = h
 
 sorted-without : (row : Row) (es : Entries) → T (is_sorted row_cmp es) → T (is_sorted row_cmp (without_row row es))
 sorted-without row [] h = h
@@ -162,39 +143,29 @@ pub cover_found : (old above : Listed) (seen : Entries) (row : Row) → seen ≡
 cover_found old above seen row is =
     ap (λ l. get (insert_each old l) row) is ∙ each_inserted row old (entries above) (entries_sorted above) ∙ ap (λ o. option_or o (get old row)) (sym (get-entries above row))
 
+-- one entry put where its row is missing
+one_missing : (row : Row) (versions : Listed) (e : Row × Version)
+    → get (cond (is_some (get versions e.0)) versions (insert versions e.0 e.1)) row ≡ option_or (get versions row) (cond (row_eq row e.0) (Some e.1) None)
+one_missing row versions e = at (get versions e.0) refl
+  where
+    at : (o : Option Version) → get versions e.0 ≡ o → get (cond (is_some o) versions (insert versions e.0 e.1)) row ≡ option_or (get versions row) (cond (row_eq row e.0) (Some e.1) None)
+    at (Some v) is =
+        by_row (λ r own. get versions r ≡ option_or (get versions r) (cond own (Some e.1) None)) e.0 (is ∙ sym (ap (λ o. option_or o (Some e.1)) is)) (λ r. sym (or_none (get versions r))) row
+    at None is =
+        get-insert rows_total versions e.0 e.1 row
+        ∙ by_row (λ r own. cond own (Some e.1) (get versions r) ≡ option_or (get versions r) (cond own (Some e.1) None)) e.0 (sym (ap (λ o. option_or o (Some e.1)) is)) (λ r. sym (or_none (get versions r))) row
+
+one_then : (o rest : Option Version) (own : Bool) (v : Version) → option_or (option_or o (cond own (Some v) None)) rest ≡ option_or o (cond own (Some v) rest)
+one_then (Some u) rest own v = refl
+one_then None rest true v = refl
+one_then None rest false v = refl
+
 -- putting those that are missing: a row is found as before, else as the entries have it
 each_missing : (row : Row) (versions : Listed) (under : Entries) → get (insert_missing versions under) row ≡ option_or (get versions row) (find row_cmp row under)
 each_missing row versions [] = sym (or_none (get versions row))
-  where
-    or_none : (o : Option Version) → option_or o None ≡ o
-    or_none (Some v) = refl
-    or_none None = refl
-each_missing row versions (e ∷ under) = by (is_some (get versions e.0)) refl (λ m. each_missing row m under)
-  where
-    here : row_eq row e.0 ≡ true → get versions row ≡ get versions e.0
-    here same = ap (get versions) (same_row row e.0 same)
-
-    by : (b : Bool) → is_some (get versions e.0) ≡ b → ((m : Listed) → get (insert_missing m under) row ≡ option_or (get m row) (find row_cmp row under))
-        → get (insert_missing (cond b versions (insert versions e.0 e.1)) under) row ≡ option_or (get versions row) (find row_cmp row (e ∷ under))
-    by true there rest = rest versions ∙ known (row_eq row e.0) refl
-      where
-        known : (t : Bool) → row_eq row e.0 ≡ t → option_or (get versions row) (find row_cmp row under) ≡ option_or (get versions row) (cond t (Some e.1) (find row_cmp row under))
-        known true same = found (get versions row) (ap is_some (here same) ∙ there)
-          where
-            found : (o : Option Version) → is_some o ≡ true → option_or o (find row_cmp row under) ≡ option_or o (Some e.1)
-            found (Some v) is = refl
-            found None is = absurd (false≢true is)
-        known false apart = refl
-    by false missing rest =
-        rest (insert versions e.0 e.1) ∙ ap (λ o. option_or o (find row_cmp row under)) (get-insert rows_total versions e.0 e.1 row) ∙ new (row_eq row e.0) refl
-      where
-        new : (t : Bool) → row_eq row e.0 ≡ t → option_or (cond t (Some e.1) (get versions row)) (find row_cmp row under) ≡ option_or (get versions row) (cond t (Some e.1) (find row_cmp row under))
-        new true same = absent (get versions row) (ap is_some (here same) ∙ missing)
-          where
-            absent : (o : Option Version) → is_some o ≡ false → Some e.1 ≡ option_or o (Some e.1)
-            absent (Some v) is = absurd (false≢true (sym is))
-            absent None is = refl
-        new false apart = refl
+each_missing row versions (e ∷ under) =
+    each_missing row (cond (is_some (get versions e.0)) versions (insert versions e.0 e.1)) under
+    ∙ ap (λ o. option_or o (find row_cmp row under)) (one_missing row versions e) ∙ one_then (get versions row) (find row_cmp row under) (row_eq row e.0) e.1
 
 -- a row is found as versions have it, else as those that were put under them
 pub under_found : (above old : Listed) (seen : Entries) (row : Row) → seen ≡ entries old → get (insert_missing above seen) row ≡ option_or (get above row) (get old row)

@@ -1,25 +1,7 @@
 -- Looking only at the versions of rows that a statement may match.
-use Rattle.std.proofs.Common.{◌≡◌, ◌∙◌, refl, sym, ap, subst, Bool, true, false, cond, ◌||◌, T, [], ◌∷◌, drop, one-add, inl, inr}
-use Rattle.std.specs.Prelude.{Option, Some, None, option_and_then, ◌+◌}
-use Rattle.std.specs.List.{cons_option, list_any, prefix_len}
-use Rattle.std.specs.Ordering.{is_lt, is_eq, is_gt}
-use Rattle.std.specs.declared.cmp.Ordering.{Ordering}
-use Rattle.std.specs.declared.cmp.Ordering.TheVariants.{Less, Equal, Greater}
-use Rattle.std.proofs.lemmas.Bool.{false≢true}
-use Rattle.std.specs.FinMap.{is_sorted}
-use Rattle.std.specs.FinMap.Entries.{below_all}
-use Rattle.lab_table.specs.Row.{Row, row_cmp, row_eq, rows_apart}
-use Rattle.lab_table.specs.Statement.{may_match, listed, fails}
-use Rattle.lab_table.specs.declared.statement.Statement.{Statement}
-use Rattle.lab_table.proofs.Maps.{row_eq_self}
-use Rattle.lab_table.proofs.OneRow.{not_listed, not_failing}
-use Rattle.lab_table.proofs.Orderings.{is_less}
+use Rattle.std.proofs.Common.{◌≡◌, ◌∙◌, refl, sym, ap, subst, true, false, cond, T, [], ◌∷◌, drop, one-add, inl, inr, Option, Some, None, option_and_then, ◌+◌, is_lt, is_eq, is_gt, Ordering, Less, Equal, Greater}
+use Rattle.lab_engine.proofs.Common.{false_from_ne_true, cons_option, prefix_len, false≢true, is_sorted, below_all, Row, row_cmp, row_eq, rows_apart, may_match, listed, fails, Statement, row_eq_self, both, Version, comes_after, not_listed, not_failing, is_less, with_row, each_row, rewritten, value_rewritten, first_failing, lower}
 use Rattle.lab_table.proofs.Putting.{is_own}
-use Rattle.lab_table.proofs.SortedRows.{lower}
-use Rattle.lab_table.proofs.Tests.{both}
-use Rattle.lab_engine.specs.Log.{Version}
-use Rattle.lab_engine.specs.Sight.{comes_after}
-use Rattle.lab_engine.specs.EachRow.{with_row, each_row, rewritten, value_rewritten, first_failing}
 use Rattle.lab_engine.specs.Candidates.{own_entries, own_first, AreCandidates}
 use Rattle.lab_engine.proofs.VersionLists.{Entries}
 
@@ -51,11 +33,7 @@ own_there row (e ∷ es) h = at (own_there row es parts.1) (row_cmp row e.0) ref
 
 -- another row than the only one that may match doesn't
 pub others_off : (s : Statement) (row : Row) → ((other : Row) → may_match s other ≡ true → other ≡ row) → (other : Row) → ¬ (other ≡ row) → may_match s other ≡ false
-others_off s row only other apart =
-    elim (may_match s other) as (λ b. may_match s other ≡ b → b ≡ false) [
-      | true ↦ λ may. absurd (apart (only other may))
-      | false ↦ λ may. refl
-    ] refl
+others_off s row only other apart = false_from_ne_true (may_match s other) (λ may. apart (only other may))
 
 -- rows that a test tells apart are two
 apart_by : (row other : Row) → row_eq row other ≡ false → ¬ (other ≡ row)
@@ -86,21 +64,6 @@ pub rewritten_candidates : (s : Statement) (es found : Entries) → AreCandidate
     → each_row (λ row (v : Version). rewritten s row v.state) found ≡ each_row (λ row (v : Version). rewritten s row v.state) es
 rewritten_candidates s es found are =
     each_candidate (λ row (v : Version). rewritten s row v.state) s es found (λ row v off. ap (option_and_then (value_rewritten s)) (not_listed s row off v.state)) are
-
--- ---- whether a test holds of one
-
--- where a test holds of no row that the statement rules out, it holds of an entry where it holds of a candidate
-pub any_candidate : (p : Row × Version → Bool) (s : Statement) (es found : Entries) → ((entry : Row × Version) → may_match s entry.0 ≡ false → p entry ≡ false)
-    → AreCandidates s es found → list_any p found ≡ list_any p es
-any_candidate p s es found off (inl all) = ap (list_any p) all
-any_candidate p s es found off (inr (row, only, own)) = ap (list_any p) own ∙ any_own es
-  where
-    any_own : (es : Entries) → list_any p (own_entries row es) ≡ list_any p es
-    any_own [] = refl
-    any_own (e ∷ es) = elim (row_eq row e.0) as (λ b. row_eq row e.0 ≡ b → list_any p (cond b (e ∷ own_entries row es) (own_entries row es)) ≡ (p e || list_any p es)) [
-      | true ↦ λ is. ap (λ b. p e || b) (any_own es)
-      | false ↦ λ is. any_own es ∙ ap (λ b. b || list_any p es) (sym (off e (others_off s row only e.0 (apart_by row e.0 is))))
-    ] refl
 
 -- ---- the first that fails
 

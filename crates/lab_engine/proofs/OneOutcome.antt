@@ -1,30 +1,25 @@
--- After a log there is one answer to a command.
-use Rattle.std.proofs.Common.{◌≡◌, inl, inr, ℕ, refl, sym, ap, subst, ◌∙◌, arith, List, [], ◌∷◌}
-use Rattle.std.specs.Prelude.{IsTrue}
-use Rattle.std.proofs.lemmas.Bool.{both_ways}
-use Rattle.std.proofs.lemmas.Option.{same_Some}
-use Rattle.lab_table.specs.Row.{Row}
-use Rattle.lab_table.specs.Table.{Table, Rows, Writes}
-use Rattle.lab_table.specs.Statement.{fails}
-use Rattle.lab_table.specs.declared.statement.Statement.{Statement}
-use Rattle.lab_table.specs.declared.statement.Command.{Command}
-use Rattle.lab_table.specs.declared.statement.Command.TheVariants.{Begin, Commit, Abort, Run}
-use Rattle.lab_table.proofs.Maps.{same_rows}
-use Rattle.lab_history.specs.VersionName.{View}
-use Rattle.lab_engine.specs.declared.event.Level.{Level}
+-- After a log there is one answer to a command, and one event that a step or a retry appends.
+use Rattle.std.proofs.Common.{◌≡◌, inl, inr, ℕ, ℤ, option_map, Ordering, Less, Equal, Greater, refl, sym, ap, subst, ◌∙◌, arith, List, [], ◌∷◌, IsTrue, ◌≢◌, ◌++◌, Some, None, Option, IsSome, is_some}
+use Rattle.lab_engine.proofs.Common.{none_some, row_cmp, rows_apart, IsBelow, IsInsertOf, IsUpdate, both_ways, same_Some, Row, Table, Rows, Writes, fails, Statement, Command, Commit, Run, same_rows, View, Level, DuplicateKey, OutOfRange, Deadlock, WriteConflict, Outcome, Listed, Waits, Refused, Past, Txn, writers, commits, seen, BlockedBy, IsFree, IsChain, IsCircle, IsEffect, MayCommit, Conflicts, turned, update_inserts_none, some_is, Busy, LogEvent, past_of, waiting, Permitted}
 use Rattle.lab_engine.specs.declared.event.Level.TheVariants.{Snapshot}
-use Rattle.lab_engine.specs.declared.event.EngineFault.TheVariants.{DuplicateKey, OutOfRange, Deadlock, WriteConflict}
-use Rattle.lab_engine.specs.declared.event.Outcome.{Outcome}
-use Rattle.lab_engine.specs.declared.event.Outcome.TheVariants.{Rows as Listed, Waits, Refused}
-use Rattle.lab_engine.specs.Log.{Past, Txn, writers, commits, seen}
-use Rattle.lab_engine.specs.Rules.{BlockedBy, IsFree, IsChain, IsCircle, IsEffect, MayCommit, Conflicts}
 use Rattle.lab_engine.specs.Answer.{Answers}
-use Rattle.lab_engine.proofs.LeastCircles.{one_least_circle}
-use Rattle.lab_engine.proofs.LeastRows.{one_least_row}
-use Rattle.lab_engine.proofs.LockSteps.{none_some}
-use Rattle.lab_engine.proofs.InsertOrUpdate.{not_both}
+use Rattle.lab_engine.proofs.Circles.{one_least_circle}
 use Rattle.lab_engine.proofs.RisingLists.{same_rising, before_end, none_before}
 use Rattle.lab_engine.proofs.AnswerKinds.{FreeAnswer, HeldAnswer, TxnAnswer, IdleAnswer, KnownAnswer, IsFirstFailing, IsLeastConflict, answer_known}
+use Rattle.lab_engine.specs.Answered.{StepsTo, RetriesTo}
+
+-- of the rows that have something there is one least
+one_least_row : (P : Row → Type 0) (row other : Row) → P row → P other → ((k : Row) → IsBelow k row → P k → ⊥) → ((k : Row) → IsBelow k other → P k → ⊥) → row ≡ other
+one_least_row P row other here there least lesser = at (row_cmp row other) refl
+  where
+    at : (o : Ordering) → row_cmp row other ≡ o → row ≡ other
+    at Less is = absurd (lesser row is here)
+    at Equal is = rows_apart row other is
+    at Greater is = absurd (least other (turned row other is) there)
+
+-- no statement is an insert and an update
+not_both : (row : Row) (s : Statement) → IsInsertOf row s → IsUpdate s → ⊥
+not_both row s insert update = none_some _ (sym (ap (option_map (λ (added : Row × ℤ). added.0)) (update_inserts_none s update)) ∙ insert)
 
 -- one transaction was the first to install a row
 one_installer : (past : Past) (txn : Txn) (row : Row) (by other : ℕ) → Conflicts past txn row by → Conflicts past txn row other → by ≡ other
@@ -91,8 +86,6 @@ module _ (level : Level) (setup : Table) (past : Past) (session : ℕ) (txn : Tx
     not_free outcome free (inr (circle, h, is)) = let b = circle_blocks circle h.is_circle in free b.0 b.1
 
   one_of_txn : (command : Command) (one other : Outcome) → TxnAnswer level setup past session txn command one → TxnAnswer level setup past session txn command other → one ≡ other
-  one_of_txn Begin one other is alike = is ∙ sym alike
-  one_of_txn Abort one other is alike = is ∙ sym alike
   one_of_txn Commit one other (inl (may, is)) (inl (can, alike)) = is ∙ sym alike
   one_of_txn Commit one other (inl (may, is)) (inr (row, by, k, alike)) = absurd (no_commit row by k.snapshot may k.conflict)
   one_of_txn Commit one other (inr (row, by, h, is)) (inl (can, alike)) = absurd (no_commit row by h.snapshot can h.conflict)
@@ -101,6 +94,7 @@ module _ (level : Level) (setup : Table) (past : Past) (session : ℕ) (txn : Tx
   one_of_txn (Run s) one other (inl (free, h)) (inr k) = absurd (not_free s other free k)
   one_of_txn (Run s) one other (inr h) (inl (free, k)) = absurd (not_free s one free h)
   one_of_txn (Run s) one other (inr h) (inr k) = one_held s one other h k
+  one_of_txn command one other is alike = is ∙ sym alike
 
 one_idle : (past : Past) (command : Command) (one other : Outcome) → IdleAnswer past command one → IdleAnswer past command other → one ≡ other
 one_idle past command one other (inl (begins, is)) (inl (start, alike)) = is ∙ sym alike
@@ -121,3 +115,33 @@ pub one_answer : (level : Level) (setup : Table) (past : Past) (session : ℕ) (
     → Answers level setup past session command other → one ≡ other
 one_answer level setup past session command one other h k =
     one_known level setup past session command one other (answer_known level setup past session command one h) (answer_known level setup past session command other k)
+
+-- one outcome is one event behind a log
+one_log : (old new another : List LogEvent) (session : ℕ) (command : Command) (one other : Outcome) → new ≡ old ++ record { session = session; command = command; outcome = one } ∷ []
+    → another ≡ old ++ record { session = session; command = command; outcome = other } ∷ [] → one ≡ other → (one ≡ other) × (new ≡ another)
+one_log old new another session command one other is alike same =
+    (same, is ∙ ap (λ (outcome : Outcome). old ++ (record { session = session; command = command; outcome = outcome }) ∷ []) same ∙ sym alike)
+
+pub one_step : (level : Level) (setup : Table) (old new another : List LogEvent) (session : ℕ) (command : Command) (one other : Outcome) → StepsTo level setup old session command one new
+    → StepsTo level setup old session command other another → (one ≡ other) × (new ≡ another)
+one_step level setup old new another session command one other h k = one_log old new another session command one other h.0.0.0 k.0.0.0 (at (waiting (past_of old) session) refl)
+  where
+    never : (outcome : Outcome) → waiting (past_of old) session ≡ None → Permitted level setup (past_of old) session command outcome → outcome ≢ Refused Busy
+    never outcome none may is = both_ways _ (ap is_some none) (subst (Permitted level setup (past_of old) session command) is may)
+
+    at : (w : Option Statement) → waiting (past_of old) session ≡ w → one ≡ other
+    at None is = one_answer level setup (past_of old) session command one other (h.0.0.1, never one is h.0.0.1, h.1) (k.0.0.1, never other is k.0.0.1, k.1)
+    at (Some s) is = let waits : IsSome (waiting (past_of old) session) = some_is (waiting (past_of old) session) s is in h.0.1 waits ∙ sym (k.0.1 waits)
+
+pub one_retry : (level : Level) (setup : Table) (old new another : List LogEvent) (session : ℕ) (one other : Outcome) → RetriesTo level setup old session one new
+    → RetriesTo level setup old session other another → (one ≡ other) × (new ≡ another)
+one_retry level setup old new another session one other ((s, waits, (is, may), busy), least) ((t, held, (alike, can), never), lesser) =
+    one_log old new another session (Run s) one other is (subst (λ u. another ≡ old ++ (record { session = session; command = Run u; outcome = other }) ∷ []) same alike)
+    (one_answer level setup (past_of old) session (Run s) one other (may, busy, λ u run. least u (waits ∙ ap Some (run_is u run)))
+    (subst (λ u. Permitted level setup (past_of old) session (Run u) other) same can, never, λ u run. lesser u (waits ∙ ap Some (run_is u run))))
+  where
+    same : t ≡ s
+    same = same_Some t s (sym held ∙ waits)
+
+    run_is : (u : Statement) → Run s ≡ Run u → s ≡ u
+    run_is u run = cc

@@ -1,10 +1,6 @@
 -- A log has one recording.
 use Rattle.std.proofs.Common.{◌≡◌, sym, ap, ◌∙◌}
-use Rattle.lab_table.specs.Table.{Table}
-use Rattle.lab_table.proofs.Maps.{same_rows}
-use Rattle.lab_history.specs.History.{History}
-use Rattle.lab_engine.specs.Log.{Past}
-use Rattle.lab_engine.specs.Recording.{IsRecording}
+use Rattle.lab_engine.proofs.Common.{Table, same_rows, Past, IsRecording, History}
 
 -- histories whose parts are the same are one
 same_parts : (h k : History) → h.initial ≡ k.initial → h.txns ≡ k.txns → h.installed ≡ k.installed → h.end_table ≡ k.end_table → h ≡ k

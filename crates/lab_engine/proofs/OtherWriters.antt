@@ -1,39 +1,15 @@
 -- Other sessions with a pending write of a row that a statement would write.
-use Rattle.std.proofs.Common.{◌≡◌, ◌∙◌, ℕ, refl, sym, ap, subst, Bool, true, false, ◌&&◌, not, List, [], ◌∷◌, inl, inr}
-use Rattle.std.specs.Prelude.{◌==◌, ◌↔◌, Option, Some, None, is_some, IsTrue, IsSome}
-use Rattle.std.specs.List.{list_any}
-use Rattle.std.proofs.lemmas.Bool.{both_ways, and_parts, and_from, or_cases, or_left, or_right, eq-eqb, not-true, ne_eqb}
-use Rattle.lab_table.specs.Row.{Row, row_eq}
-use Rattle.lab_table.specs.Table.{Table, State}
-use Rattle.lab_table.specs.Statement.{may_match, would_write}
-use Rattle.lab_table.specs.declared.statement.Statement.{Statement}
-use Rattle.lab_table.proofs.Maps.{same_row, row_eq_self}
-use Rattle.lab_table.proofs.OneRow.{not_written}
-use Rattle.lab_engine.specs.declared.event.Level.{Level}
-use Rattle.lab_engine.specs.declared.session_state.RunningTxn.{RunningTxn}
-use Rattle.lab_engine.specs.declared.session_state.SessionState.{SessionState}
-use Rattle.lab_engine.specs.Log.{Past, Version, Txn, active, version_by, seen}
-use Rattle.lab_engine.specs.Others.{IsOther}
-use Rattle.lab_engine.specs.Rules.{HoldsWrite}
-use Rattle.lab_engine.specs.SessionBits.{has}
-use Rattle.lab_engine.specs.Situation.{Agree, DescribesSession, IsRunning, written_by}
+use Rattle.std.proofs.Common.{◌≡◌, ◌∙◌, ℕ, refl, sym, ap, subst, Bool, true, false, ◌&&◌, not, List, ◌==◌, ◌↔◌, Option, Some, None, is_some, IsTrue, IsSome}
+use Rattle.lab_engine.proofs.Common.{list_any, both_ways, and_parts, and_from, eq-eqb, not-true, ne_eqb, Row, row_eq, Table, State, may_match, would_write, Statement, same_row, row_eq_self, Level, RunningTxn, SessionState, Past, Version, Txn, active, version_by, seen, HoldsWrite, has, DescribesSession, IsRunning, written_by, same_Some, not_written, IsOther, Any-from_list_any, list_any_at}
 use Rattle.lab_engine.proofs.Waiting.{running_txn}
-use Rattle.std.proofs.lemmas.Option.{same_Some}
 
 -- a test that holds of a row of a list
 any_row : (p : Row → Bool) (rows : List Row) → list_any p rows ≡ true → (row : Row) × IsTrue (list_any (row_eq row) rows) × IsTrue (p row)
-any_row p [] any = absurd (both_ways _ refl any)
-any_row p (r ∷ rows) any = elim (or_cases (p r) (list_any p rows) any) [
-  | inl here ↦ (r, or_left _ _ (row_eq_self r), here)
-  | inr there ↦ let f : (row : Row) × IsTrue (list_any (row_eq row) rows) × IsTrue (p row) = any_row p rows there in (f.0, or_right _ _ f.1, f.2)
-]
+any_row p rows any = let f = Any-from_list_any p rows any in (f.1, list_any_at (row_eq f.1) rows f.0 f.1 f.2 (ap (row_eq f.1) f.3 ∙ row_eq_self f.1), f.4)
 
-row_any : (p : Row → Bool) (rows : List Row) (row : Row) → IsTrue (list_any (row_eq row) rows) → IsTrue (p row) → list_any p rows ≡ true
-row_any p [] row among holds = absurd (both_ways _ refl among)
-row_any p (r ∷ rows) row among holds = elim (or_cases (row_eq row r) (list_any (row_eq row) rows) among) [
-  | inl here ↦ or_left _ _ (subst (λ k. IsTrue (p k)) (same_row row r here) holds)
-  | inr there ↦ or_right _ _ (row_any p rows row there holds)
-]
+-- a row of a list that passes a test
+pub row_any : (p : Row → Bool) (rows : List Row) (row : Row) → IsTrue (list_any (row_eq row) rows) → IsTrue (p row) → list_any p rows ≡ true
+row_any p rows row among holds = let f = Any-from_list_any (row_eq row) rows among in list_any_at p rows f.0 f.1 f.2 (ap p (f.3 ∙ sym (same_row row f.1 f.4)) ∙ holds)
 
 module _ (level : Level) (setup : Table) (past : Past) (txn : Txn) (s : Statement) where
   -- a row that the statement would write
@@ -48,7 +24,7 @@ module _ (level : Level) (setup : Table) (past : Past) (txn : Txn) (s : Statemen
     written_holds kept test is apart same = (to, from)
       where
         holder : (t : Txn) × (active past state.session ≡ Some t) × IsRunning t kept
-        holder = running_txn past state.session kept (subst (Agree (active past state.session)) is d.running)
+        holder = running_txn past state kept d is
 
         to : IsTrue (list_any test kept.written.items) → IsOther past session state.session (HoldsWrite level setup past txn s)
         to any =
@@ -62,7 +38,7 @@ module _ (level : Level) (setup : Table) (past : Past) (txn : Txn) (s : Statemen
 
   module _ (session : ℕ) (row : Row) (only : (other : Row) → may_match s other ≡ true → other ≡ row) where
     -- the row that a statement would write is the one that it names
-    named : (q : Row) (state : State) → IsTrue (would_write s q state) → q ≡ row
+    pub named : (q : Row) (state : State) → IsTrue (would_write s q state) → q ≡ row
     named q state writes = elim (may_match s q) as (λ b. may_match s q ≡ b → q ≡ row) [
       | true ↦ λ may. only q may
       | false ↦ λ off. absurd (both_ways _ (not_written s q off state) writes)

@@ -1,12 +1,9 @@
 -- The pending versions of a row, one for each session.
-use Rattle.std.proofs.Common.{◌≡◌, ◌≢◌, ◌∙◌, ℕ, zero, suc, ◌+◌, ◌-◌, ◌≤◌, ◌<◌, ◌==◌, ◌&&◌, ◌||◌, ◌⊎◌, nat_lt, refl, sym, ap, subst, arith, Bool, true, false, not, cond, List, [], ◌∷◌, length, set, get_or, inl, inr}
-use Rattle.std.specs.Prelude.{Option, Some, None, is_some}
-use Rattle.std.proofs.lemmas.Bool.{cases_eq, cases_order, eq-eqb, ne_eqb, lt-ltb, le-ltb, and_from, and_right, or_left}
-use Rattle.std.proofs.lemmas.List.{get_or-set_same, get_or-set_other, get_or_default, length-set}
+use Rattle.std.proofs.Common.{◌≡◌, ◌∙◌, ℕ, zero, suc, ◌+◌, ◌-◌, ◌≤◌, ◌<◌, ◌==◌, ◌&&◌, ◌||◌, refl, ap, arith, Bool, true, false, not, cond, List, [], ◌∷◌, length, set, get_or, IsTrue, Option, Some, None, is_some}
+use Rattle.lab_engine.proofs.Common.{both_ways, and_parts, get_or_default, length-set, Kept, pending_of, has, same_from_decides, count, IsRoomy}
 use Rattle.lab_engine.specs.declared.version.Version.{Version}
-use Rattle.lab_engine.specs.Kept.{Kept, pending_of, count, IsRoomy}
-use Rattle.lab_engine.specs.SessionBits.{has}
 use Rattle.lab_engine.specs.Sessions.{is_session}
+use Rattle.lab_engine.proofs.SessionBits.{AreChosen, one_chosen, one_passed, below_one}
 use Rattle.lab_engine.proofs.WaitGraphs.{session_range, is_one}
 
 -- ---- how many there are
@@ -77,24 +74,6 @@ module _ (vs : List (Option Version)) (nine : length vs ≡ 9) (session : ℕ) (
   pub own_place : (d : Option Version) → at_session vs session ≡ get_or vs (session - 1) d
   own_place d = ap (λ b. cond b (get_or vs (session - 1) None) None) (is_one session low high) ∙ get_or_default vs (session - 1) None d (omega (arith, nine, low, high))
 
-  module _ (new : Option Version) where
-    others_kept : (other : ℕ) → other ≢ session → (own : Bool) → is_session other ≡ own → at_session (set vs (session - 1) new) other ≡ at_session vs other
-    others_kept other apart false is = ap (λ b. cond b (get_or (set vs (session - 1) new) (other - 1) None) None) is ∙ sym (ap (λ b. cond b (get_or vs (other - 1) None) None) is)
-    others_kept other apart true is =
-        let range : (1 ≤ other) × (other ≤ 9) = session_range other is in
-        ap (λ (v : Option Version). cond (is_session other) v None) (get_or-set_other vs (session - 1) (other - 1) new None (λ same. apart (omega (arith, same, low, range.0))))
-
-    -- one session's put in
-    pub put_pending : (other : ℕ) → at_session (set vs (session - 1) new) other ≡ cond (other == session) new (at_session vs other)
-    put_pending other = elim (cases_eq other session) [
-      | inl same ↦
-          subst (λ k. at_session (set vs (session - 1) new) k ≡ cond (k == session) new (at_session vs k)) (sym same)
-          (ap (λ b. cond b (get_or (set vs (session - 1) new) (session - 1) None) None) (is_one session low high)
-          ∙ get_or-set_same vs (session - 1) new None (omega (arith, nine, low, high))
-          ∙ sym (ap (λ b. cond b new (at_session vs session)) (eq-eqb session session refl)))
-      | inr apart ↦ others_kept other apart (is_session other) refl ∙ sym (ap (λ b. cond b new (at_session vs other)) (ne_eqb other session apart))
-    ]
-
 -- ---- who has one
 
 module _ (kept : Kept) (session : ℕ) where
@@ -104,50 +83,31 @@ module _ (kept : Kept) (session : ℕ) where
 
   -- of the sessions below a number those that have
   abbrev pub AreWritersBelow : ℕ → ℕ → Type 0
-  AreWritersBelow number writers = (other : ℕ) → has writers other ≡ (nat_lt other number && Writes other)
+  AreWritersBelow number writers = AreChosen (λ other. other < number) (λ other. IsTrue (Writes other)) writers
 
-  no_session : (n : ℕ) → is_session n ≡ false → Writes n ≡ false
-  no_session n off = ap (λ b. is_some (cond b (get_or kept.pending (n - 1) None) None) && not (n == session)) off
+  -- who has is a session
+  writer_range : (other : ℕ) → IsTrue (Writes other) → (1 ≤ other) × (other ≤ 9)
+  writer_range other writes = at (is_session other) refl (and_parts _ _ writes).0 where
+    at : (own : Bool) → is_session other ≡ own → is_some (cond own (get_or kept.pending (other - 1) None) None) ≡ true → (1 ≤ other) × (other ≤ 9)
+    at true own some = session_range other own
+    at false off some = absurd (both_ways _ refl some)
 
   -- below 1 is nobody
   pub no_writers : (none : ℕ) → ((n : ℕ) → has none n ≡ false) → AreWritersBelow 1 none
-  no_writers none nobody other = elim (cases_order other 0) [
-    | inl same ↦ nobody other ∙ sym (and_right (nat_lt other 1) (Writes other) (ap Writes same ∙ no_session 0 refl))
-    | inr (inl less) ↦ absurd (omega (arith, less))
-    | inr (inr above) ↦ nobody other ∙ sym (ap (λ b. b && Writes other) (le-ltb other 1 (omega (arith, above))))
-  ]
+  no_writers none nobody other = (
+    (λ there. absurd (both_ways _ (nobody other) there)),
+    (λ w. let less : other < 1 = w.0 in let low = (writer_range other w.1).0 in absurd (omega (arith, less, low))),
+  )
 
   module _ (number writers : ℕ) (h : AreWritersBelow number writers) where
-    -- another number
-    apart_more : (other : ℕ) → other ≢ number → has writers other ≡ (nat_lt other (number + 1) && Writes other)
-    apart_more other apart = h other ∙ ap (λ b. b && Writes other) (at (cases_order other number))
-      where
-        at : (other ≡ number) ⊎ ((other < number) ⊎ (number < other)) → nat_lt other number ≡ nat_lt other (number + 1)
-        at (inl same) = absurd (apart same)
-        at (inr (inl less)) = lt-ltb other number less ∙ sym (lt-ltb other (number + 1) (omega (arith, less)))
-        at (inr (inr above)) = le-ltb other number (omega (arith, above)) ∙ sym (le-ltb other (number + 1) (omega (arith, above)))
-
     -- one more that has
     pub writer_more : (new : ℕ) → ((n : ℕ) → has new n ≡ (n == number || has writers n)) → Writes number ≡ true → AreWritersBelow (number + 1) new
-    writer_more new is writes other = is other ∙ elim (cases_eq other number) [
-      | inl same ↦ or_left _ _ (eq-eqb other number same) ∙ sym (and_from _ _ (lt-ltb other (number + 1) (omega (arith, same))) (ap Writes same ∙ writes))
-      | inr apart ↦ ap (λ b. b || has writers other) (ne_eqb other number apart) ∙ apart_more other apart
-    ]
+    writer_more = one_chosen _ _ (λ other. IsTrue (Writes other)) number writers (below_one number) h
 
     -- one more that hasn't
     pub writer_same : Writes number ≡ false → AreWritersBelow (number + 1) writers
-    writer_same never other = elim (cases_eq other number) [
-      | inl same ↦
-          h other ∙ ap (λ b. b && Writes other) (le-ltb other number (omega (arith, same)))
-          ∙ sym (and_right (nat_lt other (number + 1)) (Writes other) (ap Writes same ∙ never))
-      | inr apart ↦ apart_more other apart
-    ]
+    writer_same never = one_passed _ _ (λ other. IsTrue (Writes other)) number writers (below_one number) h (both_ways _ never)
 
   -- below 10 are all
   pub all_writers : (number writers : ℕ) → 10 ≤ number → AreWritersBelow number writers → (other : ℕ) → has writers other ≡ Writes other
-  all_writers number writers all h other = h other ∙ by (is_session other) refl where
-    by : (own : Bool) → is_session other ≡ own → (nat_lt other number && Writes other) ≡ Writes other
-    by false off = and_right (nat_lt other number) (Writes other) (no_session other off) ∙ sym (no_session other off)
-    by true own =
-        let range : (1 ≤ other) × (other ≤ 9) = session_range other own in
-        ap (λ b. b && Writes other) (lt-ltb other number (omega (arith, range.1, all)))
+  all_writers number writers all h other = same_from_decides (has writers other) (Writes other) (h other) ((λ w. let high = (writer_range other w).1 in (omega (arith, high, all), w)), (λ both. both.1))

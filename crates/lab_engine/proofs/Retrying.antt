@@ -1,17 +1,6 @@
 -- Which waiting sessions are retryable.
-use Rattle.std.proofs.Common.{◌≡◌, ℕ, ◌+◌, ◌≤◌, ◌<◌, sym, ap, subst, ◌∙◌, List, inl, inr, length, take, get_or}
-use Rattle.std.specs.Prelude.{◌==◌, IsTrue, IsSome, is_some}
-use Rattle.std.proofs.lemmas.Bool.{eqb-true, or_cases}
-use Rattle.std.proofs.lemmas.List.{take_all}
-use Rattle.lab_table.specs.Table.{Table}
-use Rattle.lab_table.proofs.Tests.{some_of, some_is}
-use Rattle.lab_engine.specs.declared.event.Level.{Level}
-use Rattle.lab_engine.specs.declared.session_state.SessionState.{SessionState}
-use Rattle.lab_engine.specs.declared.situation.Situation.{Situation}
-use Rattle.lab_engine.specs.Log.{Past, waiting}
-use Rattle.lab_engine.specs.Recording.{IsRetryable, NoneRetryable, IsLeastRetryable}
-use Rattle.lab_engine.specs.Situation.{Describes, DescribesSession}
-use Rattle.lab_engine.specs.WaitsFor.{AreWaits}
+use Rattle.std.proofs.Common.{◌≡◌, ℕ, ◌+◌, ◌≤◌, ◌<◌, sym, ap, subst, ◌∙◌, List, inl, inr, length, take, get_or, ◌==◌, IsTrue, IsSome, is_some, take_all}
+use Rattle.lab_engine.proofs.Common.{eqb-true, or_cases, Table, some_is, Level, SessionState, Situation, Past, waiting, IsRetryable, Describes, DescribesSession, AreWaits, some_of, NoneRetryable, IsLeastRetryable}
 use Rattle.lab_engine.specs.Released.{IsReleased}
 use Rattle.lab_engine.proofs.Circles.{released_retryable, retryable_released}
 use Rattle.lab_engine.proofs.Rising.{RiseFrom, sessions_rise, is_among, among, earlier, among_more}

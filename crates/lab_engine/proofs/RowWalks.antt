@@ -1,39 +1,22 @@
 -- What is kept of rows, where lists of rows and of writes are walked through.
-use Rattle.std.proofs.Common.{◌≡◌, ◌∙◌, ℕ, zero, suc, ◌<◌, refl, sym, ap, subst, arith, T, Bool, true, false, cond, ◌&&◌, ◌||◌, ◌==◌, List, [], ◌∷◌, length, get_or}
-use Rattle.std.specs.Prelude.{Option, Some, None, is_some, IsSome}
-use Rattle.std.specs.Option.{option_or}
-use Rattle.std.proofs.lemmas.Bool.{and_right}
-use Rattle.std.specs.FinMap.{find, is_sorted, get, entries, entries_sorted, get-entries}
-use Rattle.std.specs.FinMap.Entries.{below_all}
-use Rattle.lab_table.specs.Row.{Row, row_cmp, row_eq}
-use Rattle.lab_table.specs.Table.{Writes}
-use Rattle.lab_table.proofs.Maps.{find_below, same_row, row_eq_self}
-use Rattle.lab_table.proofs.Tests.{both}
-use Rattle.lab_history.specs.VersionName.{new_states, state_value}
-use Rattle.lab_history.specs.declared.operation.State.{State as Written}
-use Rattle.lab_history.specs.declared.operation.VersionName.{VersionName}
-use Rattle.lab_engine.specs.Log.{Version}
+use Rattle.std.proofs.Common.{◌++◌, map, filter, ◌≡◌, ◌∙◌, ℕ, ◌<◌, refl, sym, ap, subst, T, Bool, true, false, cond, ◌&&◌, ◌||◌, ◌==◌, List, [], ◌∷◌, length, get_or, Option, Some, None, is_some, IsSome}
+use Rattle.lab_engine.proofs.Common.{Written, list_any, option_or, find, is_sorted, get, entries, entries_sorted, get-entries, below_all, Row, row_cmp, row_eq, Writes, find_below, same_row, row_eq_self, both, new_states, state_value, VersionName, Version, longer, written_version, and_comm, list_any-append, list_any_at, Any-from_list_any}
 use Rattle.lab_engine.specs.declared.row_state.Installed.{Installed}
-use Rattle.lab_engine.specs.Chains.{longer}
-use Rattle.lab_engine.specs.Merging.{written_version}
+use Rattle.std.proofs.lemmas.Map.Views.{any-filter_same}
 
 -- ---- rows, one by one
 
 -- what is let go of one row and then of others is let go of all
 pub let_go : (own rest s : Bool) (v : Option Version) → cond (rest && s) None (cond (own && s) None v) ≡ cond ((own || rest) && s) None v
 let_go true true true v = refl
-let_go true true false v = refl
-let_go true false true v = refl
-let_go true false false v = refl
-let_go false rest s v = refl
+let_go own rest s v = refl
 
 -- what is installed of one row and then of others is installed once of each
 pub installed_once : (by place : ℕ) (own rest s : Bool) (v now : Option Version) (c new : List Installed) → s ≡ true → new ≡ cond own (longer by place v c) c → now ≡ cond (own && s) None v
     → cond rest (longer by place now new) new ≡ cond (own || rest) (longer by place v c) c
 installed_once by place true true s v now c new is chain pending = ap (λ o. longer by place o new) (pending ∙ ap (λ b. cond b None v) is) ∙ chain
-installed_once by place true false s v now c new is chain pending = chain
 installed_once by place false true s v now c new is chain pending = ap (λ o. longer by place o new) pending ∙ ap (longer by place v) chain
-installed_once by place false false s v now c new is chain pending = chain
+installed_once by place own rest s v now c new is chain pending = chain
 
 -- ---- writes, one by one
 
@@ -83,54 +66,43 @@ module _ (name : VersionName) (session : ℕ) (row : Row) (n : ℕ) where
       held_all es v (subst (λ l. T (is_sorted row_cmp l)) (sym is) (entries_sorted all))
       ∙ ap (λ o. cond (n == session) (option_or (written_version name o) v) v) (ap (find row_cmp row) is ∙ sym (get-entries all row))
 
+-- ---- the rows of writes
+
+-- a row is written where an entry has it
+among_writes : (all : Writes) (es : List (Row × Written)) → new_states es ≡ entries all → (row : Row) → list_any (λ e. row_eq row e.0) es ≡ is_some (get all row)
+among_writes all es is row = at es ∙ ap (λ o. is_some o) (ap (find row_cmp row) is ∙ sym (get-entries all row))
+  where
+    at : (es : List (Row × Written)) → list_any (λ e. row_eq row e.0) es ≡ is_some (find row_cmp row (new_states es))
+    at [] = refl
+    at (e ∷ es) =
+        elim (row_eq row e.0) as (λ b. (b || list_any (λ (e : Row × Written). row_eq row e.0) es) ≡ is_some (cond b (Some (state_value e.1)) (find row_cmp row (new_states es)))) [
+          | true ↦ refl
+          | false ↦ at es
+        ]
+
 -- the row of an entry is written
 pub written_at : (all : Writes) (es : List (Row × Written)) → new_states es ≡ entries all → (k : ℕ) (d : Row × Written) → k < length es → IsSome (get all (get_or es k d).0)
-written_at all es is k d lt = subst (λ o. IsSome o) (ap (find row_cmp (get_or es k d).0) is ∙ sym (get-entries all (get_or es k d).0)) (at es k lt)
-  where
-    at : (es : List (Row × Written)) (k : ℕ) → k < length es → IsSome (find row_cmp (get_or es k d).0 (new_states es))
-    at [] k lt = absurd (omega (arith, lt))
-    at (e ∷ es) zero lt = ap (λ b. is_some (cond b (Some (state_value e.1)) (find row_cmp e.0 (new_states es)))) (row_eq_self e.0)
-    at (e ∷ es) (suc k) lt = more (row_eq (get_or es k d).0 e.0) (at es k (omega (arith, lt)))
-      where
-        more : (b : Bool) → IsSome (find row_cmp (get_or es k d).0 (new_states es)) → IsSome (cond b (Some (state_value e.1)) (find row_cmp (get_or es k d).0 (new_states es)))
-        more true some = refl
-        more false some = some
+written_at all es is k d lt =
+    let row : Row = (get_or es k d).0 in
+    sym (among_writes all es is row) ∙ list_any_at (λ e. row_eq row e.0) es k d lt (row_eq_self row)
 
 -- a row that is written stands in an entry
 pub entry_of : (all : Writes) (es : List (Row × Written)) → new_states es ≡ entries all → (row : Row) → IsSome (get all row)
     → (k : ℕ) × (d : Row × Written) × (k < length es) × ((get_or es k d).0 ≡ row)
-entry_of all es is row some = at es (subst (λ o. IsSome o) (get-entries all row ∙ sym (ap (find row_cmp row) is)) some)
-  where
-    at : (es : List (Row × Written)) → IsSome (find row_cmp row (new_states es)) → (k : ℕ) × (d : Row × Written) × (k < length es) × ((get_or es k d).0 ≡ row)
-    at [] there = absurd (cc)
-    at (e ∷ es) there = one (at es) (row_eq row e.0) refl there
-      where
-        one : (IsSome (find row_cmp row (new_states es)) → (k : ℕ) × (d : Row × Written) × (k < length es) × ((get_or es k d).0 ≡ row)) → (b : Bool) → row_eq row e.0 ≡ b
-            → IsSome (cond b (Some (state_value e.1)) (find row_cmp row (new_states es))) → (k : ℕ) × (d : Row × Written) × (k < length (e ∷ es)) × ((get_or (e ∷ es) k d).0 ≡ row)
-        one rest true is there = (0, e, omega arith, sym (same_row row e.0 is))
-        one rest false is there = let r = rest there in let lt = r.2 in (suc r.0, r.1, omega (arith, lt), r.3)
+entry_of all es is row some =
+    let f = Any-from_list_any (λ (e : Row × Written). row_eq row e.0) es (among_writes all es is row ∙ some) in
+    (f.0, f.1, f.2, ap (λ (e : Row × Written). e.0) f.3 ∙ sym (same_row row f.1.0 f.4))
 
--- ---- the rows of writes of which something holds, put behind a list
+any_mapped : {A B : Type 0} (p : B → Bool) (f : A → B) (xs : List A) → list_any p (map f xs) ≡ list_any (λ x. p (f x)) xs
+any_mapped p f [] = refl
+any_mapped p f (x ∷ xs) = ap (λ b. p (f x) || b) (any_mapped p f xs)
 
-module _ (row : Row) (e : Row × Written) (rest : List (Row × Written)) (holds : Row → Bool) (noted : Bool) where
-  -- where it holds of a write's row
-  pub noted_more : holds e.0 ≡ true → ((noted || (row_eq row e.0 || false)) || (is_some (find row_cmp row (new_states rest)) && holds row))
-      ≡ (noted || (is_some (find row_cmp row (new_states (e ∷ rest))) && holds row))
-  noted_more passes = at (row_eq row e.0) noted refl where
-    at : (own was : Bool) → row_eq row e.0 ≡ own → ((was || (own || false)) || (is_some (find row_cmp row (new_states rest)) && holds row))
-        ≡ (was || (is_some (cond own (Some (state_value e.1)) (find row_cmp row (new_states rest))) && holds row))
-    at own true is = refl
-    at true false is = sym (ap holds (same_row row e.0 is) ∙ passes)
-    at false false is = refl
-
-  -- where it doesn't
-  pub noted_same : holds e.0 ≡ false → (noted || (is_some (find row_cmp row (new_states rest)) && holds row)) ≡ (noted || (is_some (find row_cmp row (new_states (e ∷ rest))) && holds row))
-  noted_same fails = ap (λ b. noted || b) (at (row_eq row e.0) refl) where
-    at : (own : Bool) → row_eq row e.0 ≡ own → (is_some (find row_cmp row (new_states rest)) && holds row)
-        ≡ (is_some (cond own (Some (state_value e.1)) (find row_cmp row (new_states rest))) && holds row)
-    at true is = and_right (is_some (find row_cmp row (new_states rest))) (holds row) (ap holds (same_row row e.0 is) ∙ fails) ∙ sym (ap holds (same_row row e.0 is) ∙ fails)
-    at false is = refl
-
-pub nothing_more : (b : Bool) → b ≡ (b || false)
-nothing_more true = refl
-nothing_more false = refl
+-- those of which something holds, put behind a list
+pub noted : (row : Row) (before : List Row) (all : Writes) (es : List (Row × Written)) (holds : Row → Bool) → new_states es ≡ entries all
+    → list_any (row_eq row) (before ++ filter holds (map (λ (e : Row × Written). e.0) es)) ≡ (list_any (row_eq row) before || (is_some (get all row) && holds row))
+noted row before all es holds is =
+    let rows : List Row = map (λ (e : Row × Written). e.0) es in
+    list_any-append (row_eq row) before (filter holds rows)
+    ∙ ap (λ b. list_any (row_eq row) before || b) (any-filter_same (row_eq row) holds (holds row) (λ k same. ap holds (sym (same_row row k same))) rows
+    ∙ and_comm (holds row) (list_any (row_eq row) rows)
+    ∙ ap (λ b. b && holds row) (any_mapped (row_eq row) (λ (e : Row × Written). e.0) es ∙ among_writes all es is row))

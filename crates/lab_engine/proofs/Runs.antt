@@ -1,13 +1,6 @@
 -- A legal log stays legal by a step.
 use Rattle.std.proofs.Common.{◌≡◌, ℕ, ◌<◌, ◌≤◌, ◌++◌, sym, ap, subst, ◌∙◌, arith, List, [], ◌∷◌, length, length-append}
-use Rattle.std.proofs.lemmas.List.{reverse-append}
-use Rattle.lab_table.specs.Table.{Table}
-use Rattle.lab_table.specs.declared.statement.Command.{Command}
-use Rattle.lab_engine.specs.declared.event.Level.{Level}
-use Rattle.lab_engine.specs.declared.event.Outcome.{Outcome}
-use Rattle.lab_engine.specs.declared.event.LogEvent.{LogEvent}
-use Rattle.lab_engine.specs.Log.{past_of}
-use Rattle.lab_engine.specs.Rules.{IsLegal}
+use Rattle.lab_engine.proofs.Common.{reverse-append, Table, Command, Level, Outcome, LogEvent, past_of, IsLegal}
 use Rattle.lab_engine.specs.Engine.{Appends}
 
 -- the past after one more event

@@ -1,18 +1,8 @@
 -- What a situation says that an active transaction sees.
-use Rattle.std.proofs.Common.{◌≡◌, ◌∙◌, ℕ, refl, ap, arith}
-use Rattle.std.specs.Prelude.{Option, Some, None, unwrap_or}
-use Rattle.std.specs.Option.{option_or}
-use Rattle.lab_table.specs.Row.{Row}
-use Rattle.lab_table.specs.Table.{Table}
-use Rattle.lab_engine.specs.declared.event.Level.{Level}
-use Rattle.lab_engine.specs.declared.event.Level.TheVariants.{Locking, Snapshot, Committed as ReadCommitted}
-use Rattle.lab_engine.specs.declared.session_state.RunningTxn.{RunningTxn}
-use Rattle.lab_engine.specs.declared.situation.Situation.{Situation}
-use Rattle.lab_engine.specs.Chains.{chain, last_before}
-use Rattle.lab_engine.specs.KeptRows.{chain_in, pending_in}
-use Rattle.lab_engine.specs.Log.{Past, Txn, active, commits, version_by, last_installed, initial_version, sight, seen}
+use Rattle.std.proofs.Common.{◌≡◌, ◌∙◌, ℕ, refl, ap, arith, Option, Some, None, unwrap_or}
+use Rattle.lab_engine.proofs.Common.{option_or, Row, Table, Level, RunningTxn, Situation, chain, last_before, chain_in, pending_in, Past, Txn, active, commits, version_by, last_installed, initial_version, sight, seen, Describes, IsRunning, written_by}
+use Rattle.lab_engine.specs.declared.event.Level.TheVariants.{Snapshot}
 use Rattle.lab_engine.specs.Seen.{place_seen, seen_in}
-use Rattle.lab_engine.specs.Situation.{Describes, IsRunning, written_by}
 use Rattle.lab_engine.proofs.InstalledChains.{last_in, last_at_begin}
 
 -- the first of two that is there, or else a third
@@ -33,10 +23,9 @@ module _ (past : Past) (situation : Situation) (session : ℕ) (txn : Txn) (runn
 
   -- the last installed version that it sees
   last_is : (level : Level) (row : Row) → last_before (place_seen level situation running) (chain_in situation.rows row) ≡ last_installed (commits (sight level past txn)) row
-  last_is Locking row = last_now row
-  last_is ReadCommitted row = last_now row
   last_is Snapshot row =
       ap (last_before running.before) (is.rows.chains row) ∙ ap (λ n. last_before n (chain past row)) agrees.before ∙ last_at_begin past session txn row own
+  last_is other row = last_now row
 
   -- which is seen of both
   pub found_is : (level : Level) (row : Row)

@@ -1,83 +1,28 @@
 -- What is kept of a session and of the rows goes on by an event of the session.
-use Rattle.std.proofs.Common.{◌≡◌, ◌≢◌, ◌∙◌, ℕ, ◌+◌, ◌<◌, ◌≤◌, ◌==◌, ◌||◌, ◌&&◌, cond, Bool, true, false, List, [], ◌∷◌, ◌++◌, map as each, length, Option, Some, None, refl, sym, ap, subst, arith, inl, inr, option_map}
-use Rattle.std.specs.Prelude.{is_some, is_none}
-use Rattle.std.specs.Option.{option_or}
-use Rattle.std.proofs.lemmas.Bool.{cases_eq, eq-eqb, ne_eqb, true≢false}
-use Rattle.std.proofs.lemmas.List.{length-map, length-reverse, reverse-append}
-use Rattle.std.proofs.lemmas.Option.{same_Some}
+use Rattle.std.proofs.Common.{◌≡◌, ◌∙◌, ℕ, ◌+◌, ◌==◌, ◌||◌, ◌&&◌, cond, Bool, true, false, [], ◌∷◌, ◌++◌, map as each, length, Option, Some, None, refl, sym, ap, subst, inl, inr, option_map, is_some, is_none}
+use Rattle.lab_engine.proofs.Common.{none_of, both_ways, cases_eq, eq-eqb, ne_eqb, true≢false, reverse-append, same_Some, Row, State, Rows, Writes, Statement, Command, Run, View, Op, Busy, LogEvent, Outcome, Committed, Refused, RunningTxn, Past, Txn, Version, version_or, version_by, active, active_after, ops_after, waiting, waiting_after, chain, chain_after, longer, chain_in, pending_in, DescribesRows, Agree, IsRunning, has_written, grown, written_by, asked, statements_of, RowStates}
 use Rattle.std.specs.FinMap as map
-use Rattle.lab_table.specs.Row.{Row}
-use Rattle.lab_table.specs.Table.{State, Rows, Writes}
-use Rattle.lab_table.specs.declared.statement.Statement.{Statement}
-use Rattle.lab_table.specs.declared.statement.Command.{Command}
-use Rattle.lab_table.specs.declared.statement.Command.TheVariants.{Begin, Commit, Abort, Run}
-use Rattle.lab_history.specs.VersionName.{View}
-use Rattle.lab_history.specs.declared.operation.Op.{Op}
-use Rattle.lab_history.specs.declared.operation.VersionName.TheVariants.{Of}
-use Rattle.lab_engine.specs.declared.event.EngineFault.TheVariants.{DuplicateKey, OutOfRange, Deadlock, WriteConflict, NoTransaction, AlreadyBegun, Busy}
-use Rattle.lab_engine.specs.declared.event.LogEvent.{LogEvent}
-use Rattle.lab_engine.specs.declared.event.Outcome.{Outcome}
-use Rattle.lab_engine.specs.declared.event.Outcome.TheVariants.{Begun, Rows as Listed, Committed, Aborted, Waits, Refused}
-use Rattle.lab_engine.specs.declared.row_states.RowStates.{RowStates}
-use Rattle.lab_engine.specs.declared.session_state.RunningTxn.{RunningTxn}
-use Rattle.lab_engine.specs.declared.session_state.SessionState.{SessionState}
-use Rattle.lab_engine.specs.Log.{Past, Txn, Version, version_or, version_by, active, active_after, ops_after, asked, waiting, waiting_after}
-use Rattle.lab_engine.specs.Merging.{written_version}
-use Rattle.lab_engine.specs.Chains.{chain, chain_after, longer}
-use Rattle.lab_engine.specs.KeptRows.{chain_in, pending_in}
 use Rattle.lab_engine.specs.EventQuery.{busy}
-use Rattle.lab_engine.specs.Situation.{DescribesSession, DescribesRows, Agree, IsRunning, statements_of, has_written, grown, written_by}
 
 -- ---- the statement that waits
 
 -- Busy leaves it
 pub busy_keeps : (command : Command) (outcome : Outcome) (held : Option Statement) → busy outcome ≡ true → held ≡ waiting_after command outcome held
-busy_keeps command (Begun n) held is = absurd (true≢false (sym is))
-busy_keeps command (Listed view rows writes) held is = absurd (true≢false (sym is))
-busy_keeps command Committed held is = absurd (true≢false (sym is))
-busy_keeps command Aborted held is = absurd (true≢false (sym is))
-busy_keeps command (Waits on) held is = absurd (true≢false (sym is))
-busy_keeps command (Refused (DuplicateKey id)) held is = absurd (true≢false (sym is))
-busy_keeps command (Refused (OutOfRange id)) held is = absurd (true≢false (sym is))
-busy_keeps command (Refused (Deadlock circle)) held is = absurd (true≢false (sym is))
-busy_keeps command (Refused (WriteConflict row by)) held is = absurd (true≢false (sym is))
-busy_keeps command (Refused NoTransaction) held is = absurd (true≢false (sym is))
-busy_keeps command (Refused AlreadyBegun) held is = absurd (true≢false (sym is))
 busy_keeps command (Refused Busy) held is = refl
+busy_keeps command other held is = absurd (true≢false (sym is))
 
 -- what else comes doesn't ask which one did
 pub others_renew : (command : Command) (outcome : Outcome) (held : Option Statement) → busy outcome ≡ false → waiting_after command outcome None ≡ waiting_after command outcome held
-others_renew command (Begun n) held is = refl
-others_renew command (Listed view rows writes) held is = refl
-others_renew command Committed held is = refl
-others_renew command Aborted held is = refl
-others_renew command (Waits on) held is = refl
-others_renew command (Refused (DuplicateKey id)) held is = refl
-others_renew command (Refused (OutOfRange id)) held is = refl
-others_renew command (Refused (Deadlock circle)) held is = refl
-others_renew command (Refused (WriteConflict row by)) held is = refl
-others_renew command (Refused NoTransaction) held is = refl
-others_renew command (Refused AlreadyBegun) held is = refl
 others_renew command (Refused Busy) held is = absurd (true≢false is)
+others_renew command other held is = refl
 
 -- ---- one more operation
-
--- the version of a row after one more operation, which has this number
-grown_version : (number place : ℕ) (ops : List Op) (written : Option State) (old : Option Version) → place ≡ length ops + 1
-    → option_or (written_version (Of number place) written) old ≡ version_or number (length ops + 1) written old
-grown_version number place ops None old is = refl
-grown_version number place ops (Some state) old is = ap (λ n. Some (record { name = Of number n; state = state })) is
 
 -- a row is written then, if it was or is
 written_then : (number place : ℕ) (written : Option State) (old : Option Version) → (is_some old || (is_some written && is_none old)) ≡ is_some (version_or number place written old)
 written_then number place None None = refl
-written_then number place None (Some v) = refl
 written_then number place (Some state) None = refl
-written_then number place (Some state) (Some v) = refl
-
--- as many statements are kept as there were operations
-counted : (txn : Txn) (running : RunningTxn) → IsRunning txn running → length (statements_of running) ≡ length txn.ops
-counted txn running is = ap length is.statements ∙ length-reverse (each (λ op. op.statement) txn.ops) ∙ length-map txn.ops (λ op. op.statement)
+written_then number place written old = refl
 
 module _ (txn : Txn) (op : Op) (old new : RunningTxn) (running : IsRunning txn old) where
   -- the transaction has run a statement more
@@ -94,44 +39,17 @@ module _ (txn : Txn) (op : Op) (old new : RunningTxn) (running : IsRunning txn o
         ∙ written_then txn.no (length txn.ops + 1) (map.get op.writes row) (version_by txn row);
   }
 
-  -- a row's version is then
-  pub version_then : (row : Row) (pending : Option Version) → pending ≡ version_by txn row
-      → option_or (written_version (Of old.number (length (statements_of old) + 1)) (map.get op.writes row)) pending ≡ version_by (grown txn op) row
-  version_then row pending is =
-      ap (option_or (written_version (Of old.number (length (statements_of old) + 1)) (map.get op.writes row))) is
-      ∙ ap (λ n. option_or (written_version (Of n (length (statements_of old) + 1)) (map.get op.writes row)) (version_by txn row)) running.number
-      ∙ grown_version txn.no (length (statements_of old) + 1) txn.ops (map.get op.writes row) (version_by txn row) (ap (λ n. n + 1) (counted txn old running))
-
 -- an operation of a statement is one more where the command runs it
 pub ops_run : (command : Command) (s : Statement) (view : View) (rows : Rows) (writes : Writes) (txn : Txn) → asked command ≡ Some s
     → grown txn (record { statement = s; view = view; rows = rows; writes = writes }) ≡ record { no = txn.no; ops = ops_after command view rows writes txn.ops; before = txn.before }
-ops_run Begin s view rows writes txn h = cc
-ops_run Commit s view rows writes txn h = cc
-ops_run Abort s view rows writes txn h = cc
 ops_run (Run t) s view rows writes txn h = ap (λ o. grown txn (record { statement = o; view = view; rows = rows; writes = writes })) (sym (same_Some t s h))
-
--- and else none is
-pub ops_idle : (command : Command) (view : View) (rows : Rows) (writes : Writes) (txn : Txn) → asked command ≡ None
-    → txn ≡ record { no = txn.no; ops = ops_after command view rows writes txn.ops; before = txn.before }
-ops_idle Begin view rows writes txn h = refl
-ops_idle Commit view rows writes txn h = refl
-ops_idle Abort view rows writes txn h = refl
-ops_idle (Run t) view rows writes txn h = cc
+ops_run other s view rows writes txn h = cc
 
 -- a transaction, if any, after an operation
 abbrev pub after_op : Command → View → Rows → Writes → Option Txn → Option Txn
 after_op command view rows writes txn = option_map (λ t. record { no = t.no; ops = ops_after command view rows writes t.ops; before = t.before }) txn
 
 -- ---- a session that an event is of
-
--- one session's versions after an event
-module _ (old new : RowStates) (session : ℕ) (before after : Option Txn) (was : (row : Row) → pending_in old row session ≡ written_by before row) where
-  pub nothing_changes : ((row : Row) → written_by after row ≡ written_by before row) → ((row : Row) (n : ℕ) → pending_in new row n ≡ pending_in old row n)
-      → (row : Row) (n : ℕ) → pending_in new row n ≡ cond (n == session) (written_by after row) (pending_in old row n)
-  nothing_changes same kept row n = kept row n ∙ elim (cases_eq n session) [
-    | inl is ↦ ap (pending_in old row) is ∙ was row ∙ sym (same row) ∙ sym (ap (λ b. cond b (written_by after row) (pending_in old row n)) (eq-eqb n session is))
-    | inr apart ↦ sym (ap (λ b. cond b (written_by after row) (pending_in old row n)) (ne_eqb n session apart))
-  ]
 
 module _ (past : Past) (event : LogEvent) (session : ℕ) (own : event.session ≡ session) where
   is_own : (event.session == session) ≡ true
@@ -192,11 +110,7 @@ module _ (rows : RowStates) (session : ℕ) where
       at true is same = ap (λ b. cond (b && n == session) None (pending_in rows row n)) is
       at false is same =
           ap (λ b. cond (b && n == session) None (pending_in rows row n)) is ∙ ap (pending_in rows row) same ∙ was row
-          ∙ nothing (version_by t row) (sym (agree.written row) ∙ is) ∙ sym (ap (λ b. cond b None (pending_in rows row n)) (eq-eqb n session same))
-        where
-          nothing : (o : Option Version) → is_some o ≡ false → o ≡ None
-          nothing None h = refl
-          nothing (Some v) h = absurd (true≢false h)
+          ∙ none_of (version_by t row) (both_ways _ (sym (agree.written row) ∙ is)) ∙ sym (ap (λ b. cond b None (pending_in rows row n)) (eq-eqb n session same))
 
   -- where it has none, nothing is to be settled
   pub none_settled : (txn : Option Txn) → Agree txn None → IsPending txn → (row : Row) (n : ℕ) → pending_in rows row n ≡ cond (n == session) None (pending_in rows row n)

@@ -1,25 +1,11 @@
 -- What a statement is shown of the versions that are seen: as much as its effect and its refusal rest on.
-use Rattle.std.proofs.Common.{◌≡◌, ◌∙◌, refl, sym, ap, subst, Bool, true, false, cond, inl, inr}
-use Rattle.std.specs.Prelude.{Option, Some, None, unwrap_or, option_and_then, is_some}
-use Rattle.std.specs.Option.{option_or}
-use Rattle.std.specs.FinMap.{get, insert, get-insert}
-use Rattle.lab_table.specs.Row.{Row, row_eq, rows_total}
-use Rattle.lab_table.specs.Table.{State, Table}
-use Rattle.lab_table.specs.Statement.{may_match, selects, listed, written, fails}
-use Rattle.lab_table.specs.declared.statement.Statement.{Statement}
-use Rattle.std.proofs.lemmas.Bool.{false≢true}
-use Rattle.lab_table.proofs.Maps.{same_row, row_eq_self}
-use Rattle.lab_table.proofs.OneRow.{no_match}
+use Rattle.std.proofs.Common.{ℤ, ◌≡◌, ◌∙◌, refl, sym, ap, subst, Bool, true, false, cond, inl, inr, Option, Some, None, unwrap_or, option_and_then, is_some}
+use Rattle.lab_engine.proofs.Common.{option_or, get, insert, get-insert, Row, row_eq, rows_total, State, Table, may_match, listed, written, fails, Statement, false≢true, same_row, row_eq_self, Version, in_view, initially, matching_version, listed_version, IsShown, selects, no_match}
 use Rattle.lab_table.proofs.Statements.{listed_alike, written_alike, fails_alike}
-use Rattle.lab_engine.specs.Log.{Version}
-use Rattle.lab_engine.specs.Rules.{in_view}
-use Rattle.lab_engine.specs.Sight.{Listed, initially, matching_version, listed_version, IsShown}
+use Rattle.lab_engine.specs.Sight.{Listed}
+use Rattle.lab_history.proofs.FirstValues.{or_none}
 use Rattle.lab_engine.proofs.Narrowing.{others_off}
-
--- nothing under a version changes it
-or_none : (o : Option Version) → option_or o None ≡ o
-or_none (Some v) = refl
-or_none None = refl
+use Rattle.lab_table.specs.Statement.{matched}
 
 -- ---- the initial versions that match
 
@@ -92,21 +78,19 @@ first_shown s row None (Some v) state = inl refl
 first_shown s row None None state = initial_shown s row state
 
 module _ (s : Statement) (row : Row) (shown sees : Version) where
+  -- what is alike of an initial version that is left out is the same of both
+  shown_as : {C : Type 0} (f : Version → C) → ((value : ℤ) → matched s row (Some value) ≡ None → f (initially None) ≡ f (initially (Some value))) → IsShown s row shown sees → f shown ≡ f sees
+  shown_as f alike (inl same) = ap f same
+  shown_as f alike (inr (out, value, is, off)) = ap f out ∙ alike value off ∙ sym (ap f is)
+
   pub shown_view : IsShown s row shown sees → in_view shown.name ≡ in_view sees.name
-  shown_view (inl same) = ap (λ (v : Version). in_view v.name) same
-  shown_view (inr (out, value, is, off)) = ap (λ (v : Version). in_view v.name) out ∙ sym (ap (λ (v : Version). in_view v.name) is)
+  shown_view = shown_as (λ v. in_view v.name) (λ _ _. refl)
 
   pub shown_listed : IsShown s row shown sees → listed s row shown.state ≡ listed s row sees.state
-  shown_listed (inl same) = ap (λ (v : Version). listed s row v.state) same
-  shown_listed (inr (out, value, is, off)) =
-      ap (λ (v : Version). listed s row v.state) out ∙ listed_alike s row None (Some value) (sym off) ∙ sym (ap (λ (v : Version). listed s row v.state) is)
+  shown_listed = shown_as (λ v. listed s row v.state) (λ value off. listed_alike s row None (Some value) (sym off))
 
   pub shown_written : IsShown s row shown sees → written s row shown.state ≡ written s row sees.state
-  shown_written (inl same) = ap (λ (v : Version). written s row v.state) same
-  shown_written (inr (out, value, is, off)) =
-      ap (λ (v : Version). written s row v.state) out ∙ written_alike s row None (Some value) (sym off) ∙ sym (ap (λ (v : Version). written s row v.state) is)
+  shown_written = shown_as (λ v. written s row v.state) (λ value off. written_alike s row None (Some value) (sym off))
 
   pub shown_fails : IsShown s row shown sees → fails s row shown.state ≡ fails s row sees.state
-  shown_fails (inl same) = ap (λ (v : Version). fails s row v.state) same
-  shown_fails (inr (out, value, is, off)) =
-      ap (λ (v : Version). fails s row v.state) out ∙ fails_alike s row None (Some value) (sym off) ∙ sym (ap (λ (v : Version). fails s row v.state) is)
+  shown_fails = shown_as (λ v. fails s row v.state) (λ value off. fails_alike s row None (Some value) (sym off))

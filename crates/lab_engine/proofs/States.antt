@@ -1,12 +1,6 @@
 -- What is kept of the sessions, as a list.
-use Rattle.std.proofs.Common.{◌≡◌, ◌≢◌, ℕ, zero, suc, ◌+◌, ◌-◌, ◌≤◌, ◌<◌, false, cond, List, [], ◌∷◌, map, length, set, get_or, None, refl, sym, ap, subst, ◌∙◌, arith, ◌==◌}
-use Rattle.std.specs.Prelude.{⊤}
-use Rattle.std.proofs.lemmas.Bool.{eq-eqb, ne_eqb}
-use Rattle.std.proofs.lemmas.List.{length-map, get_or-set_same}
-use Rattle.lab_engine.specs.declared.event.LogEvent.{LogEvent}
-use Rattle.lab_engine.specs.declared.session_state.SessionState.{SessionState}
-use Rattle.lab_engine.specs.Log.{Past, active, active_after, waiting, waiting_after}
-use Rattle.lab_engine.specs.Situation.{DescribesSession, DescribesAll, Agree, HasRoom, all_sessions, running_of}
+use Rattle.std.proofs.Common.{◌≡◌, ◌≢◌, ℕ, zero, suc, ◌+◌, ◌-◌, ◌≤◌, ◌<◌, false, cond, List, [], ◌∷◌, map, length, set, get_or, refl, sym, ap, subst, ◌∙◌, arith, ◌==◌, eq-eqb, ne_eqb}
+use Rattle.lab_engine.proofs.Common.{length-map, get_or-set_same, LogEvent, SessionState, Past, active, active_after, waiting, waiting_after, DescribesSession, DescribesAll, Agree, HasRoom, all_sessions, running_of, ⊤}
 use Rattle.lab_engine.proofs.EventBounds.{has_room}
 
 -- after an event of another session what is kept of a session still agrees
@@ -18,21 +12,17 @@ other_session past event state apart is =
       running = subst (λ b. Agree (cond b (active_after event.command event.outcome past (active past state.session)) (active past state.session)) state.running) (sym other) is.running;
     }
 
--- the sessions of some states rise by one from a number on
-abbrev Rise : ℕ → List SessionState → Type 0
-Rise n [] = ⊤
-Rise n (state ∷ states) = (state.session ≡ n) × Rise (suc n) states
-
+-- numbers rise by one from a number on
 abbrev NumbersRise : ℕ → List ℕ → Type 0
 NumbersRise n [] = ⊤
 NumbersRise n (x ∷ xs) = (x ≡ n) × NumbersRise (suc n) xs
 
-rise_from : (n : ℕ) (states : List SessionState) → NumbersRise n (map (λ state. state.session) states) → Rise n states
-rise_from n [] h = tt
-rise_from n (state ∷ states) h = (h.0, rise_from (suc n) states h.1)
+-- so do the sessions of some states
+abbrev Rise : ℕ → List SessionState → Type 0
+Rise n states = NumbersRise n (map (λ state. state.session) states)
 
 all_rise : (states : List SessionState) → map (λ state. state.session) states ≡ all_sessions → Rise 1 states
-all_rise states is = rise_from 1 states (subst (λ l. NumbersRise 1 l) (sym is) (refl, (refl, (refl, (refl, (refl, (refl, (refl, (refl, (refl, tt))))))))))
+all_rise states is = subst (λ l. NumbersRise 1 l) (sym is) (refl, (refl, (refl, (refl, (refl, (refl, (refl, (refl, (refl, tt)))))))))
 
 -- the states behind a session's
 behind : (past : Past) (event : LogEvent) (n : ℕ) (states : List SessionState) → Rise n states → event.session < n → DescribesAll past states → DescribesAll (event ∷ past) states
@@ -129,7 +119,3 @@ module _ (states : List SessionState) (n k : ℕ) (state : SessionState) (sessio
     where
       length-set_here : length (set states k new) ≡ length states
       length-set_here = sym (length-map (set states k new) (λ state. state.session)) ∙ ap length (sessions_stay new same ∙ sym sessions) ∙ length-map states (λ state. state.session)
-
--- a session that has done nothing
-pub idle_one : (state : SessionState) → state.waits ≡ None → state.running ≡ None → DescribesSession [] state
-idle_one state none idle = record { waits = none; running = subst (λ r. Agree None r) (sym idle) tt }

@@ -1,24 +1,7 @@
 -- The transactions of a log after one more event.
-use Rattle.std.proofs.Common.{◌≡◌, ◌≢◌, ℕ, zero, suc, ◌+◌, ◌-◌, ◌≤◌, ◌<◌, ◌++◌, arith, refl, sym, ap, subst, ◌∙◌, false, cond, ◌||◌, List, [], ◌∷◌, map as each, length, get_or, set}
-use Rattle.std.specs.Prelude.{◌==◌, Option, Some}
-use Rattle.std.specs.List.{list_any}
-use Rattle.std.proofs.lemmas.Bool.{ne_eqb, eq-eqb}
-use Rattle.std.proofs.lemmas.List.{append-nil, map-append}
-use Rattle.lab_table.specs.Table.{Table}
-use Rattle.lab_table.specs.declared.statement.Command.{Command}
-use Rattle.lab_history.specs.declared.operation.Op.{Op}
-use Rattle.lab_history.specs.declared.transaction.Txn.{Txn as Recorded}
+use Rattle.std.proofs.Common.{◌≡◌, ◌≢◌, ℕ, zero, suc, ◌+◌, ◌-◌, ◌≤◌, ◌<◌, ◌++◌, arith, refl, sym, ap, subst, ◌∙◌, false, cond, ◌||◌, List, [], ◌∷◌, map as each, length, get_or, set, ◌==◌, Option, Some, ne_eqb, eq-eqb}
+use Rattle.lab_engine.proofs.Common.{list_any, append-nil, map-append, Table, Command, Op, Outcome, Begun, Listed, Committed, Level, LogEvent, Past, Txn, active, commits_after, commits, begun, begun_after, Permitted, IsLegal, AllNumbered, has_number, op_of, ops_of, numbers_from, recorded_txn, recorded_txns, number_of, recorded, with_ops, committed, txns_after, IsWithin, end_of, new_txn, changed, changed_by, Recorded, GatheredTxn}
 use Rattle.lab_history.specs.declared.transaction.Outcome.TheVariants.{Committed as EndCommitted, Aborted as EndAborted}
-use Rattle.lab_engine.specs.declared.event.Outcome.{Outcome}
-use Rattle.lab_engine.specs.declared.event.Outcome.TheVariants.{Begun, Rows as Listed, Committed, Aborted, Waits, Refused}
-use Rattle.lab_engine.specs.declared.event.Level.{Level}
-use Rattle.lab_engine.specs.declared.event.LogEvent.{LogEvent}
-use Rattle.lab_engine.specs.declared.gathering.GatheredTxn.{GatheredTxn}
-use Rattle.lab_engine.specs.Log.{Past, Txn, active, commits_after, commits, begun, begun_after}
-use Rattle.lab_engine.specs.Rules.{Permitted, IsLegal}
-use Rattle.lab_engine.specs.Laws.{AllNumbered}
-use Rattle.lab_engine.specs.Recording.{has_number, op_of, ops_of, end_of, numbers_from, recorded_txn, recorded_txns}
-use Rattle.lab_engine.specs.Gathered.{number_of, recorded, new_txn, with_ops, committed, changed, changed_by, txns_after, IsWithin}
 use Rattle.lab_engine.proofs.Numbers.{numbers_hold}
 use Rattle.lab_engine.proofs.Records.{records_hold, nothing_added}
 use Rattle.lab_engine.proofs.GatheredNumbers.{each-same, numbers_more}
@@ -95,16 +78,12 @@ module _ (level : Level) (setup : Table) (past : Past) (legal : IsLegal level se
       begun_by : Outcome → ℕ
       begun_by o = begun_after o (begun past)
 
-  -- the numbers of the active transactions are in range
-  numbered : (session : ℕ) (t : Txn) → active past session ≡ Some t → (1 ≤ t.no) × (t.no ≤ begun past)
-  numbered session t is = (numbers_hold level setup past legal).numbered session t is
-
   -- the active transaction of the event's session goes on by it
   goes : (event : LogEvent) (t : Txn) (h : Recorded → Recorded) → begun (event ∷ past) ≡ begun past → active past event.session ≡ Some t
       → ((n : ℕ) → n ≢ t.no → recorded_txn (event ∷ past) n ≡ recorded_txn past n) → recorded_txn (event ∷ past) t.no ≡ h (recorded_txn past t.no)
       → recorded_txns (event ∷ past) ≡ changed_by (number_of (active past event.session)) h (recorded_txns past)
   goes event t h same is others own =
-      let place : 1 + (t.no - 1) ≡ t.no = let low : 1 ≤ t.no = (numbered event.session t is).0 in omega (arith, low) in
+      let place : 1 + (t.no - 1) ≡ t.no = let low : 1 ≤ t.no = ((numbers_hold level setup past legal).numbered event.session t is).0 in omega (arith, low) in
       ap (λ k. each (recorded_txn (event ∷ past)) (numbers_from 1 k)) same
       ∙ changed_at (recorded_txn past) (recorded_txn (event ∷ past)) h 1 (begun past) (t.no - 1) (λ n apart. others n (λ e. apart (e ∙ sym place)))
       (subst (λ k. recorded_txn (event ∷ past) k ≡ h (recorded_txn past k)) (sym place) own)
@@ -150,9 +129,7 @@ module _ (level : Level) (setup : Table) (past : Past) (legal : IsLegal level se
   txns_goes session command (Listed view rows writes) (s, t, asks, free, effect) = runs (record { session = session; command = command; outcome = Listed view rows writes }) t refl refl asks.active_is
   txns_goes session command Committed (t, gives, may) =
       commit (record { session = session; command = command; outcome = Committed }) t refl (ap (λ o. commits_after Committed o (commits past)) gives.active_is) refl gives.active_is
-  txns_goes session command Aborted permitted = rests (record { session = session; command = command; outcome = Aborted }) refl refl refl
-  txns_goes session command (Waits on) permitted = rests (record { session = session; command = command; outcome = Waits on }) refl refl refl
-  txns_goes session command (Refused fault) permitted = rests (record { session = session; command = command; outcome = Refused fault }) refl refl refl
+  txns_goes session command other permitted = rests (record { session = session; command = command; outcome = other }) refl refl refl
 
 -- the transactions after one more event
 pub txns_go : (level : Level) (setup : Table) (past : Past) (event : LogEvent) → IsLegal level setup (event ∷ past)

@@ -1,56 +1,40 @@
 -- The versions of a table's rows, and of rows that are written.
 use Rattle.std.proofs.Common.{◌≡◌, ℤ, T, List, [], ◌∷◌, map, Option, Some, None, refl, sym, ap, ◌∙◌, subst, option_map}
-use Rattle.std.specs.FinMap.{find, is_sorted, get, from_sorted, entries, get-entries, get-from_sorted}
-use Rattle.lab_table.specs.Row.{Row, row_cmp}
-use Rattle.lab_table.specs.Table.{Table, State, Writes}
-use Rattle.lab_history.specs.VersionName.{new_states}
-use Rattle.lab_history.specs.declared.operation.State.{State as Written}
-use Rattle.lab_history.specs.declared.operation.VersionName.{VersionName}
-use Rattle.lab_history.specs.declared.operation.VersionName.TheVariants.{Initial}
-use Rattle.lab_table.proofs.Maps.{find-map}
-use Rattle.lab_table.proofs.SortedRows.{sorted-map}
-use Rattle.lab_engine.specs.Log.{Version}
-use Rattle.lab_engine.specs.Sight.{listed_version}
-use Rattle.lab_engine.specs.Merging.{initial_entry, written_entry, written_version}
+use Rattle.lab_engine.proofs.Common.{Written, find, is_sorted, get, from_sorted, entries, get-entries, get-from_sorted, Row, row_cmp, Table, State, Writes, new_states, VersionName, Initial, Version, listed_version, find-map, initial_entry, written_entry, written_version, sorted-map}
 
 -- rows with their versions
 abbrev pub Entries : Type 0
 Entries = List (Row × Version)
 
 -- the initial version of a row's value
-initial : ℤ → Version
+abbrev initial : ℤ → Version
 initial value = record { name = Initial; state = Some value }
 
 listed_as : (o : State) → option_map initial o ≡ listed_version o
-unfolding initial
 listed_as None = refl
 listed_as (Some value) = refl
 
 -- the initial versions of a table's rows are in order
 pub initial_sorted : (es : List (Row × ℤ)) (made : Entries) → T (is_sorted row_cmp es) → made ≡ map initial_entry es → T (is_sorted row_cmp made)
-unfolding initial
 initial_sorted es made h is = subst (λ l. T (is_sorted row_cmp l)) (sym is) (sorted-map (λ (e : Row × ℤ). initial e.1) es h)
 
 -- they are what the table lists
 pub initial_found : (table : Table) (made : Entries) (row : Row) → T (is_sorted row_cmp made) → made ≡ map initial_entry (entries table)
     → get (from_sorted {R = row_cmp} made) row ≡ listed_version (get table row)
-unfolding initial
 initial_found table made row h is =
     get-from_sorted row_cmp made row h ∙ ap (find row_cmp row) is ∙ find-map initial row (entries table)
     ∙ ap (option_map initial) (sym (get-entries table row)) ∙ listed_as (get table row)
 
 -- the version of this name, in a state
-named : VersionName → State → Version
+abbrev named : VersionName → State → Version
 named name state = record { name = name; state = state }
 
 written_as : (name : VersionName) (o : Option State) → option_map (named name) o ≡ written_version name o
-unfolding named
 written_as name None = refl
 written_as name (Some state) = refl
 
 -- written rows with their versions, by their new states
 written_states : (name : VersionName) (writes : List (Row × Written)) → map (written_entry name) writes ≡ map (λ (e : Row × State). (e.0, named name e.1)) (new_states writes)
-unfolding named
 written_states name [] = refl
 written_states name (e ∷ es) = ap (λ l. written_entry name e ∷ l) (written_states name es)
 

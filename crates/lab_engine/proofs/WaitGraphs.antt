@@ -1,10 +1,6 @@
 -- A graph of who waits for whom, as the sets of those that each session waits for.
-use Rattle.std.proofs.Common.{◌≡◌, ◌≢◌, ℕ, ◌+◌, ◌-◌, ◌<◌, ◌≤◌, ◌==◌, ◌&&◌, ◌||◌, cond, Bool, true, false, refl, ap, sym, subst, ◌∙◌, inl, inr, arith, List, length, get_or, set, replicate}
-use Rattle.std.specs.Prelude.{IsTrue, Option, Some, None, IfSome, ◌↔◌, is_some}
-use Rattle.std.proofs.lemmas.Bool.{cases_eq, eq-eqb, ne_eqb, eqb-true, both_ways, or_cases, or_left, or_right, and_parts, and_from}
-use Rattle.std.proofs.lemmas.List.{get_or-set_same, get_or-set_other, get_or_default, get_or-replicate}
-use Rattle.lab_engine.specs.SessionBits.{has}
-use Rattle.lab_engine.specs.WaitsFor.{waits_for, is_session, WaitsForOne}
+use Rattle.std.proofs.Common.{◌≡◌, ◌≢◌, ℕ, ◌-◌, ◌<◌, ◌≤◌, ◌==◌, ◌&&◌, cond, Bool, true, false, refl, ap, sym, subst, ◌∙◌, inl, inr, arith, List, length, get_or, set, replicate, IsTrue, Option, Some, None, IfSome, ◌↔◌, is_some}
+use Rattle.lab_engine.proofs.Common.{cases_eq, eq-eqb, ne_eqb, both_ways, and_parts, and_from, get_or-set_same, get_or-set_other, get_or_default, has, waits_for, WaitsForOne, get_or-replicate, is_session}
 
 -- a session is from 1 to 9
 pub session_range : (s : ℕ) → is_session s ≡ true → (1 ≤ s) × (s ≤ 9)
@@ -77,36 +73,6 @@ module _ (graph : List ℕ) (set own common session : ℕ) (on : (other : ℕ) �
 -- of the sessions below a number those that wait for one in a set
 abbrev pub AreWaitersBelow : List ℕ → ℕ → ℕ → ℕ → Type 0
 AreWaitersBelow graph set number waiters = (session : ℕ) → IsTrue (has waiters session) ↔ ((session < number) × WaitsForOne graph set session)
-
-module _ (graph : List ℕ) (set number waiters : ℕ) (h : AreWaitersBelow graph set number waiters) where
-  -- one more that waits for one in it
-  pub waiter_more : (new : ℕ) → ((n : ℕ) → has new n ≡ (n == number || has waiters n)) → WaitsForOne graph set number → AreWaitersBelow graph set (number + 1) new
-  waiter_more new is w session = (to, from)
-    where
-      to : IsTrue (has new session) → (session < number + 1) × WaitsForOne graph set session
-      to there = elim (or_cases (session == number) (has waiters session) (sym (is session) ∙ there)) [
-        | inl p ↦ let same : session ≡ number = eqb-true session number p in (omega (arith, same), subst (WaitsForOne graph set) (sym same) w)
-        | inr p ↦ let old = (h session).0 p in (omega (arith, old.0), old.1)
-      ]
-
-      from : (session < number + 1) × WaitsForOne graph set session → IsTrue (has new session)
-      from (less, waits) = is session ∙ elim (cases_eq session number) [
-        | inl same ↦ or_left _ _ (eq-eqb session number same)
-        | inr apart ↦ or_right _ _ ((h session).1 (search (arith, less, apart), waits))
-      ]
-
-  -- one more that doesn't
-  pub waiter_same : (WaitsForOne graph set number → ⊥) → AreWaitersBelow graph set (number + 1) waiters
-  waiter_same never session = (to, from)
-    where
-      to : IsTrue (has waiters session) → (session < number + 1) × WaitsForOne graph set session
-      to there = let old = (h session).0 there in (omega (arith, old.0), old.1)
-
-      from : (session < number + 1) × WaitsForOne graph set session → IsTrue (has waiters session)
-      from (less, waits) = elim (cases_eq session number) [
-        | inl same ↦ absurd (never (subst (WaitsForOne graph set) same waits))
-        | inr apart ↦ (h session).1 (search (arith, less, apart), waits)
-      ]
 
 -- below 10 are all
 pub all_waiters : (graph : List ℕ) (set number waiters : ℕ) → 10 ≤ number → AreWaitersBelow graph set number waiters → (session : ℕ)

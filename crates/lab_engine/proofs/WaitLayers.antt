@@ -1,14 +1,6 @@
 -- Layers of those from which walks lead to a goal, by how many stand between.
-use Rattle.std.proofs.Common.{◌≡◌, ℕ, ◌+◌, ◌-◌, ◌≤◌, ◌<◌, ◌==◌, ◌&&◌, ◌⊎◌, refl, sym, ap, subst, ◌∙◌, inl, inr, arith, false, List, [], ◌∷◌, ◌++◌, length, get_or, set, replicate}
-use Rattle.std.specs.Prelude.{IsTrue, Option, Some, None, IfSome, ◌↔◌, is_some}
-use Rattle.std.specs.List.{list_any}
-use Rattle.std.proofs.Math.Bool.{or-false}
-use Rattle.std.proofs.lemmas.Bool.{cases_eq, cases_lt, eq-eqb, eqb-true, both_ways, or_left, and_parts, and_from}
-use Rattle.std.proofs.lemmas.List.{get_or-set_same, get_or-set_other, append-nil, append_assoc}
-use Rattle.lab_engine.specs.SessionBits.{has}
-use Rattle.lab_engine.specs.WaitsFor.{waits_for, WaitsForOne, IsWalk, IsRound}
-use Rattle.lab_engine.specs.LeastCircle.{NotAfter}
-use Rattle.lab_history.specs.HistoryRules.{AllDistinct}
+use Rattle.std.proofs.Common.{◌≡◌, ℕ, ◌+◌, ◌-◌, ◌≤◌, ◌<◌, ◌==◌, ◌&&◌, ◌⊎◌, refl, sym, ap, subst, ◌∙◌, inl, inr, arith, false, List, [], ◌∷◌, ◌++◌, length, get_or, set, replicate, IsTrue, Option, Some, None, IfSome, ◌↔◌, is_some, get_or-set_same, get_or-set_other, append_assoc}
+use Rattle.lab_engine.proofs.Common.{list_any, cases_eq, cases_lt, eq-eqb, eqb-true, both_ways, or_left, and_parts, and_from, has, waits_for, WaitsForOne, IsWalk, IsRound, NotAfter, or-false, AllDistinct}
 use Rattle.lab_engine.specs.LeastWalk.{Leads, AreLayers, IsLeastWalk}
 use Rattle.lab_engine.proofs.Walks.{shortest_once, once_walk, once_few}
 
@@ -60,11 +52,6 @@ module _ (graph : List ℕ) (goal : ℕ) where
     | inr apart ↦ subst (λ x. IsTrue (has x s) ↔ Leads graph k s goal) (sym (get_or-set_other layers between k new 0 apart)) (h k (search (arith, lt, apart)) s)
   ]
 
-  -- the last step of a walk
-  pub at_goal : (at : ℕ) → Leads graph 0 at goal → IsLeastWalk graph 0 at goal []
-  at_goal at ([], size, walk) = record { size = refl; walk = walk; least = λ other w s. tt }
-  at_goal at (next ∷ rest, size, walk) = absurd (omega (arith, size))
-
   -- the least step before a least walk
   step_before : (left at next : ℕ) (tail : List ℕ) → IsTrue (waits_for graph at next) → ((n : ℕ) → IsTrue (waits_for graph at n) → Leads graph left n goal → next ≤ n) → IsLeastWalk graph left next goal tail
       → IsLeastWalk graph (left + 1) at goal (next ∷ tail)
@@ -84,9 +71,6 @@ module _ (graph : List ℕ) (goal : ℕ) where
   pub record GoesOn (between left at : ℕ) (front : List ℕ) : Type 0 where
     pub leads : Leads graph left at goal
     pub whole : (tail : List ℕ) → IsLeastWalk graph left at goal tail → (rest : List ℕ) × (front ++ tail ≡ goal ∷ rest) × IsLeastWalk graph between goal goal rest
-
-  pub goes_on_first : (between : ℕ) → Leads graph between goal goal → GoesOn between between goal (goal ∷ [])
-  goes_on_first between leads = record { leads = leads; whole = λ tail h. (tail, refl, h) }
 
   -- one step by the least in common
   pub goes_on_next : (layers : List ℕ) (between left at own common : ℕ) (front : List ℕ) → AreLayers graph goal 9 layers → left < 9 → ((n : ℕ) → has own n ≡ waits_for graph at n)
@@ -114,12 +98,6 @@ module _ (graph : List ℕ) (goal : ℕ) where
       by : Leads graph (left + 1) at goal → ⊥
       by ([], size, walk) = absurd (omega (arith, size))
       by (next ∷ rest, size, walk) = both_ways _ (none next) (both next ∙ and_from _ _ (on next ∙ walk.0) ((h left few next).1 (rest, omega (arith, size), walk.1)))
-
-  -- at the end the list is a whole cycle
-  pub goes_on_last : (between at : ℕ) (front : List ℕ) → GoesOn between 0 at front → (rest : List ℕ) × (front ≡ goal ∷ rest) × IsLeastWalk graph between goal goal rest
-  goes_on_last between at front goes =
-      let all : (rest : List ℕ) × (front ++ [] ≡ goal ∷ rest) × IsLeastWalk graph between goal goal rest = goes.whole [] (at_goal at goes.leads) in
-      (all.0, sym (append-nil front) ∙ all.1, all.2)
 
   module _ (layers : List ℕ) (h : AreLayers graph goal 9 layers) where
     -- where no layer has the goal, no walk leads back to it

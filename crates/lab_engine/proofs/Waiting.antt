@@ -1,31 +1,11 @@
 -- Which sessions wait for which after a log.
-use Rattle.std.proofs.Common.{◌≡◌, ◌≢◌, ℕ, zero, suc, ◌+◌, ◌≤◌, ◌<◌, refl, sym, ap, subst, ◌∙◌, arith, false, cond, ◌||◌, List, [], ◌∷◌, ◌⊎◌, inl, inr, length, take, get_or}
-use Rattle.std.specs.Prelude.{◌==◌, ◌↔◌, IsTrue, IsSome, Option, Some, None, Contains}
-use Rattle.std.specs.List.{list_any}
-use Rattle.std.proofs.lemmas.Bool.{cases_eq, eq-eqb, ne_eqb, eqb-true, both_ways, or_cases, or_right, or_left}
-use Rattle.std.proofs.lemmas.List.{take_all, length-map}
-use Rattle.lab_table.specs.Table.{Table}
-use Rattle.lab_table.specs.declared.statement.Statement.{Statement}
-use Rattle.lab_table.proofs.Tests.{some_is}
-use Rattle.lab_engine.specs.declared.event.Level.{Level}
-use Rattle.lab_engine.specs.declared.session_state.RunningTxn.{RunningTxn}
-use Rattle.lab_engine.specs.declared.session_state.SessionState.{SessionState}
-use Rattle.lab_engine.specs.declared.situation.Situation.{Situation}
-use Rattle.lab_engine.specs.Log.{Past, Txn, active, waiting}
-use Rattle.lab_engine.specs.Others.{IsOther}
-use Rattle.lab_engine.specs.Rules.{Blocks, BlockedBy, MayAsk}
-use Rattle.lab_engine.specs.Situation.{all_sessions, Agree, IsRunning, Describes, DescribesSession, DescribesAll}
-use Rattle.lab_engine.specs.SessionBits.{has}
-use Rattle.lab_engine.specs.WaitsFor.{waits_for, AreBlockers, WaitsOn, AreWaits}
-use Rattle.lab_engine.proofs.LockSteps.{none_some}
-use Rattle.lab_engine.proofs.Rising.{AreThose, those_hold, those_all, those_increase, sessions_of, is_among, among, among_more}
-use Rattle.std.proofs.lemmas.Option.{same_Some}
-
--- each state of a situation is described
-described_each : (past : Past) (states : List SessionState) (i : ℕ) (state : SessionState) → DescribesAll past states → i < length states → state ≡ get_or states i state → DescribesSession past state
-described_each past [] i state h lt is = absurd (omega arith)
-described_each past (s ∷ states) zero state h lt is = subst (DescribesSession past) (sym is) h.0
-described_each past (s ∷ states) (suc i) state h lt is = described_each past states i state h.1 (omega arith) is
+use Rattle.std.proofs.Common.{filter, ◌&&◌, ◌≡◌, ◌≢◌, ℕ, ◌+◌, ◌≤◌, ◌<◌, refl, sym, ap, subst, ◌∙◌, false, cond, ◌||◌, List, [], ◌⊎◌, inl, inr, length, take, get_or, ◌==◌, ◌↔◌, IsTrue, IsSome, Some, None, Contains, take_all}
+use Rattle.std.proofs.lemmas.Map.Views.{any-filter_same}
+use Rattle.lab_engine.proofs.Common.{none_some, and_parts, and_from, list_any, cases_eq, eq-eqb, ne_eqb, eqb-true, both_ways, or_cases, or_right, or_left, length-map, Table, Statement, some_is, Level, RunningTxn, SessionState, Situation, Past, Txn, active, waiting, BlockedBy, MayAsk, all_sessions, Agree, IsRunning, Describes, DescribesSession, has, waits_for, AreBlockers, WaitsOn, AreWaits, same_Some, IsOther, Blocks, Any-from_list_any, list_any_at}
+use Rattle.lab_engine.proofs.Describing.{kept_txn, kept_none}
+use Rattle.lab_engine.proofs.States.{describes_one}
+use Rattle.lab_engine.proofs.SessionBits.{AreChosen, one_chosen, one_passed}
+use Rattle.lab_engine.proofs.Rising.{some_increase, kept_sessions, sessions_of, is_among, among, among_more}
 
 -- a state stands at a place of a list
 pub record StandsAt (states : List SessionState) (i : ℕ) (state : SessionState) : Type 0 where
@@ -47,27 +27,16 @@ module _ (past : Past) (situation : Situation) (d : Describes past situation) wh
 
 -- a state of a situation is described
 pub described_at : (past : Past) (situation : Situation) (i : ℕ) (state : SessionState) → Describes past situation → StandsAt situation.sessions i state → DescribesSession past state
-described_at past situation i state d at = described_each past situation.sessions i state d.states at.lt at.is
+described_at past situation i state d at = subst (DescribesSession past) (sym at.is) (describes_one past i situation.sessions state at.lt d.states)
 
--- an active transaction that agrees with what is kept of it
-pub running_txn : (past : Past) (session : ℕ) (running : RunningTxn) → Agree (active past session) (Some running) → (txn : Txn) × (active past session ≡ Some txn) × IsRunning txn running
-running_txn past session running h = at (active past session) refl h
-  where
-    at : (o : Option Txn) → active past session ≡ o → Agree o (Some running) → (txn : Txn) × (active past session ≡ Some txn) × IsRunning txn running
-    at None is h = absurd h
-    at (Some txn) is h = (txn, is, h)
+-- the active transaction that a state keeps
+pub running_txn : (past : Past) (state : SessionState) (running : RunningTxn) → DescribesSession past state → state.running ≡ Some running
+    → (txn : Txn) × (active past state.session ≡ Some txn) × IsRunning txn running
+running_txn past state running d is = kept_txn (active past state.session) running (subst (Agree (active past state.session)) is d.running)
 
--- a session whose state keeps no active transaction has none
-kept_none : (txn : Option Txn) → Agree txn None → txn ≡ None
-kept_none None agree = refl
-kept_none (Some t) agree = absurd agree
-
+-- a session whose state keeps none has none
 pub idle : (past : Past) (state : SessionState) → DescribesSession past state → state.running ≡ None → active past state.session ≡ None
 idle past state d none = kept_none (active past state.session) (subst (Agree (active past state.session)) none d.running)
-
--- so it isn't another with an active transaction
-pub idle_no_other : (past : Past) (session other : ℕ) (holds : Txn → Type 0) → active past other ≡ None → ¬ IsOther past session other holds
-idle_no_other past session other holds none o = none_some _ (sym none ∙ o.2)
 
 -- another's active transaction
 pub other_active : (past : Past) (session other : ℕ) (holds : Txn → Type 0) → IsOther past session other holds → IsSome (active past other)
@@ -81,45 +50,39 @@ others_block level setup past session s txn set own are other = (
   (λ b. (are other).1 (b.1, b.2, b.4, subst (λ t. Blocks level setup past t s b.1) (same_Some b.0 txn (sym b.3 ∙ own)) b.5)),
 )
 
+-- an element passes its own test
+any_contains : (xs : List ℕ) (x : ℕ) → IsTrue (list_any (λ k. k == x) xs) → Contains xs x
+any_contains xs x h = let f = Any-from_list_any (λ k. k == x) xs h in subst (Contains xs) (eqb-true f.1 x f.4) (f.0, f.2, f.3)
+
+-- who is in a list is found there
+pub contains_any : (xs : List ℕ) (x : ℕ) → Contains xs x → IsTrue (list_any (λ k. k == x) xs)
+contains_any xs x c = list_any_at (λ k. k == x) xs c.0 x c.1 (eq-eqb (get_or xs c.0 x) x c.2)
+
+-- a session is one of those that a set has of all, where it has it
+chosen_of_all : (set other : ℕ) → list_any (λ k. k == other) (filter (has set) all_sessions) ≡ (has set other && list_any (λ k. k == other) all_sessions)
+chosen_of_all set other = any-filter_same (λ k. k == other) (has set) (has set other) (λ k same. ap (has set) (eqb-true k other same)) all_sessions
+
 -- once all are passed, those of a set of all that block are the blockers
 pub blockers_all : (level : Level) (setup : Table) (past : Past) (situation : Situation) (session : ℕ) (s : Statement) (passed set : ℕ) (on : List ℕ) → Describes past situation
     → length situation.sessions ≤ passed → ((other : ℕ) → IsTrue (has set other) ↔ BlockedBy level setup past session s other)
-    → AreThose (λ n. IsTrue (has set n)) (sessions_of (take passed situation.sessions)) on → AreBlockers level setup past session s on
-blockers_all level setup past situation session s passed set on d all blocking h =
-    let those : AreThose (λ n. IsTrue (has set n)) all_sessions on =
-    subst (λ xs. AreThose (λ n. IsTrue (has set n)) xs on) (ap sessions_of (take_all passed situation.sessions all) ∙ d.sessions) h in
-    record {
-      rising = those_increase (λ n. IsTrue (has set n)) on those;
-      are = λ other. (
-        (λ c. (blocking other).0 (those_hold (λ n. IsTrue (has set n)) all_sessions on those other c)),
-        λ b. those_all (λ n. IsTrue (has set n)) all_sessions on those other (d.active_is other (some_is (active past other) b.1 b.4)) ((blocking other).1 b),
-      );
-    }
+    → on ≡ sessions_of (filter (λ state. has set state.session) (take passed situation.sessions)) → AreBlockers level setup past session s on
+blockers_all level setup past situation session s passed set on d all blocking h = subst (AreBlockers level setup past session s) (sym is) (record {
+  rising = some_increase (has set);
+  are = λ other. (
+    (λ c. (blocking other).0 (and_parts _ _ (sym (chosen_of_all set other) ∙ contains_any (filter (has set) all_sessions) other c)).0),
+    (λ b. any_contains (filter (has set) all_sessions) other
+        (chosen_of_all set other ∙ and_from _ _ ((blocking other).1 b) (contains_any all_sessions other (d.active_is other (some_is (active past other) b.1 b.4))))),
+  );
+})
+  where
+    is : on ≡ filter (has set) all_sessions
+    is = h ∙ ap (λ l. sessions_of (filter (λ state. has set state.session) l)) (take_all passed situation.sessions all) ∙ kept_sessions (has set) situation.sessions ∙ ap (filter (has set)) d.sessions
 
 -- those that block the statement that a session waits with are those that it waits for
 pub waits_on_blocking : (level : Level) (setup : Table) (past : Past) (session : ℕ) (s : Statement) (set : ℕ) → waiting past session ≡ Some s
     → ((other : ℕ) → IsTrue (has set other) ↔ BlockedBy level setup past session s other) → (other : ℕ) → IsTrue (has set other) ↔ WaitsOn level setup past session other
 waits_on_blocking level setup past session s set is are other =
     ((λ c. (s, is, (are other).0 c)), (λ w. (are other).1 (subst (λ t. BlockedBy level setup past session t other) (same_Some w.0 s (sym w.1 ∙ is)) w.2)))
-
--- who doesn't wait waits for nobody
-pub waits_on_nobody : (level : Level) (setup : Table) (past : Past) (session set : ℕ) → ((n : ℕ) → has set n ≡ false) → ((s : Statement) → waiting past session ≡ Some s → (other : ℕ) → BlockedBy level setup past session s other → ⊥)
-    → (other : ℕ) → IsTrue (has set other) ↔ WaitsOn level setup past session other
-waits_on_nobody level setup past session set nobody never other = ((λ there. absurd (both_ways _ (nobody other) there)), (λ w. absurd (never w.0 w.1 other w.2)))
-
--- an element passes its own test
-any_contains : (xs : List ℕ) (x : ℕ) → IsTrue (list_any (λ k. k == x) xs) → Contains xs x
-any_contains [] x h = absurd (both_ways _ refl h)
-any_contains (y ∷ xs) x h = at (any_contains xs x) (or_cases (y == x) (list_any (λ k. k == x) xs) h)
-  where
-    at : (IsTrue (list_any (λ k. k == x) xs) → Contains xs x) → (IsTrue (y == x) ⊎ IsTrue (list_any (λ k. k == x) xs)) → Contains (y ∷ xs) x
-    at rest (inl p) = (0, omega arith, eqb-true y x p)
-    at rest (inr p) = let c : Contains xs x = rest p in (suc c.0, omega arith, c.2)
-
-contains_any : (xs : List ℕ) (x : ℕ) → Contains xs x → IsTrue (list_any (λ k. k == x) xs)
-contains_any [] x (k, lt, is) = absurd (omega arith)
-contains_any (y ∷ xs) x (zero, lt, is) = ap (λ b. b || list_any (λ k. k == x) xs) (eq-eqb y x is)
-contains_any (y ∷ xs) x (suc k, lt, is) = or_right _ _ (contains_any xs x (k, omega arith, is))
 
 -- a graph has what some sessions wait for
 abbrev pub AreWaitsOf : Level → Table → Past → List SessionState → List ℕ → Type 0
@@ -163,40 +126,29 @@ waits_step level setup past states i state waits new set lt is h own with_one se
 
 -- of some sessions the set has those that have a property
 abbrev pub AreChosenOf : (ℕ → Type 0) → List SessionState → ℕ → Type 0
-AreChosenOf P states set = (other : ℕ) → IsTrue (has set other) ↔ (IsTrue (is_among other states) × P other)
+AreChosenOf P states set = AreChosen (λ other. IsTrue (is_among other states)) P set
 
 -- of no sessions it has nobody
 pub chosen_none : (P : ℕ → Type 0) (set : ℕ) → ((n : ℕ) → has set n ≡ false) → AreChosenOf P [] set
 chosen_none P set nobody other = ((λ there. absurd (both_ways _ (nobody other) there)), (λ b. absurd (both_ways _ refl b.0)))
 
+-- one more state comes
+one_more : (states : List SessionState) (i : ℕ) (state : SessionState) → StandsAt states i state → (other : ℕ)
+    → IsTrue (is_among other (take (i + 1) states)) ↔ (IsTrue (is_among other (take i states)) ⊎ (other ≡ state.session))
+one_more states i state at other =
+    let more : is_among other (take (i + 1) states) ≡ (is_among other (take i states) || (state.session == other)) = among_more other states i state at.lt at.is in (
+      (λ there. elim (or_cases _ _ (sym more ∙ there)) [ inl p ↦ inl p | inr p ↦ inr (sym (eqb-true state.session other p)) ]),
+      (λ either. more ∙ elim either [ inl p ↦ or_left _ _ p | inr same ↦ or_right _ _ (eq-eqb state.session other (sym same)) ]),
+    )
+
 module _ (P : ℕ → Type 0) (states : List SessionState) (i : ℕ) (state : SessionState) (set : ℕ) (at : StandsAt states i state) (h : AreChosenOf P (take i states) set) where
   -- one more that has it
   pub chosen_more : (new : ℕ) → ((n : ℕ) → has new n ≡ (n == state.session || has set n)) → P state.session → AreChosenOf P (take (i + 1) states) new
-  chosen_more new is own other = (to, from)
-    where
-      to : IsTrue (has new other) → IsTrue (is_among other (take (i + 1) states)) × P other
-      to there = elim (or_cases _ _ (sym (is other) ∙ there)) [
-        | inl p ↦
-            let same : other ≡ state.session = eqb-true other state.session p in
-            (among_more other states i state at.lt at.is ∙ or_right _ _ (eq-eqb state.session other (sym same)), subst P (sym same) own)
-        | inr p ↦ let old = (h other).0 p in (among_more other states i state at.lt at.is ∙ or_left _ _ old.0, old.1)
-      ]
-
-      from : IsTrue (is_among other (take (i + 1) states)) × P other → IsTrue (has new other)
-      from b = is other ∙ elim (or_cases _ _ (sym (among_more other states i state at.lt at.is) ∙ b.0)) [
-        | inl p ↦ or_right _ _ ((h other).1 (p, b.1))
-        | inr p ↦ or_left _ _ (eq-eqb other state.session (sym (eqb-true state.session other p)))
-      ]
+  chosen_more = one_chosen _ _ P state.session set (one_more states i state at) h
 
   -- one more that hasn't
   pub chosen_same : ¬ P state.session → AreChosenOf P (take (i + 1) states) set
-  chosen_same never other = (
-    (λ there. let old = (h other).0 there in (among_more other states i state at.lt at.is ∙ or_left _ _ old.0, old.1)),
-    (λ b. elim (or_cases _ _ (sym (among_more other states i state at.lt at.is) ∙ b.0)) [
-      | inl p ↦ (h other).1 (p, b.1)
-      | inr p ↦ absurd (never (subst P (sym (eqb-true state.session other p)) b.1))
-    ]),
-  )
+  chosen_same = one_passed _ _ P state.session set (one_more states i state at) h
 
 -- once all are passed, the set has all active sessions that have it
 pub chosen_all : (P : ℕ → Type 0) (past : Past) (situation : Situation) (passed set : ℕ) → Describes past situation → ((other : ℕ) → P other → IsSome (active past other))

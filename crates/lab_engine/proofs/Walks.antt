@@ -1,11 +1,8 @@
 -- Walks to a goal along the graph of who waits for whom.
-use Rattle.std.proofs.Common.{◌≡◌, ℕ, ◌≤◌, ◌<◌, ◌==◌, ◌⊎◌, refl, sym, subst, inl, inr, arith, Bool, true, false, List, [], ◌∷◌, length}
-use Rattle.std.specs.Prelude.{IsTrue}
-use Rattle.std.specs.List.{list_any, IsDistinct, AllByRecursion}
-use Rattle.std.proofs.lemmas.Bool.{eq-eqb, ne_eqb, eqb-true, eqb-false, both_ways, or_cases, or_parts, or_left, or_right}
+use Rattle.std.proofs.Common.{◌∙◌, ap, ◌≡◌, ℕ, ◌≤◌, ◌<◌, ◌==◌, ◌⊎◌, refl, sym, subst, inl, inr, arith, Bool, true, false, List, [], ◌∷◌, length, IsTrue}
+use Rattle.lab_engine.proofs.Common.{false_from_ne_true, list_any, AllByRecursion, eq-eqb, ne_eqb, eqb-true, eqb-false, both_ways, or_cases, or_parts, IsWalk, AllDistinct, Any-from_list_any, list_any_at}
+use Rattle.std.specs.List.{IsDistinct}
 use Rattle.std.proofs.lemmas.Map.Steps.{length-le_from_distinct_below}
-use Rattle.lab_engine.specs.WaitsFor.{IsWalk}
-use Rattle.lab_history.specs.HistoryRules.{AllDistinct}
 use Rattle.lab_engine.proofs.WaitGraphs.{waiter_range}
 
 -- from each session on a walk one leads on that is no longer, with nobody on it twice if nobody was
@@ -28,14 +25,10 @@ from_there graph goal there session (next ∷ rest) walk once on = at (from_ther
 -- a session isn't on a shortest walk behind it
 not_behind : (graph : List ℕ) (goal session next : ℕ) (rest : List ℕ) → IsWalk graph next rest goal → AllDistinct (next ∷ rest)
     → ((other : List ℕ) → IsWalk graph session other goal → length (next ∷ rest) ≤ length other) → list_any (λ m. m == session) (next ∷ rest) ≡ false
-not_behind graph goal session next rest walk once short = at _ refl
-  where
-    at : (b : Bool) → list_any (λ m. m == session) (next ∷ rest) ≡ b → b ≡ false
-    at false q = refl
-    at true q =
-        let on : (other : List ℕ) × IsWalk graph session other goal × AllDistinct (session ∷ other) × (length other ≤ length rest) = from_there graph goal session next rest walk once q in
-        let le : length (next ∷ rest) ≤ length on.0 = short on.0 on.1 in
-        absurd (omega (arith, le, on.3))
+not_behind graph goal session next rest walk once short = false_from_ne_true _ (λ there.
+    let on : (other : List ℕ) × IsWalk graph session other goal × AllDistinct (session ∷ other) × (length other ≤ length rest) = from_there graph goal session next rest walk once there in
+    let le : length (next ∷ rest) ≤ length on.0 = short on.0 on.1 in
+    omega (arith, le, on.3))
 
 -- on a walk than which none is shorter nobody stands twice
 pub shortest_once : (graph : List ℕ) (goal session : ℕ) (rest : List ℕ) → IsWalk graph session rest goal → ((other : List ℕ) → IsWalk graph session other goal → length rest ≤ length other)
@@ -82,21 +75,17 @@ distinct_keys [] once = tt
 distinct_keys (n ∷ ns) once = (apart_from n ns once.0, distinct_keys ns once.1)
 
 found_there : (n : ℕ) (ns : List ℕ) → list_any (λ m. n == m) ns ≡ true → IsTrue (list_any (λ m. m == n) ns)
-found_there n [] h = absurd (both_ways _ refl h)
-found_there n (m ∷ ns) h = elim (or_cases (n == m) (list_any (λ k. n == k) ns) h) [
-  | inl p ↦ or_left _ _ (eq-eqb m n (sym (eqb-true n m p)))
-  | inr p ↦ or_right _ _ (found_there n ns p)
-]
+found_there n ns h =
+    let f = Any-from_list_any (λ m. n == m) ns h in list_any_at (λ m. m == n) ns f.0 f.1 f.2 (ap (λ m. m == n) f.3 ∙ eq-eqb f.1 n (sym (eqb-true n f.1 f.4)))
 
 -- on a walk on which nobody stands twice are at most nine
 pub once_few : (graph : List ℕ) (goal session : ℕ) (rest : List ℕ) → IsWalk graph session rest goal → AllDistinct (session ∷ rest) → length rest < 9
 once_few graph goal session rest walk once =
-    let le : length (0 ∷ session ∷ rest) ≤ 10 = length-le_from_distinct_below (0 ∷ session ∷ rest) 10 (distinct_keys (0 ∷ session ∷ rest) (nobody _ refl, once)) below in
+    let le : length (0 ∷ session ∷ rest) ≤ 10 = length-le_from_distinct_below (0 ∷ session ∷ rest) 10 (distinct_keys (0 ∷ session ∷ rest) (nobody, once)) below in
     omega (arith, le)
   where
-    nobody : (b : Bool) → list_any (λ m. m == 0) (session ∷ rest) ≡ b → b ≡ false
-    nobody false q = refl
-    nobody true q = let range : (1 ≤ 0) × (0 ≤ 9) = walkers graph goal session rest walk 0 q in absurd (omega (arith, range.0))
+    nobody : list_any (λ m. m == 0) (session ∷ rest) ≡ false
+    nobody = false_from_ne_true _ (λ there. let range : (1 ≤ 0) × (0 ≤ 9) = walkers graph goal session rest walk 0 there in omega (arith, range.0))
 
     below : (n : ℕ) → list_any (λ m. n == m) (0 ∷ session ∷ rest) ≡ true → n < 10
     below n there = elim (or_cases (n == 0) (list_any (λ m. n == m) (session ∷ rest)) there) [

@@ -1,5 +1,5 @@
 -- What is kept of all rows.
-use Rattle.std.specs.Prelude.{◌≡◌, ℕ, Option, Some, None, List, [], ◌∷◌, IsSome}
+use Rattle.std.specs.Prelude.{◌≡◌, ℕ, Option, Some, None, List, [], IsSome}
 use Rattle.std.specs.BTreeMap.{get}
 use Rattle.std.specs.FinMap as map
 use Rattle.lab_table.specs.Row.{Row, row_cmp}

@@ -1,13 +1,8 @@
 -- Who blocks a statement by one of three.
-use Rattle.std.proofs.Common.{◌≡◌, ◌∙◌, ℕ, sym, Bool, ◌||◌, inl, inr}
-use Rattle.std.specs.Prelude.{◌↔◌, IsTrue}
-use Rattle.std.proofs.lemmas.Bool.{or_cases, or_left, or_right}
-use Rattle.lab_table.specs.Table.{Table}
-use Rattle.lab_table.specs.declared.statement.Statement.{Statement}
+use Rattle.std.proofs.Common.{◌≡◌, ◌∙◌, ℕ, sym, Bool, ◌||◌, inl, inr, ◌↔◌, IsTrue}
+use Rattle.lab_engine.proofs.Common.{or_cases, or_left, or_right, Table, Statement, Past, Txn, IsOther, Blocks, HoldsWrite}
 use Rattle.lab_engine.specs.declared.event.Level.TheVariants.{Locking}
-use Rattle.lab_engine.specs.Log.{Past, Txn}
-use Rattle.lab_engine.specs.Others.{IsOther}
-use Rattle.lab_engine.specs.Rules.{Blocks, HoldsMatch, HoldsWrite, HasRead}
+use Rattle.lab_engine.specs.Rules.{HoldsMatch, HasRead}
 
 -- a session is another one whose transaction holds a match, holds a write, or has read
 pub blocks_by_one : (setup : Table) (past : Past) (session other : ℕ) (txn : Txn) (s : Statement) (any matching writing reading : Bool)

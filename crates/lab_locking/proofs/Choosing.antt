@@ -1,16 +1,10 @@
 -- Which sessions are chosen by a test of what they are doing.
-use Rattle.std.proofs.Common.{◌≡◌, ◌≢◌, ◌∙◌, ℕ, zero, suc, refl, sym, ap, subst, arith, Bool, true, false, not, ◌&&◌, ◌||◌, inl, inr, List, [], ◌∷◌, map, drop}
-use Rattle.std.specs.Prelude.{◌==◌, ◌↔◌, Option, Some, None, IsTrue, Contains}
-use Rattle.std.proofs.lemmas.Bool.{and_parts, and_from, or_cases, or_left, or_right, true≢false, eq-eqb, eqb-true, ne_eqb}
-use Rattle.lab_table.proofs.Members.{no_member}
-use Rattle.lab_table.proofs.Tests.{some_is}
+use Rattle.std.proofs.Common.{◌≡◌, ◌≢◌, ◌∙◌, ℕ, zero, suc, refl, sym, ap, subst, arith, Bool, true, not, ◌&&◌, ◌||◌, inl, inr, List, [], ◌∷◌, map, drop, ◌==◌, ◌↔◌, Option, Some, None, IsTrue, Contains}
+use Rattle.lab_engine.proofs.Common.{and_parts, and_from, or_cases, or_left, or_right, true≢false, eq-eqb, eqb-true, ne_eqb, some_is, Past, Txn, active, IsOther, has, Agree, IsRunning, Describes, DescribesSession, DescribesAll}
 use Rattle.lab_engine.specs.declared.session_state.RunningTxn.{RunningTxn}
 use Rattle.lab_engine.specs.declared.session_state.SessionState.{SessionState}
 use Rattle.lab_engine.specs.declared.situation.Situation.{Situation}
-use Rattle.lab_engine.specs.Log.{Past, Txn, active}
-use Rattle.lab_engine.specs.Others.{IsOther}
-use Rattle.lab_engine.specs.SessionBits.{has}
-use Rattle.lab_engine.specs.Situation.{Agree, IsRunning, Describes, DescribesSession, DescribesAll}
+use Rattle.lab_table.proofs.Members.{no_member}
 use Rattle.lab_locking.specs.Chosen.{is_chosen}
 
 -- what is chosen so far, and of the states that are left, is what is chosen of all

@@ -1,44 +1,16 @@
 -- What the tests of pending writes say of other sessions.
-use Rattle.std.proofs.Common.{◌≡◌, ◌∙◌, ℕ, refl, sym, ap, subst, arith, Bool, true, false, not, ◌&&◌, ◌||◌, inl, inr, List, [], ◌∷◌, length}
-use Rattle.std.specs.Prelude.{◌==◌, ◌↔◌, Option, Some, None, is_some, unwrap_or, IsTrue}
-use Rattle.std.specs.List.{list_any}
-use Rattle.std.proofs.lemmas.Bool.{and_parts, and_from, or_cases, or_left, or_right, true≢false}
-use Rattle.lab_table.specs.Row.{Row, row_eq}
-use Rattle.lab_table.specs.Table.{Table, State}
-use Rattle.lab_table.specs.Statement.{matches, may_match}
-use Rattle.lab_table.specs.declared.statement.Statement.{Statement}
-use Rattle.lab_table.proofs.Maps.{same_row}
-use Rattle.lab_table.proofs.OneRow.{no_match}
+use Rattle.std.proofs.Common.{◌≡◌, ◌∙◌, ℕ, refl, sym, ap, subst, arith, Bool, true, false, not, ◌||◌, length, ◌==◌, ◌↔◌, Option, Some, None, is_some, unwrap_or, IsTrue}
+use Rattle.lab_engine.proofs.Common.{and_parts, and_from, true≢false, Row, Table, State, matches, may_match, Statement, no_match, chain, Kept, kept_at, chain_kept, pending_kept, chain_in, pending_in, Past, Version, Txn, active, version_by, initial_version, committed_version, IsOther, Describes, DescribesSession, written_by}
 use Rattle.lab_engine.specs.declared.session_state.RunningTxn.{RunningTxn}
 use Rattle.lab_engine.specs.declared.session_state.SessionState.{SessionState}
 use Rattle.lab_engine.specs.declared.situation.Situation.{Situation}
-use Rattle.lab_engine.specs.Chains.{chain}
-use Rattle.lab_engine.specs.Kept.{Kept}
-use Rattle.lab_engine.specs.KeptRows.{kept_at, chain_kept, pending_kept, chain_in, pending_in}
-use Rattle.lab_engine.specs.Log.{Past, Version, Txn, active, version_by, initial_version, committed_version}
-use Rattle.lab_engine.specs.Others.{IsOther}
+use Rattle.std.proofs.lemmas.List.Folds.{Any-from_list_any}
 use Rattle.lab_engine.specs.Rules.{HoldsMatch}
-use Rattle.lab_engine.specs.Situation.{Describes, DescribesSession, written_by}
 use Rattle.lab_engine.proofs.InstalledChains.{last_in}
+use Rattle.lab_engine.proofs.OtherWriters.{row_any}
 use Rattle.lab_locking.specs.Matches as plain
 use Rattle.lab_locking.specs.Matches.{committed_state, matches_either, matches_kept, matches_at, holds_some}
 use Rattle.lab_locking.proofs.Choosing.{apart, to_apart, txn_running}
-
--- an element that passes a test
-any_found : {X : Type 0} (p : X → Bool) (xs : List X) → list_any p xs ≡ true → (x : X) × (p x ≡ true)
-any_found p [] any = absurd (true≢false (sym any))
-any_found p (x ∷ xs) any = elim (or_cases (p x) (list_any p xs) any) [
-  | inl here ↦ (x, here)
-  | inr there ↦ any_found p xs there
-]
-
--- a row of a list passes a test
-row_found : (p : Row → Bool) (row : Row) (rows : List Row) → list_any (row_eq row) rows ≡ true → p row ≡ true → list_any p rows ≡ true
-row_found p row [] there passes = absurd (true≢false (sym there))
-row_found p row (r ∷ rows) there passes = elim (or_cases (row_eq row r) (list_any (row_eq row) rows) there) [
-  | inl here ↦ or_left (p r) (list_any p rows) (ap p (sym (same_row row r here)) ∙ passes)
-  | inr behind ↦ or_right (p r) (list_any p rows) (row_found p row rows behind passes)
-]
 
 module _ (setup : Table) (past : Past) (situation : Situation) (d : Describes past situation) (s : Statement) where
   -- the committed state of a row
@@ -86,7 +58,7 @@ module _ (setup : Table) (past : Past) (situation : Situation) (d : Describes pa
       where
         found : (o : Option RunningTxn) → plain.any_written (matches_at setup situation s state.session) o ≡ true → (row : Row) × (matches_at setup situation s state.session row ≡ true)
         found None any = absurd (true≢false (sym any))
-        found (Some running) any = any_found (matches_at setup situation s state.session) running.written.items any
+        found (Some running) any = let f = Any-from_list_any (matches_at setup situation s state.session) running.written.items any in (f.1, f.4)
 
         to : IsTrue (holds_some setup situation session s state) → IsOther past session state.session (HoldsMatch setup past s)
         to any =
@@ -100,7 +72,7 @@ module _ (setup : Table) (past : Past) (situation : Situation) (d : Describes pa
             let kept = txn_running past state holder described is in
             and_from (not (state.session == session)) (plain.any_written (matches_at setup situation s state.session) state.running) (to_apart state.session session ne)
             (ap (plain.any_written (matches_at setup situation s state.session)) kept.1
-            ∙ row_found (matches_at setup situation s state.session) row kept.0.written.items (kept.2.written row ∙ ap is_some wrote) (at_holds state.session row holder is (v, wrote, matched)))
+            ∙ row_any (matches_at setup situation s state.session) kept.0.written.items row (kept.2.written row ∙ ap is_some wrote) (at_holds state.session row holder is (v, wrote, matched)))
 
     -- the same where only one row may match
     pub holds_row_is : (row : Row) → ((other : Row) → may_match s other ≡ true → other ≡ row) → (state : SessionState)

@@ -1,36 +1,24 @@
 -- What the tests of statements that ran say of other sessions.
 use Rattle.std.proofs.Common.{◌≡◌, ◌∙◌, ℕ, refl, sym, ap, subst, Bool, true, false, not, cond, ◌&&◌, ◌||◌, inl, inr, List, [], ◌∷◌}
 use Rattle.std.specs.Prelude.{◌==◌, ◌↔◌, ℤ, Option, Some, None, is_some, unwrap_or, IsTrue, ⊤}
-use Rattle.std.specs.List.{list_any}
-use Rattle.std.specs.Option.{option_or}
-use Rattle.std.specs.Ordering.{is_eq}
-use Rattle.std.specs.Map.{lookup}
-use Rattle.std.specs.BTreeMap.{is_at}
-use Rattle.std.specs.FinMap.{find, get, entries, get-entries}
-use Rattle.std.proofs.lemmas.Bool.{and_parts, and_from, or_cases, or_parts, or_left, or_right, true≢false}
-use Rattle.lab_table.specs.Row.{Row, row_cmp, row_eq, numbered}
-use Rattle.lab_table.specs.Table.{Table, State}
-use Rattle.lab_table.specs.NamedRow.{KindNames, StatementNames}
-use Rattle.lab_table.specs.Statement.{matches, may_match, would_write, new_state, kind_would_write}
-use Rattle.lab_table.specs.declared.statement.Statement.{Statement}
-use Rattle.lab_table.specs.declared.statement.StatementKind.{StatementKind}
-use Rattle.lab_table.specs.declared.statement.StatementKind.TheVariants.{Select, Update, Insert, Delete}
-use Rattle.lab_table.proofs.Maps.{same_row}
-use Rattle.lab_table.proofs.OneRow.{not_written}
+use Rattle.lab_engine.proofs.Common.{none_some, list_any, option_or, find, get, entries, get-entries, and_parts, and_from, or_cases, or_parts, or_left, or_right, true≢false, Table, State, Statement, same_row, last_before, Kept, kept_at, chain_kept, pending_kept, Past, Txn, active, initial_version, seen, has_read, IsOther, IsRunning, Describes, DescribesSession, statements_of}
 use Rattle.lab_engine.specs.declared.event.Level.TheVariants.{Locking}
 use Rattle.lab_engine.specs.declared.session_state.RunningTxn.{RunningTxn}
 use Rattle.lab_engine.specs.declared.session_state.SessionState.{SessionState}
 use Rattle.lab_engine.specs.declared.situation.Situation.{Situation}
-use Rattle.lab_engine.specs.Chains.{last_before}
-use Rattle.lab_engine.specs.Kept.{Kept}
-use Rattle.lab_engine.specs.KeptRows.{kept_at, chain_kept, pending_kept, entries_in}
-use Rattle.lab_engine.specs.Log.{Past, Txn, active, initial_version, seen, has_read}
-use Rattle.lab_engine.specs.Others.{IsOther}
+use Rattle.std.proofs.Math.Bool.{and-false}
+use Rattle.std.proofs.lemmas.List.Folds.{Any-from_list_any}
+use Rattle.lab_table.specs.Row.{Row, row_cmp, row_eq, numbered}
+use Rattle.lab_table.specs.NamedRow.{KindNames, StatementNames}
+use Rattle.lab_table.specs.Statement.{matches, may_match, would_write, new_state, kind_would_write}
+use Rattle.lab_table.specs.declared.statement.StatementKind.{StatementKind}
+use Rattle.lab_table.specs.declared.statement.StatementKind.TheVariants.{Insert}
+use Rattle.lab_engine.specs.KeptRows.{entries_in}
 use Rattle.lab_engine.specs.Rules.{HasRead}
 use Rattle.lab_engine.specs.Seen.{seen_in}
-use Rattle.lab_engine.specs.Situation.{Agree, IsRunning, Describes, DescribesSession, statements_of}
 use Rattle.lab_engine.proofs.Holding.{any_read}
-use Rattle.lab_engine.proofs.LockSteps.{none_some}
+use Rattle.lab_engine.proofs.KeptChains.{find_kept}
+use Rattle.lab_engine.proofs.OtherWriters.{named}
 use Rattle.lab_engine.proofs.SeenRows.{seen_is}
 use Rattle.lab_engine.proofs.Waiting.{running_txn}
 use Rattle.lab_locking.specs.Chosen.{is_chosen}
@@ -42,11 +30,8 @@ use Rattle.lab_locking.proofs.Choosing.{apart, to_apart, txn_running, chosen_is}
 
 -- one of two tests passes where one of them does somewhere
 four : (a b c d : Bool) → ((a || b) || (c || d)) ≡ ((a || c) || (b || d))
-four true b c d = refl
-four false true true d = refl
 four false true false d = refl
-four false false true d = refl
-four false false false d = refl
+four a b c d = refl
 
 either_any : {X : Type 0} (p q : X → Bool) (xs : List X) → list_any (λ x. p x || q x) xs ≡ (list_any p xs || list_any q xs)
 either_any p q [] = refl
@@ -71,7 +56,7 @@ has_read_is past session row old new state described = (to, from)
     found : (o : Option RunningTxn) → state.running ≡ o → has_run_on row old new o ≡ true → (holder : Txn) × (active past state.session ≡ Some holder) × ReadsEither row old new holder
     found None none any = absurd (true≢false (sym any))
     found (Some running) some any =
-        let txn = running_txn past state.session running (subst (Agree (active past state.session)) some described.running) in
+        let txn = running_txn past state running described some in
         (txn.0, txn.1, sym (reads_is row old new txn.0 running txn.2) ∙ any)
 
     to : IsTrue (plain.has_read session row old new state) → IsOther past session state.session (ReadsEither row old new)
@@ -126,16 +111,9 @@ module _ (setup : Table) (past : Past) (situation : Situation) (session : ℕ) (
       to : IsTrue (reads_row setup situation session running s n row) → IsOther past session n (HasRead Locking setup past txn s)
       to any = let other = (reads_row_is n row).0 any in (other.0, other.1, other.2, (row, other.3.0, other.3.1))
 
-      only_written : (other : Row) (state : State) → IsTrue (would_write s other state) → other ≡ row
-      only_written other state writes = by (may_match s other) refl
-        where
-          by : (b : Bool) → may_match s other ≡ b → other ≡ row
-          by true may = only other may
-          by false off = absurd (true≢false (sym writes ∙ not_written s other off state))
-
       from : IsOther past session n (HasRead Locking setup past txn s) → IsTrue (reads_row setup situation session running s n row)
       from (holder, ne, active_is, (other, writes, read)) =
-          subst (λ r. IsTrue (reads_row setup situation session running s n r)) (only_written other (seen Locking setup past txn other).state writes)
+          subst (λ r. IsTrue (reads_row setup situation session running s n r)) (named Locking setup past txn s session row only other (seen Locking setup past txn other).state writes)
           ((reads_row_is n other).1 (holder, ne, active_is, (writes, read)))
 
 -- ---- all rows
@@ -143,11 +121,7 @@ module _ (setup : Table) (past : Past) (situation : Situation) (session : ℕ) (
 module _ {A : Type 0} (p : Row → Bool) where
   -- a row of a list of entries that passes a test
   entry_found : (es : List (Row × A)) → list_any (λ entry. p entry.0) es ≡ true → (row : Row) × (p row ≡ true)
-  entry_found [] any = absurd (true≢false (sym any))
-  entry_found (e ∷ es) any = elim (or_cases (p e.0) (list_any (λ entry. p entry.0) es) any) [
-    | inl here ↦ (e.0, here)
-    | inr there ↦ entry_found es there
-  ]
+  entry_found es any = let f = Any-from_list_any (λ entry. p entry.0) es any in (f.1.0, f.4)
 
   -- a row that passes it and is found among entries
   found_entry : (row : Row) (v : A) (es : List (Row × A)) → find row_cmp row es ≡ Some v → p row ≡ true → list_any (λ entry. p entry.0) es ≡ true
@@ -159,17 +133,10 @@ module _ {A : Type 0} (p : Row → Bool) where
       by rest true same is = or_left (p e.0) (list_any (λ entry. p entry.0) es) (ap p (sym (same_row row e.0 same)) ∙ passes)
       by rest false same is = or_right (p e.0) (list_any (λ entry. p entry.0) es) (rest is)
 
--- a row is found among entries as a map finds it
-find_kept : {A : Type 0} (row : Row) (es : List (Row × A)) → find row_cmp row es ≡ lookup (is_at (row_cmp row)) es
-find_kept row [] = refl
-find_kept row (e ∷ es) = ap (cond (is_eq (row_cmp row e.0)) (Some e.1)) (find_kept row es)
-
 -- a statement that names no row writes no absent one
 unnamed_absent : (t : List ℕ) (kind : StatementKind) → ((row : Row) → ¬ KindNames t kind row) → (row : Row) → kind_would_write t kind row None ≡ false
-unnamed_absent t (Select pred) never row = refl
-unnamed_absent t (Update expr pred) never row = refl
 unnamed_absent t (Insert id new) never row = absurd (never (numbered t id) refl)
-unnamed_absent t (Delete pred) never row = refl
+unnamed_absent t other never row = refl
 
 module _ (setup : Table) (past : Past) (situation : Situation) (session : ℕ) (txn : Txn) (running : RunningTxn) (d : Describes past situation) (is : active past session ≡ Some txn)
     (agrees : IsRunning txn running) (s : Statement) (unnamed : (row : Row) → ¬ StatementNames s row) (n : ℕ) where
@@ -226,16 +193,12 @@ module _ (setup : Table) (past : Past) (situation : Situation) (session : ℕ) (
 
 -- ---- nobody else
 
-and_false : (b : Bool) → (b && false) ≡ false
-and_false true = refl
-and_false false = refl
-
 -- a test that no state passes chooses nobody
 none_chosen : (test : SessionState → Bool) (states : List SessionState) (n : ℕ) → list_any test states ≡ false → is_chosen test states n ≡ false
 none_chosen test [] n none = refl
 none_chosen test (state ∷ states) n none =
     let parts = or_parts (test state) (list_any test states) none in
-    ap (λ b. (n == state.session && b) || is_chosen test states n) parts.0 ∙ ap (λ b. b || is_chosen test states n) (and_false (n == state.session)) ∙ none_chosen test states n parts.1
+    ap (λ b. (n == state.session && b) || is_chosen test states n) parts.0 ∙ ap (λ b. b || is_chosen test states n) (and-false (n == state.session)) ∙ none_chosen test states n parts.1
 
 -- where no other session has an active transaction, nothing holds of one
 pub no_others : (past : Past) (situation : Situation) (session : ℕ) (holds : Txn → Type 0) → Describes past situation → list_any (is_active_other session) situation.sessions ≡ false
@@ -257,5 +220,5 @@ no_others past situation session holds d none n (holder, ne, is, held) =
         there : (o : Option RunningTxn) → state.running ≡ o → is_some o ≡ true → (txn : Txn) × (active past state.session ≡ Some txn)
         there None is some = absurd (true≢false (sym some))
         there (Some running) is some =
-            let txn = running_txn past state.session running (subst (Agree (active past state.session)) is described.running) in
+            let txn = running_txn past state running described is in
             (txn.0, txn.1)

@@ -1,20 +1,12 @@
 -- Which rows of a transaction others have installed since its begin.
-use Rattle.std.proofs.Common.{◌≡◌, ℕ, refl, sym, ap, subst, ◌∙◌, List, [], ◌∷◌, ◌++◌, Option, Some, None, is_some, IsSome, length, length-append, arith, MatchOption}
-use Rattle.std.specs.Prelude.{unwrap_or}
-use Rattle.std.proofs.lemmas.Option.{same_Some}
-use Rattle.lab_table.specs.Row.{Row}
+use Rattle.std.proofs.Common.{◌≡◌, ℕ, refl, sym, ap, subst, ◌∙◌, List, [], ◌∷◌, ◌++◌, Option, Some, None, IsSome, append_assoc, length, length-append, arith, MatchOption, unwrap_or}
+use Rattle.lab_engine.proofs.Common.{none_some, same_Some, Row, Past, Txn, active, version_by, writers, commits, MayCommit, Conflicts, chain, first_since, chain_in, Describes, IsRunning, running_of}
 use Rattle.lab_engine.specs.declared.session_state.RunningTxn.{RunningTxn}
 use Rattle.lab_engine.specs.declared.situation.Situation.{Situation}
-use Rattle.lab_engine.specs.declared.rules.Conflict.{Conflict}
 use Rattle.lab_engine.specs.declared.event.Level.TheVariants.{Snapshot}
-use Rattle.lab_engine.specs.Log.{Past, Version, Txn, active, version_by, writers, commits}
-use Rattle.lab_engine.specs.Rules.{IsBelow, MayCommit, Conflicts}
-use Rattle.lab_engine.specs.Chains.{chain, first_since}
-use Rattle.lab_engine.specs.KeptRows.{chain_in}
+use Rattle.lab_engine.specs.declared.rules.Conflict.{Conflict}
 use Rattle.lab_engine.specs.Sight.{IsFirstConflict}
-use Rattle.lab_engine.specs.Situation.{Describes, IsRunning, running_of}
-use Rattle.lab_versions.specs.Conflict.{IsAmong, IsLeastTaken}
-use Rattle.lab_engine.proofs.LockSteps.{none_some}
+use Rattle.lab_versions.specs.Conflict.{IsLeastTaken}
 use Rattle.lab_engine.proofs.Describing.{running_txn}
 use Rattle.lab_engine.proofs.InstalledChains.{SinceThen, since_begin, last_no}
 
@@ -35,10 +27,6 @@ last_of (t ∷ ts) by h = at (last_no ts) refl (λ n is. last_of ts n is) (same_
       let b = behind n is in
       (b.0, t ∷ b.1, b.2 ∙ sym (ap (λ o. unwrap_or o t.no) is) ∙ same, ap (λ (l : List Txn). t ∷ l) b.3)
 
-join_last : (more : List Txn) (first : Txn) (rest : List Txn) → (more ++ first ∷ []) ++ rest ≡ more ++ first ∷ rest
-join_last [] first rest = refl
-join_last (x ∷ more) first rest = ap (λ (l : List Txn). x ∷ l) (join_last more first rest)
-
 module _ (past : Past) (txn : Txn) (row : Row) (s : SinceThen row past txn.before) where
   -- nobody has
   untaken : first_since (length txn.before) (chain past row) ≡ None → writers row (commits past) ≡ writers row (commits txn.before)
@@ -48,7 +36,7 @@ module _ (past : Past) (txn : Txn) (row : Row) (s : SinceThen row past txn.befor
   conflicts : (by : ℕ) → IsSome (version_by txn row) → first_since (length txn.before) (chain past row) ≡ Some by → Conflicts past txn row by
   conflicts by wrote some =
       let l = last_of s.newer by (sym s.first_is ∙ some) in
-      (wrote, l.0, l.1, l.2, s.writers_are ∙ ap (λ (k : List Txn). k ++ writers row (commits txn.before)) l.3 ∙ join_last l.1 l.0 (writers row (commits txn.before)))
+      (wrote, l.0, l.1, l.2, s.writers_are ∙ ap (λ (k : List Txn). k ++ writers row (commits txn.before)) l.3 ∙ append_assoc l.1 (l.0 ∷ []) (writers row (commits txn.before)))
 
   no_conflict : (number : ℕ) → first_since (length txn.before) (chain past row) ≡ None → ¬ Conflicts past txn row number
   no_conflict number none (wrote, first, newer, number_is, is) =

@@ -1,15 +1,8 @@
 -- The least of some rows that somebody has taken, row by row.
-use Rattle.std.proofs.Common.{◌≡◌, ℕ, ◌+◌, ◌<◌, ◌≤◌, refl, sym, ap, subst, ◌∙◌, Bool, true, false, ◌||◌, T, inl, inr, List, length, take, take_all, get_or}
-use Rattle.std.specs.Prelude.{Option, Some, None}
-use Rattle.std.specs.List.{list_any}
-use Rattle.std.specs.Ordering.{is_lt, is_eq}
-use Rattle.std.proofs.lemmas.Bool.{or_cases, or_left, or_right, true≢false}
+use Rattle.std.proofs.Common.{◌≡◌, ℕ, ◌+◌, ◌<◌, sym, ap, subst, ◌∙◌, true, false, ◌||◌, T, inl, inr, List, length, take, get_or, Option, Some, None, is_lt, is_eq}
+use Rattle.lab_engine.proofs.Common.{list_any, or_cases, or_left, or_right, true≢false, Row, row_cmp, row_eq, rows_total, same_row, row_eq_self, is_less, IsBelow}
 use Rattle.std.proofs.lemmas.List.Folds.{list_any_more}
-use Rattle.lab_table.specs.Row.{Row, row_cmp, row_eq, rows_total}
-use Rattle.lab_table.proofs.Maps.{same_row, row_eq_self}
-use Rattle.lab_table.proofs.Orderings.{is_less}
 use Rattle.lab_engine.specs.declared.rules.Conflict.{Conflict}
-use Rattle.lab_engine.specs.Rules.{IsBelow}
 use Rattle.lab_versions.specs.Conflict.{IsAmong, IsLeastTaken, comes_before}
 
 -- no row is below itself
@@ -70,7 +63,3 @@ module _ (taken : Row → Option ℕ) (rows : List Row) (i : ℕ) (row : Row) (l
       | inr same ↦ absurd (true≢false (sym (ap is_lt below) ∙ ap (λ r. is_lt (row_cmp r found.row)) (same_row q row same) ∙ behind))
     ],
   )
-
--- all rows
-pub least_all : (taken : Row → Option ℕ) (rows : List Row) (i : ℕ) (least : Option Conflict) → length rows ≤ i → IsLeastTaken taken (take i rows) least → IsLeastTaken taken rows least
-least_all taken rows i least all h = subst (λ l. IsLeastTaken taken l least) (take_all i rows all) h

@@ -1,4 +1,4 @@
-use Rattle.lab_engine.proofs.LeastCircles.{one_least_circle}
+use Rattle.lab_engine.proofs.Circles.{one_least_circle}
 use Rattle.lab_engine.proofs.answer_laws.least_circle_unique.Goals as goal
 
 pub returns : goal.returns

@@ -1,4 +1,4 @@
-use Rattle.lab_engine.proofs.OneStep.{one_step, one_retry}
+use Rattle.lab_engine.proofs.OneOutcome.{one_step, one_retry}
 use Rattle.lab_engine.proofs.answer_laws.one_outcome.Goals as goal
 
 pub returns-clause-step : goal.returns-clause-step

@@ -1,7 +1,5 @@
-use Rattle.std.proofs.Common.{◌≡◌, true, refl, subst, inl, inr}
-use Rattle.std.specs.Prelude.{IfSome}
-use Rattle.lab_table.specs.Row.{Row}
-use Rattle.lab_table.specs.Statement.{may_match}
+use Rattle.std.proofs.Common.{◌≡◌, true, refl, subst, inl, inr, IfSome}
+use Rattle.lab_engine.proofs.Common.{Row, may_match}
 use Rattle.lab_engine.proofs.candidate.candidates.Goals as goal
 
 pub returns-in-None : goal.returns-in-None

@@ -1,6 +1,5 @@
 use Rattle.std.proofs.Common.{◌≡◌, ℕ, List, ◌-◌, ◌+◌, ◌<◌, ◌&&◌, get_or, length, refl, ap, sym, subst, ◌∙◌, arith}
-use Rattle.std.proofs.lemmas.Grind.{get_or_default_zero}
-use Rattle.lab_engine.specs.SessionBits.{has}
+use Rattle.lab_engine.proofs.Common.{get_or_default_zero, has}
 use Rattle.lab_engine.proofs.WaitLayers.{GoesOn, goes_on_next, some_common}
 use Rattle.lab_engine.proofs.circle.circle_by.Goals as goal
 

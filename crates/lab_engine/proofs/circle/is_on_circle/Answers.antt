@@ -1,5 +1,4 @@
-use Rattle.std.proofs.Common.{sym, subst, List, ℕ}
-use Rattle.std.specs.Prelude.{IsTrue, ◌↔◌}
+use Rattle.std.proofs.Common.{sym, subst, List, ℕ, IsTrue, ◌↔◌}
 use Rattle.lab_engine.specs.WaitsFor.{IsRound}
 use Rattle.lab_engine.proofs.WaitLayers.{found_round, round_found}
 use Rattle.lab_engine.proofs.circle.is_on_circle.Goals as goal

@@ -1,10 +1,5 @@
-use Rattle.std.proofs.Common.{◌≡◌, ◌∙◌, sym, ap, subst, false, T}
-use Rattle.std.specs.Prelude.{MatchOption, is_some}
-use Rattle.std.specs.FinMap.{is_sorted, entries_sorted}
-use Rattle.lab_table.specs.Row.{Row, row_cmp}
-use Rattle.lab_table.specs.Statement.{fails}
-use Rattle.lab_engine.specs.Log.{Version}
-use Rattle.lab_engine.specs.Sight.{version_in}
+use Rattle.std.proofs.Common.{◌≡◌, ◌∙◌, sym, ap, subst, false, T, MatchOption, is_some}
+use Rattle.lab_engine.proofs.Common.{is_sorted, entries_sorted, Row, row_cmp, fails, Version, version_in}
 use Rattle.lab_engine.specs.Effect.{IsEffectFault}
 use Rattle.lab_engine.proofs.FailingRows.{insert_fails, insert_runs, update_runs, update_fails}
 use Rattle.lab_engine.proofs.effect.fault_of.Goals as goal

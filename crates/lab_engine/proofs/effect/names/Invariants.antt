@@ -1,6 +1,5 @@
 use Rattle.std.proofs.Common.{◌≡◌, ◌++◌, drop}
-use Rattle.lab_engine.specs.EachRow.{each_row}
-use Rattle.lab_engine.specs.Rules.{in_view}
+use Rattle.lab_engine.proofs.Common.{each_row, in_view}
 use Rattle.lab_engine.proofs.effect.names.Given as goal
 
 -- those that were listed, and then those of the entries that are left

@@ -1,8 +1,5 @@
 use Rattle.std.proofs.Common.{T, sym, subst}
-use Rattle.std.specs.FinMap.{is_sorted, entries_sorted}
-use Rattle.lab_table.specs.Row.{row_cmp}
-use Rattle.lab_table.specs.Statement.{listed}
-use Rattle.lab_engine.specs.Log.{Version}
+use Rattle.lab_engine.proofs.Common.{is_sorted, entries_sorted, row_cmp, listed, Version}
 use Rattle.lab_engine.proofs.Effects.{sorted_made, rows_made}
 use Rattle.lab_engine.proofs.effect.rows_of.Goals as goal
 

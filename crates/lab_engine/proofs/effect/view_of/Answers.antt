@@ -1,5 +1,4 @@
-use Rattle.lab_engine.specs.Log.{Version}
-use Rattle.lab_engine.specs.Rules.{in_view}
+use Rattle.lab_engine.proofs.Common.{Version, in_view}
 use Rattle.lab_engine.proofs.Effects.{sorted_made, view_made}
 use Rattle.lab_engine.proofs.effect.view_of.Goals as goal
 

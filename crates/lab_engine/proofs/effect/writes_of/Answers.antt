@@ -1,7 +1,5 @@
 use Rattle.std.proofs.Common.{◌∙◌, ap}
-use Rattle.std.specs.FinMap.{get, get-from_sorted}
-use Rattle.lab_table.specs.Row.{row_cmp}
-use Rattle.lab_history.specs.VersionName.{new_states}
+use Rattle.lab_engine.proofs.Common.{get, get-from_sorted, row_cmp, new_states}
 use Rattle.lab_engine.proofs.effect.writes_of.Goals as goal
 
 pub returns : goal.returns

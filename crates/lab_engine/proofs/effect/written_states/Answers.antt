@@ -1,7 +1,5 @@
 use Rattle.std.proofs.Common.{T, sym, subst, ◌∙◌}
-use Rattle.std.specs.FinMap.{is_sorted, entries_sorted}
-use Rattle.std.proofs.lemmas.Result.{IfOk-weaker}
-use Rattle.lab_table.specs.Row.{row_cmp}
+use Rattle.lab_engine.proofs.Common.{is_sorted, entries_sorted, row_cmp, IfOk-weaker}
 use Rattle.lab_engine.proofs.Effects.{change_made}
 use Rattle.lab_engine.proofs.effect.written_states.Goals as goal
 

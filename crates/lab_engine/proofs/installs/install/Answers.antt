@@ -1,8 +1,6 @@
-use Rattle.std.proofs.Common.{sym, ap, ◌∙◌, ◌++◌, cond, Option, Bor, [], ◌∷◌}
-use Rattle.std.specs.Prelude.{is_some, option_map}
-use Rattle.lab_engine.specs.declared.gathering.GatheredTxn.{GatheredTxn}
-use Rattle.lab_engine.specs.Gathered.{numbers_of, installs_by}
-use Rattle.lab_engine.proofs.Installing.{noted}
+use Rattle.std.proofs.Common.{sym, ap, ◌∙◌, ◌++◌, cond, Option, Bor, [], ◌∷◌, is_some, option_map}
+use Rattle.lab_engine.proofs.Common.{GatheredTxn, numbers_of, installs_by}
+use Rattle.lab_engine.proofs.Grouping.{noted}
 use Rattle.lab_engine.proofs.installs.install.Goals as goal
 
 pub returns-clause-installs : goal.returns-clause-installs

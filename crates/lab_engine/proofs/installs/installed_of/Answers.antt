@@ -1,10 +1,6 @@
 use Rattle.std.proofs.Common.{rules, sym, ap, subst, ◌∙◌, []}
-use Rattle.std.specs.FinMap.{get}
-use Rattle.std.proofs.lemmas.List.Sorted.{answers_always}
-use Rattle.std.specs.List.Sorted.{IsSortedByKey}
-use Rattle.lab_table.specs.Row.{row_cmp}
+use Rattle.lab_engine.proofs.Common.{get, row_cmp, groups_from, IsSortedByKey, answers_always}
 use Rattle.lab_history.specs.Installed.{Installed}
-use Rattle.lab_engine.specs.Gathered.{groups_from}
 use Rattle.lab_engine.proofs.Grouping.{groups_sorted, groups_found}
 use Rattle.lab_engine.proofs.installs.installed_of.Goals as goal
 

@@ -1,6 +1,5 @@
 use Rattle.std.proofs.Common.{ap, ◌∙◌}
-use Rattle.std.specs.FinMap.{get, get-empty}
-use Rattle.lab_table.specs.Row.{row_cmp}
+use Rattle.lab_engine.proofs.Common.{get, get-empty, row_cmp}
 use Rattle.lab_engine.specs.Sight.{Listed}
 use Rattle.lab_engine.proofs.installs.last_versions.Goals as goal
 

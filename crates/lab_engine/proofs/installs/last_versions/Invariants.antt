@@ -1,7 +1,5 @@
 use Rattle.std.proofs.Common.{◌≡◌, reverse, take}
-use Rattle.std.specs.FinMap.{get}
-use Rattle.lab_table.specs.Row.{Row}
-use Rattle.lab_engine.specs.Log.{last_version}
+use Rattle.lab_engine.proofs.Common.{get, Row, last_version}
 use Rattle.lab_engine.proofs.installs.last_versions.Given as goal
 
 -- what the operations so far wrote

@@ -1,6 +1,5 @@
 use Rattle.std.proofs.Common.{◌≡◌, length, reverse}
-use Rattle.std.specs.Option.{option_or}
-use Rattle.lab_engine.specs.Chains.{first_since}
+use Rattle.lab_engine.proofs.Common.{option_or, first_since}
 use Rattle.lab_engine.proofs.row_state.first_from.Given as goal
 
 -- what is left, else what was found so far, answers as all

@@ -1,8 +1,5 @@
 use Rattle.std.proofs.Common.{◌≡◌, ◌++◌}
-use Rattle.std.specs.Option.{option_or}
-use Rattle.lab_engine.specs.Chains.{last_before}
-use Rattle.lab_engine.specs.EachRow.{each_row}
-use Rattle.lab_engine.specs.Kept.{pending_of}
+use Rattle.lab_engine.proofs.Common.{option_or, last_before, pending_of, each_row}
 use Rattle.lab_engine.proofs.row_states.entries_seen.Given as goal
 
 -- the entries so far and what the rows that are left make are what all make

@@ -1,9 +1,5 @@
 use Rattle.std.proofs.Common.{◌==◌, ◌&&◌, cond, None, ap, subst, ◌∙◌}
-use Rattle.std.specs.List.{list_any}
-use Rattle.lab_table.specs.Row.{row_eq}
-use Rattle.lab_engine.specs.Chains.{longer}
-use Rattle.lab_engine.specs.KeptRows.{chain_in, pending_in}
-use Rattle.lab_engine.specs.Situation.{Agree}
+use Rattle.lab_engine.proofs.Common.{list_any, row_eq, longer, chain_in, pending_in, Agree}
 use Rattle.lab_engine.proofs.SessionStates.{all_settled, none_settled, installs_all, installs_none}
 use Rattle.lab_engine.proofs.session_state.install.Goals as goal
 

@@ -1,6 +1,5 @@
 use Rattle.std.proofs.Common.{sym, subst, ◌∙◌}
-use Rattle.lab_engine.specs.KeptRows.{pending_in}
-use Rattle.lab_engine.specs.Situation.{Agree}
+use Rattle.lab_engine.proofs.Common.{pending_in, Agree}
 use Rattle.lab_engine.proofs.SessionStates.{after_none, runs_agree}
 use Rattle.lab_engine.proofs.session_state.run_in.Goals as goal
 

@@ -1,8 +1,5 @@
 use Rattle.std.proofs.Common.{◌==◌, cond, None, sym, ap, subst, ◌∙◌}
-use Rattle.lab_engine.specs.declared.event.Outcome.{Outcome}
-use Rattle.lab_engine.specs.Log.{active_after}
-use Rattle.lab_engine.specs.KeptRows.{pending_in}
-use Rattle.lab_engine.specs.Situation.{Agree, ran, written_by}
+use Rattle.lab_engine.proofs.Common.{Outcome, active_after, pending_in, Agree, written_by, ran}
 use Rattle.lab_engine.proofs.session_state.running_next.Goals as goal
 
 pub returns-in-Begun-clause-pending : goal.returns-in-Begun-clause-pending

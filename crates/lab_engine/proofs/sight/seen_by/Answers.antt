@@ -1,12 +1,5 @@
-use Rattle.std.specs.Prelude.{◌≡◌, Option, None, unwrap_or, option_and_then}
-use Rattle.std.specs.Option.{option_or}
-use Rattle.std.proofs.Common.{◌∙◌, ap, sym, subst}
-use Rattle.std.specs.FinMap.{get}
-use Rattle.std.proofs.lemmas.Result.{IfOk-weaker}
-use Rattle.lab_engine.specs.Chains.{last_before}
-use Rattle.lab_engine.specs.KeptRows.{chain_in, pending_in}
-use Rattle.lab_engine.specs.Log.{Version, commits, version_by, last_installed, sight, seen}
-use Rattle.lab_engine.specs.Sight.{initially, matching_version, IsShown}
+use Rattle.lab_engine.proofs.Common.{option_or, get, last_before, chain_in, pending_in, Version, commits, version_by, last_installed, sight, seen, initially, matching_version, IsShown, IfOk-weaker}
+use Rattle.std.proofs.Common.{◌∙◌, ap, sym, subst, ◌≡◌, Option, None, unwrap_or, option_and_then}
 use Rattle.lab_engine.proofs.SeenRows.{found_is}
 use Rattle.lab_engine.proofs.Shown.{first_shown}
 use Rattle.lab_engine.proofs.sight.seen_by.Goals as goal

@@ -1,6 +1,5 @@
 use Rattle.std.proofs.Common.{subst, sym, ap, set, ◌∙◌}
-use Rattle.std.proofs.lemmas.Result.{on_ok_weaker}
-use Rattle.lab_engine.specs.Situation.{DescribesSession, HasPlaces, running_of}
+use Rattle.lab_engine.proofs.Common.{on_ok_weaker, DescribesSession, HasPlaces, running_of}
 use Rattle.lab_engine.proofs.States.{sessions_stay, states_stay, running_put}
 use Rattle.lab_engine.proofs.situation.reserve_places.Goals as goal
 

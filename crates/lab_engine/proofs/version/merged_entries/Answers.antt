@@ -1,6 +1,5 @@
 use Rattle.std.proofs.Common.{arith, ◌≡◌, ◌∙◌, ◌∷◌, ◌++◌, ◌+◌, [], take, drop, ap, sym}
-use Rattle.std.proofs.lemmas.List.{drop_more}
-use Rattle.lab_engine.specs.Merging.{merged, without_row}
+use Rattle.lab_engine.proofs.Common.{drop_more, merged, without_row}
 use Rattle.lab_engine.proofs.Merging.{merge_step, left_sorted}
 use Rattle.lab_engine.proofs.version.merged_entries.Goals as goal
 

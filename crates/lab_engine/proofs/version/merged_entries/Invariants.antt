@@ -1,7 +1,5 @@
 use Rattle.std.proofs.Common.{◌≡◌, T, ◌++◌, drop}
-use Rattle.std.specs.FinMap.{is_sorted}
-use Rattle.lab_table.specs.Row.{row_cmp}
-use Rattle.lab_engine.specs.Merging.{merged}
+use Rattle.lab_engine.proofs.Common.{is_sorted, row_cmp, merged}
 use Rattle.lab_engine.proofs.version.merged_entries.Given as goal
 
 -- the entries so far and what is left to merge make the whole

@@ -1,8 +1,6 @@
 use Rattle.std.proofs.Common.{get_or, refl}
-use Rattle.std.proofs.lemmas.Bool.{both_ways}
-use Rattle.lab_engine.specs.Situation.{DescribesSession}
-use Rattle.lab_engine.specs.declared.session_state.SessionState.{SessionState}
-use Rattle.lab_engine.proofs.Waiting.{StandsAt, stands_at, all_passed, described_at, waits_step, waits_all}
+use Rattle.lab_engine.proofs.Common.{both_ways, SessionState}
+use Rattle.lab_engine.proofs.Waiting.{stands_at, all_passed, described_at, waits_step, waits_all}
 use Rattle.lab_engine.proofs.waits.all_waits.Goals as goal
 
 pub loop-state-init : goal.loop-state-init
@@ -11,9 +9,8 @@ loop-state-init g c = λ past d session other. ((λ w. absurd (both_ways _ (c.no
 pub loop-state-preserved : goal.loop-state-preserved
 loop-state-preserved g c = λ past d.
     let state : SessionState = get_or c.args.situation.now.sessions c.loop-state.state-index c.state-item.result in
-    let at : StandsAt c.args.situation.now.sessions c.loop-state.state-index state =
-    stands_at past c.args.situation.now d c.loop-state.state-index c.state-item.result c.loop-state-test.true c.state-item.is in
-    let described : DescribesSession past state = described_at past c.args.situation.now c.loop-state.state-index state d at in
+    let at = stands_at past c.args.situation.now d c.loop-state.state-index c.state-item.result c.loop-state-test.true c.state-item.is in
+    let described = described_at past c.args.situation.now c.loop-state.state-index state d at in
     waits_step g.R.Rules.kind c.args.setup.now past c.args.situation.now.sessions c.loop-state.state-index state c.loop-state.waits
     c.put.new.self c.waits_on-on.result at.lt at.is (c.loop-state.invariant past d) (c.waits_on-on.ensures past d described) c.put.ensures
 

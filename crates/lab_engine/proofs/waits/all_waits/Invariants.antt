@@ -1,6 +1,5 @@
 use Rattle.std.proofs.Common.{take}
-use Rattle.lab_engine.specs.Log.{Past}
-use Rattle.lab_engine.specs.Situation.{Describes}
+use Rattle.lab_engine.proofs.Common.{Past, Describes}
 use Rattle.lab_engine.proofs.Waiting.{AreWaitsOf}
 use Rattle.lab_engine.proofs.waits.all_waits.Given as goal
 

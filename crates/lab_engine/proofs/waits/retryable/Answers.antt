@@ -1,26 +1,22 @@
 use Rattle.std.proofs.Common.{get_or}
-use Rattle.std.proofs.lemmas.Bool.{both_ways}
-use Rattle.lab_engine.specs.Situation.{DescribesSession}
-use Rattle.lab_engine.specs.declared.session_state.SessionState.{SessionState}
-use Rattle.lab_engine.proofs.Waiting.{StandsAt, stands_at, all_passed, described_at}
+use Rattle.lab_engine.proofs.Common.{both_ways, SessionState}
+use Rattle.lab_engine.proofs.Waiting.{stands_at, all_passed, described_at}
 use Rattle.lab_engine.proofs.Retrying.{state_retryable, state_released, none_step, none_retryable, least_retryable}
 use Rattle.lab_engine.proofs.waits.retryable.Goals as goal
 
 pub returns-then-is_released : goal.returns-then-is_released
 returns-then-is_released g c = λ past d.
     let state : SessionState = get_or c.args.situation.now.sessions c.loop-state.state-index c.state-item.result in
-    let at : StandsAt c.args.situation.now.sessions c.loop-state.state-index state =
-    stands_at past c.args.situation.now d c.loop-state.state-index c.state-item.result c.loop-state-test.true c.state-item.is in
-    let described : DescribesSession past state = described_at past c.args.situation.now c.loop-state.state-index state d at in
+    let at = stands_at past c.args.situation.now d c.loop-state.state-index c.state-item.result c.loop-state-test.true c.state-item.is in
+    let described = described_at past c.args.situation.now c.loop-state.state-index state d at in
     least_retryable g.R.Rules.kind c.args.setup.now past c.args.situation.now c.loop-state.state-index state d at.lt at.is (c.loop-state.invariant past d)
     (state_retryable g.R.Rules.kind c.args.setup.now past c.all_waits-waits.result state described (c.all_waits-waits.ensures past d) (c.is_released.ensures.0 c.if-is_released.true))
 
 pub loop-state-preserved : goal.loop-state-preserved
 loop-state-preserved g c = λ past d.
     let state : SessionState = get_or c.args.situation.now.sessions c.loop-state.state-index c.state-item.result in
-    let at : StandsAt c.args.situation.now.sessions c.loop-state.state-index state =
-    stands_at past c.args.situation.now d c.loop-state.state-index c.state-item.result c.loop-state-test.true c.state-item.is in
-    let described : DescribesSession past state = described_at past c.args.situation.now c.loop-state.state-index state d at in
+    let at = stands_at past c.args.situation.now d c.loop-state.state-index c.state-item.result c.loop-state-test.true c.state-item.is in
+    let described = described_at past c.args.situation.now c.loop-state.state-index state d at in
     none_step g.R.Rules.kind c.args.setup.now past c.args.situation.now.sessions c.loop-state.state-index state at.lt at.is (c.loop-state.invariant past d)
     (λ r. both_ways _ c.if-is_released.false (c.is_released.ensures.1 (state_released g.R.Rules.kind c.args.setup.now past c.all_waits-waits.result state described
     (c.all_waits-waits.ensures past d) r)))

@@ -1,9 +1,5 @@
-use Rattle.std.proofs.Common.{ℕ, take}
-use Rattle.std.specs.Prelude.{IsTrue, ◌==◌}
-use Rattle.std.specs.List.{list_any}
-use Rattle.lab_engine.specs.Log.{Past}
-use Rattle.lab_engine.specs.Situation.{Describes}
-use Rattle.lab_engine.specs.Recording.{IsRetryable}
+use Rattle.std.proofs.Common.{ℕ, take, IsTrue, ◌==◌}
+use Rattle.lab_engine.proofs.Common.{list_any, Past, Describes, IsRetryable}
 use Rattle.lab_engine.proofs.waits.retryable.Given as goal
 
 -- none of the sessions so far is retryable

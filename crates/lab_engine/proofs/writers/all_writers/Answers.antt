@@ -1,10 +1,6 @@
 use Rattle.std.proofs.Common.{get_or, ℕ, sym, subst, take, ◌+◌}
-use Rattle.std.proofs.lemmas.Bool.{both_ways}
-use Rattle.lab_engine.specs.Others.{IsOther}
-use Rattle.lab_engine.specs.Rules.{HoldsWrite}
-use Rattle.lab_engine.specs.Situation.{DescribesSession}
-use Rattle.lab_engine.specs.declared.session_state.SessionState.{SessionState}
-use Rattle.lab_engine.proofs.Waiting.{StandsAt, stands_at, all_passed, described_at, AreChosenOf, chosen_none, chosen_more, chosen_same, chosen_all, other_active}
+use Rattle.lab_engine.proofs.Common.{both_ways, HoldsWrite, SessionState, IsOther}
+use Rattle.lab_engine.proofs.Waiting.{stands_at, all_passed, described_at, AreChosenOf, chosen_none, chosen_more, chosen_same, chosen_all, other_active}
 use Rattle.lab_engine.proofs.writers.all_writers.Goals as goal
 use Rattle.lab_engine.proofs.writers.all_writers.Goals.{then-has_overwritten, else-has_overwritten}
 
@@ -16,9 +12,8 @@ pub loop-state-preserved : goal.loop-state-preserved
 loop-state-preserved c = λ past txn d is_active running.
     let P : ℕ → Type 0 = λ other. IsOther past c.args.session other (HoldsWrite c.args.level c.args.setup.now past txn c.args.statement.now) in
     let state : SessionState = get_or c.args.situation.now.sessions c.loop-state.state-index c.state-item.result in
-    let at : StandsAt c.args.situation.now.sessions c.loop-state.state-index state =
-    stands_at past c.args.situation.now d c.loop-state.state-index c.state-item.result c.loop-state-test.true c.state-item.is in
-    let described : DescribesSession past state = described_at past c.args.situation.now c.loop-state.state-index state d at in
+    let at = stands_at past c.args.situation.now d c.loop-state.state-index c.state-item.result c.loop-state-test.true c.state-item.is in
+    let described = described_at past c.args.situation.now c.loop-state.state-index state d at in
     let own = c.has_overwritten.ensures past txn d is_active running described in
     elim c.if-has_overwritten.branch [
       | then-has_overwritten w ↦

@@ -1,9 +1,5 @@
-use Rattle.std.proofs.Common.{◌≡◌, take}
-use Rattle.std.specs.Prelude.{Some}
-use Rattle.lab_engine.specs.Log.{Past, Txn, active}
-use Rattle.lab_engine.specs.Others.{IsOther}
-use Rattle.lab_engine.specs.Rules.{HoldsWrite}
-use Rattle.lab_engine.specs.Situation.{Describes, IsRunning}
+use Rattle.std.proofs.Common.{◌≡◌, take, Some}
+use Rattle.lab_engine.proofs.Common.{Past, Txn, active, HoldsWrite, Describes, IsRunning, IsOther}
 use Rattle.lab_engine.proofs.Waiting.{AreChosenOf}
 use Rattle.lab_engine.proofs.writers.all_writers.Given as goal
 

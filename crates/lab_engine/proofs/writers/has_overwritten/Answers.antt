@@ -1,10 +1,5 @@
-use Rattle.std.proofs.Common.{◌∙◌, ap, sym, subst}
-use Rattle.std.specs.Prelude.{◌↔◌, IsTrue}
-use Rattle.std.specs.List.{list_any}
-use Rattle.lab_table.specs.Statement.{would_write}
-use Rattle.lab_engine.specs.Log.{Version}
-use Rattle.lab_engine.specs.Others.{IsOther}
-use Rattle.lab_engine.specs.Rules.{HoldsWrite}
+use Rattle.std.proofs.Common.{◌∙◌, ap, sym, subst, ◌↔◌, IsTrue}
+use Rattle.lab_engine.proofs.Common.{list_any, would_write, Version, HoldsWrite, IsOther}
 use Rattle.lab_engine.specs.Seen.{seen_in}
 use Rattle.lab_engine.proofs.OtherWriters.{written_holds}
 use Rattle.lab_engine.proofs.SeenRows.{seen_is}

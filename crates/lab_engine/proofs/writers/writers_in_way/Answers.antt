@@ -1,8 +1,5 @@
-use Rattle.std.proofs.Common.{◌≡◌, ◌∙◌, ap, sym, false}
-use Rattle.std.specs.Prelude.{IsTrue}
-use Rattle.std.proofs.lemmas.Bool.{both_ways}
-use Rattle.lab_table.specs.Statement.{would_write}
-use Rattle.lab_engine.specs.Log.{Version, seen}
+use Rattle.std.proofs.Common.{◌≡◌, ◌∙◌, ap, sym, false, IsTrue}
+use Rattle.lab_engine.proofs.Common.{both_ways, would_write, Version, seen}
 use Rattle.lab_engine.proofs.OtherWriters.{unwritten_free, named_writers}
 use Rattle.lab_engine.proofs.SeenRows.{seen_is}
 use Rattle.lab_engine.proofs.writers.writers_in_way.Goals as goal

@@ -1,4 +1,3 @@
-use Rattle.std.proofs.Common.{◌&&◌, Some}
 use Rattle.lab_locking.specs.Matches as spec
 use Rattle.lab_locking.proofs.Choosing.{ChoosesSo}
 use Rattle.lab_locking.proofs.matches.all_holders.Given as goal

@@ -1,5 +1,4 @@
-use Rattle.std.proofs.Common.{sym, subst}
-use Rattle.std.specs.Prelude.{◌↔◌, IsTrue}
+use Rattle.std.proofs.Common.{sym, subst, ◌↔◌, IsTrue}
 use Rattle.lab_engine.specs.Others.{IsOther}
 use Rattle.lab_engine.specs.Rules.{HoldsMatch}
 use Rattle.lab_locking.specs.Matches as spec

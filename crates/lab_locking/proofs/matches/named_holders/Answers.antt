@@ -1,7 +1,5 @@
-use Rattle.std.proofs.Common.{◌≡◌, ◌∙◌, sym, ap, subst, ◌&&◌, Some, None}
-use Rattle.std.specs.Prelude.{◌↔◌, IsTrue}
-use Rattle.std.proofs.lemmas.Bool.{both_ways}
-use Rattle.lab_engine.specs.Others.{IsOther}
+use Rattle.std.proofs.Common.{◌∙◌, sym, ap, subst, ◌&&◌, ◌↔◌, IsTrue}
+use Rattle.lab_engine.proofs.Common.{both_ways, IsOther}
 use Rattle.lab_engine.specs.Rules.{HoldsMatch}
 use Rattle.lab_locking.specs.Chosen.{is_chosen, is_other}
 use Rattle.lab_locking.specs.Matches as spec

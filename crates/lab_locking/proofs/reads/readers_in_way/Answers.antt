@@ -1,8 +1,6 @@
-use Rattle.std.proofs.Common.{◌∙◌, sym, refl, subst}
-use Rattle.std.specs.Prelude.{◌↔◌, IsTrue}
-use Rattle.std.proofs.lemmas.Bool.{both_ways}
+use Rattle.std.proofs.Common.{◌∙◌, sym, refl, subst, ◌↔◌, IsTrue}
+use Rattle.lab_engine.proofs.Common.{both_ways, IsOther}
 use Rattle.lab_engine.specs.declared.event.Level.TheVariants.{Locking}
-use Rattle.lab_engine.specs.Others.{IsOther}
 use Rattle.lab_engine.specs.Rules.{HasRead}
 use Rattle.lab_locking.proofs.RowReaders.{named_reads, all_reads, no_others}
 use Rattle.lab_locking.proofs.reads.readers_in_way.Goals as goal

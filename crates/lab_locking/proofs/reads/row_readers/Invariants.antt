@@ -1,4 +1,3 @@
-use Rattle.std.proofs.Common.{◌&&◌, Some}
 use Rattle.lab_locking.specs.Reads as spec
 use Rattle.lab_locking.proofs.Choosing.{ChoosesSo}
 use Rattle.lab_locking.proofs.reads.row_readers.Given as goal

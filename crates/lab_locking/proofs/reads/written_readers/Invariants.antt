@@ -1,8 +1,7 @@
-use Rattle.std.proofs.Common.{◌≡◌, ◌||◌, ℕ, drop}
-use Rattle.std.specs.List.{list_any}
+use Rattle.std.proofs.Common.{◌≡◌, ◌||◌, ℕ}
+use Rattle.lab_engine.proofs.Common.{list_any, has}
 use Rattle.lab_locking.specs.Reads as spec
 use Rattle.lab_engine.specs.KeptRows.{entries_in}
-use Rattle.lab_engine.specs.SessionBits.{has}
 use Rattle.lab_locking.proofs.reads.written_readers.Given as goal
 
 -- those of the rows so far, and of the rows that are left, are those of all

@@ -1,8 +1,5 @@
-use Rattle.std.proofs.Common.{ℕ, ◌+◌, ◌∙◌, sym, subst, take, List}
-use Rattle.std.specs.Prelude.{Option}
-use Rattle.lab_table.specs.Row.{Row}
-use Rattle.lab_engine.specs.Chains.{first_since}
-use Rattle.lab_engine.specs.KeptRows.{chain_in}
+use Rattle.std.proofs.Common.{ℕ, ◌+◌, ◌∙◌, sym, subst, take, List, Option}
+use Rattle.lab_engine.proofs.Common.{Row, first_since, chain_in}
 use Rattle.lab_versions.specs.Conflict.{IsLeastTaken}
 use Rattle.lab_versions.proofs.LeastTaken.{least_new, least_untaken, least_behind}
 use Rattle.lab_versions.proofs.conflict.first_conflict.Goals as goal

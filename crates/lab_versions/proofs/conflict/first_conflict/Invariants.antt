@@ -1,6 +1,5 @@
 use Rattle.std.proofs.Common.{take}
-use Rattle.lab_engine.specs.Chains.{first_since}
-use Rattle.lab_engine.specs.KeptRows.{chain_in}
+use Rattle.lab_engine.proofs.Common.{first_since, chain_in}
 use Rattle.lab_versions.specs.Conflict.{IsLeastTaken}
 use Rattle.lab_versions.proofs.conflict.first_conflict.Given as goal
 

@@ -1,6 +1,5 @@
 use Rattle.std.proofs.Common.{refl, sym, ap, ◌∙◌, length, None}
-use Rattle.std.proofs.lemmas.Option.{get_or_from_slice_get, slice_get_read}
-use Rattle.lab_engine.specs.Gathered.{number_after}
+use Rattle.lab_engine.proofs.Common.{get_or_from_slice_get, slice_get_read, number_after}
 use Rattle.lab_engine.proofs.GatheredLogs.{active_goes}
 use Rattle.lab_engine.proofs.gathering.Gathering.keep_active.Goals as goal
 

@@ -1,6 +1,5 @@
 use Rattle.std.proofs.Common.{take}
-use Rattle.lab_engine.specs.Log.{past_of}
-use Rattle.lab_engine.specs.Gathered.{Gathers}
+use Rattle.lab_engine.proofs.Common.{past_of, Gathers}
 use Rattle.lab_engine.proofs.gathering.Gathering.of.Given as goal
 
 -- what the events so far tell

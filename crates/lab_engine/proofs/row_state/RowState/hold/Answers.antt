@@ -1,7 +1,6 @@
 use Rattle.std.proofs.Common.{◌≤◌, ◌+◌, ◌-◌, subst, sym}
-use Rattle.std.proofs.lemmas.List.{length-reverse}
+use Rattle.lab_engine.proofs.Common.{length-reverse, IsReady}
 use Rattle.std.specs.Vec.{vec_capacity}
-use Rattle.lab_engine.specs.Kept.{IsReady}
 use Rattle.lab_engine.proofs.PendingVersions.{roomy_held}
 use Rattle.lab_engine.proofs.row_state.RowState.hold.Goals as goal
 

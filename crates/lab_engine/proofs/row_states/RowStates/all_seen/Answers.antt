@@ -1,9 +1,5 @@
 use Rattle.std.proofs.Common.{◌∙◌, ap}
-use Rattle.std.specs.FinMap.{get}
-use Rattle.std.specs.Option.{option_or}
-use Rattle.lab_engine.specs.Chains.{last_before}
-use Rattle.lab_engine.specs.Kept.{pending_of}
-use Rattle.lab_engine.specs.KeptRows.{kept_at}
+use Rattle.lab_engine.proofs.Common.{get, option_or, last_before, pending_of, kept_at}
 use Rattle.lab_engine.proofs.KeptChains.{made_sorted, made_found, seen_kept}
 use Rattle.lab_engine.proofs.row_states.RowStates.all_seen.Goals as goal
 

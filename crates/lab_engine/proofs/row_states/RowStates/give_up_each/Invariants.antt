@@ -1,7 +1,5 @@
 use Rattle.std.proofs.Common.{◌≡◌, ℕ, drop, cond, ◌&&◌, ◌==◌, None}
-use Rattle.std.specs.List.{list_any}
-use Rattle.lab_table.specs.Row.{Row, row_eq}
-use Rattle.lab_engine.specs.KeptRows.{chain_in, pending_in}
+use Rattle.lab_engine.proofs.Common.{list_any, Row, row_eq, chain_in, pending_in}
 use Rattle.lab_engine.proofs.row_states.RowStates.give_up_each.Given as goal
 
 -- without those of the rows that are left it is what it is to be

@@ -1,7 +1,6 @@
 use Rattle.std.proofs.Common.{ap, subst, refl, ◌∙◌, ◌==◌, cond, Some, IsSome}
 use Rattle.std.specs.BTreeMap.{get}
-use Rattle.lab_table.specs.Row.{row_cmp}
-use Rattle.lab_engine.specs.KeptRows.{kept_at, chain_kept, pending_kept}
+use Rattle.lab_engine.proofs.Common.{row_cmp, kept_at, chain_kept, pending_kept}
 use Rattle.lab_engine.proofs.RowChanges.{changed_if, unchanged, ready_still}
 use Rattle.lab_engine.proofs.row_states.RowStates.hold.Goals as goal
 

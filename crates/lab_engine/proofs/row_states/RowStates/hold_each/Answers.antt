@@ -1,8 +1,5 @@
 use Rattle.std.proofs.Common.{◌∙◌, ap, sym, subst, refl, get_or}
-use Rattle.std.proofs.lemmas.List.{drop_all}
-use Rattle.lab_table.specs.Row.{Row}
-use Rattle.lab_history.specs.declared.operation.State.{State}
-use Rattle.lab_engine.specs.KeptRows.{IsReadyAt, pending_in}
+use Rattle.lab_engine.proofs.Common.{Written, drop_all, Row, IsReadyAt, pending_in}
 use Rattle.lab_engine.proofs.RowWalks.{held, held_map, written_at}
 use Rattle.lab_engine.proofs.row_states.RowStates.hold_each.Goals as goal
 
@@ -15,7 +12,7 @@ loop-entry-init c = record {
 
 pub hold-requires : goal.hold-requires
 hold-requires c =
-    subst (λ (e : Row × State). IsReadyAt c.loop-entry.self e.0) (sym c.entry-item.is) (c.loop-entry.invariant.ready c.loop-entry.entry-index c.entry-item.result c.loop-entry-test.true)
+    subst (λ (e : Row × Written). IsReadyAt c.loop-entry.self e.0) (sym c.entry-item.is) (c.loop-entry.invariant.ready c.loop-entry.entry-index c.entry-item.result c.loop-entry-test.true)
 
 pub returns-clause-pending : goal.returns-clause-pending
 returns-clause-pending c = λ row n.

@@ -1,7 +1,5 @@
 use Rattle.std.proofs.Common.{◌≡◌, ◌<◌, ℕ, length, drop, slice_index_or}
-use Rattle.lab_table.specs.Row.{Row}
-use Rattle.lab_history.specs.declared.operation.State.{State}
-use Rattle.lab_engine.specs.KeptRows.{chain_in, pending_in, IsReadyAt}
+use Rattle.lab_engine.proofs.Common.{Written, Row, chain_in, pending_in, IsReadyAt}
 use Rattle.lab_engine.proofs.RowWalks.{held}
 use Rattle.lab_engine.proofs.row_states.RowStates.hold_each.Given as goal
 
@@ -10,5 +8,5 @@ abbrev pub invariant-loop-entry : goal.invariant-loop-entry
 invariant-loop-entry l = record {
   chain : (row : Row) → chain_in l.self row ≡ chain_in l.fn.self row;
   pending : (row : Row) (n : ℕ) → held l.name l.session row n (drop l.entry-index l.entries) (pending_in l.self row n) ≡ held l.name l.session row n l.entries (pending_in l.fn.self row n);
-  ready : (k : ℕ) (d : Row × State) → k < length l.entries → IsReadyAt l.self (slice_index_or l.entries k d).0;
+  ready : (k : ℕ) (d : Row × Written) → k < length l.entries → IsReadyAt l.self (slice_index_or l.entries k d).0;
 }

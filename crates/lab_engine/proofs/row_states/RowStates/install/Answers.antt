@@ -1,8 +1,6 @@
 use Rattle.std.proofs.Common.{ap, sym, subst, refl, ◌∙◌, ◌==◌, cond, None, IsSome}
 use Rattle.std.specs.BTreeMap.{get}
-use Rattle.lab_table.specs.Row.{row_cmp}
-use Rattle.lab_engine.specs.Chains.{longer}
-use Rattle.lab_engine.specs.KeptRows.{kept_at, chain_kept, pending_kept}
+use Rattle.lab_engine.proofs.Common.{row_cmp, longer, kept_at, chain_kept, pending_kept}
 use Rattle.lab_engine.proofs.RowChanges.{changed, changed_if, left, left_off}
 use Rattle.lab_engine.proofs.row_states.RowStates.install.Goals as goal
 

@@ -1,10 +1,5 @@
-use Rattle.std.proofs.Common.{◌≡◌, ◌∙◌, ◌+◌, ◌==◌, ◌&&◌, ◌∷◌, ap, sym, refl, drop, cond, None}
-use Rattle.std.specs.List.{list_any}
-use Rattle.std.proofs.lemmas.Bool.{eq-eqb}
-use Rattle.std.proofs.lemmas.List.{drop_more}
-use Rattle.lab_table.specs.Row.{row_eq}
-use Rattle.lab_engine.specs.Chains.{longer}
-use Rattle.lab_engine.specs.KeptRows.{chain_in, pending_in}
+use Rattle.std.proofs.Common.{◌≡◌, ◌∙◌, ◌+◌, ◌==◌, ◌&&◌, ◌∷◌, ap, sym, refl, drop, cond, None, eq-eqb}
+use Rattle.lab_engine.proofs.Common.{list_any, drop_more, row_eq, longer, chain_in, pending_in}
 use Rattle.lab_engine.proofs.RowWalks.{let_go, installed_once}
 use Rattle.lab_engine.proofs.row_states.RowStates.install_each.Goals as goal
 

@@ -1,8 +1,5 @@
 use Rattle.std.proofs.Common.{◌≡◌, ℕ, drop, cond, ◌&&◌, ◌==◌, None}
-use Rattle.std.specs.List.{list_any}
-use Rattle.lab_table.specs.Row.{Row, row_eq}
-use Rattle.lab_engine.specs.Chains.{longer}
-use Rattle.lab_engine.specs.KeptRows.{chain_in, pending_in}
+use Rattle.lab_engine.proofs.Common.{list_any, Row, row_eq, longer, chain_in, pending_in}
 use Rattle.lab_engine.proofs.row_states.RowStates.install_each.Given as goal
 
 -- with what is pending of the rows that are left installed it is what it is to be

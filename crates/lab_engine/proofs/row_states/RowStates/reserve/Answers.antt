@@ -1,9 +1,6 @@
-use Rattle.std.proofs.Common.{ap, sym, subst, refl, ◌∙◌, cond, Some, IsSome}
-use Rattle.std.specs.Ordering.{is_eq}
+use Rattle.std.proofs.Common.{ap, sym, subst, refl, ◌∙◌, cond, Some, IsSome, is_eq}
 use Rattle.std.specs.BTreeMap.{get}
-use Rattle.lab_table.specs.Row.{row_cmp}
-use Rattle.lab_engine.specs.Kept.{pending_of}
-use Rattle.lab_engine.specs.KeptRows.{kept_at, chain_kept, pending_kept}
+use Rattle.lab_engine.proofs.Common.{row_cmp, pending_of, kept_at, chain_kept, pending_kept}
 use Rattle.lab_engine.proofs.RowChanges.{unchanged, ready_still, ready_in}
 use Rattle.lab_engine.proofs.row_states.RowStates.reserve.Goals as goal
 

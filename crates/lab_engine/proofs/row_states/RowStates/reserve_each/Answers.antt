@@ -1,9 +1,5 @@
 use Rattle.std.proofs.Common.{◌≡◌, ◌∙◌, ap, subst, arith, inl, inr, get_or}
-use Rattle.std.proofs.lemmas.Bool.{cases_lt}
-use Rattle.std.proofs.lemmas.List.{get_or_default}
-use Rattle.lab_table.specs.Row.{Row}
-use Rattle.lab_history.specs.declared.operation.State.{State}
-use Rattle.lab_engine.specs.KeptRows.{IsReadyAt}
+use Rattle.lab_engine.proofs.Common.{Written, cases_lt, get_or_default, Row, IsReadyAt}
 use Rattle.lab_engine.proofs.RowChanges.{same_then}
 use Rattle.lab_engine.proofs.RowWalks.{entry_of}
 use Rattle.lab_engine.proofs.row_states.RowStates.reserve_each.Goals as goal
@@ -15,7 +11,7 @@ loop-entry-preserved c = record {
     | inl less ↦ c.in_ok-reserve.ensures.still (get_or c.entries-entries.result.now k d).0 (c.loop-entry.invariant.ready k d less)
     | inr from ↦
         let last : c.loop-entry.entry-index ≡ k = omega (arith, lt, from) in
-        subst (λ (e : Row × State). IsReadyAt c.reserve.new.self e.0)
+        subst (λ (e : Row × Written). IsReadyAt c.reserve.new.self e.0)
         (c.entry-item.is ∙ get_or_default c.entries-entries.result.now c.loop-entry.entry-index c.entry-item.result d c.loop-entry-test.true
         ∙ ap (λ n. get_or c.entries-entries.result.now n d) last) c.in_ok-reserve.ensures.ready
   ];

@@ -1,12 +1,10 @@
 use Rattle.std.proofs.Common.{ℕ, ◌<◌, slice_index_or}
-use Rattle.lab_table.specs.Row.{Row}
-use Rattle.lab_history.specs.declared.operation.State.{State}
-use Rattle.lab_engine.specs.KeptRows.{IsSame, IsReadyAt}
+use Rattle.lab_engine.proofs.Common.{Written, Row, IsSame, IsReadyAt}
 use Rattle.lab_engine.proofs.row_states.RowStates.reserve_each.Given as goal
 
 -- nothing has changed, and there is room in the rows so far
 abbrev pub invariant-loop-entry : goal.invariant-loop-entry
 invariant-loop-entry l = record {
   same : IsSame l.fn.self l.self;
-  ready : (k : ℕ) (d : Row × State) → k < l.entry-index → IsReadyAt l.self (slice_index_or l.entries k d).0;
+  ready : (k : ℕ) (d : Row × Written) → k < l.entry-index → IsReadyAt l.self (slice_index_or l.entries k d).0;
 }

@@ -1,6 +1,5 @@
 use Rattle.std.proofs.Common.{◌≡◌, ◌==◌, ℕ, take}
-use Rattle.std.specs.List.{list_any}
-use Rattle.lab_engine.specs.SessionBits.{has}
+use Rattle.lab_engine.proofs.Common.{list_any, has}
 use Rattle.lab_engine.proofs.session_set.SessionSet.of.Given as goal
 
 -- the set has the sessions so far

@@ -1,9 +1,6 @@
-use Rattle.std.proofs.Common.{◌||◌, ◌&&◌, ◌∷◌, ◌++◌, [], refl, sym, ap, ◌∙◌}
-use Rattle.std.specs.Prelude.{is_some, is_none}
+use Rattle.std.proofs.Common.{◌||◌, ◌&&◌, ◌∷◌, ◌++◌, [], refl, sym, ap, ◌∙◌, is_some, is_none}
 use Rattle.std.specs.FinMap as map
-use Rattle.lab_table.specs.Table.{Writes}
-use Rattle.lab_engine.specs.KeptRows.{pending_in}
-use Rattle.lab_engine.specs.Situation.{has_written}
+use Rattle.lab_engine.proofs.Common.{Writes, pending_in, has_written}
 use Rattle.lab_engine.proofs.SessionStates.{runs_on}
 use Rattle.lab_engine.proofs.session_state.RunningTxn.run.Goals as goal
 

@@ -1,6 +1,5 @@
 use Rattle.std.proofs.Common.{sym, ap, subst, ◌∙◌}
-use Rattle.lab_engine.specs.Log.{active, waiting_after}
-use Rattle.lab_engine.specs.Situation.{Agree}
+use Rattle.lab_engine.proofs.Common.{active, waiting_after, Agree}
 use Rattle.lab_engine.proofs.SessionStates.{waits_then, runs_then, rows_then}
 use Rattle.lab_engine.proofs.session_state.SessionState.take_in.Goals as goal
 

@@ -1,8 +1,6 @@
 use Rattle.std.proofs.Common.{refl, sym, subst}
 use Rattle.std.specs.Result.{OnOk}
-use Rattle.std.proofs.lemmas.Result.{on_ok_weaker}
-use Rattle.lab_engine.specs.declared.event.Outcome.{Outcome}
-use Rattle.lab_engine.specs.Situation.{HoldsOutcome, running_of}
+use Rattle.lab_engine.proofs.Common.{Outcome, HoldsOutcome, running_of, on_ok_weaker}
 use Rattle.lab_engine.proofs.Describing.{same_log, same_rows}
 use Rattle.lab_engine.proofs.situation.Situation.reserve_room.Goals as goal
 

@@ -1,8 +1,5 @@
 use Rattle.std.proofs.Common.{ap, ◌∙◌}
-use Rattle.std.specs.FinMap.{from_sorted, get}
-use Rattle.lab_table.specs.Row.{row_cmp}
-use Rattle.lab_engine.specs.EachRow.{each_row}
-use Rattle.lab_engine.specs.Sight.{matching_version}
+use Rattle.lab_engine.proofs.Common.{from_sorted, get, row_cmp, matching_version, each_row}
 use Rattle.lab_engine.proofs.Effects.{sorted_made, get_each}
 use Rattle.lab_engine.proofs.version.Versions.matching.Goals as goal
 

@@ -1,6 +1,5 @@
 use Rattle.std.proofs.Common.{◌∙◌, ap, map}
-use Rattle.std.specs.FinMap.{entries, entries_sorted, get}
-use Rattle.lab_engine.specs.Merging.{initial_entry}
+use Rattle.lab_engine.proofs.Common.{entries, entries_sorted, get, initial_entry}
 use Rattle.lab_engine.proofs.VersionLists.{initial_sorted, initial_found}
 use Rattle.lab_engine.proofs.version.Versions.of_table.Goals as goal
 

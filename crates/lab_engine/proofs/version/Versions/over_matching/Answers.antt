@@ -1,8 +1,5 @@
-use Rattle.std.proofs.Common.{◌≡◌, true, ap, ◌∙◌, sym, subst}
-use Rattle.std.specs.Prelude.{IfSome}
-use Rattle.std.specs.FinMap.{insert}
-use Rattle.lab_table.specs.Row.{Row}
-use Rattle.lab_table.specs.Statement.{may_match}
+use Rattle.std.proofs.Common.{◌≡◌, true, ap, ◌∙◌, sym, subst, IfSome}
+use Rattle.lab_engine.proofs.Common.{insert, Row, may_match}
 use Rattle.lab_engine.proofs.Shown.{copied, added}
 use Rattle.lab_engine.proofs.version.Versions.over_matching.Goals as goal
 use Rattle.lab_engine.proofs.version.Versions.over_matching.Goals.{in-Some-matching_at+in_ok-put, in_default-matching_at}

@@ -1,7 +1,5 @@
 use Rattle.std.proofs.Common.{◌∙◌, ap, sym, subst, T}
-use Rattle.std.specs.FinMap.{entries, entries_sorted, is_sorted, get}
-use Rattle.lab_table.specs.Row.{row_cmp}
-use Rattle.lab_engine.specs.Merging.{merged}
+use Rattle.lab_engine.proofs.Common.{entries, entries_sorted, is_sorted, get, row_cmp, merged}
 use Rattle.lab_engine.proofs.Merging.{merged_sorted, merged_found}
 use Rattle.lab_engine.proofs.version.Versions.overlaid_with.Goals as goal
 

@@ -1,6 +1,5 @@
 use Rattle.std.proofs.Common.{subst, sym, ap, ◌∙◌, T}
-use Rattle.std.specs.FinMap.{is_sorted, entries_sorted, get}
-use Rattle.lab_table.specs.Row.{row_cmp}
+use Rattle.lab_engine.proofs.Common.{is_sorted, entries_sorted, get, row_cmp}
 use Rattle.lab_engine.proofs.VersionLists.{written_sorted, written_found}
 use Rattle.lab_engine.proofs.version.Versions.written.Goals as goal
 

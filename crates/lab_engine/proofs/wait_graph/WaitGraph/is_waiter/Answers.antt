@@ -1,5 +1,4 @@
-use Rattle.std.proofs.Common.{sym, subst}
-use Rattle.std.specs.Prelude.{IsTrue, ◌↔◌}
+use Rattle.std.proofs.Common.{sym, subst, IsTrue, ◌↔◌}
 use Rattle.lab_engine.specs.WaitsFor.{WaitsForOne}
 use Rattle.lab_engine.proofs.WaitGraphs.{waits_for_one}
 use Rattle.lab_engine.proofs.wait_graph.WaitGraph.is_waiter.Goals as goal

@@ -1,6 +1,5 @@
 use Rattle.std.proofs.Common.{◌≤◌, ◌==◌, cond, ap, sym, subst, ◌∙◌}
-use Rattle.lab_engine.specs.SessionBits.{has}
-use Rattle.lab_engine.specs.WaitsFor.{waits_for}
+use Rattle.lab_engine.proofs.Common.{has, waits_for}
 use Rattle.lab_engine.proofs.WaitGraphs.{put_set}
 use Rattle.lab_engine.proofs.wait_graph.WaitGraph.put.Goals as goal
 

@@ -1,8 +1,6 @@
 use Rattle.std.proofs.Common.{sym, ◌∙◌, subst}
-use Rattle.lab_engine.specs.Chains.{first_since}
-use Rattle.lab_engine.specs.KeptRows.{chain_in}
+use Rattle.lab_engine.proofs.Common.{none_some, first_since, chain_in}
 use Rattle.lab_versions.specs.Conflict.{IsLeastTaken}
-use Rattle.lab_engine.proofs.LockSteps.{none_some}
 use Rattle.lab_engine.proofs.Describing.{running_none}
 use Rattle.lab_versions.proofs.Conflicts.{found_answers, the_running}
 use Rattle.lab_versions.proofs.snapshot.SnapshotRulesRules.conflict.Goals as goal

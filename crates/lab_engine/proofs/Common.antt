@@ -1,0 +1,69 @@
+-- The names that most proofs cite, passed on from one place, and that nothing is not something.
+use Rattle.std.proofs.Common.{◌≡◌, Option, Some, None}
+pub use Rattle.std.specs.List.{AllByRecursion, AllPairs, Contains, cons_option, list_all, list_any, prefix_len}
+pub use Rattle.std.specs.Option.{option_or}
+pub use Rattle.std.proofs.lemmas.Option.{get_or_from_slice_get, same_Some, slice_get-map, slice_get_read, slice_get_within}
+pub use Rattle.lab_table.specs.Row.{Row, row_cmp, row_eq, row_test, rows_apart, rows_tested, rows_total}
+pub use Rattle.lab_table.specs.Table.{Rows, State, Table, Writes}
+pub use Rattle.lab_table.specs.Statement.{fails, inserted, is_read_only, is_update, listed, matches, may_match, selects, would_write, written}
+pub use Rattle.lab_table.specs.declared.statement.Statement.{Statement}
+pub use Rattle.lab_table.specs.declared.statement.Command.{Command}
+pub use Rattle.lab_table.specs.declared.statement.Command.TheVariants.{Abort, Begin, Commit, Run}
+pub use Rattle.lab_table.proofs.Maps.{find-map, find_below, row_eq_self, same_row, same_rows}
+pub use Rattle.lab_table.proofs.Tests.{both, joined, none_of, slice_get-middle, some_is, some_of, true_and_false}
+pub use Rattle.lab_history.specs.VersionName.{View, new_states, state_value}
+pub use Rattle.lab_history.specs.declared.operation.Op.{Op}
+pub use Rattle.lab_history.specs.declared.operation.State.{State as Written}
+pub use Rattle.lab_history.specs.declared.operation.VersionName.{VersionName}
+pub use Rattle.lab_history.specs.declared.operation.VersionName.TheVariants.{Initial, Of}
+pub use Rattle.lab_engine.specs.declared.event.Level.{Level}
+pub use Rattle.lab_engine.specs.declared.event.Outcome.{Outcome}
+pub use Rattle.lab_engine.specs.declared.event.Outcome.TheVariants.{Aborted, Begun, Committed, Refused, Rows as Listed, Waits}
+pub use Rattle.lab_engine.specs.declared.event.EngineFault.TheVariants.{AlreadyBegun, Busy, Deadlock, DuplicateKey, NoTransaction, OutOfRange, WriteConflict}
+pub use Rattle.lab_engine.specs.declared.event.LogEvent.{LogEvent}
+pub use Rattle.lab_engine.specs.Log.{Past, Txn, Version, active, active_after, asked, begun, begun_after, commits, commits_after, committed_version, has_read, initial_version, installers, is_fatal, last_installed, last_version, numbers, ops_after, past_of, seen, sight, version_by, version_or, waiting, waiting_after, writers}
+pub use Rattle.std.proofs.lemmas.Bool.{and_from, and_parts, and_right, both_ways, cases_eq, cases_lt, eq-eqb, eqb-false, eqb-true, false_from_ne_true, false≢true, ne_eqb, not-true, or_cases, or_from, or_left, or_parts, or_right, true≢false}
+pub use Rattle.std.proofs.lemmas.List.{append-nil, drop_all, drop_more, get_or-replicate, get_or-set_other, get_or-set_same, get_or_default, length-map, length-reverse, length-set, length-take-le, map-append, reverse-append, reverse-reverse, take-append-drop, take_more}
+pub use Rattle.std.specs.FinMap.{FinMap, empty, entries, entries_sorted, find, from_sorted, get, get-empty, get-entries, get-from_sorted, get-insert, insert, is_sorted, put}
+pub use Rattle.std.specs.FinMap.Entries.{below_all, by_order, find-put, is_sorted-put}
+pub use Rattle.lab_engine.specs.Rules.{BlockedBy, Blocks, Conflicts, HoldsWrite, IsBelow, IsChain, IsCircle, IsEffect, IsFree, IsInsertOf, IsLegal, IsUpdate, MayAsk, MayCommit, Permitted, in_view}
+pub use Rattle.lab_engine.specs.Situation.{Agree, Describes, DescribesAll, DescribesRows, DescribesSession, HasPlaces, HasRoom, HoldsOutcome, IsRunning, all_sessions, grown, has_written, ran, running_of, statements_of, waiting_of, written_by}
+pub use Rattle.lab_engine.specs.KeptRows.{IsReadyAt, IsSame, chain_in, chain_kept, kept_at, pending_in, pending_kept}
+pub use Rattle.lab_engine.specs.Kept.{IsReady, IsRoomy, Kept, count, pending_of}
+pub use Rattle.lab_engine.specs.Chains.{chain, chain_after, first_since, last_before, longer}
+unfoldable pub use Rattle.lab_engine.specs.SessionBits.{has}
+pub use Rattle.lab_engine.specs.SessionBits.{AreSessions}
+pub use Rattle.lab_engine.specs.Recording.{IsLeastRetryable, IsLegalRecording, IsRecording, IsRetryable, NoneRetryable, end_of, has_number, if_any, numbers_from, op_of, ops_of, recorded_txn, recorded_txns}
+pub use Rattle.lab_engine.specs.Sight.{IsShown, comes_after, initially, listed_version, matching_version, version_in}
+pub use Rattle.lab_engine.specs.declared.session_state.SessionState.{SessionState}
+pub use Rattle.lab_engine.specs.declared.session_state.RunningTxn.{RunningTxn}
+pub use Rattle.lab_engine.specs.declared.situation.Situation.{Situation}
+pub use Rattle.lab_engine.specs.Laws.{AllDone, AllKeepOff, AllNumbered, AllRan, AllRecorded, AreNumbered, AreRecorded, Began, BeginsHold, CommitsHold, FirstCommitter, IsDone, IsNumber, IsRecorded, KeepsOff, LocksHold, NoneHas, NumbersHold, RanAt, RanBy, RecordsHold, Untouched, UntouchedAt}
+unfoldable pub use Rattle.lab_engine.specs.WaitsFor.{waits_for}
+pub use Rattle.lab_engine.specs.WaitsFor.{AreBlockers, AreWaits, IsRound, IsWalk, WaitsForOne, WaitsOn, is_session}
+pub use Rattle.lab_engine.specs.Gathered.{AreActive, Gathers, IsShort, IsWithin, changed, changed_by, committed, gathered_by, groups_from, installed_over, installing, installs_by, new_txn, number_after, number_at, number_of, numbers_of, recorded, txns_after, version_told, with_ops}
+pub use Rattle.lab_engine.specs.EachRow.{each_row, first_failing, rewritten, stored, value_rewritten, with_row}
+pub use Rattle.lab_history.specs.History.{History}
+pub use Rattle.lab_engine.specs.Others.{IsOther}
+pub use Rattle.std.proofs.lemmas.Bool.Decides.{eqb_tells, same_from_decides}
+pub use Rattle.lab_engine.specs.Merging.{initial_entry, insert_each, insert_missing, merged, without_row, written_entry, written_version}
+pub use Rattle.std.proofs.lemmas.Result.{IfOk-weaker, on_ok_weaker}
+pub use Rattle.lab_engine.specs.LeastCircle.{IsLeastCircle, NotAfter}
+pub use Rattle.std.proofs.lemmas.Grind.{get_or_default_zero, reverse_onto}
+pub use Rattle.lab_table.proofs.Orderings.{eq_reversed, is_less, turned, turned_back}
+pub use Rattle.std.specs.List.Sorted.{IsSortedByKey, IsStableByKey, IsStrictlyIncreasing}
+pub use Rattle.lab_table.proofs.OneRow.{absent_runs, change_is, insert_is, new_state-runs, no_match, not_failing, not_listed, not_written, update_inserts_none}
+pub use Rattle.std.specs.Prelude.{Err, None, Ok, Option, Result, Some, false, filter, nat_lt, slice_get, slice_index, slice_index_or, true, unwrap_or, ⊤, ◌==◌}
+pub use Rattle.lab_engine.specs.declared.gathering.GatheredTxn.{GatheredTxn}
+pub use Rattle.lab_history.specs.declared.transaction.Txn.{Txn as Recorded}
+pub use Rattle.std.proofs.lemmas.List.Folds.{Any-from_list_any, list_all-append, list_all_at, list_any-append, list_any_at, list_any_more}
+pub use Rattle.lab_engine.specs.declared.row_states.RowStates.{RowStates}
+pub use Rattle.lab_history.specs.FirstPartsFault.{checked, installed_checked, listed_from, op_checked, ops_checked, statement_prints, txn_checked, txns_checked}
+pub use Rattle.lab_engine.specs.OverLimit.{BreaksLimit, HasTooMuch, IsFirstFault, IsOfParts, IsRecordFault, KeepsBefore, fault_of}
+pub use Rattle.lab_history.specs.HistoryRules.{AllDistinct, distinct_rows, distinct_tables, has_installer, is_listed, named_rows, named_tables, op_entries, operations}
+pub use Rattle.lab_table.proofs.SortedRows.{lower, sorted-map}
+pub use Rattle.std.proofs.Math.Bool.{and_comm, or-false}
+pub use Rattle.std.proofs.lemmas.List.Sorted.{IsPermutation-reverse, answers_always, list_any-IsPermutation, ranks_by, sorted_far}
+
+pub none_some : {A : Type 0} {x : A} (P : Type 0) → ◌≡◌ {A = Option A} None (Some x) → P
+none_some P h = cc
