@@ -4,15 +4,16 @@ use Rattle.std.specs.Prelude.{nat_lt, nat_le}
 use Rattle.std.specs.FinMap as map
 use Rattle.lab_table.specs.Table.{Table}
 use Rattle.lab_table.specs.declared.statement.Command.{Command}
-use Rattle.lab_statement.specs.declared.token.Word.TheVariants as word
+use Rattle.lab_table.specs.declared.word.Word.TheVariants as word
 use Rattle.lab_statement.specs.declared.token.Token.{Token}
 use Rattle.lab_statement.specs.declared.token.Token.TheVariants as token
 use Rattle.lab_statement.specs.declared.fault.ScriptFaultKind.{ScriptFaultKind}
 use Rattle.lab_statement.specs.declared.fault.ScriptFaultKind.TheVariants as kinds
 use Rattle.lab_statement.specs.Reading.{after}
 use Rattle.lab_script.specs.FirstFaults.{table_of, named_row_read, row_table_read, words_read, level_read, command_read, terminated_read, one_added, step_read, more_commands_read, commands_read, row_onto_read, rows_onto_read, rows_read, table_read, setup_ended, setup_end_read, setup_read}
-use Rattle.lab_statement.specs.FirstFaults.{is_word, no_rows_at, placed_kind}
-use Rattle.lab_statement.proofs.FaultKinds.{Placed, unknown_placed, StopsOnly, bind_only, found_only, cond_only, tokens_only, word_only, row_only, statement_only, end_only, token_only, nothing_only}
+use Rattle.lab_statement.specs.Token.{is_word}
+use Rattle.lab_statement.specs.FirstFaults.{no_rows_at, placed_kind}
+use Rattle.lab_statement.proofs.FaultKinds.{Placed, unknown_placed, StopsOnly, bind_only, found_only, cond_only, tokens_only, name_of_only, row_only, statement_only, end_only, token_only, nothing_only}
 use Rattle.std.proofs.lemmas.Bool.{leb-false}
 use Rattle.lab_statement.specs.Limits.{max_line_bytes}
 use Rattle.lab_script.specs.Printed.{printed_setup}
@@ -55,8 +56,7 @@ module _ (Is : ScriptFaultKind → Type 0) (unknown : Is kinds.UnknownStatement)
       commands_only room ts = bind_only Is _ _ (step_only room [] ts) (λ s _. more_commands_only s.1 (length s.1) room s.0)
 
   table_of_only : (t : Token) (ts : List Token) → StopsOnly Is (table_of t ts)
-  table_of_only (token.Word w) ts = word_only Is unknown name range w ts
-  table_of_only t ts = tt
+  table_of_only t ts = cond_only Is (is_word t) _ _ (name_of_only Is unknown name range t ts) (λ not. tt)
 
   row_table_only : (ts : List Token) → StopsOnly Is (row_table_read ts)
   unfolding row_table_read

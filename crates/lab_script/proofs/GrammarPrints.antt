@@ -9,7 +9,7 @@ use Rattle.lab_script.specs.Grammar as line_grammar
 use Rattle.lab_statement.proofs.ShallowStatements.{statement_shallow}
 
 command_prints : {ts : List Token} {cs : List Command} → IsCommand ts cs → Each CommandPrints cs
-command_prints (line_grammar.level w ws) = tt
+command_prints (line_grammar.level t ts all) = tt
 command_prints (line_grammar.run h le) = (record { shallow = statement_shallow h; short = le }, tt)
 command_prints is = (tt, tt)
 

@@ -1,10 +1,11 @@
 -- What a line is spelled with is held as it is, so its tokens as the reader holds them spell what the tokens spell.
-use Rattle.std.proofs.Common.{List, [], ◌∷◌, map, refl, ◌≡◌, ℕ, Option, Some, None, sym, ap, subst}
+use Rattle.std.proofs.Common.{List, [], ◌∷◌, map, true, refl, ◌≡◌, ℕ, Option, Some, None, sym, ap, subst}
 use Rattle.std.specs.Prelude.{ℤ}
+use Rattle.std.specs.List.{list_all}
+use Rattle.std.proofs.lemmas.Bool.{and_from, and_parts}
 use Rattle.lab_table.specs.Row.{Row}
 use Rattle.lab_table.specs.Table.{Table}
 use Rattle.lab_table.specs.declared.statement.Command.{Command}
-use Rattle.lab_statement.specs.declared.token.Word.{Word}
 use Rattle.lab_statement.specs.declared.token.Token.{Token}
 use Rattle.lab_statement.specs.declared.token.Token.TheVariants as token
 use Rattle.lab_script.specs.Grammar as grammar
@@ -12,18 +13,25 @@ use Rattle.lab_script.specs.Grammar.{IsNamedRow, IsCommand, IsCommands, IsRows, 
 use Rattle.lab_statement.specs.declared.fault.ScriptFaultKind.{ScriptFaultKind}
 use Rattle.lab_statement.specs.declared.fault.ScriptFaultKind.TheVariants as kinds
 use Rattle.lab_script.specs.declared.script.Script.{Script}
-use Rattle.lab_statement.specs.declared.token.Word.TheVariants as word
+use Rattle.lab_table.specs.declared.word.Word.TheVariants as word
 use Rattle.lab_statement.specs.HeldTokens.{held}
+use Rattle.lab_statement.specs.Token.{is_word}
 use Rattle.lab_script.specs.Script.{BeginsSetup, BeginsLongSetup}
 use Rattle.lab_script.specs.Fault.{SpellsNothing, SpellsNoFew, LacksSession, SaysOfTokens}
-use Rattle.lab_statement.proofs.HeldTokens.{AllKnown, both, end_known, row_known, statement_known, all_held_kept, all_kept, held_where, kept_front, word_kept}
+use Rattle.lab_statement.proofs.HeldTokens.{is_known, AllKnown, both, end_known, row_known, statement_known, all_held_kept, all_kept, held_where, kept_front, word_kept}
 
-words_known : (ws : List Word) → AllKnown (map (λ w. token.Word w) ws)
-words_known [] = refl
-words_known (w ∷ ws) = words_known ws
+word_known : (t : Token) → is_word t ≡ true → is_known t ≡ true
+word_known token.Unknown is = absurd cc
+word_known (token.Digits n) is = absurd cc
+word_known t is = refl
+
+words_known : (ts : List Token) → list_all is_word ts ≡ true → AllKnown ts
+words_known [] all = refl
+words_known (t ∷ ts) all =
+    let parts = and_parts (is_word t) (list_all is_word ts) all in and_from (is_known t) (list_all is_known ts) (word_known t parts.0) (words_known ts parts.1)
 
 command_known : {ts : List Token} {cs : List Command} → IsCommand ts cs → AllKnown ts
-command_known (IsCommand.level w ws) = words_known ws
+command_known (IsCommand.level t ts all) = words_known (t ∷ ts) all
 command_known (IsCommand.run is short) = statement_known is
 command_known is = refl
 

@@ -1,18 +1,19 @@
-use Rattle.std.proofs.Common.{◌≡◌, ℕ, suc, ◌≤◌, ◌<◌, true, List, [], ◌∷◌, ◌++◌, length, drop, Option, Some, None, refl, ap, subst, ◌∙◌, length-append, one-add, arith, inl, inr}
-use Rattle.std.specs.List.{prefix_len}
-use Rattle.std.proofs.lemmas.Bool.{le-leb, leb-true}
+use Rattle.std.proofs.Common.{◌≡◌, ◌≤◌, ◌<◌, true, List, [], ◌∷◌, ◌++◌, length, drop, take, Option, Some, None, refl, sym, ap, subst, ◌∙◌, length-append, one-add, arith, inl, inr}
+use Rattle.std.specs.List.{list_all, prefix_len}
+use Rattle.std.proofs.lemmas.List.{take-append-drop}
+use Rattle.std.proofs.lemmas.Bool.{and_from, and_parts, cases_Bool, le-leb, leb-true}
 use Rattle.lab_table.specs.declared.statement.Statement.{Statement}
 use Rattle.lab_table.specs.declared.statement.Command.{Command}
 use Rattle.lab_table.specs.declared.statement.Command.TheVariants as command
-use Rattle.lab_statement.specs.declared.token.Word.{Word}
-use Rattle.lab_statement.specs.declared.token.Word.TheVariants as word
+use Rattle.lab_table.specs.declared.word.Word.TheVariants as word
 use Rattle.lab_statement.specs.declared.token.Token.{Token}
 use Rattle.lab_statement.specs.declared.token.Token.TheVariants as token
-use Rattle.lab_statement.specs.Grammar.{words, IsStatement}
+use Rattle.lab_statement.specs.Grammar.{IsStatement}
 use Rattle.lab_script.specs.Grammar.{IsCommand}
 use Rattle.lab_statement.specs.Printed.{printed_statement}
 use Rattle.lab_statement.specs.Stopping.{Reads, tokens_read}
-use Rattle.lab_statement.specs.FirstFaults.{statement_read, end_read, is_word, is_short}
+use Rattle.lab_statement.specs.FirstFaults.{statement_read, end_read, is_short}
+use Rattle.lab_statement.specs.Token.{is_word}
 use Rattle.lab_script.specs.FirstFaults.{words_read, level_read, command_read, terminated_read}
 use Rattle.lab_statement.proofs.Readings.{bind_reads, cond_reads, found_reads, reads, reads_is, tokens_are}
 use Rattle.lab_statement.proofs.ReadNumbers.{Taken, under}
@@ -22,33 +23,36 @@ use Rattle.lab_script.specs.Grammar as line_grammar
 
 -- words
 
--- the words at the front
-words_split : (ts : List Token) → (ws : List Word) × (ts ≡ words ws ++ drop (prefix_len is_word ts) ts) × (length ws ≡ prefix_len is_word ts)
-words_split [] = ([], refl, refl)
-words_split (token.Word w ∷ ts) =
-    let s = words_split ts in
-    rw (one-add (prefix_len is_word ts)) (w ∷ s.0, under _ _ _ s.1, ap (λ (n : ℕ). suc n) s.2)
-words_split (t ∷ ts) = ([], refl, refl)
+-- the tokens at the front, as far as they are words, are all words
+words_all : (ts : List Token) → list_all is_word (take (prefix_len is_word ts) ts) ≡ true
+words_all [] = refl
+words_all (t ∷ ts) = elim (cases_Bool (is_word t)) [
+  | inl is ↦ rw (is, one-add (prefix_len is_word ts)) (and_from (is_word t) _ is (words_all ts))
+  | inr isnt ↦ rw isnt refl
+]
 
-words_dropped : (ws : List Word) (rest : List Token) → prefix_len is_word rest ≡ 0 → drop (prefix_len is_word (words ws ++ rest)) (words ws ++ rest) ≡ rest
-words_dropped [] rest none = rw none refl
-words_dropped (w ∷ ws) rest none = rw (one-add (prefix_len is_word (words ws ++ rest))) (words_dropped ws rest none)
+words_dropped : (ws rest : List Token) → list_all is_word ws ≡ true → prefix_len is_word rest ≡ 0 → drop (prefix_len is_word (ws ++ rest)) (ws ++ rest) ≡ rest
+words_dropped [] rest all none = rw none refl
+words_dropped (w ∷ ws) rest all none =
+    let parts = and_parts (is_word w) (list_all is_word ws) all in rw (parts.0, one-add (prefix_len is_word (ws ++ rest))) (words_dropped ws rest parts.1 none)
 
 wordless : {rest : List Token} → Closes rest → prefix_len is_word rest ≡ 0
 wordless nothing = refl
 wordless (semicolon rest) = refl
 
-pub words_again : (w : Word) (ws : List Word) (rest : List Token) → prefix_len is_word rest ≡ 0 → words_read (words (w ∷ ws) ++ rest) ≡ Reads rest
+pub words_again : (w : Token) (ws rest : List Token) → list_all is_word (w ∷ ws) ≡ true → prefix_len is_word rest ≡ 0 → words_read (w ∷ ws ++ rest) ≡ Reads rest
 unfolding words_read
-words_again w ws rest none = ap (λ (r : List Token). reads r) (words_dropped ws rest none)
+words_again w ws rest all none =
+    let parts = and_parts (is_word w) (list_all is_word ws) all in rw parts.0 (ap (λ (r : List Token). reads r) (words_dropped ws rest parts.1 none))
 
-pub words_take : (ts rest : List Token) → words_read ts ≡ Reads rest → (w : Word) × (ws : List Word) × (ts ≡ words (w ∷ ws) ++ rest)
+-- what is read as words is words
+pub words_take : (ts rest : List Token) → words_read ts ≡ Reads rest → (w : Token) × (ws : List Token) × (ts ≡ w ∷ ws ++ rest) × (list_all is_word (w ∷ ws) ≡ true)
 unfolding words_read
 words_take [] rest e = absurd cc
-words_take (token.Word w ∷ ts) rest e =
-    let s = words_split ts in
-    (w, s.0, under _ _ _ (s.1 ∙ ap (λ (r : List Token). words s.0 ++ r) (reads_is _ rest e)))
-words_take (t ∷ ts) rest e = absurd cc
+words_take (t ∷ ts) rest e =
+    let n = prefix_len is_word ts in
+    let is = cond_reads (is_word t) (drop n ts) rest _ _ e in
+    (t, take n ts, under _ _ _ (sym (take-append-drop n ts) ∙ ap (λ (r : List Token). take n ts ++ r) is.1), and_from (is_word t) _ is.0 (words_all ts))
 
 -- the commands of one statement
 
@@ -75,7 +79,7 @@ command_again line_grammar.begin rest closes = (Some command.Begin, refl, refl, 
 command_again line_grammar.commit rest closes = (Some command.Commit, refl, refl, refl)
 command_again line_grammar.abort rest closes = (Some command.Abort, refl, refl, refl)
 command_again line_grammar.rollback rest closes = (Some command.Abort, refl, refl, refl)
-command_again (line_grammar.level w ws) rest closes = (None, rw (words_again w ws rest (wordless closes)) refl, refl, refl)
+command_again (line_grammar.level w ws all) rest closes = (None, rw (words_again w ws rest all (wordless closes)) refl, refl, refl)
 command_again (line_grammar.run {s} h le) rest closes = (Some (command.Run s), run_again h rest closes, le-leb (length (printed_statement s)) 1000 le, refl)
 
 run_taken : (ts : List Token) (s : Statement × List Token) (x : Option Command × List Token) → Taken IsStatement ts s → Reads (Some (command.Run s.0), s.1) ≡ Reads x
@@ -91,18 +95,18 @@ unfolding command_read level_read
 command_takes ts x e short =
     let made = λ (c : Option Command) (front rest : List Token) (is : ts ≡ front ++ rest) (h : IsCommand front (listed c)) (g : reads (c, rest) ≡ Reads x). subst
     (Taken (λ us d. IsCommand us (listed d)) ts) (reads_is (c, rest) x g) (front, is, h) in
-    found_reads (token.Word word.Begin) ts _ _ x e (λ rest is h. made (Some command.Begin) (words (word.Begin ∷ [])) rest is line_grammar.begin h)
-    (λ n1 e1. found_reads (token.Word word.Commit) ts _ _ x e1 (λ rest is h. made (Some command.Commit) (words (word.Commit ∷ [])) rest is line_grammar.commit h)
-    (λ n2 e2. found_reads (token.Word word.Abort) ts _ _ x e2 (λ rest is h. made (Some command.Abort) (words (word.Abort ∷ [])) rest is line_grammar.abort h)
-    (λ n3 e3. found_reads (token.Word word.Rollback) ts _ _ x e3 (λ rest is h. made (Some command.Abort) (words (word.Rollback ∷ [])) rest is line_grammar.rollback h)
+    found_reads (token.Word word.Begin) ts _ _ x e (λ rest is h. made (Some command.Begin) (token.Word word.Begin ∷ []) rest is line_grammar.begin h)
+    (λ n1 e1. found_reads (token.Word word.Commit) ts _ _ x e1 (λ rest is h. made (Some command.Commit) (token.Word word.Commit ∷ []) rest is line_grammar.commit h)
+    (λ n2 e2. found_reads (token.Word word.Abort) ts _ _ x e2 (λ rest is h. made (Some command.Abort) (token.Word word.Abort ∷ []) rest is line_grammar.abort h)
+    (λ n3 e3. found_reads (token.Word word.Rollback) ts _ _ x e3 (λ rest is h. made (Some command.Abort) (token.Word word.Rollback ∷ []) rest is line_grammar.rollback h)
     (λ n4 e4. found_reads (token.Word word.Set) ts _ _ x e4
     (λ rest is h.
     let a = bind_reads (level_read rest) _ x h in
-    let front = words (word.Transaction ∷ word.Isolation ∷ word.Level ∷ []) in
+    let front = token.Word word.Transaction ∷ token.Word word.Isolation ∷ token.Word word.Level ∷ [] in
     let b = bind_reads (tokens_read front rest) _ a.0 a.1 in
     let w = words_take b.0 a.0 b.2 in
-    made None (words (word.Set ∷ word.Transaction ∷ word.Isolation ∷ word.Level ∷ w.0 ∷ w.1)) a.0
-    (is ∙ under _ _ _ (tokens_are front rest b.0 b.1 ∙ ap (λ (r : List Token). front ++ r) w.2)) (line_grammar.level w.0 w.1) a.2)
+    made None (token.Word word.Set ∷ front ++ w.0 ∷ w.1) a.0
+    (is ∙ under _ _ _ (tokens_are front rest b.0 b.1 ∙ ap (λ (r : List Token). front ++ r) w.2)) (line_grammar.level w.0 w.1 w.3) a.2)
     (λ n5 e5.
     let s = bind_reads (statement_read ts) _ x e5 in
     run_taken ts s.0 x (statement_takes ts s.0 s.1) s.2 short)))))

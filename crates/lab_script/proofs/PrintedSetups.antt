@@ -7,7 +7,7 @@ use Rattle.std.specs.Cmp.Lexicographic.{bytes_decides}
 use Rattle.lab_table.specs.Row.{Row, numbered, rows_total, rows_apart}
 use Rattle.lab_table.specs.TableName.{table_name_eq, test_name}
 use Rattle.lab_table.specs.Table.{Table}
-use Rattle.lab_statement.specs.declared.token.Word.TheVariants as word
+use Rattle.lab_table.specs.declared.word.Word.TheVariants as word
 use Rattle.lab_statement.specs.declared.token.Token.{Token}
 use Rattle.lab_statement.specs.declared.token.Token.TheVariants as token
 use Rattle.lab_statement.specs.Token.{tokens}
@@ -20,7 +20,7 @@ use Rattle.lab_statement.specs.Each.{Each}
 use Rattle.lab_script.specs.Ranges.{EntryInRange}
 use Rattle.lab_script.specs.Tables.{setup_tables}
 use Rattle.lab_statement.proofs.PrintedText.{plain_code, Leads, literal, leads_reads, leads_leads, cut_leads, mark_leads, reads_all}
-use Rattle.lab_statement.proofs.PrintedNames.{name_token, name_reads}
+use Rattle.lab_statement.proofs.PrintedNames.{name_reads}
 use Rattle.lab_statement.proofs.PrintedNumbers.{comma_leads}
 use Rattle.lab_statement.proofs.PrintedPreds.{open_leads, close_leads}
 use Rattle.lab_statement.proofs.PrintedStatements.{row_tokens, row_leads, row_fits}
@@ -32,7 +32,7 @@ use Rattle.lab_script.specs.Script as text
 -- the token of a table's name before a row, where it is printed
 abbrev table_tokens : Bool → List ℕ → List Token
 table_tokens true table = []
-table_tokens false table = name_token table ∷ []
+table_tokens false table = token.Name table ∷ []
 
 -- the tokens of a printed row of a setup
 abbrev pub named_row_tokens : Row → ℤ → List Token
@@ -48,8 +48,8 @@ named_row_leads row z h = at (table_name_eq row.table test_name)
     at : (b : Bool) → Leads ((if b then [] else row.table ++ codes " ") ++ printed_row row.id z) (table_tokens b row.table ++ row_tokens row.id z)
     at true = row_leads row.id z h.1 h.2
     at false =
-        leads_leads (row.table ++ codes " ") (printed_row row.id z) (name_token row.table ∷ []) (row_tokens row.id z)
-        (cut_leads row.table (codes " ") (name_token row.table ∷ []) [] (name_reads row.table h.0) (λ rest. refl) space_leads) (row_leads row.id z h.1 h.2)
+        leads_leads (row.table ++ codes " ") (printed_row row.id z) (token.Name row.table ∷ []) (row_tokens row.id z)
+        (cut_leads row.table (codes " ") (token.Name row.table ∷ []) [] (name_reads row.table h.0) (λ rest. refl) space_leads) (row_leads row.id z h.1 h.2)
 
 -- its tokens are in the grammar
 named_row_fits : (row : Row) (z : ℤ) → EntryInRange (row, z) → IsNamedRow (named_row_tokens row z) row z

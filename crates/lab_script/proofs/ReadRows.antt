@@ -1,7 +1,6 @@
 -- A row of a setup is read exactly where the grammar has one.
 use Rattle.std.proofs.Common.{◌≡◌, ◌⊎◌, inl, inr, ℕ, List, [], ◌∷◌, sym, ap, ◌++◌, refl, subst, ◌∙◌}
 use Rattle.lab_table.specs.TableName.{test_name}
-use Rattle.lab_statement.specs.declared.token.Word.TheVariants as word
 use Rattle.lab_statement.specs.declared.token.Token.{Token}
 use Rattle.lab_statement.specs.declared.token.Token.TheVariants as token
 use Rattle.lab_statement.specs.Stopping.{Reads, row_read}
@@ -12,7 +11,7 @@ use Rattle.lab_table.specs.Row.{Row, numbered}
 use Rattle.lab_statement.specs.Grammar.{IsRow}
 use Rattle.lab_script.specs.Grammar.{IsNamedRow}
 use Rattle.lab_statement.proofs.ReadNumbers.{Taken, under}
-use Rattle.lab_statement.proofs.ReadNames.{word_takes}
+use Rattle.lab_statement.proofs.ReadNames.{name_taken}
 use Rattle.lab_statement.proofs.ReadRows.{RowTaken, row_again, row_takes}
 use Rattle.lab_statement.specs.Grammar as grammar
 use Rattle.lab_script.specs.Grammar as line_grammar
@@ -21,10 +20,12 @@ use Rattle.lab_script.specs.Grammar as line_grammar
 
 -- a row's table is that of the word before it, or `test`
 abbrev pub IsRowTable : List Token → List ℕ × List Token → Type 0
-IsRowTable ts x = (ts ≡ token.Word (word.Name x.0) ∷ x.1) ⊎ ((x.0 ≡ test_name) × (x.1 ≡ ts))
+IsRowTable ts x = (ts ≡ token.Name x.0 ∷ x.1) ⊎ ((x.0 ≡ test_name) × (x.1 ≡ ts))
 
 table_token : (t : Token) (ts : List Token) (x : List ℕ × List Token) → table_of t ts ≡ Reads x → IsRowTable (t ∷ ts) x
-table_token (token.Word w) ts x e = inl (word_takes w ts x e)
+table_token (token.Name n) ts x e = inl (name_taken (token.Name n) ts x e)
+table_token (token.Word w) ts x e = absurd cc
+table_token token.OtherWord ts x e = absurd cc
 table_token t ts x e = let is : ◌≡◌ {A = List ℕ × List Token} (test_name, t ∷ ts) x = reads_is _ _ e in inr (ap (λ (y : List ℕ × List Token). y.0) (sym is), ap (λ (y : List ℕ × List Token). y.1) (sym is))
 
 pub row_table_takes : (ts : List Token) (x : List ℕ × List Token) → row_table_read ts ≡ Reads x → IsRowTable ts x
@@ -51,7 +52,7 @@ NamedRowTaken ts x = Taken (λ front row. IsNamedRow front row.0 row.1) ts x
 
 -- a row behind its table
 behind_table : (ts : List Token) (table : List ℕ × List Token) (r : (ℕ × ℤ) × List Token) → IsRowTable ts table → RowTaken table.1 r → NamedRowTaken ts ((numbered table.0 r.0.0, r.0.1), r.1)
-behind_table ts table r (inl named) p = (token.Word (word.Name table.0) ∷ p.0, named ∙ under _ _ _ p.1, line_grammar.named table.0 p.2)
+behind_table ts table r (inl named) p = (token.Name table.0 ∷ p.0, named ∙ under _ _ _ p.1, line_grammar.named table.0 p.2)
 behind_table ts table r (inr (test, all)) p =
     subst (λ t. NamedRowTaken ts ((numbered t r.0.0, r.0.1), r.1)) (sym test) (p.0, sym all ∙ p.1, line_grammar.unnamed p.2)
 

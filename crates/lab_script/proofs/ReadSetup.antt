@@ -4,7 +4,7 @@ use Rattle.std.specs.FinMap.{find, insert, empty, contains_key}
 use Rattle.std.proofs.lemmas.Bool.{leb-true}
 use Rattle.lab_table.specs.Row.{Row, row_cmp}
 use Rattle.lab_table.specs.Table.{Table}
-use Rattle.lab_statement.specs.declared.token.Word.TheVariants as word
+use Rattle.lab_table.specs.declared.word.Word.TheVariants as word
 use Rattle.lab_statement.specs.declared.token.Token.{Token}
 use Rattle.lab_statement.specs.declared.token.Token.TheVariants as token
 use Rattle.lab_statement.specs.declared.fault.ScriptFaultKind.{ScriptFaultKind}

@@ -2,7 +2,7 @@
 use Rattle.std.specs.Prelude.{ℕ, zero, suc, ℤ, nat_le, length, if◌then◌else◌, List, [], ◌∷◌, ◌++◌, Option, Some, None, ◌-◌, false, nat_lt, take, drop}
 use Rattle.lab_table.specs.Row.{Row, numbered}
 use Rattle.lab_table.specs.TableName.{test_name}
-use Rattle.lab_statement.specs.declared.token.Word.TheVariants as word
+use Rattle.lab_table.specs.declared.word.Word.TheVariants as word
 use Rattle.lab_statement.specs.declared.token.Token.{Token}
 use Rattle.lab_statement.specs.declared.token.Token.TheVariants as token
 use Rattle.lab_statement.specs.declared.fault.ScriptFaultKind.{ScriptFaultKind}
@@ -15,15 +15,15 @@ use Rattle.lab_table.specs.declared.statement.Command.{Command}
 use Rattle.lab_table.specs.declared.statement.Command.TheVariants as command
 use Rattle.lab_statement.specs.Limits.{max_line_bytes}
 use Rattle.lab_script.specs.Printed.{printed_setup}
-use Rattle.lab_statement.specs.Stopping.{Reading, Reads, Stops, ◌>>=◌, if_found, token_read, tokens_read, row_read, name_in}
+use Rattle.lab_statement.specs.Token.{is_word}
+use Rattle.lab_statement.specs.Stopping.{Reading, Reads, Stops, ◌>>=◌, if_found, token_read, tokens_read, row_read, name_of}
 use Rattle.lab_script.specs.Tables.{with_commands, setup_tables}
 use Rattle.lab_script.specs.PassedTables.{with_tokens, with_setup_tokens}
-use Rattle.lab_statement.specs.FirstFaults.{behind_tables, end_read, fault_of, fifth_table, is_short, is_word, no_rows_at, nothing_read, placed_kind, statement_read}
+use Rattle.lab_statement.specs.FirstFaults.{behind_tables, end_read, fault_of, fifth_table, is_short, no_rows_at, nothing_read, placed_kind, statement_read}
 
 -- the table of a row of a setup, from the token that it begins with: a word names it, and without one it is `test`
 abbrev pub table_of : Token → List Token → Reading (List ℕ × List Token)
-table_of (token.Word w) ts = name_in w ts
-table_of t ts = Reads (test_name, t ∷ ts)
+table_of t ts = if is_word t then name_of t ts else Reads (test_name, t ∷ ts)
 
 unfoldable pub row_table_read : List Token → Reading (List ℕ × List Token)
 row_table_read [] = Reads (test_name, [])

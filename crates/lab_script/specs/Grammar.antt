@@ -1,27 +1,29 @@
 -- The grammar of a line: which tokens spell commands, and which a setup. Each rule is a constructor.
-use Rattle.std.specs.Prelude.{◌≡◌, ℕ, ◌≤◌, ℤ, List, [], ◌∷◌, ◌++◌, length}
+use Rattle.std.specs.Prelude.{◌≡◌, ℕ, ◌≤◌, ℤ, true, List, [], ◌∷◌, ◌++◌, length}
 use Rattle.std.specs.FinMap as finite
+use Rattle.std.specs.List.{list_all}
 use Rattle.lab_table.specs.declared.statement.Statement.{Statement}
 use Rattle.lab_table.specs.declared.statement.Command.{Command}
 use Rattle.lab_table.specs.declared.statement.Command.TheVariants as command
 use Rattle.lab_table.specs.Row.{Row, row_cmp, in_test, numbered}
 use Rattle.lab_table.specs.Table.{Table}
-use Rattle.lab_statement.specs.declared.token.Word.{Word}
-use Rattle.lab_statement.specs.declared.token.Word.TheVariants as word
+use Rattle.lab_table.specs.declared.word.Word.TheVariants as word
 use Rattle.lab_statement.specs.declared.token.Token.{Token}
 use Rattle.lab_statement.specs.declared.token.Token.TheVariants as token
 use Rattle.lab_statement.specs.Printed.{printed_statement}
 use Rattle.lab_script.specs.Printed.{printed_setup}
 use Rattle.lab_statement.specs.Limits.{max_line_bytes, max_statement_bytes}
-use Rattle.lab_statement.specs.Grammar.{IsEnd, IsRow, IsStatement, words}
+use Rattle.lab_statement.specs.Grammar.{IsEnd, IsRow, IsStatement}
+use Rattle.lab_statement.specs.Token.{is_word}
 
 -- stmt, and the commands that it gives
 pub data IsCommand : List Token → List Command → Type 0 where
-  begin : IsCommand (words (word.Begin ∷ [])) (command.Begin ∷ [])
-  commit : IsCommand (words (word.Commit ∷ [])) (command.Commit ∷ [])
-  abort : IsCommand (words (word.Abort ∷ [])) (command.Abort ∷ [])
-  rollback : IsCommand (words (word.Rollback ∷ [])) (command.Abort ∷ [])
-  level : (w : Word) (ws : List Word) → IsCommand (words (word.Set ∷ word.Transaction ∷ word.Isolation ∷ word.Level ∷ w ∷ ws)) []
+  begin : IsCommand (token.Word word.Begin ∷ []) (command.Begin ∷ [])
+  commit : IsCommand (token.Word word.Commit ∷ []) (command.Commit ∷ [])
+  abort : IsCommand (token.Word word.Abort ∷ []) (command.Abort ∷ [])
+  rollback : IsCommand (token.Word word.Rollback ∷ []) (command.Abort ∷ [])
+  level : (t : Token) (ts : List Token) → list_all is_word (t ∷ ts) ≡ true
+      → IsCommand (token.Word word.Set ∷ token.Word word.Transaction ∷ token.Word word.Isolation ∷ token.Word word.Level ∷ t ∷ ts) []
   run : {ts : List Token} {s : Statement} → IsStatement ts s → length (printed_statement s) ≤ max_statement_bytes → IsCommand ts (command.Run s ∷ [])
 
 -- line := stmt { ';' stmt } [ ';' ]
@@ -33,7 +35,7 @@ pub data IsCommands : List Token → List Command → Type 0 where
 -- [ name ] '(' id ',' number ')', a row of a setup and its value: one without a table's name is of `test`
 pub data IsNamedRow : List Token → Row → ℤ → Type 0 where
   unnamed : {ts : List Token} {id : ℕ} {value : ℤ} → IsRow ts id value → IsNamedRow ts (in_test id) value
-  named : {ts : List Token} {id : ℕ} {value : ℤ} (table : List ℕ) → IsRow ts id value → IsNamedRow (token.Word (word.Name table) ∷ ts) (numbered table id) value
+  named : {ts : List Token} {id : ℕ} {value : ℤ} (table : List ℕ) → IsRow ts id value → IsNamedRow (token.Name table ∷ ts) (numbered table id) value
 
 -- row { ',' row }
 pub data IsRows : List Token → List (Row × ℤ) → Type 0 where

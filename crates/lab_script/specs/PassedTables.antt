@@ -1,22 +1,16 @@
 -- The tables that are named among tokens which were read before reading stopped.
 use Rattle.std.specs.Prelude.{ℕ, Bool, true, false, not, ◌&&◌, if◌then◌else◌, List, [], ◌∷◌, Option, Some, None, is_some}
 use Rattle.lab_table.specs.TableName.{test_name}
-use Rattle.lab_statement.specs.declared.token.Word.{Word}
-use Rattle.lab_statement.specs.declared.token.Word.TheVariants as word
+use Rattle.lab_table.specs.declared.word.Word.TheVariants as word
 use Rattle.lab_statement.specs.declared.token.Token.{Token}
 use Rattle.lab_statement.specs.declared.token.Token.TheVariants as token
 use Rattle.lab_statement.specs.Reading.{is_token}
 use Rattle.lab_table.specs.TableSet.{with_name}
 use Rattle.lab_script.specs.Tables.{with_any}
 
--- the name of a table that a word is, if it is one
-abbrev pub word_table : Word → Option (List ℕ)
-word_table (word.Name n) = Some n
-word_table w = None
-
 -- the name of a table that a token is, if it is one
 abbrev pub token_table : Token → Option (List ℕ)
-token_table (token.Word w) = word_table w
+token_table (token.Name n) = Some n
 token_table t = None
 
 -- whether the next token of a line is a word of a level or a value, behind a set, and names no table

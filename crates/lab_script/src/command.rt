@@ -5,7 +5,8 @@ ghost use Rattle.std.specs.List.{prefix_len};
 ghost use Rattle.lab_statement.specs.declared.fault.ScriptFaultKind.TheVariants.{TooLong, TooManyTables};
 ghost use Rattle.lab_statement.specs.declared.token.Token.{Token as Shown};
 ghost use Rattle.lab_statement.specs.Stopping.{Comes};
-ghost use Rattle.lab_statement.specs.FirstFaults.{is_word, is_short, HasFault, behind_tables, refusal_as};
+ghost use Rattle.lab_statement.specs.Token.{is_word};
+ghost use Rattle.lab_statement.specs.FirstFaults.{is_short, HasFault, behind_tables, refusal_as};
 ghost use Rattle.lab_script.specs.FirstFaults.{command_read, commands_read, level_read, one_added, step_read, terminated_read, words_read, commands_fault, passed};
 ghost use Rattle.lab_script.specs.Grammar.{IsCommands};
 ghost use Rattle.lab_table.specs.TableSet.{max_tables};
@@ -13,8 +14,8 @@ ghost use Rattle.lab_script.specs.Tables.{with_commands};
 ghost use Rattle.lab_script.specs.PassedTables.{with_tokens};
 
 use crate::tables::{add_all, add_tokens};
-use lab_statement::{Parser, Refusal, ScriptFaultKind, Token, Word, check_length, placed};
-use lab_table::{Command, TableSet};
+use lab_statement::{Parser, Refusal, ScriptFaultKind, Token, check_length, placed};
+use lab_table::{Command, TableSet, Word};
 use std::alloc::Global;
 
 /// The commands of all statements of a line, of which there is room for so many.
@@ -100,7 +101,7 @@ fn words(parser: &mut Parser) -> Result<(), Refusal>
     match parser.tokens().split_first() {
         None => Err(Refusal::Fault(ScriptFaultKind::UnknownStatement)),
         Some((first, rest)) => {
-            if !is_word(*first) {
+            if !first.is_word() {
                 return Err(Refusal::Fault(ScriptFaultKind::UnknownStatement));
             }
             let (_, behind) = rest.split_at(words_len(rest));
@@ -110,21 +111,12 @@ fn words(parser: &mut Parser) -> Result<(), Refusal>
     }
 }
 
-fn is_word(token: Token) -> bool
-    ensures { result ≡ is_word token }
-{
-    match token {
-        Token::Word(_) => true,
-        _ => false,
-    }
-}
-
 /// How many words there are at the front.
 fn words_len(tokens: &[Token]) -> usize
     ensures value { result ≡ prefix_len is_word tokens.now }
     ensures within { result ≤ length tokens.now }
 {
-    tokens.iter().take_while(|token| is_word(**token)).count()
+    tokens.iter().take_while(|token| token.is_word()).count()
 }
 
 /// The printed form of a command is as short as it must be.

@@ -17,10 +17,10 @@ use crate::script::{Lines, Script};
 use crate::setup::read_setup;
 use bstr::ByteSlice;
 use lab_statement::{
-    MAX_LINE_BYTES, ScriptFault, ScriptFaultKind, Token, Word, code_and_remark, is_ascii_code,
+    MAX_LINE_BYTES, ScriptFault, ScriptFaultKind, Token, code_and_remark, is_ascii_code,
     tokens_into,
 };
-use lab_table::TableSet;
+use lab_table::{TableSet, Word};
 use std::alloc::Global;
 
 /// The script that a text spells: the setup, then lines of statements with a session in their remarks.

@@ -13,8 +13,8 @@ ghost use Rattle.lab_statement.specs.declared.fault.ScriptFaultKind.TheVariants.
 use crate::command::read_before;
 use crate::fits::setup_fits;
 use crate::tables::{add_all, add_setup_tokens};
-use lab_statement::{Parser, Refusal, ScriptFaultKind, Token, Word};
-use lab_table::{RowName, Table, TableName, TableSet, Value};
+use lab_statement::{Parser, Refusal, ScriptFaultKind, Token};
+use lab_table::{RowName, Table, TableName, TableSet, Value, Word};
 use std::alloc::Global;
 
 /// The table of a row of a setup: the name before the row, or `test` where no word stands there.
@@ -24,11 +24,8 @@ fn row_table(parser: &mut Parser) -> Result<TableName, Refusal>
     ensures shorter { length parser.new ≤ length parser.old }
 {
     match parser.tokens().split_first() {
-        None => Ok(TableName::test()),
-        Some((first, _)) => match first {
-            Token::Word(_) => parser.name(),
-            _ => Ok(TableName::test()),
-        },
+        Some((first, _)) if first.is_word() => parser.name(),
+        _ => Ok(TableName::test()),
     }
 }
 

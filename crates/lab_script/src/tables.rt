@@ -6,8 +6,8 @@ ghost use Rattle.lab_script.specs.Tables.{command_table, line_table, row_table, 
 ghost use Rattle.lab_script.specs.PassedTables.{token_table, is_behind_set, with_tokens, with_setup_token, with_setup_tokens};
 
 use crate::script::Line;
-use lab_statement::{Token, Word};
-use lab_table::{Command, RowName, TableName, TableSet, Value};
+use lab_statement::Token;
+use lab_table::{Command, RowName, TableName, TableSet, Value, Word};
 
 /// What may name a table.
 pub trait NamesTable {
@@ -113,7 +113,7 @@ fn table_of(token: &Token) -> Option<TableName>
     ensures { result ≡ token_table token.now }
 {
     match token {
-        Token::Word(Word::Name(name)) => Some(*name),
+        Token::Name(name) => Some(*name),
         _ => None,
     }
 }

@@ -1,21 +1,19 @@
 use Rattle.std.proofs.Common.{◌≡◌, ℕ, zero, suc, ◌+◌, ◌≤◌, List, [], ◌∷◌, ◌++◌, length, None, refl, sym, ap, subst, ◌∙◌, append_assoc, length-append, arith}
-use Rattle.std.specs.Prelude.{ℤ, pos, ◌&&◌, nat_le}
-use Rattle.std.proofs.lemmas.Bool.{le-leb, leb-true, and_parts}
+use Rattle.std.specs.Prelude.{ℤ}
 use Rattle.lab_table.specs.declared.predicate.Col.{Col}
 use Rattle.lab_table.specs.declared.predicate.Col.TheVariants as col
 use Rattle.lab_table.specs.declared.predicate.Cmp.{Cmp}
 use Rattle.lab_table.specs.declared.predicate.Cmp.TheVariants as cmp
-use Rattle.lab_statement.specs.declared.token.Word.TheVariants as word
+use Rattle.lab_table.specs.declared.word.Word.TheVariants as word
 use Rattle.lab_statement.specs.declared.token.Token.{Token}
 use Rattle.lab_statement.specs.declared.token.Token.TheVariants as token
 use Rattle.lab_statement.specs.Grammar.{IsNumber, IsNumbers, IsNumberList, col_token, cmp_token}
 use Rattle.lab_statement.specs.Grammar as grammar
 use Rattle.lab_statement.specs.Reading.{after}
-use Rattle.lab_statement.specs.Stopping.{Reads, ◌>>=◌, token_read, digits_read, number_read, more_read, cmp_of, cmp_in, col_read, cmp_read, modulus_read, one_more, numbers_read, number_list_read}
-use Rattle.lab_statement.proofs.Readings.{bind_reads, cond_reads, found_reads, reads, reads_is, token_is}
-use Rattle.lab_statement.proofs.ReadNumbers.{Taken, number_again, number_takes, digits_take, under}
-use Rattle.lab_statement.proofs.ReadRows.{not_negative}
-use Rattle.lab_statement.proofs.StoppedLoops.{ends}
+use Rattle.lab_statement.specs.Stopping.{Reads, ◌>>=◌, token_read, number_read, more_read, cmp_of, cmp_in, col_read, cmp_read, one_more, numbers_read, number_list_read}
+use Rattle.lab_statement.proofs.Readings.{bind_reads, found_reads, reads, reads_is, token_is}
+use Rattle.lab_statement.proofs.ReadNumbers.{Taken, number_again, number_takes, under}
+use Rattle.lab_statement.proofs.StoppedLoops.{ended}
 
 -- a column
 
@@ -57,28 +55,6 @@ unfolding cmp_read
 cmp_takes [] x e = absurd cc
 cmp_takes (t ∷ ts) x e = cmp_is t ts x e
 
--- a modulus
-
-unsigned_again : {ts : List Token} (z : ℤ) (m : ℕ) → IsNumber ts z → z ≡ pos m → 1 ≤ m → m ≤ 1000000 → (rest : List Token) → modulus_read (ts ++ rest) ≡ Reads (m, rest)
-unfolding modulus_read digits_read
-unsigned_again _ m (grammar.positive n le) is low high rest =
-    let same : n ≡ m = cc in
-    rw (same, le-leb 1 m low, le-leb m 1000000 high) refl
-unsigned_again _ m (grammar.negative n le) is low high rest = absurd (not_negative n m is low)
-
-pub modulus_again : {ts : List Token} (m : ℕ) → IsNumber ts (pos m) → 1 ≤ m → m ≤ 1000000 → (rest : List Token) → modulus_read (ts ++ rest) ≡ Reads (m, rest)
-modulus_again m number low high rest = unsigned_again (pos m) m number refl low high rest
-
-pub modulus_takes : (ts : List Token) (x : ℕ × List Token) → modulus_read ts ≡ Reads x → (ts ≡ token.Digits x.0 ∷ x.1) × (1 ≤ x.0) × (x.0 ≤ 1000000)
-unfolding modulus_read
-modulus_takes ts x e = found_reads token.Minus ts _ _ x e
-    (λ rest is h. let a = bind_reads (digits_read rest) _ x h in absurd cc)
-    (λ none h.
-    let a = bind_reads (digits_read ts) _ x h in
-    let g = cond_reads (nat_le 1 a.0.0 && nat_le a.0.0 1000000) a.0 x _ _ a.2 in
-    let both = and_parts (nat_le 1 a.0.0) (nat_le a.0.0 1000000) g.0 in
-    subst (λ (y : ℕ × List Token). (ts ≡ token.Digits y.0 ∷ y.1) × (1 ≤ y.0) × (y.0 ≤ 1000000)) g.1 (digits_take ts a.0 a.1, leb-true _ _ both.0, leb-true _ _ both.1))
-
 -- numbers
 
 -- what stands behind a front and one token more is shorter
@@ -92,7 +68,7 @@ shorter_by ts us rest behind t k is le =
 numbers_on : {ts : List Token} {zs : List ℤ} → IsNumbers ts zs → (rest : List Token) → after token.Comma rest ≡ None → (k : ℕ) (before : List ℤ) → length (ts ++ rest) ≤ k
     → (number_read (ts ++ rest) >>= λ z. more_read k number_read token.Comma one_more (one_more before z.0) z.1) ≡ Reads (before ++ zs, rest)
 unfolding more_read
-numbers_on (grammar.last {ts} {z} h) rest none k before le = rw (number_again h rest) (ends number_read token.Comma one_more k (before ++ z ∷ []) rest _ refl none)
+numbers_on (grammar.last {ts} {z} h) rest none k before le = rw (number_again h rest) (ended number_read token.Comma one_more k (before ++ z ∷ []) rest none)
 numbers_on (grammar.more {ts} {rest = others} {z} {zs} h hs) rest none zero before le = absurd (grind (arith, length-append))
 numbers_on (grammar.more {ts} {rest = others} {z} {zs} h hs) rest none (suc k) before le =
     rw (append_assoc ts (token.Comma ∷ others) rest, number_again h (token.Comma ∷ others ++ rest))
@@ -102,7 +78,7 @@ numbers_on (grammar.more {ts} {rest = others} {z} {zs} h hs) rest none (suc k) b
 -- numbers of the grammar are read
 pub numbers_again : {ts : List Token} {zs : List ℤ} → IsNumbers ts zs → (rest : List Token) → after token.Comma rest ≡ None → numbers_read (ts ++ rest) ≡ Reads (zs, rest)
 unfolding numbers_read more_read
-numbers_again (grammar.last {ts} {z} h) rest none = rw (numbers_read, number_again h rest) (ends number_read token.Comma one_more (length rest) (z ∷ []) rest _ refl none)
+numbers_again (grammar.last {ts} {z} h) rest none = rw (numbers_read, number_again h rest) (ended number_read token.Comma one_more (length rest) (z ∷ []) rest none)
 numbers_again (grammar.more {ts} {rest = others} {z} {zs} h hs) rest none =
     rw (append_assoc ts (token.Comma ∷ others) rest, number_again h (token.Comma ∷ others ++ rest)) (numbers_on hs rest none (length (others ++ rest)) (z ∷ []) (omega arith))
 

@@ -3,15 +3,14 @@ use Rattle.std.proofs.Common.{◌≡◌, ℕ, zero, suc, Bool, true, false, cond
 use Rattle.std.specs.Prelude.{◌==◌, nat_le, ◌-◌}
 use Rattle.lab_table.specs.Predicate.{Predicate}
 use Rattle.lab_table.specs.declared.predicate.Cmp.{Cmp}
-use Rattle.lab_statement.specs.declared.token.Word.{Word}
-use Rattle.lab_statement.specs.declared.token.Word.TheVariants as word
+use Rattle.lab_table.specs.declared.word.Word.TheVariants as word
 use Rattle.lab_statement.specs.declared.token.Token.{Token}
 use Rattle.lab_statement.specs.declared.token.Token.TheVariants as token
 use Rattle.lab_statement.specs.declared.fault.ScriptFaultKind.{ScriptFaultKind}
 use Rattle.lab_statement.specs.declared.fault.ScriptFaultKind.TheVariants as kinds
 use Rattle.lab_statement.specs.Limits.{max_statement_bytes}
 use Rattle.lab_statement.specs.Reading.{is_token, after}
-use Rattle.lab_statement.specs.Stopping.{cmp_of, Reading, Reads, Stops, ◌>>=◌, if_found, token_read, tokens_read, digits_in, digits_read, magnitude_read, number_read, more_read, id_read, name_in, name_of, name_read, row_read, col_read, cmp_in, cmp_read, modulus_read, numbers_read, number_list_read, compare_read, remainder_read, one_of_read, atom_read, joined_read, term_read, conj_read, pred_read, where_read}
+use Rattle.lab_statement.specs.Stopping.{cmp_of, Reading, Reads, Stops, ◌>>=◌, if_found, token_read, tokens_read, digits_in, digits_read, magnitude_read, number_read, more_read, positive_read, name_of, name_read, row_read, col_read, cmp_in, cmp_read, numbers_read, number_list_read, compare_read, remainder_read, one_of_read, atom_read, joined_read, term_read, conj_read, pred_read, where_read}
 use Rattle.lab_statement.specs.FirstFaults.{expr_read, select_read, update_read, insert_read, delete_read, statement_read, end_read, nothing_read, in_predicate, statement_fault, whole_statement_read, placed_kind}
 use Rattle.std.proofs.lemmas.Bool.{cases_Bool, leb-false}
 use Rattle.lab_table.specs.declared.statement.Statement.{Statement}
@@ -74,20 +73,18 @@ module _ (Is : ScriptFaultKind → Type 0) where
     more_only member only (suc k) connective join a ts =
         found_only (after connective ts) _ _ (λ rest. bind_only _ _ (only rest) (λ x is. more_only member only k connective join (join a x.0) x.1)) tt
 
-    id_only : (ts : List Token) → StopsOnly Is (id_read ts)
-    unfolding id_read
-    id_only ts = search (bind_only, found_only, cond_only, digits_only) depth 7
+    positive_only : (most : ℕ) (ts : List Token) → StopsOnly Is (positive_read most ts)
+    unfolding positive_read
+    positive_only most ts = search (bind_only, found_only, cond_only, digits_only) depth 7
 
     pub row_only : (ts : List Token) → StopsOnly Is (row_read ts)
     unfolding row_read
-    row_only ts = search (bind_only, token_only, id_only, number_only) depth 9
+    row_only ts = search (bind_only, token_only, positive_only, number_only) depth 9
 
-    pub word_only : (w : Word) (ts : List Token) → StopsOnly Is (name_in w ts)
-    word_only (word.Name n) ts = tt
-    word_only w ts = name
-
-    name_of_only : (t : Token) (ts : List Token) → StopsOnly Is (name_of t ts)
-    name_of_only (token.Word w) ts = word_only w ts
+    pub name_of_only : (t : Token) (ts : List Token) → StopsOnly Is (name_of t ts)
+    name_of_only (token.Name n) ts = tt
+    name_of_only (token.Word w) ts = name
+    name_of_only token.OtherWord ts = name
     name_of_only t ts = unknown
 
     name_only : (ts : List Token) → StopsOnly Is (name_read ts)
@@ -109,17 +106,13 @@ module _ (Is : ScriptFaultKind → Type 0) where
       cmp_only [] = unknown
       cmp_only (t ∷ ts) = cmp_in_only (cmp_of t) t ts
 
-      modulus_only : (ts : List Token) → StopsOnly Is (modulus_read ts)
-      unfolding modulus_read
-      modulus_only ts = search (bind_only, found_only, cond_only, digits_only) depth 7
-
       number_list_only : (ts : List Token) → StopsOnly Is (number_list_read ts)
       unfolding number_list_read numbers_read
       number_list_only ts = search (bind_only, found_only, token_only, number_only, more_only) depth 9
 
       atom_only : (ts : List Token) → StopsOnly Is (atom_read ts)
       unfolding atom_read col_read one_of_read remainder_read compare_read
-      atom_only ts = search (bind_only, found_only, token_only, number_list_only, modulus_only, number_only, cmp_only) depth 9
+      atom_only ts = search (bind_only, found_only, token_only, number_list_only, positive_only, number_only, cmp_only) depth 9
 
       joined_only : (member : List Token → Reading (Predicate × List Token)) → ((ts : List Token) → StopsOnly Is (member ts)) → (connective : Token) (join : Predicate → Predicate → Predicate) (ts : List Token)
           → StopsOnly Is (joined_read member connective join ts)

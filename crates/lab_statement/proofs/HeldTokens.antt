@@ -11,12 +11,12 @@ use Rattle.lab_table.specs.declared.predicate.Col.TheVariants as col
 use Rattle.lab_table.specs.declared.predicate.Cmp.{Cmp}
 use Rattle.lab_table.specs.declared.predicate.Cmp.TheVariants as cmp
 use Rattle.lab_table.specs.declared.statement.Expr.{Expr}
-use Rattle.lab_statement.specs.declared.token.Word.TheVariants as word
+use Rattle.lab_table.specs.declared.word.Word.TheVariants as word
 use Rattle.lab_statement.specs.declared.token.Token.{Token}
 use Rattle.lab_statement.specs.declared.token.Token.TheVariants as token
 use Rattle.lab_statement.specs.Grammar as grammar
 use Rattle.lab_statement.specs.Grammar.{Kind, col_token, cmp_token, IsNumber, IsNumbers, IsNumberList, IsAtom, IsPred, IsWhere, IsExpr, IsId, IsRow, IsStatement, IsEnd, IsWholeStatement}
-use Rattle.lab_statement.specs.declared.token.Word.{Word}
+use Rattle.lab_table.specs.declared.word.Word.{Word}
 use Rattle.lab_statement.specs.HeldTokens.{held}
 use Rattle.lab_statement.specs.Text.{HasWhere, BeginsLongStatement}
 use Rattle.lab_statement.proofs.Wheres.{where_further}

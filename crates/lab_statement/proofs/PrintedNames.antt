@@ -7,18 +7,13 @@ use Rattle.std.proofs.lemmas.Bool.{and_parts, and_from, leb-true}
 use Rattle.std.proofs.lemmas.Bool.Decides.{nat_tests}
 use Rattle.std.proofs.lemmas.List.{append-nil}
 use Rattle.lab_table.specs.Words.{is_reserved}
-use Rattle.lab_table.specs.TableName.{is_name_letter, is_table_name}
-use Rattle.lab_statement.specs.declared.token.Word.TheVariants as word
+use Rattle.lab_table.specs.TableName.{has_name_form, is_name_letter, is_table_name}
 use Rattle.lab_statement.specs.declared.token.Token.{Token}
 use Rattle.lab_statement.specs.declared.token.Token.TheVariants as token
 use Rattle.lab_statement.specs.Token.{letters, is_letter, is_blank, tokens, tokens_from}
 use Rattle.lab_statement.proofs.Tokens.{goes_on, word_begins}
 use Rattle.lab_statement.proofs.PrintedText.{is_plain, all_plain, Reads, word_ends}
 use Rattle.lab_statement.proofs.ReservedWords.{name_named}
-
--- the token of a table's name
-abbrev pub name_token : List ℕ → Token
-name_token table = token.Word (word.Name table)
 
 -- a letter of a name is one of a word, is no blank, is in lower case, and is code
 
@@ -37,7 +32,7 @@ name_byte b h = grind (arith, nat_tests)
 -- the parts of the test of a name
 letters_of : (table : List ℕ) → is_table_name table ≡ true → (1 ≤ length table) × (list_all is_name_letter table ≡ true)
 letters_of table named =
-    let all = and_parts (nat_le 1 (length table) && nat_le (length table) 16 && list_all is_name_letter table) (not (is_reserved table)) named in
+    let all = and_parts (has_name_form table) (not (is_reserved table)) named in
     let front = and_parts (nat_le 1 (length table) && nat_le (length table) 16) (list_all is_name_letter table) all.0 in
     let long = and_parts (nat_le 1 (length table)) (nat_le (length table) 16) front.0 in
     (leb-true 1 (length table) long.0, front.1)
@@ -65,11 +60,11 @@ letters_plain (b ∷ text) h =
     let parts = and_parts (is_name_letter b) (list_all is_name_letter text) h in and_from (is_plain b) (list_all is_plain text) (name_byte b parts.0) (letters_plain text parts.1)
 
 -- the name of a table is a word
-pub name_reads : (table : List ℕ) → is_table_name table ≡ true → Reads table (name_token table ∷ [])
+pub name_reads : (table : List ℕ) → is_table_name table ≡ true → Reads table (token.Name table ∷ [])
 name_reads table named =
     let parts = letters_of table named in
     record {
       is = λ rest h. name_begins table rest parts.0 parts.1 ∙ letters_on table [] rest parts.1 ∙ word_ends table rest h
-          ∙ ap (λ w. token.Word w ∷ tokens rest) (name_named table named);
+          ∙ ap (λ (t : Token). t ∷ tokens rest) (name_named table named);
       plain = all_plain table (letters_plain table parts.1);
     }

@@ -8,7 +8,7 @@ use Rattle.lab_table.specs.declared.predicate.Col.{Col}
 use Rattle.lab_table.specs.declared.predicate.Col.TheVariants as col
 use Rattle.lab_table.specs.declared.predicate.Cmp.{Cmp}
 use Rattle.lab_table.specs.declared.predicate.Cmp.TheVariants as cmp
-use Rattle.lab_statement.specs.declared.token.Word.TheVariants as word
+use Rattle.lab_table.specs.declared.word.Word.TheVariants as word
 use Rattle.lab_statement.specs.declared.token.Token.{Token}
 use Rattle.lab_statement.specs.declared.token.Token.TheVariants as token
 use Rattle.lab_statement.specs.Grammar.{col_token, cmp_token}

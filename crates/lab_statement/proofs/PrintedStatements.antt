@@ -10,7 +10,7 @@ use Rattle.lab_table.specs.declared.statement.StatementKind.{StatementKind}
 use Rattle.lab_table.specs.declared.statement.StatementKind.TheVariants as kind
 use Rattle.lab_table.specs.declared.statement.Expr.{Expr}
 use Rattle.lab_table.specs.declared.statement.Expr.TheVariants as expr
-use Rattle.lab_statement.specs.declared.token.Word.TheVariants as word
+use Rattle.lab_table.specs.declared.word.Word.TheVariants as word
 use Rattle.lab_statement.specs.declared.token.Token.{Token}
 use Rattle.lab_statement.specs.declared.token.Token.TheVariants as token
 use Rattle.lab_statement.specs.Grammar.{over, IsWhere, IsExpr, IsRow, IsStatement}
@@ -21,7 +21,7 @@ use Rattle.lab_statement.specs.Printed.{printed_where, printed_expr, printed_row
 use Rattle.lab_statement.specs.Text.{SpellsStatement}
 use Rattle.lab_statement.specs.Ranges.{WhereInRange, ExprInRange, RowInRange, ValueInRange, KindInRange, StatementInRange}
 use Rattle.lab_statement.proofs.PrintedText.{Plain, all_plain, dash_plain, append_plain, plain_code, Leads, Reads, Breaks, empty_reads, reads_all, leads_reads, leads_leads, leads_then, cut_leads, reads_then, reads_between, literal}
-use Rattle.lab_statement.proofs.PrintedNames.{name_token, name_reads}
+use Rattle.lab_statement.proofs.PrintedNames.{name_reads}
 use Rattle.lab_statement.proofs.PrintedNumbers.{comma_leads, number_tokens, number_reads, number_fits, decimal_reads}
 use Rattle.lab_statement.proofs.PrintedTokens.{pred_tokens, pred_fits}
 use Rattle.lab_statement.proofs.PrintedPreds.{pred_reads, open_leads, close_leads}
@@ -97,12 +97,12 @@ row_fits id z r h = grammar.row (grammar.named id (grammar.positive id (omega ar
 
 -- the tokens of a printed statement of this kind
 abbrev pub kind_tokens : List ℕ → StatementKind → List Token
-kind_tokens table (kind.Select p) = token.Word word.Select ∷ token.Star ∷ token.Word word.From ∷ name_token table ∷ where_tokens p
-kind_tokens table (kind.Update e p) = token.Word word.Update ∷ name_token table ∷ token.Word word.Set ∷ token.Word word.Value ∷ token.Equal ∷ expr_tokens e ++ where_tokens p
+kind_tokens table (kind.Select p) = token.Word word.Select ∷ token.Star ∷ token.Word word.From ∷ token.Name table ∷ where_tokens p
+kind_tokens table (kind.Update e p) = token.Word word.Update ∷ token.Name table ∷ token.Word word.Set ∷ token.Word word.Value ∷ token.Equal ∷ expr_tokens e ++ where_tokens p
 kind_tokens table (kind.Insert id z) =
-    token.Word word.Insert ∷ token.Word word.Into ∷ name_token table ∷ token.Open ∷ token.Word word.Id ∷ token.Comma ∷ token.Word word.Value ∷ token.Close
+    token.Word word.Insert ∷ token.Word word.Into ∷ token.Name table ∷ token.Open ∷ token.Word word.Id ∷ token.Comma ∷ token.Word word.Value ∷ token.Close
     ∷ token.Word word.Values ∷ row_tokens id z
-kind_tokens table (kind.Delete p) = token.Word word.Delete ∷ token.Word word.From ∷ name_token table ∷ where_tokens p
+kind_tokens table (kind.Delete p) = token.Word word.Delete ∷ token.Word word.From ∷ token.Name table ∷ where_tokens p
 
 -- the tokens of a printed statement
 abbrev pub statement_tokens : Statement → List Token
@@ -129,38 +129,38 @@ values_leads : Leads (codes " (id, value) values ") (token.Open ∷ token.Word w
 values_leads = literal (λ rest. refl) refl
 
 module _ (table : List ℕ) (named : is_table_name table ≡ true) where
-  select_reads : Reads (codes "select * from " ++ table) (token.Word word.Select ∷ token.Star ∷ token.Word word.From ∷ name_token table ∷ [])
-  select_reads = leads_then (codes "select * from ") table _ (name_token table ∷ []) select_leads (name_reads table named)
+  select_reads : Reads (codes "select * from " ++ table) (token.Word word.Select ∷ token.Star ∷ token.Word word.From ∷ token.Name table ∷ [])
+  select_reads = leads_then (codes "select * from ") table _ (token.Name table ∷ []) select_leads (name_reads table named)
 
-  delete_reads : Reads (codes "delete from " ++ table) (token.Word word.Delete ∷ token.Word word.From ∷ name_token table ∷ [])
-  delete_reads = leads_then (codes "delete from ") table _ (name_token table ∷ []) delete_leads (name_reads table named)
+  delete_reads : Reads (codes "delete from " ++ table) (token.Word word.Delete ∷ token.Word word.From ∷ token.Name table ∷ [])
+  delete_reads = leads_then (codes "delete from ") table _ (token.Name table ∷ []) delete_leads (name_reads table named)
 
-  update_front : Leads (codes "update " ++ table ++ codes " set value = ") (token.Word word.Update ∷ name_token table ∷ token.Word word.Set ∷ token.Word word.Value ∷ token.Equal ∷ [])
+  update_front : Leads (codes "update " ++ table ++ codes " set value = ") (token.Word word.Update ∷ token.Name table ∷ token.Word word.Set ∷ token.Word word.Value ∷ token.Equal ∷ [])
   update_front =
-      cut_leads (codes "update " ++ table) (codes " set value = ") (token.Word word.Update ∷ name_token table ∷ []) _
-      (leads_then (codes "update ") table _ (name_token table ∷ []) update_leads (name_reads table named)) (λ rest. refl) set_leads
+      cut_leads (codes "update " ++ table) (codes " set value = ") (token.Word word.Update ∷ token.Name table ∷ []) _
+      (leads_then (codes "update ") table _ (token.Name table ∷ []) update_leads (name_reads table named)) (λ rest. refl) set_leads
 
   insert_front : Leads (codes "insert into " ++ table ++ codes " (id, value) values ")
-      (token.Word word.Insert ∷ token.Word word.Into ∷ name_token table ∷ token.Open ∷ token.Word word.Id ∷ token.Comma ∷ token.Word word.Value ∷ token.Close ∷ token.Word word.Values ∷ [])
+      (token.Word word.Insert ∷ token.Word word.Into ∷ token.Name table ∷ token.Open ∷ token.Word word.Id ∷ token.Comma ∷ token.Word word.Value ∷ token.Close ∷ token.Word word.Values ∷ [])
   insert_front =
-      cut_leads (codes "insert into " ++ table) (codes " (id, value) values ") (token.Word word.Insert ∷ token.Word word.Into ∷ name_token table ∷ []) _
-      (leads_then (codes "insert into ") table _ (name_token table ∷ []) insert_leads (name_reads table named)) (λ rest. refl) values_leads
+      cut_leads (codes "insert into " ++ table) (codes " (id, value) values ") (token.Word word.Insert ∷ token.Word word.Into ∷ token.Name table ∷ []) _
+      (leads_then (codes "insert into ") table _ (token.Name table ∷ []) insert_leads (name_reads table named)) (λ rest. refl) values_leads
 
   -- a printed statement has its tokens
   kind_reads : (k : StatementKind) → KindInRange k → Reads (printed_kind table k) (kind_tokens table k)
   kind_reads (kind.Select p) h =
-      reads_then (codes "select * from " ++ table) (printed_where p) (token.Word word.Select ∷ token.Star ∷ token.Word word.From ∷ name_token table ∷ [])
+      reads_then (codes "select * from " ++ table) (printed_where p) (token.Word word.Select ∷ token.Star ∷ token.Word word.From ∷ token.Name table ∷ [])
       (where_tokens p) select_reads (where_breaks p) (where_reads p h)
   kind_reads (kind.Update e p) h =
       reads_then (codes "update " ++ table ++ codes " set value = " ++ printed_expr e) (printed_where p)
-      (token.Word word.Update ∷ name_token table ∷ token.Word word.Set ∷ token.Word word.Value ∷ token.Equal ∷ expr_tokens e) (where_tokens p)
+      (token.Word word.Update ∷ token.Name table ∷ token.Word word.Set ∷ token.Word word.Value ∷ token.Equal ∷ expr_tokens e) (where_tokens p)
       (leads_then (codes "update " ++ table ++ codes " set value = ") (printed_expr e)
-      (token.Word word.Update ∷ name_token table ∷ token.Word word.Set ∷ token.Word word.Value ∷ token.Equal ∷ []) (expr_tokens e) update_front (expr_reads e h.0))
+      (token.Word word.Update ∷ token.Name table ∷ token.Word word.Set ∷ token.Word word.Value ∷ token.Equal ∷ []) (expr_tokens e) update_front (expr_reads e h.0))
       (where_breaks p) (where_reads p h.1)
   kind_reads (kind.Insert id z) h =
       leads_reads _ _ (leads_leads (codes "insert into " ++ table ++ codes " (id, value) values ") (printed_row id z) _ (row_tokens id z) insert_front (row_leads id z h.0 h.1))
   kind_reads (kind.Delete p) h =
-      reads_then (codes "delete from " ++ table) (printed_where p) (token.Word word.Delete ∷ token.Word word.From ∷ name_token table ∷ []) (where_tokens p) delete_reads (where_breaks p) (where_reads p h)
+      reads_then (codes "delete from " ++ table) (printed_where p) (token.Word word.Delete ∷ token.Word word.From ∷ token.Name table ∷ []) (where_tokens p) delete_reads (where_breaks p) (where_reads p h)
 
   -- the tokens of a printed statement are in the grammar
   kind_fits : (k : StatementKind) → KindInRange k → kind_depth k ≤ 16 → IsStatement (kind_tokens table k) (over table k)

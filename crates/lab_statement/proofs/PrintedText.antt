@@ -9,7 +9,7 @@ use Rattle.std.proofs.lemmas.Bool.{not-true, and_from, and_parts}
 use Rattle.std.proofs.Math.Bool.{and-false}
 use Rattle.lab_statement.specs.declared.token.Token.{Token}
 use Rattle.lab_statement.specs.declared.token.Token.TheVariants as token
-use Rattle.lab_statement.specs.Token.{letters, whole, is_letter, word_named, tokens, tokens_from, longer_token}
+use Rattle.lab_statement.specs.Token.{letters, whole, is_letter, word_token, tokens, tokens_from, longer_token}
 use Rattle.lab_statement.specs.Text.{begins_remark, code_of, remark_of, is_code_byte}
 use Rattle.lab_statement.proofs.Tokens.{breaks, digit_ends, whole_run}
 
@@ -25,7 +25,7 @@ both false true h = absurd cc
 both true w h = absurd cc
 
 -- a word ends before what breaks it
-pub word_ends : (word rest : List ℕ) → breaks_here rest ≡ true → tokens_from (letters word) rest ≡ token.Word (word_named word) ∷ tokens rest
+pub word_ends : (word rest : List ℕ) → breaks_here rest ≡ true → tokens_from (letters word) rest ≡ word_token word ∷ tokens rest
 word_ends word [] h = refl
 word_ends word (b ∷ bs) h =
     breaks (letters word) b bs (ap (λ (v : Bool). cond v (Some (letters (word ++ to_ascii_lowercase b ∷ []))) None) (both (is_letter b) (is_ascii_digit b) h).0)

@@ -4,16 +4,16 @@ use Rattle.lab_table.specs.Predicate as predicate
 use Rattle.lab_table.specs.declared.predicate.Col.{Col}
 use Rattle.lab_table.specs.declared.predicate.Cmp.{Cmp}
 use Rattle.lab_table.specs.declared.predicate.Cmp.TheVariants as cmp
-use Rattle.lab_statement.specs.declared.token.Word.TheVariants as word
+use Rattle.lab_table.specs.declared.word.Word.TheVariants as word
 use Rattle.lab_statement.specs.declared.token.Token.{Token}
 use Rattle.lab_statement.specs.declared.token.Token.TheVariants as token
 use Rattle.lab_statement.specs.Grammar.{IsAtom, col_token, cmp_token}
 use Rattle.lab_statement.specs.Grammar as grammar
 use Rattle.lab_statement.specs.Reading.{after}
-use Rattle.lab_statement.specs.Stopping.{Reads, token_read, number_read, col_read, cmp_read, modulus_read, number_list_read, compare_read, remainder_read, one_of_read, atom_read}
+use Rattle.lab_statement.specs.Stopping.{Reads, token_read, number_read, col_read, cmp_read, positive_read, number_list_read, compare_read, remainder_read, one_of_read, atom_read}
 use Rattle.lab_statement.proofs.Readings.{bind_reads, found_reads, reads_is, token_is}
-use Rattle.lab_statement.proofs.ReadNumbers.{Taken, number_again, number_takes, under}
-use Rattle.lab_statement.proofs.AtomParts.{col_again, col_takes, cmp_again, cmp_takes, modulus_again, modulus_takes, number_list_again, number_list_takes}
+use Rattle.lab_statement.proofs.ReadNumbers.{Taken, number_again, number_takes, positive_again, positive_takes, under}
+use Rattle.lab_statement.proofs.AtomParts.{col_again, col_takes, cmp_again, cmp_takes, number_list_again, number_list_takes}
 
 -- an atom
 
@@ -33,7 +33,7 @@ atom_again (grammar.compare {ts} c m h) rest =
 atom_again (grammar.one_of {ts} c h) rest =
     rw (append_assoc ts (token.Close ∷ []) rest, col_again c (token.Word word.In ∷ token.Open ∷ (ts ++ token.Close ∷ rest)), number_list_again h rest) refl
 atom_again (grammar.remainder {ms} {rs} c hm low high hr) rest =
-    rw (append_assoc ms (token.Equal ∷ rs) rest, col_again c (token.Percent ∷ (ms ++ (token.Equal ∷ rs ++ rest))), modulus_again _ hm low high (token.Equal ∷ rs ++ rest), number_again hr rest) refl
+    rw (append_assoc ms (token.Equal ∷ rs) rest, col_again c (token.Percent ∷ (ms ++ (token.Equal ∷ rs ++ rest))), positive_again 1000000 _ hm low high (token.Equal ∷ rs ++ rest), number_again hr rest) refl
 
 compare_takes : (c : Col) (ts : List Token) (x : Predicate × List Token) → compare_read c ts ≡ Reads x → Taken IsAtom (col_token c ∷ ts) x
 unfolding compare_read
@@ -47,10 +47,10 @@ compare_takes c ts x e =
 remainder_takes : (c : Col) (ts : List Token) (x : Predicate × List Token) → remainder_read c ts ≡ Reads x → Taken IsAtom (col_token c ∷ token.Percent ∷ ts) x
 unfolding remainder_read
 remainder_takes c ts x e =
-    let a = bind_reads (modulus_read ts) _ x e in
+    let a = bind_reads (positive_read 1000000 ts) _ x e in
     let b = bind_reads (token_read token.Equal a.0.1) _ x a.2 in
     let d = bind_reads (number_read b.0) _ x b.2 in
-    let m = modulus_takes ts a.0 a.1 in
+    let m = positive_takes 1000000 ts a.0 a.1 in
     let n = number_takes b.0 d.0 d.1 in
     subst (Taken IsAtom (col_token c ∷ token.Percent ∷ ts)) (reads_is (predicate.Remainder c a.0.0 d.0.0, d.0.1) x d.2) (
       col_token c ∷ token.Percent ∷ token.Digits a.0.0 ∷ token.Equal ∷ n.0,

@@ -1,13 +1,14 @@
 -- Numbers that are read are numbers of the grammar, and the other way round.
-use Rattle.std.proofs.Common.{◌≡◌, ℕ, ◌≤◌, Bool, cond, List, [], ◌∷◌, ◌++◌, refl, ap, subst, ◌∙◌}
-use Rattle.std.specs.Prelude.{ℤ, pos, ◌-ℤ◌, nat_le}
-use Rattle.std.proofs.lemmas.Bool.{le-leb, leb-true}
+use Rattle.std.proofs.Common.{◌≡◌, ℕ, zero, suc, ◌≤◌, Bool, cond, List, [], ◌∷◌, ◌++◌, refl, sym, ap, subst, ◌∙◌, arith}
+use Rattle.std.specs.Prelude.{ℤ, pos, negsuc, ◌-ℤ◌, ◌&&◌, nat_le}
+use Rattle.std.proofs.lemmas.Bool.{le-leb, leb-true, and_parts}
+use Rattle.std.proofs.Math.IntN.{pos-ne-negsuc, +ℤ_idl}
 use Rattle.lab_statement.specs.declared.fault.ScriptFaultKind.TheVariants.{NumberOutOfRange}
 use Rattle.lab_statement.specs.declared.token.Token.{Token}
 use Rattle.lab_statement.specs.declared.token.Token.TheVariants as token
 use Rattle.lab_statement.specs.Grammar.{IsNumber}
 use Rattle.lab_statement.specs.Grammar as grammar
-use Rattle.lab_statement.specs.Stopping.{Reads, Stops, ◌>>=◌, digits_read, magnitude_read, number_read}
+use Rattle.lab_statement.specs.Stopping.{Reads, Stops, ◌>>=◌, digits_read, magnitude_read, number_read, positive_read}
 use Rattle.lab_statement.proofs.Readings.{bind_reads, cond_reads, found_reads, reads_is}
 
 pub under : (t : Token) (ts us : List Token) → ts ≡ us → t ∷ ts ≡ t ∷ us
@@ -58,3 +59,30 @@ number_then {X} f ts x e =
     let a = bind_reads (number_read ts) _ x e in
     let n = number_takes ts a.0 a.1 in
     subst (λ (y : X × List Token). (front : List Token) × (z : ℤ) × (ts ≡ front ++ y.1) × IsNumber front z × (f z ≡ y.0)) (reads_is (f a.0.0, a.0.1) x a.2) (n.0, a.0.0, n.1, n.2, refl)
+
+-- what a minus stands before isn't positive
+not_negative : (n m : ℕ) → pos 0 -ℤ pos n ≡ pos m → 1 ≤ m → ⊥
+not_negative zero m is low = let none : 0 ≡ m = cc in omega (arith, none, low)
+not_negative (suc n) m is low = pos-ne-negsuc m n (sym is ∙ +ℤ_idl (negsuc n))
+
+unsigned_again : {ts : List Token} (z : ℤ) (most m : ℕ) → IsNumber ts z → z ≡ pos m → 1 ≤ m → m ≤ most → (rest : List Token) → positive_read most (ts ++ rest) ≡ Reads (m, rest)
+unfolding positive_read digits_read
+unsigned_again _ most m (grammar.positive n le) is low high rest =
+    let same : n ≡ m = cc in
+    rw (same, le-leb 1 m low, le-leb m most high) refl
+unsigned_again _ most m (grammar.negative n le) is low high rest = absurd (not_negative n m is low)
+
+-- a number of the grammar from 1 on is read, whatever follows it
+pub positive_again : {ts : List Token} (most m : ℕ) → IsNumber ts (pos m) → 1 ≤ m → m ≤ most → (rest : List Token) → positive_read most (ts ++ rest) ≡ Reads (m, rest)
+positive_again most m number low high rest = unsigned_again (pos m) most m number refl low high rest
+
+-- what is read as one is digits
+pub positive_takes : (most : ℕ) (ts : List Token) (x : ℕ × List Token) → positive_read most ts ≡ Reads x → (ts ≡ token.Digits x.0 ∷ x.1) × (1 ≤ x.0) × (x.0 ≤ most)
+unfolding positive_read
+positive_takes most ts x e = found_reads token.Minus ts _ _ x e
+    (λ rest is h. let a = bind_reads (digits_read rest) _ x h in absurd cc)
+    (λ none h.
+    let a = bind_reads (digits_read ts) _ x h in
+    let g = cond_reads (nat_le 1 a.0.0 && nat_le a.0.0 most) a.0 x _ _ a.2 in
+    let both = and_parts (nat_le 1 a.0.0) (nat_le a.0.0 most) g.0 in
+    subst (λ (y : ℕ × List Token). (ts ≡ token.Digits y.0 ∷ y.1) × (1 ≤ y.0) × (y.0 ≤ most)) g.1 (digits_take ts a.0 a.1, leb-true _ _ both.0, leb-true _ _ both.1))

@@ -2,7 +2,7 @@ use Rattle.std.proofs.Common.{◌≡◌, ℕ, zero, suc, ◌≤◌, List, [], �
 use Rattle.lab_table.specs.Predicate.{Predicate}
 use Rattle.lab_table.specs.Predicate as predicate
 use Rattle.lab_table.specs.declared.predicate.Col.TheVariants as col
-use Rattle.lab_statement.specs.declared.token.Word.TheVariants as word
+use Rattle.lab_table.specs.declared.word.Word.TheVariants as word
 use Rattle.lab_statement.specs.declared.token.Token.{Token}
 use Rattle.lab_statement.specs.declared.token.Token.TheVariants as token
 use Rattle.lab_statement.specs.Grammar.{Kind, P, A, N, IsAtom, IsPred, IsWhere}
@@ -12,15 +12,15 @@ use Rattle.lab_statement.specs.Stopping.{Reads, token_read, atom_read, joined_re
 use Rattle.lab_statement.proofs.Readings.{bind_reads, found_reads, reads_is, token_is}
 use Rattle.lab_statement.proofs.ReadNumbers.{Taken, under}
 use Rattle.lab_statement.proofs.ReadAtoms.{atom_again, atom_takes}
-use Rattle.lab_statement.proofs.StoppedLoops.{Reader, starts, goes_on, ends}
+use Rattle.lab_statement.proofs.StoppedLoops.{Reader, ReadsOn, starts, goes_on, ends}
 
 -- What is in the grammar is read.
 
 -- what reading gives in front of a rest: the value at once, or a value with which the loop goes on
 abbrev Again : ℕ → Kind → List Token → Predicate → Type 0
 Again d N ts p = (rest : List Token) → term_read d (ts ++ rest) ≡ Reads (p, rest)
-Again d A ts p = (rest : List Token) → (k : ℕ) × (length rest ≤ k) × (conj_read d (ts ++ rest) ≡ more_read k (term_read d) (token.Word word.And) predicate.And p rest)
-Again d P ts p = (rest : List Token) → after (token.Word word.And) rest ≡ None → (k : ℕ) × (length rest ≤ k) × (pred_read d (ts ++ rest) ≡ more_read k (conj_read d) (token.Word word.Or) predicate.Or p rest)
+Again d A ts p = (rest : List Token) → ReadsOn (term_read d) (token.Word word.And) predicate.And p rest (conj_read d (ts ++ rest))
+Again d P ts p = (rest : List Token) → after (token.Word word.And) rest ≡ None → ReadsOn (conj_read d) (token.Word word.Or) predicate.Or p rest (pred_read d (ts ++ rest))
 
 atom_term : (d : ℕ) {ts : List Token} {p : Predicate} → IsAtom ts p → (rest : List Token) → term_read d (ts ++ rest) ≡ Reads (p, rest)
 unfolding term_read
@@ -41,15 +41,11 @@ shorter : (a b : List Token) → length b ≤ length (a ++ b)
 shorter a b = grind (arith, length-append)
 
 conj_whole : (d : ℕ) (ts rest : List Token) (p : Predicate) → Again d A ts p → after (token.Word word.And) rest ≡ None → conj_read d (ts ++ rest) ≡ Reads (p, rest)
-conj_whole d ts rest p h none =
-    let s = h rest in
-    s.2 ∙ ends (term_read d) (token.Word word.And) predicate.And s.0 p rest (more_read s.0 (term_read d) (token.Word word.And) predicate.And p rest) refl none
+conj_whole d ts rest p h none = ends (h rest) none
 
 pred_whole : (d : ℕ) (ts rest : List Token) (p : Predicate) → Again d P ts p → after (token.Word word.And) rest ≡ None → after (token.Word word.Or) rest ≡ None
     → pred_read d (ts ++ rest) ≡ Reads (p, rest)
-pred_whole d ts rest p h none none' =
-    let s = h rest none in
-    s.2 ∙ ends (conj_read d) (token.Word word.Or) predicate.Or s.0 p rest (more_read s.0 (conj_read d) (token.Word word.Or) predicate.Or p rest) refl none'
+pred_whole d ts rest p h none none' = ends (h rest none) none'
 
 again : {d : ℕ} {kind : Kind} {ts : List Token} {p : Predicate} → IsPred d kind ts p → Again d kind ts p
 unfolding term_read conj_read pred_read
@@ -58,20 +54,13 @@ again (grammar.negation h) = λ rest. rw (again h rest) refl
 again (grammar.parenthesized {d} {ts} {p} h) = λ rest.
     ap (term_read (suc d)) (ap (λ (x : List Token). token.Open ∷ x) (append_assoc ts (token.Close ∷ []) rest))
     ∙ rw (pred_whole d ts (token.Close ∷ rest) p (again h) refl refl) refl
-again (grammar.one_factor {d} {ts} {p} h) = λ rest.
-    (length rest, omega arith, sym (starts (term_read d) (token.Word word.And) predicate.And (ts ++ rest) rest p (again h rest)))
+again (grammar.one_factor {d} {ts} {p} h) = λ rest. starts (term_read d) (token.Word word.And) predicate.And (again h rest)
 again (grammar.conjunction {d} {ts} {rest = others} {p} {q} hp hq) = λ rest.
-    let s = again hp (token.Word word.And ∷ others ++ rest) in
-    let g = goes_on (term_read d) (token.Word word.And) predicate.And s.0 p q (token.Word word.And ∷ others ++ rest) (others ++ rest) rest _ s.1 refl refl (omega arith)
-    (again hq rest) (shorter others rest) in
-    (g.0, g.1, ap (conj_read d) (append_assoc ts (token.Word word.And ∷ others) rest) ∙ s.2 ∙ sym g.2)
-again (grammar.one_member {d} {ts} {p} h) = λ rest none.
-    (length rest, omega arith, sym (starts (conj_read d) (token.Word word.Or) predicate.Or (ts ++ rest) rest p (conj_whole d ts rest p (again h) none)))
+    rw (append_assoc ts (token.Word word.And ∷ others) rest) (goes_on (again hp (token.Word word.And ∷ others ++ rest)) refl (omega arith) (again hq rest) (shorter others rest) refl)
+again (grammar.one_member {d} {ts} {p} h) = λ rest none. starts (conj_read d) (token.Word word.Or) predicate.Or (conj_whole d ts rest p (again h) none)
 again (grammar.disjunction {d} {ts} {rest = others} {p} {q} hp hq) = λ rest none.
-    let s = again hp (token.Word word.Or ∷ others ++ rest) refl in
-    let g = goes_on (conj_read d) (token.Word word.Or) predicate.Or s.0 p q (token.Word word.Or ∷ others ++ rest) (others ++ rest) rest _ s.1 refl refl (omega arith)
-    (conj_whole d others rest q (again hq) none) (shorter others rest) in
-    (g.0, g.1, ap (pred_read d) (append_assoc ts (token.Word word.Or ∷ others) rest) ∙ s.2 ∙ sym g.2)
+    rw (append_assoc ts (token.Word word.Or ∷ others) rest)
+    (goes_on (again hp (token.Word word.Or ∷ others ++ rest) refl) refl (omega arith) (conj_whole d others rest q (again hq) none) (shorter others rest) refl)
 
 -- a predicate of the grammar is read as itself
 pub pred_again : {ts : List Token} {p : Predicate} (d : ℕ) → IsPred d P ts p → (rest : List Token) → after (token.Word word.And) rest ≡ None

@@ -5,7 +5,7 @@ use Rattle.lab_table.specs.declared.statement.Statement.{Statement}
 use Rattle.lab_table.specs.declared.statement.StatementKind.TheVariants as kind
 use Rattle.lab_table.specs.declared.statement.Expr.{Expr}
 use Rattle.lab_table.specs.declared.statement.Expr.TheVariants as expr
-use Rattle.lab_statement.specs.declared.token.Word.TheVariants as word
+use Rattle.lab_table.specs.declared.word.Word.TheVariants as word
 use Rattle.lab_statement.specs.declared.token.Token.{Token}
 use Rattle.lab_statement.specs.declared.token.Token.TheVariants as token
 use Rattle.lab_statement.specs.Grammar.{over, IsNumber, IsExpr, IsStatement, IsEnd, IsWholeStatement}
@@ -70,9 +70,9 @@ select_takes ts x e =
     let n = bind_reads (name_read a.0) _ x a.2 in
     let w = bind_reads (where_read n.0.1) _ x n.2 in
     let p = where_takes n.0.1 w.0 w.1 in
-    let behind : a.0 ≡ token.Word (word.Name n.0.0) ∷ (p.0 ++ w.0.1) = name_takes a.0 n.0 n.1 ∙ under _ _ _ p.1 in
+    let behind : a.0 ≡ token.Name n.0.0 ∷ (p.0 ++ w.0.1) = name_takes a.0 n.0 n.1 ∙ under _ _ _ p.1 in
     subst (Taken IsStatement (token.Word word.Select ∷ ts)) (reads_is (over n.0.0 (kind.Select w.0.0), w.0.1) x w.2) (
-      token.Word word.Select ∷ token.Star ∷ token.Word word.From ∷ token.Word (word.Name n.0.0) ∷ p.0,
+      token.Word word.Select ∷ token.Star ∷ token.Word word.From ∷ token.Name n.0.0 ∷ p.0,
       under _ _ _ (tokens_are front ts a.0 a.1 ∙ ap (λ (r : List Token). front ++ r) behind),
       grammar.select n.0.0 p.2,
     )
@@ -89,7 +89,7 @@ update_takes ts x e =
     let p = where_takes g.0.1 w.0 w.1 in
     let behind : a.0 ≡ (h.0 ++ p.0) ++ w.0.1 = h.1 ∙ ap (λ (r : List Token). h.0 ++ r) p.1 ∙ sym (append_assoc h.0 p.0 w.0.1) in
     subst (Taken IsStatement (token.Word word.Update ∷ ts)) (reads_is (over n.0.0 (kind.Update g.0.0 w.0.0), w.0.1) x w.2) (
-      token.Word word.Update ∷ token.Word (word.Name n.0.0) ∷ token.Word word.Set ∷ token.Word word.Value ∷ token.Equal ∷ h.0 ++ p.0,
+      token.Word word.Update ∷ token.Name n.0.0 ∷ token.Word word.Set ∷ token.Word word.Value ∷ token.Equal ∷ h.0 ++ p.0,
       under _ _ _
           (name_takes ts n.0 n.1 ∙ under _ _ _ (tokens_are front n.0.1 a.0 a.1 ∙ ap (λ (r : List Token). front ++ r) behind)),
       grammar.update n.0.0 h.2 p.2,
@@ -104,10 +104,10 @@ insert_takes ts x e =
     let a = bind_reads (tokens_read front n.0.1) _ x n.2 in
     let r = bind_reads (row_read a.0) _ x a.2 in
     let p = row_takes a.0 r.0 r.1 in
-    let behind : i.0 ≡ token.Word (word.Name n.0.0) ∷ (front ++ (p.0 ++ r.0.1)) =
+    let behind : i.0 ≡ token.Name n.0.0 ∷ (front ++ (p.0 ++ r.0.1)) =
     name_takes i.0 n.0 n.1 ∙ under _ _ _ (tokens_are front n.0.1 a.0 a.1 ∙ ap (λ (u : List Token). front ++ u) p.1) in
     subst (Taken IsStatement (token.Word word.Insert ∷ ts)) (reads_is (over n.0.0 (kind.Insert r.0.0.0 r.0.0.1), r.0.1) x r.2) (
-      token.Word word.Insert ∷ token.Word word.Into ∷ token.Word (word.Name n.0.0) ∷ front ++ p.0,
+      token.Word word.Insert ∷ token.Word word.Into ∷ token.Name n.0.0 ∷ front ++ p.0,
       under _ _ _ (token_is (token.Word word.Into) ts i.0 i.1 ∙ under _ _ _ behind),
       grammar.insert n.0.0 p.2,
     )
@@ -119,9 +119,9 @@ delete_takes ts x e =
     let n = bind_reads (name_read a.0) _ x a.2 in
     let w = bind_reads (where_read n.0.1) _ x n.2 in
     let p = where_takes n.0.1 w.0 w.1 in
-    let behind : a.0 ≡ token.Word (word.Name n.0.0) ∷ (p.0 ++ w.0.1) = name_takes a.0 n.0 n.1 ∙ under _ _ _ p.1 in
+    let behind : a.0 ≡ token.Name n.0.0 ∷ (p.0 ++ w.0.1) = name_takes a.0 n.0 n.1 ∙ under _ _ _ p.1 in
     subst (Taken IsStatement (token.Word word.Delete ∷ ts)) (reads_is (over n.0.0 (kind.Delete w.0.0), w.0.1) x w.2)
-    (token.Word word.Delete ∷ token.Word word.From ∷ token.Word (word.Name n.0.0) ∷ p.0, under _ _ _ (token_is (token.Word word.From) ts a.0 a.1 ∙ under _ _ _ behind), grammar.delete n.0.0 p.2)
+    (token.Word word.Delete ∷ token.Word word.From ∷ token.Name n.0.0 ∷ p.0, under _ _ _ (token_is (token.Word word.From) ts a.0 a.1 ∙ under _ _ _ behind), grammar.delete n.0.0 p.2)
 
 -- what is read as a statement is one of the grammar
 pub statement_takes : (ts : List Token) (x : Statement × List Token) → statement_read ts ≡ Reads x → Taken IsStatement ts x

@@ -1,5 +1,5 @@
 -- Tokens that their derived test finds the same are the same.
-use Rattle.std.proofs.Common.{◌≡◌, ℕ, Bool, true, false, cond, inl, inr, List, [], ◌∷◌, Some, None, refl, sym, ap, ◌∙◌}
+use Rattle.std.proofs.Common.{rules, ◌≡◌, ℕ, Bool, true, false, cond, inl, inr, List, [], ◌∷◌, Some, None, refl, sym, ap, ◌∙◌}
 use Rattle.std.specs.Cmp.Lexicographic.{bytes_decides}
 use Rattle.std.proofs.lemmas.Bool.{eqb-true, cases_Bool, false≢true}
 use Rattle.std.proofs.lemmas.Option.{none-some, same_Some}
@@ -7,10 +7,11 @@ use denote.Struct.Field.{Field}
 use denote.Struct.Values.{Values}
 use denote.Enum.Declared.{Choice, Record, values_one}
 use denote.Enum.Compared.{Each, by}
-use Rattle.lab_statement.specs.declared.token.Word.{Word}
+use denote.Enum.Bare.{same_true}
+use Rattle.lab_table.specs.declared.word.Word.{Word}
 use Rattle.lab_statement.specs.declared.token.Token.{Token}
-use Rattle.lab_statement.specs.contracts.token.Word as word
-use Rattle.lab_statement.specs.contracts.token.WordPartialEq.TheImpl as words
+use Rattle.lab_table.specs.contracts.word.Word as word
+use Rattle.lab_table.specs.contracts.word.WordPartialEq.TheImpl as words
 use Rattle.lab_statement.specs.contracts.token.Token as token
 use Rattle.lab_statement.specs.Reading.{is_token, after}
 
@@ -34,12 +35,15 @@ same_variant N each all x y e = values_one N x y (same_choice N.parts each all (
 
 -- words and tokens that their tests find the same are the same
 same_word : (w v : Word) → words.ghosts.eq w v ≡ true → w ≡ v
-same_word = same_variant word.enum _ (λ x y e. ap (λ (name : List ℕ). (name, tt)) ((bytes_decides x.0 y.0).0 e), tt)
+same_word = same_true word.the_type (search rules)
 
 pub same_token : (t u : Token) → is_token t u ≡ true → t ≡ u
 same_token = same_variant token.enum _ (
   λ x y e. ap (λ (w : Word). (w, tt)) (same_word x.0 y.0 e),
-  (λ x y e. ap (λ (n : ℕ). (n, tt)) (eqb-true x.0 y.0 e), tt),
+  (
+    λ x y e. ap (λ (name : List ℕ). (name, tt)) ((bytes_decides x.0 y.0).0 e),
+    (λ x y e. ap (λ (n : ℕ). (n, tt)) (eqb-true x.0 y.0 e), tt),
+  ),
 )
 
 -- what stands behind a token that is found

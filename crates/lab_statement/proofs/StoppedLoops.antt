@@ -1,5 +1,5 @@
 -- Members with a connective between two of them, read by a loop that may stop at a fault.
-use Rattle.std.proofs.Common.{◌≡◌, ℕ, zero, suc, ◌≤◌, ◌<◌, List, length, Some, None, refl, sym, ◌∙◌, subst, arith}
+use Rattle.std.proofs.Common.{◌≡◌, ℕ, zero, suc, ◌≤◌, ◌<◌, List, length, Some, None, refl, sym, ap, ◌∙◌, arith}
 use Rattle.lab_table.specs.Predicate.{Predicate}
 use Rattle.lab_statement.specs.declared.token.Token.{Token}
 use Rattle.lab_statement.specs.declared.fault.Refusal.{Refusal}
@@ -10,40 +10,40 @@ use Rattle.lab_statement.proofs.Readings.{stops_as}
 abbrev pub Reader : Type 0 → Type 0
 Reader X = List Token → Reading (X × List Token)
 
-module _ {A X : Type 0} (member : Reader X) (connective : Token) (join : A → X → A) where
-  -- one member more
-  pub goes_on : (k : ℕ) (a : A) (x : X) (ts rest behind : List Token) (total : Reading (A × List Token)) → length ts ≤ k → more_read k member connective join a ts ≡ total
-      → after connective ts ≡ Some rest → length rest < length ts → member rest ≡ Reads (x, behind) → length behind ≤ length rest
-      → (j : ℕ) × (length behind ≤ j) × (more_read j member connective join (join a x) behind ≡ total)
-  unfolding more_read
-  goes_on zero a x ts rest behind total le so_far took lt read shorter = absurd (omega arith)
-  goes_on (suc k) a x ts rest behind total le so_far took lt read shorter = (k, omega arith, sym (rw (more_read, took, read) refl) ∙ so_far)
+-- with this joined and these tokens left, reading on comes to the whole
+pub data ReadsOn {A X : Type 0} (member : Reader X) (connective : Token) (join : A → X → A) (a : A) (ts : List Token) (whole : Reading (A × List Token)) : Type 0 where
+  within : (most : ℕ) → length ts ≤ most → more_read most member connective join a ts ≡ whole → ReadsOn member connective join a ts whole
 
-  -- the same, where the joined value has a name
-  pub goes_on_to : (k : ℕ) (a : A) (x : X) (b : A) (ts rest behind : List Token) (total : Reading (A × List Token)) → length ts ≤ k → more_read k member connective join a ts ≡ total
-      → after connective ts ≡ Some rest → length rest < length ts → member rest ≡ Reads (x, behind) → length behind ≤ length rest → join a x ≡ b
-      → (j : ℕ) × (length behind ≤ j) × (more_read j member connective join b behind ≡ total)
-  goes_on_to k a x b ts rest behind total le so_far took lt read shorter made =
-      subst (λ (c : A). (j : ℕ) × (length behind ≤ j) × (more_read j member connective join c behind ≡ total)) made (goes_on k a x ts rest behind total le so_far took lt read shorter)
+-- no connective is left
+pub ended : {A X : Type 0} (member : Reader X) (connective : Token) (join : A → X → A) (k : ℕ) (a : A) (ts : List Token) → after connective ts ≡ None → more_read k member connective join a ts ≡ Reads (a, ts)
+unfolding more_read
+ended member connective join zero a ts none = refl
+ended member connective join (suc k) a ts none = rw none refl
+
+module _ {A X : Type 0} {member : Reader X} {connective : Token} {join : A → X → A} where
+  -- one member more
+  pub goes_on : {a b : A} {x : X} {ts rest behind : List Token} {whole : Reading (A × List Token)} → ReadsOn member connective join a ts whole → after connective ts ≡ Some rest → length rest < length ts
+      → member rest ≡ Reads (x, behind) → length behind ≤ length rest → join a x ≡ b → ReadsOn member connective join b behind whole
+  unfolding more_read
+  goes_on (within zero le so_far) took lt read shorter made = absurd (omega arith)
+  goes_on {behind = behind} (within (suc k) le so_far) took lt read shorter made =
+      within k (omega arith) (ap (λ (c : A). more_read k member connective join c behind) (sym made) ∙ sym (rw (more_read, took, read) refl) ∙ so_far)
 
   -- a connective with no member behind it
-  pub next_stops : (k : ℕ) (a : A) (e : Refusal) (ts rest left : List Token) (total : Reading (A × List Token)) → length ts ≤ k → more_read k member connective join a ts ≡ total
-      → after connective ts ≡ Some rest → length rest < length ts → StopsAt e left (member rest) → StopsAt e left total
+  pub next_stops : {a : A} {ts rest : List Token} {whole : Reading (A × List Token)} (e : Refusal) (left : List Token) → ReadsOn member connective join a ts whole → after connective ts ≡ Some rest → length rest < length ts
+      → StopsAt e left (member rest) → StopsAt e left whole
   unfolding more_read
-  next_stops zero a e ts rest left total le so_far took lt stops = absurd (omega arith)
-  next_stops (suc k) a e ts rest left total le so_far took lt stops = stops_as e left (member rest) stops total (λ kind n. sym so_far ∙ rw (more_read, took, n) refl)
+  next_stops e left (within zero le so_far) took lt stops = absurd (omega arith)
+  next_stops {rest = rest} {whole = whole} e left (within (suc k) le so_far) took lt stops = stops_as e left (member rest) stops whole (λ kind n. sym so_far ∙ rw (more_read, took, n) refl)
 
-  -- no connective is left
-  pub ends : (k : ℕ) (a : A) (ts : List Token) (total : Reading (A × List Token)) → more_read k member connective join a ts ≡ total → after connective ts ≡ None → total ≡ Reads (a, ts)
-  unfolding more_read
-  ends zero a ts total so_far none = sym so_far
-  ends (suc k) a ts total so_far none = sym so_far ∙ rw (more_read, none) refl
+  pub ends : {a : A} {ts : List Token} {whole : Reading (A × List Token)} → ReadsOn member connective join a ts whole → after connective ts ≡ None → whole ≡ Reads (a, ts)
+  ends {a = a} {ts = ts} (within k le so_far) none = sym so_far ∙ ended member connective join k a ts none
 
 module _ (member : Reader Predicate) (connective : Token) (join : Predicate → Predicate → Predicate) where
   -- the first member
-  pub starts : (ts rest : List Token) (p : Predicate) → member ts ≡ Reads (p, rest) → more_read (length rest) member connective join p rest ≡ joined_read member connective join ts
+  pub starts : {ts rest : List Token} {p : Predicate} → member ts ≡ Reads (p, rest) → ReadsOn member connective join p rest (joined_read member connective join ts)
   unfolding joined_read
-  starts ts rest p h = rw h refl
+  starts {rest = rest} h = within (length rest) (omega arith) (rw h refl)
 
   pub first_stops : (e : Refusal) (ts left : List Token) → StopsAt e left (member ts) → StopsAt e left (joined_read member connective join ts)
   unfolding joined_read

@@ -1,15 +1,17 @@
 -- How tokens go on.
 use Rattle.std.proofs.Common.{◌≡◌, ℕ, ◌+◌, ◌-◌, ◌*◌, ◌<◌, Bool, true, false, cond, ◌==◌, List, [], ◌∷◌, ◌++◌, length, take, drop, map, Option, Some, None, refl, sym, ap, ◌∙◌, append_assoc, suc, arith, subst, get_or, drop-cons, add-one, inl, inr}
 use Rattle.std.proofs.Math.Numerals.{one-add}
-use Rattle.std.specs.Prelude.{is_some, unwrap_or}
+use Rattle.std.specs.Prelude.{if◌then◌else◌, is_some, option_map, unwrap_or}
 use Rattle.std.specs.List.{prefix_len}
 use Rattle.std.specs.Char.{to_ascii_lowercase, is_ascii_digit}
 use Rattle.std.proofs.lemmas.List.{append-nil}
 use Rattle.std.proofs.lemmas.Bool.{cases_Bool, false_from_ne_true, eqb-true}
-use Rattle.lab_statement.specs.declared.token.Word.{Word}
+use Rattle.lab_table.specs.declared.word.Word.{Word}
+use Rattle.lab_table.specs.TableName.{is_table_name}
+use Rattle.lab_table.specs.Words.{word_named}
 use Rattle.lab_statement.specs.declared.token.Token.{Token}
 use Rattle.lab_statement.specs.declared.token.Token.TheVariants as token
-use Rattle.lab_statement.specs.Token.{Part, letters, whole, is_letter, is_blank, word_named, mark, begun, longer, ended, longer_token, tokens, tokens_from}
+use Rattle.lab_statement.specs.Token.{Part, letters, whole, is_letter, is_blank, word_token, mark, begun, longer, ended, longer_token, tokens, tokens_from}
 use Rattle.lab_statement.specs.HeldTokens.{held, held_from, held_tokens}
 
 pub goes_on : (part more : Part) (b : ℕ) (bs : List ℕ) → longer part b ≡ Some more → tokens_from part (b ∷ bs) ≡ tokens_from more bs
@@ -26,7 +28,7 @@ no_more p b bs h = rw h refl
 
 -- a word, of this length
 abbrev word_then : List ℕ → List ℕ → ℕ → List Token
-word_then word bs k = token.Word (word_named (word ++ map to_ascii_lowercase (take k bs))) ∷ tokens (drop k bs)
+word_then word bs k = word_token (word ++ map to_ascii_lowercase (take k bs)) ∷ tokens (drop k bs)
 
 -- letters go on to the first byte that is none
 pub letters_run : (bs word : List ℕ) → tokens_from (letters word) bs ≡ word_then word bs (prefix_len is_letter bs)
@@ -35,11 +37,11 @@ letters_run (b ∷ bs) word =
     elim (cases_Bool (is_letter b)) [
       | inl is ↦ goes_on (letters word) (letters (word ++ to_ascii_lowercase b ∷ [])) b bs (ap (λ (v : Bool). cond v (Some (letters (word ++ to_ascii_lowercase b ∷ []))) None) is)
           ∙ letters_run bs (word ++ to_ascii_lowercase b ∷ [])
-          ∙ ap (λ (w : List ℕ). token.Word (word_named w) ∷ tokens (drop (prefix_len is_letter bs) bs))
+          ∙ ap (λ (w : List ℕ). word_token w ∷ tokens (drop (prefix_len is_letter bs) bs))
           (append_assoc word (to_ascii_lowercase b ∷ []) (map to_ascii_lowercase (take (prefix_len is_letter bs) bs)))
           ∙ ap (word_then word (b ∷ bs)) (one_more is_letter b bs is)
       | inr isnt ↦ breaks (letters word) b bs (ap (λ (v : Bool). cond v (Some (letters (word ++ to_ascii_lowercase b ∷ []))) None) isnt)
-          ∙ ap (λ (w : List ℕ). token.Word (word_named w) ∷ tokens (b ∷ bs)) (sym (append-nil word))
+          ∙ ap (λ (w : List ℕ). word_token w ∷ tokens (b ∷ bs)) (sym (append-nil word))
           ∙ ap (word_then word (b ∷ bs)) (no_more is_letter b bs isnt)
     ]
 
@@ -105,10 +107,14 @@ others b p q =
 pub comma_begins : (b : ℕ) (bs : List ℕ) → b ≡ 44 → held_tokens (b ∷ bs) ≡ token.Comma ∷ held_tokens bs
 comma_begins b bs is = rw is (ap (map held) (whole_run token.Comma bs (λ n. refl)))
 
+-- tokens of which the first is held as it is
+held_as : (ts us : List Token) (t : Token) → held t ≡ t → ts ≡ t ∷ us → map held ts ≡ t ∷ map held us
+held_as ts us t kept is = ap (map held) is ∙ ap (λ (u : Token). u ∷ map held us) kept
+
 mark_run : (b : ℕ) (bs : List ℕ) → (b == 60) ≡ false → (b == 62) ≡ false → held_from (whole (mark b)) bs ≡ mark b ∷ held_tokens bs
 mark_run b bs p q =
     let still = others b p q in
-    ap (map held) (whole_run (mark b) bs (λ n. still.ends n)) ∙ ap (λ (t : Token). t ∷ held_tokens bs) still.kept
+    held_as _ _ _ still.kept (whole_run (mark b) bs (λ n. still.ends n))
 
 isnt_eq : (a b : ℕ) → (a ≡ b → ⊥) → (a == b) ≡ false
 isnt_eq a b h = false_from_ne_true (a == b) (λ e. h (eqb-true a b e))
@@ -117,9 +123,19 @@ isnt_eq a b h = false_from_ne_true (a == b) (λ e. h (eqb-true a b e))
 pub other_mark : (b : ℕ) (bs : List ℕ) (t : Token) → t ≡ mark b → (b ≡ 60 → ⊥) → (b ≡ 62 → ⊥) → held_from (whole (mark b)) bs ≡ t ∷ held_tokens bs
 other_mark b bs t e p q = mark_run b bs (isnt_eq b 60 p) (isnt_eq b 62 q) ∙ ap (λ (u : Token). u ∷ held_tokens bs) (sym e)
 
-pub whole_word : (bs text rest : List ℕ) (len : ℕ) (word : Word) → len ≡ prefix_len is_letter bs → text ≡ take len bs → rest ≡ drop len bs
-    → word ≡ word_named (map to_ascii_lowercase text) → held_from (letters []) bs ≡ token.Word word ∷ held_tokens rest
-whole_word bs text rest len word p q r e = rw (e, q, r, p) (ap (map held) (letters_run bs []))
+-- a word is held as it is
+word_held : (text : List ℕ) → held (word_token text) ≡ word_token text
+word_held text = at (word_named text) (is_table_name text)
+  where
+    at : (word : Option Word) (named : Bool) → let t = unwrap_or (option_map (λ w. token.Word w) word) (if named then token.Name text else token.OtherWord) in held t ≡ t
+    at (Some w) named = refl
+    at None true = refl
+    at None false = refl
+
+pub whole_word : (bs text rest : List ℕ) (len : ℕ) (word : Token) → len ≡ prefix_len is_letter bs → text ≡ take len bs → rest ≡ drop len bs
+    → word ≡ word_token (map to_ascii_lowercase text) → held_from (letters []) bs ≡ word ∷ held_tokens rest
+whole_word bs text rest len word p q r e =
+    let n = prefix_len is_letter bs in rw (e, q, r, p) (held_as _ (tokens (drop n bs)) _ (word_held (map to_ascii_lowercase (take n bs))) (letters_run bs []))
 
 -- a token put behind those found, which begins what is left
 pub placed : (now found : List Token) (t : Token) (rest text after : List ℕ) → now ≡ found ++ t ∷ [] → found ++ held_tokens rest ≡ held_tokens text → held_tokens rest ≡ t ∷ held_tokens after

@@ -6,7 +6,7 @@ use Rattle.lab_table.specs.declared.statement.Expr.{Expr}
 use Rattle.lab_table.specs.declared.statement.Expr.TheVariants as expr
 use Rattle.lab_table.specs.declared.statement.Statement.{Statement}
 use Rattle.lab_table.specs.declared.statement.StatementKind.TheVariants as kind
-use Rattle.lab_statement.specs.declared.token.Word.TheVariants as word
+use Rattle.lab_table.specs.declared.word.Word.TheVariants as word
 use Rattle.lab_statement.specs.declared.token.Token.{Token}
 use Rattle.lab_statement.specs.declared.token.Token.TheVariants as token
 use Rattle.lab_statement.specs.declared.fault.ScriptFaultKind.{ScriptFaultKind}
@@ -91,11 +91,6 @@ whole_statement_read ts = do
   if nat_le (length (printed_statement s.0)) max_statement_bytes then (do
     end ← nothing_read rest
     Reads s.0) else Stops TooLong rest
-
--- whether a token is a word
-abbrev pub is_word : Token → Bool
-is_word (token.Word w) = true
-is_word t = false
 
 -- whether the printed form of a command is as short as it must be
 abbrev pub is_short : Option Command → Bool

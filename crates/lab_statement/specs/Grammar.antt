@@ -1,5 +1,5 @@
 -- The grammar of a statement: which tokens spell what. Each rule is a constructor.
-use Rattle.std.specs.Prelude.{◌≡◌, ℕ, suc, ◌≤◌, ℤ, pos, ◌-ℤ◌, List, [], ◌∷◌, ◌++◌, length, map, Option, Some, None}
+use Rattle.std.specs.Prelude.{◌≡◌, ℕ, suc, ◌≤◌, ℤ, pos, ◌-ℤ◌, List, [], ◌∷◌, ◌++◌, length, Option, Some, None}
 use Rattle.lab_table.specs.Predicate.{Predicate}
 use Rattle.lab_table.specs.Predicate as predicate
 use Rattle.lab_table.specs.declared.statement.Statement.{Statement}
@@ -11,16 +11,11 @@ use Rattle.lab_table.specs.declared.predicate.Cmp.{Cmp}
 use Rattle.lab_table.specs.declared.predicate.Cmp.TheVariants as cmp
 use Rattle.lab_table.specs.declared.statement.Expr.{Expr}
 use Rattle.lab_table.specs.declared.statement.Expr.TheVariants as expr
-use Rattle.lab_statement.specs.declared.token.Word.{Word}
-use Rattle.lab_statement.specs.declared.token.Word.TheVariants as word
+use Rattle.lab_table.specs.declared.word.Word.TheVariants as word
 use Rattle.lab_statement.specs.declared.token.Token.{Token}
 use Rattle.lab_statement.specs.declared.token.Token.TheVariants as token
 use Rattle.lab_statement.specs.Printed.{printed_statement}
 use Rattle.lab_statement.specs.Limits.{max_depth, max_statement_bytes}
-
--- the tokens of words
-abbrev pub words : List Word → List Token
-words ws = map (λ w. token.Word w) ws
 
 -- number := [ '-' ] digits
 pub data IsNumber : List Token → ℤ → Type 0 where
@@ -102,14 +97,14 @@ over table does = record { table = table; kind = does }
 -- the four kinds of statement, each with the name of its table
 pub data IsStatement : List Token → Statement → Type 0 where
   select : {ts : List Token} {p : Option Predicate} (table : List ℕ) → IsWhere ts p
-      → IsStatement (token.Word word.Select ∷ token.Star ∷ words (word.From ∷ word.Name table ∷ []) ++ ts) (over table (kind.Select p))
+      → IsStatement (token.Word word.Select ∷ token.Star ∷ token.Word word.From ∷ token.Name table ∷ ts) (over table (kind.Select p))
   update : {es ts : List Token} {e : Expr} {p : Option Predicate} (table : List ℕ) → IsExpr es e → IsWhere ts p
-      → IsStatement (words (word.Update ∷ word.Name table ∷ word.Set ∷ word.Value ∷ []) ++ token.Equal ∷ es ++ ts) (over table (kind.Update e p))
+      → IsStatement (token.Word word.Update ∷ token.Name table ∷ token.Word word.Set ∷ token.Word word.Value ∷ token.Equal ∷ es ++ ts) (over table (kind.Update e p))
   insert : {rs : List Token} {id : ℕ} {value : ℤ} (table : List ℕ) → IsRow rs id value
-      → IsStatement (words (word.Insert ∷ word.Into ∷ word.Name table ∷ []) ++ token.Open ∷ token.Word word.Id ∷ token.Comma ∷ token.Word word.Value ∷ token.Close ∷ token.Word word.Values ∷ rs)
+      → IsStatement (token.Word word.Insert ∷ token.Word word.Into ∷ token.Name table ∷ token.Open ∷ token.Word word.Id ∷ token.Comma ∷ token.Word word.Value ∷ token.Close ∷ token.Word word.Values ∷ rs)
       (over table (kind.Insert id value))
   delete : {ts : List Token} {p : Option Predicate} (table : List ℕ) → IsWhere ts p
-      → IsStatement (words (word.Delete ∷ word.From ∷ word.Name table ∷ []) ++ ts) (over table (kind.Delete p))
+      → IsStatement (token.Word word.Delete ∷ token.Word word.From ∷ token.Name table ∷ ts) (over table (kind.Delete p))
 
 -- [ ';' ]
 pub data IsEnd : List Token → Type 0 where

@@ -6,8 +6,7 @@ use Rattle.lab_table.specs.declared.predicate.Col.{Col}
 use Rattle.lab_table.specs.declared.predicate.Col.TheVariants as col
 use Rattle.lab_table.specs.declared.predicate.Cmp.{Cmp}
 use Rattle.lab_table.specs.declared.predicate.Cmp.TheVariants as cmp
-use Rattle.lab_statement.specs.declared.token.Word.{Word}
-use Rattle.lab_statement.specs.declared.token.Word.TheVariants as word
+use Rattle.lab_table.specs.declared.word.Word.TheVariants as word
 use Rattle.lab_statement.specs.declared.token.Token.{Token}
 use Rattle.lab_statement.specs.declared.token.Token.TheVariants as token
 use Rattle.lab_statement.specs.declared.fault.ScriptFaultKind.{ScriptFaultKind}
@@ -16,6 +15,7 @@ use Rattle.lab_statement.specs.declared.fault.Refusal.{Refusal}
 use Rattle.lab_statement.specs.declared.fault.Refusal.TheVariants as refusal
 use Rattle.lab_statement.specs.Limits.{max_depth}
 use Rattle.lab_statement.specs.Reading.{after}
+use Rattle.lab_statement.specs.Token.{is_word}
 
 -- what reading comes to
 pub data Reading (X : Type 0) : Type 0 where
@@ -90,32 +90,28 @@ more_read (suc k) member connective join a ts = if_found (after connective ts) (
   x ← member rest
   more_read k member connective join (join a x.0) x.1) (Reads (a, ts))
 
--- a row's number, which has no sign
-unfoldable pub id_read : List Token → Reading (ℕ × List Token)
-id_read ts = if_found (after token.Minus ts) (λ rest. do
+-- a number from 1 to this most, which has no sign
+unfoldable pub positive_read : ℕ → List Token → Reading (ℕ × List Token)
+positive_read most ts = if_found (after token.Minus ts) (λ rest. do
   n ← digits_read rest
   Stops NumberOutOfRange n.1) (do
     n ← digits_read ts
-    if nat_le 1 n.0 && nat_le n.0 999999 then Reads n else Stops NumberOutOfRange n.1)
+    if nat_le 1 n.0 && nat_le n.0 most then Reads n else Stops NumberOutOfRange n.1)
 
 -- a row's number with its value
 unfoldable pub row_read : List Token → Reading ((ℕ × ℤ) × List Token)
 row_read ts = do
   a ← token_read token.Open ts
-  id ← id_read a
+  id ← positive_read 999999 a
   b ← token_read token.Comma id.1
   value ← number_read b
   c ← token_read token.Close value.1
   Reads ((id.0, value.0), c)
 
--- the word at the front is the name of a table
-abbrev pub name_in : Word → List Token → Reading (List ℕ × List Token)
-name_in (word.Name n) ts = Reads (n, ts)
-name_in w ts = Stops BadTableName (token.Word w ∷ ts)
-
+-- the token at the front is the name of a table
 abbrev pub name_of : Token → List Token → Reading (List ℕ × List Token)
-name_of (token.Word w) ts = name_in w ts
-name_of t ts = Stops UnknownStatement (t ∷ ts)
+name_of (token.Name n) ts = Reads (n, ts)
+name_of t ts = Stops (if is_word t then BadTableName else UnknownStatement) (t ∷ ts)
 
 -- the name of a table
 unfoldable pub name_read : List Token → Reading (List ℕ × List Token)
@@ -148,14 +144,6 @@ unfoldable pub cmp_read : List Token → Reading (Cmp × List Token)
 cmp_read [] = Stops UnknownStatement []
 cmp_read (t ∷ ts) = cmp_in (cmp_of t) t ts
 
--- a modulus: a number from 1 to 1,000,000, which has no sign
-unfoldable pub modulus_read : List Token → Reading (ℕ × List Token)
-modulus_read ts = if_found (after token.Minus ts) (λ rest. do
-  n ← digits_read rest
-  Stops NumberOutOfRange n.1) (do
-    n ← digits_read ts
-    if nat_le 1 n.0 && nat_le n.0 1000000 then Reads n else Stops NumberOutOfRange n.1)
-
 -- a list with one more number
 abbrev pub one_more : List ℤ → ℤ → List ℤ
 one_more zs z = zs ++ z ∷ []
@@ -185,7 +173,7 @@ compare_read c ts = do
 -- what stands behind the percent sign of a remainder
 unfoldable pub remainder_read : Col → List Token → Reading (Predicate × List Token)
 remainder_read c ts = do
-  m ← modulus_read ts
+  m ← positive_read 1000000 ts
   rest ← token_read token.Equal m.1
   n ← number_read rest
   Reads (predicate.Remainder c m.0 n.0, n.1)

@@ -1,10 +1,8 @@
 -- The tokens of a text: each is as long as it can be, and spaces and tabs only separate.
-use Rattle.std.specs.Prelude.{ℕ, ◌+◌, ◌-◌, ◌*◌, Bool, ◌||◌, ◌==◌, if◌then◌else◌, List, [], ◌∷◌, ◌++◌, Option, Some, None, is_some, option_map, unwrap_or, codes}
-use Rattle.std.specs.Str.{bytes_eq}
+use Rattle.std.specs.Prelude.{ℕ, ◌+◌, ◌-◌, ◌*◌, Bool, true, false, ◌||◌, ◌==◌, if◌then◌else◌, List, [], ◌∷◌, ◌++◌, Option, Some, None, is_some, option_map, unwrap_or}
 use Rattle.std.specs.Char.{to_ascii_lowercase, is_ascii_alphabetic, is_ascii_digit}
 use Rattle.lab_table.specs.TableName.{is_table_name}
-use Rattle.lab_statement.specs.declared.token.Word.{Word}
-use Rattle.lab_statement.specs.declared.token.Word.TheVariants as words
+use Rattle.lab_table.specs.Words.{word_named}
 use Rattle.lab_statement.specs.declared.token.Token.{Token}
 use Rattle.lab_statement.specs.declared.token.Token.TheVariants as token
 
@@ -16,34 +14,16 @@ is_letter b = is_ascii_alphabetic b || b == 95
 abbrev pub is_blank : ℕ → Bool
 is_blank b = b == 32 || b == 9
 
--- the word that letters in lower case spell: one of the grammar, or else the name of a table, or another
-abbrev pub word_named : List ℕ → Word
-word_named text =
-    if bytes_eq text (codes "setup") then words.Setup
-    else if bytes_eq text (codes "begin") then words.Begin
-    else if bytes_eq text (codes "commit") then words.Commit
-    else if bytes_eq text (codes "abort") then words.Abort
-    else if bytes_eq text (codes "rollback") then words.Rollback
-    else if bytes_eq text (codes "set") then words.Set
-    else if bytes_eq text (codes "transaction") then words.Transaction
-    else if bytes_eq text (codes "isolation") then words.Isolation
-    else if bytes_eq text (codes "level") then words.Level
-    else if bytes_eq text (codes "select") then words.Select
-    else if bytes_eq text (codes "from") then words.From
-    else if bytes_eq text (codes "where") then words.Where
-    else if bytes_eq text (codes "update") then words.Update
-    else if bytes_eq text (codes "value") then words.Value
-    else if bytes_eq text (codes "insert") then words.Insert
-    else if bytes_eq text (codes "into") then words.Into
-    else if bytes_eq text (codes "id") then words.Id
-    else if bytes_eq text (codes "values") then words.Values
-    else if bytes_eq text (codes "delete") then words.Delete
-    else if bytes_eq text (codes "and") then words.And
-    else if bytes_eq text (codes "or") then words.Or
-    else if bytes_eq text (codes "not") then words.Not
-    else if bytes_eq text (codes "in") then words.In
-    else if is_table_name text then words.Name text
-    else words.Other
+-- whether a token is a word
+abbrev pub is_word : Token → Bool
+is_word (token.Word w) = true
+is_word (token.Name n) = true
+is_word token.OtherWord = true
+is_word t = false
+
+-- the word that letters in lower case spell: a reserved one, or else the name of a table, or another
+abbrev pub word_token : List ℕ → Token
+word_token text = unwrap_or (option_map (λ w. token.Word w) (word_named text)) (if is_table_name text then token.Name text else token.OtherWord)
 
 -- the token that a byte is, if it is neither blank nor a letter nor a digit
 abbrev pub mark : ℕ → Token
@@ -91,7 +71,7 @@ longer (whole t) b = option_map whole (longer_token t b)
 -- the token that a part is, where no byte makes it longer
 abbrev pub ended : Part → List Token
 ended gap = []
-ended (letters word) = token.Word (word_named word) ∷ []
+ended (letters word) = word_token word ∷ []
 ended (whole t) = t ∷ []
 
 -- the tokens of a part and of the bytes after it

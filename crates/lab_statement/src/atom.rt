@@ -1,12 +1,12 @@
 //! Comparisons, remainders and lists, read from tokens.
 
 ghost use Rattle.std.specs.Prelude.{◌≡◌, ◌≤◌, length};
-ghost use Rattle.lab_statement.specs.Stopping.{cmp_of, Comes, atom_read, cmp_read, col_read, compare_read, modulus_read, number_list_read, numbers_read, one_of_read, remainder_read};
+ghost use Rattle.lab_statement.specs.Stopping.{cmp_of, Comes, atom_read, cmp_read, col_read, compare_read, number_list_read, numbers_read, one_of_read, positive_read, remainder_read};
 
 use crate::fault::{Refusal, ScriptFaultKind};
 use crate::parser::Parser;
-use crate::token::{Token, Word};
-use lab_table::{Cmp, Col, Modulus, Numbers, Pred, PredKind, Value};
+use crate::token::Token;
+use lab_table::{Cmp, Col, Modulus, Numbers, Pred, PredKind, Value, Word};
 use std::alloc::Global;
 
 /// The comparison that a token is.
@@ -101,9 +101,9 @@ impl Parser<'_> {
     }
 
     /// A modulus, from 1 to 1,000,000. Digits behind a minus are a number that is out of this range.
-    #[tactic(auto, unfolding(crate::specs::Stopping::modulus_read))]
+    #[tactic(auto, unfolding(crate::specs::Stopping::positive_read))]
     fn modulus(&mut self) -> Result<Modulus, Refusal>
-        ensures reads { Comes (λ x. (x, self.new)) result self.new (modulus_read self.old) }
+        ensures reads { Comes (λ x. (x, self.new)) result self.new (positive_read 1000000 self.old) }
         ensures shorter { length self.new ≤ length self.old }
     {
         let negative = self.took(Token::Minus);

@@ -1,12 +1,13 @@
 //! Laws of the text of a statement. The functions have nothing to do: their contracts are the laws.
 
-ghost use Rattle.std.specs.Prelude.{◌≡◌, ◌≢◌, ◌↔◌, ℕ, List, Some, IsTrue, true};
+ghost use Rattle.std.specs.Prelude.{◌≡◌, ◌↔◌, ℕ, List, Some, IsTrue, true};
 ghost use Rattle.lab_table.specs.TableName.{is_table_name};
 ghost use Rattle.lab_table.specs.Words.{is_reserved};
 ghost use Rattle.lab_table.specs.declared.statement.Statement.{Statement};
 ghost use Rattle.lab_statement.specs.Text.{SpellsStatement};
-ghost use Rattle.lab_statement.specs.Token.{word_named};
-ghost use Rattle.lab_statement.specs.declared.token.Word.TheVariants as words;
+ghost use Rattle.lab_statement.specs.Token.{word_token};
+ghost use Rattle.lab_statement.specs.declared.token.Token.TheVariants as token;
+ghost use Rattle.lab_table.specs.declared.word.Word.{Word};
 ghost use Rattle.lab_statement.specs.StatementText.{statement_in};
 
 /// The statement that is read from a text is the one that the text spells by the grammar;
@@ -17,6 +18,6 @@ pub fn statement_is_read_from_its_text()
 
 /// A text in lower case is a word of the grammar exactly where it is reserved, and a name where it is a table's.
 pub fn words_are_reserved()
-    ensures word { (text : List ℕ) → IsTrue (is_reserved text) ↔ ((word_named text ≢ words.Other) × ((name : List ℕ) → word_named text ≢ words.Name name)) }
-    ensures name { (text name : List ℕ) → (word_named text ≡ words.Name name) ↔ ((name ≡ text) × (is_table_name text ≡ true)) }
+    ensures word { (text : List ℕ) → IsTrue (is_reserved text) ↔ ((word : Word) × (word_token text ≡ token.Word word)) }
+    ensures name { (text name : List ℕ) → (word_token text ≡ token.Name name) ↔ ((name ≡ text) × (is_table_name text ≡ true)) }
 {}

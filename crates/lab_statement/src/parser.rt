@@ -7,8 +7,8 @@ ghost use Rattle.lab_statement.specs.Stopping.{Comes, digits_read, magnitude_rea
 ghost use Rattle.lab_statement.specs.FirstFaults.{HasFault, in_predicate, nothing_read, placed_kind, refusal_as, statement_fault};
 
 use crate::fault::{Refusal, ScriptFaultKind};
-use crate::token::{Token, Word};
-use lab_table::{Statement, TableName, Value};
+use crate::token::Token;
+use lab_table::{Statement, TableName, Value, Word};
 use std::alloc::Global;
 use std::marker::Model;
 
@@ -118,13 +118,13 @@ impl<'a> Parser<'a> {
         match self.rest.split_first() {
             None => Err(Refusal::Fault(ScriptFaultKind::UnknownStatement)),
             Some((first, rest)) => match first {
-                Token::Word(word) => match word {
-                    Word::Name(name) => {
-                        self.rest = rest;
-                        Ok(*name)
-                    }
-                    _ => Err(Refusal::Fault(ScriptFaultKind::BadTableName)),
-                },
+                Token::Name(name) => {
+                    self.rest = rest;
+                    Ok(*name)
+                }
+                Token::Word(_) | Token::OtherWord => {
+                    Err(Refusal::Fault(ScriptFaultKind::BadTableName))
+                }
                 _ => Err(Refusal::Fault(ScriptFaultKind::UnknownStatement)),
             },
         }

@@ -7,8 +7,8 @@ ghost use Rattle.lab_statement.specs.Stopping.{Comes, conj_read, pred_read, term
 use crate::fault::{Refusal, ScriptFaultKind};
 use crate::limits::MAX_DEPTH;
 use crate::parser::Parser;
-use crate::token::{Token, Word};
-use lab_table::{NoMemory, Pred, PredKind};
+use crate::token::Token;
+use lab_table::{NoMemory, Pred, PredKind, Word};
 use std::alloc::Global;
 
 impl Parser<'_> {

@@ -1,7 +1,7 @@
 //! A row of a statement with its value, read from tokens.
 
 ghost use Rattle.std.specs.Prelude.{◌≤◌, length};
-ghost use Rattle.lab_statement.specs.Stopping.{Comes, id_read, row_read};
+ghost use Rattle.lab_statement.specs.Stopping.{Comes, positive_read, row_read};
 
 use crate::fault::{Refusal, ScriptFaultKind};
 use crate::parser::Parser;
@@ -10,9 +10,9 @@ use lab_table::{RowId, Value};
 
 impl Parser<'_> {
     /// A row's number, from 1 to 999,999. Digits behind a minus are a number that is out of this range.
-    #[tactic(auto, unfolding(crate::specs::Stopping::id_read))]
+    #[tactic(auto, unfolding(crate::specs::Stopping::positive_read))]
     pub fn id(&mut self) -> Result<RowId, Refusal>
-        ensures reads { Comes (λ x. (x, self.new)) result self.new (id_read self.old) }
+        ensures reads { Comes (λ x. (x, self.new)) result self.new (positive_read 999999 self.old) }
         ensures shorter { length self.new ≤ length self.old }
     {
         let negative = self.took(Token::Minus);

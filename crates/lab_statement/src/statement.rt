@@ -11,8 +11,8 @@ ghost use Rattle.lab_statement.specs.FirstFaults.{delete_read, end_read, expr_re
 use crate::fault::{Refusal, ScriptFaultKind};
 use crate::fits::statement_fits;
 use crate::parser::Parser;
-use crate::token::{Token, Word};
-use lab_table::{Expr, Statement, StatementKind, TableName};
+use crate::token::Token;
+use lab_table::{Expr, Statement, StatementKind, TableName, Word};
 use std::alloc::Global;
 
 impl Parser<'_> {

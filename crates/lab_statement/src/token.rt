@@ -1,53 +1,24 @@
 //! The tokens of a line's code.
 
-ghost use Rattle.std.specs.Prelude.{◌≡◌, ◌≤◌, ◌∷◌, [], length, map, IfOk, OnOk, Some, if◌then◌else◌};
-ghost use Rattle.std.specs.Str.{bytes_eq};
+ghost use Rattle.std.specs.Prelude.{◌≡◌, ◌≤◌, ◌∷◌, [], length, map, IfOk, OnOk};
 ghost use Rattle.std.specs.List.{prefix_len};
 ghost use Rattle.std.specs.Char.{to_ascii_lowercase};
-ghost use Rattle.lab_table.specs.TableName.{is_table_name};
 ghost use Rattle.lab_statement.specs.declared.token.Token.TheVariants as token;
-ghost use Rattle.lab_statement.specs.declared.token.Word.TheVariants as words;
-ghost use Rattle.lab_statement.specs.Token.{letters, whole, is_letter, is_blank, word_named, mark};
+ghost use Rattle.lab_statement.specs.Token.{letters, whole, is_letter, is_blank, is_word, word_token, mark};
 ghost use Rattle.lab_statement.specs.HeldTokens.{held_from, held_tokens};
 
-use lab_table::{NoMemory, TableName};
+use lab_table::{NoMemory, TableName, Word};
 use std::alloc::Global;
-
-/// A word, read in either case.
-#[derive(Clone, Copy, Debug, PartialEq, Eq)]
-pub enum Word {
-    Setup,
-    Begin,
-    Commit,
-    Abort,
-    Rollback,
-    Set,
-    Transaction,
-    Isolation,
-    Level,
-    Select,
-    From,
-    Where,
-    Update,
-    Value,
-    Insert,
-    Into,
-    Id,
-    Values,
-    Delete,
-    And,
-    Or,
-    Not,
-    In,
-    /// The name of a table, which is no word of the grammar.
-    Name(TableName),
-    Other,
-}
 
 /// A token.
 #[derive(Clone, Copy, Debug, PartialEq, Eq)]
 pub enum Token {
+    /// A reserved word, in either case.
     Word(Word),
+    /// The name of a table, which is no reserved word.
+    Name(TableName),
+    /// A word that is neither.
+    OtherWord,
     /// The number that digits spell, or one above the greatest number of any text.
     Digits(u32),
     Open,
@@ -71,12 +42,6 @@ pub enum Token {
 /// One above the greatest number of any text.
 const TOO_LARGE: u64 = 1_000_000_001;
 
-fn is_word(text: &[u8], name: &[u8]) -> bool
-    ensures { result ≡ bytes_eq (map to_ascii_lowercase text.now) (map to_ascii_lowercase name.now) }
-{
-    text.eq_ignore_ascii_case(name)
-}
-
 fn is_letter(byte: u8) -> bool
     ensures { result ≡ is_letter byte }
 {
@@ -90,70 +55,28 @@ pub fn is_blank(byte: u8) -> bool
     byte == b' ' || byte == b'\t'
 }
 
-/// The name of a table that letters spell, if they spell one.
-fn name_or_other(text: &[u8]) -> Word
-    ensures { result ≡ (if is_table_name (map to_ascii_lowercase text.now) then words.Name (map to_ascii_lowercase text.now) else words.Other) }
-{
-    match TableName::spelled(text) {
-        Some(name) => Word::Name(name),
-        None => Word::Other,
+impl Token {
+    /// Whether it is a word.
+    pub fn is_word(self) -> bool
+        ensures { result ≡ is_word self }
+    {
+        match self {
+            Token::Word(_) | Token::Name(_) | Token::OtherWord => true,
+            _ => false,
+        }
     }
 }
 
-impl Word {
-    /// The word that letters spell.
-    fn named(text: &[u8]) -> Word
-        ensures { result ≡ word_named (map to_ascii_lowercase text.now) }
-    {
-        if is_word(text, b"setup") {
-            Word::Setup
-        } else if is_word(text, b"begin") {
-            Word::Begin
-        } else if is_word(text, b"commit") {
-            Word::Commit
-        } else if is_word(text, b"abort") {
-            Word::Abort
-        } else if is_word(text, b"rollback") {
-            Word::Rollback
-        } else if is_word(text, b"set") {
-            Word::Set
-        } else if is_word(text, b"transaction") {
-            Word::Transaction
-        } else if is_word(text, b"isolation") {
-            Word::Isolation
-        } else if is_word(text, b"level") {
-            Word::Level
-        } else if is_word(text, b"select") {
-            Word::Select
-        } else if is_word(text, b"from") {
-            Word::From
-        } else if is_word(text, b"where") {
-            Word::Where
-        } else if is_word(text, b"update") {
-            Word::Update
-        } else if is_word(text, b"value") {
-            Word::Value
-        } else if is_word(text, b"insert") {
-            Word::Insert
-        } else if is_word(text, b"into") {
-            Word::Into
-        } else if is_word(text, b"id") {
-            Word::Id
-        } else if is_word(text, b"values") {
-            Word::Values
-        } else if is_word(text, b"delete") {
-            Word::Delete
-        } else if is_word(text, b"and") {
-            Word::And
-        } else if is_word(text, b"or") {
-            Word::Or
-        } else if is_word(text, b"not") {
-            Word::Not
-        } else if is_word(text, b"in") {
-            Word::In
-        } else {
-            name_or_other(text)
-        }
+/// The word that letters spell.
+fn word_of(text: &[u8]) -> Token
+    ensures { result ≡ word_token (map to_ascii_lowercase text.now) }
+{
+    if let Some(word) = Word::named(text) {
+        return Token::Word(word);
+    }
+    match TableName::spelled(text) {
+        Some(name) => Token::Name(name),
+        None => Token::OtherWord,
     }
 }
 
@@ -175,12 +98,12 @@ pub fn blanks_len(bytes: &[u8]) -> usize
 
 /// The word at the front, and what follows it.
 #[tactic(auto, using(crate::proofs::Tokens::letters_run))]
-fn word_at(bytes: &[u8]) -> (Word, &[u8])
-    ensures value { held_from (letters []) bytes.now ≡ token.Word result.0 ∷ held_tokens result.1.now }
+fn word_at(bytes: &[u8]) -> (Token, &[u8])
+    ensures value { held_from (letters []) bytes.now ≡ result.0 ∷ held_tokens result.1.now }
     ensures within { length result.1.now ≤ length bytes.now }
 {
     let (text, rest) = bytes.split_at(letters_len(bytes));
-    (Word::named(text), rest)
+    (word_of(text), rest)
 }
 
 /// The digits at the front, behind digits that spell this number, and what follows them.
@@ -295,7 +218,7 @@ pub fn tokens_into(found: &mut Vec<Token>, text: &[u8]) -> Result<(), NoMemory>
             rest = after;
         } else if is_letter(*first) {
             let (word, behind) = word_at(rest);
-            found.push(Token::Word(word))?;
+            found.push(word)?;
             rest = behind;
         } else {
             let (mark, behind) = mark_at(*first, after);

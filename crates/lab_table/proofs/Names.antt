@@ -1,15 +1,15 @@
 -- The names of tables, as bytes.
-use Rattle.std.proofs.Common.{◌≡◌, ℕ, zero, suc, ◌≤◌, true, ◌&&◌, not, T, List, [], ◌∷◌, length, sym, ap, ◌∙◌, subst, arith}
+use Rattle.std.proofs.Common.{◌≡◌, ℕ, zero, suc, ◌≤◌, true, false, ◌&&◌, not, T, List, [], ◌∷◌, length, sym, ap, ◌∙◌, subst, arith}
 use Rattle.std.specs.Prelude.{◌-◌, nat_le, take, replicate}
 use Rattle.std.specs.Ordering.{nat_cmp}
 use Rattle.std.specs.Cmp.Lexicographic.{slice_cmp}
 use Rattle.std.specs.List.{list_all}
 use Rattle.std.specs.Char.{to_ascii_lowercase}
 use Rattle.std.proofs.lemmas.List.{length-map, take_at}
-use Rattle.std.proofs.lemmas.Bool.{leb-true, ne_eqb}
+use Rattle.std.proofs.lemmas.Bool.{and_from, leb-true, ne_eqb}
 use Rattle.lab_table.specs.Words.{is_reserved}
 use Rattle.lab_table.specs.Padded.{padded, unpadded, is_nonzero}
-use Rattle.lab_table.specs.TableName.{is_name_letter, is_table_name, in_lower_case, table_name_cmp}
+use Rattle.lab_table.specs.TableName.{has_name_form, is_name_letter, is_table_name, in_lower_case, table_name_cmp}
 use Rattle.lab_table.proofs.Tests.{both, joined}
 use Rattle.lab_table.proofs.PaddedTexts.{is_true, unpadded_padded, padded_compared}
 
@@ -25,8 +25,8 @@ letters_nonzero (b ∷ bs) h =
     joined _ _ (letter_nonzero b parts.0) (letters_nonzero bs parts.1)
 
 module _ (text : List ℕ) (h : T (is_table_name text)) where
-  letters_of : T (nat_le 1 (length text) && nat_le (length text) 16 && list_all is_name_letter text)
-  letters_of = (both (nat_le 1 (length text) && nat_le (length text) 16 && list_all is_name_letter text) (not (is_reserved text)) h).0
+  letters_of : T (has_name_form text)
+  letters_of = (both (has_name_form text) (not (is_reserved text)) h).0
 
   lengths_of : T (nat_le 1 (length text) && nat_le (length text) 16)
   lengths_of = (both (nat_le 1 (length text) && nat_le (length text) 16) (list_all is_name_letter text) letters_of).0
@@ -58,8 +58,9 @@ module _ (a b : List ℕ) (first : Holds a) (second : Holds b) where
       ∙ padded_compared (unpadded a) (unpadded b) (name_short (unpadded a) first.1) (name_short (unpadded b) second.1) (name_nonzero (unpadded a) first.1) (name_nonzero (unpadded b) second.1)
 
 -- bytes of a text in lower case that was found to be a name hold it
-pub spelled_held : (text bytes : List ℕ) → bytes ≡ padded (in_lower_case text) → true ≡ is_table_name (take (length text) bytes) → Holds bytes × (unpadded bytes ≡ in_lower_case text)
-spelled_held text bytes e h =
+pub spelled_held : (text bytes : List ℕ) → bytes ≡ padded (in_lower_case text) → true ≡ has_name_form (take (length text) bytes) → is_reserved (in_lower_case text) ≡ false
+    → Holds bytes × (unpadded bytes ≡ in_lower_case text)
+spelled_held text bytes e form none =
     let front : take (length text) bytes ≡ in_lower_case text =
     ap (take (length text)) e ∙ take_at (in_lower_case text) (replicate (16 - length (in_lower_case text)) 0) (length text) (length-map text to_ascii_lowercase) in
-    held bytes (in_lower_case text) e (ap is_table_name (sym front) ∙ sym h)
+    held bytes (in_lower_case text) e (and_from (has_name_form (in_lower_case text)) (not (is_reserved (in_lower_case text))) (ap has_name_form (sym front) ∙ sym form) (ap not none))

@@ -12,9 +12,13 @@ use Rattle.lab_table.specs.Words.{is_reserved}
 abbrev pub is_name_letter : ℕ → Bool
 is_name_letter b = is_ascii_lowercase b || b == 95
 
--- whether a text is the name of a table: 1 to 16 letters in lower case and underscores, which are no word of scripts
+-- whether a text is 1 to 16 letters in lower case and underscores
+abbrev pub has_name_form : List ℕ → Bool
+has_name_form text = nat_le 1 (length text) && nat_le (length text) 16 && list_all is_name_letter text
+
+-- whether it is the name of a table: it has this form and is no reserved word
 abbrev pub is_table_name : List ℕ → Bool
-is_table_name text = nat_le 1 (length text) && nat_le (length text) 16 && list_all is_name_letter text && not (is_reserved text)
+is_table_name text = has_name_form text && not (is_reserved text)
 
 -- a text in lower case
 abbrev pub in_lower_case : List ℕ → List ℕ

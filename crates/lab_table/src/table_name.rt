@@ -4,15 +4,14 @@ ghost use Rattle.std.specs.Prelude.{◌≡◌, ◌≤◌, length, true, Some, is
 ghost use Rattle.std.specs.List.{prefix_len, list_all};
 ghost use Rattle.std.specs.Cmp.{partial_equiv_from_equiv};
 ghost use Rattle.std.specs.Cmp.Lexicographic.{nat_list_eq_equiv, nat_list_cmp_total, texts_po, texts_ties, bytes_decides};
-ghost use Rattle.std.specs.Str.{bytes_eq};
 ghost use Rattle.std.specs.Hash as fed;
 ghost use Rattle.std.specs.Hash.{same_Alike};
-ghost use Rattle.lab_table.specs.Words.{is_reserved};
 ghost use Rattle.lab_table.specs.Padded.{padded, is_nonzero};
 ghost use Rattle.lab_table.specs.Differences.{differences};
-ghost use Rattle.lab_table.specs.TableName.{is_name_letter, is_table_name, in_lower_case, table_name_cmp, table_name_eq};
+ghost use Rattle.lab_table.specs.TableName.{has_name_form, is_name_letter, is_table_name, in_lower_case, table_name_cmp, table_name_eq};
 
 use crate::memory::NoMemory;
+use crate::word::Word;
 use std::alloc::Global;
 use std::cmp::Ordering;
 use std::hash::{Hash, Hasher};
@@ -63,14 +62,14 @@ impl TableName {
         ensures value { IfSome result (λ name. name ≡ in_lower_case text.now) }
     {
         // Most names are this one.
-        if is_word(text, b"test") {
+        if text == b"test".as_slice() {
             return Some(TableName::test());
         }
-        if text.len() > 16 {
+        if text.len() > 16 || Word::named(text).is_some() {
             return None;
         }
         let bytes = lowered(text);
-        if is_named(&bytes[..text.len()]) {
+        if has_name_form(&bytes[..text.len()]) {
             Some(TableName { bytes })
         } else {
             None
@@ -122,11 +121,11 @@ fn has_letters(text: &[u8]) -> bool
     text.iter().all(|byte| is_name_letter(*byte))
 }
 
-/// Whether a text is the name of a table, in lower case.
-fn is_named(text: &[u8]) -> bool
-    ensures { result ≡ is_table_name text.now }
+/// Whether a text in lower case is a name, if it is no reserved word.
+fn has_name_form(text: &[u8]) -> bool
+    ensures { result ≡ has_name_form text.now }
 {
-    1 <= text.len() && text.len() <= 16 && has_letters(text) && !is_reserved(text)
+    1 <= text.len() && text.len() <= 16 && has_letters(text)
 }
 
 /// A short text in lower case, with zeros behind it.
@@ -138,67 +137,6 @@ fn lowered(text: &[u8]) -> [u8; 16]
     bytes[..text.len()].copy_from_slice(text);
     bytes.make_ascii_lowercase();
     bytes
-}
-
-fn is_word(text: &[u8], word: &[u8]) -> bool
-    ensures { result ≡ bytes_eq text.now word.now }
-{
-    text == word
-}
-
-/// Whether a text in lower case is a word of scripts that no table is named by.
-fn is_reserved(text: &[u8]) -> bool
-    ensures { result ≡ is_reserved text.now }
-{
-    if is_word(text, b"setup") {
-        true
-    } else if is_word(text, b"begin") {
-        true
-    } else if is_word(text, b"commit") {
-        true
-    } else if is_word(text, b"abort") {
-        true
-    } else if is_word(text, b"rollback") {
-        true
-    } else if is_word(text, b"set") {
-        true
-    } else if is_word(text, b"transaction") {
-        true
-    } else if is_word(text, b"isolation") {
-        true
-    } else if is_word(text, b"level") {
-        true
-    } else if is_word(text, b"select") {
-        true
-    } else if is_word(text, b"from") {
-        true
-    } else if is_word(text, b"where") {
-        true
-    } else if is_word(text, b"update") {
-        true
-    } else if is_word(text, b"value") {
-        true
-    } else if is_word(text, b"insert") {
-        true
-    } else if is_word(text, b"into") {
-        true
-    } else if is_word(text, b"id") {
-        true
-    } else if is_word(text, b"values") {
-        true
-    } else if is_word(text, b"delete") {
-        true
-    } else if is_word(text, b"and") {
-        true
-    } else if is_word(text, b"or") {
-        true
-    } else if is_word(text, b"not") {
-        true
-    } else if is_word(text, b"in") {
-        true
-    } else {
-        false
-    }
 }
 
 /// A bit for each byte in which two names differ, the first at the lowest. All bytes are compared at once: names of tables

@@ -1,10 +1,10 @@
-use Rattle.std.proofs.Common.{length, sym, arith}
+use Rattle.std.proofs.Common.{sym, arith}
 use Rattle.std.proofs.lemmas.Result.{err_from_is_err_and}
 use Rattle.lab_table.specs.Predicate as predicate
-use Rattle.lab_statement.specs.declared.token.Word.TheVariants as word
+use Rattle.lab_table.specs.declared.word.Word.TheVariants as word
 use Rattle.lab_statement.specs.declared.token.Token.TheVariants as token
 use Rattle.lab_statement.specs.Stopping.{term_read, conj_read, pred_read}
-use Rattle.lab_statement.proofs.StoppedLoops.{starts, first_stops, goes_on_to, next_stops, ends}
+use Rattle.lab_statement.proofs.StoppedLoops.{starts, first_stops, goes_on, next_stops, ends}
 use Rattle.lab_statement.proofs.parser.Parser.+pred.Goals as goal
 
 pub conj-returns-in_err-pred-clause-reads : goal.conj-returns-in_err-pred-clause-reads
@@ -15,34 +15,21 @@ conj-returns-in_err-pred-clause-reads t c =
 
 pub conj-loop-alloc-init : goal.conj-loop-alloc-init
 unfolding conj_read
-conj-loop-alloc-init t c = record {
-  shorter = c.in_ok-pred.ensures.shorter;
-  so_far = (length c.term.new.self, omega arith, starts (term_read c.args.depth) (token.Word word.And) predicate.And c.args.self.now c.term.new.self c.in_ok-pred.pred c.in_ok-pred.ensures.reads);
-}
+conj-loop-alloc-init t c = record { shorter = c.in_ok-pred.ensures.shorter; so_far = starts (term_read c.args.depth) (token.Word word.And) predicate.And c.in_ok-pred.ensures.reads }
 
 pub conj-loop-alloc-preserved : goal.conj-loop-alloc-preserved
-conj-loop-alloc-preserved t c =
-    let s = c.loop-alloc.invariant.so_far in
-    record {
-      shorter = omega (arith, c.loop-alloc-test.ensures.shorter, c.in_ok-right.ensures.shorter, c.loop-alloc.invariant.shorter);
-      so_far =
-          goes_on_to (term_read c.args.depth) (token.Word word.And) predicate.And s.0 c.loop-alloc.pred c.in_ok-right.right c.in_ok-pred-2.pred c.loop-alloc.self c.took.new.self
-          c.term-in-loop-alloc.new.self (conj_read c.args.depth c.args.self.now) s.1 s.2 c.loop-alloc-test.ensures.gives c.loop-alloc-test.ensures.shorter
-          c.in_ok-right.ensures.reads c.in_ok-right.ensures.shorter (sym c.in_ok-pred-2.ensures);
-    }
+conj-loop-alloc-preserved t c = record {
+  shorter = omega (arith, c.loop-alloc-test.ensures.shorter, c.in_ok-right.ensures.shorter, c.loop-alloc.invariant.shorter);
+  so_far = goes_on c.loop-alloc.invariant.so_far c.loop-alloc-test.ensures.gives c.loop-alloc-test.ensures.shorter c.in_ok-right.ensures.reads c.in_ok-right.ensures.shorter (sym c.in_ok-pred-2.ensures);
+}
 
 pub conj-returns-in_err-right-clause-reads : goal.conj-returns-in_err-right-clause-reads
 conj-returns-in_err-right-clause-reads t c =
     let p = err_from_is_err_and c.from_residual-in_err-right.result c.from_residual-in_err-right.ensures.1 in
-    let s = c.loop-alloc.invariant.so_far in
-    rw (p.1, p.2) (next_stops (term_read c.args.depth) (token.Word word.And) predicate.And s.0 c.loop-alloc.pred c.in_err-right.field-0.0 c.loop-alloc.self c.took.new.self
-    c.term-in-loop-alloc.new.self (conj_read c.args.depth c.args.self.now) s.1 s.2 c.loop-alloc-test.ensures.gives c.loop-alloc-test.ensures.shorter c.in_err-right.ensures.reads)
+    rw (p.1, p.2) (next_stops c.in_err-right.field-0.0 c.term-in-loop-alloc.new.self c.loop-alloc.invariant.so_far c.loop-alloc-test.ensures.gives c.loop-alloc-test.ensures.shorter c.in_err-right.ensures.reads)
 
 pub conj-returns-clause-reads : goal.conj-returns-clause-reads
-conj-returns-clause-reads t c =
-    let s = c.loop-alloc.invariant.so_far in
-    rw c.loop-alloc-test.ensures.gives.1 (ends (term_read c.args.depth) (token.Word word.And) predicate.And s.0 c.loop-alloc.pred c.loop-alloc.self
-    (conj_read c.args.depth c.args.self.now) s.2 c.loop-alloc-test.ensures.gives.0)
+conj-returns-clause-reads t c = rw c.loop-alloc-test.ensures.gives.1 (ends c.loop-alloc.invariant.so_far c.loop-alloc-test.ensures.gives.0)
 
 pub pred-returns-in_err-pred-clause-reads : goal.pred-returns-in_err-pred-clause-reads
 unfolding pred_read
@@ -52,31 +39,18 @@ pred-returns-in_err-pred-clause-reads t c =
 
 pub pred-loop-alloc-init : goal.pred-loop-alloc-init
 unfolding pred_read
-pred-loop-alloc-init t c = record {
-  shorter = c.in_ok-pred.ensures.shorter;
-  so_far = (length c.conj.new.self, omega arith, starts (conj_read c.args.depth) (token.Word word.Or) predicate.Or c.args.self.now c.conj.new.self c.in_ok-pred.pred c.in_ok-pred.ensures.reads);
-}
+pred-loop-alloc-init t c = record { shorter = c.in_ok-pred.ensures.shorter; so_far = starts (conj_read c.args.depth) (token.Word word.Or) predicate.Or c.in_ok-pred.ensures.reads }
 
 pub pred-loop-alloc-preserved : goal.pred-loop-alloc-preserved
-pred-loop-alloc-preserved t c =
-    let s = c.loop-alloc.invariant.so_far in
-    record {
-      shorter = omega (arith, c.loop-alloc-test.ensures.shorter, c.in_ok-right.ensures.shorter, c.loop-alloc.invariant.shorter);
-      so_far =
-          goes_on_to (conj_read c.args.depth) (token.Word word.Or) predicate.Or s.0 c.loop-alloc.pred c.in_ok-right.right c.in_ok-pred-2.pred c.loop-alloc.self c.took.new.self
-          c.conj-in-loop-alloc.new.self (pred_read c.args.depth c.args.self.now) s.1 s.2 c.loop-alloc-test.ensures.gives c.loop-alloc-test.ensures.shorter
-          c.in_ok-right.ensures.reads c.in_ok-right.ensures.shorter (sym c.in_ok-pred-2.ensures);
-    }
+pred-loop-alloc-preserved t c = record {
+  shorter = omega (arith, c.loop-alloc-test.ensures.shorter, c.in_ok-right.ensures.shorter, c.loop-alloc.invariant.shorter);
+  so_far = goes_on c.loop-alloc.invariant.so_far c.loop-alloc-test.ensures.gives c.loop-alloc-test.ensures.shorter c.in_ok-right.ensures.reads c.in_ok-right.ensures.shorter (sym c.in_ok-pred-2.ensures);
+}
 
 pub pred-returns-in_err-right-clause-reads : goal.pred-returns-in_err-right-clause-reads
 pred-returns-in_err-right-clause-reads t c =
     let p = err_from_is_err_and c.from_residual-in_err-right.result c.from_residual-in_err-right.ensures.1 in
-    let s = c.loop-alloc.invariant.so_far in
-    rw (p.1, p.2) (next_stops (conj_read c.args.depth) (token.Word word.Or) predicate.Or s.0 c.loop-alloc.pred c.in_err-right.field-0.0 c.loop-alloc.self c.took.new.self
-    c.conj-in-loop-alloc.new.self (pred_read c.args.depth c.args.self.now) s.1 s.2 c.loop-alloc-test.ensures.gives c.loop-alloc-test.ensures.shorter c.in_err-right.ensures.reads)
+    rw (p.1, p.2) (next_stops c.in_err-right.field-0.0 c.conj-in-loop-alloc.new.self c.loop-alloc.invariant.so_far c.loop-alloc-test.ensures.gives c.loop-alloc-test.ensures.shorter c.in_err-right.ensures.reads)
 
 pub pred-returns-clause-reads : goal.pred-returns-clause-reads
-pred-returns-clause-reads t c =
-    let s = c.loop-alloc.invariant.so_far in
-    rw c.loop-alloc-test.ensures.gives.1 (ends (conj_read c.args.depth) (token.Word word.Or) predicate.Or s.0 c.loop-alloc.pred c.loop-alloc.self
-    (pred_read c.args.depth c.args.self.now) s.2 c.loop-alloc-test.ensures.gives.0)
+pred-returns-clause-reads t c = rw c.loop-alloc-test.ensures.gives.1 (ends c.loop-alloc.invariant.so_far c.loop-alloc-test.ensures.gives.0)

@@ -1,12 +1,13 @@
-use Rattle.std.proofs.Common.{◌≡◌, ℕ, ◌≤◌, length}
+use Rattle.std.proofs.Common.{◌≤◌, length}
 use Rattle.lab_statement.specs.declared.token.Token.TheVariants as token
-use Rattle.lab_statement.specs.Stopping.{one_more, more_read, number_read, numbers_read}
+use Rattle.lab_statement.specs.Stopping.{one_more, number_read, numbers_read}
+use Rattle.lab_statement.proofs.StoppedLoops.{ReadsOn}
 use Rattle.lab_statement.proofs.parser.Parser.numbers.Given as goal
 
 abbrev pub invariant-loop-self : goal.invariant-loop-self
 invariant-loop-self l = record {
   shorter : length l.self ≤ length l.fn.self;
-  so_far : (k : ℕ) × (length l.self ≤ k) × (more_read k number_read token.Comma one_more l.numbers.items l.self ≡ numbers_read l.fn.self);
+  so_far : ReadsOn number_read token.Comma one_more l.numbers.items l.self (numbers_read l.fn.self);
 }
 
 abbrev pub decreases-loop-self : goal.decreases-loop-self
