@@ -1,5 +1,5 @@
 -- The lists of a history file are read as the maps that they stand for, and as nothing else.
-use Rattle.std.proofs.Common.{◌≡◌, ◌≢◌, ℕ, ◌+◌, ℤ, List, [], ◌∷◌, Option, Some, None, Result, Ok, refl, sym, ap, subst, ◌∙◌}
+use Rattle.std.proofs.Common.{◌≡◌, ◌≢◌, ℕ, ◌+◌, ℤ, T, List, [], ◌∷◌, Option, Some, None, Result, Ok, refl, sym, ap, subst, ◌∙◌}
 use Rattle.std.specs.FinMap as finite
 use Rattle.std.specs.FinMap.{FinMap}
 use Rattle.serde_json.specs.Data.{Data, array, Items, no_items, item}
@@ -7,8 +7,8 @@ use Rattle.serde_json.specs.Find.{as_array}
 use Rattle.lab_table.specs.Row.{Row, row_cmp}
 use Rattle.lab_history.specs.Faults.{required}
 use Rattle.lab_history_file.specs.Member.{Key, with_key, key_parts, row_in, count, member_in}
-use Rattle.lab_history_file.specs.Entries.{txn_in_number, op_in_number, value_in, written_in, entry_in, one_in, version_name_in, installers_from, installers_of, installers_in, values_in, writes_in, view_in, installed_in}
-use Rattle.lab_history_file.specs.FileOf.{AreEach, IsMapOf, IsPair, IsVersion, IsInstalled}
+use Rattle.lab_history_file.specs.Entries.{txn_in_number, op_in_number, value_in, state_in, written_in, entry_in, one_in, version_name_in, installer_in, installers_of, installers_in, values_in, writes_in, view_in, installed_in}
+use Rattle.lab_history_file.specs.FileOf.{AreEach, IsListOf, IsMapOf, IsPair, IsVersion, IsInstalled}
 use Rattle.lab_history.specs.declared.fault.FileFault.{FileFault}
 use Rattle.lab_history_file.specs.declared.file_version.FileVersion.{FileVersion}
 use Rattle.lab_history.specs.declared.operation.VersionName.{VersionName}
@@ -18,8 +18,13 @@ use Rattle.lab_history.specs.declared.path.ListPlace.TheVariants as list
 use Rattle.lab_history.specs.declared.path.Path.TheVariants as path
 use Rattle.lab_history.proofs.Steps.{both_ok, step_on, required_ok, required_is}
 use Rattle.lab_history_file.proofs.JsonShapes.{array_of}
+use Rattle.lab_history_file.proofs.ItemsRead.{each_read, each_is_read}
 use Rattle.lab_history_file.proofs.MemberKeys.{one_part, two_parts, member_begins, member_with}
-use Rattle.lab_history_file.proofs.ListsRead.{map_read, map_is_read}
+use Rattle.lab_history_file.proofs.ListsRead.{entries_read, map_read, entries_are_read}
+use Rattle.lab_history_file.proofs.PlainWrites.{plain_writes, code_writes}
+use Rattle.lab_history.proofs.NewStates.{new_states_sorted}
+use Rattle.lab_history.specs.VersionName.{new_states}
+use Rattle.lab_history.specs.declared.operation.State.{State}
 
 -- ---- members
 
@@ -86,22 +91,6 @@ module _ (version : FileVersion) (place : ListPlace) (i : ℕ) where
 abbrev IsInstaller : Data → ℕ → Type 0
 IsInstaller e n = txn_in_number e ≡ Some n
 
-installers_read : (i part at : ℕ) (ds : Items) (ns : List ℕ) → installers_from i part at ds ≡ Ok ns → AreEach IsInstaller ds ns
-installers_read i part at no_items [] e = tt
-installers_read i part at no_items (n ∷ ns) e = absurd cc
-installers_read i part at (item d ds) ns e =
-    let first = both_ok (required (path.Installer i part at) (txn_in_number d)) _ ns e in
-    let rest = both_ok (installers_from i part (at + 1) ds) _ ns first.2 in
-    let same : first.0 ∷ rest.0 ≡ ns = cc in
-    subst (AreEach IsInstaller (item d ds)) same (required_ok _ _ _ first.1, installers_read i part (at + 1) ds rest.0 rest.1)
-
-installers_are_read : (i part at : ℕ) (ds : Items) (ns : List ℕ) → AreEach IsInstaller ds ns → installers_from i part at ds ≡ Ok ns
-installers_are_read i part at no_items [] each = refl
-installers_are_read i part at no_items (n ∷ ns) each = absurd each
-installers_are_read i part at (item d ds) [] each = absurd each
-installers_are_read i part at (item d ds) (n ∷ ns) each =
-    step_on _ (required_is (path.Installer i part at) each.0) (step_on _ (installers_are_read i part (at + 1) ds ns each.1) refl)
-
 some_installers : (d : Data) (ds : Items) (ns : List ℕ) → AreEach IsInstaller (item d ds) ns → ns ≢ []
 some_installers d ds [] each e = each
 some_installers d ds (n ∷ ns) each e = absurd cc
@@ -109,12 +98,12 @@ some_installers d ds (n ∷ ns) each e = absurd cc
 list_parts : (i part : ℕ) (o : Option Items) (ns : List ℕ) → installers_of i part o ≡ Ok ns → (ds : Items) × (o ≡ Some ds) × AreEach IsInstaller ds ns × (ns ≢ [])
 list_parts i part None ns e = absurd cc
 list_parts i part (Some no_items) ns e = absurd cc
-list_parts i part (Some (item d ds)) ns e = let each = installers_read i part 0 (item d ds) ns e in (item d ds, refl, each, some_installers d ds ns each)
+list_parts i part (Some (item d ds)) ns e = let each = each_read (installer_in i part) IsInstaller (λ before at d n. required_ok (path.Installer i part at) (txn_in_number d) n) (item d ds) ns e in (item d ds, refl, each, some_installers d ds ns each)
 
 list_is_read : (i part : ℕ) (ds : Items) (ns : List ℕ) → AreEach IsInstaller ds ns → ns ≢ [] → installers_of i part (Some ds) ≡ Ok ns
 list_is_read i part no_items [] each some = absurd (some refl)
 list_is_read i part no_items (n ∷ ns) each some = absurd each
-list_is_read i part (item d ds) ns each some = installers_are_read i part 0 (item d ds) ns each
+list_is_read i part (item d ds) ns each some = each_is_read (installer_in i part) IsInstaller (λ before at d n. required_is (path.Installer i part at)) (item d ds) ns each
 
 module _ (version : FileVersion) (place : ListPlace) (i : ℕ) where
   installed_read : (d : Data) (x : Row × List ℕ) → entry_in 1 installers_in version place i d ≡ Ok x → IsInstalled version d x
@@ -136,22 +125,29 @@ module _ (version : FileVersion) (place : ListPlace) (d : Data) where
   values_read xs e = map_read _ place (IsPair version value_in) (pair_read value_in version place) d xs e
 
   pub values_are_read : (m : FinMap row_cmp ℤ) → IsMapOf (IsPair version value_in) d m → values_in version place d ≡ Ok (finite.entries m)
-  values_are_read m is = map_is_read _ place (IsPair version value_in) (pair_is_read value_in version place) d m is
+  values_are_read m is = entries_are_read _ place (IsPair version value_in) (pair_is_read value_in version place) d (finite.entries m) is (finite.entries_sorted m)
 
-  pub writes_read : (xs : List (Row × Option ℤ)) → writes_in version place d ≡ Ok xs → IsMapOf (IsPair version written_in) d (finite.from_sorted xs)
-  writes_read xs e = map_read _ place (IsPair version written_in) (pair_read written_in version place) d xs e
+  pub writes_read : (ws : List (Row × State)) → writes_in version place d ≡ Ok ws → IsMapOf (IsPair version written_in) d (finite.from_sorted (new_states ws))
+  writes_read ws e =
+      let found = entries_read _ place (IsPair version state_in) (pair_read state_in version place) d ws e in
+      let is = found.0 in
+      let rise = subst T (sym (new_states_sorted ws)) found.1 in
+      subst (IsListOf (IsPair version written_in) d) (sym (finite.entries-from_sorted row_cmp (new_states ws) rise)) (is.0, is.1, plain_writes version is.0 ws is.2)
 
-  pub writes_are_read : (m : FinMap row_cmp (Option ℤ)) → IsMapOf (IsPair version written_in) d m → writes_in version place d ≡ Ok (finite.entries m)
-  writes_are_read m is = map_is_read _ place (IsPair version written_in) (pair_is_read written_in version place) d m is
+  pub writes_are_read : (m : FinMap row_cmp (Option ℤ)) → IsMapOf (IsPair version written_in) d m → (ws : List (Row × State)) × (writes_in version place d ≡ Ok ws) × (new_states ws ≡ finite.entries m)
+  writes_are_read m is =
+      let code = code_writes version is.0 (finite.entries m) is.2 in
+      let rise = ap (finite.is_sorted row_cmp) (sym code.2) ∙ new_states_sorted code.0 in
+      (code.0, entries_are_read _ place (IsPair version state_in) (pair_is_read state_in version place) d code.0 (is.0, is.1, code.1) (subst T rise (finite.entries_sorted m)), code.2)
 
   pub view_read : (xs : List (Row × VersionName)) → view_in version place d ≡ Ok xs → IsMapOf (IsVersion version) d (finite.from_sorted xs)
   view_read xs e = map_read _ place (IsVersion version) (version_read version place) d xs e
 
   pub view_is_read : (m : FinMap row_cmp VersionName) → IsMapOf (IsVersion version) d m → view_in version place d ≡ Ok (finite.entries m)
-  view_is_read m is = map_is_read _ place (IsVersion version) (version_is_read version place) d m is
+  view_is_read m is = entries_are_read _ place (IsVersion version) (version_is_read version place) d (finite.entries m) is (finite.entries_sorted m)
 
 pub installed_list_read : (version : FileVersion) (d : Data) (xs : List (Row × List ℕ)) → installed_in version d ≡ Ok xs → IsMapOf (IsInstalled version) d (finite.from_sorted xs)
 installed_list_read version d xs e = map_read _ list.Installed (IsInstalled version) (installed_read version list.Installed) d xs e
 
 pub installed_list_is_read : (version : FileVersion) (d : Data) (m : FinMap row_cmp (List ℕ)) → IsMapOf (IsInstalled version) d m → installed_in version d ≡ Ok (finite.entries m)
-installed_list_is_read version d m is = map_is_read _ list.Installed (IsInstalled version) (installed_is_read version list.Installed) d m is
+installed_list_is_read version d m is = entries_are_read _ list.Installed (IsInstalled version) (installed_is_read version list.Installed) d (finite.entries m) is (finite.entries_sorted m)

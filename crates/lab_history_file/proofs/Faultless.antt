@@ -3,14 +3,15 @@ use Rattle.std.proofs.Common.{◌≡◌, ◌≢◌, ℕ, ◌≤◌, ◌==◌, tr
 use Rattle.std.specs.Prelude.{sum, nat_lt}
 use Rattle.serde_json.specs.Data.{Data, array}
 use Rattle.serde_json.specs.Find.{as_array, as_object, as_str, at}
-use Rattle.lab_history_file.specs.Entries.{txn_in_number, value_in, written_in}
+use Rattle.lab_history_file.specs.Entries.{txn_in_number, value_in, state_in, written_in}
 use Rattle.lab_history_file.specs.FaultOf.{all_ops, IsWrong, IsRepeated, IsBadStatement, IsUnsorted, IsOverLimit, IsTrueIn, IsTrueFault}
 use Rattle.lab_history_file.specs.Member.{key_parts, count}
 use Rattle.lab_history_file.specs.FileVersion.{version_number}
 use Rattle.lab_history_file.specs.PlaceShape.{fits, parts_of}
 use Rattle.lab_history_file.specs.ValueAt.{txn_at, operation_at, list_at, value_at}
 use Rattle.lab_history_file.specs.FileOf.{SpellsIn, IsFileIn, IsFileOf, IsOperation, IsTransaction}
-use Rattle.lab_history_file.specs.Format.{at_key, has_keys, txn_keys, op_keys, outcome_named, number_said, said_by, version_said}
+use Rattle.lab_history_file.specs.Keys.{txn_keys, op_keys}
+use Rattle.lab_history_file.specs.Format.{at_key, has_keys, outcome_named, number_said, said_by, version_said}
 use Rattle.lab_history.specs.History.{History}
 use Rattle.lab_history.specs.HistoryRules.{operations, named_tables, distinct_tables, named_rows, distinct_rows, op_entries}
 use Rattle.lab_history.specs.declared.fault.FileFault.{FileFault}
@@ -27,6 +28,7 @@ use Rattle.lab_history.specs.declared.path.Path.TheVariants as path
 use Rattle.lab_history.specs.declared.transaction.Txn.{Txn}
 use Rattle.lab_history.proofs.Steps.{both_some}
 use Rattle.lab_history_file.proofs.OperationsRead.{each_count}
+use Rattle.lab_history_file.proofs.PlainWrites.{written_there}
 use Rattle.lab_history_file.proofs.FaultsOfTransactions.{read_number}
 use Rattle.lab_history_file.proofs.FileIsRead.{parts_of_file}
 use Rattle.lab_history_file.proofs.GoodLists.{each_at, IsGood, good_pairs, good_view, good_installed, installer_fits}
@@ -43,11 +45,11 @@ is_known One n e one two = one (sym e)
 is_known Two n e one two = two (sym e)
 
 module _ (version : FileVersion) (d : Data) (h : History) (file : IsFileIn version d h) where
-  transactions_at : at_key (codes "transactions") d ≡ array file.transactions_are.0
-  transactions_at = ap (at_key (codes "transactions")) file.tree ∙ file.transactions_are.1
+  transactions_at : at_key (codes "transactions") d ≡ array file.holds.transactions_are.0
+  transactions_at = ap (at_key (codes "transactions")) file.holds.tree ∙ file.holds.transactions_are.1
 
   txn_of : (i : ℕ) (t : Data) → txn_at d i ≡ Some t → (txn : Txn) × (slice_get h.txns i ≡ Some txn) × IsTransaction version t txn
-  txn_of i t e = each_at (IsTransaction version) file.transactions_are.0 h.txns file.transactions_are.2 i t (sym (ap (at i) transactions_at) ∙ e)
+  txn_of i t e = each_at (IsTransaction version) file.holds.transactions_are.0 h.txns file.holds.transactions_are.2 i t (sym (ap (at i) transactions_at) ∙ e)
 
   op_of : (i k : ℕ) (o : Data) → operation_at d i k ≡ Some o → (op : Op) × IsOperation version o op
   op_of i k o e =
@@ -60,13 +62,13 @@ module _ (version : FileVersion) (d : Data) (h : History) (file : IsFileIn versi
   good_at : (place : ListPlace) (l : Data) → list_at d place ≡ Some l → IsGood version place l
   good_at list.Initial l e =
       let same : at_key (codes "initial") d ≡ l = cc in
-      subst (IsGood version list.Initial) (sym (ap (at_key (codes "initial")) file.tree) ∙ same) (good_pairs version value_in list.Initial file.initial h.initial refl (λ v. refl) file.initial_is)
+      subst (IsGood version list.Initial) (sym (ap (at_key (codes "initial")) file.holds.tree) ∙ same) (good_pairs version value_in list.Initial file.holds.initial h.initial refl (λ v. refl) file.holds.initial_is)
   good_at list.End l e =
       let same : at_key (codes "end") d ≡ l = cc in
-      subst (IsGood version list.End) (sym (ap (at_key (codes "end")) file.tree) ∙ same) (good_pairs version value_in list.End file.end h.end_table refl (λ v. refl) file.end_is)
+      subst (IsGood version list.End) (sym (ap (at_key (codes "end")) file.holds.tree) ∙ same) (good_pairs version value_in list.End file.holds.end h.end_table refl (λ v. refl) file.holds.end_is)
   good_at list.Installed l e =
       let same : at_key (codes "installed") d ≡ l = cc in
-      subst (IsGood version list.Installed) (sym (ap (at_key (codes "installed")) file.tree) ∙ same) (good_installed version file.installed h.installed file.installed_is)
+      subst (IsGood version list.Installed) (sym (ap (at_key (codes "installed")) file.holds.tree) ∙ same) (good_installed version file.holds.installed h.installed file.holds.installed_is)
   good_at (list.View txn op) l e =
       let found = mapped_some (at_key (codes "view")) (operation_at d txn op) l e in
       let is = op_of txn op found.0 found.1 in
@@ -78,15 +80,15 @@ module _ (version : FileVersion) (d : Data) (h : History) (file : IsFileIn versi
   good_at (list.Writes txn op) l e =
       let found = mapped_some (at_key (codes "writes")) (operation_at d txn op) l e in
       let is = op_of txn op found.0 found.1 in
-      subst (IsGood version (list.Writes txn op)) (sym (ap (at_key (codes "writes")) is.1.4) ∙ found.2) (good_pairs version written_in (list.Writes txn op) is.1.2 is.0.writes refl (λ v. refl) is.1.8)
+      subst (IsGood version (list.Writes txn op)) (sym (ap (at_key (codes "writes")) is.1.4) ∙ found.2) (good_pairs version written_in (list.Writes txn op) is.1.2 is.0.writes refl (λ v. written_there (state_in v)) is.1.8)
 
   fits_at : (p : Path) (v : Data) → value_at version d p ≡ Some v → fits version p v ≡ true
-  fits_at path.Root v e = let same : d ≡ v = cc in subst (λ u. fits version path.Root u ≡ true) same (ap (fits version path.Root) file.tree)
+  fits_at path.Root v e = let same : d ≡ v = cc in subst (λ u. fits version path.Root u ≡ true) same (ap (fits version path.Root) file.holds.tree)
   fits_at path.Format v e =
-      let same : at_key (codes "format") d ≡ v = cc in subst (λ u. fits version path.Format u ≡ true) same (ap (λ u. fits version path.Format (at_key (codes "format") u)) file.tree)
+      let same : at_key (codes "format") d ≡ v = cc in subst (λ u. fits version path.Format u ≡ true) same (ap (λ u. fits version path.Format (at_key (codes "format") u)) file.holds.tree)
   fits_at path.Version v e =
       let same : at_key (codes "version") d ≡ v = cc in
-      subst (λ u. fits version path.Version u ≡ true) same (ap (λ u. fits version path.Version (at_key (codes "version") u)) file.tree ∙ ap is_some file.number_is)
+      subst (λ u. fits version path.Version u ≡ true) same (ap (λ u. fits version path.Version (at_key (codes "version") u)) file.holds.tree ∙ ap is_some file.holds.number_is)
   fits_at (path.List place) v e = (good_at place v e).is_list
   fits_at (path.Member place index) v e =
       let found = both_some (list_at d place) (at index) v e in (good_at place found.0 found.1).sizes index v found.2
@@ -99,7 +101,7 @@ module _ (version : FileVersion) (d : Data) (h : History) (file : IsFileIn versi
       let own = under (part == key_parts version) (option_and_then (at place) (option_and_then (at part) (at index (at_key (codes "installed") d)))) v e in
       let inner = both_some (option_and_then (at part) (at index (at_key (codes "installed") d))) (at place) v own.1 in
       let member = both_some (at index (at_key (codes "installed") d)) (at part) inner.0 inner.1 in
-      installer_fits version file.installed h.installed file.installed_is index place member.0 inner.0 v (sym (ap (λ u. at index (at_key (codes "installed") u)) file.tree) ∙ member.1)
+      installer_fits version file.holds.installed h.installed file.holds.installed_is index place member.0 inner.0 v (sym (ap (λ u. at index (at_key (codes "installed") u)) file.holds.tree) ∙ member.1)
       (subst (λ n. at n member.0 ≡ Some inner.0) (eqb-true part (key_parts version) own.0) member.2) inner.2
   fits_at path.Transactions v e =
       let same : at_key (codes "transactions") d ≡ v = cc in subst (λ u. fits version path.Transactions u ≡ true) same (ap (λ u. is_some (as_array u)) transactions_at)
@@ -128,7 +130,7 @@ module _ (version : FileVersion) (d : Data) (h : History) (file : IsFileIn versi
 
   -- the value says its version
   number_of : number_said d ≡ Some (version_number version)
-  number_of = ap number_said file.tree ∙ file.number_is
+  number_of = ap number_said file.holds.tree ∙ file.holds.number_is
 
   pub says : version_said d ≡ version
   says = ap said_by number_of ∙ said_number version
@@ -157,13 +159,13 @@ module _ (version : FileVersion) (d : Data) (h : History) (file : IsFileIn versi
   within : (which : Limit) → IsOverLimit d which → ⊥
   within limit.Bytes over = over
   within limit.Transactions (ts, here, over) =
-      let same : file.transactions_are.0 ≡ ts = let there = sym transactions_at ∙ here in cc in
-      let many = ap count (sym same) ∙ each_count (IsTransaction version) file.transactions_are.0 h.txns file.transactions_are.2 in
+      let same : file.holds.transactions_are.0 ≡ ts = let there = sym transactions_at ∙ here in cc in
+      let many = ap count (sym same) ∙ each_count (IsTransaction version) file.holds.transactions_are.0 h.txns file.holds.transactions_are.2 in
       let few = file.keeps.transactions in
       omega (arith, over, many, few)
   within limit.Operations (ts, here, over) =
-      let same : file.transactions_are.0 ≡ ts = let there = sym transactions_at ∙ here in cc in
-      let many = ap all_ops (sym same) ∙ each_lists version file.transactions_are.0 h.txns file.transactions_are.2 in
+      let same : file.holds.transactions_are.0 ≡ ts = let there = sym transactions_at ∙ here in cc in
+      let many = ap all_ops (sym same) ∙ each_lists version file.holds.transactions_are.0 h.txns file.holds.transactions_are.2 in
       let few = file.keeps.few_operations in
       omega (arith, over, many, few)
   within limit.Tables (g, read, over) =

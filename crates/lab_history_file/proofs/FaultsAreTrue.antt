@@ -7,7 +7,8 @@ use Rattle.lab_history.specs.Faults.{required, refused_if}
 use Rattle.lab_history_file.specs.Entries.{value_in, values_in, installed_in}
 use Rattle.lab_history_file.specs.FaultOf.{IsTrueFault, IsTrueIn}
 use Rattle.lab_history_file.specs.PlaceShape.{is_format}
-use Rattle.lab_history_file.specs.Format.{at_key, has_keys, root_keys, keyed, format_in, number_said, numbered_version, version_in, said_by, version_said, txns_in, parts_of_version, parts_in, history_in}
+use Rattle.lab_history_file.specs.Keys.{root_keys}
+use Rattle.lab_history_file.specs.Format.{at_key, has_keys, keyed, format_in, number_said, numbered_version, version_in, said_by, version_said, txns_in, parts_of_version, parts_in, history_in}
 use Rattle.lab_history.specs.History.{History}
 use Rattle.lab_history.specs.HistoryRules.{named_tables, distinct_tables, named_rows, distinct_rows}
 use Rattle.lab_history.specs.WithinLimits.{within_limits}

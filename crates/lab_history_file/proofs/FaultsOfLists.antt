@@ -1,5 +1,5 @@
 -- The faults of lists whose members begin with a row are true.
-use Rattle.std.proofs.Common.{◌≡◌, ℕ, ◌+◌, ◌<◌, ⊎_elim, Bool, true, false, Option, Some, None, is_some, option_and_then, Result, Ok, Err, if◌then◌else◌, refl, ap, sym, subst, ◌∙◌, arith, codes}
+use Rattle.std.proofs.Common.{◌≡◌, ℕ, ◌+◌, ◌<◌, ⊎_elim, [], Bool, true, false, Option, Some, None, is_some, option_and_then, Result, Ok, Err, if◌then◌else◌, refl, ap, sym, subst, ◌∙◌, arith, codes}
 use Rattle.std.specs.Prelude.{nat_lt}
 use Rattle.std.proofs.lemmas.Bool.{lt-ltb}
 use Rattle.serde_json.specs.Data.{Data, array, Items, no_items, item}
@@ -7,7 +7,7 @@ use Rattle.serde_json.specs.Find.{as_array, at, get_item}
 use Rattle.lab_table.specs.Row.{Row}
 use Rattle.lab_history.specs.Faults.{required}
 use Rattle.lab_history_file.specs.Member.{Key, with_key, key_parts, id_in, table_in, row_in, row_of, plain_in, full_in, count, sized, split_key, member_in}
-use Rattle.lab_history_file.specs.Entries.{entries_in, txn_in_number, op_in_number, entry_in, one_in, version_name_in, installers_from, installers_of, installers_in, installed_in}
+use Rattle.lab_history_file.specs.Entries.{entries_in, txn_in_number, op_in_number, entry_in, one_in, version_name_in, items_from, installer_in, installers_of, installers_in, installed_in}
 use Rattle.lab_history_file.specs.FaultOf.{IsTrueIn}
 use Rattle.lab_history_file.specs.PlaceShape.{parts_behind, parts_of, has_items, second_fits, part_fits}
 use Rattle.lab_history_file.specs.ValueAt.{list_at}
@@ -24,7 +24,8 @@ use Rattle.lab_history_file.proofs.JsonShapes.{array_of}
 use Rattle.lab_history_file.proofs.MemberKeys.{sized_some, sized_none, one_part, two_parts, member_begins}
 use Rattle.lab_history_file.proofs.KeyParts.{first_behind, second_behind, first_fits, last_fits, own_part, key_begins}
 use Rattle.lab_history_file.proofs.EntriesRead.{entry_read}
-use Rattle.lab_history_file.proofs.ListWalks.{is_wrong, Tail, tail_all, tail_head, tail_rest, list_fault}
+use Rattle.lab_history_file.proofs.ItemsRead.{each_err}
+use Rattle.lab_history_file.proofs.ListWalks.{is_wrong, list_fault}
 
 -- ---- members
 
@@ -119,21 +120,19 @@ module _ (d l : Data) (place : ListPlace) (stands : list_at d place ≡ Some l) 
 
 -- ---- installers
 
-installer_err : (index part i : ℕ) (all ds : Items) (f : FileFault) → Tail all i ds → installers_from index part i ds ≡ Err f
-    → (k : ℕ) × (v : Data) × (get_item k all ≡ Some v) × (txn_in_number v ≡ None) × (f ≡ fault.WrongFormat (path.Installer index part k))
-installer_err index part i all no_items f tail e = absurd cc
-installer_err index part i all (item v ds) f tail e =
-    ⊎_elim (λ missing. let r = required_err (path.Installer index part i) (txn_in_number v) f missing in (i, v, tail_head all i v ds tail, r.0, r.1))
-    (λ found. ⊎_elim (λ later. installer_err index part (i + 1) all ds f (tail_rest all i v ds tail) later) (λ other. absurd cc)
-    (either_err (installers_from index part (i + 1) ds) _ f found.2))
-    (either_err (required (path.Installer index part i) (txn_in_number v)) _ f e)
+installer_err : (index part : ℕ) (ds : Items) (f : FileFault) → items_from (installer_in index part) [] 0 ds ≡ Err f
+    → (k : ℕ) × (v : Data) × (get_item k ds ≡ Some v) × (txn_in_number v ≡ None) × (f ≡ fault.WrongFormat (path.Installer index part k))
+installer_err index part ds f e =
+    let found = each_err (installer_in index part) ds f e in
+    let r = required_err (path.Installer index part found.1) (txn_in_number found.2) f found.4 in
+    (found.1, found.2, found.3, r.0, r.1)
 
 module _ (version : FileVersion) (d : Data) (k : ℕ) (m : Data) (member : at k (at_key (codes "installed") d) ≡ Some m) (f : FileFault) where
   second_items_fault : (v : Data) (o : Option Items) → at (key_parts version) m ≡ Some v → as_array v ≡ o → installers_of k (key_parts version) o ≡ Err f → IsTrueIn version d f
   second_items_fault v None here is e = wrong_first d (at_key (codes "installed") d) list.Installed refl k m member f version v (omega arith) here (ap has_items is) cc
   second_items_fault v (Some no_items) here is e = wrong_first d (at_key (codes "installed") d) list.Installed refl k m member f version v (omega arith) here (ap has_items is) cc
   second_items_fault v (Some (item a ds)) here is e =
-      let found = installer_err k (key_parts version) 0 (item a ds) (item a ds) f (tail_all (item a ds)) e in
+      let found = installer_err k (key_parts version) (item a ds) f e in
       is_wrong version d f (path.Installer k (key_parts version) found.0) found.1 found.4
       (ap (λ (b : Bool). if b then option_and_then (at found.0) (option_and_then (at (key_parts version)) (at k (at_key (codes "installed") d))) else None) (own_part version)
       ∙ ap (λ o. option_and_then (at found.0) (option_and_then (at (key_parts version)) o)) member ∙ ap (option_and_then (at found.0)) here ∙ ap (at found.0) (array_of v _ is) ∙ found.2)

@@ -1,15 +1,16 @@
 -- The faults of operations are true.
 use Rattle.std.proofs.Common.{◌≡◌, ℕ, ◌+◌, ⊎_elim, Bool, true, false, List, Option, Some, None, is_some, option_and_then, option_map, Err, if◌then◌else◌, codes, refl, sym, ap, subst, ◌∙◌}
-use Rattle.serde_json.specs.Data.{Data, Items, no_items, item}
-use Rattle.serde_json.specs.Find.{as_str, at, get_item, as_object}
+use Rattle.serde_json.specs.Data.{Data}
+use Rattle.serde_json.specs.Find.{as_str, at, as_object}
 use Rattle.lab_table.specs.declared.statement.Statement.{Statement}
 use Rattle.lab_statement.specs.StatementText.{statement_in}
 use Rattle.lab_history.specs.Faults.{required}
-use Rattle.lab_history_file.specs.Entries.{txn_in_number, value_in, written_in, values_in, writes_in, view_in}
+use Rattle.lab_history_file.specs.Entries.{txn_in_number, value_in, state_in, values_in, writes_in, view_in}
 use Rattle.lab_history_file.specs.FileOf.{SpellsIn}
 use Rattle.lab_history_file.specs.FaultOf.{IsTrueIn}
 use Rattle.lab_history_file.specs.ValueAt.{txn_at, operation_at}
-use Rattle.lab_history_file.specs.Format.{at_key, has_keys, keyed, op_keys, only_in, spelled_in, op_in, ops_from}
+use Rattle.lab_history_file.specs.Keys.{op_keys}
+use Rattle.lab_history_file.specs.Format.{at_key, has_keys, keyed, only_in, spelled_in, op_in}
 use Rattle.lab_history.specs.declared.fault.FileFault.{FileFault}
 use Rattle.lab_history.specs.declared.fault.FileFault.TheVariants as fault
 use Rattle.lab_history_file.specs.declared.file_version.FileVersion.{FileVersion}
@@ -19,7 +20,7 @@ use Rattle.lab_history.specs.declared.path.Path.TheVariants as path
 use Rattle.lab_history.proofs.Steps.{either_err, required_ok, required_err}
 use Rattle.lab_history_file.proofs.OperationsRead.{spells_are_read}
 use Rattle.lab_history_file.proofs.FaultsOfLists.{pairs_fault, view_fault}
-use Rattle.lab_history_file.proofs.ListWalks.{is_wrong, Tail, tail_head, tail_rest}
+use Rattle.lab_history_file.proofs.ListWalks.{is_wrong}
 
 -- what isn't found failed the test
 pub none_when : {A : Type 0} (b : Bool) (x : A) → (if b then Some x else None) ≡ None → b ≡ false
@@ -66,18 +67,10 @@ module _ (version : FileVersion) (d t o : Data) (txn n index : ℕ) (there : txn
       ⊎_elim (spelled_fault text.0 (required_ok (path.Statement txn index) _ text.0 text.1)) (λ spelled.
       ⊎_elim (view_fault version d (at_key (codes "view") o) f (list.View txn index) view_at refl (λ v. refl)) (λ seen.
       ⊎_elim (pairs_fault version d (at_key (codes "rows") o) f value_in (list.Rows txn index) rows_at refl (λ v. refl)) (λ listed.
-      ⊎_elim (pairs_fault version d (at_key (codes "writes") o) f written_in (list.Writes txn index) writes_at refl (λ v. refl)) (λ written. absurd cc)
+      ⊎_elim (pairs_fault version d (at_key (codes "writes") o) f state_in (list.Writes txn index) writes_at refl (λ v. refl)) (λ written. absurd cc)
       (either_err (writes_in version (list.Writes txn index) (at_key (codes "writes") o)) _ f listed.2))
       (either_err (values_in version (list.Rows txn index) (at_key (codes "rows") o)) _ f seen.2))
       (either_err (view_in version (list.View txn index) (at_key (codes "view") o)) _ f spelled.2))
       (either_err (spelled_in n (index + 1) (option_and_then (only_in version) (statement_in text.0))) _ f text.2))
       (either_err (required (path.Statement txn index) (as_str (at_key (codes "statement") o))) _ f keys.2))
       (either_err (keyed (path.Operation txn index) op_keys o) _ f e)
-
--- the operation that a fault of a list of them is of
-pub ops_err : (version : FileVersion) (txn n i : ℕ) (all ds : Items) (f : FileFault) → Tail all i ds → ops_from version txn n i ds ≡ Err f → (k : ℕ) × (o : Data) × (get_item k all ≡ Some o) × (op_in version txn n k o ≡ Err f)
-ops_err version txn n i all no_items f tail e = absurd cc
-ops_err version txn n i all (item o ds) f tail e =
-    ⊎_elim (λ failed. (i, o, tail_head all i o ds tail, failed))
-    (λ found. ⊎_elim (λ later. ops_err version txn n (i + 1) all ds f (tail_rest all i o ds tail) later) (λ other. absurd cc) (either_err (ops_from version txn n (i + 1) ds) _ f found.2))
-    (either_err (op_in version txn n i o) _ f e)

@@ -1,16 +1,17 @@
 -- The faults of transactions are true.
-use Rattle.std.proofs.Common.{◌≡◌, ℕ, ◌+◌, ◌≤◌, ◌<◌, ◌==◌, ◌⊎◌, inl, inr, ⊎_elim, Bool, true, false, ◌||◌, List, [], ◌∷◌, ◌++◌, length, Some, is_some, option_and_then, option_map, Err, codes, nat_lt, refl, sym, ap, subst, ◌∙◌, arith, ltb-true, eqb-true}
+use Rattle.std.proofs.Common.{◌≡◌, ℕ, ◌+◌, ◌≤◌, ◌<◌, ◌==◌, ◌⊎◌, inl, inr, ⊎_elim, Bool, true, false, ◌||◌, List, [], ◌∷◌, ◌++◌, length, Some, is_some, option_and_then, option_map, Ok, Err, codes, nat_lt, refl, sym, ap, subst, ◌∙◌, arith, ltb-true, eqb-true}
 use Rattle.std.specs.List.{list_any}
 use Rattle.std.proofs.lemmas.Bool.{or_cases, or_right}
-use Rattle.serde_json.specs.Data.{Data, array, Items, no_items, item}
-use Rattle.serde_json.specs.Find.{as_array, as_str, at}
+use Rattle.serde_json.specs.Data.{Data, array, Items, item}
+use Rattle.serde_json.specs.Find.{as_array, as_str, at, get_item}
 use Rattle.lab_history.specs.Faults.{required, refused_if}
-use Rattle.lab_history_file.specs.Entries.{txn_in_number}
+use Rattle.lab_history_file.specs.Entries.{txn_in_number, items_from}
 use Rattle.lab_history_file.specs.FaultOf.{IsNumber, listed_ops, all_ops, IsTrueIn}
 use Rattle.lab_history_file.specs.ValueAt.{txn_at}
 use Rattle.lab_history_file.specs.FileOf.{IsTransaction, IsOperation}
 use Rattle.lab_history_file.specs.Member.{count}
-use Rattle.lab_history_file.specs.Format.{at_key, keyed, txn_keys, ops_from, outcome_named, txn_in, txns_from, txns_in}
+use Rattle.lab_history_file.specs.Keys.{txn_keys}
+use Rattle.lab_history_file.specs.Format.{at_key, keyed, op_behind, outcome_named, txn_in, txns_in}
 use Rattle.lab_history.specs.HistoryRules.{operations}
 use Rattle.lab_history.specs.declared.fault.FileFault.{FileFault}
 use Rattle.lab_history.specs.declared.fault.FileFault.TheVariants as fault
@@ -23,8 +24,9 @@ use Rattle.lab_history_file.proofs.JsonShapes.{array_of}
 use Rattle.lab_history_file.proofs.OperationsRead.{each_count}
 use Rattle.lab_history_file.proofs.TransactionsRead.{txn_read}
 use Rattle.lab_history.proofs.Standing.{operations_push}
-use Rattle.lab_history_file.proofs.ListWalks.{is_wrong, Tail, tail_all, tail_head, tail_rest}
-use Rattle.lab_history_file.proofs.FaultsOfOperations.{keyed_err, op_fault, ops_err}
+use Rattle.lab_history_file.proofs.ItemsRead.{tail_all, items_err, each_err}
+use Rattle.lab_history_file.proofs.ListWalks.{is_wrong}
+use Rattle.lab_history_file.proofs.FaultsOfOperations.{keyed_err, op_fault}
 
 -- the numbers of transactions that were read stand before a place
 abbrev Known : Data → List Txn → ℕ → Type 0
@@ -68,10 +70,10 @@ module _ (version : FileVersion) (d : Data) (all : Items) (whole : at_key (codes
         let many : 10000 < all_ops all = omega (arith, over, same, room) in
         subst (IsTrueIn version d) (sym r.1) (all, whole, many)
 
-    ops_fault : (n : ℕ) (ds : Items) → txn_in_number (at_key (codes "no") t) ≡ Some n → as_array (at_key (codes "ops") t) ≡ Some ds → ops_from version i n 0 ds ≡ Err f → IsTrueIn version d f
+    ops_fault : (n : ℕ) (ds : Items) → txn_in_number (at_key (codes "no") t) ≡ Some n → as_array (at_key (codes "ops") t) ≡ Some ds → items_from (op_behind version i n) [] 0 ds ≡ Err f → IsTrueIn version d f
     ops_fault n ds numbered is e =
-        let found = ops_err version i n 0 ds ds f (tail_all ds) e in
-        op_fault version d t found.1 i n found.0 here numbered (ap (at found.0) (array_of _ ds is) ∙ found.2) f found.3
+        let found = each_err (op_behind version i n) ds f e in
+        op_fault version d t found.2 i n found.1 here numbered (ap (at found.1) (array_of _ ds is) ∙ found.3) f found.4
 
     -- the fault of a transaction is true
     txn_fault : Known d before i → length (operations before) + listed_ops (as_array (at_key (codes "ops") t)) ≤ all_ops all → txn_in version before i t ≡ Err f → IsTrueIn version d f
@@ -88,7 +90,7 @@ module _ (version : FileVersion) (d : Data) (all : Items) (whole : at_key (codes
         let items_are = required_ok (path.Operations i) _ items.0 items.1 in
         ⊎_elim (room_fault items.0 room items_are) (λ few.
         ⊎_elim (ops_fault numbered.0 items.0 number_is items_are) (λ those. absurd cc)
-        (either_err (ops_from version i numbered.0 0 items.0) _ f few.2))
+        (either_err (items_from (op_behind version i numbered.0) [] 0 items.0) _ f few.2))
         (either_err (refused_if (nat_lt 10000 (length (operations before) + count items.0)) (fault.OverLimit limit.Operations)) _ f items.2))
         (either_err (required (path.Operations i) (as_array (at_key (codes "ops") t))) _ f ended.2))
         (either_err (required (path.Outcome i) (option_and_then outcome_named (as_str (at_key (codes "outcome") t)))) _ f alone.2))
@@ -96,19 +98,23 @@ module _ (version : FileVersion) (d : Data) (all : Items) (whole : at_key (codes
         (either_err (required (path.Number i) (txn_in_number (at_key (codes "no") t))) _ f keys.2))
         (either_err (keyed (path.Transaction i) txn_keys t) _ f e)
 
-  txns_from_fault : (before : List Txn) (i : ℕ) (ts : Items) → Tail all i ts → Known d before i → length (operations before) + all_ops ts ≤ all_ops all
-      → txns_from version before i ts ≡ Err f → IsTrueIn version d f
-  txns_from_fault before i no_items tail known room e = absurd cc
-  txns_from_fault before i (item t ts) tail known room e =
-      let here : txn_at d i ≡ Some t = ap (at i) whole ∙ tail_head all i t ts tail in
-      ⊎_elim (λ failed. txn_fault before i t here known (omega (arith, room)) failed)
-      (λ found.
-      let is = (txn_read version before i t found.0 found.1).0 in
-      let listed = read_count version t found.0 is in
-      let total = operations_push before found.0 in
-      let more : length (operations (before ++ found.0 ∷ [])) + all_ops ts ≤ all_ops all = omega (arith, room, listed, total) in
-      txns_from_fault (before ++ found.0 ∷ []) (i + 1) ts (tail_rest all i t ts tail) (known_pushed d before i found.0 known (t, here, read_number version t found.0 is)) more found.2)
-      (either_err (txn_in version before i t) _ f e)
+  -- what is known of the transactions before some
+  abbrev Passed : List Txn → ℕ → Items → Type 0
+  Passed before i ts = Known d before i × (length (operations before) + all_ops ts ≤ all_ops all)
+
+  one_passed : (before : List Txn) (i : ℕ) (t : Data) (ts : Items) (txn : Txn) → get_item i all ≡ Some t → txn_in version before i t ≡ Ok txn → Passed before i (item t ts)
+      → Passed (before ++ txn ∷ []) (i + 1) ts
+  one_passed before i t ts txn here e (known, room) =
+      let is = (txn_read version before i t txn e).0 in
+      let listed = read_count version t txn is in
+      let total = operations_push before txn in
+      (known_pushed d before i txn known (t, ap (at i) whole ∙ here, read_number version t txn is), omega (arith, room, listed, total))
+
+  each_txn_fault : items_from (txn_in version) [] 0 all ≡ Err f → IsTrueIn version d f
+  each_txn_fault e =
+      let found = items_err (txn_in version) Passed all f one_passed [] 0 all (tail_all all) ((λ n none. absurd cc), omega arith) e in
+      let room = found.5.1 in
+      txn_fault found.0 found.1 found.2 (ap (at found.1) whole ∙ found.4) found.5.0 (omega (arith, room)) found.6
 
 -- the fault of the list of transactions is true
 pub txns_fault : (version : FileVersion) (d : Data) (f : FileFault) → txns_in version (at_key (codes "transactions") d) ≡ Err f → IsTrueIn version d f
@@ -116,6 +122,6 @@ txns_fault version d f e =
     ⊎_elim (λ missing. let r = required_err path.Transactions _ f missing in is_wrong version d f path.Transactions (at_key (codes "transactions") d) r.1 refl (ap is_some r.0)) (λ items.
     let whole = array_of _ items.0 (required_ok path.Transactions _ items.0 items.1) in
     ⊎_elim (λ over. let r = refused_err _ (fault.OverLimit limit.Transactions) f over in subst (IsTrueIn version d) (sym r.1) (items.0, whole, ltb-true 1000 (count items.0) r.0)) (λ few.
-    txns_from_fault version d items.0 whole f [] 0 items.0 (tail_all items.0) (λ n none. absurd cc) (omega arith) few.2)
+    each_txn_fault version d items.0 whole f few.2)
     (either_err (refused_if (nat_lt 1000 (count items.0)) (fault.OverLimit limit.Transactions)) _ f items.2))
     (either_err (required path.Transactions (as_array (at_key (codes "transactions") d))) _ f e)

@@ -20,21 +20,7 @@ kept_within h keeps =
     (step_on _ (limit_kept 1000 _ (fault.OverLimit limit.Ids) keeps.ids) (limit_kept 200000 _ (fault.OverLimit limit.Entries) keeps.entries))
 
 pub parts_of_file : (version : FileVersion) (d : Data) (h : History) → IsFileIn version d h → parts_in d ≡ Ok h
-parts_of_file version d h file = parts_are_read version d h (record {
-  number = file.number;
-  initial = file.initial;
-  transactions = file.transactions;
-  installed = file.installed;
-  end = file.end;
-  tree = file.tree;
-  number_is = file.number_is;
-  initial_is = file.initial_is;
-  transactions_are = file.transactions_are;
-  installed_is = file.installed_is;
-  end_is = file.end_is;
-  stand = stand [] h.txns file.keeps.distinct file.keeps.few_operations;
-  few = file.keeps.transactions;
-})
+parts_of_file version d h file = parts_are_read version d h file.holds (stand [] h.txns file.keeps.distinct file.keeps.few_operations) file.keeps.transactions
 
 pub file_is_read : (version : FileVersion) (d : Data) (h : History) → IsFileIn version d h → history_in d ≡ Ok h
 file_is_read version d h file = step_on _ (parts_of_file version d h file) (step_on _ (kept_within h file.keeps) refl)

@@ -3,10 +3,9 @@ pub mod Counts
 pub mod MemberKeys
 pub mod Members
 pub mod KeyParts
-pub mod Entries
-pub mod WritesRead
+pub mod PlainWrites
 pub mod JsonShapes
-pub mod EntriesRise
+pub mod ItemsRead
 pub mod ListsRead
 pub mod EntriesRead
 pub mod OperationsRead
@@ -27,12 +26,8 @@ pub mod Faultless
 pub mod Lifted
 pub mod ListedPlaces
 pub mod WrittenLists
-pub mod WrittenViews
-pub mod WrittenWrites
 pub mod WrittenMembers
 pub mod CodeBytes
 pub mod WritableTree
 pub mod Keys
-pub mod OpsRead
-pub mod TxnsRead
 pub mod TextFaults

@@ -5,7 +5,7 @@ use Rattle.lab_table.specs.Row.{Row}
 use Rattle.lab_table.specs.TableName.{test_name}
 use Rattle.lab_history_file.specs.Member.{Key, plain, full, with_key, row_in}
 use Rattle.lab_history_file.specs.Entries.{txn_in_number, value_in, written_in}
-use Rattle.lab_history_file.specs.FileOf.{outcome_text, AreEach, IsListOf, IsPair, IsVersion, IsInstalled, IsOperation, IsTransaction, IsFileIn, IsFileOf}
+use Rattle.lab_history_file.specs.FileOf.{outcome_text, AreEach, IsListOf, IsPair, IsVersion, IsInstalled, IsOperation, IsTransaction, HoldsIn, IsFileIn, IsFileOf}
 use Rattle.lab_history_file.specs.Format.{version_said, history_in}
 use Rattle.lab_history_file.specs.Lift.{each_item, in_list, lift_member, lift_list, lift_op, lift_txn, lift}
 use Rattle.lab_history.specs.History.{History}
@@ -16,7 +16,7 @@ use Rattle.lab_history.specs.declared.transaction.Txn.{Txn}
 use Rattle.lab_history_file.proofs.FileIsRead.{file_is_read}
 use Rattle.lab_history_file.proofs.ReadIsFile.{read_is_file}
 use Rattle.lab_history_file.proofs.Faultless.{says}
-use Rattle.lab_history_file.proofs.TransactionsRead.{txn_tree}
+use Rattle.lab_history_file.specs.Keys.{txn_keys, object_with}
 
 -- ---- lists
 
@@ -81,15 +81,15 @@ txn_lifts : (d : Data) (txn : Txn) → IsTransaction One d txn → IsTransaction
 txn_lifts d txn is = (
   is.0,
   in_list lift_op is.1,
-  ap lift_txn is.2 ∙ ap (λ own. txn_tree own (in_list lift_op is.1) (string (outcome_text txn.outcome))) (number_stays is.0 txn.no is.3),
+  ap lift_txn is.2 ∙ ap (λ own. object_with txn_keys (own ∷ in_list lift_op is.1 ∷ string (outcome_text txn.outcome) ∷ [])) (number_stays is.0 txn.no is.3),
   is.3,
   list_kept (IsOperation One) (IsOperation Two) lift_op op_lifts is.1 _ is.4,
 )
 
 -- ---- the whole
 
-file_lifts : (d : Data) (h : History) → IsFileIn One d h → IsFileIn Two (lift d) h
-file_lifts d h file = record {
+parts_lift : (d : Data) (h : History) → HoldsIn One d h → HoldsIn Two (lift d) h
+parts_lift d h file = record {
   number = number (unsigned 2);
   initial = lift_list file.initial;
   transactions = in_list lift_txn file.transactions;
@@ -101,12 +101,14 @@ file_lifts d h file = record {
   transactions_are = list_kept (IsTransaction One) (IsTransaction Two) lift_txn txn_lifts file.transactions _ file.transactions_are;
   installed_is = list_kept (IsInstalled One) (IsInstalled Two) lift_member installed_lifts file.installed _ file.installed_is;
   end_is = list_kept (IsPair One value_in) (IsPair Two value_in) lift_member (pair_lifts value_in) file.end _ file.end_is;
-  keeps = file.keeps;
 }
 
 -- a file that says version 1 is one of version 1
 pub lifted_file : (d : Data) (h : History) → version_said d ≡ One → IsFileOf d h → IsFileIn Two (lift d) h
-lifted_file d h one (version, file) = file_lifts d h (subst (λ v. IsFileIn v d h) (sym (says version d h file) ∙ one) file)
+lifted_file d h one (version, file) = record {
+  holds = parts_lift d h (subst (λ v. HoldsIn v d h) (sym (says version d h file) ∙ one) file.holds);
+  keeps = file.keeps;
+}
 
 -- what is read of it is read of the other
 pub lifted_read : (d : Data) (h : History) → version_said d ≡ One → history_in d ≡ Ok h → history_in (lift d) ≡ Ok h

@@ -3,7 +3,7 @@ use Rattle.std.proofs.Common.{◌≡◌, ◌≢◌, ◌<◌, ℕ, List, [], ◌�
 use Rattle.serde_json.specs.declared.value.Value.{Value}
 use Rattle.serde_json.specs.View.{items_view}
 use Rattle.lab_history_file.specs.Member.{sized, split_key}
-use Rattle.lab_history_file.specs.Entries.{installers_from, installers_of}
+use Rattle.lab_history_file.specs.Entries.{items_from, installer_in, installers_of}
 use Rattle.lab_history.specs.declared.fault.FileFault.TheVariants as fault
 use Rattle.lab_history_file.specs.declared.file_version.FileVersion.TheVariants.{One, Two}
 use Rattle.lab_history.specs.declared.path.Path.TheVariants as path
@@ -35,6 +35,6 @@ no_installer index part [] none = refl
 no_installer index part (a ∷ vs) none = absurd (omega (arith, none))
 
 -- any other list has those of its members
-pub some_installer : (index part : ℕ) (vs : List Value) → length vs ≢ 0 → installers_of index part (Some (items_view vs)) ≡ installers_from index part 0 (items_view vs)
+pub some_installer : (index part : ℕ) (vs : List Value) → length vs ≢ 0 → installers_of index part (Some (items_view vs)) ≡ items_from (installer_in index part) [] 0 (items_view vs)
 some_installer index part [] some = absurd (some refl)
 some_installer index part (a ∷ vs) some = refl

@@ -1,30 +1,28 @@
 -- Operations are read as what they stand for, and as nothing else.
-use Rattle.std.proofs.Common.{◌≡◌, ℕ, ◌+◌, arith, List, [], ◌∷◌, length, Option, Some, None, option_and_then, Ok, if◌then◌else◌, codes, refl, sym, ap, subst, ◌∙◌}
+use Rattle.std.proofs.Common.{◌≡◌, ℕ, ◌+◌, arith, List, [], ◌∷◌, length, Option, Some, None, option_and_then, Ok, if◌then◌else◌, refl, sym, ap, subst, ◌∙◌}
 use Rattle.std.specs.FinMap as finite
-use Rattle.serde_json.specs.Data.{Data, object, Items, no_items, item, no_members, member}
+use Rattle.serde_json.specs.Data.{Data, Items, no_items, item}
 use Rattle.serde_json.specs.Find.{as_str}
 use Rattle.lab_table.specs.declared.statement.Statement.{Statement}
 use Rattle.lab_statement.specs.StatementText.{statement_in}
 use Rattle.lab_history.specs.Faults.{required}
-use Rattle.lab_history_file.specs.Entries.{values_in, writes_in, view_in}
+use Rattle.lab_history_file.specs.Entries.{items_from, values_in, writes_in, view_in}
 use Rattle.lab_history_file.specs.FileVersion.{may_have}
 use Rattle.lab_history_file.specs.FileOf.{AreEach, SpellsIn, IsOperation}
 use Rattle.lab_history_file.specs.Member.{count}
-use Rattle.lab_history_file.specs.Format.{keyed, op_keys, only_in, spelled_in, op_in, ops_from}
+use Rattle.lab_history_file.specs.Keys.{op_keys, object_with}
+use Rattle.lab_history_file.specs.Format.{keyed, only_in, spelled_in, op_in, op_behind}
 use Rattle.lab_history_file.specs.declared.file_version.FileVersion.{FileVersion}
+use Rattle.lab_history.specs.VersionName.{new_states}
 use Rattle.lab_history.specs.declared.operation.Op.{Op}
 use Rattle.lab_history.specs.declared.path.ListPlace.TheVariants as list
 use Rattle.lab_history.specs.declared.path.Path.TheVariants as path
 use Rattle.lab_statement.proofs.StatementRead.{spells_in, in_spells}
 use Rattle.lab_history.proofs.Steps.{both_ok, both_some, step_on, required_ok, when_found}
 use Rattle.lab_history_file.proofs.JsonShapes.{string_of, keyed_shape}
+use Rattle.lab_history_file.proofs.ItemsRead.{each_read, each_is_read}
 use Rattle.lab_history_file.proofs.ListsRead.{map_again}
 use Rattle.lab_history_file.proofs.EntriesRead.{values_read, values_are_read, writes_read, writes_are_read, view_read, view_is_read}
-
--- an operation's object
-abbrev pub op_tree : Data → Data → Data → Data → Data
-op_tree rows statement view writes =
-    object (member (codes "rows") rows (member (codes "statement") statement (member (codes "view") view (member (codes "writes") writes no_members))))
 
 -- a text that spells a statement which a file of the version may have, is read so, and one that is read so does
 pub spells_read : (version : FileVersion) (text : List ℕ) (s : Statement) → option_and_then (only_in version) (statement_in text) ≡ Some s → SpellsIn version text s
@@ -43,21 +41,21 @@ spelled_ok by op None s e = absurd cc
 spelled_ok by op (Some t) s e = cc
 
 module _ (version : FileVersion) (txn by index : ℕ) where
-  op_parts : (rows statement view writes : Data) (op : Op) → op_in version txn by index (op_tree rows statement view writes) ≡ Ok op → IsOperation version (op_tree rows statement view writes) op
+  op_parts : (rows statement view writes : Data) (op : Op) → op_in version txn by index (object_with op_keys (rows ∷ statement ∷ view ∷ writes ∷ [])) ≡ Ok op → IsOperation version (object_with op_keys (rows ∷ statement ∷ view ∷ writes ∷ [])) op
   op_parts rows statement view writes op e =
       let text = both_ok (required (path.Statement txn index) (as_str statement)) _ op e in
       let spelled = both_ok (spelled_in by (index + 1) (option_and_then (only_in version) (statement_in text.0))) _ op text.2 in
       let seen = both_ok (view_in version (list.View txn index) view) _ op spelled.2 in
       let listed = both_ok (values_in version (list.Rows txn index) rows) _ op seen.2 in
       let written = both_ok (writes_in version (list.Writes txn index) writes) _ op listed.2 in
-      let made : Op = record { statement = spelled.0; view = finite.from_sorted seen.0; rows = finite.from_sorted listed.0; writes = finite.from_sorted written.0 } in
+      let made : Op = record { statement = spelled.0; view = finite.from_sorted seen.0; rows = finite.from_sorted listed.0; writes = finite.from_sorted (new_states written.0) } in
       let same : made ≡ op = cc in
-      subst (IsOperation version (op_tree rows statement view writes)) same (
+      subst (IsOperation version (object_with op_keys (rows ∷ statement ∷ view ∷ writes ∷ []))) same (
         rows,
         view,
         writes,
         text.0,
-        ap (λ s. op_tree rows s view writes) (string_of statement text.0 (required_ok (path.Statement txn index) (as_str statement) text.0 text.1)),
+        ap (λ s. object_with op_keys (rows ∷ s ∷ view ∷ writes ∷ [])) (string_of statement text.0 (required_ok (path.Statement txn index) (as_str statement) text.0 text.1)),
         spells_read version text.0 spelled.0 (spelled_ok by (index + 1) _ spelled.0 spelled.1),
         view_read version (list.View txn index) view seen.0 seen.1,
         values_read version (list.Rows txn index) rows listed.0 listed.1,
@@ -75,36 +73,27 @@ module _ (version : FileVersion) (txn by index : ℕ) where
   -- and one that is, is read
   pub op_is_read : (d : Data) (op : Op) → IsOperation version d op → op_in version txn by index d ≡ Ok op
   op_is_read d op is =
+      let written = writes_are_read version (list.Writes txn index) is.2 op.writes is.8 in
       let made : Op = record {
         statement = op.statement;
         view = finite.from_sorted (finite.entries op.view);
         rows = finite.from_sorted (finite.entries op.rows);
-        writes = finite.from_sorted
-            (finite.entries op.writes);
+        writes = finite.from_sorted (new_states written.0);
       } in
-      let again : made ≡ op = λ i. record { statement = op.statement; view = map_again op.view i; rows = map_again op.rows i; writes = map_again op.writes i } in
+      let writes : finite.from_sorted (new_states written.0) ≡ op.writes = ap finite.from_sorted written.2 ∙ map_again op.writes in
+      let again : made ≡ op = λ i. record { statement = op.statement; view = map_again op.view i; rows = map_again op.rows i; writes = writes i } in
       ap (op_in version txn by index) is.4
       ∙ step_on _ (ap (spelled_in by (index + 1)) (spells_are_read version is.3 op.statement is.5))
       (step_on _ (view_is_read version (list.View txn index) is.1 op.view is.6)
       (step_on _ (values_are_read version (list.Rows txn index) is.0 op.rows is.7)
-      (step_on _ (writes_are_read version (list.Writes txn index) is.2 op.writes is.8) (ap (λ (o : Op). Ok o) again))))
+      (step_on _ written.1 (ap (λ (o : Op). Ok o) again))))
 
 module _ (version : FileVersion) (txn by : ℕ) where
-  pub ops_read : (index : ℕ) (ds : Items) (ops : List Op) → ops_from version txn by index ds ≡ Ok ops → AreEach (IsOperation version) ds ops
-  ops_read index no_items [] e = tt
-  ops_read index no_items (op ∷ ops) e = absurd cc
-  ops_read index (item d ds) ops e =
-      let first = both_ok (op_in version txn by index d) _ ops e in
-      let rest = both_ok (ops_from version txn by (index + 1) ds) _ ops first.2 in
-      let same : first.0 ∷ rest.0 ≡ ops = cc in
-      subst (AreEach (IsOperation version) (item d ds)) same (op_read version txn by index d first.0 first.1, ops_read (index + 1) ds rest.0 rest.1)
+  pub ops_read : (ds : Items) (ops : List Op) → items_from (op_behind version txn by) [] 0 ds ≡ Ok ops → AreEach (IsOperation version) ds ops
+  ops_read = each_read (op_behind version txn by) (IsOperation version) (λ before. op_read version txn by)
 
-  pub ops_are_read : (index : ℕ) (ds : Items) (ops : List Op) → AreEach (IsOperation version) ds ops → ops_from version txn by index ds ≡ Ok ops
-  ops_are_read index no_items [] each = refl
-  ops_are_read index no_items (op ∷ ops) each = absurd each
-  ops_are_read index (item d ds) [] each = absurd each
-  ops_are_read index (item d ds) (op ∷ ops) each =
-      step_on _ (op_is_read version txn by index d op each.0) (step_on _ (ops_are_read (index + 1) ds ops each.1) refl)
+  pub ops_are_read : (ds : Items) (ops : List Op) → AreEach (IsOperation version) ds ops → items_from (op_behind version txn by) [] 0 ds ≡ Ok ops
+  ops_are_read = each_is_read (op_behind version txn by) (IsOperation version) (λ before. op_is_read version txn by)
 
 -- a list has as many items as what they stand for
 pub each_count : {X : Type 0} (Is : Data → X → Type 0) (ds : Items) (xs : List X) → AreEach Is ds xs → count ds ≡ length xs

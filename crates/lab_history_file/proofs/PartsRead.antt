@@ -1,15 +1,16 @@
 -- The parts of a history are read as what the table of the format says, and as nothing else.
-use Rattle.std.proofs.Common.{◌≡◌, ℕ, ◌≤◌, ◌==◌, Bool, true, false, [], length, Option, Some, None, Ok, Err, codes, option_and_then, if◌then◌else◌, bytes_eq, refl, sym, ap, subst, ◌∙◌, eqb-true}
+use Rattle.std.proofs.Common.{◌≡◌, ℕ, ◌≤◌, ◌==◌, Bool, true, false, [], ◌∷◌, length, Option, Some, None, Ok, Err, codes, option_and_then, if◌then◌else◌, bytes_eq, refl, sym, ap, subst, ◌∙◌, eqb-true}
 use Rattle.std.specs.Prelude.{⊤}
 use Rattle.std.specs.FinMap as finite
 use Rattle.std.proofs.lemmas.Slice.Eq.{bytes_eq-Decides}
-use Rattle.serde_json.specs.Data.{Data, string, object, no_members, member}
-use Rattle.serde_json.specs.Find.{as_number, as_u64, as_str}
+use Rattle.serde_json.specs.Data.{Data, string}
+use Rattle.serde_json.specs.Find.{as_str}
 use Rattle.lab_history.specs.Faults.{◌>>=◌, required}
-use Rattle.lab_history_file.specs.Entries.{value_in, values_in, installed_in}
+use Rattle.lab_history_file.specs.Entries.{values_in, installed_in}
 use Rattle.lab_history_file.specs.FileVersion.{version_number}
-use Rattle.lab_history_file.specs.FileOf.{IsListOf, IsMapOf, IsPair, IsInstalled, IsTransaction}
-use Rattle.lab_history_file.specs.Format.{format_in, numbered_version, version_in, keyed, root_keys, txns_in, parts_in}
+use Rattle.lab_history_file.specs.FileOf.{HoldsIn}
+use Rattle.lab_history_file.specs.Keys.{root_keys, object_with}
+use Rattle.lab_history_file.specs.Format.{format_in, numbered_version, version_in, keyed, txns_in, parts_in}
 use Rattle.lab_history.specs.History.{History}
 use Rattle.lab_history.specs.declared.fault.FileFault.TheVariants as fault
 use Rattle.lab_history_file.specs.declared.file_version.FileVersion.{FileVersion}
@@ -20,33 +21,12 @@ use Rattle.lab_history.proofs.Steps.{both_ok, both_some, step_on, required_ok, w
 use Rattle.lab_history_file.proofs.JsonShapes.{string_of, keyed_shape}
 use Rattle.lab_history_file.proofs.ListsRead.{map_again}
 use Rattle.lab_history_file.proofs.EntriesRead.{values_read, values_are_read, installed_list_read, installed_list_is_read}
-use Rattle.lab_history_file.proofs.TransactionsRead.{AllStand, list_read, list_is_read}
+use Rattle.lab_history_file.proofs.ItemsRead.{AllStand}
+use Rattle.lab_history_file.proofs.TransactionsRead.{Stands, list_read, list_is_read}
 
--- a history's object
-abbrev pub root_tree : Data → Data → Data → Data → Data → Data → Data
-root_tree end format initial installed transactions number =
-    object (member (codes "end") end (member (codes "format") format (member (codes "initial") initial
-    (member (codes "installed") installed (member (codes "transactions") transactions (member (codes "version") number no_members))))))
-
--- the parts stand in the value as the table of the format says, and each transaction may stand behind those before it
-pub record HoldsParts (version : FileVersion) (d : Data) (h : History) : Type 0 where
-  pub number : Data
-  pub initial : Data
-  pub transactions : Data
-  pub installed : Data
-  pub end : Data
-  pub tree : d ≡ root_tree end (string (codes "hermitage-history")) initial installed transactions number
-  pub number_is : option_and_then as_u64 (as_number number) ≡ Some (version_number version)
-  pub initial_is : IsMapOf (IsPair version value_in) initial h.initial
-  pub transactions_are : IsListOf (IsTransaction version) transactions h.txns
-  pub installed_is : IsMapOf (IsInstalled version) installed h.installed
-  pub end_is : IsMapOf (IsPair version value_in) end h.end_table
-  pub stand : AllStand [] h.txns
-  pub few : length h.txns ≤ 1000
-
--- they stand in a value of either version
+-- the parts of a history stand in a value of either version, where each transaction may stand behind those before it
 abbrev pub Holds : Data → History → Type 0
-Holds d h = (version : FileVersion) × HoldsParts version d h
+Holds d h = (version : FileVersion) × HoldsIn version d h × AllStand Stands [] h.txns × (length h.txns ≤ 1000)
 
 format_named : (d : Data) (u : ⊤) → option_and_then (λ text. if bytes_eq text (codes "hermitage-history") then Some tt else None) (as_str d) ≡ Some u → d ≡ string (codes "hermitage-history")
 format_named d u e =
@@ -71,11 +51,11 @@ number_is_read : (version : FileVersion) → numbered_version (version_number ve
 number_is_read One = refl
 number_is_read Two = refl
 
-tree_read : (end format initial installed transactions number : Data) (h : History) → parts_in (root_tree end format initial installed transactions number) ≡ Ok h
-    → Holds (root_tree end format initial installed transactions number) h
+tree_read : (end format initial installed transactions number : Data) (h : History) → parts_in (object_with root_keys (end ∷ format ∷ initial ∷ installed ∷ transactions ∷ number ∷ [])) ≡ Ok h
+    → Holds (object_with root_keys (end ∷ format ∷ initial ∷ installed ∷ transactions ∷ number ∷ [])) h
 tree_read end format initial installed transactions number h e =
-    let named = both_ok (format_in (root_tree end format initial installed transactions number)) _ h e in
-    let versioned = both_ok (version_in (root_tree end format initial installed transactions number)) _ h named.2 in
+    let named = both_ok (format_in (object_with root_keys (end ∷ format ∷ initial ∷ installed ∷ transactions ∷ number ∷ []))) _ h e in
+    let versioned = both_ok (version_in (object_with root_keys (end ∷ format ∷ initial ∷ installed ∷ transactions ∷ number ∷ []))) _ h named.2 in
     let version = versioned.0 in
     let begun = both_ok (values_in version list.Initial initial) _ h versioned.2 in
     let txns = both_ok (txns_in version transactions) _ h begun.2 in
@@ -85,24 +65,22 @@ tree_read end format initial installed transactions number h e =
     let same : made ≡ h = cc in
     let are = list_read version transactions txns.0 txns.1 in
     let spelled = format_named format named.0 (required_ok path.Format _ named.0 named.1) in
-    let holds : HoldsParts version (root_tree end format initial installed transactions number) made = record {
+    let holds : HoldsIn version (object_with root_keys (end ∷ format ∷ initial ∷ installed ∷ transactions ∷ number ∷ [])) made = record {
       initial = initial;
       transactions = transactions;
       installed = installed;
       end = end;
       number = number;
-      tree = ap (λ f. root_tree end f initial installed transactions number) spelled;
+      tree = ap (λ f. object_with root_keys (end ∷ f ∷ initial ∷ installed ∷ transactions ∷ number ∷ [])) spelled;
       number_is = number_read version _ versioned.1;
       initial_is = values_read version list.Initial initial begun.0 begun.1;
       transactions_are = are.0;
       installed_is = installed_list_read version installed those.0 those.1;
       end_is = values_read version list.End end ended.0 ended.1;
-      stand = are.1;
-      few = are.2;
     } in
-    subst (Holds (root_tree end format initial installed transactions number)) same (version, holds)
+    subst (Holds (object_with root_keys (end ∷ format ∷ initial ∷ installed ∷ transactions ∷ number ∷ []))) same (version, holds, are.1, are.2)
 
-shaped_read : (d end format initial installed transactions number : Data) (h : History) → d ≡ root_tree end format initial installed transactions number → parts_in d ≡ Ok h → Holds d h
+shaped_read : (d end format initial installed transactions number : Data) (h : History) → d ≡ object_with root_keys (end ∷ format ∷ initial ∷ installed ∷ transactions ∷ number ∷ []) → parts_in d ≡ Ok h → Holds d h
 shaped_read d end format initial installed transactions number h is e =
     subst (λ t. Holds t h) (sym is) (tree_read end format initial installed transactions number h (subst (λ t. parts_in t ≡ Ok h) is e))
 
@@ -116,8 +94,8 @@ parts_read d h e =
     shaped_read d shape.0 shape.1.0 shape.1.1.0 shape.1.1.1.0 shape.1.1.1.1.0 shape.1.1.1.1.1.0 h shape.1.1.1.1.1.1 e
 
 -- parts that stand in the value are read
-pub parts_are_read : (version : FileVersion) (d : Data) (h : History) → HoldsParts version d h → parts_in d ≡ Ok h
-parts_are_read version d h holds =
+pub parts_are_read : (version : FileVersion) (d : Data) (h : History) → HoldsIn version d h → AllStand Stands [] h.txns → length h.txns ≤ 1000 → parts_in d ≡ Ok h
+parts_are_read version d h holds stand few =
     let made : History = record {
       initial = finite.from_sorted (finite.entries h.initial);
       txns = h.txns;
@@ -128,6 +106,6 @@ parts_are_read version d h holds =
     ap parts_in holds.tree
     ∙ step_on _ (ap (λ o. required path.Version o >>= numbered_version) holds.number_is ∙ number_is_read version)
     (step_on _ (values_are_read version list.Initial holds.initial h.initial holds.initial_is)
-    (step_on _ (list_is_read version holds.transactions h.txns holds.transactions_are holds.stand holds.few)
+    (step_on _ (list_is_read version holds.transactions h.txns holds.transactions_are stand few)
     (step_on _ (installed_list_is_read version holds.installed h.installed holds.installed_is)
     (step_on _ (values_are_read version list.End holds.end h.end_table holds.end_is) (ap (λ (k : History). Ok k) again)))))

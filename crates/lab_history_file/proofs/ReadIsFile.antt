@@ -10,25 +10,7 @@ use Rattle.lab_history_file.proofs.PartsRead.{parts_read}
 use Rattle.lab_history_file.proofs.ReadKeeps.{read_keeps}
 
 file_of_parts : (d : Data) (h : History) → parts_in d ≡ Ok h → within_limits h ≡ Ok tt → IsFileOf d h
-file_of_parts d h e within =
-    let found = parts_read d h e in
-    let holds = found.1 in (
-      found.0,
-      record {
-        number = holds.number;
-        initial = holds.initial;
-        transactions = holds.transactions;
-        installed = holds.installed;
-        end = holds.end;
-        tree = holds.tree;
-        number_is = holds.number_is;
-        initial_is = holds.initial_is;
-        transactions_are = holds.transactions_are;
-        installed_is = holds.installed_is;
-        end_is = holds.end_is;
-        keeps = read_keeps d h e within;
-      },
-    )
+file_of_parts d h e within = let found = parts_read d h e in (found.0, record { holds = found.1; keeps = read_keeps d h e within })
 
 pub read_is_file : (d : Data) (h : History) → history_in d ≡ Ok h → IsFileOf d h
 read_is_file d h e =

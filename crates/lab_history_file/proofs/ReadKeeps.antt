@@ -73,11 +73,11 @@ read_keeps d h e within =
     let found = parts_read d h e in
     let version = found.0 in
     let holds = found.1 in
-    let standing = standing [] h.txns holds.stand tt (omega arith) in
+    let standing = standing [] h.txns found.2 tt (omega arith) in
     let tables = both_ok (refused_if (nat_lt 4 (distinct_tables (named_tables h))) (fault.OverLimit limit.Tables)) _ tt within in
     let ids = both_ok (refused_if (nat_lt 1000 (distinct_rows (named_rows h))) (fault.OverLimit limit.Ids)) _ tt tables.2 in
     record {
-      transactions = holds.few;
+      transactions = found.3;
       distinct = standing.0;
       few_operations = standing.1;
       operations_keep = operations_keep version holds.transactions_are.0 h.txns holds.transactions_are.2;

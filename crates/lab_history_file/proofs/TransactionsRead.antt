@@ -1,14 +1,15 @@
 -- Transactions are read as what they stand for, and as nothing else.
-use Rattle.std.proofs.Common.{◌≡◌, ℕ, ◌+◌, ◌≤◌, ◌==◌, Bool, true, false, List, [], ◌∷◌, ◌++◌, length, Some, None, Ok, codes, refl, sym, ap, subst, ◌∙◌, arith, append_assoc, append-nil, option_and_then, nat_lt, if◌then◌else◌, bytes_eq}
+use Rattle.std.proofs.Common.{◌≡◌, ℕ, ◌+◌, ◌≤◌, ◌==◌, Bool, true, false, List, [], ◌∷◌, length, Some, None, Ok, codes, refl, sym, ap, subst, ◌∙◌, arith, option_and_then, nat_lt, if◌then◌else◌, bytes_eq}
 use Rattle.std.specs.List.{list_any}
 use Rattle.std.proofs.lemmas.Slice.Eq.{bytes_eq-Decides}
-use Rattle.serde_json.specs.Data.{Data, string, object, Items, no_items, item, no_members, member}
+use Rattle.serde_json.specs.Data.{Data, string}
 use Rattle.serde_json.specs.Find.{as_str, as_array}
 use Rattle.lab_history.specs.Faults.{required, refused_if}
-use Rattle.lab_history_file.specs.Entries.{txn_in_number}
-use Rattle.lab_history_file.specs.FileOf.{AreEach, IsListOf, IsOperation, IsTransaction, outcome_text}
+use Rattle.lab_history_file.specs.Entries.{txn_in_number, items_from}
+use Rattle.lab_history_file.specs.FileOf.{IsListOf, IsOperation, IsTransaction, outcome_text}
 use Rattle.lab_history_file.specs.Member.{count}
-use Rattle.lab_history_file.specs.Format.{keyed, txn_keys, ops_from, outcome_named, txn_in, txns_from, txns_in}
+use Rattle.lab_history_file.specs.Keys.{txn_keys, object_with}
+use Rattle.lab_history_file.specs.Format.{keyed, op_behind, outcome_named, txn_in, txns_in}
 use Rattle.lab_history.specs.HistoryRules.{operations}
 use Rattle.lab_history.specs.declared.fault.FileFault.TheVariants as fault
 use Rattle.lab_history.specs.declared.fault.Limit.TheVariants as limit
@@ -18,6 +19,7 @@ use Rattle.lab_history.specs.declared.transaction.Outcome.{Outcome}
 use Rattle.lab_history.specs.declared.transaction.Outcome.TheVariants.{Committed, Aborted}
 use Rattle.lab_history.specs.declared.transaction.Txn.{Txn}
 use Rattle.lab_history.proofs.Steps.{both_ok, both_some, step_on, required_ok, required_is, refused_ok, refused_is, kept_limit, limit_kept}
+use Rattle.lab_history_file.proofs.ItemsRead.{AllStand, items_read, items_are_read}
 use Rattle.lab_history_file.proofs.JsonShapes.{array_of, string_of, keyed_shape}
 use Rattle.lab_history_file.proofs.OperationsRead.{ops_read, ops_are_read, each_count}
 
@@ -42,37 +44,33 @@ outcome_is_read Aborted = refl
 
 -- ---- a transaction
 
--- a transaction's object
-abbrev pub txn_tree : Data → Data → Data → Data
-txn_tree own ops outcome = object (member (codes "no") own (member (codes "ops") ops (member (codes "outcome") outcome no_members)))
-
 -- what a transaction's place among those before it allows
 pub record Stands (before : List Txn) (txn : Txn) : Type 0 where
   pub alone : list_any (λ t. t.no == txn.no) before ≡ false
   pub room : length (operations before) + length txn.ops ≤ 10000
 
 module _ (version : FileVersion) (before : List Txn) (index : ℕ) where
-  txn_parts : (own ops outcome : Data) (txn : Txn) → txn_in version before index (txn_tree own ops outcome) ≡ Ok txn
-      → IsTransaction version (txn_tree own ops outcome) txn × Stands before txn
+  txn_parts : (own ops outcome : Data) (txn : Txn) → txn_in version before index (object_with txn_keys (own ∷ ops ∷ outcome ∷ [])) ≡ Ok txn
+      → IsTransaction version (object_with txn_keys (own ∷ ops ∷ outcome ∷ [])) txn × Stands before txn
   txn_parts own ops outcome txn e =
       let numbered = both_ok (required (path.Number index) (txn_in_number own)) _ txn e in
       let alone = both_ok (refused_if (list_any (λ t. t.no == numbered.0) before) (fault.RepeatedTxn numbered.0)) _ txn numbered.2 in
       let ended = both_ok (required (path.Outcome index) (option_and_then outcome_named (as_str outcome))) _ txn alone.2 in
       let items = both_ok (required (path.Operations index) (as_array ops)) _ txn ended.2 in
       let room = both_ok (refused_if (nat_lt 10000 (length (operations before) + count items.0)) (fault.OverLimit limit.Operations)) _ txn items.2 in
-      let those = both_ok (ops_from version index numbered.0 0 items.0) _ txn room.2 in
+      let those = both_ok (items_from (op_behind version index numbered.0) [] 0 items.0) _ txn room.2 in
       let made : Txn = record { no = numbered.0; outcome = ended.0; ops = those.0 } in
       let same : made ≡ txn = cc in
-      let each = ops_read version index numbered.0 0 items.0 those.0 those.1 in
+      let each = ops_read version index numbered.0 items.0 those.0 those.1 in
       let spelled = outcome_spelled outcome ended.0 (required_ok (path.Outcome index) _ ended.0 ended.1) in
       let many : count items.0 ≡ length those.0 = each_count (IsOperation version) items.0 those.0 each in
       let few : length (operations before) + count items.0 ≤ 10000 = kept_limit 10000 _ _ room.0 room.1 in
       let stands : Stands before made = record { alone = refused_ok _ _ alone.0 alone.1; room = omega (arith, many, few) } in
-      subst (λ t. IsTransaction version (txn_tree own ops outcome) t × Stands before t) same (
+      subst (λ t. IsTransaction version (object_with txn_keys (own ∷ ops ∷ outcome ∷ [])) t × Stands before t) same (
         (
           own,
           ops,
-          ap (λ o. txn_tree own ops o) spelled,
+          ap (λ o. object_with txn_keys (own ∷ ops ∷ o ∷ [])) spelled,
           required_ok (path.Number index) _ numbered.0 numbered.1,
           (items.0, array_of ops items.0 (required_ok (path.Operations index) _ items.0 items.1), each),
         ),
@@ -99,48 +97,25 @@ module _ (version : FileVersion) (before : List Txn) (index : ℕ) where
       (step_on _ (required_is (path.Outcome index) (outcome_is_read txn.outcome))
       (step_on _ (required_is (path.Operations index) (ap as_array is.4.1))
       (step_on _ (limit_kept 10000 _ (fault.OverLimit limit.Operations) few)
-      (step_on _ (ops_are_read version index txn.no 0 items txn.ops is.4.2) refl)))))
+      (step_on _ (ops_are_read version index txn.no items txn.ops is.4.2) refl)))))
 
 -- ---- the list
 
--- each transaction may stand behind those before it
-abbrev pub AllStand : List Txn → List Txn → Type 0
-AllStand before [] = Unit {0}
-AllStand before (txn ∷ txns) = Stands before txn × AllStand (before ++ txn ∷ []) txns
-
-pub txns_read : (version : FileVersion) (before : List Txn) (index : ℕ) (ds : Items) (all : List Txn) → txns_from version before index ds ≡ Ok all
-    → (txns : List Txn) × (all ≡ before ++ txns) × AreEach (IsTransaction version) ds txns × AllStand before txns
-txns_read version before index no_items all e = let same : before ≡ all = cc in ([], sym same ∙ sym (append-nil before), tt, tt)
-txns_read version before index (item d ds) all e =
-    let first = both_ok (txn_in version before index d) _ all e in
-    let is = txn_read version before index d first.0 first.1 in
-    let rest = txns_read version (before ++ first.0 ∷ []) (index + 1) ds all first.2 in
-    (first.0 ∷ rest.0, rest.1 ∙ append_assoc before (first.0 ∷ []) rest.0, (is.0, rest.2), (is.1, rest.3))
-
-pub txns_are_read : (version : FileVersion) (before : List Txn) (index : ℕ) (ds : Items) (txns : List Txn) → AreEach (IsTransaction version) ds txns → AllStand before txns
-    → txns_from version before index ds ≡ Ok (before ++ txns)
-txns_are_read version before index no_items [] each all = ap (λ ts. Ok ts) (sym (append-nil before))
-txns_are_read version before index no_items (txn ∷ txns) each all = absurd each
-txns_are_read version before index (item d ds) [] each all = absurd each
-txns_are_read version before index (item d ds) (txn ∷ txns) each all =
-    step_on _ (txn_is_read version before index d txn each.0 all.0)
-    (txns_are_read version (before ++ txn ∷ []) (index + 1) ds txns each.1 all.1 ∙ ap (λ (ts : List Txn). Ok ts) (append_assoc before (txn ∷ []) txns))
-
 -- a list of transactions that is read stands for them
-pub list_read : (version : FileVersion) (d : Data) (txns : List Txn) → txns_in version d ≡ Ok txns → IsListOf (IsTransaction version) d txns × AllStand [] txns × (length txns ≤ 1000)
+pub list_read : (version : FileVersion) (d : Data) (txns : List Txn) → txns_in version d ≡ Ok txns → IsListOf (IsTransaction version) d txns × AllStand Stands [] txns × (length txns ≤ 1000)
 list_read version d txns e =
     let items = both_ok (required path.Transactions (as_array d)) _ txns e in
     let few = both_ok (refused_if (nat_lt 1000 (count items.0)) (fault.OverLimit limit.Transactions)) _ txns items.2 in
-    let found = txns_read version [] 0 items.0 txns few.2 in
+    let found = items_read (txn_in version) (IsTransaction version) Stands (txn_read version) [] 0 items.0 txns few.2 in
     let same : found.0 ≡ txns = sym found.1 in
     let many : count items.0 ≡ length found.0 = each_count (IsTransaction version) items.0 found.0 found.2 in
     let within : count items.0 ≤ 1000 = kept_limit 1000 _ _ few.0 few.1 in
-    subst (λ ts. IsListOf (IsTransaction version) d ts × AllStand [] ts × (length ts ≤ 1000)) same
+    subst (λ ts. IsListOf (IsTransaction version) d ts × AllStand Stands [] ts × (length ts ≤ 1000)) same
     ((items.0, array_of d items.0 (required_ok path.Transactions _ items.0 items.1), found.2), found.3, omega (arith, many, within))
 
-pub list_is_read : (version : FileVersion) (d : Data) (txns : List Txn) → IsListOf (IsTransaction version) d txns → AllStand [] txns → length txns ≤ 1000 → txns_in version d ≡ Ok txns
+pub list_is_read : (version : FileVersion) (d : Data) (txns : List Txn) → IsListOf (IsTransaction version) d txns → AllStand Stands [] txns → length txns ≤ 1000 → txns_in version d ≡ Ok txns
 list_is_read version d txns is all few =
     let many : count is.0 ≡ length txns = each_count (IsTransaction version) is.0 txns is.2 in
     let within : count is.0 ≤ 1000 = omega (arith, many, few) in
     step_on _ (required_is path.Transactions (ap as_array is.1))
-    (step_on _ (limit_kept 1000 _ (fault.OverLimit limit.Transactions) within) (txns_are_read version [] 0 is.0 txns is.2 all))
+    (step_on _ (limit_kept 1000 _ (fault.OverLimit limit.Transactions) within) (items_are_read (txn_in version) (IsTransaction version) Stands (txn_is_read version) [] 0 is.0 txns is.2 all))

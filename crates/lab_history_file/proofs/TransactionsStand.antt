@@ -5,7 +5,8 @@ use Rattle.std.proofs.lemmas.Bool.{or_parts, or_from}
 use Rattle.std.proofs.lemmas.Grind.{flat_map-append}
 use Rattle.lab_history.specs.HistoryRules.{AllDistinct, operations}
 use Rattle.lab_history.specs.declared.transaction.Txn.{Txn}
-use Rattle.lab_history_file.proofs.TransactionsRead.{AllStand}
+use Rattle.lab_history_file.proofs.ItemsRead.{AllStand}
+use Rattle.lab_history_file.proofs.TransactionsRead.{Stands}
 use Rattle.lab_history.proofs.Standing.{numbers, unlike, operations_push}
 
 -- a number at the end that none of those before it has
@@ -20,7 +21,7 @@ distinct_pushed (t ∷ ts) txn all alone =
     (none_pushed t.no ts txn all.0 (unlike _ _ parts.0), distinct_pushed ts txn all.1 parts.1)
 
 -- where each may stand, all numbers are distinct and all operations few enough
-pub standing : (before txns : List Txn) → AllStand before txns → AllDistinct (numbers before) → length (operations before) ≤ 10000
+pub standing : (before txns : List Txn) → AllStand Stands before txns → AllDistinct (numbers before) → length (operations before) ≤ 10000
     → AllDistinct (numbers (before ++ txns)) × (length (operations (before ++ txns)) ≤ 10000)
 standing before [] all distinct few = subst (λ ts. AllDistinct (numbers ts) × (length (operations ts) ≤ 10000)) (sym (append-nil before)) (distinct, few)
 standing before (txn ∷ txns) all distinct few =
@@ -40,7 +41,7 @@ alone_in [] txn txns all = refl
 alone_in (t ∷ ts) txn txns all = or_from _ _ (unlike _ _ (differs t.no ts txn txns all.0)) (alone_in ts txn txns all.1)
 
 -- where all numbers are distinct and all operations few enough, each may stand
-pub stand : (before txns : List Txn) → AllDistinct (numbers (before ++ txns)) → length (operations (before ++ txns)) ≤ 10000 → AllStand before txns
+pub stand : (before txns : List Txn) → AllDistinct (numbers (before ++ txns)) → length (operations (before ++ txns)) ≤ 10000 → AllStand Stands before txns
 stand before [] distinct few = tt
 stand before (txn ∷ txns) distinct few =
     let regroup = append_assoc before (txn ∷ []) txns in

@@ -1,19 +1,17 @@
 -- The value of a history's file has no float, and nests no deeper than JSON is read.
-use Rattle.std.proofs.Common.{◌≡◌, ◌≤◌, ℕ, ℤ, pos, negsuc, suc, false, Option, Some, None, List, [], ◌∷◌, ◌++◌, refl, arith}
+use Rattle.std.proofs.Common.{◌≡◌, ◌≤◌, ℕ, ℤ, pos, negsuc, suc, false, Option, Some, None, List, [], ◌∷◌, refl, arith}
 use Rattle.std.specs.FinMap as finite
 use Rattle.std.specs.FinMap.{FinMap}
-use Rattle.serde_json.specs.Data.{Data, depth, items_depth}
+use Rattle.serde_json.specs.Data.{Data, depth}
 use Rattle.serde_json.specs.Read.{max_depth}
-use Rattle.serde_json.specs.View.{items_of}
-use Rattle.serde_json.specs.Written.{has_float, items_have_float}
+use Rattle.serde_json.specs.Written.{has_float}
 use Rattle.lab_table.specs.Row.{Row, row_cmp}
 use Rattle.lab_history.specs.History.{History}
-use Rattle.lab_history_file.specs.Tree.{natural_tree, value_tree, written_tree, list_tree, pair_tree, map_tree, version_trees, op_tree, txn_tree, tree_of}
+use Rattle.lab_history_file.specs.Tree.{natural_tree, value_tree, written_tree, list_tree, pair_tree, map_tree, version_tree, op_tree, txn_tree, tree_of}
 use Rattle.lab_history.specs.declared.operation.Op.{Op}
 use Rattle.lab_history.specs.declared.operation.VersionName.{VersionName}
 use Rattle.lab_history.specs.declared.operation.VersionName.TheVariants.{Initial, Of}
 use Rattle.lab_history.specs.declared.transaction.Txn.{Txn}
-use Rattle.lab_history_file.proofs.WrittenViews.{seen_trees}
 
 -- ---- no float
 
@@ -32,17 +30,12 @@ list_whole tree whole (x ∷ xs) = rw (whole x) (list_whole tree whole xs)
 map_whole : {X : Type 0} (tree : X → Data) → ((x : X) → has_float (tree x) ≡ false) → (m : FinMap row_cmp X) → has_float (map_tree tree m) ≡ false
 map_whole tree whole m = list_whole (pair_tree tree) (λ e. rw (whole e.1) refl) (finite.entries m)
 
-one_whole : (row : Row) (v : VersionName) (es : List (Row × VersionName)) → items_have_float (items_of (seen_trees es)) ≡ false
-    → items_have_float (items_of (version_trees row v ++ seen_trees es)) ≡ false
-one_whole row Initial es rest = rest
-one_whole row (Of txn op) es rest = rest
-
-view_whole : (es : List (Row × VersionName)) → items_have_float (items_of (seen_trees es)) ≡ false
-view_whole [] = refl
-view_whole (e ∷ es) = one_whole e.0 e.1 es (view_whole es)
+version_whole : (row : Row) (v : VersionName) → has_float (version_tree (row, v)) ≡ false
+version_whole row Initial = refl
+version_whole row (Of txn op) = refl
 
 op_whole : (op : Op) → has_float (op_tree op) ≡ false
-op_whole op = rw (map_whole value_tree value_whole op.rows, view_whole (finite.entries op.view), map_whole written_tree written_whole op.writes) refl
+op_whole op = rw (map_whole value_tree value_whole op.rows, list_whole version_tree (λ e. version_whole e.0 e.1) (finite.entries op.view), map_whole written_tree written_whole op.writes) refl
 
 txn_whole : (t : Txn) → has_float (txn_tree t) ≡ false
 txn_whole t = rw (list_whole op_tree op_whole t.ops) refl
@@ -69,16 +62,12 @@ list_flat n tree flat (x ∷ xs) = omega (arith, flat x, list_flat n tree flat x
 map_flat : {X : Type 0} (n : ℕ) (tree : X → Data) → ((x : X) → depth (tree x) ≤ n) → (m : FinMap row_cmp X) → depth (map_tree tree m) ≤ suc (suc n)
 map_flat n tree flat m = list_flat (suc n) (pair_tree tree) (λ e. omega (arith, flat e.1)) (finite.entries m)
 
-one_flat : (row : Row) (v : VersionName) (es : List (Row × VersionName)) → items_depth (items_of (seen_trees es)) ≤ 1 → items_depth (items_of (version_trees row v ++ seen_trees es)) ≤ 1
-one_flat row Initial es rest = rest
-one_flat row (Of txn op) es rest = omega (arith, rest)
-
-view_flat : (es : List (Row × VersionName)) → items_depth (items_of (seen_trees es)) ≤ 1
-view_flat [] = omega arith
-view_flat (e ∷ es) = one_flat e.0 e.1 es (view_flat es)
+version_flat : (row : Row) (v : VersionName) → depth (version_tree (row, v)) ≤ 1
+version_flat row Initial = omega arith
+version_flat row (Of txn op) = omega arith
 
 op_flat : (op : Op) → depth (op_tree op) ≤ 3
-op_flat op = omega (arith, map_flat 0 value_tree (λ z. omega arith) op.rows, view_flat (finite.entries op.view), map_flat 0 written_tree written_flat op.writes)
+op_flat op = omega (arith, map_flat 0 value_tree (λ z. omega arith) op.rows, list_flat 1 version_tree (λ e. version_flat e.0 e.1) (finite.entries op.view), map_flat 0 written_tree written_flat op.writes)
 
 txn_flat : (t : Txn) → depth (txn_tree t) ≤ 5
 txn_flat t = omega (arith, list_flat 3 op_tree op_flat t.ops)

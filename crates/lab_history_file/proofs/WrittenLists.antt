@@ -6,13 +6,17 @@ use Rattle.std.specs.List.{All, list_all}
 use Rattle.std.proofs.lemmas.List.{map-append, take_more, take_all}
 use Rattle.std.proofs.lemmas.List.Folds.{list_all-map}
 use Rattle.std.proofs.lemmas.List.Sums.{AllPass-from_list_all}
-use Rattle.std.proofs.lemmas.List.Elements.{All-head, All-tail, All-more}
+use Rattle.std.proofs.lemmas.List.Elements.{All-nil, All-cons, All-head, All-tail, All-more}
 use Rattle.std.specs.declared.alloc.Global.{Global}
 use Rattle.serde_json.specs.Data.{Data, array}
 use Rattle.serde_json.specs.View.{view, items_of}
 use Rattle.serde_json.specs.declared.value.Value.{Value, Array}
 use Rattle.serde_json.proofs.Views.{view-Array}
 use Rattle.lab_table.specs.Row.{Row, row_cmp}
+use Rattle.lab_history.specs.HistoryRules.{operations, OpKeeps, OpsKeep}
+use Rattle.lab_history.specs.declared.operation.Op.{Op}
+use Rattle.lab_history.specs.declared.transaction.Txn.{Txn}
+use Rattle.lab_history.proofs.KeptOperations.{ops_parted}
 use Rattle.lab_history_file.specs.FileOf.{AreEach, IsListOf}
 use Rattle.lab_history_file.specs.Tree.{list_tree}
 
@@ -47,10 +51,15 @@ module _ {X : Type 0} (tree : X → Data) (Is : Data → X → Type 0) where
   pub list_seen : (v : Vec Value Global) (xs : List X) → Written tree Is v.items xs → view (Array v) ≡ list_tree tree xs
   list_seen v xs h = view-Array v ∙ ap (λ ds. array (items_of ds)) h.trees
 
--- each value of a finite map passes a test
-pub value_passes : {X : Type 0} (p : X → Bool) (m : FinMap row_cmp X) (xs : List (Row × X)) → xs ≡ finite.entries m → list_all p (finite.values m) ≡ true
-    → (i : ℕ) (e : Row × X) → i < length xs → e ≡ get_or xs i e → p e.1 ≡ true
-value_passes {X} p m xs is h i e lt here =
-    let every = AllPass-from_list_all (λ e. p e.1) (finite.entries m) (sym (list_all-map p (λ e. e.1) (finite.entries m)) ∙ h) in
-    let whole : All (λ e. p e.1 ≡ true) xs = subst (All (λ e. p e.1 ≡ true)) (sym is) every in
-    subst (λ e. p e.1 ≡ true) (sym here) (whole i e lt)
+-- each entry of a finite map whose values pass a test
+pub entries_pass : {X : Type 0} (p : X → Bool) (m : FinMap row_cmp X) (xs : List (Row × X)) → xs ≡ finite.entries m → list_all p (finite.values m) ≡ true → All (λ e. p e.1 ≡ true) xs
+entries_pass p m xs is h = subst (All (λ e. p e.1 ≡ true)) (sym is) (AllPass-from_list_all (λ e. p e.1) (finite.entries m) (sym (list_all-map p (λ e. e.1) (finite.entries m)) ∙ h))
+
+-- each operation that keeps to what is asked of it, and each transaction of such
+pub ops_pass : (ops : List Op) → OpsKeep ops → All OpKeeps ops
+ops_pass [] h = All-nil OpKeeps
+ops_pass (op ∷ ops) h = All-cons OpKeeps op ops h.0 (ops_pass ops h.1)
+
+pub txns_pass : (txns : List Txn) → OpsKeep (operations txns) → All (λ t. All OpKeeps t.ops) txns
+txns_pass [] h = All-nil (λ t. All OpKeeps t.ops)
+txns_pass (t ∷ ts) h = let parts = ops_parted t.ops (operations ts) h in All-cons (λ u. All OpKeeps u.ops) t ts (ops_pass t.ops parts.0) (txns_pass ts parts.1)

@@ -1,5 +1,5 @@
 -- Members of lists as they are written: a key, and what stands behind it.
-use Rattle.std.proofs.Common.{◌≡◌, ◌≢◌, ℕ, true, List, [], ◌∷◌, Some, None, if◌then◌else◌, refl, ap}
+use Rattle.std.proofs.Common.{◌≡◌, ◌≢◌, ℕ, true, List, [], ◌∷◌, Some, None, if◌then◌else◌, refl, ap, sym, ◌∙◌}
 use Rattle.lab_table.specs.Row.{Row}
 use Rattle.lab_history_file.specs.Entries.{txn_in_number}
 use Rattle.lab_history_file.specs.FileOf.{IsListOf, IsVersion, IsInstalled}
@@ -7,13 +7,15 @@ use Rattle.lab_history.specs.HistoryRules.{is_listed, has_installer}
 use Rattle.lab_history_file.specs.Member.{row_in, key_tree}
 use Rattle.lab_history_file.specs.Tree.{natural_tree, list_tree, pair_tree, version_tree}
 use Rattle.lab_history_file.specs.declared.file_version.FileVersion.TheVariants.{Two}
+use Rattle.lab_history.specs.declared.operation.VersionName.{VersionName}
 use Rattle.lab_history.specs.declared.operation.VersionName.TheVariants.{Of}
 
 -- a version
-pub version_stands : (row : Row) (txn op : ℕ) → is_listed (Of txn op) ≡ true → row_in Two (key_tree row) ≡ Some row → txn_in_number (natural_tree txn) ≡ Some txn
-    → IsVersion Two (version_tree row txn op) (row, Of txn op)
-version_stands row txn op listed read number =
-    (key_tree row, natural_tree txn, natural_tree op, txn, op, refl, read, number, ap (λ b. if b then Some op else None) listed, refl)
+pub version_stands : (entry : Row × VersionName) (txn op : ℕ) → entry.1 ≡ Of txn op → is_listed entry.1 ≡ true → row_in Two (key_tree entry.0) ≡ Some entry.0 → txn_in_number (natural_tree txn) ≡ Some txn
+    → IsVersion Two (version_tree entry) entry
+version_stands entry txn op is listed read number =
+    let within : is_listed (Of txn op) ≡ true = ap is_listed (sym is) ∙ listed in
+    (key_tree entry.0, natural_tree txn, natural_tree op, txn, op, ap (λ v. version_tree (entry.0, v)) is, read, number, ap (λ b. if b then Some op else None) within, is)
 
 some_installer : (ns : List ℕ) → has_installer ns ≡ true → ns ≢ []
 some_installer [] has e = absurd cc

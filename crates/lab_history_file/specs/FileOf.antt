@@ -2,12 +2,13 @@
 use Rattle.std.specs.Prelude.{◌≡◌, ◌≢◌, ℕ, ⊤, true, List, [], ◌∷◌, Option, Some, option_and_then, codes}
 use Rattle.std.specs.FinMap as finite
 use Rattle.std.specs.FinMap.{FinMap}
-use Rattle.serde_json.specs.Data.{Data, string, array, object, Items, no_items, item, no_members, member}
+use Rattle.serde_json.specs.Data.{Data, string, array, Items, no_items, item}
 use Rattle.serde_json.specs.Find.{as_number, as_u64}
 use Rattle.lab_table.specs.Row.{Row, row_cmp}
 use Rattle.lab_table.specs.declared.statement.Statement.{Statement}
 use Rattle.lab_statement.specs.Text.{SpellsStatement}
 use Rattle.lab_history_file.specs.Member.{Key, row_in, with_key}
+use Rattle.lab_history_file.specs.Keys.{root_keys, txn_keys, op_keys, object_with}
 use Rattle.lab_history_file.specs.FileVersion.{version_number, may_have}
 use Rattle.lab_history_file.specs.Entries.{txn_in_number, op_in_number, value_in, written_in}
 use Rattle.lab_history.specs.History.{History}
@@ -57,7 +58,7 @@ pub record SpellsIn (version : FileVersion) (text : List ℕ) (s : Statement) : 
 -- {rows, statement, view, writes}; the statement is any text that the grammar has for it
 abbrev pub IsOperation : FileVersion → Data → Op → Type 0
 IsOperation version d op = (rows view writes : Data) × (text : List ℕ)
-    × (d ≡ object (member (codes "rows") rows (member (codes "statement") (string text) (member (codes "view") view (member (codes "writes") writes no_members)))))
+    × (d ≡ object_with op_keys (rows ∷ string text ∷ view ∷ writes ∷ []))
     × SpellsIn version text op.statement × IsMapOf (IsVersion version) view op.view
     × IsMapOf (IsPair version value_in) rows op.rows × IsMapOf (IsPair version written_in) writes op.writes
 
@@ -69,23 +70,26 @@ outcome_text Aborted = codes "aborted"
 -- {no, ops, outcome}
 abbrev pub IsTransaction : FileVersion → Data → Txn → Type 0
 IsTransaction version d txn = (number ops : Data)
-    × (d ≡ object (member (codes "no") number (member (codes "ops") ops (member (codes "outcome") (string (outcome_text txn.outcome)) no_members))))
+    × (d ≡ object_with txn_keys (number ∷ ops ∷ string (outcome_text txn.outcome) ∷ []))
     × (txn_in_number number ≡ Some txn.no) × IsListOf (IsOperation version) ops txn.ops
 
--- the value is a file of this version of the history, which is within the limits
-pub record IsFileIn (version : FileVersion) (d : Data) (h : History) : Type 0 where
+-- the parts of the history stand in the value, which says this version
+pub record HoldsIn (version : FileVersion) (d : Data) (h : History) : Type 0 where
   pub number : Data
   pub initial : Data
   pub transactions : Data
   pub installed : Data
   pub end : Data
-  pub tree : d ≡ object (member (codes "end") end (member (codes "format") (string (codes "hermitage-history")) (member (codes "initial") initial
-      (member (codes "installed") installed (member (codes "transactions") transactions (member (codes "version") number no_members))))))
+  pub tree : d ≡ object_with root_keys (end ∷ string (codes "hermitage-history") ∷ initial ∷ installed ∷ transactions ∷ number ∷ [])
   pub number_is : option_and_then as_u64 (as_number number) ≡ Some (version_number version)
   pub initial_is : IsMapOf (IsPair version value_in) initial h.initial
   pub transactions_are : IsListOf (IsTransaction version) transactions h.txns
   pub installed_is : IsMapOf (IsInstalled version) installed h.installed
   pub end_is : IsMapOf (IsPair version value_in) end h.end_table
+
+-- the value is a file of this version of the history, which is within the limits
+pub record IsFileIn (version : FileVersion) (d : Data) (h : History) : Type 0 where
+  pub holds : HoldsIn version d h
   pub keeps : Keeps h
 
 -- the value is a file of the history, of either version

@@ -1,17 +1,19 @@
 -- The history file: the history that a JSON value holds, or its first fault.
-use Rattle.std.specs.Prelude.{ℕ, ◌+◌, ⊤, ◌&&◌, ◌==◌, nat_lt, Bool, true, false, List, [], ◌∷◌, ◌++◌, length, Option, Some, None, option_and_then, unwrap_or, Result, Ok, Err, if◌then◌else◌, codes}
+use Rattle.std.specs.Prelude.{ℕ, ◌+◌, ⊤, ◌&&◌, ◌==◌, nat_lt, Bool, true, false, List, [], ◌∷◌, length, Option, Some, None, option_and_then, unwrap_or, Result, Ok, Err, if◌then◌else◌, codes}
 use Rattle.std.specs.Str.{bytes_eq}
 use Rattle.std.specs.List.{list_any}
 use Rattle.std.specs.FinMap as finite
-use Rattle.serde_json.specs.Data.{Data, null, Items, no_items, item, Members, no_members, member}
+use Rattle.serde_json.specs.Data.{Data, null, Members, no_members, member}
 use Rattle.serde_json.specs.Find.{as_number, as_u64, as_array, as_object, as_str, get}
 use Rattle.lab_table.specs.declared.statement.Statement.{Statement}
 use Rattle.lab_statement.specs.StatementText.{statement_in}
 use Rattle.lab_history.specs.Faults.{◌>>=◌, required, refused_if}
 use Rattle.lab_history_file.specs.FileVersion.{may_have}
+use Rattle.lab_history_file.specs.Keys.{root_keys, txn_keys, op_keys}
 use Rattle.lab_history_file.specs.Member.{count}
-use Rattle.lab_history_file.specs.Entries.{txn_in_number, values_in, writes_in, view_in, installed_in}
+use Rattle.lab_history_file.specs.Entries.{txn_in_number, items_from, values_in, writes_in, view_in, installed_in}
 use Rattle.lab_history.specs.History.{History}
+use Rattle.lab_history.specs.VersionName.{new_states}
 use Rattle.lab_history.specs.HistoryRules.{operations}
 use Rattle.lab_history.specs.Limits.{max_transactions, max_operations}
 use Rattle.lab_history.specs.WithinLimits.{within_limits}
@@ -49,15 +51,6 @@ has_keys keys (Some ms) = are_keys keys ms
 abbrev pub keyed : Path → List (List ℕ) → Data → Result ⊤ FileFault
 keyed place keys d = required place (if has_keys keys (as_object d) then Some tt else None)
 
-abbrev pub root_keys : List (List ℕ)
-root_keys = codes "end" ∷ codes "format" ∷ codes "initial" ∷ codes "installed" ∷ codes "transactions" ∷ codes "version" ∷ []
-
-abbrev pub txn_keys : List (List ℕ)
-txn_keys = codes "no" ∷ codes "ops" ∷ codes "outcome" ∷ []
-
-abbrev pub op_keys : List (List ℕ)
-op_keys = codes "rows" ∷ codes "statement" ∷ codes "view" ∷ codes "writes" ∷ []
-
 -- ---- operations and transactions; their places count from 0, operations are numbered from 1
 
 -- a statement that a file of this version may have
@@ -77,11 +70,11 @@ op_in version txn by index d =
     view_in version (list.View txn index) (at_key (codes "view") d) >>= λ view.
     values_in version (list.Rows txn index) (at_key (codes "rows") d) >>= λ rows.
     writes_in version (list.Writes txn index) (at_key (codes "writes") d) >>= λ writes.
-    Ok (record { statement = statement; view = finite.from_sorted view; rows = finite.from_sorted rows; writes = finite.from_sorted writes })
+    Ok (record { statement = statement; view = finite.from_sorted view; rows = finite.from_sorted rows; writes = finite.from_sorted (new_states writes) })
 
-abbrev pub ops_from : FileVersion → ℕ → ℕ → ℕ → Items → Result (List Op) FileFault
-ops_from version txn by index no_items = Ok []
-ops_from version txn by index (item d ds) = op_in version txn by index d >>= λ op. ops_from version txn by (index + 1) ds >>= λ ops. Ok (op ∷ ops)
+-- the same behind others
+abbrev pub op_behind : FileVersion → ℕ → ℕ → List Op → ℕ → Data → Result Op FileFault
+op_behind version txn by before index d = op_in version txn by index d
 
 abbrev pub outcome_named : List ℕ → Option Outcome
 outcome_named text = if bytes_eq text (codes "committed") then Some Committed else if bytes_eq text (codes "aborted") then Some Aborted else None
@@ -95,18 +88,14 @@ txn_in version before index d =
     required (path.Outcome index) (option_and_then outcome_named (as_str (at_key (codes "outcome") d))) >>= λ outcome.
     required (path.Operations index) (as_array (at_key (codes "ops") d)) >>= λ items.
     refused_if (nat_lt max_operations (length (operations before) + count items)) (fault.OverLimit limit.Operations) >>= λ _.
-    ops_from version index number 0 items >>= λ ops.
+    items_from (op_behind version index number) [] 0 items >>= λ ops.
     Ok (record { no = number; outcome = outcome; ops = ops })
-
-abbrev pub txns_from : FileVersion → List Txn → ℕ → Items → Result (List Txn) FileFault
-txns_from version before index no_items = Ok before
-txns_from version before index (item d ds) = txn_in version before index d >>= λ txn. txns_from version (before ++ txn ∷ []) (index + 1) ds
 
 abbrev pub txns_in : FileVersion → Data → Result (List Txn) FileFault
 txns_in version d =
     required path.Transactions (as_array d) >>= λ items.
     refused_if (nat_lt max_transactions (count items)) (fault.OverLimit limit.Transactions) >>= λ _.
-    txns_from version [] 0 items
+    items_from (txn_in version) [] 0 items
 
 -- ---- the whole
 

@@ -1,8 +1,8 @@
-pub mod WrittenState
 pub mod Whole
 pub mod FileVersion
 pub mod Member
 pub mod Entries
+pub mod Keys
 pub mod Format
 pub mod FileOf
 pub mod Lift

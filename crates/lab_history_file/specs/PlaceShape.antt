@@ -4,8 +4,9 @@ use Rattle.std.specs.Str.{bytes_eq}
 use Rattle.serde_json.specs.Data.{Data, Items, no_items, item}
 use Rattle.serde_json.specs.Find.{as_number, as_u64, as_array, as_object, as_str}
 use Rattle.lab_history_file.specs.Member.{key_parts, key_fits, has_size}
-use Rattle.lab_history_file.specs.Entries.{txn_in_number, op_in_number, value_in, written_in}
-use Rattle.lab_history_file.specs.Format.{has_keys, root_keys, txn_keys, op_keys, outcome_named}
+use Rattle.lab_history_file.specs.Entries.{txn_in_number, op_in_number, value_in, state_in}
+use Rattle.lab_history_file.specs.Keys.{root_keys, txn_keys, op_keys}
+use Rattle.lab_history_file.specs.Format.{has_keys, outcome_named}
 use Rattle.lab_history_file.specs.declared.file_version.FileVersion.{FileVersion}
 use Rattle.lab_history_file.specs.declared.file_version.FileVersion.TheVariants.{One, Two}
 use Rattle.lab_history.specs.declared.path.ListPlace.{ListPlace}
@@ -39,7 +40,7 @@ second_fits list.End v = is_some (value_in v)
 second_fits list.Installed v = has_items (as_array v)
 second_fits (list.View txn op) v = is_some (txn_in_number v)
 second_fits (list.Rows txn op) v = is_some (value_in v)
-second_fits (list.Writes txn op) v = is_some (written_in v)
+second_fits (list.Writes txn op) v = is_some (state_in v)
 
 -- whether a value may be a part behind a key; a version alone has a second one, its operation
 abbrev pub behind_fits : ListPlace → ℕ → Data → Bool

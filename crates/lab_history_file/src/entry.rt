@@ -1,11 +1,12 @@
 //! What stands behind the keys of the members of lists.
 
-ghost use Rattle.std.specs.Prelude.{◌≡◌, ℕ, Result};
+ghost use Rattle.std.specs.Prelude.{◌≡◌, ℕ, [], Result};
 ghost use Rattle.serde_json.specs.View.{view, items_view};
+ghost use Rattle.serde_json.specs.Data.{Items};
 ghost use Rattle.lab_history.specs.Faults.{Gives};
-ghost use Rattle.lab_history_file.specs.Entries.{installers_from};
 ghost use Rattle.lab_history.specs.declared.fault.FileFault.{FileFault};
 ghost use Rattle.lab_history.specs.declared.path.ListPlace.{ListPlace};
+ghost use Rattle.lab_history_file.specs.Entries.{items_from, installer_in, one_in, version_name_in, installers_in};
 ghost use Rattle.lab_history_file.specs.declared.file_version.FileVersion.{FileVersion};
 
 use crate::fault::{required, wrong};
@@ -18,8 +19,6 @@ use std::alloc::Global;
 
 /// What stands behind the key in a member of a list.
 pub trait Entry: Sized + Drop {
-    ghost use Rattle.serde_json.specs.Data.{Items};
-
     /// In how many parts.
     ghost PARTS: { ℕ };
 
@@ -34,8 +33,6 @@ pub trait Entry: Sized + Drop {
 
 /// `[key, part]`.
 impl<P: Part> Entry for P {
-    ghost use Rattle.lab_history_file.specs.Entries.{one_in};
-
     ghost PARTS = { 1 };
 
     const PARTS: u8 = 1;
@@ -50,8 +47,6 @@ impl<P: Part> Entry for P {
 
 /// `[key, txn, op]`.
 impl Entry for VersionName {
-    ghost use Rattle.lab_history_file.specs.Entries.{version_name_in};
-
     ghost PARTS = { 2 };
 
     const PARTS: u8 = 2;
@@ -69,8 +64,6 @@ impl Entry for VersionName {
 
 /// `[key, [txn, ..]]`, with at least one. Only one list has such members.
 impl Entry for Installers {
-    ghost use Rattle.lab_history_file.specs.Entries.{installers_in};
-
     ghost PARTS = { 1 };
 
     const PARTS: u8 = 1;
@@ -94,13 +87,14 @@ impl Entry for Installers {
 }
 
 /// The numbers of the transactions that installed a row.
+#[tactic(auto, using(crate::proofs::ItemsRead::item_read, crate::proofs::ItemsRead::item_fault, crate::proofs::ItemsRead::items_end))]
 fn numbers_of(
     alloc: Global,
     index: usize,
     part: usize,
     numbers: &[Json],
 ) -> Result<Vec<TxnNo>, FileFault>
-    ensures { Gives (λ found. found.items) result (installers_from index part 0 (items_view numbers.now)) }
+    ensures { Gives (λ found. found.items) result (items_from (installer_in index part) [] 0 (items_view numbers.now)) }
 {
     let mut found = Vec::with_capacity(alloc, numbers.len())?;
     for (place, number) in numbers.iter().enumerate() {

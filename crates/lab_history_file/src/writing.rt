@@ -1,7 +1,8 @@
 //! Writing a history file.
 
+mod entries;
 mod operations;
-mod values;
+mod to_json;
 
 ghost use Rattle.std.specs.Prelude.{◌≡◌, ◌≤◌, ◌<◌, length, Some, Ok, Err, IfOk, OnOk, IsUtf8};
 ghost use Rattle.serde_json.specs.Read.{read as read_text};
@@ -15,8 +16,8 @@ ghost use Rattle.lab_history_file.specs.Tree.{tree_of};
 ghost use Rattle.lab_history_file.specs.declared.file_version.FileVersion.TheVariants.{Two};
 
 use crate::write_fault::WriteFault;
-use crate::writing::operations::transactions_json;
-use crate::writing::values::{installed_json, table_json};
+use crate::writing::entries::{installed_json, table_json};
+use crate::writing::to_json::list_json;
 use lab_history::{History, MAX_FILE_BYTES, Parts};
 use lab_table::NoMemory;
 use serde_json::{Value as Json, json};
@@ -32,7 +33,7 @@ fn parts_json(alloc: Global, parts: &Parts) -> Result<Json, NoMemory>
         "format": "hermitage-history",
         "initial": table_json(alloc, &parts.initial)?,
         "installed": installed_json(alloc, &parts.installed)?,
-        "transactions": transactions_json(alloc, parts.txns.as_slice())?,
+        "transactions": list_json(alloc, parts.txns.as_slice())?,
         "version": 2
     })
 }

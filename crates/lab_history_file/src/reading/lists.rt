@@ -4,8 +4,7 @@ ghost use Rattle.std.specs.Prelude.{◌≡◌, T, IfOk};
 ghost use Rattle.std.specs.FinMap as map;
 ghost use Rattle.serde_json.specs.View.{view};
 ghost use Rattle.lab_table.specs.Row.{row_cmp};
-ghost use Rattle.lab_history.specs.VersionName.{new_states};
-ghost use Rattle.lab_history_file.specs.Entries.{entry_in, entries_in, writes_in};
+ghost use Rattle.lab_history_file.specs.Entries.{entry_in, entries_in};
 ghost use Rattle.lab_history.specs.Faults.{Gives};
 ghost use Rattle.lab_history_file.specs.Format.{at_key};
 
@@ -14,7 +13,7 @@ use crate::entry::Entry;
 use crate::fault::required;
 use crate::file_version::FileVersion;
 use crate::member::{MemberPlace, sized_parts, split_key};
-use lab_history::{FileFault, ListPlace, Path, State, follows};
+use lab_history::{FileFault, ListPlace, Path, follows};
 use lab_table::RowName;
 use serde_json::Value as Json;
 use std::alloc::Global;
@@ -36,6 +35,7 @@ fn entry_of<E: Entry>(
 }
 
 /// The list at a key.
+#[tactic(auto, using(crate::proofs::ItemsRead::item_read, crate::proofs::ItemsRead::item_fault, crate::proofs::ItemsRead::items_end, crate::proofs::ListsRead::last_pushed))]
 pub fn entries_at<E: Entry>(
     alloc: Global,
     version: FileVersion,
@@ -65,18 +65,4 @@ pub fn entries_at<E: Entry>(
         entries.push(entry)?;
     }
     Ok(entries)
-}
-
-/// The written rows with their new states at a key.
-pub fn writes_at(
-    alloc: Global,
-    version: FileVersion,
-    json: &Json,
-    key: &str,
-    list: ListPlace,
-) -> Result<Vec<(RowName, State)>, FileFault>
-    ensures read { Gives (λ entries. new_states entries.items) result (writes_in version list (at_key key.now (view json.now))) }
-    ensures rises { IfOk result (λ entries. T (map.is_sorted row_cmp (new_states entries.items))) }
-{
-    entries_at(alloc, version, json, key, list)
 }

@@ -1,15 +1,16 @@
 //! The operations of a history file.
 
-ghost use Rattle.std.specs.Prelude.{◌≡◌, ◌≤◌, ◌<◌, length, option_and_then, IfOk};
+ghost use Rattle.std.specs.Prelude.{◌≡◌, ◌≤◌, ◌<◌, [], length, option_and_then, IfOk};
 ghost use Rattle.serde_json.specs.View.{view, items_view};
 ghost use Rattle.lab_statement.specs.StatementText.{statement_in};
 ghost use Rattle.lab_history.specs.Faults.{Gives};
+ghost use Rattle.lab_history_file.specs.Entries.{items_from};
 ghost use Rattle.lab_history_file.specs.FileVersion.{may_have as spec_may_have};
-ghost use Rattle.lab_history_file.specs.Format.{only_in, op_in, ops_from};
+ghost use Rattle.lab_history_file.specs.Format.{only_in, op_in, op_behind};
 ghost use Rattle.lab_history.specs.Limits.{max_operations};
 
 use super::keys::{has_keys, text_at};
-use super::lists::{entries_at, writes_at};
+use super::lists::entries_at;
 use crate::fault::{required, wrong};
 use crate::file_version::FileVersion;
 use lab_history::{FileFault, ListPlace, Op, Ops, Path, Rows, View, Writes};
@@ -55,6 +56,7 @@ fn statement_of(
 }
 
 /// The operation at a place of the transaction with this place and this number.
+#[tactic(auto, using(lab_history::proofs::NewStates::new_states_sorted))]
 fn op_of(
     alloc: Global,
     version: FileVersion,
@@ -78,7 +80,7 @@ fn op_of(
     };
     let view = entries_at(alloc, version, json, "view", ListPlace::View { txn, op })?;
     let rows = entries_at(alloc, version, json, "rows", ListPlace::Rows { txn, op })?;
-    let writes = writes_at(
+    let writes = entries_at(
         alloc,
         version,
         json,
@@ -94,7 +96,7 @@ fn op_of(
 }
 
 /// The operations of the transaction with this place and this number.
-#[tactic(auto, using(crate::proofs::OpsRead::op_read, crate::proofs::OpsRead::op_fault, crate::proofs::OpsRead::ops_end))]
+#[tactic(auto, using(crate::proofs::ItemsRead::item_read, crate::proofs::ItemsRead::item_fault, crate::proofs::ItemsRead::items_end))]
 pub fn ops_of(
     alloc: Global,
     version: FileVersion,
@@ -103,7 +105,7 @@ pub fn ops_of(
     items: &[Json],
 ) -> Result<Ops, FileFault>
     requires { length items.now ≤ max_operations }
-    ensures read { Gives (λ ops. ops) result (ops_from version txn number 0 (items_view items.now)) }
+    ensures read { Gives (λ ops. ops) result (items_from (op_behind version txn number) [] 0 (items_view items.now)) }
     ensures count { IfOk result (λ ops. length ops ≡ length items.now) }
 {
     let mut ops = Vec::with_capacity(alloc, items.len())?;

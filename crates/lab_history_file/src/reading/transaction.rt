@@ -72,7 +72,7 @@ fn transaction_of(
 }
 
 /// The transactions of a history.
-#[tactic(auto, using(crate::proofs::TxnsRead::txn_read, crate::proofs::TxnsRead::txn_fault, crate::proofs::TxnsRead::txns_end, crate::proofs::Counts::items_count))]
+#[tactic(auto, using(crate::proofs::ItemsRead::item_read, crate::proofs::ItemsRead::item_fault, crate::proofs::ItemsRead::items_end, crate::proofs::Counts::items_count))]
 pub fn txns_of(alloc: Global, version: FileVersion, json: &Json) -> Result<Txns, FileFault>
     ensures { Gives (λ txns. txns) result (txns_in version (at_key (codes "transactions") (view json.now))) }
 {

@@ -1,16 +1,19 @@
 //! The operations and transactions of a history as JSON values.
 
 ghost use Rattle.std.specs.Prelude.{◌≡◌, IfOk, OnOk};
+ghost use Rattle.std.specs.List.{All};
 ghost use Rattle.serde_json.specs.Data.{string};
 ghost use Rattle.serde_json.specs.View.{view};
 ghost use Rattle.lab_statement.specs.Limits.{StatementPrints};
 ghost use Rattle.lab_statement.specs.Printed.{printed_statement};
-ghost use Rattle.lab_history_file.specs.FileOf.{outcome_text, IsListOf, SpellsIn, IsOperation, IsTransaction};
-ghost use Rattle.lab_history.specs.HistoryRules.{operations, OpKeeps, OpsKeep};
-ghost use Rattle.lab_history_file.specs.Tree.{list_tree, op_tree, txn_tree};
+ghost use Rattle.lab_history.specs.HistoryRules.{OpKeeps};
+ghost use Rattle.lab_history_file.specs.FileOf.{outcome_text, SpellsIn, IsOperation, IsTransaction};
+ghost use Rattle.lab_history_file.specs.Tree.{op_tree, txn_tree};
 ghost use Rattle.lab_history_file.specs.declared.file_version.FileVersion.TheVariants.{Two};
 
-use crate::writing::values::{rows_json, txn_number_json, view_json, writes_json};
+use crate::part::Part;
+use crate::writing::entries::{view_json, writes_json};
+use crate::writing::to_json::{ToJson, list_json};
 use lab_history::{Op, Outcome, Txn};
 use lab_statement::{PrintFault, print_statement};
 use lab_table::{NoMemory, Statement};
@@ -37,29 +40,22 @@ fn statement_json(alloc: Global, statement: &Statement) -> Result<Json, NoMemory
     Ok(Json::String(text))
 }
 
-fn operation_json(alloc: Global, op: &Op) -> Result<Json, NoMemory>
-    requires { OpKeeps op.now }
-    ensures value { IfOk result (λ v. view v ≡ op_tree op.now) }
-    ensures file { OnOk result (IsOperation Two (op_tree op.now) op.now) }
-{
-    json!(in alloc; {
-        "rows": rows_json(alloc, op.rows.entries())?,
-        "statement": statement_json(alloc, &op.statement)?,
-        "view": view_json(alloc, &op.view)?,
-        "writes": writes_json(alloc, op.writes.entries())?
-    })
-}
+/// `{rows, statement, view, writes}`.
+impl ToJson for Op {
+    ghost Keeps = { OpKeeps };
 
-fn operations_json(alloc: Global, ops: &[Op]) -> Result<Json, NoMemory>
-    requires { OpsKeep ops.now }
-    ensures value { IfOk result (λ v. view v ≡ list_tree op_tree ops.now) }
-    ensures file { OnOk result (IsListOf (IsOperation Two) (list_tree op_tree ops.now) ops.now) }
-{
-    let mut values = Vec::with_capacity(alloc, ops.len())?;
-    for op in ops {
-        values.push(operation_json(alloc, op)?)?;
+    ghost tree = { op_tree };
+
+    ghost Is = { IsOperation Two };
+
+    fn to_json(&self, alloc: Global) -> Result<Json, NoMemory> {
+        json!(in alloc; {
+            "rows": list_json(alloc, self.rows.entries())?,
+            "statement": statement_json(alloc, &self.statement)?,
+            "view": view_json(alloc, &self.view)?,
+            "writes": writes_json(alloc, &self.writes)?
+        })
     }
-    Ok(Json::Array(values))
 }
 
 fn outcome_json(alloc: Global, outcome: Outcome) -> Result<Json, NoMemory>
@@ -71,27 +67,19 @@ fn outcome_json(alloc: Global, outcome: Outcome) -> Result<Json, NoMemory>
     }
 }
 
-fn transaction_json(alloc: Global, txn: &Txn) -> Result<Json, NoMemory>
-    requires { OpsKeep txn.now.ops }
-    ensures value { IfOk result (λ v. view v ≡ txn_tree txn.now) }
-    ensures file { OnOk result (IsTransaction Two (txn_tree txn.now) txn.now) }
-{
-    json!(in alloc; {
-        "no": txn_number_json(txn.no),
-        "ops": operations_json(alloc, txn.ops.as_slice())?,
-        "outcome": outcome_json(alloc, txn.outcome)?
-    })
-}
+/// `{no, ops, outcome}`.
+impl ToJson for Txn {
+    ghost Keeps = { λ txn. All OpKeeps txn.ops };
 
-/// Transactions with their operations.
-pub fn transactions_json(alloc: Global, txns: &[Txn]) -> Result<Json, NoMemory>
-    requires { OpsKeep (operations txns.now) }
-    ensures value { IfOk result (λ v. view v ≡ list_tree txn_tree txns.now) }
-    ensures file { OnOk result (IsListOf (IsTransaction Two) (list_tree txn_tree txns.now) txns.now) }
-{
-    let mut values = Vec::with_capacity(alloc, txns.len())?;
-    for txn in txns {
-        values.push(transaction_json(alloc, txn)?)?;
+    ghost tree = { txn_tree };
+
+    ghost Is = { IsTransaction Two };
+
+    fn to_json(&self, alloc: Global) -> Result<Json, NoMemory> {
+        json!(in alloc; {
+            "no": self.no.json(),
+            "ops": list_json(alloc, self.ops.as_slice())?,
+            "outcome": outcome_json(alloc, self.outcome)?
+        })
     }
-    Ok(Json::Array(values))
 }

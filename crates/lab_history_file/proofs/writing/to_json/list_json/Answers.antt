@@ -1,0 +1,12 @@
+use Rattle.lab_history_file.proofs.WrittenLists.{one_written, all_written, list_stands, list_seen}
+use Rattle.lab_history_file.proofs.writing.to_json.list_json.Goals as goal
+
+pub loop-item-preserved : goal.loop-item-preserved
+loop-item-preserved g c =
+    one_written g.X.ToJson.tree g.X.ToJson.Is _ _ _ c.args.items.now _ _ c.loop-item-test.true c.item-item.is
+    c.in_ok-to_json.ensures.value c.in_ok-to_json.ensures.file c.in_ok-push.ensures.items c.loop-item.invariant
+
+pub returns : goal.returns
+returns g c =
+    let whole = all_written g.X.ToJson.tree g.X.ToJson.Is c.loop-item.values.items c.args.items.now _ c.loop-item-test.false c.loop-item.invariant in
+    record { value = list_seen _ _ _ _ whole; file = list_stands _ _ _ _ whole }
