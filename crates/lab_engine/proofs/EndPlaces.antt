@@ -121,9 +121,9 @@ module _ (past : Past) (event : LogEvent) (ending : is_ending event.outcome ≡ 
   fewer_active [] there some = absurd (omega (arith, there.1))
   fewer_active (session ∷ sessions) (zero, few, is) some =
       let off : weight (active (event ∷ past) session) ≡ 0
-          = ap weight
-          (ap (λ b. cond b (active_after event.command event.outcome past (active past session)) (active past session)) (eq-eqb event.session session (sym is))
-          ∙ none_after event.command event.outcome past (active past session) ending) in
+      = ap weight
+      (ap (λ b. cond b (active_after event.command event.outcome past (active past session)) (active past session)) (eq-eqb event.session session (sym is))
+      ∙ none_after event.command event.outcome past (active past session) ending) in
       let on : weight (active past session) ≡ 1 = ap (λ b. cond b 1 0) (subst (λ n. IsSome (active past n)) (sym is) some) in
       let rest = no_more_active sessions in
       omega (arith, off, on, rest)
