@@ -1,5 +1,4 @@
 pub mod Capped
-mod NumberedOperations
 mod ShortTexts
 mod LastCommits
 mod ToldWalks

@@ -1,11 +1,9 @@
 //! What is told of an operation and of a row's version, as parts of a sentence. Each function that takes bytes appends to
 //! them; after NoMemory, part of what was to be appended may stand there.
 
-ghost use Rattle.std.specs.Prelude.{◌≡◌, ◌++◌, OnOk, IfSome};
+ghost use Rattle.std.specs.Prelude.{◌≡◌, ◌++◌, OnOk};
 ghost use Rattle.std.specs.Option.{option_copied};
 ghost use Rattle.std.specs.Fmt.{signed_decimal};
-ghost use Rattle.lab_statement.specs.Printed.{printed_statement};
-ghost use Rattle.lab_history.specs.HistoryRules.{OpKeeps};
 ghost use Rattle.lab_history.specs.Version.{ops_of, op_at, viewed};
 ghost use Rattle.lab_explain.specs.Clauses.{txn_name, op_name, ran_text, op_text, row_name, state_text, version_of, version_text, seen_version, seen_by, left_by, saw_text, saw_with, left_text};
 
@@ -15,9 +13,8 @@ use itoa::Buffer;
 use lab_deps::{state_of, viewed};
 use lab_history::{History, Op, VersionName};
 use lab_picture::ops_of;
-use lab_statement::{PrintFault, print_statement, put_row_name};
+use lab_statement::{put_row_name, put_statement};
 use lab_table::{NoMemory, RowName, TxnNo, Value};
-use std::alloc::{AllocError, Global};
 
 /// The operation with this number, if there is one.
 fn op_in(ops: &[Op], number: u32) -> Option<&Op>
@@ -28,8 +25,7 @@ fn op_in(ops: &[Op], number: u32) -> Option<&Op>
 
 /// The operation of a transaction with this number, if there is one.
 pub fn op_of(history: &History, txn: TxnNo, op: u32) -> Option<&Op>
-    ensures found { option_copied result ≡ op_at (ops_of history.now txn) op }
-    ensures keeps { IfSome result (λ op. OpKeeps op.now) }
+    ensures { option_copied result ≡ op_at (ops_of history.now txn) op }
 {
     op_in(ops_of(history, txn), op)
 }
@@ -99,50 +95,24 @@ pub fn put_version(out: &mut Vec<u8>, version: VersionName) -> Result<(), NoMemo
     }
 }
 
-/// Appends what an operation ran.
-fn put_statement(alloc: Global, out: &mut Vec<u8>, op: &Op) -> Result<(), NoMemory>
-    requires { OpKeeps op.now }
-    ensures { OnOk result (out.new.items ≡ out.old.items ++ printed_statement op.now.statement) }
-{
-    match print_statement(alloc, &op.statement) {
-        Ok(text) => out.extend_from_slice(&text),
-        Err(PrintFault::NoMemory) => Err(AllocError),
-        Err(PrintFault::TooDeep) => unreachable!(),
-        Err(PrintFault::TooLong) => unreachable!(),
-        Err(PrintFault::TooManyTables) => unreachable!(),
-    }
-}
-
 /// Appends what the operation of a transaction with this number ran.
-fn put_ran(
-    alloc: Global,
-    out: &mut Vec<u8>,
-    history: &History,
-    txn: TxnNo,
-    op: u32,
-) -> Result<(), NoMemory>
+fn put_ran(out: &mut Vec<u8>, history: &History, txn: TxnNo, op: u32) -> Result<(), NoMemory>
     ensures { OnOk result (out.new.items ≡ out.old.items ++ ran_text (op_at (ops_of history.now txn) op)) }
 {
     match op_of(history, txn, op) {
         None => out.extend_from_slice(b"which isn't there"),
-        Some(found) => put_statement(alloc, out, found),
+        Some(found) => put_statement(out, &found.statement),
     }
 }
 
 /// Appends an operation of a transaction, with what it ran.
 #[tactic(auto, unfolding(crate::specs::Clauses::op_text))]
-pub fn put_op(
-    alloc: Global,
-    out: &mut Vec<u8>,
-    history: &History,
-    txn: TxnNo,
-    op: u32,
-) -> Result<(), NoMemory>
+pub fn put_op(out: &mut Vec<u8>, history: &History, txn: TxnNo, op: u32) -> Result<(), NoMemory>
     ensures { OnOk result (out.new.items ≡ out.old.items ++ op_text history.now txn op) }
 {
     put_op_name(out, txn, op)?;
     out.extend_from_slice(b" (")?;
-    put_ran(alloc, out, history, txn, op)?;
+    put_ran(out, history, txn, op)?;
     out.extend_from_slice(b")")
 }
 
@@ -194,7 +164,6 @@ pub fn put_left(
 /// Appends an operation, and how it saw a row.
 #[tactic(auto, unfolding(crate::specs::Clauses::saw_text))]
 pub fn put_saw(
-    alloc: Global,
     out: &mut Vec<u8>,
     history: &History,
     txn: TxnNo,
@@ -203,7 +172,7 @@ pub fn put_saw(
 ) -> Result<(), NoMemory>
     ensures { OnOk result (out.new.items ≡ out.old.items ++ saw_text history.now txn op row) }
 {
-    put_op(alloc, out, history, txn, op)?;
+    put_op(out, history, txn, op)?;
     out.extend_from_slice(b" saw ")?;
     put_row(out, row)?;
     put_seen(out, history, txn, op, row)
@@ -212,7 +181,6 @@ pub fn put_saw(
 /// Appends an operation, how it saw a row, and what is wrong with that.
 #[tactic(auto, unfolding(crate::specs::Clauses::saw_with))]
 pub fn put_saw_with(
-    alloc: Global,
     out: &mut Vec<u8>,
     history: &History,
     txn: TxnNo,
@@ -222,14 +190,13 @@ pub fn put_saw_with(
 ) -> Result<(), NoMemory>
     ensures { OnOk result (out.new.items ≡ out.old.items ++ saw_with history.now txn op row flaw.now) }
 {
-    put_saw(alloc, out, history, txn, op, row)?;
+    put_saw(out, history, txn, op, row)?;
     out.extend_from_slice(flaw)
 }
 
 /// Appends an operation, and how it left a row.
 #[tactic(auto, unfolding(crate::specs::Clauses::left_text))]
 pub fn put_left_row(
-    alloc: Global,
     out: &mut Vec<u8>,
     history: &History,
     txn: TxnNo,
@@ -238,7 +205,7 @@ pub fn put_left_row(
 ) -> Result<(), NoMemory>
     ensures { OnOk result (out.new.items ≡ out.old.items ++ left_text history.now txn op row) }
 {
-    put_op(alloc, out, history, txn, op)?;
+    put_op(out, history, txn, op)?;
     out.extend_from_slice(b" left ")?;
     put_row(out, row)?;
     put_left(out, history, txn, op, row)

@@ -68,7 +68,6 @@ fn put_last(out: &mut Vec<u8>, history: &History, row: RowName) -> Result<(), No
 /// Appends the version that an operation saw of a row.
 #[tactic(auto, unfolding(crate::specs::Faults::named_text))]
 fn put_named(
-    alloc: Global,
     out: &mut Vec<u8>,
     history: &History,
     txn: TxnNo,
@@ -77,7 +76,7 @@ fn put_named(
 ) -> Result<(), NoMemory>
     ensures { OnOk result (out.new.items ≡ out.old.items ++ named_text history.now txn op row) }
 {
-    put_op(alloc, out, history, txn, op)?;
+    put_op(out, history, txn, op)?;
     out.extend_from_slice(b" saw ")?;
     put_row(out, row)?;
     out.extend_from_slice(b" in ")?;
@@ -86,7 +85,6 @@ fn put_named(
 
 /// Appends what is recorded at an operation and a row where a fault of this kind is.
 fn put_recorded_op(
-    alloc: Global,
     out: &mut Vec<u8>,
     history: &History,
     kind: OpFault,
@@ -97,47 +95,42 @@ fn put_recorded_op(
     ensures { OnOk result (out.new.items ≡ out.old.items ++ recorded history.now (parts.Operation kind txn op row)) }
 {
     match kind {
-        OpFault::Dangling => put_named(alloc, out, history, txn, op, row),
+        OpFault::Dangling => put_named(out, history, txn, op, row),
         OpFault::AbortedRead => {
             let flaw = b", of a transaction that aborted";
-            put_saw_with(alloc, out, history, txn, op, row, flaw)
+            put_saw_with(out, history, txn, op, row, flaw)
         }
         OpFault::IntermediateRead => {
             let flaw = b", not the last one of its transaction";
-            put_saw_with(alloc, out, history, txn, op, row, flaw)
+            put_saw_with(out, history, txn, op, row, flaw)
         }
         OpFault::OwnWriteMissed => {
             let flaw = b", though its own transaction had written the row";
-            put_saw_with(alloc, out, history, txn, op, row, flaw)
+            put_saw_with(out, history, txn, op, row, flaw)
         }
         OpFault::LaterThanOwn => {
-            put_saw(alloc, out, history, txn, op, row)?;
+            put_saw(out, history, txn, op, row)?;
             out.extend_from_slice(b"; ")?;
             put_installers(out, history, row)
         }
         OpFault::RowsDiffer => {
-            put_saw(alloc, out, history, txn, op, row)?;
+            put_saw(out, history, txn, op, row)?;
             put_rows(out, history, txn, op, row)
         }
         OpFault::WritesDiffer => {
-            put_saw(alloc, out, history, txn, op, row)?;
+            put_saw(out, history, txn, op, row)?;
             put_writes(out, history, txn, op, row)
         }
     }
 }
 
 /// Appends what is recorded where a fault is.
-fn put_recorded(
-    alloc: Global,
-    out: &mut Vec<u8>,
-    history: &History,
-    fault: FaultParts,
-) -> Result<(), NoMemory>
+fn put_recorded(out: &mut Vec<u8>, history: &History, fault: FaultParts) -> Result<(), NoMemory>
     ensures { OnOk result (out.new.items ≡ out.old.items ++ recorded history.now fault) }
 {
     match fault {
         FaultParts::Operation { kind, txn, op, row } => {
-            put_recorded_op(alloc, out, history, kind, txn, op, row)
+            put_recorded_op(out, history, kind, txn, op, row)
         }
         FaultParts::Row { kind, row } => match kind {
             RowFault::InstallOrder => {
@@ -222,7 +215,6 @@ fn mistake(fault: FaultParts) -> &'static str
 /// Appends what is recorded, with the fault as the report prints it.
 #[tactic(auto, unfolding(crate::specs::Faults::recorded_text))]
 fn put_recorded_text(
-    alloc: Global,
     out: &mut Vec<u8>,
     history: &History,
     fault: &LocalFault,
@@ -230,7 +222,7 @@ fn put_recorded_text(
     ensures { OnOk result (out.new.items ≡ out.old.items ++ recorded_text history.now fault.now) }
 {
     out.extend_from_slice(b"Recorded: ")?;
-    put_recorded(alloc, out, history, fault.parts())?;
+    put_recorded(out, history, fault.parts())?;
     out.extend_from_slice(b". [")?;
     put_fault(out, *fault)?;
     out.extend_from_slice(b"]")
@@ -267,7 +259,7 @@ pub fn put_fault_steps(
     ensures { OnOk result (out.new.items ≡ out.old.items ++ fault_steps history.now fault.now) }
 {
     let mut text = Vec::new(alloc);
-    put_recorded_text(alloc, &mut text, history, fault)?;
+    put_recorded_text(&mut text, history, fault)?;
     put_step(out, &text)?;
     text.clear();
     put_due_text(&mut text, history, *fault)?;

@@ -75,7 +75,6 @@ fn put_walk_beside(
 /// Appends an operation that saw what it is not to see.
 #[tactic(auto, unfolding(crate::specs::Findings::seen_flaw))]
 fn put_seen_flaw(
-    alloc: Global,
     out: &mut Vec<u8>,
     history: &History,
     phenomenon: Phenomenon,
@@ -86,7 +85,7 @@ fn put_seen_flaw(
     ensures { OnOk result (out.new.items ≡ out.old.items ++ seen_flaw history.now phenomenon txn op row) }
 {
     out.extend_from_slice(b"present: ")?;
-    put_saw(alloc, out, history, txn, op, row)?;
+    put_saw(out, history, txn, op, row)?;
     out.extend_from_slice(flaw_of(phenomenon).as_bytes())
 }
 
@@ -108,9 +107,7 @@ fn put_found_beside(
             let walk = walk_text(alloc, walk.as_slice())?;
             put_walk_beside(out, phenomenon, of_serial, &walk)
         }
-        Finding::At { txn, op, row } => {
-            put_seen_flaw(alloc, out, history, phenomenon, *txn, *op, *row)
-        }
+        Finding::At { txn, op, row } => { put_seen_flaw(out, history, phenomenon, *txn, *op, *row) }
     }
 }
 
@@ -161,7 +158,7 @@ pub fn put_found_alone(
             put_walk_steps(alloc, out, history, walk.as_slice())
         }
         Finding::At { txn, op, row } => {
-            put_seen_flaw(alloc, &mut text, history, phenomenon, *txn, *op, *row)?;
+            put_seen_flaw(&mut text, history, phenomenon, *txn, *op, *row)?;
             put_paragraph(out, &text)
         }
     }

@@ -16,7 +16,6 @@ use std::alloc::Global;
 
 /// Appends what the operation that a dependency leads from did with the row.
 fn put_from(
-    alloc: Global,
     out: &mut Vec<u8>,
     history: &History,
     kind: Kind,
@@ -27,18 +26,15 @@ fn put_from(
 {
     match kind {
         Kind::Write | Kind::ItemRead | Kind::PredicateRead => {
-            put_left_row(alloc, out, history, spot.txn, spot.op, row)
+            put_left_row(out, history, spot.txn, spot.op, row)
         }
-        Kind::ItemAnti | Kind::PredicateAnti => {
-            put_saw(alloc, out, history, spot.txn, spot.op, row)
-        }
+        Kind::ItemAnti | Kind::PredicateAnti => { put_saw(out, history, spot.txn, spot.op, row) }
     }
 }
 
 /// Appends an operation that left the row, and how.
 #[tactic(auto, unfolding(crate::specs::Steps::left_next))]
 fn put_left_next(
-    alloc: Global,
     out: &mut Vec<u8>,
     history: &History,
     spot: Spot,
@@ -48,7 +44,7 @@ fn put_left_next(
     ensures { OnOk result (out.new.items ≡ out.old.items ++ left_next history.now spot row which.now) }
 {
     out.extend_from_slice(b", and ")?;
-    put_op(alloc, out, history, spot.txn, spot.op)?;
+    put_op(out, history, spot.txn, spot.op)?;
     out.extend_from_slice(b" left it")?;
     put_left(out, history, spot.txn, spot.op, row)?;
     out.extend_from_slice(which)
@@ -57,7 +53,6 @@ fn put_left_next(
 /// Appends an operation that saw the row, and how.
 #[tactic(auto, unfolding(crate::specs::Steps::saw_next))]
 fn put_saw_next(
-    alloc: Global,
     out: &mut Vec<u8>,
     lead: &[u8],
     history: &History,
@@ -68,14 +63,13 @@ fn put_saw_next(
     ensures { OnOk result (out.new.items ≡ out.old.items ++ saw_next lead.now history.now spot row words.now) }
 {
     out.extend_from_slice(lead)?;
-    put_op(alloc, out, history, spot.txn, spot.op)?;
+    put_op(out, history, spot.txn, spot.op)?;
     out.extend_from_slice(words)?;
     put_seen(out, history, spot.txn, spot.op, row)
 }
 
 /// Appends what the operation that a dependency leads to did with the row.
 fn put_to(
-    alloc: Global,
     out: &mut Vec<u8>,
     history: &History,
     kind: Kind,
@@ -86,19 +80,17 @@ fn put_to(
 {
     match kind {
         Kind::Write | Kind::ItemAnti => {
-            put_left_next(alloc, out, history, spot, row, b", its next version")
+            put_left_next(out, history, spot, row, b", its next version")
         }
         Kind::PredicateAnti => put_left_next(
-            alloc,
             out,
             history,
             spot,
             row,
             b", a later version, which changed whether it matches",
         ),
-        Kind::ItemRead => put_saw_next(alloc, out, b", and ", history, spot, row, b" saw it"),
+        Kind::ItemRead => put_saw_next(out, b", and ", history, spot, row, b" saw it"),
         Kind::PredicateRead => put_saw_next(
-            alloc,
             out,
             b", which changed whether it matches ",
             history,
@@ -135,7 +127,6 @@ fn put_order(out: &mut Vec<u8>, edge: &Edge) -> Result<(), NoMemory>
 /// Appends the sentence of a dependency, by the operations that make it.
 #[tactic(auto, unfolding(crate::specs::Steps::edge_text))]
 fn put_edge(
-    alloc: Global,
     out: &mut Vec<u8>,
     history: &History,
     edge: &Edge,
@@ -144,8 +135,8 @@ fn put_edge(
     ensures { OnOk result (out.new.items ≡ out.old.items ++ edge_text history.now edge.now arrow.now) }
 {
     put_order(out, edge)?;
-    put_from(alloc, out, history, edge.kind, arrow.from, edge.row)?;
-    put_to(alloc, out, history, edge.kind, arrow.to, edge.row)?;
+    put_from(out, history, edge.kind, arrow.from, edge.row)?;
+    put_to(out, history, edge.kind, arrow.to, edge.row)?;
     out.extend_from_slice(b".")?;
     put_tag(out, edge)
 }
@@ -163,7 +154,7 @@ fn put_edge_step(
         None => Ok(()),
         Some(arrow) => {
             let mut text = Vec::new(alloc);
-            put_edge(alloc, &mut text, history, edge, &arrow)?;
+            put_edge(&mut text, history, edge, &arrow)?;
             put_step(out, &text)
         }
     }

@@ -1,10 +1,9 @@
 -- What is known of the operations of one of a history's transactions.
 use Rattle.std.proofs.Common.{ℕ, ◌≤◌, ◌==◌, true, false, cond, Some, List, [], ◌∷◌, length, length-append, arith}
 use Rattle.lab_history.specs.History.{History}
-use Rattle.lab_history.specs.HistoryRules.{Keeps, OpsKeep, operations}
+use Rattle.lab_history.specs.HistoryRules.{Keeps, operations}
 use Rattle.lab_history.specs.Version.{find_txn, ops_in, ops_of}
 use Rattle.lab_history.specs.declared.transaction.Txn.{Txn}
-use Rattle.lab_history.proofs.KeptOperations.{ops_parted}
 
 ops_fit : (ts : List Txn) (n : ℕ) → length (ops_in (find_txn ts n)) ≤ length (operations ts)
 ops_fit [] n = omega arith
@@ -13,20 +12,9 @@ ops_fit (t ∷ ts) n = elim (t.no == n) as (λ b. length (ops_in (cond b (Some t
   | false ↦ omega (arith, length-append t.ops (operations ts), ops_fit ts n)
 ]
 
-ops_kept : (ts : List Txn) (n : ℕ) → OpsKeep (operations ts) → OpsKeep (ops_in (find_txn ts n))
-ops_kept [] n k = tt
-ops_kept (t ∷ ts) n k = elim (t.no == n) as (λ b. OpsKeep (ops_in (cond b (Some t) (find_txn ts n)))) [
-  | true ↦ (ops_parted t.ops (operations ts) k).0
-  | false ↦ ops_kept ts n (ops_parted t.ops (operations ts) k).1
-]
-
 -- they are no more than a history may have
 pub few_of : (h : History) (n : ℕ) → Keeps h → length (ops_of h n) ≤ 10000
 few_of h n k = within _ _ (ops_fit h.txns n) k.few_operations
   where
     within : (a b : ℕ) → a ≤ b → b ≤ 10000 → a ≤ 10000
     within a b l m = omega arith
-
--- and each keeps what operations do
-pub kept_of : (h : History) (n : ℕ) → Keeps h → OpsKeep (ops_of h n)
-kept_of h n k = ops_kept h.txns n k.operations_keep

@@ -1,29 +1,23 @@
 //! The boxes of a column.
 
 ghost use Rattle.std.specs.Prelude.{◌≡◌, ◌++◌, ◌≤◌, length, IfOk, OnOk};
-ghost use Rattle.lab_history.specs.HistoryRules.{OpKeeps, OpsKeep};
 ghost use Rattle.lab_statement.specs.Printed.{printed_statement};
 ghost use Rattle.lab_picture.specs.Boxes.{listed_text, whole_text, edge_style, edge_text, rest_lines, inner_text, box_text, boxes_text};
 
 use crate::layout::{BOX_BYTES, Frame, left, upper};
 use crate::text::{in_three, put_escaped, put_one_line, put_place, put_three_lines, put_two_lines};
 use lab_history::Op;
-use lab_statement::{PrintFault, print_statement, put_list};
+use lab_statement::{put_list, put_statement};
 use lab_table::NoMemory;
-use std::alloc::{AllocError, Global};
+use std::alloc::Global;
 
 /// The text of an operation's statement.
 fn statement_text(alloc: Global, op: &Op) -> Result<Vec<u8>, NoMemory>
-    requires { OpKeeps op.now }
     ensures { IfOk result (λ text. text.items ≡ printed_statement op.now.statement) }
 {
-    match print_statement(alloc, &op.statement) {
-        Ok(text) => Ok(text),
-        Err(PrintFault::NoMemory) => Err(AllocError),
-        Err(PrintFault::TooDeep) => unreachable!(),
-        Err(PrintFault::TooLong) => unreachable!(),
-        Err(PrintFault::TooManyTables) => unreachable!(),
-    }
+    let mut text = Vec::new(alloc);
+    put_statement(&mut text, &op.statement)?;
+    Ok(text)
 }
 
 /// The text of the rows that an operation listed.
@@ -121,8 +115,7 @@ fn put_box(
     marked: bool,
     op: &Op,
 ) -> Result<(), NoMemory>
-    requires op { OpKeeps op.now }
-    requires place { (x ≤ 1000) × (y ≤ 11000000000000) }
+    requires { (x ≤ 1000) × (y ≤ 11000000000000) }
     ensures { OnOk result (out.new.items ≡ out.old.items ++ box_text x y marked op.now) }
 {
     let statement = statement_text(alloc, op)?;
@@ -144,7 +137,6 @@ pub fn put_boxes(
 ) -> Result<(), NoMemory>
     requires column { column ≤ 40 }
     requires few { length ops.now ≤ 10000 }
-    requires keep { OpsKeep ops.now }
     ensures { OnOk result (out.new.items ≡ out.old.items ++ boxes_text frame column marked 0 ops.now) }
 {
     for (index, op) in ops.iter().enumerate() {

@@ -1,7 +1,6 @@
 //! Operations and states of a history.
 
 ghost use Rattle.std.specs.Prelude.{◌≡◌, ◌≤◌, length, suc};
-ghost use Rattle.lab_history.specs.HistoryRules.{OpsKeep};
 ghost use Rattle.lab_history.specs.Limits.{max_operations};
 ghost use Rattle.lab_history.specs.Version.{ops_of, state_at};
 ghost use Rattle.lab_deps.specs.Edges.{changes};
@@ -24,7 +23,6 @@ fn ops_in(history: &History, txn: TxnNo) -> &[Op]
 pub fn ops_of(history: &History, txn: TxnNo) -> &[Op]
     ensures ops { result.now ≡ ops_of history.now txn }
     ensures few { length result.now ≤ max_operations }
-    ensures keep { OpsKeep result.now }
 {
     history.txns();
     ops_in(history, txn)
