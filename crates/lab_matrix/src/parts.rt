@@ -22,10 +22,7 @@ pub(crate) fn session(number: u8) -> Session
     requires high { number ≤ 9 }
     ensures { result ≡ number }
 {
-    let Some(session) = Session::new(number) else {
-        unreachable!()
-    };
-    session
+    Session::new(number).unwrap()
 }
 
 /// The row id of this number.
@@ -34,10 +31,7 @@ pub(crate) fn row_id(number: u32) -> RowId
     requires high { number ≤ 999999 }
     ensures { result ≡ number }
 {
-    let Some(id) = RowId::new(number) else {
-        unreachable!()
-    };
-    id
+    RowId::new(number).unwrap()
 }
 
 /// The row of the table `test` with this id.
@@ -54,10 +48,7 @@ pub(crate) fn value(number: u32) -> Value
     requires { number ≤ 1000000000 }
     ensures { result ≡ pos number }
 {
-    let Some(value) = Value::new(i64::from(number)) else {
-        unreachable!()
-    };
-    value
+    Value::new(i64::from(number)).unwrap()
 }
 
 /// The modulus of this number.
@@ -66,10 +57,7 @@ pub(crate) fn modulus(number: u32) -> Modulus
     requires high { number ≤ 1000000 }
     ensures { result ≡ number }
 {
-    let Some(modulus) = Modulus::new(number) else {
-        unreachable!()
-    };
-    modulus
+    Modulus::new(number).unwrap()
 }
 
 /// That a column equals a number.
