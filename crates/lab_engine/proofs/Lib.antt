@@ -12,6 +12,7 @@ pub mod EventBounds
 pub mod Holding
 pub mod Narrowing
 pub mod SeenRows
+pub mod Choosing
 pub mod OtherWriters
 pub mod InstalledChains
 pub mod Answering

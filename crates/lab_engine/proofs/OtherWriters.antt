@@ -1,7 +1,6 @@
 -- Other sessions with a pending write of a row that a statement would write.
 use Rattle.std.proofs.Common.{◌≡◌, ◌∙◌, ℕ, refl, sym, ap, subst, Bool, true, false, ◌&&◌, not, List, ◌==◌, ◌↔◌, Option, Some, None, is_some, IsTrue, IsSome}
-use Rattle.lab_engine.proofs.Common.{list_any, both_ways, and_parts, and_from, eq-eqb, not-true, ne_eqb, Row, row_eq, Table, State, may_match, would_write, Statement, same_row, row_eq_self, Level, RunningTxn, SessionState, Past, Version, Txn, active, version_by, seen, HoldsWrite, has, DescribesSession, IsRunning, written_by, same_Some, not_written, IsOther, Any-from_list_any, list_any_at}
-use Rattle.lab_engine.proofs.Waiting.{running_txn}
+use Rattle.lab_engine.proofs.Common.{list_any, both_ways, and_parts, and_from, eq-eqb, not-true, ne_eqb, Row, row_eq, Table, State, may_match, would_write, Statement, same_row, row_eq_self, Level, RunningTxn, Past, Version, Txn, active, version_by, seen, HoldsWrite, has, IsRunning, written_by, not_written, IsOther, Any-from_list_any, list_any_at}
 
 -- a test that holds of a row of a list
 any_row : (p : Row → Bool) (rows : List Row) → list_any p rows ≡ true → (row : Row) × IsTrue (list_any (row_eq row) rows) × IsTrue (p row)
@@ -16,25 +15,13 @@ module _ (level : Level) (setup : Table) (past : Past) (txn : Txn) (s : Statemen
   abbrev Writes : Row → Type 0
   Writes row = IsTrue (would_write s row (seen level setup past txn row).state)
 
-  module _ (session : ℕ) (state : SessionState) (d : DescribesSession past state) where
-    -- the transaction of another session's state holds such a write where a test of the rows that it wrote says so
-    pub written_holds : (kept : RunningTxn) (test : Row → Bool) → state.running ≡ Some kept → (state.session == session) ≡ false
-        → ((row : Row) → test row ≡ would_write s row (seen level setup past txn row).state)
-        → IsTrue (list_any test kept.written.items) ↔ IsOther past session state.session (HoldsWrite level setup past txn s)
-    written_holds kept test is apart same = (to, from)
-      where
-        holder : (t : Txn) × (active past state.session ≡ Some t) × IsRunning t kept
-        holder = running_txn past state kept d is
-
-        to : IsTrue (list_any test kept.written.items) → IsOther past session state.session (HoldsWrite level setup past txn s)
-        to any =
-            let f = any_row test kept.written.items any in
-            (holder.0, (λ e. both_ways _ apart (eq-eqb state.session session (sym e))), holder.1, (f.0, sym (holder.2.written f.0) ∙ f.1, sym (same f.0) ∙ f.2))
-
-        from : IsOther past session state.session (HoldsWrite level setup past txn s) → IsTrue (list_any test kept.written.items)
-        from (t, _, act, (row, some, writes)) =
-            let one : t ≡ holder.0 = same_Some t holder.0 (sym act ∙ holder.1) in
-            row_any test kept.written.items row (holder.2.written row ∙ subst (λ (k : Txn). IsSome (version_by k row)) one some) (same row ∙ writes)
+  -- a transaction holds such a write where a test of the rows that it wrote says so
+  pub written_holds : (holder : Txn) (kept : RunningTxn) (test : Row → Bool) → IsRunning holder kept → ((row : Row) → test row ≡ would_write s row (seen level setup past txn row).state)
+      → IsTrue (list_any test kept.written.items) ↔ HoldsWrite level setup past txn s holder
+  written_holds holder kept test agrees same = (
+    (λ any. let f = any_row test kept.written.items any in (f.0, sym (agrees.written f.0) ∙ f.1, sym (same f.0) ∙ f.2)),
+    (λ held. row_any test kept.written.items held.0 (agrees.written held.0 ∙ held.1) (same held.0 ∙ held.2)),
+  )
 
   module _ (session : ℕ) (row : Row) (only : (other : Row) → may_match s other ≡ true → other ≡ row) where
     -- the row that a statement would write is the one that it names

@@ -1,41 +1,44 @@
--- What a situation says that an active transaction sees.
-use Rattle.std.proofs.Common.{◌≡◌, ◌∙◌, ℕ, refl, ap, arith, Option, Some, None, unwrap_or}
-use Rattle.lab_engine.proofs.Common.{option_or, Row, Table, Level, RunningTxn, Situation, chain, last_before, chain_in, pending_in, Past, Txn, active, commits, version_by, last_installed, initial_version, sight, seen, Describes, IsRunning, written_by}
+-- What an active transaction sees of a situation.
+use Rattle.std.proofs.Common.{◌≡◌, ◌∙◌, ℕ, refl, ap, arith, cond, length, Option, Some, None, unwrap_or}
+use Rattle.lab_engine.proofs.Common.{option_or, Row, would_write, Statement, Level, RunningTxn, Situation, chain, last_before, chain_in, pending_in, Past, Txn, Version, active, commits, version_by, last_installed, initial_version, sight, seen, Describes, IsRunning, written_by}
 use Rattle.lab_engine.specs.declared.event.Level.TheVariants.{Snapshot}
-use Rattle.lab_engine.specs.Seen.{place_seen, seen_in}
+use Rattle.lab_engine.specs.declared.asker.Asker.{Asker}
+use Rattle.lab_engine.specs.Asker.{IsAsker, seen_in, sees_as_of_begin}
 use Rattle.lab_engine.proofs.InstalledChains.{last_in, last_at_begin}
+
+-- how many events stand before what an active transaction sees
+pub sees_is : (level : Level) (past : Past) (txn : Txn) (situation : Situation) (running : RunningTxn) → Describes past situation → IsRunning txn running
+    → cond (sees_as_of_begin level) running.before situation.events ≡ length (sight level past txn)
+sees_is Snapshot past txn situation running d is = is.before
+sees_is other past txn situation running d is = d.events
 
 -- the first of two that is there, or else a third
 either_or : {A : Type 0} (a b : Option A) (c : A) → unwrap_or (option_or a b) c ≡ unwrap_or a (unwrap_or b c)
 either_or None b c = refl
 either_or (Some x) b c = refl
 
-module _ (past : Past) (situation : Situation) (session : ℕ) (txn : Txn) (running : RunningTxn) (is : Describes past situation) (own : active past session ≡ Some txn) (agrees : IsRunning txn running) where
-  -- its own version
-  own_is : (row : Row) → pending_in situation.rows row session ≡ version_by txn row
-  own_is row = is.rows.pending row session ∙ ap (λ t. written_by t row) own
+-- the last version installed before what a transaction sees
+last_seen : (level : Level) (past : Past) (session : ℕ) (txn : Txn) (row : Row) → active past session ≡ Some txn
+    → last_before (length (sight level past txn)) (chain past row) ≡ last_installed (commits (sight level past txn)) row
+last_seen Snapshot past session txn row own = last_at_begin past session txn row own
+last_seen other past session txn row own = last_in row (length past) past (omega arith)
 
-  -- the last version as of now
-  last_now : (row : Row) → last_before situation.events (chain_in situation.rows row) ≡ last_installed (commits past) row
-  last_now row =
-      let counted = is.events in
-      ap (last_before situation.events) (is.rows.chains row) ∙ last_in row situation.events past (omega (arith, counted))
-
-  -- the last installed version that it sees
-  last_is : (level : Level) (row : Row) → last_before (place_seen level situation running) (chain_in situation.rows row) ≡ last_installed (commits (sight level past txn)) row
-  last_is Snapshot row =
-      ap (last_before running.before) (is.rows.chains row) ∙ ap (λ n. last_before n (chain past row)) agrees.before ∙ last_at_begin past session txn row own
-  last_is other row = last_now row
-
-  -- which is seen of both
-  pub found_is : (level : Level) (row : Row)
-      → option_or (pending_in situation.rows row session) (last_before (place_seen level situation running) (chain_in situation.rows row))
+module _ (level : Level) (past : Past) (txn : Txn) (asker : Asker) (is : IsAsker level past txn asker) where
+  -- which is found of its own and those
+  pub found_is : (row : Row)
+      → option_or (pending_in asker.situation.now.rows row asker.session) (last_before asker.sees_before (chain_in asker.situation.now.rows row))
       ≡ option_or (version_by txn row) (last_installed (commits (sight level past txn)) row)
-  found_is level row =
-      ap (λ o. option_or o (last_before (place_seen level situation running) (chain_in situation.rows row))) (own_is row) ∙ ap (option_or (version_by txn row)) (last_is level row)
+  found_is row =
+      ap (λ o. option_or o (last_before asker.sees_before (chain_in asker.situation.now.rows row))) (is.situation.rows.pending row asker.session ∙ ap (λ t. written_by t row) is.active)
+      ∙ ap (option_or (version_by txn row))
+      (ap (last_before asker.sees_before) (is.situation.rows.chains row) ∙ ap (λ n. last_before n (chain past row)) is.sees_before ∙ last_seen level past asker.session txn row is.active)
 
   -- a row's version
-  pub seen_is : (level : Level) (setup : Table) (row : Row) → seen_in level setup situation session running row ≡ seen level setup past txn row
-  seen_is level setup row =
-      ap (λ o. unwrap_or o (initial_version setup row)) (found_is level row)
-      ∙ either_or (version_by txn row) (last_installed (commits (sight level past txn)) row) (initial_version setup row)
+  pub seen_is : (row : Row) → seen_in asker row ≡ seen level asker.setup.now past txn row
+  seen_is row =
+      ap (λ o. unwrap_or o (initial_version asker.setup.now row)) (found_is row)
+      ∙ either_or (version_by txn row) (last_installed (commits (sight level past txn)) row) (initial_version asker.setup.now row)
+
+  -- whether a statement would write it
+  pub writes_is : (s : Statement) (row : Row) → would_write s row (seen_in asker row).state ≡ would_write s row (seen level asker.setup.now past txn row).state
+  writes_is s row = ap (λ (v : Version). would_write s row v.state) (seen_is row)

@@ -1,10 +1,11 @@
 -- Which sessions wait for which after a log.
-use Rattle.std.proofs.Common.{filter, ◌&&◌, ◌≡◌, ◌≢◌, ℕ, ◌+◌, ◌≤◌, ◌<◌, refl, sym, ap, subst, ◌∙◌, false, cond, ◌||◌, List, [], ◌⊎◌, inl, inr, length, take, get_or, ◌==◌, ◌↔◌, IsTrue, IsSome, Some, None, Contains, take_all}
+use Rattle.std.proofs.Common.{filter, ◌&&◌, ◌≡◌, ◌≢◌, ℕ, ◌+◌, ◌≤◌, ◌<◌, refl, sym, ap, subst, ◌∙◌, cond, List, inl, inr, length, take, get_or, ◌==◌, ◌↔◌, IsTrue, Some, None, Contains, take_all}
 use Rattle.std.proofs.lemmas.Map.Views.{any-filter_same}
-use Rattle.lab_engine.proofs.Common.{none_some, and_parts, and_from, list_any, cases_eq, eq-eqb, ne_eqb, eqb-true, both_ways, or_cases, or_right, or_left, length-map, Table, Statement, some_is, Level, RunningTxn, SessionState, Situation, Past, Txn, active, waiting, BlockedBy, MayAsk, all_sessions, Agree, IsRunning, Describes, DescribesSession, has, waits_for, AreBlockers, WaitsOn, AreWaits, same_Some, IsOther, Blocks, Any-from_list_any, list_any_at}
+use Rattle.lab_engine.proofs.Common.{none_some, and_parts, and_from, list_any, cases_eq, eq-eqb, ne_eqb, eqb-true, or_cases, or_right, or_left, length-map, Table, Statement, some_is, Level, RunningTxn, SessionState, Situation, Past, Txn, active, waiting, BlockedBy, MayAsk, all_sessions, Agree, IsRunning, Describes, DescribesSession, has, waits_for, AreBlockers, WaitsOn, AreWaits, same_Some, Blocks, Any-from_list_any, list_any_at}
 use Rattle.lab_engine.proofs.Describing.{kept_txn, kept_none}
 use Rattle.lab_engine.proofs.States.{describes_one}
-use Rattle.lab_engine.proofs.SessionBits.{AreChosen, one_chosen, one_passed}
+use Rattle.lab_engine.specs.Asker.{AreOthers, IsAsker}
+use Rattle.lab_engine.specs.declared.asker.Asker.{Asker}
 use Rattle.lab_engine.proofs.Rising.{some_increase, kept_sessions, sessions_of, is_among, among, among_more}
 
 -- a state stands at a place of a list
@@ -38,16 +39,12 @@ running_txn past state running d is = kept_txn (active past state.session) runni
 pub idle : (past : Past) (state : SessionState) → DescribesSession past state → state.running ≡ None → active past state.session ≡ None
 idle past state d none = kept_none (active past state.session) (subst (Agree (active past state.session)) none d.running)
 
--- another's active transaction
-pub other_active : (past : Past) (session other : ℕ) (holds : Txn → Type 0) → IsOther past session other holds → IsSome (active past other)
-other_active past session other holds o = some_is (active past other) o.0 o.2
-
 -- another of which it holds that it blocks the statement of the active transaction blocks it
-pub others_block : (level : Level) (setup : Table) (past : Past) (session : ℕ) (s : Statement) (txn : Txn) (set : ℕ) → active past session ≡ Some txn
-    → ((other : ℕ) → IsTrue (has set other) ↔ IsOther past session other (Blocks level setup past txn s)) → (other : ℕ) → IsTrue (has set other) ↔ BlockedBy level setup past session s other
-others_block level setup past session s txn set own are other = (
-  (λ there. let o = (are other).0 there in (txn, o.0, o.1, own, o.2, o.3)),
-  (λ b. (are other).1 (b.1, b.2, b.4, subst (λ t. Blocks level setup past t s b.1) (same_Some b.0 txn (sym b.3 ∙ own)) b.5)),
+pub others_block : (level : Level) (past : Past) (s : Statement) (txn : Txn) (asker : Asker) (set : ℕ) → IsAsker level past txn asker
+    → AreOthers past asker (Blocks level asker.setup.now past txn s) set → (other : ℕ) → IsTrue (has set other) ↔ BlockedBy level asker.setup.now past asker.session s other
+others_block level past s txn asker set asks are other = (
+  (λ there. let o = (are other).0 there in (txn, o.0, o.1, asks.active, o.2, o.3)),
+  (λ b. (are other).1 (b.1, b.2, b.4, subst (λ t. Blocks level asker.setup.now past t s b.1) (same_Some b.0 txn (sym b.3 ∙ asks.active)) b.5)),
 )
 
 -- an element passes its own test
@@ -123,44 +120,6 @@ waits_step level setup past states i state waits new set lt is h own with_one se
         ]),
   )
 ]
-
--- of some sessions the set has those that have a property
-abbrev pub AreChosenOf : (ℕ → Type 0) → List SessionState → ℕ → Type 0
-AreChosenOf P states set = AreChosen (λ other. IsTrue (is_among other states)) P set
-
--- of no sessions it has nobody
-pub chosen_none : (P : ℕ → Type 0) (set : ℕ) → ((n : ℕ) → has set n ≡ false) → AreChosenOf P [] set
-chosen_none P set nobody other = ((λ there. absurd (both_ways _ (nobody other) there)), (λ b. absurd (both_ways _ refl b.0)))
-
--- one more state comes
-one_more : (states : List SessionState) (i : ℕ) (state : SessionState) → StandsAt states i state → (other : ℕ)
-    → IsTrue (is_among other (take (i + 1) states)) ↔ (IsTrue (is_among other (take i states)) ⊎ (other ≡ state.session))
-one_more states i state at other =
-    let more : is_among other (take (i + 1) states) ≡ (is_among other (take i states) || (state.session == other)) = among_more other states i state at.lt at.is in (
-      (λ there. elim (or_cases _ _ (sym more ∙ there)) [ inl p ↦ inl p | inr p ↦ inr (sym (eqb-true state.session other p)) ]),
-      (λ either. more ∙ elim either [ inl p ↦ or_left _ _ p | inr same ↦ or_right _ _ (eq-eqb state.session other (sym same)) ]),
-    )
-
-module _ (P : ℕ → Type 0) (states : List SessionState) (i : ℕ) (state : SessionState) (set : ℕ) (at : StandsAt states i state) (h : AreChosenOf P (take i states) set) where
-  -- one more that has it
-  pub chosen_more : (new : ℕ) → ((n : ℕ) → has new n ≡ (n == state.session || has set n)) → P state.session → AreChosenOf P (take (i + 1) states) new
-  chosen_more = one_chosen _ _ P state.session set (one_more states i state at) h
-
-  -- one more that hasn't
-  pub chosen_same : ¬ P state.session → AreChosenOf P (take (i + 1) states) set
-  chosen_same = one_passed _ _ P state.session set (one_more states i state at) h
-
--- once all are passed, the set has all active sessions that have it
-pub chosen_all : (P : ℕ → Type 0) (past : Past) (situation : Situation) (passed set : ℕ) → Describes past situation → ((other : ℕ) → P other → IsSome (active past other))
-    → length situation.sessions ≤ passed → AreChosenOf P (take passed situation.sessions) set → (other : ℕ) → IsTrue (has set other) ↔ P other
-chosen_all P past situation passed set d are_active all h other = (
-  (λ there. ((h other).0 there).1),
-  (λ b. (h other).1 (
-    ap (is_among other) (take_all passed situation.sessions all)
-        ∙ among situation.sessions other (subst (λ xs. Contains xs other) (sym d.sessions) (d.active_is other (are_active other b))),
-    b,
-  )),
-)
 
 -- a session that waits has a state
 pub waiter_there : (past : Past) (situation : Situation) (session : ℕ) (s : Statement) → Describes past situation → waiting past session ≡ Some s

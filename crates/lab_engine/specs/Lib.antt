@@ -9,7 +9,8 @@ pub mod Kept
 pub mod KeptRows
 pub mod Situation
 pub mod Sight
-pub mod Seen
+pub mod Asker
+pub mod Chosen
 pub mod Others
 pub mod Chains
 pub mod Effect

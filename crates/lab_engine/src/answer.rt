@@ -1,6 +1,6 @@
 //! What an engine answers to a command.
 
-ghost use Rattle.std.specs.Prelude.{◌≡◌, ◌<◌, Some, None, length, IsSome, IfOk, OnErr};
+ghost use Rattle.std.specs.Prelude.{◌≡◌, ◌<◌, None, length, IsSome, IfOk, OnErr};
 ghost use Rattle.lab_table.specs.Table.{Table as PlainTable};
 ghost use Rattle.lab_engine.specs.declared.event.Level.{Level as Kind};
 ghost use Rattle.lab_engine.specs.Sight.{version_in};
@@ -11,14 +11,15 @@ ghost use Rattle.lab_table.specs.declared.statement.Statement.{Statement as Aske
 ghost use Rattle.lab_engine.specs.Log.{Version as Seen};
 ghost use Rattle.lab_table.specs.declared.statement.Command.TheVariants.{Run};
 ghost use Rattle.lab_engine.specs.Log.{Past, Txn, active, asked};
+ghost use Rattle.lab_engine.specs.Asker.{IsAsker};
 ghost use Rattle.lab_engine.specs.Rules.{MayAsk};
-ghost use Rattle.lab_engine.specs.Situation.{Describes, IsRunning};
+ghost use Rattle.lab_engine.specs.Situation.{Describes};
 ghost use Rattle.lab_engine.specs.Answer.{MayGive, Answers};
 
+use crate::asker::Asker;
 use crate::effect::{EffectFault, effect_of};
 use crate::event::{EngineFault, Outcome};
 use crate::rules::Rules;
-use crate::session_state::RunningTxn;
 use crate::sight::seen_by;
 use crate::situation::Situation;
 use crate::version::Versions;
@@ -44,9 +45,10 @@ pub fn answer_to<R: Rules>(
     let Some(running) = situation.running(session) else {
         return Ok(without_transaction(situation, session, command));
     };
+    let asker = Asker::of(rules, setup, situation, session, running);
     match command {
         Command::Begin => Ok(Outcome::Refused(EngineFault::AlreadyBegun)),
-        Command::Commit => match rules.conflict(situation, session) {
+        Command::Commit => match rules.conflict(&asker) {
             None => Ok(Outcome::Committed),
             Some(conflict) => Ok(Outcome::Refused(EngineFault::WriteConflict {
                 row: conflict.row,
@@ -54,9 +56,7 @@ pub fn answer_to<R: Rules>(
             })),
         },
         Command::Abort => Ok(Outcome::Aborted),
-        Command::Run(statement) => {
-            run_statement(alloc, rules, setup, situation, session, running, statement)
-        }
+        Command::Run(statement) => run_statement(alloc, rules, &asker, statement),
     }
 }
 
@@ -82,30 +82,18 @@ fn without_transaction(situation: &Situation, session: Session, command: &Comman
 pub fn run_statement<R: Rules>(
     alloc: Global,
     rules: &R,
-    setup: &Table,
-    situation: &Situation,
-    session: Session,
-    running: &RunningTxn,
+    asker: &Asker,
     statement: &Statement,
 ) -> Result<Outcome, NoMemory>
-    ensures { (past : Past) (txn : Txn) → Describes past situation.now → MayAsk past session statement.now
-        → active past session ≡ Some txn → IsRunning txn running.now
-        → IfOk result (Answers R.kind setup.now past session (Run statement.now)) }
+    ensures { (past : Past) (txn : Txn) → IsAsker R.kind past txn asker.now → MayAsk past asker.now.session statement.now
+        → IfOk result (Answers R.kind asker.now.setup.now past asker.now.session (Run statement.now)) }
 {
-    let on = blockers(alloc, rules, setup, situation, session, running, statement)?;
+    let on = blockers(alloc, rules, asker, statement)?;
     if on.as_slice().is_empty() {
-        let seen = seen_by(
-            alloc,
-            rules.level(),
-            setup,
-            situation,
-            session,
-            running,
-            statement,
-        )?;
+        let seen = seen_by(alloc, asker, statement)?;
         return unblocked(alloc, statement, &seen);
     }
-    match deadlock(alloc, rules, setup, situation, session, &on)? {
+    match deadlock(alloc, rules, asker, &on)? {
         Some(circle) => Ok(Outcome::Refused(EngineFault::Deadlock { circle })),
         None => Ok(Outcome::Waits { on }),
     }

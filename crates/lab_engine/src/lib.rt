@@ -7,16 +7,17 @@
 //! Each command goes to `step`. A statement that others are in the way of answers `Waits`, and its session is answered
 //! Busy until `retry` has run the statement anew. `retryable` names a session for which that is of use.
 //!
-//! A [`Journal`] is an engine of any [`Rules`], which say who blocks a statement and which commits conflict. Beside its
-//! setup and its log it keeps the [`Situation`] in which the log leaves sessions and rows, and calls ask that: of each
-//! session its active transaction and the statement that it waits with, of each row the versions that commits installed
-//! and those that transactions have pending. A call decides on its event, then makes room for it, and then goes on by
+//! A [`Journal`] is an engine of any [`Rules`], which say of each [`Asker`] which commits it sees, who blocks its
+//! statement and whether its commit conflicts. Beside its setup and its log it keeps the [`Situation`] in which the log
+//! leaves sessions and rows, and calls ask that: of each session its active transaction and the statement that it waits
+//! with, of each row the versions that commits installed and those that transactions have pending. A call decides on its event, then makes room for it, and then goes on by
 //! it, which takes no memory. The rules of each level, and the engines as journals over them, are in `lab_locking` and
 //! `lab_versions`.
 #![tactic(auto)]
 
 mod answer;
 mod answer_laws;
+mod asker;
 mod candidate;
 mod circle;
 mod decision;
@@ -45,6 +46,7 @@ mod waits;
 mod writers;
 
 pub use answer_laws::{least_circle_unique, one_outcome};
+pub use asker::Asker;
 pub use engine::{Engine, MAX_EVENTS};
 pub use event::{EngineFault, Level, LogEvent, Outcome, Sessions};
 pub use journal::Journal;
@@ -56,7 +58,5 @@ pub use row_states::RowStates;
 pub use rules::{Conflict, Rules};
 pub use session_set::SessionSet;
 pub use session_state::{RunningTxn, SessionState};
-pub use sight::row_seen;
 pub use situation::Situation;
 pub use version::{Version, Versions};
-pub use writers::{would_write, writers_in_way};

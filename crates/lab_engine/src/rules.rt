@@ -1,19 +1,17 @@
 //! What the rules of a level are asked for.
 
-ghost use Rattle.std.specs.Prelude.{◌≡◌, ◌↔◌, ℕ, Some, IsTrue, MatchOption};
+ghost use Rattle.std.specs.Prelude.{◌≡◌, MatchOption};
 ghost use Rattle.lab_engine.specs.declared.event.Level.{Level as Kind};
-ghost use Rattle.lab_engine.specs.Log.{Past, Txn, active};
+ghost use Rattle.lab_engine.specs.Log.{Past, Txn};
+ghost use Rattle.lab_engine.specs.Asker as plain;
+ghost use Rattle.lab_engine.specs.Asker.{AreOthers, IsAsker};
 ghost use Rattle.lab_engine.specs.Rules.{Blocks, MayCommit};
-ghost use Rattle.lab_engine.specs.Situation.{Describes, IsRunning};
 ghost use Rattle.lab_engine.specs.Sight.{IsFirstConflict};
-ghost use Rattle.lab_engine.specs.Others.{IsOther};
-ghost use Rattle.lab_engine.specs.SessionBits.{has};
 
+use crate::asker::Asker;
 use crate::event::Level;
 use crate::session_set::SessionSet;
-use crate::session_state::RunningTxn;
-use crate::situation::Situation;
-use lab_table::{RowName, Session, Statement, Table, TxnNo};
+use lab_table::{RowName, Statement, TxnNo};
 
 /// A row that another transaction has installed since the begin of one that wrote it, and the first such transaction.
 #[derive(Clone, Copy, Debug, PartialEq, Eq)]
@@ -24,8 +22,8 @@ pub struct Conflict {
     pub by: TxnNo,
 }
 
-/// What is particular to a level: who blocks a statement, and which commits conflict. A type of rules has one level, and
-/// a journal makes its own by `default`.
+/// What is particular to a level: what a transaction sees, who blocks a statement, and which commits conflict. A type of
+/// rules has one level, and a journal makes its own by `default`.
 pub trait Rules: Default {
     /// The level that they are the rules of.
     ghost kind: { Kind };
@@ -34,21 +32,17 @@ pub trait Rules: Default {
     fn level(&self) -> Level
         ensures { result ≡ kind };
 
-    /// The sessions that block a statement of a session with this active transaction, after the events of this situation.
-    fn blockers(
-        &self,
-        setup: &Table,
-        situation: &Situation,
-        session: Session,
-        running: &RunningTxn,
-        statement: &Statement,
-    ) -> SessionSet
-        ensures { (past : Past) (txn : Txn) → Describes past situation.now → active past session ≡ Some txn → IsRunning txn running.now
-            → (other : ℕ) → IsTrue (has result other) ↔ IsOther past session other (Blocks kind setup.now past txn statement.now) };
+    /// Whether a transaction sees the commits as of its begin, and not as of now.
+    fn sees_as_of_begin(&self) -> bool
+        ensures { result ≡ plain.sees_as_of_begin kind };
 
-    /// Why a session's active transaction may not commit after the events of this situation, if it may not; None where
-    /// it may.
-    fn conflict(&self, situation: &Situation, session: Session) -> Option<Conflict>
-        ensures { (past : Past) (txn : Txn) → Describes past situation.now → active past session ≡ Some txn
+    /// The sessions that block a statement.
+    fn blockers(&self, asker: &Asker, statement: &Statement) -> SessionSet
+        ensures { (past : Past) (txn : Txn) → IsAsker kind past txn asker.now
+            → AreOthers past asker.now (Blocks kind asker.now.setup.now past txn statement.now) result };
+
+    /// Why the asker's transaction may not commit, if it may not; None where it may.
+    fn conflict(&self, asker: &Asker) -> Option<Conflict>
+        ensures { (past : Past) (txn : Txn) → IsAsker kind past txn asker.now
             → MatchOption result (MayCommit kind past txn) (IsFirstConflict kind past txn) };
 }

@@ -1,43 +1,42 @@
 //! Who waits for whom.
 
-ghost use Rattle.std.specs.Prelude.{◌≡◌, ◌↔◌, Some, List, ℕ, IfOk, IsSome, IsTrue, MatchOption};
+ghost use Rattle.std.specs.Prelude.{◌↔◌, List, ℕ, IfOk, IsSome, IsTrue, MatchOption};
 ghost use Rattle.lab_table.specs.declared.statement.Statement.{Statement as Asked};
-ghost use Rattle.lab_engine.specs.Log.{Past, Txn, active};
+ghost use Rattle.lab_engine.specs.Log.{Past, Txn};
+ghost use Rattle.lab_engine.specs.Asker.{IsAsker};
 ghost use Rattle.lab_engine.specs.Rules.{IsCircle, MayAsk};
 ghost use Rattle.lab_engine.specs.Recording.{NoneRetryable, IsLeastRetryable};
-ghost use Rattle.lab_engine.specs.Situation.{Describes, DescribesSession, IsRunning};
+ghost use Rattle.lab_engine.specs.Situation.{Describes, DescribesSession};
 ghost use Rattle.lab_engine.specs.WaitsFor.{AreBlockers, AreWaits, WaitsOn};
 ghost use Rattle.lab_engine.specs.SessionBits.{has};
 ghost use Rattle.lab_engine.specs.Released.{IsReleased};
 ghost use Rattle.lab_engine.specs.LeastCircle.{IsLeastCircle};
 
+use crate::asker::Asker;
 use crate::circle::{is_on_circle, shortest_circle};
 use crate::event::Sessions;
 use crate::rules::Rules;
 use crate::session_set::SessionSet;
-use crate::session_state::{RunningTxn, SessionState};
+use crate::session_state::SessionState;
 use crate::situation::Situation;
 use crate::wait_graph::WaitGraph;
 use lab_table::{NoMemory, Session, Statement, Table};
 use std::alloc::Global;
 
-/// The sessions that block a statement of a session with this active transaction, by rising number.
+/// The sessions that block a statement, by rising number.
 /// NoMemory where an allocation was refused.
 pub fn blockers<R: Rules>(
     alloc: Global,
     rules: &R,
-    setup: &Table,
-    situation: &Situation,
-    session: Session,
-    running: &RunningTxn,
+    asker: &Asker,
     statement: &Statement,
 ) -> Result<Sessions, NoMemory>
-    ensures { (past : Past) (txn : Txn) → Describes past situation.now → active past session ≡ Some txn → IsRunning txn running.now
-        → IfOk result (AreBlockers R.kind setup.now past session statement.now) }
+    ensures { (past : Past) (txn : Txn) → IsAsker R.kind past txn asker.now
+        → IfOk result (AreBlockers R.kind asker.now.setup.now past asker.now.session statement.now) }
 {
-    let set = rules.blockers(setup, situation, session, running, statement);
+    let set = rules.blockers(asker, statement);
     let mut on = Vec::new(alloc);
-    for state in &situation.sessions {
+    for state in &asker.situation.sessions {
         if set.has(state.session) {
             on.push(state.session)?;
         }
@@ -61,7 +60,8 @@ fn waits_on<R: Rules>(
     let Some(running) = &state.running else {
         return SessionSet::none();
     };
-    rules.blockers(setup, situation, state.session, running, statement)
+    let asker = Asker::of(rules, setup, situation, state.session, running);
+    rules.blockers(&asker, statement)
 }
 
 /// Who waits for whom: for each session whose statement waits those that block it.
@@ -81,19 +81,17 @@ pub fn all_waits<R: Rules>(rules: &R, setup: &Table, situation: &Situation) -> W
 pub fn deadlock<R: Rules>(
     alloc: Global,
     rules: &R,
-    setup: &Table,
-    situation: &Situation,
-    session: Session,
+    asker: &Asker,
     on: &Sessions,
 ) -> Result<Option<Sessions>, NoMemory>
-    ensures { (past : Past) (s : Asked) → Describes past situation.now → MayAsk past session s
-        → AreBlockers R.kind setup.now past session s on.now
-        → IfOk result (λ found. MatchOption found ((circle : List ℕ) → ¬ IsCircle R.kind setup.now past session s circle)
-        (IsLeastCircle R.kind setup.now past session s)) }
+    ensures { (past : Past) (s : Asked) → Describes past asker.now.situation.now → MayAsk past asker.now.session s
+        → AreBlockers R.kind asker.now.setup.now past asker.now.session s on.now
+        → IfOk result (λ found. MatchOption found ((circle : List ℕ) → ¬ IsCircle R.kind asker.now.setup.now past asker.now.session s circle)
+        (IsLeastCircle R.kind asker.now.setup.now past asker.now.session s)) }
 {
-    let mut waits = all_waits(rules, setup, situation);
-    waits.put(session, SessionSet::of(on.as_slice()));
-    shortest_circle(alloc, &waits, session)
+    let mut waits = all_waits(rules, asker.setup, asker.situation);
+    waits.put(asker.session, SessionSet::of(on.as_slice()));
+    shortest_circle(alloc, &waits, asker.session)
 }
 
 /// Whether a session's statement waits and may go on: it waits for nobody, or stands on a cycle.

@@ -1,105 +1,72 @@
--- What the tests of pending writes say of other sessions.
-use Rattle.std.proofs.Common.{◌≡◌, ◌∙◌, ℕ, refl, sym, ap, subst, arith, Bool, true, false, not, ◌||◌, length, ◌==◌, ◌↔◌, Option, Some, None, is_some, unwrap_or, IsTrue}
-use Rattle.lab_engine.proofs.Common.{and_parts, and_from, true≢false, Row, Table, State, matches, may_match, Statement, no_match, chain, Kept, kept_at, chain_kept, pending_kept, chain_in, pending_in, Past, Version, Txn, active, version_by, initial_version, committed_version, IsOther, Describes, DescribesSession, written_by}
-use Rattle.lab_engine.specs.declared.session_state.RunningTxn.{RunningTxn}
-use Rattle.lab_engine.specs.declared.session_state.SessionState.{SessionState}
-use Rattle.lab_engine.specs.declared.situation.Situation.{Situation}
+-- What the tests of pending writes say of other transactions.
+use Rattle.std.proofs.Common.{◌≡◌, ◌∙◌, ℕ, refl, sym, ap, subst, arith, Bool, true, false, ◌||◌, length, ◌↔◌, Option, Some, None, is_some, unwrap_or, IsTrue}
+use Rattle.lab_engine.proofs.Common.{list_any, true≢false, Row, State, matches, may_match, Statement, no_match, chain, last_before, Kept, kept_at, chain_kept, pending_kept, chain_in, pending_in, Past, Version, Txn, active, version_by, initial_version, committed_version, IsOther, written_by}
 use Rattle.std.proofs.lemmas.List.Folds.{Any-from_list_any}
+use Rattle.lab_engine.specs.declared.asker.Asker.{Asker}
+use Rattle.lab_engine.specs.declared.event.Level.TheVariants.{Locking}
+use Rattle.lab_engine.specs.Asker.{IsAsker}
 use Rattle.lab_engine.specs.Rules.{HoldsMatch}
+use Rattle.lab_engine.proofs.Choosing.{Tells}
 use Rattle.lab_engine.proofs.InstalledChains.{last_in}
 use Rattle.lab_engine.proofs.OtherWriters.{row_any}
-use Rattle.lab_locking.specs.Matches as plain
-use Rattle.lab_locking.specs.Matches.{committed_state, matches_either, matches_kept, matches_at, holds_some}
-use Rattle.lab_locking.proofs.Choosing.{apart, to_apart, txn_running}
+use Rattle.lab_locking.specs.Matches.{committed_state, matches_either, matches_kept, matches_at}
 
-module _ (setup : Table) (past : Past) (situation : Situation) (d : Describes past situation) (s : Statement) where
+module _ (past : Past) (txn : Txn) (asker : Asker) (asks : IsAsker Locking past txn asker) (s : Statement) where
   -- the committed state of a row
-  committed_is : (row : Row) → committed_state setup situation.events row (chain_in situation.rows row) ≡ (committed_version setup past row).state
+  committed_is : (row : Row) → committed_state asker row (chain_in asker.situation.now.rows row) ≡ (committed_version asker.setup.now past row).state
   committed_is row =
-      ap (λ c. committed_state setup situation.events row c) (d.rows.chains row) ∙ ap (λ n. committed_state setup n row (chain past row)) d.events
-      ∙ ap (λ (o : Option Version). (unwrap_or o (initial_version setup row)).state) (last_in row (length past) past (omega arith))
+      ap (λ c. committed_state asker row c) (asks.situation.rows.chains row)
+      ∙ ap (λ n. (unwrap_or (last_before n (chain past row)) (initial_version asker.setup.now row)).state) asks.situation.events
+      ∙ ap (λ (o : Option Version). (unwrap_or o (initial_version asker.setup.now row)).state) (last_in row (length past) past (omega arith))
 
-  kept_is : (row : Row) (n : ℕ) (o : Option Kept)
-      → matches_kept setup situation.events s row o n ≡ matches_either s row (committed_state setup situation.events row (chain_kept o)) (pending_kept o n)
+  kept_is : (row : Row) (n : ℕ) (o : Option Kept) → matches_kept asker s row o n ≡ matches_either s row (committed_state asker row (chain_kept o)) (pending_kept o n)
   kept_is row n None = refl
   kept_is row n (Some kept) = refl
 
-  -- the test asks the version that the session's active transaction has written last
-  matches_is : (n : ℕ) (row : Row) → matches_at setup situation s n row ≡ matches_either s row (committed_version setup past row).state (written_by (active past n) row)
-  matches_is n row =
-      kept_is row n (kept_at situation.rows row) ∙ ap (λ state. matches_either s row state (pending_in situation.rows row n)) (committed_is row)
-      ∙ ap (matches_either s row (committed_version setup past row).state) (d.rows.pending row n)
-
-  -- it passes where the transaction holds a match of the row
+  -- a transaction has a pending version of this row, which or whose committed state matches
   abbrev HoldsAt : Row → Txn → Type 0
-  HoldsAt row holder = (v : Version) × (version_by holder row ≡ Some v) × IsTrue (matches s row (committed_version setup past row).state || matches s row v.state)
+  HoldsAt row holder = (v : Version) × (version_by holder row ≡ Some v) × IsTrue (matches s row (committed_version asker.setup.now past row).state || matches s row v.state)
 
   either_some : (row : Row) (state : State) (o : Option Version) → matches_either s row state o ≡ true → (v : Version) × (o ≡ Some v) × IsTrue (matches s row state || matches s row v.state)
   either_some row state None any = absurd (true≢false (sym any))
   either_some row state (Some v) any = (v, refl, any)
 
-  holds_at : (n : ℕ) (row : Row) → matches_at setup situation s n row ≡ true → (holder : Txn) × (active past n ≡ Some holder) × HoldsAt row holder
-  holds_at n row any = at (active past n) refl (sym (matches_is n row) ∙ any)
-    where
-      at : (o : Option Txn) → active past n ≡ o → matches_either s row (committed_version setup past row).state (written_by o row) ≡ true
-          → (holder : Txn) × (active past n ≡ Some holder) × HoldsAt row holder
-      at None is any = absurd (true≢false (sym any))
-      at (Some holder) is any = (holder, is, either_some row (committed_version setup past row).state (version_by holder row) any)
+  module _ (other : ℕ) (holder : Txn) (is : active past other ≡ Some holder) where
+    -- the test asks the version that the session's active transaction has written last
+    matches_is : (row : Row) → matches_at asker s other row ≡ matches_either s row (committed_version asker.setup.now past row).state (version_by holder row)
+    matches_is row =
+        kept_is row other (kept_at asker.situation.now.rows row) ∙ ap (λ state. matches_either s row state (pending_in asker.situation.now.rows row other)) (committed_is row)
+        ∙ ap (matches_either s row (committed_version asker.setup.now past row).state) (asks.situation.rows.pending row other ∙ ap (λ o. written_by o row) is)
 
-  at_holds : (n : ℕ) (row : Row) (holder : Txn) → active past n ≡ Some holder → HoldsAt row holder → matches_at setup situation s n row ≡ true
-  at_holds n row holder is (v, wrote, matched) =
-      matches_is n row ∙ ap (λ o. matches_either s row (committed_version setup past row).state (written_by o row)) is
-      ∙ ap (matches_either s row (committed_version setup past row).state) wrote ∙ matched
+    at_is : (row : Row) → IsTrue (matches_at asker s other row) ↔ HoldsAt row holder
+    at_is row = (
+      (λ any. either_some row (committed_version asker.setup.now past row).state (version_by holder row) (sym (matches_is row) ∙ any)),
+      (λ held. matches_is row ∙ ap (matches_either s row (committed_version asker.setup.now past row).state) held.1 ∙ held.2),
+    )
 
-  module _ (session : ℕ) where
-    -- another session has a pending write that matches
-    pub holds_some_is : (state : SessionState) → DescribesSession past state → IsTrue (holds_some setup situation session s state) ↔ IsOther past session state.session (HoldsMatch setup past s)
-    holds_some_is state described = (to, from)
+    -- where only one row may match, that says it of all rows
+    pub named_is : (row : Row) → ((other : Row) → may_match s other ≡ true → other ≡ row) → IsTrue (matches_at asker s other row) ↔ HoldsMatch asker.setup.now past s holder
+    named_is row only = ((λ any. let held = (at_is row).0 any in (row, held.0, held.1, held.2)), from)
       where
-        found : (o : Option RunningTxn) → plain.any_written (matches_at setup situation s state.session) o ≡ true → (row : Row) × (matches_at setup situation s state.session row ≡ true)
-        found None any = absurd (true≢false (sym any))
-        found (Some running) any = let f = Any-from_list_any (matches_at setup situation s state.session) running.written.items any in (f.1, f.4)
-
-        to : IsTrue (holds_some setup situation session s state) → IsOther past session state.session (HoldsMatch setup past s)
-        to any =
-            let parts = and_parts (not (state.session == session)) (plain.any_written (matches_at setup situation s state.session) state.running) any in
-            let row = found state.running parts.1 in
-            let holds = holds_at state.session row.0 row.1 in
-            (holds.0, apart state.session session parts.0, holds.1, (row.0, holds.2.0, holds.2.1, holds.2.2))
-
-        from : IsOther past session state.session (HoldsMatch setup past s) → IsTrue (holds_some setup situation session s state)
-        from (holder, ne, is, (row, v, wrote, matched)) =
-            let kept = txn_running past state holder described is in
-            and_from (not (state.session == session)) (plain.any_written (matches_at setup situation s state.session) state.running) (to_apart state.session session ne)
-            (ap (plain.any_written (matches_at setup situation s state.session)) kept.1
-            ∙ row_any (matches_at setup situation s state.session) kept.0.written.items row (kept.2.written row ∙ ap is_some wrote) (at_holds state.session row holder is (v, wrote, matched)))
-
-    -- the same where only one row may match
-    pub holds_row_is : (row : Row) → ((other : Row) → may_match s other ≡ true → other ≡ row) → (state : SessionState)
-        → IsTrue (plain.holds_row setup situation session s row state) ↔ IsOther past session state.session (HoldsMatch setup past s)
-    holds_row_is row only state = (to, from)
-      where
-        to : IsTrue (plain.holds_row setup situation session s row state) → IsOther past session state.session (HoldsMatch setup past s)
-        to any =
-            let parts = and_parts (not (state.session == session)) (matches_at setup situation s state.session row) any in
-            let holds = holds_at state.session row parts.1 in
-            (holds.0, apart state.session session parts.0, holds.1, (row, holds.2.0, holds.2.1, holds.2.2))
-
-        only_match : (other : Row) (one two : State) → IsTrue (matches s other one || matches s other two) → other ≡ row
-        only_match other one two matched = by (may_match s other) refl
+        only_match : (q : Row) (one two : State) → IsTrue (matches s q one || matches s q two) → q ≡ row
+        only_match q one two matched = by (may_match s q) refl
           where
-            by : (b : Bool) → may_match s other ≡ b → other ≡ row
-            by true may = only other may
-            by false off = absurd (true≢false (sym matched ∙ ap (λ b. b || matches s other two) (no_match s other off one) ∙ no_match s other off two))
+            by : (b : Bool) → may_match s q ≡ b → q ≡ row
+            by true may = only q may
+            by false off = absurd (true≢false (sym matched ∙ ap (λ b. b || matches s q two) (no_match s q off one) ∙ no_match s q off two))
 
-        from : IsOther past session state.session (HoldsMatch setup past s) → IsTrue (plain.holds_row setup situation session s row state)
-        from (holder, ne, is, (other, v, wrote, matched)) =
-            let same : other ≡ row = only_match other (committed_version setup past other).state v.state matched in
-            and_from (not (state.session == session)) (matches_at setup situation s state.session row) (to_apart state.session session ne)
-            (subst (λ r. matches_at setup situation s state.session r ≡ true) same (at_holds state.session other holder is (v, wrote, matched)))
+        from : HoldsMatch asker.setup.now past s holder → IsTrue (matches_at asker s other row)
+        from (q, v, wrote, matched) =
+            subst (λ r. IsTrue (matches_at asker s other r)) (only_match q (committed_version asker.setup.now past q).state v.state matched) ((at_is q).1 (v, wrote, matched))
 
-    -- nobody has one of a row of which nothing is kept
-    pub holds_none : (row : Row) → ((other : Row) → may_match s other ≡ true → other ≡ row) → kept_at situation.rows row ≡ None → (n : ℕ) → ¬ IsOther past session n (HoldsMatch setup past s)
-    holds_none row only none n other =
-        let passes = (holds_row_is row only (record { session = n; waits = None; running = None })).1 other in
-        true≢false (sym (and_parts (not (n == session)) (matches_at setup situation s n row) passes).1 ∙ ap (λ o. matches_kept setup situation.events s row o n) none)
+  -- a test of the rows that a transaction wrote says whether it holds a match
+  pub some_tells : Tells past (λ other running. list_any (matches_at asker s other) running.written.items) (HoldsMatch asker.setup.now past s)
+  some_tells other holder running is agrees = (
+    (λ any. let f = Any-from_list_any (matches_at asker s other) running.written.items any in let held = (at_is other holder is f.1).0 f.4 in (f.1, held.0, held.1, held.2)),
+    (λ held. row_any (matches_at asker s other) running.written.items held.0 (agrees.written held.0 ∙ ap is_some held.2) ((at_is other holder is held.0).1 (held.1, held.2, held.3))),
+  )
+
+  -- nobody holds one of a row of which nothing is kept
+  pub holds_none : (row : Row) → ((other : Row) → may_match s other ≡ true → other ≡ row) → kept_at asker.situation.now.rows row ≡ None → (n : ℕ)
+      → ¬ IsOther past asker.session n (HoldsMatch asker.setup.now past s)
+  holds_none row only none n (holder, _, is, held) = true≢false (sym ((named_is n holder is row only).1 held) ∙ ap (λ o. matches_kept asker s row o n) none)

@@ -1,4 +1,3 @@
-mod Choosing
 mod HeldMatches
 mod RowReaders
 mod Blocking

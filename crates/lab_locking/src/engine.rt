@@ -4,10 +4,8 @@ ghost use Rattle.lab_engine.specs.declared.event.Level.TheVariants.{Locking};
 
 use crate::matches::match_holders;
 use crate::reads::readers_in_way;
-use lab_engine::{
-    Conflict, Journal, Level, Rules, RunningTxn, SessionSet, Situation, writers_in_way,
-};
-use lab_table::{Session, Statement, Table};
+use lab_engine::{Asker, Conflict, Journal, Level, Rules, SessionSet};
+use lab_table::Statement;
 
 /// Strict two-phase locking of rows and predicates; each commit is let through.
 #[derive(Clone, Copy, Debug, Default, PartialEq, Eq)]
@@ -20,27 +18,17 @@ impl Rules for LockRules {
         Level::Locking
     }
 
-    fn blockers(
-        &self,
-        setup: &Table,
-        situation: &Situation,
-        session: Session,
-        running: &RunningTxn,
-        statement: &Statement,
-    ) -> SessionSet {
-        match_holders(setup, situation, session, statement)
-            .with(writers_in_way(
-                Level::Locking,
-                setup,
-                situation,
-                session,
-                running,
-                statement,
-            ))
-            .with(readers_in_way(setup, situation, session, running, statement))
+    fn sees_as_of_begin(&self) -> bool {
+        false
     }
 
-    fn conflict(&self, situation: &Situation, session: Session) -> Option<Conflict> {
+    fn blockers(&self, asker: &Asker, statement: &Statement) -> SessionSet {
+        match_holders(asker, statement)
+            .with(asker.writers_in_way(statement))
+            .with(readers_in_way(asker, statement))
+    }
+
+    fn conflict(&self, asker: &Asker) -> Option<Conflict> {
         None
     }
 }

@@ -1,158 +1,89 @@
 //! Who has read what a statement would write.
 
-ghost use Rattle.std.specs.Prelude.{◌≡◌, ◌||◌, ◌↔◌, ℕ, Some, IsTrue};
+ghost use Rattle.std.specs.Prelude.{◌≡◌, ◌||◌, ℕ};
 ghost use Rattle.std.specs.List.{list_any};
 ghost use Rattle.lab_engine.specs.declared.event.Level.TheVariants.{Locking};
-ghost use Rattle.lab_engine.specs.Log.{Past, Txn, active};
-ghost use Rattle.lab_engine.specs.Others.{IsOther};
+ghost use Rattle.lab_engine.specs.Asker.{AreOthers, IsAsker};
+ghost use Rattle.lab_engine.specs.Log.{Past, Txn};
 ghost use Rattle.lab_engine.specs.Rules.{HasRead};
 ghost use Rattle.lab_engine.specs.SessionBits.{has};
-ghost use Rattle.lab_engine.specs.Situation.{Describes, IsRunning};
-ghost use Rattle.lab_locking.specs.Chosen.{is_chosen};
 ghost use Rattle.lab_locking.specs.Reads as spec;
 
-use lab_engine::{Level, RunningTxn, SessionSet, SessionState, Situation, row_seen};
-use lab_table::{RowName, Session, Statement, Table, Value};
+use lab_engine::{Asker, SessionSet};
+use lab_table::{RowName, Statement, Value};
 
 /// Whether one of some statements matches a row in one of two states.
-fn any_reads(ran: &[Statement], row: RowName, old: &Option<Value>, new: &Option<Value>) -> bool
-    ensures { result ≡ spec.any_reads row old.now new.now ran.now }
+fn any_reads(ran: &[Statement], row: RowName, old: Option<Value>, new: Option<Value>) -> bool
+    ensures { result ≡ spec.any_reads row old new ran.now }
 {
-    ran.iter().any(|statement| statement.matches(row, *old) || statement.matches(row, *new))
-}
-
-/// Whether another session, which is in this state, has run a statement that matches a row in one of two states.
-fn has_read(
-    session: Session,
-    row: RowName,
-    old: &Option<Value>,
-    new: &Option<Value>,
-    state: &SessionState,
-) -> bool
-    ensures { result ≡ spec.has_read session row old.now new.now state.now }
-{
-    let Some(holder) = &state.running else {
-        return false;
-    };
-    state.session != session && any_reads(&holder.statements, row, old, new)
+    ran.iter().any(|statement| statement.matches(row, old) || statement.matches(row, new))
 }
 
 /// The other sessions that have run a statement that matches a row in one of two states.
-fn row_readers(
-    states: &[SessionState],
-    session: Session,
-    row: RowName,
-    old: &Option<Value>,
-    new: &Option<Value>,
-) -> SessionSet
-    ensures { (n : ℕ) → has result n ≡ is_chosen (spec.has_read session row old.now new.now) states.now n }
+fn row_readers(asker: &Asker, row: RowName, old: Option<Value>, new: Option<Value>) -> SessionSet
+    ensures { (n : ℕ) → has result n ≡ spec.is_reader asker.now row old new n }
 {
-    let mut readers = SessionSet::none();
-    for state in states {
-        if has_read(session, row, old, new, state) {
-            readers.insert(state.session);
-        }
-    }
-    readers
+    asker.others_that(|_, holder| any_reads(&holder.statements, row, old, new))
 }
 
 /// The other sessions that have read a row, where the statement would write it: as it is seen, or as it would then be.
-fn readers_of(
-    setup: &Table,
-    situation: &Situation,
-    session: Session,
-    running: &RunningTxn,
-    statement: &Statement,
-    row: RowName,
-) -> SessionSet
-    ensures { (n : ℕ) → has result n ≡ spec.reads_row setup.now situation.now session running.now statement.now n row }
+fn readers_of(asker: &Asker, statement: &Statement, row: RowName) -> SessionSet
+    ensures { (n : ℕ) → has result n ≡ spec.reads_row asker.now statement.now n row }
 {
-    let version = row_seen(Level::Locking, setup, situation, session, running, row);
-    if statement.would_write(row, version.state) {
-        let new = statement.new_state(row, version.state);
-        row_readers(&situation.sessions, session, row, &version.state, &new)
+    let seen = asker.row_seen(row);
+    if statement.would_write(row, seen.state) {
+        let new = statement.new_state(row, seen.state);
+        row_readers(asker, row, seen.state, new)
     } else {
         SessionSet::none()
     }
 }
 
 /// The same of all rows of the setup.
-fn setup_readers(
-    setup: &Table,
-    situation: &Situation,
-    session: Session,
-    running: &RunningTxn,
-    statement: &Statement,
-) -> SessionSet
-    ensures { (n : ℕ) → has result n ≡ spec.reads_of_setup setup.now situation.now session running.now statement.now n }
+fn setup_readers(asker: &Asker, statement: &Statement) -> SessionSet
+    ensures { (n : ℕ) → has result n ≡ spec.reads_of_setup asker.now statement.now n }
 {
     let mut readers = SessionSet::none();
-    let entries = setup.rows();
+    let entries = asker.setup.rows();
     for entry in entries {
-        readers = readers.with(readers_of(setup, situation, session, running, statement, entry.0));
+        readers = readers.with(readers_of(asker, statement, entry.0));
     }
     readers
 }
 
 /// The same of all rows that transactions have written.
-fn written_readers(
-    setup: &Table,
-    situation: &Situation,
-    session: Session,
-    running: &RunningTxn,
-    statement: &Statement,
-) -> SessionSet
-    ensures { (n : ℕ) → has result n ≡ spec.reads_of_written setup.now situation.now session running.now statement.now n }
+fn written_readers(asker: &Asker, statement: &Statement) -> SessionSet
+    ensures { (n : ℕ) → has result n ≡ spec.reads_of_written asker.now statement.now n }
 {
     let mut readers = SessionSet::none();
-    for (row, _) in situation.rows.by_row() {
-        readers = readers.with(readers_of(setup, situation, session, running, statement, *row));
+    for (row, _) in asker.situation.rows.by_row() {
+        readers = readers.with(readers_of(asker, statement, *row));
     }
     readers
 }
 
 /// The same of all rows that are there.
-fn all_readers(
-    setup: &Table,
-    situation: &Situation,
-    session: Session,
-    running: &RunningTxn,
-    statement: &Statement,
-) -> SessionSet
-    ensures { (n : ℕ) → has result n ≡ (spec.reads_of_setup setup.now situation.now session running.now statement.now n || spec.reads_of_written setup.now situation.now session running.now statement.now n) }
+fn all_readers(asker: &Asker, statement: &Statement) -> SessionSet
+    ensures { (n : ℕ) → has result n ≡ (spec.reads_of_setup asker.now statement.now n || spec.reads_of_written asker.now statement.now n) }
 {
-    let of_setup = setup_readers(setup, situation, session, running, statement);
-    of_setup.with(written_readers(setup, situation, session, running, statement))
-}
-
-/// Whether another session has an active transaction.
-fn has_others(states: &[SessionState], session: Session) -> bool
-    ensures { result ≡ list_any (spec.is_active_other session) states.now }
-{
-    states.iter().any(|state| state.session != session && state.running.is_some())
+    setup_readers(asker, statement).with(written_readers(asker, statement))
 }
 
 /// The other sessions that have run a statement that matches a row before or after the statement would write it. Where
 /// the statement names a row, as each insert does, only that is looked at; else the rows that are there.
-pub fn readers_in_way(
-    setup: &Table,
-    situation: &Situation,
-    session: Session,
-    running: &RunningTxn,
-    statement: &Statement,
-) -> SessionSet
-    ensures { (past : Past) (txn : Txn) → Describes past situation.now → active past session ≡ Some txn → IsRunning txn running.now
-        → (other : ℕ) → IsTrue (has result other) ↔ IsOther past session other (HasRead Locking setup.now past txn statement.now) }
+pub fn readers_in_way(asker: &Asker, statement: &Statement) -> SessionSet
+    ensures { (past : Past) (txn : Txn) → IsAsker Locking past txn asker.now
+        → AreOthers past asker.now (HasRead Locking asker.now.setup.now past txn statement.now) result }
 {
     if statement.is_read_only() {
         return SessionSet::none();
     }
-    if !has_others(&situation.sessions, session) {
-        // No row need be looked at.
+    if asker.others_that(|_, _| true).least().is_none() {
+        // No other transaction is active, so no row need be looked at.
         return SessionSet::none();
     }
     match statement.named_row() {
-        Some(row) => readers_of(setup, situation, session, running, statement, row),
-        None => all_readers(setup, situation, session, running, statement),
+        Some(row) => readers_of(asker, statement, row),
+        None => all_readers(asker, statement),
     }
 }

@@ -1,13 +1,12 @@
 -- Which rows of a transaction others have installed since its begin.
 use Rattle.std.proofs.Common.{◌≡◌, ℕ, refl, sym, ap, subst, ◌∙◌, List, [], ◌∷◌, ◌++◌, Option, Some, None, IsSome, append_assoc, length, length-append, arith, MatchOption, unwrap_or}
 use Rattle.lab_engine.proofs.Common.{none_some, same_Some, Row, Past, Txn, active, version_by, writers, commits, MayCommit, Conflicts, chain, first_since, chain_in, Describes, IsRunning, running_of}
-use Rattle.lab_engine.specs.declared.session_state.RunningTxn.{RunningTxn}
-use Rattle.lab_engine.specs.declared.situation.Situation.{Situation}
+use Rattle.lab_engine.specs.declared.asker.Asker.{Asker}
 use Rattle.lab_engine.specs.declared.event.Level.TheVariants.{Snapshot}
 use Rattle.lab_engine.specs.declared.rules.Conflict.{Conflict}
+use Rattle.lab_engine.specs.Asker.{IsAsker}
 use Rattle.lab_engine.specs.Sight.{IsFirstConflict}
 use Rattle.lab_versions.specs.Conflict.{IsLeastTaken}
-use Rattle.lab_engine.proofs.Describing.{running_txn}
 use Rattle.lab_engine.proofs.InstalledChains.{SinceThen, since_begin, last_no}
 
 -- ---- who has installed a row since a begin
@@ -46,29 +45,22 @@ module _ (past : Past) (txn : Txn) (row : Row) (s : SinceThen row past txn.befor
 -- ---- what the rules ask
 
 -- what is found among the rows that an active transaction wrote answers whether it may commit
-pub found_answers : (past : Past) (session : ℕ) (txn : Txn) (situation : Situation) (running : RunningTxn) (found : Option Conflict) → Describes past situation → active past session ≡ Some txn
-    → IsRunning txn running → IsLeastTaken (λ row. first_since running.before (chain_in situation.rows row)) running.written.items found
+pub found_answers : (past : Past) (txn : Txn) (asker : Asker) (found : Option Conflict) → IsAsker Snapshot past txn asker
+    → IsLeastTaken (λ row. first_since asker.running.now.before (chain_in asker.situation.now.rows row)) asker.running.now.written.items found
     → MatchOption found (MayCommit Snapshot past txn) (IsFirstConflict Snapshot past txn)
-found_answers past session txn situation running found d is running_is least = at found least
+found_answers past txn asker found asks least = at found least
   where
-    taken_is : (row : Row) → first_since running.before (chain_in situation.rows row) ≡ first_since (length txn.before) (chain past row)
-    taken_is row = ap (λ n. first_since n (chain_in situation.rows row)) running_is.before ∙ ap (first_since (length txn.before)) (d.rows.chains row)
+    taken_is : (row : Row) → first_since asker.running.now.before (chain_in asker.situation.now.rows row) ≡ first_since (length txn.before) (chain past row)
+    taken_is row = ap (λ n. first_since n (chain_in asker.situation.now.rows row)) asks.running.before ∙ ap (first_since (length txn.before)) (asks.situation.rows.chains row)
 
     since : (row : Row) → SinceThen row past txn.before
-    since row = since_begin past session txn row is
+    since row = since_begin past asker.session txn row asks.active
 
-    at : (found : Option Conflict) → IsLeastTaken (λ row. first_since running.before (chain_in situation.rows row)) running.written.items found
+    at : (found : Option Conflict) → IsLeastTaken (λ row. first_since asker.running.now.before (chain_in asker.situation.now.rows row)) asker.running.now.written.items found
         → MatchOption found (MayCommit Snapshot past txn) (IsFirstConflict Snapshot past txn)
-    at None l = λ row wrote. untaken past txn row (since row) (sym (taken_is row) ∙ l row (running_is.written row ∙ wrote))
+    at None l = λ row wrote. untaken past txn row (since row) (sym (taken_is row) ∙ l row (asks.running.written row ∙ wrote))
     at (Some conflict) l = (
       refl,
-      conflicts past txn conflict.row (since conflict.row) conflict.by (sym (running_is.written conflict.row) ∙ l.0) (sym (taken_is conflict.row) ∙ l.1),
-      λ other number below c. no_conflict past txn other (since other) number (sym (taken_is other) ∙ l.2 other below (running_is.written other ∙ c.0)) c,
+      conflicts past txn conflict.row (since conflict.row) conflict.by (sym (asks.running.written conflict.row) ∙ l.0) (sym (taken_is conflict.row) ∙ l.1),
+      λ other number below c. no_conflict past txn other (since other) number (sym (taken_is other) ∙ l.2 other below (asks.running.written other ∙ c.0)) c,
     )
-
--- a transaction that a situation keeps as active is the one that is
-pub the_running : (past : Past) (situation : Situation) (session : ℕ) (running : RunningTxn) (txn : Txn) → Describes past situation
-    → running_of situation.sessions session ≡ Some running → active past session ≡ Some txn → IsRunning txn running
-the_running past situation session running txn describes kept is =
-    let t = running_txn past situation describes session running kept in
-    subst (λ (k : Txn). IsRunning k running) (same_Some t.0 txn (sym t.1 ∙ is)) t.2

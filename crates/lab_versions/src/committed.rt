@@ -2,10 +2,8 @@
 
 ghost use Rattle.lab_engine.specs.declared.event.Level.TheVariants.{Committed};
 
-use lab_engine::{
-    Conflict, Journal, Level, Rules, RunningTxn, SessionSet, Situation, writers_in_way,
-};
-use lab_table::{Session, Statement, Table};
+use lab_engine::{Asker, Conflict, Journal, Level, Rules, SessionSet};
+use lab_table::Statement;
 
 /// A statement is blocked by those that have written a row that it would write; each commit is let through.
 #[derive(Clone, Copy, Debug, Default, PartialEq, Eq)]
@@ -18,25 +16,15 @@ impl Rules for CommittedRules {
         Level::Committed
     }
 
-    fn blockers(
-        &self,
-        setup: &Table,
-        situation: &Situation,
-        session: Session,
-        running: &RunningTxn,
-        statement: &Statement,
-    ) -> SessionSet {
-        writers_in_way(
-            Level::Committed,
-            setup,
-            situation,
-            session,
-            running,
-            statement,
-        )
+    fn sees_as_of_begin(&self) -> bool {
+        false
     }
 
-    fn conflict(&self, situation: &Situation, session: Session) -> Option<Conflict> {
+    fn blockers(&self, asker: &Asker, statement: &Statement) -> SessionSet {
+        asker.writers_in_way(statement)
+    }
+
+    fn conflict(&self, asker: &Asker) -> Option<Conflict> {
         None
     }
 }

@@ -3,8 +3,8 @@
 ghost use Rattle.lab_engine.specs.declared.event.Level.TheVariants.{Snapshot};
 
 use crate::conflict::first_conflict;
-use lab_engine::{Conflict, Journal, Level, Rules, RunningTxn, SessionSet, Situation};
-use lab_table::{Session, Statement, Table};
+use lab_engine::{Asker, Conflict, Journal, Level, Rules, SessionSet};
+use lab_table::Statement;
 
 /// Nobody blocks a statement; a commit conflicts where a row that it wrote was installed by another since its begin.
 #[derive(Clone, Copy, Debug, Default, PartialEq, Eq)]
@@ -17,20 +17,20 @@ impl Rules for SnapshotRules {
         Level::Snapshot
     }
 
-    fn blockers(
-        &self,
-        setup: &Table,
-        situation: &Situation,
-        session: Session,
-        running: &RunningTxn,
-        statement: &Statement,
-    ) -> SessionSet {
+    fn sees_as_of_begin(&self) -> bool {
+        true
+    }
+
+    fn blockers(&self, asker: &Asker, statement: &Statement) -> SessionSet {
         SessionSet::none()
     }
 
-    fn conflict(&self, situation: &Situation, session: Session) -> Option<Conflict> {
-        let running = situation.running(session)?;
-        first_conflict(&running.written, &situation.rows, running.before)
+    fn conflict(&self, asker: &Asker) -> Option<Conflict> {
+        first_conflict(
+            &asker.running.written,
+            &asker.situation.rows,
+            asker.running.before,
+        )
     }
 }
 

@@ -1,5 +1,6 @@
-use Rattle.std.proofs.Common.{refl, sym, ap}
-use Rattle.lab_engine.specs.Log.{asked}
+use Rattle.std.proofs.Common.{refl, sym, ap, subst, IfOk}
+use Rattle.lab_engine.proofs.Common.{Run, MayAsk, asked}
+use Rattle.lab_engine.specs.Answer.{Answers}
 use Rattle.lab_engine.proofs.Describing.{running_txn, running_none}
 use Rattle.lab_engine.proofs.Answering.{gives, may_ask, conflict_none, conflict_some, ran}
 use Rattle.lab_engine.proofs.answer.answer_to.Goals as goal
@@ -20,7 +21,7 @@ returns-in-None-clause-answer g c past d may = let t = running_txn past c.args.s
   (
     t.0,
     gives _ _ _ _ t.0 c.in-Commit.is refl may t.1,
-    conflict_none _ _ t.0 _ c.in-None.is (c.conflict.ensures past t.0 d t.1),
+    conflict_none _ _ t.0 _ c.in-None.is (c.conflict.ensures past t.0 (c.of-asker.ensures.is past t.0 d t.1 t.2)),
   ),
   (λ eq. cc),
   λ s run circle eq. cc,
@@ -28,10 +29,14 @@ returns-in-None-clause-answer g c past d may = let t = running_txn past c.args.s
 
 pub returns-in-Some-conflict-clause-answer : goal.returns-in-Some-conflict-clause-answer
 returns-in-Some-conflict-clause-answer g c past d may = let t = running_txn past c.args.situation.now d c.args.session c.in-Some.running.now (sym c.in-Some.ensures) in
-    let p = conflict_some _ _ t.0 _ c.in-Some-conflict.conflict c.in-Some-conflict.is (c.conflict.ensures past t.0 d t.1) in
+    let p = conflict_some _ _ t.0 _ c.in-Some-conflict.conflict c.in-Some-conflict.is (c.conflict.ensures past t.0 (c.of-asker.ensures.is past t.0 d t.1 t.2)) in
     ((t.0, gives _ _ _ _ t.0 c.in-Commit.is refl may t.1, p.0, p.1, p.2), (λ eq. cc), λ s run circle eq. cc)
 
 pub returns-in-Run-clause-answer : goal.returns-in-Run-clause-answer
 returns-in-Run-clause-answer g c past d may = let t = running_txn past c.args.situation.now d c.args.session c.in-Some.running.now (sym c.in-Some.ensures) in
+    let asker = c.of-asker.result in
+    let s = c.in-Run.statement in
     ran g.R.Rules.kind c.args.setup.now past c.args.session _ _ _ c.in-Run.is
-    (c.run_statement.ensures past t.0 d (may_ask past c.args.session _ _ (ap asked c.in-Run.is) may) t.1 t.2)
+    (subst (λ session. MayAsk past session s → IfOk c.run_statement.result (Answers g.R.Rules.kind c.args.setup.now past session (Run s))) c.of-asker.ensures.session
+    (subst (λ table. MayAsk past asker.session s → IfOk c.run_statement.result (Answers g.R.Rules.kind table past asker.session (Run s))) c.of-asker.ensures.setup
+    (c.run_statement.ensures past t.0 (c.of-asker.ensures.is past t.0 d t.1 t.2))) (may_ask past c.args.session _ _ (ap asked c.in-Run.is) may))

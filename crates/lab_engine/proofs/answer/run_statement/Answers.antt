@@ -1,29 +1,26 @@
-use Rattle.std.proofs.Common.{sym, subst, ◌∙◌}
-use Rattle.lab_engine.specs.Sight.{IsSight}
+use Rattle.std.proofs.Common.{sym, ◌∙◌}
 use Rattle.lab_engine.proofs.Answering.{asking, unblocked_answers, nobody_blocks, waits_answers, deadlock_answers, none_empty, some_empty}
 use Rattle.lab_engine.proofs.answer.run_statement.Goals as goal
 
 pub returns-then-is_empty : goal.returns-then-is_empty
-returns-then-is_empty g c past txn d may is_active running =
-    let asks = asking c.args.statement.now txn may is_active in
-    let sight : IsSight c.args.statement.now g.R.Rules.kind c.args.setup.now past txn c.in_ok-seen.seen =
-    subst (λ level. IsSight c.args.statement.now level c.args.setup.now past txn c.in_ok-seen.seen) c.level.ensures
-    (c.in_ok-seen.ensures past txn d is_active running) in
-    let blockers = c.in_ok-on.ensures past txn d is_active running in
+returns-then-is_empty g c past txn asks may =
+    let may_run = asking c.args.statement.now txn may asks.active in
+    let sight = c.in_ok-seen.ensures g.R.Rules.kind past txn asks in
+    let blockers = c.in_ok-on.ensures past txn asks in
     let empty = none_empty c.as_slice.result.now c.in_ok-on.on c.as_slice.ensures c.if-is_empty.ensures in
-    unblocked_answers _ _ _ _ _ txn asks (nobody_blocks _ _ _ _ _ txn asks _ blockers empty) _ sight _ c.unblocked.ensures
+    unblocked_answers _ _ _ _ _ txn may_run (nobody_blocks _ _ _ _ _ txn may_run _ blockers empty) _ sight _ c.unblocked.ensures
 
 pub returns-in-Some : goal.returns-in-Some
-returns-in-Some g c past txn d may is_active running =
-    let asks = asking c.args.statement.now txn may is_active in
-    let blockers = c.in_ok-on.ensures past txn d is_active running in
-    let found = c.in_ok-circle.ensures past c.args.statement.now d may blockers in
-    deadlock_answers _ _ _ _ _ txn asks c.in-Some.circle _ c.in-Some.is found
+returns-in-Some g c past txn asks may =
+    let may_run = asking c.args.statement.now txn may asks.active in
+    let blockers = c.in_ok-on.ensures past txn asks in
+    let found = c.in_ok-circle.ensures past c.args.statement.now asks.situation may blockers in
+    deadlock_answers _ _ _ _ _ txn may_run c.in-Some.circle _ c.in-Some.is found
 
 pub returns-in-None : goal.returns-in-None
-returns-in-None g c past txn d may is_active running =
-    let asks = asking c.args.statement.now txn may is_active in
-    let blockers = c.in_ok-on.ensures past txn d is_active running in
-    let found = c.in_ok-circle.ensures past c.args.statement.now d may blockers in
-    waits_answers _ _ _ _ _ txn asks c.in_ok-on.on blockers (some_empty c.as_slice.result.now c.in_ok-on.on c.as_slice.ensures (sym c.is_empty.ensures ∙ c.if-is_empty.false))
+returns-in-None g c past txn asks may =
+    let may_run = asking c.args.statement.now txn may asks.active in
+    let blockers = c.in_ok-on.ensures past txn asks in
+    let found = c.in_ok-circle.ensures past c.args.statement.now asks.situation may blockers in
+    waits_answers _ _ _ _ _ txn may_run c.in_ok-on.on blockers (some_empty c.as_slice.result.now c.in_ok-on.on c.as_slice.ensures (sym c.is_empty.ensures ∙ c.if-is_empty.false))
     _ c.in-None.is found
