@@ -52,4 +52,5 @@ pub mod DoneTransactions
 pub mod RecordedCommits
 pub mod RecordedViews
 mod Shown
+mod QuietEvents
 pub mod OneRecording

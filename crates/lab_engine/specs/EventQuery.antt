@@ -1,9 +1,11 @@
 -- What is asked of one event.
-use Rattle.std.specs.Prelude.{Bool, true, false}
+use Rattle.std.specs.Prelude.{Bool, true, false, not, ◌==◌}
+use Rattle.std.specs.FinMap as map
 use Rattle.lab_engine.specs.declared.event.Outcome.{Outcome}
 use Rattle.lab_engine.specs.declared.event.Outcome.TheVariants.{Begun, Rows as Listed, Committed, Aborted, Waits, Refused}
 use Rattle.lab_engine.specs.declared.event.EngineFault.{EngineFault}
 use Rattle.lab_engine.specs.declared.event.EngineFault.TheVariants.{DuplicateKey, OutOfRange, Deadlock, WriteConflict, NoTransaction, AlreadyBegun, Busy}
+use Rattle.lab_engine.specs.Log.{is_fatal}
 
 -- whether a refusal is that of a commit that conflicts
 abbrev pub is_conflict : EngineFault → Bool
@@ -38,3 +40,12 @@ is_ending Committed = true
 is_ending Aborted = true
 is_ending (Waits on) = false
 is_ending (Refused fault) = is_conflict fault
+
+-- whether an outcome frees no session that waits: its transaction goes on, and writes nothing
+abbrev pub frees_nobody : Outcome → Bool
+frees_nobody (Begun n) = true
+frees_nobody (Listed view rows writes) = map.len writes == 0
+frees_nobody Committed = false
+frees_nobody Aborted = false
+frees_nobody (Waits on) = false
+frees_nobody (Refused fault) = not (is_fatal fault)

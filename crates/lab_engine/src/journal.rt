@@ -2,18 +2,19 @@
 
 ghost use Rattle.std.specs.Prelude.{◌≡◌, ◌<◌, ◌∷◌, ◌++◌, [], true, false, length, Contains, IsSome, IfOk, OnOk, OnErr};
 ghost use Rattle.std.specs.Vec.{vec_capacity};
-ghost use Rattle.lab_engine.specs.Answer.{HasPlacesOfEnds};
+ghost use Rattle.lab_engine.specs.Answer.{HasPlacesOfEnds, IsRetryChoice};
 ghost use Rattle.lab_engine.specs.EventQuery.{is_ending};
 ghost use Rattle.lab_engine.specs.Limits.{max_events};
-ghost use Rattle.lab_engine.specs.Log.{past_of, active};
+ghost use Rattle.lab_engine.specs.Log.{Past, past_of, active};
 ghost use Rattle.lab_engine.specs.Rules.{Permitted};
 ghost use Rattle.lab_engine.specs.Sessions.{all_sessions};
+ghost use Rattle.lab_engine.specs.Situation.{Describes};
 
 use crate::answer::answer_to;
 use crate::decision::{copy_of, step_outcome, waiting_command};
 use crate::engine::Engine;
 use crate::event::{Level, LogEvent, Outcome};
-use crate::event_query::ends_transaction;
+use crate::event_query::{ends_transaction, frees_nobody};
 use crate::reserved::append;
 use crate::rules::Rules;
 use crate::situation::Situation;
@@ -24,8 +25,8 @@ use std::marker::Model;
 
 /// An engine of some rules. Beside its setup and its log it keeps where the log leaves sessions and rows, so no call
 /// looks through the log. A call decides on its event, makes room for it, and then appends it, which takes no memory.
-/// The log keeps a place for the end of each active transaction. Which session is retryable is found once after each
-/// event.
+/// The log keeps a place for the end of each active transaction. Which session is retryable is found anew after each
+/// event that may have freed one.
 #[derive(Drop)]
 pub struct Journal<R: Rules> {
     rules: R,
@@ -94,8 +95,14 @@ impl<R: Rules> Journal<R> {
         reserve_place(&mut self.log, &event)?;
         let copies = self.situation.reserve(alloc, &event)?;
         self.situation.take_in(alloc, &event, copies);
+        self.retryable = retryable_after(
+            &self.rules,
+            &self.setup,
+            &self.situation,
+            self.retryable,
+            &event,
+        );
         append(&mut self.log, event);
-        self.retryable = retryable(&self.rules, &self.setup, &self.situation);
         Ok(answer)
     }
 }
@@ -115,6 +122,25 @@ fn reserve_place(log: &mut Vec<LogEvent>, event: &LogEvent) -> Result<(), NoMemo
         return Ok(());
     }
     log.try_reserve(10)
+}
+
+/// The session that is retryable after an event, given that before it. Who waits for whom is asked only where the event
+/// may have changed the answer.
+fn retryable_after<R: Rules>(
+    rules: &R,
+    setup: &Table,
+    situation: &Situation,
+    before: Option<Session>,
+    event: &LogEvent,
+) -> Option<Session>
+    ensures { (past : Past) → Describes (event.now ∷ past) situation.now
+        → Permitted R.kind setup.now past event.now.session event.now.command event.now.outcome → IsRetryChoice R.kind setup.now past before
+        → IsRetryChoice R.kind setup.now (event.now ∷ past) result }
+{
+    if before.is_none() && frees_nobody(&event.outcome) {
+        return None;
+    }
+    retryable(rules, setup, situation)
 }
 
 impl<R: Rules> Engine for Journal<R> {
