@@ -1,11 +1,13 @@
 -- Where an operation lists of each row what is due.
-use Rattle.std.proofs.Common.{◌≡◌, ℕ, ℤ, ◌==◌, Bool, true, false, not, ◌&&◌, Option, Some, None, List, [], ◌∷◌, length, refl, sym, ap, ◌∙◌, subst, arith}
+use Rattle.std.proofs.Common.{◌≡◌, ℕ, ℤ, ◌==◌, Bool, true, false, not, cond, ◌&&◌, Option, Some, None, List, [], ◌∷◌, length, refl, sym, ap, ◌∙◌, subst, arith}
 use Rattle.std.specs.Prelude.{is_some, is_none, option_map}
 use Rattle.std.specs.FinMap.{get, find, entries, get-entries}
 use Rattle.std.proofs.lemmas.Bool.{false≢true, or_parts, eqb-true}
 use Rattle.lab_table.specs.Row.{Row, row_cmp}
 use Rattle.lab_table.specs.Table.{State}
-use Rattle.lab_table.specs.Statement.{is_read_only, listed, may_match, matches}
+use Rattle.lab_table.specs.Statement.{is_read_only, listed, may_match, matches, kind_listed, kind_selects}
+use Rattle.lab_table.specs.declared.statement.StatementKind.{StatementKind}
+use Rattle.lab_table.specs.declared.statement.StatementKind.TheVariants.{Select, Update, Insert, Delete}
 use Rattle.lab_table.proofs.OneRow.{not_listed, unmatched_listed, reader_inserts_none}
 use Rattle.lab_history.specs.History.{History}
 use Rattle.lab_history.specs.Version.{viewed, viewed_state, new_state}
@@ -53,22 +55,30 @@ seen_due h op n k row v found due state there is of same =
     ap (λ o. not (same_state o (listed op.statement row (state_of h row v)))) (sym there)
     ∙ (ap (λ d. not (same_state found d)) (sym (is ∙ ap (listed op.statement row) of)) ∙ ap not same)
 
-is_seen : (o : Option VersionName) → is_some o ≡ true → is_none o ≡ false
-is_seen None t = absurd (false≢true t)
-is_seen (Some v) t = refl
-
 none_and : (b : Bool) → (b && false) ≡ false
 none_and true = refl
 none_and false = refl
 
--- a row that is seen isn't listed beyond what is seen, nor left out of it
-pub seen_not_extra : (h : History) (op : Op) (row : Row) (value : ℤ) (o : Option VersionName) → o ≡ get op.view row → is_some o ≡ true → is_extra h op row value ≡ false
-seen_not_extra h op row value o e t = ap (λ b. b && not (same_state (Some value) (listed op.statement row (get h.initial row)))) (ap is_none (sym e) ∙ is_seen o t)
+-- a row isn't listed beyond what is due, where its value is what the initial one gives
+pub listed_not_extra : (h : History) (op : Op) (row : Row) (value : ℤ) (found due : State) → found ≡ get h.initial row → due ≡ listed op.statement row found → same_state (Some value) due ≡ true
+    → is_extra h op row value ≡ false
+listed_not_extra h op row value found due there is same =
+    ap (λ o. is_none (get op.view row) && not (same_state (Some value) (listed op.statement row o))) (sym there)
+    ∙ (ap (λ o. is_none (get op.view row) && not (same_state (Some value) o)) (sym is) ∙ (ap (λ b. is_none (get op.view row) && not b) same ∙ none_and (is_none (get op.view row))))
 
-pub seen_not_unlisted : (op : Op) (row : Row) (value : ℤ) (o : Option VersionName) → o ≡ get op.view row → is_some o ≡ true → is_unlisted op row value ≡ false
-seen_not_unlisted op row value o e t =
-    ap (λ b. is_some (listed op.statement row (Some value)) && (b && not (same_state (get op.rows row) (listed op.statement row (Some value))))) (ap is_none (sym e) ∙ is_seen o t)
-    ∙ none_and (is_some (listed op.statement row (Some value)))
+-- nor left out, where it is listed with its value
+pub listed_not_unlisted : (op : Op) (row : Row) (value : ℤ) (found : State) → found ≡ get op.rows row → same_state found (Some value) ≡ true → is_unlisted op row value ≡ false
+listed_not_unlisted op row value found there same = by_kind op.statement.kind
+  where
+    selected : (picked : Bool) → (is_some (cond picked (Some value) None) && (is_none (get op.view row) && not (same_state (get op.rows row) (cond picked (Some value) None)))) ≡ false
+    selected true = ap (λ o. is_none (get op.view row) && not (same_state o (Some value))) (sym there) ∙ (ap (λ b. is_none (get op.view row) && not b) same ∙ none_and (is_none (get op.view row)))
+    selected false = refl
+
+    by_kind : (k : StatementKind) → (is_some (kind_listed op.statement.table k row (Some value)) && (is_none (get op.view row) && not (same_state (get op.rows row) (kind_listed op.statement.table k row (Some value))))) ≡ false
+    by_kind (Select pred) = selected (kind_selects op.statement.table (Select pred) row value)
+    by_kind (Update expr pred) = selected (kind_selects op.statement.table (Update expr pred) row value)
+    by_kind (Insert id new) = refl
+    by_kind (Delete pred) = selected (kind_selects op.statement.table (Delete pred) row value)
 
 -- nor is one that doesn't match
 pub unmatched_not_unlisted : (op : Op) (row : Row) (value : ℤ) → matches op.statement row (Some value) ≡ false → is_unlisted op row value ≡ false

@@ -139,6 +139,9 @@ impl Arrows {
         ensures width { self.new.width ≡ self.old.width }
         ensures cells { CellsGain self.old.width (IsOfSet kind first set.now self.old.width one) self.old.cells.items self.new.cells.items }
     {
+        if set.is_bare() {
+            return;
+        }
         for other in 0..self.width {
             self.mark_in(set, one, other, kind, first);
         }

@@ -53,7 +53,7 @@ fn lists_seen(history: &History, op: &Op) -> bool
     let entries = op.view.entries();
     for entry in entries {
         let found = value_near(op.rows.entries(), near, entry.0);
-        near = found.1.wrapping_add(1);
+        near = found.1;
         let state = state_near(history, entry.0, entry.1, &mut written);
         let due = op.statement.listed(entry.0, state);
         if !is_same(found.0, due) {
@@ -68,11 +68,13 @@ fn lists_no_more(history: &History, op: &Op) -> bool
     ensures { result ≡ true → pass.first_value (test.is_extra history.now op.now) (map.entries op.now.rows) ≡ None }
 {
     let mut near = 0;
+    let initial = history.initial().rows();
     let entries = op.rows.entries();
     for entry in entries {
-        let found = value_near(op.view.entries(), near, entry.0);
-        near = found.1.wrapping_add(1);
-        if found.0.is_none() && is_extra(history, op, entry.0, entry.1) {
+        let found = value_near(initial, near, entry.0);
+        near = found.1;
+        let due = op.statement.listed(entry.0, found.0);
+        if !is_same(Some(entry.1), due) && is_extra(history, op, entry.0, entry.1) {
             return false;
         }
     }
@@ -97,9 +99,9 @@ fn lists_initial(history: &History, op: &Op) -> bool
     let entries = within(&op.statement, history.initial().rows());
     for entry in entries {
         if op.statement.matches(entry.0, Some(entry.1)) {
-            let found = value_near(op.view.entries(), near, entry.0);
-            near = found.1.wrapping_add(1);
-            if found.0.is_none() && is_unlisted(op, entry.0, entry.1) {
+            let found = value_near(op.rows.entries(), near, entry.0);
+            near = found.1;
+            if !is_same(found.0, Some(entry.1)) && is_unlisted(op, entry.0, entry.1) {
                 return false;
             }
         }
@@ -139,7 +141,7 @@ fn writes_listed(history: &History, txn: TxnNo, number: u32, op: &Op) -> bool
     let entries = op.rows.entries();
     for entry in entries {
         let found = value_near(op.writes.entries(), near, entry.0);
-        near = found.1.wrapping_add(1);
+        near = found.1;
         if !is_due(&op.statement, entry.1, found.0) {
             return false;
         }
@@ -165,7 +167,7 @@ fn writes_no_more(history: &History, txn: TxnNo, number: u32, op: &Op) -> bool
     let entries = op.writes.entries();
     for entry in entries {
         let found = value_near(op.rows.entries(), near, entry.0);
-        near = found.1.wrapping_add(1);
+        near = found.1;
         if found.0.is_none() {
             return false;
         }

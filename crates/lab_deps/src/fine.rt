@@ -33,7 +33,7 @@ pub fn sees_fine(
     let entries = op.view.entries();
     for entry in entries {
         let found = value_near(known, near, entry.0);
-        near = found.1.wrapping_add(1);
+        near = found.1;
         if !(is_same(found.0, entry.1) || is_fine(history, txn, number, entry.0, entry.1, hints)) {
             return false;
         }

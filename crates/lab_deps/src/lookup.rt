@@ -21,7 +21,7 @@ pub struct Hints {
     pub seen: Hint,
     /// Last writes.
     pub last: Hint,
-    /// The place of a row among what an operation writes.
+    /// The place of a row among what an operation writes, or the one behind it.
     pub written: usize,
 }
 
@@ -61,8 +61,8 @@ pub fn version_state(history: &History, row: RowName, version: VersionName) -> O
     version_state_near(history, row, version, &mut near)
 }
 
-/// The same, where the row is looked for at a place of what the version's operation writes first, and at the next one.
-/// The place is then the row's.
+/// The same, where the row is looked for at a place of what the version's operation writes first, and at the one before.
+/// The place is then the one behind the row's.
 pub fn version_state_near(
     history: &History,
     row: RowName,
@@ -80,7 +80,7 @@ pub fn version_state_near(
     }
 }
 
-/// What an operation writes to a row, looked for at a place first, and at the next one.
+/// What an operation writes to a row, looked for at a place first, and at the one before.
 fn written_near(op: &Op, row: RowName, near: &mut usize) -> Option<State>
     ensures { option_map state_value result ≡ map.get op.now.writes row }
 {
@@ -90,12 +90,12 @@ fn written_near(op: &Op, row: RowName, near: &mut usize) -> Option<State>
     found.0
 }
 
-/// The place behind this one, where the row stands there; else this.
+/// The place before this one, where the row stands there; else this.
 fn nearer<V>(entries: &[(RowName, V)], place: usize, row: RowName) -> usize {
-    let next = place.wrapping_add(1);
-    match entries.get(next) {
+    let last = place.wrapping_sub(1);
+    match entries.get(last) {
         None => place,
-        Some(entry) => { if entry.0 == row { next } else { place } }
+        Some(entry) => { if entry.0 == row { last } else { place } }
     }
 }
 

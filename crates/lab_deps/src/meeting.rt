@@ -154,7 +154,7 @@ fn lists(op: &Op, row: RowName, near: &mut usize) -> bool
     ensures { result ≡ is_some (map.get op.now.rows row) }
 {
     let found = value_near(op.rows.entries(), *near, row);
-    *near = found.1.wrapping_add(1);
+    *near = found.1;
     found.0.is_some()
 }
 
@@ -163,7 +163,7 @@ fn viewed(op: &Op, row: RowName, near: &mut usize) -> VersionName
     ensures { result ≡ version.viewed op.now row }
 {
     let found = value_near(op.view.entries(), *near, row);
-    *near = found.1.wrapping_add(1);
+    *near = found.1;
     found.0.unwrap_or(VersionName::Initial)
 }
 

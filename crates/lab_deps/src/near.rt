@@ -10,8 +10,8 @@ ghost use Rattle.lab_table.specs.Running.{comes_after};
 
 use lab_table::{RowName, TableName, entry_numbered, is_behind, place_of};
 
-/// The value of a row in a list whose rows rise strictly, looked for at a place first; and a place at which the row
-/// stands, or would.
+/// The value of a row in a list whose rows rise strictly, looked for at a place first; and the place at which a greater row
+/// is looked for next: the one behind the row, or where the row would stand.
 #[inline(always)]
 pub fn value_near<V: Copy>(
     entries: &[(RowName, V)],
@@ -23,11 +23,17 @@ pub fn value_near<V: Copy>(
 {
     if let Some(entry) = entries.get(near) {
         if row == entry.0 {
-            return (Some(entry.1), near);
+            return (Some(entry.1), near.wrapping_add(1));
         }
     }
     let place = place_near(entries, near, row);
-    (value_at(entries, place, row), place)
+    let found = value_at(entries, place, row);
+    let next = if found.is_some() {
+        place.wrapping_add(1)
+    } else {
+        place
+    };
+    (found, next)
 }
 
 /// The place of a row in a list whose rows rise strictly, looked at a place first.
@@ -52,10 +58,18 @@ fn is_place<V>(entries: &[(RowName, V)], place: usize, row: RowName) -> bool
     if place > entries.len() {
         return false;
     }
-    if place < entries.len() && row > entries[place].0 {
+    if place < entries.len() && follows(row, entries[place].0) {
         return false;
     }
-    place == 0 || row > entries[place - 1].0
+    place == 0 || follows(row, entries[place - 1].0)
+}
+
+/// Whether a row comes after another one. Most are of one table, and are then told apart by their numbers.
+#[inline(always)]
+fn follows(row: RowName, other: RowName) -> bool
+    ensures { result ≡ is_gt (row_cmp row other) }
+{
+    is_behind(row.table, row.id.number(), other)
 }
 
 /// The entry of the row of this number and table in a list whose rows rise strictly; one beyond the last isn't looked for.

@@ -1,21 +1,32 @@
 //! Which rows an operation has to look at.
 
-ghost use Rattle.std.specs.Prelude.{◌≡◌, ◌≤◌, ◌<◌, ◌||◌, ℕ, T, true, false, None, length, slice_index_or, IfSome};
+ghost use Rattle.std.specs.Prelude.{◌≡◌, ◌≤◌, ◌<◌, ℕ, T, true, false, None, [], is_some, length, slice_index_or, IfSome};
 ghost use Rattle.std.specs.List.{list_all};
 ghost use Rattle.std.specs.FinMap as map;
 ghost use Rattle.lab_table.specs.Row.{Row, row_cmp, row_test};
 ghost use Rattle.lab_table.specs.Statement.{may_match};
-ghost use Rattle.lab_deps.specs.EdgesByRow.{looks_at};
+ghost use Rattle.lab_history.specs.History.{History as Kept};
+ghost use Rattle.lab_deps.specs.EdgesByRow.{looks_at, found_at_row};
 
 use crate::span::{Span, span_of};
+use crate::versions::Versions;
 use lab_history::Op;
 use lab_table::{RowName, place_of};
 
-/// Whether an operation has to look at a row: it lists the row, as is said, or its statement may match it.
-pub fn looks_at(op: &Op, row: RowName, listed: bool) -> bool
-    ensures { result ≡ (may_match op.now.statement row || listed) }
+/// Whether an operation is found to have nothing to do with a row with these versions, which it lists or doesn't, as is
+/// said: it doesn't, and they don't change whether its statement matches the row, or that may not match it at all.
+pub fn passes_by(op: &Op, row: RowName, listed: bool, versions: &Versions) -> bool
+    requires { listed ≡ is_some (map.get op.now.rows row) }
+    ensures nothing { result ≡ true → (h : Kept) (n : ℕ) → found_at_row h n op.now (row, versions.now) ≡ [] }
+    ensures looks { result ≡ false → looks_at op.now row ≡ true }
 {
-    op.statement.may_match(row) || listed
+    if listed {
+        return false;
+    }
+    if versions.is_steady(&op.statement, row) {
+        return true;
+    }
+    !op.statement.may_match(row)
 }
 
 /// A row such that an operation has to look at no other, where its statement names one and it lists no other.

@@ -31,7 +31,7 @@ pub struct Limits {
 }
 
 /// Rows with fewer versions are walked along.
-const FEWEST: usize = 16;
+pub const FEWEST: usize = 16;
 
 /// Rows with fewer versions are walked along also by what doesn't test values.
 const FEWEST_BY_PRESENCE: usize = 8;

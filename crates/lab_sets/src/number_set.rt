@@ -1,6 +1,6 @@
 //! A set of the numbers below a bound.
 
-ghost use Rattle.std.specs.Prelude.{◌≡◌, ◌<◌, ◌==◌, ◌||◌, ℕ, false, get_or, IfOk};
+ghost use Rattle.std.specs.Prelude.{◌≡◌, ◌<◌, ◌==◌, ◌||◌, ℕ, true, false, get_or, IfOk};
 ghost use Rattle.lab_sets.specs.Sets.{has, room, room_for};
 
 use std::alloc::{AllocError, Global};
@@ -52,6 +52,18 @@ impl NumberSet {
         ensures { result ≡ has self.now number }
     {
         (self.word(number as usize / 64) >> (number % 64)) & 1 == 1
+    }
+
+    /// Whether it is found to have no number, by 64 numbers at a time.
+    pub fn is_bare(&self) -> bool
+        ensures { result ≡ true → (n : ℕ) → has self.now n ≡ false }
+    {
+        for word in &self.words {
+            if *word != 0 {
+                return false;
+            }
+        }
+        true
     }
 
     /// Puts a number in.

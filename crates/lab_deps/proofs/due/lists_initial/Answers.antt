@@ -1,16 +1,16 @@
-use Rattle.std.proofs.Common.{◌≡◌, T, ◌∙◌, false, not, sym, ap, subst}
+use Rattle.std.proofs.Common.{◌≡◌, T, ◌∙◌, false, sym, ap, subst}
 use Rattle.std.specs.FinMap.{find, entries, entries_sorted, is_sorted, get-entries}
 use Rattle.lab_table.specs.Row.{row_cmp}
 use Rattle.lab_deps.specs.Broken.{is_unlisted}
 use Rattle.lab_deps.specs.Passes.{first_value}
 use Rattle.lab_deps.proofs.NearValues.{passed}
 use Rattle.lab_deps.proofs.Spans.{unlisted_within}
-use Rattle.lab_deps.proofs.DueRows.{seen_not_unlisted, unmatched_not_unlisted}
+use Rattle.lab_deps.proofs.DueRows.{listed_not_unlisted, unmatched_not_unlisted}
 use Rattle.lab_deps.proofs.due.lists_initial.Goals as goal
-use Rattle.lab_deps.proofs.due.lists_initial.Goals.{then-matches+else-is_none, else-is_none-via-then-is_none+else-is_unlisted, else-is_none-via-else-is_none, else-matches}
+use Rattle.lab_deps.proofs.due.lists_initial.Goals.{then-matches+else-not-is_same, else-not-is_same-via-then-not-is_same+else-is_unlisted, else-not-is_same-via-else-not-is_same, else-matches}
 
 pub value_near-found-requires : goal.value_near-found-requires
-value_near-found-requires c = subst (λ es. T (is_sorted row_cmp es)) (sym c.entries.ensures) (entries_sorted c.args.op.now.view)
+value_near-found-requires c = subst (λ es. T (is_sorted row_cmp es)) (sym c.entries.ensures) (entries_sorted c.args.op.now.rows)
 
 pub within-entries-requires : goal.within-entries-requires
 within-entries-requires c = subst (λ es. T (is_sorted row_cmp es)) (sym (c.rows.ensures ∙ ap entries c.initial.ensures)) (entries_sorted c.args.history.now.initial)
@@ -25,11 +25,11 @@ loop-entry-preserved c =
     let e = c.entry-item.result in
     let fails : is_unlisted op e.0 e.1 ≡ false =
     elim c.if-matches.branch [
-      | then-matches+else-is_none w ↦
-          elim w.else-is_none.branch [
-            | else-is_none-via-then-is_none+else-is_unlisted v ↦ sym v.is_unlisted.ensures ∙ v.if-is_unlisted.false
-            | else-is_none-via-else-is_none v ↦
-                seen_not_unlisted op e.0 e.1 _ (w.value_near-found.ensures ∙ ap (find row_cmp e.0) w.entries.ensures ∙ sym (get-entries op.view e.0)) (w.is_none.ensures ∙ ap not v.if-is_none.false)
+      | then-matches+else-not-is_same w ↦
+          elim w.else-not-is_same.branch [
+            | else-not-is_same-via-then-not-is_same+else-is_unlisted v ↦ sym v.is_unlisted.ensures ∙ v.if-is_unlisted.false
+            | else-not-is_same-via-else-not-is_same v ↦
+                listed_not_unlisted op e.0 e.1 _ (w.value_near-found.ensures ∙ ap (find row_cmp e.0) w.entries.ensures ∙ sym (get-entries op.rows e.0)) (sym w.is_same.ensures ∙ v.if-not-is_same.false)
           ]
       | else-matches w ↦ unmatched_not_unlisted op e.0 e.1 (sym c.matches.ensures ∙ w.if-matches.false)
     ] in

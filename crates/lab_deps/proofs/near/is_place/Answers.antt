@@ -3,7 +3,7 @@ use Rattle.std.proofs.lemmas.List.{get_or_default}
 use Rattle.lab_table.specs.Running.{comes_after}
 use Rattle.lab_deps.proofs.NearPlaces.{place_is}
 use Rattle.lab_deps.proofs.near.is_place.Goals as goal
-use Rattle.lab_deps.proofs.near.is_place.Goals.{else-place-entries-2-via-then-place-entries-2+else-gt, else-place-entries-2-via-else-place-entries-2}
+use Rattle.lab_deps.proofs.near.is_place.Goals.{else-place-entries-2-via-then-place-entries-2+else-follows, else-place-entries-2-via-else-place-entries-2}
 
 pub returns-else-place-eq0 : goal.returns-else-place-eq0
 returns-else-place-eq0 g c after =
@@ -12,8 +12,8 @@ returns-else-place-eq0 g c after =
     let row = c.args.row in
     let within : i ≤ length es = omega (arith, c.if-place-entries.false) in
     place_is row es c.requires i within
-    (λ d some. ap (comes_after row) (get_or_default es (i - 1) d c.index-entries-place-else-place-eq0.result (omega (arith, some, within))) ∙ (sym c.gt-else-place-eq0.ensures ∙ after))
+    (λ d some. ap (comes_after row) (get_or_default es (i - 1) d c.index-entries-place-else-place-eq0.result (omega (arith, some, within))) ∙ (sym c.follows-else-place-eq0.ensures ∙ after))
     (elim c.else-place-entries-2.branch [
-      | else-place-entries-2-via-then-place-entries-2+else-gt w ↦ λ d l. ap (comes_after row) (get_or_default es i d w.index-entries-place.result l) ∙ (sym w.gt.ensures ∙ w.if-gt.false)
+      | else-place-entries-2-via-then-place-entries-2+else-follows w ↦ λ d l. ap (comes_after row) (get_or_default es i d w.index-entries-place.result l) ∙ (sym w.follows.ensures ∙ w.if-follows.false)
       | else-place-entries-2-via-else-place-entries-2 w ↦ λ d l. absurd (omega (arith, l, w.if-place-entries-2.false))
     ])

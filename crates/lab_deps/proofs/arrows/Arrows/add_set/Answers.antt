@@ -1,8 +1,16 @@
-use Rattle.std.proofs.Common.{◌≡◌, ◌≤◌, true, sym, ◌∙◌, subst, refl, arith}
+use Rattle.std.proofs.Common.{◌≡◌, true, cond, sym, ◌∙◌, subst, refl, arith}
+use Rattle.std.proofs.lemmas.Bool.{false≢true}
 use Rattle.lab_sets.specs.Sets.{has}
 use Rattle.lab_deps.specs.CellGains.{CellsGain, IsBetween, IsOfSet}
+use Rattle.lab_deps.proofs.CellsGained.{cells_none}
 use Rattle.lab_deps.proofs.TablesGained.{set_none, set_next}
 use Rattle.lab_deps.proofs.arrows.Arrows.add_set.Goals as goal
+
+pub returns-then-is_bare-clause-cells : goal.returns-then-is_bare-clause-cells
+returns-then-is_bare-clause-cells c =
+    let w = c.args.self.now.width in
+    cells_none w (IsOfSet c.args.kind c.args.first c.args.set.now w c.args.one) c.args.self.now.cells.items
+    (λ i j k is. false≢true (sym (c.is_bare.ensures c.if-is_bare.true (cond c.args.first j i)) ∙ is.has_other))
 
 pub loop-other-init : goal.loop-other-init
 loop-other-init c = (refl, refl, set_none c.args.self.now.width c.args.kind c.args.first c.args.set.now c.args.one c.args.self.now.cells.items, omega arith)

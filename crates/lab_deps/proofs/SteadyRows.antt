@@ -1,0 +1,57 @@
+-- A row whose versions don't change whether a statement matches it.
+use Rattle.std.proofs.Common.{◌≡◌, ℕ, suc, ◌+◌, ◌==◌, Bool, true, false, not, cond, Option, Some, None, List, [], ◌∷◌, ◌++◌, refl, sym, ap, ◌∙◌}
+use Rattle.std.specs.Prelude.{is_some, option_map}
+use Rattle.std.specs.List.{list_all}
+use Rattle.std.specs.FinMap.{get}
+use Rattle.std.proofs.lemmas.Bool.{false≢true, and_parts, not-true}
+use Rattle.lab_table.specs.Row.{Row}
+use Rattle.lab_table.specs.Statement.{matches}
+use Rattle.lab_table.specs.declared.statement.Statement.{Statement}
+use Rattle.lab_history.specs.History.{History}
+use Rattle.lab_history.specs.Version.{viewed}
+use Rattle.lab_history.specs.declared.operation.Op.{Op}
+use Rattle.lab_deps.specs.Edges.{differ, place_of}
+use Rattle.lab_deps.specs.Collected.{apart_in, read_by, passed_by}
+use Rattle.lab_deps.specs.EdgesByRow.{Chain, edges_by, along, walked_in, is_steady, looks_at, found_at_row}
+use Rattle.lab_deps.specs.declared.edge.Edge.{Edge}
+use Rattle.lab_deps.specs.declared.edge.Kind.TheVariants.{ItemRead, ItemAnti}
+use Rattle.lab_deps.specs.declared.reading.Reading.{Reading}
+use Rattle.lab_deps.specs.declared.versions.Version.{Version}
+
+alike : (a b : Bool) → differ a b ≡ false → b ≡ a
+alike true true e = refl
+alike true false e = absurd (false≢true (sym e))
+alike false true e = absurd (false≢true (sym e))
+alike false false e = refl
+
+either_way : (b : Bool) (es : List Edge) → cond b es es ≡ es
+either_way true es = refl
+either_way false es = refl
+
+module _ (s : Statement) (r : Reading) (unlisted : r.listed ≡ false) where
+  -- a reader that doesn't list the row has nothing to do with an installer that doesn't change the matches
+  unchanged : (p n : ℕ) → edges_by r p n false ≡ []
+  unchanged p n =
+      ap (λ b. apart_in (cond b (cond (r.place == suc p) (Some (read_by ItemRead r n)) (cond (r.place == p) (Some (passed_by ItemAnti r n)) None)) None) ++ []) unlisted
+
+  along_steady : (b : Bool) (p : ℕ) (vs : List Version) → list_all (λ v. not (differ b (matches s r.row v.value))) vs ≡ true → along (edges_by r) s r.row b p vs ≡ []
+  along_steady b p [] all = refl
+  along_steady b p (v ∷ vs) all =
+      let now : Bool = matches s r.row v.value in
+      let parts = and_parts (not (differ b now)) (list_all (λ u. not (differ b (matches s r.row u.value))) vs) all in
+      let same : differ b now ≡ false = not-true (differ b now) parts.0 in
+      ap (λ d. edges_by r p v.installer d ++ along (edges_by r) s r.row now (p + 1) vs) same
+      ∙ (ap (λ es. es ++ along (edges_by r) s r.row now (p + 1) vs) (unchanged p v.installer)
+      ∙ (ap (λ c. along (edges_by r) s r.row c (p + 1) vs) (alike b now same) ∙ along_steady b (p + 1) vs parts.1))
+
+-- an operation has nothing to do with such a row that it doesn't list
+pub steady_row : (h : History) (n : ℕ) (op : Op) (row : Row) (chain : Chain) → is_some (get op.rows row) ≡ false → is_steady op.statement row chain ≡ true → found_at_row h n op (row, chain) ≡ []
+steady_row h n op row chain unlisted steady =
+    ap (λ es. cond (looks_at op row) es []) (walked_none (place_of h n row (viewed op row))) ∙ either_way (looks_at op row) []
+  where
+    reading : ℕ → Reading
+    reading v = record { txn = n; row = row; place = v; listed = is_some (get op.rows row) }
+
+    walked_none : (place : Option ℕ) → walked_in op.statement chain (option_map reading place) ≡ []
+    walked_none None = refl
+    walked_none (Some v) = along_steady op.statement (reading v) unlisted (matches op.statement row chain.before) 0 chain.items steady
