@@ -64,7 +64,7 @@ module _ (script : Script) (ts : List Token) (remark : List ℕ) (not : BeginsSe
       let many : SpellsNoFew ts (Some script) = (not, λ cs h le few. none-some f (sym ((no_commands_fault names room ts).1 (cs, h, omega (arith, le), few)) ∙ first)) in
       fault_is (λ cs. fifth_table (with_commands names cs)) (commands_placed names ts) CommandsTold (commands_read room ts) f first
       (λ cs read e. fifth_is CommandsTold (are_few (with_commands names cs)) f e (many, λ e. e))
-      (λ kind left stops. behind_is CommandsTold (with_tokens false names (passed ts (length left))) (placed_kind ts kind (length left)) (commands_stop kind left stops) (many, λ e. e))
+      (λ kind left stops. behind_is CommandsTold (with_tokens names (passed ts (length left))) (placed_kind ts kind (length left)) (commands_stop kind left stops) (many, λ e. e))
 
   -- the fault of a line of commands
   pub commands_told : (names : List (List ℕ)) (n number : ℕ) (e : Refusal) → names ≡ script_tables script → n ≡ room → StopsFirst (commands_fault names n ts) e
@@ -83,7 +83,7 @@ module _ (ts : List Token) (remark : List ℕ) (begins : BeginsSetup ts) where
       (λ kind left stops.
       let nothing : SpellsNothing ts None = (begins, λ table h. reads_on (setup_read ts) table kind left (setup_again h) stops) in
       let wrong = setup_kinds SetupTold ts (nothing, λ e. e) (nothing, λ e. e) (nothing, λ e. e) ((nothing, refl), λ e. e) (λ long. ((nothing, long), λ e. e)) kind left stops in
-      behind_is SetupTold (with_setup_tokens false [] (passed ts (length left))) kind wrong (many, λ e. e))
+      behind_is SetupTold (with_setup_tokens [] (passed ts (length left))) kind wrong (many, λ e. e))
 
   -- the fault of a setup
   pub setup_told : (number : ℕ) (e : Refusal) → StopsFirst (setup_fault ts) e → IsTokensFault number ts remark None (refusal_at e number)

@@ -1,5 +1,5 @@
 -- Reading the setup and the commands of a line from left to right, to the end or to the first fault.
-use Rattle.std.specs.Prelude.{ℕ, zero, suc, ℤ, nat_le, length, if◌then◌else◌, List, [], ◌∷◌, ◌++◌, Option, Some, None, ◌-◌, false, nat_lt, take, drop}
+use Rattle.std.specs.Prelude.{ℕ, zero, suc, ℤ, nat_le, length, if◌then◌else◌, List, [], ◌∷◌, ◌++◌, Option, Some, None, ◌-◌, nat_lt, take, drop}
 use Rattle.lab_table.specs.Row.{Row, numbered}
 use Rattle.lab_table.specs.TableName.{test_name}
 use Rattle.lab_table.specs.declared.word.Word.TheVariants as word
@@ -137,11 +137,11 @@ passed ts left = take (length ts - left) ts
 
 -- the kind of a fault of a line of commands, behind lines that name these tables, where so many of its tokens are left
 abbrev pub commands_placed : List (List ℕ) → List Token → ScriptFaultKind → ℕ → ScriptFaultKind
-commands_placed names ts kind left = behind_tables (with_tokens false names (passed ts left)) (placed_kind ts kind left)
+commands_placed names ts kind left = behind_tables (with_tokens names (passed ts left)) (placed_kind ts kind left)
 
 -- the same of a setup, in which no where can stand
 abbrev pub setup_placed : List Token → ScriptFaultKind → ℕ → ScriptFaultKind
-setup_placed ts kind left = behind_tables (with_setup_tokens false [] (passed ts left)) kind
+setup_placed ts kind left = behind_tables (with_setup_tokens [] (passed ts left)) kind
 
 -- the first fault of the tokens of a line of commands, for which there is this much room, behind lines that name these tables
 abbrev pub commands_fault : List (List ℕ) → ℕ → List Token → Option ScriptFaultKind
