@@ -22,12 +22,12 @@ use Rattle.lab_script.specs.PassedTables.{with_tokens, with_setup_tokens}
 use Rattle.lab_statement.specs.FirstFaults.{behind_tables, end_read, fault_of, fifth_table, is_short, no_rows_at, nothing_read, placed_kind, statement_read}
 
 -- the table of a row of a setup, from the token that it begins with: a word names it, and without one it is `test`
-abbrev pub table_of : Token → List Token → Reading (List ℕ × List Token)
-table_of t ts = if is_word t then name_of t ts else Reads (test_name, t ∷ ts)
+abbrev pub row_table_of : Token → List Token → Reading (List ℕ × List Token)
+row_table_of t ts = if is_word t then name_of t ts else Reads (test_name, t ∷ ts)
 
 unfoldable pub row_table_read : List Token → Reading (List ℕ × List Token)
 row_table_read [] = Reads (test_name, [])
-row_table_read (t ∷ ts) = table_of t ts
+row_table_read (t ∷ ts) = row_table_of t ts
 
 -- a row of a setup with its value
 unfoldable pub named_row_read : List Token → Reading ((Row × ℤ) × List Token)
