@@ -1,24 +1,28 @@
 -- Where a text has its first fault, read line by line.
-use Rattle.std.proofs.Common.{◌≡◌, ℕ, ◌+◌, ◌≤◌, true, false, List, [], ◌∷◌, ◌++◌, length, take, Option, Some, None, Result, Ok, Err, refl, sym, ap, subst, ◌∙◌, inl, inr, ⊎_elim, arith, length-append, append_assoc}
-use Rattle.std.specs.Prelude.{is_some, slice_get, MatchResult, IfOk, IfErr, ok_or}
+use Rattle.std.proofs.Common.{◌≡◌, ℕ, ◌+◌, ◌≤◌, Bool, true, false, List, [], ◌∷◌, ◌++◌, length, take, Option, Some, None, Result, Ok, Err, refl, sym, ap, subst, ◌∙◌, inl, inr, arith, length-append, append_assoc}
+use Rattle.std.specs.Prelude.{◌-◌, if◌then◌else◌, slice_get, MatchResult, IfOk, IfErr, ok_or}
 use Rattle.std.specs.Str.Lines.{lines}
-use Rattle.std.proofs.lemmas.Bool.{false≢true}
+use Rattle.std.proofs.lemmas.Bool.{le-ltb}
 use Rattle.std.proofs.lemmas.List.{append-nil, take_at}
-use Rattle.std.proofs.lemmas.Option.{same_Some}
+use Rattle.std.proofs.lemmas.Option.{none-some, same_Some}
 use Rattle.lab_statement.specs.declared.fault.ScriptFault.{ScriptFault}
 use Rattle.lab_statement.specs.declared.fault.ScriptFault.TheVariants as fault
 use Rattle.lab_statement.specs.declared.fault.ScriptFaultKind.{ScriptFaultKind}
 use Rattle.lab_statement.specs.declared.fault.ScriptFaultKind.TheVariants as kinds
 use Rattle.lab_script.specs.declared.script.Script.{Script}
 use Rattle.lab_statement.specs.declared.token.Token.{Token}
-use Rattle.lab_statement.specs.Token.{tokens}
-use Rattle.lab_script.specs.Grammar.{IsCommands}
-use Rattle.lab_script.specs.Script as script
+use Rattle.lab_statement.specs.HeldTokens.{held_tokens}
 use Rattle.lab_statement.specs.Text.{code_of, remark_of}
-use Rattle.lab_script.specs.Script.{is_passed, BeginsSetup, LineSpells, LinesSpell, Spells}
-use Rattle.lab_script.specs.Fault as wrong
-use Rattle.lab_script.specs.Fault.{SpellsNothing, SpellsNoFew, LacksSession, SaysOfTokens, IsWrong, IsFaultyLine, IsFaultOf, IsLineFault}
-use Rattle.lab_script.proofs.OneFault.{no_few, none_at_all}
+use Rattle.lab_script.specs.Grammar.{IsCommands, IsSetup}
+use Rattle.lab_script.specs.FirstFaults.{commands_fault, setup_fault}
+use Rattle.lab_script.specs.Limits.{max_commands}
+use Rattle.lab_script.specs.Script as script
+use Rattle.lab_script.specs.Script.{is_passed, IsFit, LineSpells, LinesSpell, Spells}
+use Rattle.lab_script.specs.Tables.{script_tables}
+use Rattle.lab_script.specs.Fault.{first_fault, tokens_fault, IsFaultAt, IsFaultOf}
+use Rattle.lab_script.proofs.LineFaults.{no_commands_fault, no_setup_fault, line_tells}
+use Rattle.lab_script.proofs.HeldTokens.{setup_held, commands_held}
+use Rattle.lab_script.proofs.OneFault.{none_at_all}
 use Rattle.lab_script.proofs.ReadCommands.{no_setup}
 use Rattle.lab_script.proofs.ReadSetup.{setup_begins}
 use Rattle.lab_script.proofs.ScriptLines.{fit_of, lines_once, lines_join, IsFew, line_few}
@@ -53,63 +57,28 @@ one_more_read {text} {number} {line} {rest} {before} {after} read spells = recor
 pub all_read : {text : List ℕ} {number : ℕ} {script : Option Script} → IsReadTo text number [] script → LinesSpell 1 None (lines text) script
 all_read {script = script} read = subst (λ (ls : List (List ℕ)). LinesSpell 1 None ls script) (sym (read.whole ∙ append-nil read.front)) read.spelled
 
--- tokens that spell nothing that names few tables make a line that spells nothing
-no_few_spelled : {number : ℕ} {line : List ℕ} {before after : Option Script}
-    → is_passed line ≡ false → SpellsNoFew (tokens (code_of line)) before → LineSpells number line before after → ⊥
-no_few_spelled kept says (script.passed s fit is) = false≢true (sym kept ∙ is)
-no_few_spelled kept says (script.setup fit spelled few) = says.1 _ spelled few
-no_few_spelled kept says (script.commands s fit spelled session room few) = says.1 _ spelled room few
+-- a line that may have its number has the faults of its tokens
+fit_fault : {number : ℕ} {line : List ℕ} (before : Option Script) → IsFit number line
+    → first_fault number line before ≡ (if is_passed line then None else tokens_fault (held_tokens (code_of line)) (remark_of line) before)
+fit_fault {number} {line} before fit = rw (le-ltb 2000 number fit.lines, le-ltb 4000 (length line) fit.bytes, fit.ascii) refl
 
-nothing_spelled : {number : ℕ} {line : List ℕ} {before after : Option Script}
-    → is_passed line ≡ false → SpellsNothing (tokens (code_of line)) before → LineSpells number line before after → ⊥
-nothing_spelled {line = line} {before = before} kept says spells = no_few_spelled kept (no_few (tokens (code_of line)) before says) spells
+unless_passed : (passed : Bool) (found : Option ScriptFaultKind) → found ≡ None → (if passed then None else found) ≡ None
+unless_passed true found none = refl
+unless_passed false found none = none
 
--- no line can stand before its setup
-no_setup_yet : {number : ℕ} {line : List ℕ} {before after : Option Script}
-    → is_passed line ≡ false → before ≡ None → (BeginsSetup (tokens (code_of line)) → ⊥) → LineSpells number line before after → ⊥
-no_setup_yet kept none not (script.passed s fit is) = false≢true (sym kept ∙ is)
-no_setup_yet kept none not (script.setup fit spelled small) = not (setup_begins spelled)
-no_setup_yet kept none not (script.commands s fit spelled session room small) = absurd cc
-
--- no setup can stand behind a setup
-setup_again : {number : ℕ} {line : List ℕ} {before after : Option Script}
-    → is_passed line ≡ false → is_some before ≡ true → BeginsSetup (tokens (code_of line)) → LineSpells number line before after → ⊥
-setup_again kept some begins (script.passed s fit is) = false≢true (sym kept ∙ is)
-setup_again kept some begins (script.setup fit spelled small) = false≢true some
-setup_again kept some begins (script.commands {cs = cs} s fit spelled session room small) = no_setup (subst (λ (ts : List Token). IsCommands ts cs) begins.1 spelled)
-
--- no commands without a session
-session_lacks : {number : ℕ} {line : List ℕ} {before after : Option Script}
-    → is_passed line ≡ false → LacksSession (tokens (code_of line)) (remark_of line) before → LineSpells number line before after → ⊥
-session_lacks kept says (script.passed s fit is) = false≢true (sym kept ∙ is)
-session_lacks kept says (script.setup fit spelled small) = says
-session_lacks {line = line} kept says (script.commands {session = one} s fit spelled session room small) =
-    let none : ◌≡◌ {A = Option ℕ} None (Some one) = sym says.1 ∙ session in
-    absurd cc
-
--- a line whose tokens are wrong spells nothing
-tokens_are_faulty : (kind : ScriptFaultKind) {number : ℕ} {line : List ℕ} {before after : Option Script}
-    → is_passed line ≡ false → SaysOfTokens kind (tokens (code_of line)) (remark_of line) before → LineSpells number line before after → ⊥
-tokens_are_faulty kinds.NotAscii kept says spells = says
-tokens_are_faulty kinds.NoSetup kept says spells = no_setup_yet kept says.0 says.1 spells
-tokens_are_faulty kinds.SetupRepeated kept says spells = setup_again kept says.0 says.1 spells
-tokens_are_faulty kinds.NoSession kept says spells = session_lacks kept says spells
-tokens_are_faulty kinds.BadPredicate kept says spells = nothing_spelled kept says.0 spells
-tokens_are_faulty kinds.TooDeep kept says spells = nothing_spelled kept says.0 spells
-tokens_are_faulty kinds.TooLong {before = None} kept says spells = nothing_spelled kept says.0 spells
-tokens_are_faulty kinds.TooLong {before = Some script} kept says spells = nothing_spelled kept says spells
-tokens_are_faulty kinds.DuplicateSetupRow kept says spells = nothing_spelled kept says.0 spells
-tokens_are_faulty kinds.TooManyTables kept says spells = no_few_spelled kept says spells
-tokens_are_faulty kind kept says spells = nothing_spelled kept says spells
-
--- a line that is wrong spells nothing
-pub wrong_is_faulty : {number : ℕ} {line : List ℕ} {before : Option Script} {kind : ScriptFaultKind}
-    → IsWrong number line before kind → (after : Option Script) → LineSpells number line before after → ⊥
-wrong_is_faulty (wrong.over long) after spells =
-    let fit = fit_of spells in
-    ⊎_elim (λ (many : _). let few = fit.lines in absurd (omega arith)) (λ (wide : _). let short = fit.bytes in absurd (omega arith)) long
-wrong_is_faulty (wrong.not_ascii few short isnt) after spells = false≢true (sym isnt ∙ (fit_of spells).ascii)
-wrong_is_faulty (wrong.of_tokens {kind = kind} kept says first) after spells = tokens_are_faulty kind kept.1 says spells
+-- a line that spells something has no fault
+spelled_faultless : {number : ℕ} {line : List ℕ} {before after : Option Script} → LineSpells number line before after → first_fault number line before ≡ None
+spelled_faultless (script.passed s fit is) = fit_fault s fit ∙ rw is refl
+spelled_faultless {line = line} (script.setup {table = table} fit spelled few) =
+    let ts : List Token = held_tokens (code_of line) in
+    let is : IsSetup ts table = setup_held _ table spelled in
+    let none : setup_fault ts ≡ None = (no_setup_fault ts).1 (table, is, few) in
+    fit_fault None fit ∙ unless_passed (is_passed line) _ (rw (setup_begins is) none)
+spelled_faultless {line = line} (script.commands {cs = cs} s fit spelled session room few) =
+    let ts : List Token = held_tokens (code_of line) in
+    let is : IsCommands ts cs = commands_held _ cs spelled in
+    let none : commands_fault (script_tables s) (max_commands - length s.lines) ts ≡ None = (no_commands_fault (script_tables s) (max_commands - length s.lines) ts).1 (cs, is, omega (arith, room), few) in
+    fit_fault (Some s) fit ∙ unless_passed (is_passed line) _ (rw (no_setup is, none, session) refl)
 
 -- a text with a fault spells nothing
 pub fault_spells_nothing : (text : List ℕ) (number : ℕ) (kind : ScriptFaultKind) (s : Script) → IsFaultOf text (fault.At number kind) → Spells text s → ⊥
@@ -126,9 +95,19 @@ module _ {text : List ℕ} {number : ℕ} {line : List ℕ} {rest : List (List �
   stands_there : slice_get (lines text) number ≡ Some line
   stands_there = ap (λ (ls : List (List ℕ)). slice_get ls number) read.whole ∙ ap (slice_get (read.front ++ line ∷ rest)) (sym read.counted) ∙ slice_get-middle read.front line rest
 
-  -- the fault at the first line that is wrong is the text's
-  pub line_fault : {kind : ScriptFaultKind} → IsWrong (number + 1) line before kind → IsFaultOf text (fault.At (number + 1) kind)
-  line_fault w = inl (record { index = number; counted = refl; line = line; stands = stands_there; before = before; spelled = before_it; faulty = wrong_is_faulty w; says = w })
+  -- the first fault of the first line that has one is the text's
+  pub line_fault : {kind : ScriptFaultKind} → first_fault (number + 1) line before ≡ Some kind → IsFaultOf text (fault.At (number + 1) kind)
+  line_fault {kind} first = inl (record {
+    index = number;
+    counted = refl;
+    line = line;
+    stands = stands_there;
+    before = before;
+    spelled = before_it;
+    faulty = λ after spells. none-some kind (sym (spelled_faultless spells) ∙ first);
+    first = first;
+    tells = line_tells (number + 1) line before kind first;
+  })
 
 -- a text that ends before its setup
 pub end_fault : {text : List ℕ} {number : ℕ} → IsReadTo text number [] None → IsFaultOf text (fault.At (number + 1) kinds.NoSetup)
@@ -145,10 +124,9 @@ only_read text (Err (fault.At number kind)) is s spells = absurd (fault_spells_n
 
 -- the fault of a line is the text's
 pub line_faults : {text : List ℕ} {number : ℕ} {line : List ℕ} {rest : List (List ℕ)} {before : Option Script}
-    → IsReadTo text number (line ∷ rest) before → (f : ScriptFault) → IsLineFault (number + 1) line before f → IsFaultOf text f
+    → IsReadTo text number (line ∷ rest) before → (f : ScriptFault) → IsFaultAt (number + 1) (first_fault (number + 1) line before) f → IsFaultOf text f
 line_faults read fault.NoMemory is = tt
-line_faults {text} {number} {line} {rest} {before} read (fault.At n kind) is =
-    subst (λ (m : ℕ). IsFaultOf text (fault.At m kind)) (sym is.0) (line_fault read is.1)
+line_faults {text} read (fault.At n kind) is = subst (λ (m : ℕ). IsFaultOf text (fault.At m kind)) (sym is.0) (line_fault read is.1)
 
 -- what was read of a whole text
 pub whole_read : {text : List ℕ} {number : ℕ} (script : Option Script) → IsReadTo text number [] script

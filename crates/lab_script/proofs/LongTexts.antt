@@ -1,9 +1,10 @@
 -- What stands behind the first 8,388,609 bytes of a text doesn't matter to what it spells: a script has at most 2,000 lines,
 -- each of at most 4,000 bytes and what ends it.
-use Rattle.std.proofs.Common.{◌≡◌, ℕ, zero, suc, ◌+◌, ◌-◌, ◌*◌, ◌<◌, ◌≤◌, min, List, [], ◌∷◌, ◌++◌, length, take, drop, Option, Some, None, refl, sym, ap, subst, ◌∙◌, inl, inr, ⊎_elim, arith, length-append}
-use Rattle.std.specs.Prelude.{slice_get}
+use Rattle.std.proofs.Common.{◌≡◌, ℕ, zero, suc, ◌+◌, ◌-◌, ◌*◌, ◌<◌, ◌≤◌, min, true, List, [], ◌∷◌, ◌++◌, length, take, drop, Option, Some, None, refl, sym, ap, subst, ◌∙◌, inl, inr, ⊎_elim, arith, length-append}
+use Rattle.std.specs.Prelude.{nat_lt, slice_get}
 use Rattle.std.specs.Str.Lines.{lines}
-use Rattle.std.proofs.lemmas.Bool.{cases_lt}
+use Rattle.std.proofs.lemmas.Bool.{cases_lt, lt-ltb, true≢false}
+use Rattle.std.proofs.Math.Bool.{or-true}
 use Rattle.std.proofs.lemmas.List.{append-nil, take_all, take_at, take-append-le, take-append-drop, length-take, length-drop}
 use Rattle.std.proofs.lemmas.Option.{slice_get_within}
 use Rattle.lab_statement.specs.declared.fault.ScriptFault.{ScriptFault}
@@ -11,8 +12,7 @@ use Rattle.lab_statement.specs.declared.fault.ScriptFault.TheVariants as fault
 use Rattle.lab_statement.specs.declared.fault.ScriptFaultKind.{ScriptFaultKind}
 use Rattle.lab_script.specs.declared.script.Script.{Script}
 use Rattle.lab_script.specs.Script.{LinesSpell, Spells}
-use Rattle.lab_script.specs.Fault as wrong
-use Rattle.lab_script.specs.Fault.{IsWrong, IsFaultyLine, IsFaultOf}
+use Rattle.lab_script.specs.Fault.{is_over, IsFaultyLine, IsFaultOf}
 use Rattle.lab_script.proofs.ScriptLines.{fit_of, lines_front}
 use Rattle.lab_script.proofs.TextLines.{IsWhole}
 use Rattle.lab_table.proofs.Tests.{slice_get-middle}
@@ -53,12 +53,9 @@ got [] ys zs i lt = absurd (omega arith)
 got (x ∷ xs) ys zs zero lt = refl
 got (x ∷ xs) ys zs (suc i) lt = got xs ys zs i (omega arith)
 
--- what is wrong with a line that is too long is wrong with another
-over_too : {number : ℕ} {line : List ℕ} {before : Option Script} {kind : ScriptFaultKind} (other : List ℕ) → IsWrong number line before kind → 4000 < length line
-    → 4000 < length other → IsWrong number other before kind
-over_too other (wrong.over is) long also = wrong.over (inr also)
-over_too other (wrong.not_ascii few short isnt) long also = absurd (omega arith)
-over_too other (wrong.of_tokens kept says first) long also = let short = kept.0.bytes in absurd (omega arith)
+-- a line that is too long is over its limit
+over : (number : ℕ) (line : List ℕ) → 4000 < length line → is_over number line ≡ true
+over number line long = rw (lt-ltb 4000 (length line) long) (or-true (nat_lt 2000 number))
 
 -- text that is longer than a script is, and more behind it
 module _ (text more : List ℕ) (up : IsCutUp text) (long : 8388608 < length text) (some : 0 < length more) where
@@ -88,7 +85,8 @@ module _ (text more : List ℕ) (up : IsCutUp text) (long : 8388608 < length tex
         before = line.before;
         spelled = same_spelled line.index line.before (omega arith) line.spelled;
         faulty = line.faulty;
-        says = line.says;
+        first = line.first;
+        tells = line.tells;
       })
 
   -- a fault in the line that the text's end cuts, which is too long
@@ -148,7 +146,8 @@ module _ (text more : List ℕ) (up : IsCutUp text) (long : 8388608 < length tex
           before = line.before;
           spelled = same_spelled line.index line.before (omega arith) line.spelled;
           faulty = λ after spells. let fit = fit_of spells in let short : length first.line ≤ 4000 = fit.bytes in let over = wide_there in omega arith;
-          says = over_too first.line line.says wide_here wide_there;
+          first = rw (over number first.line wide_there) (sym (rw (over number line.line wide_here) refl) ∙ line.first);
+          tells = λ within. absurd (true≢false (sym (over number first.line wide_there) ∙ within));
         })
 
   too_long : (after : Option Script) → LinesSpell 1 None (lines text) after → ⊥

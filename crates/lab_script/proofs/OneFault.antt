@@ -1,92 +1,16 @@
 -- A text has one fault, or spells one script.
-use Rattle.std.proofs.Common.{◌≡◌, ◌⊎◌, inl, inr, ℕ, zero, suc, ◌+◌, ◌<◌, ◌≤◌, true, List, [], ◌∷◌, length, take, Option, Some, None, refl, sym, ap, subst, ◌∙◌, arith}
-use Rattle.std.specs.Prelude.{is_some, slice_get}
+use Rattle.std.proofs.Common.{◌≡◌, inl, inr, ℕ, zero, suc, ◌+◌, ◌<◌, List, [], ◌∷◌, length, take, Option, Some, None, refl, sym, ap, subst, ◌∙◌, arith}
+use Rattle.std.specs.Prelude.{slice_get}
 use Rattle.std.specs.Str.Lines.{lines}
-use Rattle.std.proofs.lemmas.Bool.{false≢true, cases_lt}
+use Rattle.std.proofs.lemmas.Bool.{cases_lt}
 use Rattle.std.proofs.lemmas.List.{take_all}
 use Rattle.std.proofs.lemmas.Option.{same_Some, slice_get_within}
 use Rattle.lab_statement.specs.declared.fault.ScriptFault.TheVariants as fault
 use Rattle.lab_statement.specs.declared.fault.ScriptFaultKind.{ScriptFaultKind}
-use Rattle.lab_statement.specs.declared.fault.ScriptFaultKind.TheVariants as kinds
 use Rattle.lab_script.specs.declared.script.Script.{Script}
-use Rattle.lab_statement.specs.declared.token.Token.{Token}
-use Rattle.lab_script.specs.Fault as wrong
-use Rattle.lab_script.specs.Fault.{first_fault, IsOver, SpellsNothing, SpellsNoFew, SaysOfTokens, ComesFirst, IsWrong, IsFaultyLine, IsWithoutSetup, IsFaultOf}
-use Rattle.lab_script.specs.Grammar.{IsCommands}
-use Rattle.lab_statement.specs.HeldTokens.{held_tokens}
-use Rattle.lab_statement.specs.Text.{code_of, remark_of}
-use Rattle.lab_script.specs.Script.{BeginsSetup, LineSpells, LinesSpell, Spells}
-use Rattle.lab_statement.specs.Token.{tokens}
-use Rattle.lab_script.proofs.ReadCommands.{no_setup}
+use Rattle.lab_script.specs.Fault.{first_fault, IsFaultyLine, IsFaultOf}
+use Rattle.lab_script.specs.Script.{LineSpells, LinesSpell, Spells}
 use Rattle.lab_script.proofs.ScriptLines.{lines_once}
-
--- the kind of a line's fault, by the first of its tokens; where these have none the session is missing
-abbrev told : Option ScriptFaultKind → ScriptFaultKind
-told None = kinds.NoSession
-told (Some first) = first
-
--- tokens that spell nothing spell nothing that names few tables
-pub no_few : (ts : List Token) (before : Option Script) → SpellsNothing ts before → SpellsNoFew ts before
-no_few ts None says = (says.0, λ table is few. says.1 table is)
-no_few ts (Some script) says = (says.0, λ cs is room few. says.1 cs is room)
-
-module _ (ts : List Token) (remark : List ℕ) (hs : List Token) where
-  -- the three sorts of faults of tokens that are held so: no setup yet, a setup again, or what the first fault tells
-  abbrev Sort : Option Script → ScriptFaultKind → Type 0
-  Sort before kind =
-      ((kind ≡ kinds.NoSetup) × (before ≡ None) × (BeginsSetup ts → ⊥))
-      ⊎ (((kind ≡ kinds.SetupRepeated) × (is_some before ≡ true) × BeginsSetup ts)
-      ⊎ ((kind ≡ told (first_fault hs before)) × (before ≡ None → BeginsSetup ts) × (is_some before ≡ true → BeginsSetup ts → ⊥)))
-
-  of_first : (before : Option Script) (first : ScriptFaultKind) → SpellsNoFew ts before → first_fault hs before ≡ Some first → Sort before first
-  of_first None first says is = inr (inr (ap told (sym is), (λ none. says.0), λ some. absurd (false≢true some)))
-  of_first (Some script) first says is = inr (inr (ap told (sym is), (λ none. absurd (false≢true (sym (ap is_some none)))), λ some. says.0))
-
-  sort_of : (kind : ScriptFaultKind) (before : Option Script) → SaysOfTokens kind ts remark before → ComesFirst kind hs before → Sort before kind
-  sort_of kinds.NotAscii before says first = absurd says
-  sort_of kinds.NoSetup before says first = inl (refl, says.0, says.1)
-  sort_of kinds.SetupRepeated before says first = inr (inl (refl, says.0, says.1))
-  sort_of kinds.NoSession None says first = absurd says
-  sort_of kinds.NoSession (Some script) says first =
-      inr (inr (ap told (sym first), (λ none. absurd (false≢true (sym (ap is_some none)))), λ some begins. no_setup (subst (λ us. IsCommands us says.0.0) begins.1 says.0.1)))
-  sort_of kinds.BadPredicate before says first = of_first before kinds.BadPredicate (no_few ts before says.0) first
-  sort_of kinds.TooDeep before says first = of_first before kinds.TooDeep (no_few ts before says.0) first
-  sort_of kinds.TooLong None says first = of_first None kinds.TooLong (no_few ts None says.0) first
-  sort_of kinds.TooLong (Some script) says first = of_first (Some script) kinds.TooLong (no_few ts (Some script) says) first
-  sort_of kinds.DuplicateSetupRow before says first = of_first before kinds.DuplicateSetupRow (no_few ts before says.0) first
-  sort_of kinds.TooManyTables before says first = of_first before kinds.TooManyTables says first
-  sort_of kind before says first = of_first before kind (no_few ts before says) first
-
-  one_sort : (before : Option Script) (kind other : ScriptFaultKind) → Sort before kind → Sort before other → kind ≡ other
-  one_sort before kind other (inl p) (inl q) = p.0 ∙ sym q.0
-  one_sort before kind other (inl p) (inr (inl q)) = absurd (false≢true (sym (ap is_some p.1) ∙ q.1))
-  one_sort before kind other (inl p) (inr (inr q)) = absurd (p.2 (q.1 p.1))
-  one_sort before kind other (inr (inl p)) (inl q) = absurd (false≢true (sym (ap is_some q.1) ∙ p.1))
-  one_sort before kind other (inr (inl p)) (inr (inl q)) = p.0 ∙ sym q.0
-  one_sort before kind other (inr (inl p)) (inr (inr q)) = absurd (q.2 p.1 p.2)
-  one_sort before kind other (inr (inr p)) (inl q) = absurd (q.2 (p.1 q.1))
-  one_sort before kind other (inr (inr p)) (inr (inl q)) = absurd (p.2 q.1 q.2)
-  one_sort before kind other (inr (inr p)) (inr (inr q)) = p.0 ∙ sym q.0
-
--- a line that keeps the limits isn't over one
-not_over : (number : ℕ) (line : List ℕ) → number ≤ 2000 → length line ≤ 4000 → IsOver number line → ⊥
-not_over number line few short (inl many) = omega (arith, few, many)
-not_over number line few short (inr wide) = omega (arith, short, wide)
-
--- a line is wrong in one way
-one_wrong : {number : ℕ} {line : List ℕ} {before : Option Script} {kind other : ScriptFaultKind} → IsWrong number line before kind → IsWrong number line before other → kind ≡ other
-one_wrong (wrong.over is) (wrong.over also) = refl
-one_wrong {number} {line} (wrong.over is) (wrong.not_ascii few short isnt) = absurd (not_over number line few short is)
-one_wrong {number} {line} (wrong.over is) (wrong.of_tokens kept says first) = absurd (not_over number line kept.0.lines kept.0.bytes is)
-one_wrong {number} {line} (wrong.not_ascii few short isnt) (wrong.over is) = absurd (not_over number line few short is)
-one_wrong (wrong.not_ascii few short isnt) (wrong.not_ascii low brief not) = refl
-one_wrong (wrong.not_ascii few short isnt) (wrong.of_tokens kept says first) = absurd (false≢true (sym isnt ∙ kept.0.ascii))
-one_wrong {number} {line} (wrong.of_tokens kept says first) (wrong.over is) = absurd (not_over number line kept.0.lines kept.0.bytes is)
-one_wrong (wrong.of_tokens kept says first) (wrong.not_ascii few short isnt) = absurd (false≢true (sym isnt ∙ kept.0.ascii))
-one_wrong {line = line} {before = before} (wrong.of_tokens {kind = kind} kept says first) (wrong.of_tokens {kind = other} keeps tells comes) =
-    let ts : List Token = tokens (code_of line) in
-    let hs : List Token = held_tokens (code_of line) in
-    one_sort ts (remark_of line) hs before kind other (sort_of ts (remark_of line) hs kind before says first) (sort_of ts (remark_of line) hs other before tells comes)
 
 -- where lines spell something, each of them does behind those before it
 spelled_there : (number : ℕ) (before after : Option Script) (ls : List (List ℕ)) (j i : ℕ) (line : List ℕ) → slice_get ls i ≡ Some line → i < j → LinesSpell number before (take j ls) after
@@ -127,8 +51,7 @@ module _ (text : List ℕ) (n m : ℕ) (kind other : ScriptFaultKind) where
       let before : f.before ≡ g.before
       = lines_once 1 None (take f.index (lines text)) f.spelled (subst (λ i. LinesSpell 1 None (take i (lines text)) g.before) (sym here) g.spelled) in (
         numbers,
-        one_wrong f.says (subst (λ k. IsWrong k f.line f.before other) (sym numbers)
-            (subst (λ l. IsWrong m l f.before other) (sym line) (subst (λ b. IsWrong m g.line b other) (sym before) g.says))),
+        same_Some kind other (sym f.first ∙ (λ i. first_fault (numbers i) (line i) (before i)) ∙ g.first),
       )
 
   faulty_once : IsFaultyLine text n kind → IsFaultyLine text m other → Same

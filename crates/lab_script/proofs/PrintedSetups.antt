@@ -26,6 +26,7 @@ use Rattle.lab_statement.proofs.PrintedPreds.{open_leads, close_leads}
 use Rattle.lab_statement.proofs.PrintedStatements.{row_tokens, row_leads, row_fits}
 use Rattle.lab_statement.specs.Grammar as grammar
 use Rattle.lab_script.specs.Grammar as line_grammar
+use Rattle.lab_script.proofs.DistinctRows.{sorted_distinct}
 use Rattle.lab_statement.specs.Text as script
 use Rattle.lab_script.specs.Script as text
 
@@ -112,7 +113,7 @@ setup_fits : (table : Table) → Each EntryInRange (finite.entries table) → le
     → IsSetup (token.Word word.Setup ∷ rows_tokens (finite.entries table) ++ token.Semicolon ∷ []) table
 setup_fits table r le =
     subst (IsSetup (token.Word word.Setup ∷ rows_tokens (finite.entries table) ++ token.Semicolon ∷ [])) (rows_again table)
-    (line_grammar.setup (rows_fit (finite.entries table) r) (ap (λ (t : Table). length (finite.entries t)) (rows_again table)) grammar.semicolon
+    (line_grammar.setup (rows_fit (finite.entries table) r) (sorted_distinct (finite.entries table) (finite.entries_sorted table)) grammar.semicolon
     (subst (λ (t : Table). length (printed_setup t) ≤ 4000) (sym (rows_again table)) le))
 
 -- a printed setup gives its table

@@ -1,16 +1,17 @@
-use Rattle.std.proofs.Common.{◌≡◌, ℕ, zero, suc, ◌+◌, ◌≤◌, ◌<◌, Bool, cond, List, [], ◌∷◌, ◌++◌, length, Option, Some, None, refl, sym, ap, subst, ◌∙◌, append_assoc, append-nil, length-append, arith, inl, inr}
+use Rattle.std.proofs.Common.{◌≡◌, ℕ, zero, suc, ◌+◌, ◌≤◌, ◌<◌, Bool, false, cond, List, [], ◌∷◌, ◌++◌, length, Option, Some, None, refl, sym, ap, subst, ◌∙◌, append_assoc, append-nil, length-append, arith, inl, inr}
 use Rattle.std.specs.Prelude.{nat_lt}
 use Rattle.std.proofs.lemmas.Bool.{lt-ltb, ltb-true}
 use Rattle.lab_table.specs.declared.statement.Command.{Command}
-use Rattle.lab_table.specs.declared.word.Word.TheVariants as word
 use Rattle.lab_statement.specs.declared.token.Token.{Token}
 use Rattle.lab_statement.specs.declared.token.Token.TheVariants as token
 use Rattle.lab_statement.specs.declared.fault.ScriptFaultKind.TheVariants.{TooLong}
 use Rattle.lab_script.specs.Grammar.{IsCommand, IsCommands}
 use Rattle.lab_script.specs.Grammar as grammar
+use Rattle.lab_statement.specs.Grammar as statement_grammar
+use Rattle.lab_script.specs.Script.{begins_setup}
 use Rattle.lab_statement.specs.Stopping.{Reading, Reads, Stops, ◌>>=◌}
-use Rattle.lab_statement.specs.FirstFaults.{statement_read, end_read}
-use Rattle.lab_script.specs.FirstFaults.{command_read, terminated_read, one_added, step_read, more_commands_read, commands_read}
+use Rattle.lab_statement.specs.FirstFaults.{end_read}
+use Rattle.lab_script.specs.FirstFaults.{terminated_read, one_added, step_read, more_commands_read, commands_read}
 use Rattle.lab_statement.proofs.Readings.{bind_reads, cond_reads, reads, reads_is}
 use Rattle.lab_statement.proofs.ReadStatements.{Closes, nothing, semicolon, ended_is}
 use Rattle.lab_script.proofs.OneCommand.{listed, command_long, closed_again, closed_takes, closed_short}
@@ -156,9 +157,17 @@ pub not_empty : {cs : List Command} → IsCommands [] cs → ⊥
 not_empty h = let long : 1 ≤ 0 = commands_long h in omega (arith, long)
 
 -- a statement doesn't begin as the setup
-pub no_setup : {ts : List Token} {cs : List Command} → IsCommands (token.Word word.Setup ∷ ts) cs → ⊥
-unfolding commands_read step_read terminated_read command_read statement_read
-no_setup {ts} {cs} h = let read : commands_read (length cs) (token.Word word.Setup ∷ ts) ≡ Reads cs = commands_again h (length cs) (omega arith) in absurd (cc read)
+begins_otherwise : {ts : List Token} {cs : List Command} → IsCommand ts cs → (rest : List Token) → begins_setup (ts ++ rest) ≡ false
+begins_otherwise (grammar.run (statement_grammar.select table h) le) rest = refl
+begins_otherwise (grammar.run (statement_grammar.update table g h) le) rest = refl
+begins_otherwise (grammar.run (statement_grammar.insert table h) le) rest = refl
+begins_otherwise (grammar.run (statement_grammar.delete table h) le) rest = refl
+begins_otherwise h rest = refl
+
+pub no_setup : {ts : List Token} {cs : List Command} → IsCommands ts cs → begins_setup ts ≡ false
+no_setup (grammar.one {ts} h) = ap begins_setup (sym (append-nil ts)) ∙ begins_otherwise h []
+no_setup (grammar.closed h) = begins_otherwise h (token.Semicolon ∷ [])
+no_setup (grammar.more {rest = others} h hs) = begins_otherwise h (token.Semicolon ∷ others)
 
 -- a statement adds no more than there is room for
 pub step_fits : (room : ℕ) (before after : List Command) (ts rest : List Token) → step_read room before ts ≡ Reads (after, rest) → length before ≤ room → length after ≤ room

@@ -1,28 +1,141 @@
-use Rattle.std.proofs.Common.{◌≡◌, ℕ, zero, suc, ◌≤◌, ℤ, Bool, true, false, cond, List, [], ◌∷◌, ◌++◌, length, Option, Some, None, refl, sym, ap, subst, ◌∙◌, append_assoc}
-use Rattle.std.specs.Prelude.{nat_le}
-use Rattle.std.specs.FinMap.{find, insert, empty, contains_key}
-use Rattle.std.proofs.lemmas.Bool.{leb-true}
-use Rattle.lab_table.specs.Row.{Row, row_cmp}
-use Rattle.lab_table.specs.Table.{Table}
-use Rattle.lab_table.specs.declared.word.Word.TheVariants as word
+-- A setup is read exactly where the grammar has one.
+use Rattle.std.proofs.Common.{◌≡◌, ◌⊎◌, inl, inr, ℕ, zero, suc, ◌+◌, ◌<◌, ◌≤◌, Bool, true, false, cond, List, [], ◌∷◌, ◌++◌, length, Option, Some, None, sym, ap, refl, subst, ◌∙◌, append_assoc, arith}
+use Rattle.lab_table.specs.TableName.{test_name}
 use Rattle.lab_statement.specs.declared.token.Token.{Token}
-use Rattle.lab_statement.specs.declared.token.Token.TheVariants as token
-use Rattle.lab_statement.specs.declared.fault.ScriptFaultKind.{ScriptFaultKind}
+use Rattle.lab_statement.specs.Stopping.{Reads, row_read, Stops, if_found, token_read}
+use Rattle.lab_script.specs.FirstFaults.{row_table_of, row_table_read, named_row_read, row_onto_read, rows_onto_read, rows_read, table_read, setup_end_read, setup_read, setup_ended}
+use Rattle.lab_statement.proofs.Readings.{reads_is, bind_reads, found_reads, nothing_is, token_is, under_limit}
+use Rattle.std.specs.Prelude.{ℤ, nat_le}
+use Rattle.lab_table.specs.Row.{Row, numbered, row_cmp}
+use Rattle.lab_statement.specs.Grammar.{IsRow, IsId, IsEnd}
 use Rattle.lab_script.specs.Grammar.{IsNamedRow, IsRows, IsRowList, IsSetup, AllDistinct}
-use Rattle.lab_statement.specs.Grammar.{IsEnd}
+use Rattle.lab_statement.proofs.ReadNumbers.{Taken, under}
+use Rattle.lab_statement.proofs.ReadNames.{name_taken}
+use Rattle.lab_statement.proofs.ReadRows.{RowTaken, row_again, row_takes, parts_of}
+use Rattle.std.specs.FinMap.{find, insert, empty, contains_key}
+use Rattle.std.proofs.lemmas.Bool.{le-leb, leb-true}
+use Rattle.std.proofs.lemmas.List.{length-append}
+use Rattle.lab_table.specs.Table.{Table}
 use Rattle.lab_script.specs.Printed.{printed_setup}
 use Rattle.lab_statement.specs.Reading.{after}
-use Rattle.lab_statement.specs.Stopping.{Reads, Stops, if_found, token_read}
-use Rattle.lab_script.specs.FirstFaults.{named_row_read, row_onto_read, rows_onto_read, rows_read, table_read, setup_ended, setup_end_read, setup_read}
-use Rattle.lab_statement.specs.FirstFaults.{nothing_read, no_rows_at}
-use Rattle.lab_statement.proofs.Readings.{bind_reads, found_reads, nothing_is, reads_is, token_is, under_limit}
+use Rattle.lab_statement.specs.FirstFaults.{no_rows_at, nothing_read}
+use Rattle.lab_script.proofs.DistinctRows.{not_before, is_absent, pushed_table, table_of, absent_from, pushed_distinct}
+use Rattle.lab_statement.proofs.AtomParts.{no_close}
+use Rattle.lab_statement.specs.declared.fault.ScriptFaultKind.{ScriptFaultKind}
+use Rattle.lab_script.specs.Script.{begins_setup}
 use Rattle.lab_statement.proofs.SameTokens.{after_is}
-use Rattle.lab_statement.proofs.ReadNumbers.{under}
-use Rattle.lab_script.proofs.ReadRows.{named_row_takes}
-use Rattle.lab_script.proofs.DistinctRows.{none_distinct, absent_from, pushed_table, pushed_distinct, table_of}
-use Rattle.lab_script.proofs.SetupAgain.{setup_again}
+use Rattle.lab_statement.specs.declared.token.Token.TheVariants as token
 use Rattle.lab_statement.specs.Grammar as grammar
 use Rattle.lab_script.specs.Grammar as line_grammar
+use Rattle.lab_table.specs.declared.word.Word.TheVariants as word
+
+-- Names that are read are words that are names.
+
+-- a row's table is that of the word before it, or `test`
+abbrev pub IsRowTable : List Token → List ℕ × List Token → Type 0
+IsRowTable ts x = (ts ≡ token.Name x.0 ∷ x.1) ⊎ ((x.0 ≡ test_name) × (x.1 ≡ ts))
+
+table_token : (t : Token) (ts : List Token) (x : List ℕ × List Token) → row_table_of t ts ≡ Reads x → IsRowTable (t ∷ ts) x
+table_token (token.Name n) ts x e = inl (name_taken (token.Name n) ts x e)
+table_token (token.Word w) ts x e = absurd cc
+table_token token.OtherWord ts x e = absurd cc
+table_token t ts x e = let is : ◌≡◌ {A = List ℕ × List Token} (test_name, t ∷ ts) x = reads_is _ _ e in inr (ap (λ (y : List ℕ × List Token). y.0) (sym is), ap (λ (y : List ℕ × List Token). y.1) (sym is))
+
+pub row_table_takes : (ts : List Token) (x : List ℕ × List Token) → row_table_read ts ≡ Reads x → IsRowTable ts x
+unfolding row_table_read
+row_table_takes [] x e = let is : ◌≡◌ {A = List ℕ × List Token} (test_name, []) x = reads_is _ _ e in inr (ap (λ (y : List ℕ × List Token). y.0) (sym is), ap (λ (y : List ℕ × List Token). y.1) (sym is))
+row_table_takes (t ∷ ts) x e = table_token t ts x e
+
+-- Rows that are read are rows of the grammar, and the other way round.
+
+-- no word stands before a row without a name
+unnamed_table : {ts : List Token} {id : ℕ} {value : ℤ} → IsRow ts id value → (rest : List Token) → row_table_read (ts ++ rest) ≡ Reads (test_name, ts ++ rest)
+unfolding row_table_read
+unnamed_table (grammar.row i v) rest = refl
+
+-- a row of a setup of the grammar is read, whatever follows it
+pub named_row_again : {ts : List Token} {row : Row} {value : ℤ} → IsNamedRow ts row value → (rest : List Token) → named_row_read (ts ++ rest) ≡ Reads ((row, value), rest)
+unfolding named_row_read row_table_read
+named_row_again (line_grammar.unnamed h) rest = rw (unnamed_table h rest, row_again h rest) refl
+named_row_again (line_grammar.named table h) rest = rw (row_again h rest) refl
+
+-- a row of a setup at the front, and what is left
+abbrev pub NamedRowTaken : List Token → (Row × ℤ) × List Token → Type 0
+NamedRowTaken ts x = Taken (λ front row. IsNamedRow front row.0 row.1) ts x
+
+-- a row behind its table
+behind_table : (ts : List Token) (table : List ℕ × List Token) (r : (ℕ × ℤ) × List Token) → IsRowTable ts table → RowTaken table.1 r → NamedRowTaken ts ((numbered table.0 r.0.0, r.0.1), r.1)
+behind_table ts table r (inl named) p = (token.Name table.0 ∷ p.0, named ∙ under _ _ _ p.1, line_grammar.named table.0 p.2)
+behind_table ts table r (inr (test, all)) p =
+    subst (λ t. NamedRowTaken ts ((numbered t r.0.0, r.0.1), r.1)) (sym test) (p.0, sym all ∙ p.1, line_grammar.unnamed p.2)
+
+-- what is read as a row of a setup is one of the grammar
+pub named_row_takes : (ts : List Token) (x : (Row × ℤ) × List Token) → named_row_read ts ≡ Reads x → NamedRowTaken ts x
+unfolding named_row_read
+named_row_takes ts x e =
+    let t = bind_reads (row_table_read ts) _ x e in
+    let r = bind_reads (row_read t.0.1) _ x t.2 in
+    subst (NamedRowTaken ts) (reads_is ((numbered t.0.0 r.0.0.0, r.0.0.1), r.0.1) x r.2) (behind_table ts t.0 r.0 (row_table_takes ts t.0 t.1) (row_takes t.0.1 r.0 r.1))
+
+-- what is in the grammar is read
+
+-- a row of the grammar is added to those before it, whatever follows it
+row_onto_again : {ts : List Token} {id : Row} {value : ℤ} → IsNamedRow ts id value → (before : List (Row × ℤ)) → find row_cmp id before ≡ None → (rest : List Token)
+    → row_onto_read (table_of before) (ts ++ rest) ≡ Reads (table_of (before ++ (id, value) ∷ []), rest)
+unfolding row_onto_read
+row_onto_again {ts} {id} {value} h before none rest =
+    rw (row_onto_read, named_row_again h rest, is_absent before id none) (ap (λ (t : Table). Reads (t, rest)) (sym (pushed_table before (id, value) none)))
+
+-- rows of the grammar are added to those before them, where no row comes twice
+rows_again : {ts : List Token} {rows : List (Row × ℤ)} → IsRows ts rows → (before : List (Row × ℤ)) → AllDistinct (before ++ rows) → (end : List Token) → after token.Comma end ≡ None
+    → (k : ℕ) → length (ts ++ end) < k → rows_onto_read k (table_of before) (ts ++ end) ≡ Reads (table_of (before ++ rows), end)
+unfolding rows_onto_read
+rows_again h before all end none zero lt = absurd (omega (arith, lt))
+rows_again (line_grammar.last {ts} {row} {value} h) before all end none (suc k) lt =
+    rw (rows_onto_read, row_onto_again h before (not_before before [] (row, value) all) end, none) refl
+rows_again (line_grammar.more {ts} {rest} {row} {value} {rows} h hs) before all end none (suc k) lt =
+    let text : ts ++ token.Comma ∷ rest ++ end ≡ ts ++ (token.Comma ∷ (rest ++ end)) = append_assoc ts (token.Comma ∷ rest) end in
+    let listed : before ++ (row, value) ∷ rows ≡ before ++ (row, value) ∷ [] ++ rows = sym (append_assoc before ((row, value) ∷ []) rows) in
+    let long : length (ts ++ token.Comma ∷ rest ++ end) ≡ length ts + suc (length (rest ++ end)) = ap length text ∙ length-append ts (token.Comma ∷ (rest ++ end)) in
+    let next = rows_again hs (before ++ (row, value) ∷ []) (subst AllDistinct listed all) end none k (omega (arith, lt, long)) in
+    rw (text, rows_onto_read, row_onto_again h before (not_before before rows (row, value) all) (token.Comma ∷ (rest ++ end))) (next ∙ ap (λ (l : List (Row × ℤ)). Reads (table_of l, end)) (sym listed))
+
+id_no_close : {ts : List Token} {id : ℕ} → IsId ts id → (rest : List Token) → after token.Close (ts ++ rest) ≡ None
+id_no_close (grammar.named id number low high) rest = no_close number rest
+
+-- what begins with a row isn't the parentheses of no row
+row_shown : {ts : List Token} {id : ℕ} {value : ℤ} → IsRow ts id value → (rest : List Token) → no_rows_at (ts ++ rest) ≡ None
+unfolding no_rows_at
+row_shown (grammar.row {is} {vs} i v) rest = rw (parts_of is vs rest) (id_no_close i (token.Comma ∷ (vs ++ token.Close ∷ rest)))
+
+named_row_shown : {ts : List Token} {row : Row} {value : ℤ} → IsNamedRow ts row value → (rest : List Token) → no_rows_at (ts ++ rest) ≡ None
+unfolding no_rows_at
+named_row_shown (line_grammar.unnamed h) rest = row_shown h rest
+named_row_shown (line_grammar.named table h) rest = refl
+
+rows_shown : {ts : List Token} {rows : List (Row × ℤ)} → IsRows ts rows → (end : List Token) → no_rows_at (ts ++ end) ≡ None
+rows_shown (line_grammar.last h) end = named_row_shown h end
+rows_shown (line_grammar.more {ts} {rest} h hs) end = ap no_rows_at (append_assoc ts (token.Comma ∷ rest) end) ∙ named_row_shown h (token.Comma ∷ rest ++ end)
+
+no_comma : (end : List Token) → IsEnd end → after token.Comma end ≡ None
+no_comma _ grammar.open_end = refl
+no_comma _ grammar.semicolon = refl
+
+-- the rows of a setup are read as their table
+table_again : {ts : List Token} {rows : List (Row × ℤ)} → IsRowList ts rows → AllDistinct rows → (end : List Token) → IsEnd end → table_read (ts ++ end) ≡ Reads (table_of rows, end)
+unfolding table_read rows_read no_rows_at
+table_again line_grammar.none all end e = refl
+table_again (line_grammar.some {ts} {rows} h) all end e = rw (table_read, rows_shown h end) (rows_again h [] all end (no_comma end e) (suc (length (ts ++ end))) (omega arith))
+
+end_again : (table : Table) (end : List Token) → IsEnd end → length (printed_setup table) ≤ 4000 → setup_end_read table end ≡ Reads tt
+unfolding setup_end_read
+end_again table _ grammar.open_end short = rw (le-leb (length (printed_setup table)) 4000 short) refl
+end_again table _ grammar.semicolon short = rw (le-leb (length (printed_setup table)) 4000 short) refl
+
+-- a setup of the grammar is read as its table
+pub setup_again : {ts : List Token} {table : Table} → IsSetup ts table → setup_read ts ≡ Reads table
+unfolding setup_read
+setup_again (line_grammar.setup {ts} {end} {rows} h all e short) = rw (table_again h all end e, end_again (table_of rows) end e short) refl
 
 -- what is read is in the grammar
 
@@ -113,10 +226,10 @@ table_takes ts x e = chosen (no_rows_at ts) refl e
   where
     chosen : (o : Option (List Token)) → no_rows_at ts ≡ o → if_found o (λ rest. Reads (empty, rest)) (rows_read ts) ≡ Reads x → TableTaken ts x
     chosen None is h =
-        let r = rows_take (suc (length ts)) x [] ts none_distinct h in
+        let r = rows_take (suc (length ts)) x [] ts tt h in
         record { rows = r.rows; front = r.front; text = r.text; spelled = line_grammar.some r.spelled; distinct = r.distinct; table = r.table }
     chosen (Some rest) is h =
-        subst (TableTaken ts) (reads_is (empty, rest) x h) (record { rows = []; front = token.Open ∷ token.Close ∷ []; text = no_rows_are ts rest is; spelled = line_grammar.none; distinct = none_distinct; table = refl })
+        subst (TableTaken ts) (reads_is (empty, rest) x h) (record { rows = []; front = token.Open ∷ token.Close ∷ []; text = no_rows_are ts rest is; spelled = line_grammar.none; distinct = tt; table = refl })
 
 -- a setup of this table ends there, and its printed line is within its limit
 abbrev Ended : Table → List Token → Type 0
@@ -158,8 +271,8 @@ pub setup_once : {ts : List Token} {t u : Table} → IsSetup ts t → IsSetup ts
 setup_once {ts} {t} {u} h k = reads_is t u (sym (setup_again h) ∙ setup_again k)
 
 -- a setup begins with its word
-pub setup_begins : {ts : List Token} {t : Table} → IsSetup ts t → (rest : List Token) × (ts ≡ token.Word word.Setup ∷ rest)
-setup_begins (line_grammar.setup {ts} {end} {rows} h all e short) = (ts ++ end, refl)
+pub setup_begins : {ts : List Token} {t : Table} → IsSetup ts t → begins_setup ts ≡ true
+setup_begins (line_grammar.setup h all e short) = refl
 
 -- the printed line of a setup is within its limit
 pub setup_short : {ts : List Token} {t : Table} → IsSetup ts t → length (printed_setup t) ≤ 4000

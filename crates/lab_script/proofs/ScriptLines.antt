@@ -4,19 +4,18 @@ use Rattle.std.specs.Prelude.{◌-◌, IfSome}
 use Rattle.std.specs.List.{list_all}
 use Rattle.std.specs.Char.{to_ascii_lowercase, is_ascii_digit}
 use Rattle.std.proofs.lemmas.List.{length-map}
-use Rattle.std.proofs.lemmas.Bool.{and_parts}
+use Rattle.std.proofs.lemmas.Bool.{and_parts, false≢true}
 use Rattle.std.proofs.lemmas.Option.{same_Some}
 use Rattle.lab_table.specs.declared.statement.Command.{Command}
 use Rattle.lab_script.specs.declared.script.Line.{Line}
 use Rattle.lab_script.specs.declared.script.Script.{Script}
-use Rattle.lab_table.specs.declared.word.Word.TheVariants as word
 use Rattle.lab_statement.specs.declared.token.Token.{Token}
 use Rattle.lab_statement.specs.declared.token.Token.TheVariants as token
 use Rattle.lab_statement.specs.Token.{gap, letters, whole, is_letter, is_blank, mark, tokens, tokens_from}
 use Rattle.lab_script.specs.Grammar.{IsCommands}
 use Rattle.lab_script.specs.Script as script
 use Rattle.lab_statement.specs.Text.{code_of}
-use Rattle.lab_script.specs.Script.{is_passed, IsFit, BeginsSetup, extended, LineSpells, LinesSpell}
+use Rattle.lab_script.specs.Script.{is_passed, IsFit, begins_setup, extended, LineSpells, LinesSpell}
 use Rattle.lab_script.proofs.ReadCommands.{commands_once, not_empty}
 use Rattle.lab_script.proofs.ReadSetup.{setup_once, setup_begins}
 
@@ -29,10 +28,8 @@ no_tokens (b ∷ bytes) blank =
     ∙ no_tokens bytes both.1
 
 -- a line that is passed over spells no setup and no commands
-passed_no_setup : (line : List ℕ) {A : Type 0} → is_passed line ≡ true → BeginsSetup (tokens (code_of line)) → A
-passed_no_setup line passed begins =
-    let none : [] ≡ token.Word word.Setup ∷ begins.0 = sym (no_tokens (code_of line) passed) ∙ begins.1 in
-    absurd cc
+passed_no_setup : (line : List ℕ) {A : Type 0} → is_passed line ≡ true → begins_setup (tokens (code_of line)) ≡ true → A
+passed_no_setup line passed begins = absurd (false≢true (ap begins_setup (sym (no_tokens (code_of line) passed)) ∙ begins))
 
 passed_no_commands : (line : List ℕ) {cs : List Command} {A : Type 0} → is_passed line ≡ true → IsCommands (tokens (code_of line)) cs → A
 passed_no_commands line {cs} passed commands = absurd (not_empty (subst (λ (ts : List Token). IsCommands ts cs) (no_tokens (code_of line) passed) commands))

@@ -1,5 +1,5 @@
 -- Reading the setup and the commands of a line from left to right, to the end or to the first fault.
-use Rattle.std.specs.Prelude.{ℕ, zero, suc, ℤ, nat_le, length, if◌then◌else◌, List, [], ◌∷◌, ◌++◌, Option, Some, None, ◌-◌, false, nat_lt, take, drop}
+use Rattle.std.specs.Prelude.{ℕ, zero, suc, ℤ, nat_le, length, if◌then◌else◌, List, [], ◌∷◌, ◌++◌, Option, Some, None, ◌-◌, nat_lt, take, drop}
 use Rattle.lab_table.specs.Row.{Row, numbered}
 use Rattle.lab_table.specs.TableName.{test_name}
 use Rattle.lab_table.specs.declared.word.Word.TheVariants as word
@@ -22,12 +22,12 @@ use Rattle.lab_script.specs.PassedTables.{with_tokens, with_setup_tokens}
 use Rattle.lab_statement.specs.FirstFaults.{behind_tables, end_read, fault_of, fifth_table, is_short, no_rows_at, nothing_read, placed_kind, statement_read}
 
 -- the table of a row of a setup, from the token that it begins with: a word names it, and without one it is `test`
-abbrev pub table_of : Token → List Token → Reading (List ℕ × List Token)
-table_of t ts = if is_word t then name_of t ts else Reads (test_name, t ∷ ts)
+abbrev pub row_table_of : Token → List Token → Reading (List ℕ × List Token)
+row_table_of t ts = if is_word t then name_of t ts else Reads (test_name, t ∷ ts)
 
 unfoldable pub row_table_read : List Token → Reading (List ℕ × List Token)
 row_table_read [] = Reads (test_name, [])
-row_table_read (t ∷ ts) = table_of t ts
+row_table_read (t ∷ ts) = row_table_of t ts
 
 -- a row of a setup with its value
 unfoldable pub named_row_read : List Token → Reading ((Row × ℤ) × List Token)
@@ -137,11 +137,11 @@ passed ts left = take (length ts - left) ts
 
 -- the kind of a fault of a line of commands, behind lines that name these tables, where so many of its tokens are left
 abbrev pub commands_placed : List (List ℕ) → List Token → ScriptFaultKind → ℕ → ScriptFaultKind
-commands_placed names ts kind left = behind_tables (with_tokens false names (passed ts left)) (placed_kind ts kind left)
+commands_placed names ts kind left = behind_tables (with_tokens names (passed ts left)) (placed_kind ts kind left)
 
 -- the same of a setup, in which no where can stand
 abbrev pub setup_placed : List Token → ScriptFaultKind → ℕ → ScriptFaultKind
-setup_placed ts kind left = behind_tables (with_setup_tokens false [] (passed ts left)) kind
+setup_placed ts kind left = behind_tables (with_setup_tokens [] (passed ts left)) kind
 
 -- the first fault of the tokens of a line of commands, for which there is this much room, behind lines that name these tables
 abbrev pub commands_fault : List (List ℕ) → ℕ → List Token → Option ScriptFaultKind

@@ -1,5 +1,5 @@
 -- The grammar of a line: which tokens spell commands, and which a setup. Each rule is a constructor.
-use Rattle.std.specs.Prelude.{◌≡◌, ℕ, ◌≤◌, ℤ, true, List, [], ◌∷◌, ◌++◌, length}
+use Rattle.std.specs.Prelude.{◌≡◌, ℕ, ◌≤◌, ℤ, true, List, [], ◌∷◌, ◌++◌, length, None}
 use Rattle.std.specs.FinMap as finite
 use Rattle.std.specs.List.{list_all}
 use Rattle.lab_table.specs.declared.statement.Statement.{Statement}
@@ -47,9 +47,10 @@ pub data IsRowList : List Token → List (Row × ℤ) → Type 0 where
   none : IsRowList (token.Open ∷ token.Close ∷ []) []
   some : {ts : List Token} {rows : List (Row × ℤ)} → IsRows ts rows → IsRowList ts rows
 
--- no row comes twice
+-- no row comes twice: none is found among those behind it
 abbrev pub AllDistinct : List (Row × ℤ) → Type 0
-AllDistinct rows = length (finite.entries (finite.from_entries {R = row_cmp} rows)) ≡ length rows
+AllDistinct [] = Unit {0}
+AllDistinct (row ∷ rows) = (finite.find row_cmp row.0 rows ≡ None) × AllDistinct rows
 
 -- setup := 'setup' ( '(' ')' | row { ',' row } ) [ ';' ]
 pub data IsSetup : List Token → Table → Type 0 where

@@ -1,5 +1,5 @@
 -- Which text spells which script.
-use Rattle.std.specs.Prelude.{◌≡◌, ℕ, ℤ, ◌+◌, ◌-◌, ◌≤◌, ◌<◌, Bool, true, not, ◌&&◌, ◌||◌, ◌==◌, nat_le, if◌then◌else◌, List, [], ◌∷◌, ◌++◌, length, map, Option, Some, None}
+use Rattle.std.specs.Prelude.{◌≡◌, ℕ, ℤ, ◌+◌, ◌-◌, ◌≤◌, ◌<◌, Bool, true, false, not, ◌&&◌, ◌||◌, ◌==◌, nat_le, if◌then◌else◌, List, [], ◌∷◌, ◌++◌, length, map, Option, Some, None}
 use Rattle.std.specs.Char.{to_ascii_lowercase, is_ascii_alphanumeric}
 use Rattle.std.specs.FinMap as finite
 use Rattle.std.specs.List.{list_all}
@@ -11,6 +11,7 @@ use Rattle.lab_script.specs.declared.script.Script.{Script}
 use Rattle.lab_table.specs.declared.word.Word.TheVariants as word
 use Rattle.lab_statement.specs.declared.token.Token.{Token}
 use Rattle.lab_statement.specs.declared.token.Token.TheVariants as token
+use Rattle.lab_statement.specs.Reading.{is_token}
 use Rattle.lab_statement.specs.Token.{is_blank, tokens}
 use Rattle.lab_script.specs.Grammar.{IsCommands, IsSetup, IsRowList, AllDistinct}
 use Rattle.lab_script.specs.Printed.{printed_setup}
@@ -67,8 +68,9 @@ pub data LineSpells (number : ℕ) (line : List ℕ) : Option Script → Option 
       → LineSpells number line (Some script) (Some (extended script session number cs))
 
 -- whether the first token is setup
-abbrev pub BeginsSetup : List Token → Type 0
-BeginsSetup ts = (rest : List Token) × (ts ≡ token.Word word.Setup ∷ rest)
+abbrev pub begins_setup : List Token → Bool
+begins_setup [] = false
+begins_setup (t ∷ ts) = is_token t (token.Word word.Setup)
 
 -- tokens that begin with a setup whose printed line is over its limit
 pub record BeginsLongSetup (ts : List Token) : Type 0 where
@@ -80,11 +82,12 @@ pub record BeginsLongSetup (ts : List Token) : Type 0 where
   pub distinct : AllDistinct rows
   pub long : max_line_bytes < length (printed_setup (finite.from_entries rows))
 
--- what the commands of a line's tokens, of the session in its remark, make of a script
-abbrev pub AddsCommands : ℕ → List Token → List ℕ → Script → Script → Type 0
-AddsCommands number ts remark before after =
+-- what the tokens of a line with this number and its remark make of what the lines before it spell: the setup, or commands of a session
+abbrev pub TokensSpell : ℕ → List Token → List ℕ → Option Script → Option Script → Type 0
+TokensSpell number ts remark None after = (table : Table) × IsSetup ts table × (length (setup_tables table) ≤ max_tables) × (after ≡ Some (record { setup = table; lines = [] }))
+TokensSpell number ts remark (Some before) after =
     (cs : List Command) × (session : ℕ) × IsCommands ts cs × (session_of remark ≡ Some session)
-    × (length before.lines + length cs ≤ max_commands) × (length (with_commands (script_tables before) cs) ≤ max_tables) × (after ≡ extended before session number cs)
+    × (length before.lines + length cs ≤ max_commands) × (length (with_commands (script_tables before) cs) ≤ max_tables) × (after ≡ Some (extended before session number cs))
 
 -- what lines, of which the first has this number, make of what stands before them
 abbrev pub LinesSpell : ℕ → Option Script → List (List ℕ) → Option Script → Type 0

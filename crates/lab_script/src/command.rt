@@ -1,19 +1,17 @@
 //! The commands of a line, read from tokens.
 
-ghost use Rattle.std.specs.Prelude.{◌≡◌, ◌≤◌, true, false, List, length, OnOk, IfErr, ◌<◌, Some, None, IfOk};
+ghost use Rattle.std.specs.Prelude.{◌≡◌, ◌≤◌, true, false, List, length, OnOk, IfErr, IfOk};
 ghost use Rattle.std.specs.List.{prefix_len};
-ghost use Rattle.lab_statement.specs.declared.fault.ScriptFaultKind.TheVariants.{TooLong, TooManyTables};
+ghost use Rattle.lab_statement.specs.declared.fault.ScriptFaultKind.TheVariants.{TooLong};
 ghost use Rattle.lab_statement.specs.declared.token.Token.{Token as Shown};
 ghost use Rattle.lab_statement.specs.Stopping.{Comes};
 ghost use Rattle.lab_statement.specs.Token.{is_word};
-ghost use Rattle.lab_statement.specs.FirstFaults.{is_short, HasFault, behind_tables, refusal_as};
+ghost use Rattle.lab_statement.specs.FirstFaults.{is_short, HasFault};
 ghost use Rattle.lab_script.specs.FirstFaults.{command_read, commands_read, level_read, one_added, step_read, terminated_read, words_read, commands_fault, passed};
 ghost use Rattle.lab_script.specs.Grammar.{IsCommands};
-ghost use Rattle.lab_table.specs.TableSet.{max_tables};
 ghost use Rattle.lab_script.specs.Tables.{with_commands};
-ghost use Rattle.lab_script.specs.PassedTables.{with_tokens};
 
-use crate::tables::{add_all, add_tokens};
+use crate::tables::{add_few, add_tokens, behind_tables};
 use lab_statement::{Parser, Refusal, ScriptFaultKind, Token, check_length, placed};
 use lab_table::{Command, TableSet, Word};
 use std::alloc::Global;
@@ -162,29 +160,16 @@ pub fn read_commands(
 {
     let mut parser = Parser { rest: tokens };
     match commands(alloc, &mut parser, room) {
-        Ok(commands) => with_few_tables(commands, tables),
+        Ok(commands) => {
+            add_few(tables, &commands)?;
+            Ok(commands)
+        }
         Err(refusal) => {
             let left = parser.left();
-            Err(behind_tables(
-                tables,
-                placed(refusal, tokens, left),
-                read_before(tokens, left),
-            ))
+            let few = add_tokens(tables, read_before(tokens, left));
+            Err(behind_tables(few, placed(refusal, tokens, left)))
         }
     }
-}
-
-/// Commands that were read, where their tables and those before are few.
-fn with_few_tables(commands: Vec<Command>, tables: &mut TableSet) -> Result<Vec<Command>, Refusal>
-    ensures same { IfOk result (λ x. x.items ≡ commands.items) }
-    ensures tables { IfOk result (λ x. tables.new.names ≡ with_commands tables.old.names x.items) }
-    ensures few { OnOk result (length (with_commands tables.old.names commands.items) ≤ max_tables) }
-    ensures many { IfErr result (λ e. (e ≡ Refusal.Fault TooManyTables) × (max_tables < length (with_commands tables.old.names commands.items))) }
-{
-    if !add_all(tables, &commands) {
-        return Err(Refusal::Fault(ScriptFaultKind::TooManyTables));
-    }
-    Ok(commands)
 }
 
 /// The tokens that were read before so many were left.
@@ -192,19 +177,4 @@ pub fn read_before(tokens: &[Token], left: usize) -> &[Token]
     ensures { result.now ≡ passed tokens.now left }
 {
     &tokens[..tokens.len().saturating_sub(left)]
-}
-
-/// Why reading a line's tokens stopped, of which these were read: a fifth table among them came first.
-fn behind_tables(tables: &mut TableSet, refusal: Refusal, read: &[Token]) -> Refusal
-    ensures { result ≡ refusal_as (behind_tables (with_tokens false tables.old.names read.now)) refusal }
-{
-    match refusal {
-        Refusal::NoMemory => Refusal::NoMemory,
-        Refusal::Fault(kind) => {
-            if !add_tokens(tables, read) {
-                return Refusal::Fault(ScriptFaultKind::TooManyTables);
-            }
-            Refusal::Fault(kind)
-        }
-    }
 }

@@ -1,14 +1,11 @@
 //! Reading a script's text line by line.
 
-ghost use Rattle.std.specs.Prelude.{◌≡◌, ◌+◌, ◌≤◌, length, [], IfOk, OnOk, IfErr, IfSome, MatchResult, MatchBool, List, ℕ, Some, None};
-ghost use Rattle.lab_table.specs.Table.{Table as PlainTable};
+ghost use Rattle.std.specs.Prelude.{◌≡◌, ◌≤◌, length, [], IfOk, OnOk, IfErr, IfSome, MatchResult, List, ℕ, Some, None};
 ghost use Rattle.lab_script.specs.declared.script.Script.{Script as PlainScript};
-ghost use Rattle.lab_script.specs.Grammar.{IsSetup};
-ghost use Rattle.lab_script.specs.Script.{Spells, LineSpells, BeginsSetup, AddsCommands};
-ghost use Rattle.lab_script.specs.Fault.{IsFaultOf, IsLineFault, IsTokensFault};
+ghost use Rattle.lab_script.specs.Script.{Spells, LineSpells, TokensSpell, begins_setup};
+ghost use Rattle.lab_script.specs.Fault.{IsFaultAt, IsFaultOf, first_fault, is_over, tokens_fault};
 ghost use Rattle.lab_script.specs.Limits.{max_commands, ScriptPrints};
-ghost use Rattle.lab_table.specs.TableSet.{max_tables};
-ghost use Rattle.lab_script.specs.Tables.{setup_tables, script_tables, tables_so_far};
+ghost use Rattle.lab_script.specs.Tables.{script_tables, tables_so_far};
 
 use crate::command::read_commands;
 use crate::limits::{MAX_COMMANDS, MAX_LINES};
@@ -61,9 +58,9 @@ fn read_line(
     requires named { tables.old.names ≡ tables_so_far script.old }
     ensures found { OnOk result (LineSpells number line.now script.old script.new) }
     ensures named { OnOk result (tables.new.names ≡ tables_so_far script.new) }
-    ensures fault { IfErr result (IsLineFault number line.now script.old) }
+    ensures fault { IfErr result (IsFaultAt number (first_fault number line.now script.old)) }
 {
-    if number > MAX_LINES || line.len() > MAX_LINE_BYTES {
+    if is_over(number, line) {
         return Err(at(number, ScriptFaultKind::TooLong));
     }
     let (code, remark) = code_and_remark(line);
@@ -74,13 +71,14 @@ fn read_line(
         return Ok(());
     }
     tokens_into(tokens, code)?;
-    match script {
-        None => {
-            *script = Some(setup_script(alloc, number, tokens, tables)?);
-            Ok(())
-        }
-        Some(script) => add_commands(alloc, script, tables, number, tokens, remark),
-    }
+    read_tokens(alloc, script, tables, number, tokens, remark)
+}
+
+/// Whether a line is longer than a line may be, or comes after the last that a text may have.
+fn is_over(number: u32, line: &[u8]) -> bool
+    ensures { result ≡ is_over number line.now }
+{
+    number > MAX_LINES || line.len() > MAX_LINE_BYTES
 }
 
 /// This kind of fault at a line.
@@ -92,11 +90,35 @@ fn at(line: u32, kind: ScriptFaultKind) -> ScriptFault
 
 /// Whether the first token is `setup`.
 fn begins_setup(tokens: &[Token]) -> bool
-    ensures { MatchBool result (BeginsSetup tokens.now) (BeginsSetup tokens.now → ⊥) }
+    ensures { result ≡ begins_setup tokens.now }
 {
     match tokens.split_first() {
         None => false,
         Some((first, _)) => *first == Token::Word(Word::Setup),
+    }
+}
+
+/// Reads the tokens and the remark of a line with this number: the setup, or commands behind it.
+fn read_tokens(
+    alloc: Global,
+    script: &mut Option<Script>,
+    tables: &mut TableSet,
+    number: u32,
+    tokens: &[Token],
+    remark: &[u8],
+) -> Result<(), ScriptFault>
+    requires few { IfSome script.old (λ s. length s.lines ≤ max_commands) }
+    requires named { tables.old.names ≡ tables_so_far script.old }
+    ensures found { OnOk result (TokensSpell number tokens.now remark.now script.old script.new) }
+    ensures named { OnOk result (tables.new.names ≡ tables_so_far script.new) }
+    ensures fault { IfErr result (IsFaultAt number (tokens_fault tokens.now remark.now script.old)) }
+{
+    match script {
+        None => {
+            *script = Some(setup_script(alloc, number, tokens, tables)?);
+            Ok(())
+        }
+        Some(script) => add_commands(alloc, script, tables, number, tokens, remark),
     }
 }
 
@@ -108,9 +130,9 @@ fn setup_script(
     tables: &mut TableSet,
 ) -> Result<Script, ScriptFault>
     requires none { tables.old.names ≡ [] }
-    ensures found { IfOk result (λ script. (table : PlainTable) × IsSetup tokens.now table × (length (setup_tables table) ≤ max_tables) × (script ≡ record { setup = table; lines = [] })) }
+    ensures found { (remark : List ℕ) → IfOk result (λ script. TokensSpell number tokens.now remark None (Some script)) }
     ensures named { IfOk result (λ script. tables.new.names ≡ script_tables script) }
-    ensures fault { (remark : List ℕ) → IfErr result (IsTokensFault number tokens.now remark None) }
+    ensures fault { (remark : List ℕ) → IfErr result (IsFaultAt number (tokens_fault tokens.now remark None)) }
 {
     if !begins_setup(tokens) {
         return Err(at(number, ScriptFaultKind::NoSetup));
@@ -135,9 +157,9 @@ fn add_commands(
 ) -> Result<(), ScriptFault>
     requires few { length script.old.lines ≤ max_commands }
     requires named { tables.old.names ≡ script_tables script.old }
-    ensures found { OnOk result (AddsCommands number tokens.now remark.now script.old script.new) }
+    ensures found { OnOk result (TokensSpell number tokens.now remark.now (Some script.old) (Some script.new)) }
     ensures named { OnOk result (tables.new.names ≡ script_tables script.new) }
-    ensures fault { IfErr result (IsTokensFault number tokens.now remark.now (Some script.old)) }
+    ensures fault { IfErr result (IsFaultAt number (tokens_fault tokens.now remark.now (Some script.old))) }
 {
     if begins_setup(tokens) {
         return Err(at(number, ScriptFaultKind::SetupRepeated));

@@ -1,18 +1,15 @@
 //! The setup, read from tokens.
 
-ghost use Rattle.std.specs.Prelude.{◌≤◌, length, ◌≡◌, ◌<◌, [], false, Some, None, IfOk, OnOk, MatchBool, IfErr};
+ghost use Rattle.std.specs.Prelude.{◌≤◌, length, ◌≡◌, [], Some, None, IfOk, MatchBool};
 ghost use Rattle.lab_statement.specs.Stopping.{Comes};
 ghost use Rattle.lab_script.specs.FirstFaults.{named_row_read, row_table_read, row_onto_read, rows_read, setup_end_read, setup_fault, setup_read, table_read};
 ghost use Rattle.lab_script.specs.Grammar.{IsSetup};
-ghost use Rattle.lab_statement.specs.FirstFaults.{no_rows_at, HasFault, behind_tables, refusal_as};
-ghost use Rattle.lab_table.specs.TableSet.{max_tables};
-ghost use Rattle.lab_script.specs.Tables.{setup_tables, with_setup};
-ghost use Rattle.lab_script.specs.PassedTables.{with_setup_tokens};
-ghost use Rattle.lab_statement.specs.declared.fault.ScriptFaultKind.TheVariants.{TooManyTables};
+ghost use Rattle.lab_statement.specs.FirstFaults.{no_rows_at, HasFault};
+ghost use Rattle.lab_script.specs.Tables.{setup_tables};
 
 use crate::command::read_before;
 use crate::fits::setup_fits;
-use crate::tables::{add_all, add_setup_tokens};
+use crate::tables::{add_few, add_setup_tokens, behind_tables};
 use lab_statement::{Parser, Refusal, ScriptFaultKind, Token};
 use lab_table::{RowName, Table, TableName, TableSet, Value, Word};
 use std::alloc::Global;
@@ -138,35 +135,13 @@ pub fn read_setup(alloc: Global, tokens: &[Token], tables: &mut TableSet) -> Res
 {
     let mut parser = Parser { rest: tokens };
     match setup(alloc, &mut parser) {
-        Ok(table) => with_few_tables(table, tables),
-        Err(refusal) => Err(behind_tables(tables, refusal, read_before(tokens, parser.left()))),
-    }
-}
-
-/// A setup that was read, where its tables are few.
-fn with_few_tables(table: Table, tables: &mut TableSet) -> Result<Table, Refusal>
-    ensures same { IfOk result (λ x. x ≡ table) }
-    ensures tables { IfOk result (λ x. tables.new.names ≡ with_setup tables.old.names x) }
-    ensures few { OnOk result (length (with_setup tables.old.names table) ≤ max_tables) }
-    ensures many { IfErr result (λ e. (e ≡ Refusal.Fault TooManyTables) × (max_tables < length (with_setup tables.old.names table))) }
-{
-    if !add_all(tables, table.rows()) {
-        return Err(Refusal::Fault(ScriptFaultKind::TooManyTables));
-    }
-    Ok(table)
-}
-
-/// Why reading a setup's tokens stopped, of which these were read: a fifth table among them came first.
-fn behind_tables(tables: &mut TableSet, refusal: Refusal, read: &[Token]) -> Refusal
-    ensures { result ≡ refusal_as (behind_tables (with_setup_tokens false tables.old.names read.now)) refusal }
-{
-    match refusal {
-        Refusal::NoMemory => Refusal::NoMemory,
-        Refusal::Fault(kind) => {
-            if !add_setup_tokens(tables, read) {
-                return Refusal::Fault(ScriptFaultKind::TooManyTables);
-            }
-            Refusal::Fault(kind)
+        Ok(table) => {
+            add_few(tables, table.rows())?;
+            Ok(table)
+        }
+        Err(refusal) => {
+            let few = add_setup_tokens(tables, read_before(tokens, parser.left()));
+            Err(behind_tables(few, refusal))
         }
     }
 }

@@ -3,7 +3,7 @@ use Rattle.std.proofs.lemmas.Bool.Decides.{nat_tests}
 use Rattle.std.proofs.lemmas.Result.{err_from_is_err_and}
 use Rattle.lab_script.specs.FirstFaults.{commands_read}
 use Rattle.lab_script.proofs.ReadCommands.{step_fits, step_short}
-use Rattle.lab_script.proofs.StoppedCommands.{steps_start, start_stops, steps_on, step_stops, steps_end}
+use Rattle.lab_script.proofs.StoppedLoops.{steps_start, start_stops, steps_on, step_stops, steps_end}
 use Rattle.lab_script.proofs.command.commands.Goals as goal
 
 pub loop-alloc-init : goal.loop-alloc-init

@@ -1,7 +1,7 @@
 use Rattle.std.proofs.Common.{length, suc, refl, arith}
 use Rattle.std.proofs.lemmas.Result.{err_from_is_err_and}
 use Rattle.lab_script.specs.FirstFaults.{rows_read}
-use Rattle.lab_script.proofs.StoppedSetups.{row_stops, row_ends, row_goes_on}
+use Rattle.lab_script.proofs.StoppedLoops.{row_stops, row_ends, row_goes_on}
 use Rattle.lab_script.proofs.setup.rows.Goals as goal
 
 pub loop-table-init : goal.loop-table-init

@@ -1,18 +1,17 @@
-use Rattle.std.proofs.Common.{◌≡◌, ◌+◌, ◌<◌, ◌∷◌, drop, length, sym, ap, ◌∙◌, arith}
+use Rattle.std.proofs.Common.{◌+◌, ◌<◌, ◌∷◌, drop, length, sym, ap, subst, ◌∙◌}
 use Rattle.std.specs.Prelude.{is_some}
+use Rattle.lab_script.specs.PassedTables.{setup_table, setup_tables, token_table, with_named}
 use Rattle.std.proofs.lemmas.List.{drop_more}
-use Rattle.lab_script.specs.PassedTables.{token_table, with_setup_token, with_setup_tokens}
-use Rattle.lab_script.proofs.FewTables.{setup_tokens_longer}
+use Rattle.lab_script.specs.Tables.{with_any}
+use Rattle.lab_script.proofs.FewTables.{over_all}
 use Rattle.lab_script.proofs.tables.add_setup_tokens.Goals as goal
 
-pub returns-then-not-add_setup_token : goal.returns-then-not-add_setup_token
-returns-then-not-add_setup_token c =
+pub returns-then-not-add_any : goal.returns-then-not-add_any
+returns-then-not-add_any c =
     let xs = c.args.tokens.now in
     let i = c.loop-token.token-index in
     let x = c.token-item.result in
-    let behind = drop (i + 1) xs in
-    let left : drop i xs ≡ x ∷ behind = drop_more xs i x c.loop-token-test.true ∙ ap (λ y. y ∷ behind) (sym c.token-item.is) in
-    let more = setup_tokens_longer (is_some (token_table x)) (with_setup_token c.loop-token.named c.loop-token.tables.names x) behind in
-    let all = ap length (sym c.loop-token.invariant ∙ ap (with_setup_tokens c.loop-token.named c.loop-token.tables.names) left) in
-    let over : 4 < length (with_setup_token c.loop-token.named c.loop-token.tables.names x) = c.if-not-add_setup_token.ensures in
-    omega (arith, over, more, all)
+    let names = c.loop-token.tables.names in
+    over_all (λ name. name) names _ (setup_table c.loop-token.named x) (setup_tables (is_some (token_table x)) (drop (i + 1) xs))
+    (subst (λ t. 4 < length (with_any names t)) c.setup_table.ensures c.if-not-add_any.ensures)
+    (ap (λ ts. with_named names (setup_tables c.loop-token.named ts)) (sym (drop_more xs i x c.loop-token-test.true ∙ ap (λ y. y ∷ drop (i + 1) xs) (sym c.token-item.is))) ∙ c.loop-token.invariant)

@@ -1,6 +1,6 @@
-use Rattle.std.proofs.Common.{◌≡◌, false, drop}
-use Rattle.lab_script.specs.PassedTables.{with_setup_tokens}
+use Rattle.std.proofs.Common.{◌≡◌, drop}
+use Rattle.lab_script.specs.PassedTables.{setup_tables, with_named, with_setup_tokens}
 use Rattle.lab_script.proofs.tables.add_setup_tokens.Given as goal
 
 abbrev pub invariant-loop-token : goal.invariant-loop-token
-invariant-loop-token l = with_setup_tokens l.named l.tables.names (drop l.token-index l.tokens) ≡ with_setup_tokens false l.fn.tables.names l.fn.tokens
+invariant-loop-token l = with_named l.tables.names (setup_tables l.named (drop l.token-index l.tokens)) ≡ with_setup_tokens l.fn.tables.names l.fn.tokens
