@@ -3,6 +3,8 @@ pub mod HeldDigits
 pub mod SameTokens
 pub mod Tests
 pub mod Numbers
+pub mod Takes
+pub mod StatementTaken
 pub mod ReadNumbers
 pub mod Joined
 pub mod Appended

@@ -1,5 +1,5 @@
 -- What was read where a reading of several parts has a value.
-use Rattle.std.proofs.Common.{◌≡◌, Bool, true, false, cond, List, [], ◌∷◌, ◌++◌, length, Option, Some, None, refl, ap, ◌∙◌}
+use Rattle.std.proofs.Common.{◌≡◌, Bool, true, false, cond, List, [], ◌∷◌, ◌++◌, length, Option, Some, None, refl, ap}
 use Rattle.std.specs.Prelude.{◌==◌}
 use Rattle.std.proofs.lemmas.Bool.{eqb-true}
 use Rattle.std.proofs.lemmas.List.{nil_from_length}
@@ -11,6 +11,7 @@ use Rattle.lab_statement.specs.Reading.{after}
 use Rattle.lab_statement.specs.Stopping.{Reading, Reads, Stops, StopsAt, read_value, ◌>>=◌, if_found, token_read, tokens_read}
 use Rattle.lab_statement.specs.FirstFaults.{nothing_read}
 use Rattle.lab_statement.proofs.SameTokens.{after_is}
+use Rattle.lab_statement.proofs.Takes.{Any, gives_of, token_gives, tokens_give}
 
 -- Reads as a function
 abbrev pub reads : {A : Type 0} → A → Reading A
@@ -56,15 +57,10 @@ found_reads {X} {R} t ts found other x e behind instead = choose (after t ts) re
 
 -- a token that was read is the one that was wanted, and so are tokens
 pub token_is : (t : Token) (ts rest : List Token) → token_read t ts ≡ Reads rest → ts ≡ t ∷ rest
-token_is t ts rest e = found_reads t ts _ _ rest e
-    (λ us is h. is ∙ ap (λ (r : List Token). t ∷ r) (reads_is us rest h))
-    (λ none h. absurd cc)
+token_is t ts rest e = gives_of rest (token_gives {Fault = Any} tt t ts) e
 
 pub tokens_are : (us ts rest : List Token) → tokens_read us ts ≡ Reads rest → ts ≡ us ++ rest
-tokens_are [] ts rest e = reads_is ts rest e
-tokens_are (u ∷ us) ts rest e =
-    let a = bind_reads (token_read u ts) _ rest e in
-    token_is u ts a.0 a.1 ∙ ap (λ (r : List Token). u ∷ r) (tokens_are us a.0 rest a.2)
+tokens_are us ts rest e = gives_of rest (tokens_give {Fault = Any} tt us ts) e
 
 -- nothing was left
 pub nothing_is : (ts : List Token) (end : Unit {0}) → nothing_read ts ≡ Reads end → ts ≡ []
