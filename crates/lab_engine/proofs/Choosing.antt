@@ -80,3 +80,10 @@ pub others_are : (past : Past) (asker : Asker) (test : ℕ → RunningTxn → Bo
     → ((n : ℕ) → has set n ≡ is_chosen test asker.session asker.situation.now.sessions n) → AreOthers past asker holds set
 others_are past asker test holds set d tells is n =
     subst (λ b. IsTrue b ↔ IsOther past asker.session n holds) (sym (is n)) (chosen_is past asker.situation.now asker.session test holds d tells n)
+
+-- and has those of whom the same holds in other words
+pub others_same : (past : Past) (asker : Asker) (one other : Txn → Type 0) (set : ℕ) → ((holder : Txn) → one holder ↔ other holder) → AreOthers past asker one set → AreOthers past asker other set
+others_same past asker one other set same are n = (
+  (λ there. let o = (are n).0 there in (o.0, o.1, o.2, (same o.0).0 o.3)),
+  (λ o. (are n).1 (o.0, o.1, o.2, (same o.0).1 o.3)),
+)

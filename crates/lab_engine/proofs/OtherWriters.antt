@@ -1,6 +1,6 @@
 -- Other sessions with a pending write of a row that a statement would write.
-use Rattle.std.proofs.Common.{◌≡◌, ◌∙◌, ℕ, refl, sym, ap, subst, Bool, true, false, ◌&&◌, not, List, ◌==◌, ◌↔◌, Option, Some, None, is_some, IsTrue, IsSome}
-use Rattle.lab_engine.proofs.Common.{list_any, both_ways, and_parts, and_from, eq-eqb, not-true, ne_eqb, Row, row_eq, Table, State, may_match, would_write, Statement, same_row, row_eq_self, Level, RunningTxn, Past, Version, Txn, active, version_by, seen, HoldsWrite, has, IsRunning, written_by, not_written, IsOther, Any-from_list_any, list_any_at}
+use Rattle.std.proofs.Common.{◌≡◌, ◌∙◌, ℕ, refl, sym, ap, subst, Bool, true, false, List, ◌↔◌, Some, is_some, IsTrue, IsSome}
+use Rattle.lab_engine.proofs.Common.{list_any, both_ways, Row, row_eq, Table, State, may_match, would_write, Statement, same_row, row_eq_self, Level, RunningTxn, Past, Txn, active, version_by, seen, HoldsWrite, pending_in, Situation, Describes, IsRunning, written_by, not_written, Any-from_list_any, list_any_at}
 
 -- a test that holds of a row of a list
 any_row : (p : Row → Bool) (rows : List Row) → list_any p rows ≡ true → (row : Row) × IsTrue (list_any (row_eq row) rows) × IsTrue (p row)
@@ -23,7 +23,7 @@ module _ (level : Level) (setup : Table) (past : Past) (txn : Txn) (s : Statemen
     (λ held. row_any test kept.written.items held.0 (agrees.written held.0 ∙ held.1) (same held.0 ∙ held.2)),
   )
 
-  module _ (session : ℕ) (row : Row) (only : (other : Row) → may_match s other ≡ true → other ≡ row) where
+  module _ (row : Row) (only : (other : Row) → may_match s other ≡ true → other ≡ row) where
     -- the row that a statement would write is the one that it names
     pub named : (q : Row) (state : State) → IsTrue (would_write s q state) → q ≡ row
     named q state writes = elim (may_match s q) as (λ b. may_match s q ≡ b → q ≡ row) [
@@ -37,23 +37,16 @@ module _ (level : Level) (setup : Table) (past : Past) (txn : Txn) (s : Statemen
         both_ways _ never (subst Writes (named q (seen level setup past txn q).state writes) writes)
 
     -- where it would, those have that have written it
-    pub named_writers : (other set : ℕ) (pending : Option Version) → Writes row → pending ≡ written_by (active past other) row
-        → has set other ≡ (is_some pending && not (other == session)) → IsTrue (has set other) ↔ IsOther past session other (HoldsWrite level setup past txn s)
-    named_writers other set pending writes is has_is = (to, from)
-      where
-        wrote : (t : Option Txn) → active past other ≡ t → is_some (written_by t row) ≡ true → (holder : Txn) × (active past other ≡ Some holder) × IsSome (version_by holder row)
-        wrote None act some = absurd (both_ways _ refl some)
-        wrote (Some holder) act some = (holder, act, some)
+    pub named_holds : Writes row → (holder : Txn) → IsSome (version_by holder row) ↔ HoldsWrite level setup past txn s holder
+    named_holds writes holder = (
+      (λ some. (row, some, writes)),
+      (λ held. subst (λ (k : Row). IsSome (version_by holder k)) (named held.0 (seen level setup past txn held.0).state held.2) held.1),
+    )
 
-        to : IsTrue (has set other) → IsOther past session other (HoldsWrite level setup past txn s)
-        to there =
-            let parts = and_parts (is_some pending) (not (other == session)) (sym has_is ∙ there) in
-            let w = wrote (active past other) refl (sym (ap is_some is) ∙ parts.0) in
-            (w.0, (λ e. both_ways _ (not-true _ parts.1) (eq-eqb other session (sym e))), w.1, (row, w.2, writes))
-
-        from : IsOther past session other (HoldsWrite level setup past txn s) → IsTrue (has set other)
-        from (holder, apart, act, (q, some, writes_q)) =
-            let same : q ≡ row = named q (seen level setup past txn q).state writes_q in
-            has_is ∙ and_from _ _
-            (ap is_some is ∙ ap (λ t. is_some (written_by t row)) act ∙ subst (λ (k : Row). IsSome (version_by holder k)) same some)
-            (ap not (ne_eqb other session (λ e. apart (sym e))))
+-- a session has a version of a row pending where its active transaction has written it
+pub pending_wrote : (past : Past) (situation : Situation) (row : Row) (other : ℕ) (holder : Txn) → Describes past situation → active past other ≡ Some holder
+    → IsTrue (is_some (pending_in situation.rows row other)) ↔ IsSome (version_by holder row)
+pending_wrote past situation row other holder d is = ((λ some. sym same ∙ some), (λ wrote. same ∙ wrote))
+  where
+    same : is_some (pending_in situation.rows row other) ≡ is_some (version_by holder row)
+    same = ap is_some (d.rows.pending row other ∙ ap (λ t. written_by t row) is)

@@ -1,10 +1,9 @@
 -- The pending versions of a row, one for each session.
-use Rattle.std.proofs.Common.{◌≡◌, ◌∙◌, ℕ, zero, suc, ◌+◌, ◌-◌, ◌≤◌, ◌<◌, ◌==◌, ◌&&◌, ◌||◌, refl, ap, arith, Bool, true, false, not, cond, List, [], ◌∷◌, length, set, get_or, IsTrue, Option, Some, None, is_some}
-use Rattle.lab_engine.proofs.Common.{both_ways, and_parts, get_or_default, length-set, Kept, pending_of, has, same_from_decides, count, IsRoomy}
+use Rattle.std.proofs.Common.{◌≡◌, ◌∙◌, ℕ, zero, suc, ◌+◌, ◌-◌, ◌≤◌, ◌<◌, refl, ap, arith, cond, List, [], ◌∷◌, length, set, get_or, Option, Some, None}
+use Rattle.lab_engine.proofs.Common.{get_or_default, length-set, count, IsRoomy}
 use Rattle.lab_engine.specs.declared.version.Version.{Version}
 use Rattle.lab_engine.specs.Sessions.{is_session}
-use Rattle.lab_engine.proofs.SessionBits.{AreChosen, one_chosen, one_passed, below_one}
-use Rattle.lab_engine.proofs.WaitGraphs.{session_range, is_one}
+use Rattle.lab_engine.proofs.WaitGraphs.{is_one}
 
 -- ---- how many there are
 
@@ -73,41 +72,3 @@ module _ (vs : List (Option Version)) (nine : length vs ≡ 9) (session : ℕ) (
   -- what it has stands in its place
   pub own_place : (d : Option Version) → at_session vs session ≡ get_or vs (session - 1) d
   own_place d = ap (λ b. cond b (get_or vs (session - 1) None) None) (is_one session low high) ∙ get_or_default vs (session - 1) None d (omega (arith, nine, low, high))
-
--- ---- who has one
-
-module _ (kept : Kept) (session : ℕ) where
-  -- another session has a version pending
-  abbrev Writes : ℕ → Bool
-  Writes other = is_some (pending_of kept other) && not (other == session)
-
-  -- of the sessions below a number those that have
-  abbrev pub AreWritersBelow : ℕ → ℕ → Type 0
-  AreWritersBelow number writers = AreChosen (λ other. other < number) (λ other. IsTrue (Writes other)) writers
-
-  -- who has is a session
-  writer_range : (other : ℕ) → IsTrue (Writes other) → (1 ≤ other) × (other ≤ 9)
-  writer_range other writes = at (is_session other) refl (and_parts _ _ writes).0 where
-    at : (own : Bool) → is_session other ≡ own → is_some (cond own (get_or kept.pending (other - 1) None) None) ≡ true → (1 ≤ other) × (other ≤ 9)
-    at true own some = session_range other own
-    at false off some = absurd (both_ways _ refl some)
-
-  -- below 1 is nobody
-  pub no_writers : (none : ℕ) → ((n : ℕ) → has none n ≡ false) → AreWritersBelow 1 none
-  no_writers none nobody other = (
-    (λ there. absurd (both_ways _ (nobody other) there)),
-    (λ w. let less : other < 1 = w.0 in let low = (writer_range other w.1).0 in absurd (omega (arith, less, low))),
-  )
-
-  module _ (number writers : ℕ) (h : AreWritersBelow number writers) where
-    -- one more that has
-    pub writer_more : (new : ℕ) → ((n : ℕ) → has new n ≡ (n == number || has writers n)) → Writes number ≡ true → AreWritersBelow (number + 1) new
-    writer_more = one_chosen _ _ (λ other. IsTrue (Writes other)) number writers (below_one number) h
-
-    -- one more that hasn't
-    pub writer_same : Writes number ≡ false → AreWritersBelow (number + 1) writers
-    writer_same never = one_passed _ _ (λ other. IsTrue (Writes other)) number writers (below_one number) h (both_ways _ never)
-
-  -- below 10 are all
-  pub all_writers : (number writers : ℕ) → 10 ≤ number → AreWritersBelow number writers → (other : ℕ) → has writers other ≡ Writes other
-  all_writers number writers all h other = same_from_decides (has writers other) (Writes other) (h other) ((λ w. let high = (writer_range other w).1 in (omega (arith, high, all), w)), (λ both. both.1))

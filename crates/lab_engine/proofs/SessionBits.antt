@@ -1,7 +1,7 @@
 -- Bits of a set of sessions.
-use Rattle.std.proofs.Common.{◌≡◌, ℕ, ◌-◌, ◌*◌, ◌/◌, ◌%◌, ◌^◌, ◌<◌, ◌≤◌, ◌==◌, ◌||◌, ◌&&◌, ◌⊎◌, ◌+◌, min, max, true, false, refl, ap, sym, subst, ◌∙◌, inl, inr, arith, IsTrue, bit_or, bit_and, Option, Some, None, IsSome, IfSome, ◌↔◌}
+use Rattle.std.proofs.Common.{◌≡◌, ℕ, ◌-◌, ◌*◌, ◌/◌, ◌%◌, ◌^◌, ◌<◌, ◌≤◌, ◌==◌, ◌||◌, ◌&&◌, min, max, true, false, refl, ap, sym, subst, ◌∙◌, inl, inr, arith, IsTrue, bit_or, bit_and, Option, Some, None, IsSome, IfSome, ◌↔◌}
 use Rattle.std.specs.Int.{bit_at, trailing_zeros, w16}
-use Rattle.lab_engine.proofs.Common.{cases_eq, eq-eqb, ne_eqb, eqb-true, both_ways, or_cases, or_left, or_right, and_parts, cases_lt, has, AreSessions}
+use Rattle.lab_engine.proofs.Common.{cases_eq, eq-eqb, ne_eqb, eqb-true, both_ways, or_cases, and_parts, cases_lt, has, AreSessions}
 use Rattle.std.proofs.lemmas.Nat.Bits.{bit_at_and, bit_at_or, bit_at-lt, bit_at-zero, bit_at_set_same, bit_at_set_other, shr_and_one, bit_at-trailing_zeros, bit_at_ones, same_from_bits}
 use Rattle.std.specs.Int.Bits.{mask_lt}
 
@@ -64,46 +64,6 @@ sessions_nobody n there = absurd (both_ways _ (has_nobody n) there)
 -- a bit that isn't set
 not_set : (b : ℕ) → b < 2 → ((b == 1) ≡ true → ⊥) → b ≡ 0
 not_set b small none = grind (arith, small, none)
-
--- ---- sets that grow session by session
-
--- of those that came so far a set has the ones that have a property
-abbrev pub AreChosen : (ℕ → Type 0) → (ℕ → Type 0) → ℕ → Type 0
-AreChosen Came P set = (n : ℕ) → IsTrue (has set n) ↔ (Came n × P n)
-
-module _ (Came Comes P : ℕ → Type 0) (one set : ℕ) (comes : (n : ℕ) → Comes n ↔ (Came n ⊎ (n ≡ one))) (h : AreChosen Came P set) where
-  -- one more that has it
-  pub one_chosen : (new : ℕ) → ((n : ℕ) → has new n ≡ (n == one || has set n)) → P one → AreChosen Comes P new
-  one_chosen new is own n = (to, from)
-    where
-      to : IsTrue (has new n) → Comes n × P n
-      to there = elim (or_cases _ _ (sym (is n) ∙ there)) [
-        | inl p ↦ let same : n ≡ one = eqb-true n one p in ((comes n).1 (inr same), subst P (sym same) own)
-        | inr p ↦ let old = (h n).0 p in ((comes n).1 (inl old.0), old.1)
-      ]
-
-      from : Comes n × P n → IsTrue (has new n)
-      from (there, passes) = is n ∙ elim ((comes n).0 there) [
-        | inl came ↦ or_right _ _ ((h n).1 (came, passes))
-        | inr same ↦ or_left _ _ (eq-eqb n one same)
-      ]
-
-  -- one more that hasn't
-  pub one_passed : ¬ P one → AreChosen Comes P set
-  one_passed never n = (
-    (λ there. let old = (h n).0 there in ((comes n).1 (inl old.0), old.1)),
-    (λ both. elim ((comes n).0 both.0) [
-      | inl came ↦ (h n).1 (came, both.1)
-      | inr same ↦ absurd (never (subst P same both.1))
-    ]),
-  )
-
--- below a number comes one more
-pub below_one : (number n : ℕ) → (n < number + 1) ↔ ((n < number) ⊎ (n ≡ number))
-below_one number n = (
-  (λ less. elim (cases_eq n number) [ inl same ↦ inr same | inr apart ↦ inl (search (arith, less, apart)) ]),
-  (λ either. elim either [ inl less ↦ omega (arith, less) | inr same ↦ omega (arith, same) ]),
-)
 
 -- ---- the lowest bit of a set is its least session
 

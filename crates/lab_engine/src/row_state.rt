@@ -1,13 +1,11 @@
 //! What is kept of a row.
 
-ghost use Rattle.std.specs.Prelude.{◌≡◌, ◌==◌, ◌&&◌, ℕ, not, cond, is_some, None, Some, [], reverse, OnOk};
+ghost use Rattle.std.specs.Prelude.{◌≡◌, ◌==◌, ℕ, cond, None, Some, [], reverse, OnOk};
 ghost use Rattle.std.specs.Option.{option_or};
 ghost use Rattle.lab_engine.specs.Chains as plain;
 ghost use Rattle.lab_engine.specs.Chains.{longer};
 ghost use Rattle.lab_engine.specs.Kept.{pending_of, IsReady};
-ghost use Rattle.lab_engine.specs.SessionBits.{has};
 
-use crate::session_set::SessionSet;
 use crate::version::Version;
 use lab_table::{NoMemory, Session, TxnNo};
 use std::alloc::Global;
@@ -90,28 +88,6 @@ impl RowState {
         ensures { result ≡ plain.first_since place self.now.chain }
     {
         first_from(&self.installed, place)
-    }
-
-    /// Whether a session has a version pending, and isn't this one.
-    fn is_other_writer(&self, other: Session, session: Session) -> bool
-        ensures { result ≡ (is_some (pending_of self.now other) && not (other == session)) }
-    {
-        self.pending(other).is_some() && other != session
-    }
-
-    /// The other sessions that have a version pending.
-    pub fn other_writers(&self, session: Session) -> SessionSet
-        ensures { (other : ℕ) → has result other ≡ (is_some (pending_of self.now other) && not (other == session)) }
-    {
-        let mut writers = SessionSet::none();
-        for number in 1..10 {
-            if let Some(other) = Session::new(number) {
-                if self.is_other_writer(other, session) {
-                    writers.insert(other);
-                }
-            }
-        }
-        writers
     }
 
     /// Makes room for one more version of each session. NoMemory where an allocation was refused; nothing has changed

@@ -1,20 +1,18 @@
 //! What is kept of a log: where it leaves its sessions and rows.
 
-ghost use Rattle.std.specs.Prelude.{◌≡◌, ◌==◌, ◌&&◌, ◌<◌, ◌≤◌, ℕ, [], ◌∷◌, not, false, length, option_map, is_some, Contains, IfOk, OnOk, OnErr};
+ghost use Rattle.std.specs.Prelude.{◌≡◌, ◌<◌, ◌≤◌, [], ◌∷◌, false, length, option_map, is_some, Contains, IfOk, OnOk, OnErr};
 ghost use Rattle.std.specs.Prelude as list;
 ghost use Rattle.lab_engine.specs.Limits.{max_events};
 ghost use Rattle.lab_engine.specs.Log.{Past, active, waiting, begun_after};
 ghost use Rattle.lab_engine.specs.EventQuery.{is_ending};
-ghost use Rattle.lab_engine.specs.KeptRows.{pending_in, AreReady};
-ghost use Rattle.lab_engine.specs.SessionBits.{has};
+ghost use Rattle.lab_engine.specs.KeptRows.{AreReady};
 ghost use Rattle.lab_engine.specs.Situation.{Describes, DescribesAll, DescribesRows, HoldsOutcome, HasPlaces, AreCopies, all_sessions, running_of, waiting_of};
 
 use crate::event::{LogEvent, Outcome};
 use crate::row_states::RowStates;
-use crate::session_set::SessionSet;
 use crate::session_state::{Copies, RunningTxn, SessionState};
 use lab_history::Writes;
-use lab_table::{NoMemory, RowName, Session, Statement};
+use lab_table::{NoMemory, Session, Statement};
 use std::alloc::Global;
 
 /// Where a log leaves its sessions and rows.
@@ -69,16 +67,6 @@ impl Situation {
         ensures { (past : Past) → Describes past self.now → result ≡ is_some (waiting past session) }
     {
         self.waiting(session).is_some()
-    }
-
-    /// The other sessions that have a version of a row pending.
-    pub fn other_writers(&self, row: RowName, session: Session) -> SessionSet
-        ensures { (other : ℕ) → has result other ≡ (is_some (pending_in self.now.rows row other) && not (other == session)) }
-    {
-        match self.rows.get(row) {
-            Some(kept) => kept.other_writers(session),
-            None => SessionSet::none(),
-        }
     }
 
     /// Makes room for an event, and copies what is kept of its statement, so that `take_in` takes no memory.

@@ -1,10 +1,10 @@
 //! Whose pending writes stand in a statement's way.
 
-ghost use Rattle.std.specs.Prelude.{◌≡◌};
+ghost use Rattle.std.specs.Prelude.{◌≡◌, IsSome};
 ghost use Rattle.std.specs.List.{list_any};
 ghost use Rattle.lab_table.specs.Statement as plain;
 ghost use Rattle.lab_engine.specs.declared.event.Level.{Level as Kind};
-ghost use Rattle.lab_engine.specs.Log.{Past, Txn};
+ghost use Rattle.lab_engine.specs.Log.{Past, Txn, version_by};
 ghost use Rattle.lab_engine.specs.Asker.{AreOthers, IsAsker, seen_in};
 ghost use Rattle.lab_engine.specs.Rules.{HoldsWrite};
 
@@ -28,6 +28,17 @@ impl<'a> Asker<'a> {
         self.others_that(|_, holder| self.would_write_any(statement, &holder.written))
     }
 
+    /// The other sessions that have written this row; it is looked up once.
+    fn row_writers(&self, row: RowName) -> SessionSet
+        ensures { (level : Kind) (past : Past) (txn : Txn) → IsAsker level past txn self.now
+            → AreOthers past self.now (λ holder. IsSome (version_by holder row)) result }
+    {
+        match self.situation.rows.get(row) {
+            Some(kept) => self.others_that(|other, _| kept.pending(other).is_some()),
+            None => SessionSet::none(),
+        }
+    }
+
     /// The other sessions that have a pending write of a row that a statement would write. Where the statement names a
     /// row, only that is looked up.
     pub fn writers_in_way(&self, statement: &Statement) -> SessionSet
@@ -41,7 +52,7 @@ impl<'a> Asker<'a> {
             return self.all_writers(statement);
         };
         if self.would_write(statement, row) {
-            self.situation.other_writers(row, self.session)
+            self.row_writers(row)
         } else {
             SessionSet::none()
         }

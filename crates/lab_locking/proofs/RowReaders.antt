@@ -91,7 +91,7 @@ module _ (past : Past) (txn : Txn) (asker : Asker) (asks : IsAsker Locking past 
 
       from : IsOther past asker.session n (HasRead Locking asker.setup.now past txn s) → IsTrue (reads_row asker s n row)
       from (holder, ne, active_is, (other, writes, read)) =
-          subst (λ r. IsTrue (reads_row asker s n r)) (named Locking asker.setup.now past txn s asker.session row only other (seen Locking asker.setup.now past txn other).state writes)
+          subst (λ r. IsTrue (reads_row asker s n r)) (named Locking asker.setup.now past txn s row only other (seen Locking asker.setup.now past txn other).state writes)
           ((reads_row_is n other).1 (holder, ne, active_is, (writes, read)))
 
 -- ---- all rows
