@@ -27,16 +27,14 @@ not_behind : (graph : List ℕ) (goal session next : ℕ) (rest : List ℕ) → 
     → ((other : List ℕ) → IsWalk graph session other goal → length (next ∷ rest) ≤ length other) → list_any (λ m. m == session) (next ∷ rest) ≡ false
 not_behind graph goal session next rest walk once short = false_from_ne_true _ (λ there.
     let on : (other : List ℕ) × IsWalk graph session other goal × AllDistinct (session ∷ other) × (length other ≤ length rest) = from_there graph goal session next rest walk once there in
-    let le : length (next ∷ rest) ≤ length on.0 = short on.0 on.1 in
-    omega (arith, le, on.3))
+    omega (arith, short on.0 on.1, on.3))
 
 -- on a walk than which none is shorter nobody stands twice
 pub shortest_once : (graph : List ℕ) (goal session : ℕ) (rest : List ℕ) → IsWalk graph session rest goal → ((other : List ℕ) → IsWalk graph session other goal → length rest ≤ length other)
     → AllDistinct (session ∷ rest)
 shortest_once graph goal session [] walk short = (refl, tt)
 shortest_once graph goal session (next ∷ rest) walk short =
-    let behind : AllDistinct (next ∷ rest) =
-    shortest_once graph goal next rest walk.1 (λ other w. let le : length (next ∷ rest) ≤ length (next ∷ other) = short (next ∷ other) (walk.0, w) in omega (arith, le)) in
+    let behind = shortest_once graph goal next rest walk.1 (λ other w. omega (arith, short (next ∷ other) (walk.0, w))) in
     (not_behind graph goal session next rest walk.1 behind short, behind)
 
 -- where a walk leads, one leads on which nobody stands twice
@@ -81,14 +79,13 @@ found_there n ns h =
 -- on a walk on which nobody stands twice are at most nine
 pub once_few : (graph : List ℕ) (goal session : ℕ) (rest : List ℕ) → IsWalk graph session rest goal → AllDistinct (session ∷ rest) → length rest < 9
 once_few graph goal session rest walk once =
-    let le : length (0 ∷ session ∷ rest) ≤ 10 = length-le_from_distinct_below (0 ∷ session ∷ rest) 10 (distinct_keys (0 ∷ session ∷ rest) (nobody, once)) below in
-    omega (arith, le)
+    omega (arith, length-le_from_distinct_below (0 ∷ session ∷ rest) 10 (distinct_keys (0 ∷ session ∷ rest) (nobody, once)) below)
   where
     nobody : list_any (λ m. m == 0) (session ∷ rest) ≡ false
-    nobody = false_from_ne_true _ (λ there. let range : (1 ≤ 0) × (0 ≤ 9) = walkers graph goal session rest walk 0 there in omega (arith, range.0))
+    nobody = false_from_ne_true _ (λ there. omega (arith, (walkers graph goal session rest walk 0 there).0))
 
     below : (n : ℕ) → list_any (λ m. n == m) (0 ∷ session ∷ rest) ≡ true → n < 10
     below n there = elim (or_cases (n == 0) (list_any (λ m. n == m) (session ∷ rest)) there) [
       | inl p ↦ omega (arith, eqb-true n 0 p)
-      | inr p ↦ let range : (1 ≤ n) × (n ≤ 9) = walkers graph goal session rest walk n (found_there n (session ∷ rest) p) in omega (arith, range.1)
+      | inr p ↦ omega (arith, (walkers graph goal session rest walk n (found_there n (session ∷ rest) p)).1)
     ]
