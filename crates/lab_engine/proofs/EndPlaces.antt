@@ -1,6 +1,7 @@
 -- A log keeps a place for the end of each active transaction.
 use Rattle.std.proofs.Common.{◌≡◌, ◌≤◌, ℕ, zero, suc, ◌+◌, cond, Bool, true, false, List, [], ◌∷◌, length, refl, sym, ap, subst, ◌∙◌, arith, Contains, IsSome, is_some, ◌==◌}
-use Rattle.lab_engine.proofs.Common.{eq-eqb, Command, WriteConflict, LogEvent, Outcome, Refused, Past, Txn, active, active_after, Option, Some, None}
+use Rattle.lab_engine.proofs.Common.{eq-eqb, Command, WriteConflict, LogEvent, Outcome, Refused, Past, Txn, active, active_after, Option, None}
+use Rattle.std.proofs.lemmas.List.Sums.{count_by-le-length, sum_by-cons, sum_by-le-sum_by}
 use Rattle.lab_engine.specs.Answer.{active_among}
 use Rattle.lab_engine.specs.EventQuery.{is_ending}
 
@@ -8,14 +9,9 @@ use Rattle.lab_engine.specs.EventQuery.{is_ending}
 abbrev weight : Option Txn → ℕ
 weight txn = cond (is_some txn) 1 0
 
-one_at_most : (txn : Option Txn) → weight txn ≤ 1
-one_at_most None = omega arith
-one_at_most (Some txn) = omega arith
-
 -- at most as many sessions have an active transaction as there are
 pub few_active : (past : Past) (sessions : List ℕ) → active_among past sessions ≤ length sessions
-few_active past [] = omega arith
-few_active past (session ∷ sessions) = omega (arith, one_at_most (active past session), few_active past sessions)
+few_active past sessions = count_by-le-length (λ session. is_some (active past session)) sessions
 
 none_after : (command : Command) (outcome : Outcome) (past : Past) (txn : Option Txn) → is_ending outcome ≡ true → active_after command outcome past txn ≡ None
 none_after command (Refused (WriteConflict row by)) past txn ending = refl
@@ -33,8 +29,11 @@ module _ (past : Past) (event : LogEvent) (ending : is_ending event.outcome ≡ 
   fewer_one session = no_more (event.session == session) (active_after event.command event.outcome past (active past session)) (active past session) (gone session)
 
   no_more_active : (sessions : List ℕ) → active_among (event ∷ past) sessions ≤ active_among past sessions
-  no_more_active [] = omega arith
-  no_more_active (session ∷ sessions) = omega (arith, fewer_one session, no_more_active sessions)
+  no_more_active sessions = sum_by-le-sum_by (λ session. weight (active (event ∷ past) session)) (λ session. weight (active past session)) sessions fewer_one
+
+  -- one session and others
+  also : (log : Past) (session : ℕ) (sessions : List ℕ) → active_among log (session ∷ sessions) ≡ weight (active log session) + active_among log sessions
+  also log session sessions = sum_by-cons (λ s. weight (active log s)) session sessions
 
   -- after an end one session fewer has an active transaction
   pub fewer_active : (sessions : List ℕ) → Contains sessions event.session → IsSome (active past event.session) → active_among (event ∷ past) sessions + 1 ≤ active_among past sessions
@@ -44,5 +43,6 @@ module _ (past : Past) (event : LogEvent) (ending : is_ending event.outcome ≡ 
       = ap weight
       (ap (λ b. cond b (active_after event.command event.outcome past (active past session)) (active past session)) (eq-eqb event.session session (sym is)) ∙ gone session) in
       let on : weight (active past session) ≡ 1 = ap (λ b. cond b 1 0) (subst (λ n. IsSome (active past n)) (sym is) some) in
-      omega (arith, off, on, no_more_active sessions)
-  fewer_active (session ∷ sessions) (suc k, few, is) some = omega (arith, fewer_one session, fewer_active sessions (k, omega arith, is) some)
+      omega (arith, also past session sessions, also (event ∷ past) session sessions, off, on, no_more_active sessions)
+  fewer_active (session ∷ sessions) (suc k, few, is) some =
+      omega (arith, also past session sessions, also (event ∷ past) session sessions, fewer_one session, fewer_active sessions (k, omega arith, is) some)

@@ -1,6 +1,6 @@
 -- What is kept of a session and of the rows goes on by an event of the session.
-use Rattle.std.proofs.Common.{◌≡◌, ◌∙◌, ℕ, ◌+◌, ◌==◌, ◌||◌, ◌&&◌, cond, Bool, true, false, [], ◌∷◌, ◌++◌, map as each, length, Option, Some, None, refl, sym, ap, subst, inl, inr, option_map, is_some, is_none}
-use Rattle.lab_engine.proofs.Common.{none_of, both_ways, cases_eq, eq-eqb, ne_eqb, true≢false, reverse-append, same_Some, Row, State, Rows, Writes, Statement, Command, Run, View, Op, Busy, LogEvent, Outcome, Committed, Refused, RunningTxn, Past, Txn, Version, version_or, version_by, active, active_after, ops_after, waiting, waiting_after, chain, chain_after, longer, chain_in, pending_in, DescribesRows, Agree, IsRunning, has_written, grown, written_by, asked, statements_of, RowStates}
+use Rattle.std.proofs.Common.{◌≡◌, ◌∙◌, ℕ, ◌+◌, ◌==◌, ◌||◌, ◌&&◌, cond, true, false, [], ◌∷◌, ◌++◌, map as each, length, Option, Some, None, refl, sym, ap, subst, inl, inr, option_map, is_some, is_none}
+use Rattle.lab_engine.proofs.Common.{none_of, both_ways, cases_eq, eq-eqb, ne_eqb, true≢false, reverse-append, same_Some, Row, State, Rows, Writes, Statement, Command, Run, View, Op, Busy, LogEvent, Outcome, Committed, Refused, RunningTxn, Past, Txn, Version, version_or, version_by, active, active_after, ops_after, waiting, waiting_after, chain_after, longer, chain_in, pending_in, DescribesRows, Agree, IsRunning, has_written, grown, written_by, asked, statements_of, RowStates}
 use Rattle.std.specs.FinMap as map
 use Rattle.lab_engine.specs.EventQuery.{busy}
 

@@ -1,5 +1,5 @@
 -- A graph of who waits for whom, as the sets of those that each session waits for.
-use Rattle.std.proofs.Common.{◌≡◌, ◌≢◌, ℕ, ◌-◌, ◌<◌, ◌≤◌, ◌==◌, ◌&&◌, cond, Bool, true, false, refl, ap, sym, subst, ◌∙◌, inl, inr, arith, List, length, get_or, set, replicate, IsTrue, Option, Some, None, IfSome, ◌↔◌, is_some}
+use Rattle.std.proofs.Common.{◌≡◌, ◌≢◌, ℕ, ◌-◌, ◌<◌, ◌≤◌, ◌==◌, ◌&&◌, cond, true, false, refl, ap, sym, subst, ◌∙◌, inl, inr, arith, List, length, get_or, set, replicate, IsTrue, Option, Some, None, IfSome, ◌↔◌, is_some}
 use Rattle.lab_engine.proofs.Common.{cases_eq, eq-eqb, ne_eqb, both_ways, and_parts, and_from, get_or-set_same, get_or-set_other, get_or_default, has, waits_for, WaitsForOne, get_or-replicate, is_session}
 
 -- a session is from 1 to 9
