@@ -52,50 +52,31 @@ abbrev pub KnownAnswer : Level → Table → Past → ℕ → Command → Outcom
 KnownAnswer level setup past session command outcome = ((active past session ≡ None) × IdleAnswer past command outcome)
     ⊎ ((txn : Txn) × (active past session ≡ Some txn) × TxnAnswer level setup past session txn command outcome)
 
-refusal_known : (level : Level) (setup : Table) (past : Past) (session : ℕ) (command : Command) (fault : EngineFault) → Answers level setup past session command (Refused fault)
-    → KnownAnswer level setup past session command (Refused fault)
-refusal_known level setup past session command (DuplicateKey row) ((s, txn, asks, free, insert, there), busy, least) =
-    inr (txn, asks.active_is, subst (λ c. TxnAnswer level setup past session txn c (Refused (DuplicateKey row))) (sym asks.command_is) (inl (free, inr (inl (row, insert, there, refl)))))
-refusal_known level setup past session command (OutOfRange row) ((s, txn, asks, free, update, there, first), busy, least) =
-    inr (
-      txn,
-      asks.active_is,
-      subst (λ c. TxnAnswer level setup past session txn c (Refused (OutOfRange row))) (sym asks.command_is)
-          (inl (free, inr (inr (row, record { update = update; there = there; least = first }, refl)))),
-    )
-refusal_known level setup past session command (Deadlock circle) ((s, txn, asks, is), busy, least) =
-    inr (
-      txn,
-      asks.active_is,
-      subst (λ c. TxnAnswer level setup past session txn c (Refused (Deadlock circle))) (sym asks.command_is)
-          (inr (inr (circle, least s asks.command_is circle refl, refl))),
-    )
-refusal_known level setup past session command (WriteConflict row by) ((txn, gives, snapshot, conflict, first), busy, least) =
-    inr (
-      txn,
-      gives.active_is,
-      subst (λ c. TxnAnswer level setup past session txn c (Refused (WriteConflict row by))) (sym gives.command_is)
-          (inr (row, by, record { snapshot = snapshot; conflict = conflict; least = first }, refl)),
-    )
-refusal_known level setup past session command NoTransaction ((none, isnt), busy, least) = inl (none, inr (isnt, refl))
-refusal_known level setup past session command AlreadyBegun ((txn, gives), busy, least) =
-    inr (txn, gives.active_is, subst (λ c. TxnAnswer level setup past session txn c (Refused AlreadyBegun)) (sym gives.command_is) refl)
-refusal_known level setup past session command Busy (p, busy, least) = absurd (busy refl)
+module _ (level : Level) (setup : Table) (past : Past) (session : ℕ) (command : Command) where
+  -- to what an active transaction gives
+  of_txn : (given : Command) (txn : Txn) (outcome : Outcome) → command ≡ given → active past session ≡ Some txn → TxnAnswer level setup past session txn given outcome
+      → KnownAnswer level setup past session command outcome
+  of_txn given txn outcome is own known = inr (txn, own, subst (λ c. TxnAnswer level setup past session txn c outcome) (sym is) known)
 
-pub answer_known : (level : Level) (setup : Table) (past : Past) (session : ℕ) (command : Command) (outcome : Outcome) → Answers level setup past session command outcome
-    → KnownAnswer level setup past session command outcome
-answer_known level setup past session command (Begun n) (p, busy, least) = inl (p.1, inl (p.0, ap Begun p.2))
-answer_known level setup past session command (Listed view rows writes) ((s, txn, asks, free, effect), busy, least) =
-    inr (txn, asks.active_is, subst (λ c. TxnAnswer level setup past session txn c (Listed view rows writes)) (sym asks.command_is) (inl (free, inl (view, rows, writes, effect, refl))))
-answer_known level setup past session command Committed ((txn, gives, may), busy, least) =
-    inr (txn, gives.active_is, subst (λ c. TxnAnswer level setup past session txn c Committed) (sym gives.command_is) (inl (may, refl)))
-answer_known level setup past session command Aborted ((txn, gives), busy, least) =
-    inr (txn, gives.active_is, subst (λ c. TxnAnswer level setup past session txn c Aborted) (sym gives.command_is) refl)
-answer_known level setup past session command (Waits on) ((s, txn, asks, rising, are, some, none), busy, least) =
-    inr (
-      txn,
-      asks.active_is,
-      subst (λ c. TxnAnswer level setup past session txn c (Waits on)) (sym asks.command_is)
-          (inr (inl (on, record { rising = rising; are = are; some = some; no_circle = none }, refl))),
-    )
-answer_known level setup past session command (Refused fault) a = refusal_known level setup past session command fault a
+  refusal_known : (fault : EngineFault) → Answers level setup past session command (Refused fault) → KnownAnswer level setup past session command (Refused fault)
+  refusal_known (DuplicateKey row) ((s, txn, asks, free, insert, there), busy, least) =
+      of_txn (Run s) txn _ asks.command_is asks.active_is (inl (free, inr (inl (row, insert, there, refl))))
+  refusal_known (OutOfRange row) ((s, txn, asks, free, update, there, first), busy, least) =
+      of_txn (Run s) txn _ asks.command_is asks.active_is (inl (free, inr (inr (row, record { update = update; there = there; least = first }, refl))))
+  refusal_known (Deadlock circle) ((s, txn, asks, is), busy, least) =
+      of_txn (Run s) txn _ asks.command_is asks.active_is (inr (inr (circle, least s asks.command_is circle refl, refl)))
+  refusal_known (WriteConflict row by) ((txn, gives, snapshot, conflict, first), busy, least) =
+      of_txn Commit txn _ gives.command_is gives.active_is (inr (row, by, record { snapshot = snapshot; conflict = conflict; least = first }, refl))
+  refusal_known NoTransaction ((none, isnt), busy, least) = inl (none, inr (isnt, refl))
+  refusal_known AlreadyBegun ((txn, gives), busy, least) = of_txn Begin txn _ gives.command_is gives.active_is refl
+  refusal_known Busy (p, busy, least) = absurd (busy refl)
+
+  pub answer_known : (outcome : Outcome) → Answers level setup past session command outcome → KnownAnswer level setup past session command outcome
+  answer_known (Begun n) (p, busy, least) = inl (p.1, inl (p.0, ap Begun p.2))
+  answer_known (Listed view rows writes) ((s, txn, asks, free, effect), busy, least) =
+      of_txn (Run s) txn _ asks.command_is asks.active_is (inl (free, inl (view, rows, writes, effect, refl)))
+  answer_known Committed ((txn, gives, may), busy, least) = of_txn Commit txn _ gives.command_is gives.active_is (inl (may, refl))
+  answer_known Aborted ((txn, gives), busy, least) = of_txn Abort txn _ gives.command_is gives.active_is refl
+  answer_known (Waits on) ((s, txn, asks, rising, are, some, none), busy, least) =
+      of_txn (Run s) txn _ asks.command_is asks.active_is (inr (inl (on, record { rising = rising; are = are; some = some; no_circle = none }, refl)))
+  answer_known (Refused fault) a = refusal_known fault a

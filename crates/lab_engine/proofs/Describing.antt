@@ -1,5 +1,5 @@
 -- What a situation says of sessions, rows and numbers.
-use Rattle.std.proofs.Common.{◌≡◌, ◌≢◌, ℕ, zero, suc, ◌+◌, cond, List, [], ◌∷◌, map as each, Option, Some, None, refl, sym, ap, subst, ◌∙◌, arith, inl, inr, Contains, IsSome, option_map, T, is_some}
+use Rattle.std.proofs.Common.{◌≡◌, ◌≢◌, ℕ, zero, suc, ◌+◌, ◌==◌, cond, List, [], ◌∷◌, map as each, Option, Some, None, refl, sym, ap, subst, ◌∙◌, arith, inl, inr, Contains, IsSome, option_map, T, is_some}
 use Rattle.lab_engine.proofs.Common.{Row, none_of, LogEvent, RunningTxn, SessionState, Situation, Past, Txn, active, active_after, waiting, waiting_after, begun_after, kept_at, chain_kept, pending_kept, IsSame, Describes, DescribesAll, DescribesRows, Agree, IsRunning, all_sessions, running_of, waiting_of, eqb_tells, RowStates}
 
 no_txn : (txn : Option Txn) → ¬ IsSome txn → Agree txn None
@@ -69,20 +69,12 @@ pub some_made : {A B : Type 0} (f : A → B) (o : Option A) → is_some (option_
 some_made f None = refl
 some_made f (Some x) = refl
 
--- nobody else becomes active by an event
-active_in : (past : Past) (event : LogEvent) → Contains all_sessions event.session → ((session : ℕ) → IsSome (active past session) → Contains all_sessions session)
-    → (session : ℕ) → IsSome (active (event ∷ past) session) → Contains all_sessions session
-active_in past event own before session some = elim (eqb_tells event.session session) [
-  | inl p ↦ subst (λ n. Contains all_sessions n) p.1 own
-  | inr p ↦ before session (subst (λ b. IsSome (cond b (active_after event.command event.outcome past (active past session)) (active past session))) p.0 some)
-]
-
--- nobody else waits after an event
-waiting_in : (past : Past) (event : LogEvent) → Contains all_sessions event.session → ((session : ℕ) → IsSome (waiting past session) → Contains all_sessions session)
-    → (session : ℕ) → IsSome (waiting (event ∷ past) session) → Contains all_sessions session
-waiting_in past event own before session some = elim (eqb_tells event.session session) [
-  | inl p ↦ subst (λ n. Contains all_sessions n) p.1 own
-  | inr p ↦ before session (subst (λ b. IsSome (cond b (waiting_after event.command event.outcome (waiting past session)) (waiting past session))) p.0 some)
+-- who has something after an event of a session is that session, or had something before
+still_sessions : {A : Type 0} (own : ℕ) (after before : ℕ → Option A) → Contains all_sessions own → ((session : ℕ) → IsSome (before session) → Contains all_sessions session)
+    → (session : ℕ) → IsSome (cond (own == session) (after session) (before session)) → Contains all_sessions session
+still_sessions own after before there are session some = elim (eqb_tells own session) [
+  | inl p ↦ subst (λ n. Contains all_sessions n) p.1 there
+  | inr p ↦ are session (subst (λ b. IsSome (cond b (after session) (before session))) p.0 some)
 ]
 
 -- a situation goes on by an event where its parts do
@@ -92,11 +84,11 @@ pub goes_on : (past : Past) (event : LogEvent) (old new : Situation) → Describ
 goes_on past event old new is own sessions states rows begins counted = record {
   sessions = sessions;
   states = states;
-  active_is = active_in past event own is.active_is;
-  waiting_is = waiting_in past event own is.waiting_is;
+  active_is = still_sessions event.session (λ s. active_after event.command event.outcome past (active past s)) (active past) own is.active_is;
+  waiting_is = still_sessions event.session (λ s. waiting_after event.command event.outcome (waiting past s)) (waiting past) own is.waiting_is;
   rows = rows;
   begun = begins ∙ ap (begun_after event.outcome) is.begun;
-  events = let before = is.events in omega (arith, counted, before);
+  events = omega (arith, counted, is.events);
 }
 
 -- where nothing is kept of a row, nothing is installed or pending

@@ -1,7 +1,7 @@
 -- The first row that keeps a statement from running.
-use Rattle.std.proofs.Common.{◌≡◌, ◌∙◌, refl, sym, ap, subst, Bool, true, false, cond, ◌||◌, ◌&&◌, T, List, [], ◌∷◌, ◌⊎◌, inl, inr, Less, ℤ, Option, Some, None, is_some, unwrap_or, option_map, IsTrue}
-use Rattle.lab_engine.proofs.Common.{none_some, list_any, find, is_sorted, get, entries, entries_sorted, get-entries, below_all, Row, row_cmp, row_eq, rows_total, inserted, fails, Statement, same_row, row_eq_self, both, Version, IsBelow, IsInsertOf, version_in, same_Some, is_update, absent_runs, insert_is, is_less, first_failing}
-use Rattle.std.specs.Ordering.{is_lt, ordering_reverse}
+use Rattle.std.proofs.Common.{◌≡◌, ◌∙◌, refl, sym, ap, subst, Bool, true, false, cond, ◌||◌, ◌&&◌, T, List, [], ◌∷◌, ℤ, Option, Some, None, is_some, unwrap_or, option_map, IsTrue}
+use Rattle.lab_engine.proofs.Common.{none_some, list_any, find, is_sorted, get, entries, entries_sorted, get-entries, below_all, Row, row_cmp, row_eq, inserted, fails, Statement, same_row, row_eq_self, both, Version, IsBelow, IsInsertOf, version_in, same_Some, is_update, absent_runs, insert_is, first_failing, find_below, joined, lower}
+use Rattle.std.specs.Ordering.{is_lt}
 use Rattle.lab_engine.specs.Sight.{Listed}
 use Rattle.lab_engine.specs.Effect.{IsEffectFault}
 use Rattle.lab_engine.specs.declared.effect.EffectFault.TheVariants.{OutOfRange}
@@ -15,20 +15,6 @@ none_failing s (e ∷ es) h =
       | true ↦ λ is. none_some _ (sym is)
       | false ↦ λ is. none_failing s es is
     ] h
-
--- a row that is found behind a row that is below all comes after that
-after_found : (x : Row) (es : List (Row × Version)) (q : Row) (v : Version) → T (below_all row_cmp x es) → find row_cmp q es ≡ Some v → row_cmp x q ≡ Less
-after_found x [] q v below h = none_some _ h
-after_found x (e ∷ es) q v below h =
-    let parts = both (is_lt (row_cmp x e.0)) (below_all row_cmp x es) below in
-    elim (row_eq q e.0) as (λ t. row_eq q e.0 ≡ t → cond t (Some e.1) (find row_cmp q es) ≡ Some v → row_cmp x q ≡ Less) [
-      | true ↦ λ t is. ap (row_cmp x) (same_row q e.0 t) ∙ is_less (row_cmp x e.0) parts.0
-      | false ↦ λ t is. after_found x es q v parts.1 is
-    ] refl h
-
--- two rows aren't each below the other
-not_both_ways : {P : Type 0} (a b : Row) → row_cmp a b ≡ Less → row_cmp b a ≡ Less → P
-not_both_ways a b p q = absurd (subst (λ r. T (is_lt r)) (sym p ∙ rows_total.antisymm a b ∙ ap ordering_reverse q) tt)
 
 -- a row fails, and none below it
 record IsFirst (s : Statement) (at : Row → Option Version) (row : Row) : Type 0 where
@@ -44,12 +30,10 @@ first_is s (e ∷ es) row h first = at (first_is s es row parts.1) (fails s e.0 
     parts : T (below_all row_cmp e.0 es) × T (is_sorted row_cmp es)
     parts = both (below_all row_cmp e.0 es) (is_sorted row_cmp es) h
 
-    -- what is found is the first entry's, or behind it
-    found_either : (q : Row) (u : Version) → find row_cmp q (e ∷ es) ≡ Some u → ((q ≡ e.0) × (e.1 ≡ u)) ⊎ (find row_cmp q es ≡ Some u)
-    found_either q u is = elim (row_eq q e.0) as (λ t. row_eq q e.0 ≡ t → cond t (Some e.1) (find row_cmp q es) ≡ Some u → ((q ≡ e.0) × (e.1 ≡ u)) ⊎ (find row_cmp q es ≡ Some u)) [
-      | true ↦ λ t own. inl (same_row q e.0 t, same_Some e.1 u own)
-      | false ↦ λ t rest. inr rest
-    ] refl is
+    -- no entry's row is below the first
+    none_lower : (q : Row) → IsBelow q e.0 → find row_cmp q (e ∷ es) ≡ None
+    none_lower q less =
+        find_below q (e ∷ es) (joined (is_lt (row_cmp q e.0)) (below_all row_cmp q es) (subst (λ o. T (is_lt o)) (sym less) tt) (lower q e.0 es less parts.0))
 
     at : (first_failing s es ≡ Some row → IsFirst s (λ q. find row_cmp q es) row) → (b : Bool) → fails s e.0 e.1.state ≡ b
         → cond b (Some e.0) (first_failing s es) ≡ Some row → IsFirst s (λ q. find row_cmp q (e ∷ es)) row
@@ -57,10 +41,7 @@ first_is s (e ∷ es) row h first = at (first_is s es row parts.1) (fails s e.0 
       version = e.1;
       found = ap (λ t. cond t (Some e.1) (find row_cmp e.0 es)) (row_eq_self e.0);
       fails_there = f;
-      before = λ other u below is. elim (found_either other u is) [
-        | inl own ↦ not_both_ways e.0 e.0 (subst (λ k. row_cmp k e.0 ≡ Less) own.0 below) (subst (λ k. row_cmp k e.0 ≡ Less) own.0 below)
-        | inr rest ↦ not_both_ways other e.0 below (after_found e.0 es other u parts.0 rest)
-      ];
+      before = λ other u below there. none_some _ (sym (none_lower other below) ∙ there);
     })
     at later false f is =
         let rest = later is in
@@ -68,10 +49,11 @@ first_is s (e ∷ es) row h first = at (first_is s es row parts.1) (fails s e.0 
           version = rest.version;
           found = behind e es row rest.version parts.0 rest.found;
           fails_there = rest.fails_there;
-          before = λ other u below is. elim (found_either other u is) [
-            | inl own ↦ subst (λ k. fails s k u.state ≡ false) (sym own.0) (subst (λ (k : Version). fails s e.0 k.state ≡ false) own.1 f)
-            | inr there ↦ rest.before other u below there
-          ];
+          before = λ other u below there.
+              elim (row_eq other e.0) as (λ t. row_eq other e.0 ≡ t → cond t (Some e.1) (find row_cmp other es) ≡ Some u → fails s other u.state ≡ false) [
+                | true ↦ λ t own. (λ i. fails s (same_row other e.0 t i) ((sym (same_Some e.1 u own) i).state)) ∙ f
+                | false ↦ λ t behind_it. rest.before other u below behind_it
+              ] refl there;
         }
 
 module _ (s : Statement) (m : Listed) (es : List (Row × Version)) (of_map : es ≡ entries m) where

@@ -1,6 +1,6 @@
 -- What a log tells, event by event.
 use Rattle.std.proofs.Common.{◌≡◌, ℕ, ◌+◌, ◌-◌, ◌≤◌, ◌<◌, ◌++◌, reverse, arith, refl, sym, ap, subst, ◌∙◌, Bool, true, false, cond, List, [], ◌∷◌, map as each, length, take, drop, get_or, set, inl, inr, Option, Some, None, is_some, option_map, slice_get}
-use Rattle.lab_engine.proofs.Common.{none_some, option_or, append-nil, length-map, length-set, length-reverse, get_or-set_same, get_or-set_other, reverse-append, Row, Table, Command, Op, Outcome, Listed, Committed, Refused, Level, LogEvent, Past, past_of, Txn, Version, is_fatal, active, active_after, commits_after, commits, begun, last_version, version_by, writers, numbers, installers, last_installed, IsLegal, recorded_txn, recorded_txns, number_of, number_after, number_at, AreActive, recorded, IsWithin, gathered_by, installing, installed_over, installs_by, same_Some, eqb_tells, reverse_onto, reverse-reverse, take-append-drop, slice_get-map, version_told, Recorded, GatheredTxn}
+use Rattle.lab_engine.proofs.Common.{none_some, option_or, append-nil, length-map, length-set, length-reverse, get_or-set_same, get_or-set_other, reverse-append, Row, Table, Command, Op, Outcome, Listed, Committed, Refused, Level, LogEvent, Past, past_of, Txn, is_fatal, active, active_after, commits_after, commits, begun, last_version, version_by, writers, numbers, installers, last_installed, IsLegal, recorded_txn, recorded_txns, number_of, number_after, number_at, AreActive, recorded, IsWithin, gathered_by, installing, installed_over, installs_by, same_Some, eqb_tells, reverse_onto, reverse-reverse, take-append-drop, slice_get-map, version_told, Recorded, GatheredTxn}
 use Rattle.lab_engine.proofs.EventBounds.{ops_at_most}
 use Rattle.lab_engine.proofs.Numbers.{numbers_hold}
 use Rattle.lab_engine.proofs.Records.{records_hold}
@@ -133,8 +133,8 @@ module _ (level : Level) (setup : Table) (past : Past) (legal : IsLegal level se
 -- a row that nothing was installed of has no installers
 pub none_installed : (row : Row) (txns : List Txn) → last_installed txns row ≡ None → writers row txns ≡ []
 none_installed row [] none = refl
-none_installed row (t ∷ txns) none = at (version_by t row) (last_installed txns row) (none_installed row txns) none
-  where
-    at : (v rest : Option Version) → (rest ≡ None → writers row txns ≡ []) → option_or v rest ≡ None → cond (is_some v) (t ∷ writers row txns) (writers row txns) ≡ []
-    at None rest later none = later none
-    at (Some v) rest later none = absurd cc
+none_installed row (t ∷ txns) none =
+    elim (version_by t row) as (λ v. option_or v (last_installed txns row) ≡ None → cond (is_some v) (t ∷ writers row txns) (writers row txns) ≡ []) [
+      | None ↦ λ rest. none_installed row txns rest
+      | Some v ↦ λ own. absurd cc
+    ] none

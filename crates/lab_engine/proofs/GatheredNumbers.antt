@@ -2,32 +2,20 @@
 use Rattle.std.proofs.Common.{◌≡◌, ℕ, zero, suc, ◌+◌, ◌-◌, ◌≤◌, ◌<◌, ◌++◌, arith, refl, sym, ap, ◌∙◌, List, [], ◌∷◌, map as each, length, Some, slice_get}
 use Rattle.lab_engine.proofs.Common.{map-append, length-map, Past, begun, numbers_from, recorded_txn, recorded_txns}
 
--- ---- numbers
-
-pub each-same : {A B : Type 0} (f g : A → B) (xs : List A) → ((x : A) → f x ≡ g x) → each f xs ≡ each g xs
-each-same f g [] same = refl
-each-same f g (x ∷ xs) same = ap (λ y. y ∷ each f xs) (same x) ∙ ap (λ ys. g x ∷ ys) (each-same f g xs same)
-
 -- one more number
 pub numbers_more : (first count : ℕ) → numbers_from first (suc count) ≡ numbers_from first count ++ (first + count) ∷ []
 numbers_more first zero = ap (λ n. n ∷ []) (omega arith)
 numbers_more first (suc count) = ap (λ ns. first ∷ ns) (numbers_more (suc first) count ∙ ap (λ n. numbers_from (suc first) count ++ n ∷ []) (omega arith))
 
--- what is made of the numbers so far, and of one more
-each_more : {A : Type 0} (f : ℕ → A) (n : ℕ) (xs ys : List A) → (xs ≡ each f (numbers_from 1 (n - 1))) → 1 ≤ n → ys ≡ xs ++ f n ∷ [] → ys ≡ each f (numbers_from 1 (n + 1 - 1))
-each_more f n xs ys so_far low is =
-    let back : suc (n - 1) ≡ n + 1 - 1 = omega arith in
-    let own : 1 + (n - 1) ≡ n = omega arith in
-    is ∙ ap (λ k. k ++ f n ∷ []) so_far
-    ∙ ap (λ k. each f (numbers_from 1 (n - 1)) ++ f k ∷ []) (sym own)
-    ∙ sym (map-append f (numbers_from 1 (n - 1)) ((1 + (n - 1)) ∷ []))
-    ∙ ap (each f) (sym (numbers_more 1 (n - 1)))
-    ∙ ap (λ k. each f (numbers_from 1 k)) back
-
--- so with what is made of that number
+-- what is made of the numbers so far, and of the next one
 pub each_next : {A : Type 0} (f : ℕ → A) (n own : ℕ) (x : A) (xs ys : List A) → xs ≡ each f (numbers_from 1 (n - 1)) → 1 ≤ n → ys ≡ xs ++ x ∷ [] → x ≡ f own → own ≡ n
     → ys ≡ each f (numbers_from 1 (n + 1 - 1))
-each_next f n own x xs ys so_far low is made same = each_more f n xs ys so_far low (is ∙ ap (λ y. xs ++ y ∷ []) (made ∙ ap f same))
+each_next f n own x xs ys so_far low is made same =
+    let place : own ≡ 1 + (n - 1) = omega (arith, low, same) in
+    let more : suc (n - 1) ≡ n + 1 - 1 = omega arith in
+    is ∙ (λ i. so_far i ++ (made ∙ ap f place) i ∷ [])
+    ∙ sym (map-append f (numbers_from 1 (n - 1)) ((1 + (n - 1)) ∷ []))
+    ∙ ap (each f) (sym (numbers_more 1 (n - 1)) ∙ ap (numbers_from 1) more)
 
 -- the number at a place
 pub at_number : {A : Type 0} (f : ℕ → A) (first count n : ℕ) → n < count → slice_get (each f (numbers_from first count)) n ≡ Some (f (first + n))

@@ -46,27 +46,7 @@ module _ (level : Level) (setup : Table) (past : Past) (event : LogEvent) (old :
   is_within : IsWithin (number_at old.active.items place) (length old.txns.items)
   is_within = subst (λ by. IsWithin by (length old.txns.items)) (sym by_is) (within level setup past legal.0 old.txns.items tells.txns event.session)
 
-  -- what is gathered with the event
-  pub gathers_next : (new : Gathering) → AreActive (event ∷ past) new.active.items
-      → each recorded new.txns.items ≡ txns_after event.command event.outcome (number_at old.active.items place) (each recorded old.txns.items)
-      → ((row : Row) → get new.committed row ≡ installed_over (installing event.outcome (gathered_by old.txns.items (number_at old.active.items place))) row (get old.committed row))
-      → ((row : Row) → numbers_of row new.installs.items ≡ numbers_of row old.installs.items
-      ++ installs_by (installing event.outcome (gathered_by old.txns.items (number_at old.active.items place))) row)
-      → Gathers (event ∷ past) new
-  gathers_next new are txns over more = record {
-    active = are;
-    txns = txns ∙ ap (λ by. txns_after event.command event.outcome by (each recorded old.txns.items)) by_is
-        ∙ ap (txns_after event.command event.outcome (number_of (active past event.session))) tells.txns
-        ∙ sym (txns_go level setup past event legal);
-    committed = λ row. over row ∙ ap (λ by. installed_over (installing event.outcome (gathered_by old.txns.items by)) row (get old.committed row)) by_is
-        ∙ ap (installed_over (installing event.outcome (gathered_by old.txns.items (number_of (active past event.session)))) row) (tells.committed row)
-        ∙ installed_goes level setup past legal.0 old.txns.items tells.txns event.session event.outcome row;
-    installs = λ row. more row ∙ ap (λ by. numbers_of row old.installs.items ++ installs_by (installing event.outcome (gathered_by old.txns.items by)) row) by_is
-        ∙ ap (λ l. l ++ installs_by (installing event.outcome (gathered_by old.txns.items (number_of (active past event.session)))) row) (tells.installs row)
-        ∙ installers_go level setup past legal.0 old.txns.items tells.txns event.session event.outcome row;
-  }
-
-  -- so it is where the versions are installed first, then the transactions go on, then the sessions
+  -- what is gathered with the event, where the versions are installed first, then the transactions go on, then the sessions
   pub gathers_by : (installed added new : Gathering) → installed.active ≡ old.active → installed.txns ≡ old.txns
       → ((row : Row) → get installed.committed row ≡ installed_over (installing event.outcome (gathered_by old.txns.items (number_at old.active.items place))) row (get old.committed row))
       → ((row : Row) → numbers_of row installed.installs.items ≡ numbers_of row old.installs.items
@@ -75,13 +55,18 @@ module _ (level : Level) (setup : Table) (past : Past) (event : LogEvent) (old :
       → added.committed ≡ installed.committed → added.installs ≡ installed.installs
       → (AreActive past added.active.items → AreActive (event ∷ past) new.active.items) → new.txns ≡ added.txns → new.committed ≡ added.committed → new.installs ≡ added.installs
       → Gathers (event ∷ past) new
-  gathers_by installed added new same_active same_txns over more also_active gone also_committed also_installs kept new_txns new_committed new_installs =
-      gathers_next new
-      (kept (subst (λ l. AreActive past l) (sym (λ i. ((also_active ∙ same_active) i).items)) tells.active))
-      ((λ i. each recorded ((new_txns i).items)) ∙ gone
-      ∙ (λ i. txns_after event.command event.outcome (number_at ((same_active i).items) place) (each recorded ((same_txns i).items))))
-      (λ row. (λ i. get ((new_committed ∙ also_committed) i) row) ∙ over row)
-      (λ row. (λ i. numbers_of row (((new_installs ∙ also_installs) i).items)) ∙ more row)
+  gathers_by installed added new same_active same_txns over more also_active gone also_committed also_installs kept new_txns new_committed new_installs = record {
+    active = kept (subst (λ l. AreActive past l) (sym (λ i. ((also_active ∙ same_active) i).items)) tells.active);
+    txns = (λ i. each recorded ((new_txns i).items)) ∙ gone
+        ∙ (λ i. txns_after event.command event.outcome (number_at ((same_active i).items) place) (each recorded ((same_txns i).items)))
+        ∙ (λ i. txns_after event.command event.outcome (by_is i) (tells.txns i)) ∙ sym (txns_go level setup past event legal);
+    committed = λ row. (λ i. get ((new_committed ∙ also_committed) i) row) ∙ over row
+        ∙ (λ i. installed_over (installing event.outcome (gathered_by old.txns.items (by_is i))) row (tells.committed row i))
+        ∙ installed_goes level setup past legal.0 old.txns.items tells.txns event.session event.outcome row;
+    installs = λ row. (λ i. numbers_of row (((new_installs ∙ also_installs) i).items)) ∙ more row
+        ∙ (λ i. tells.installs row i ++ installs_by (installing event.outcome (gathered_by old.txns.items (by_is i))) row)
+        ∙ installers_go level setup past legal.0 old.txns.items tells.txns event.session event.outcome row;
+  }
 
   -- and the transactions are in range still
   pub stay_within : (installed : Gathering) → installed.active ≡ old.active → installed.txns ≡ old.txns → IsWithin (number_at installed.active.items place) (length installed.txns.items)
@@ -91,7 +76,7 @@ module _ (level : Level) (setup : Table) (past : Past) (event : LogEvent) (old :
 
 -- there are fewer events so far than in the whole log
 pub front_few : (log : List LogEvent) (i : ℕ) → i < length log → length log ≤ 100000 → length (past_of (take i log)) < 100000
-front_few log i few most = let counted = length-reverse (take i log) ∙ length-take-le i log (omega (arith, few)) in omega (arith, counted, few, most)
+front_few log i few most = omega (arith, length-reverse (take i log) ∙ length-take-le i log (omega (arith, few)), few, most)
 
 -- so is what is gathered of the events so far with the next one
 pub front_gathered : (log : List LogEvent) (i : ℕ) (event : LogEvent) (gathered : Gathering) → i < length log → event ≡ get_or log i event → Gathers (event ∷ past_of (take i log)) gathered

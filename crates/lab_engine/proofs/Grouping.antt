@@ -1,6 +1,8 @@
 -- Who installs which rows, and rows with who installed them, gathered from installs that are sorted by row.
 use Rattle.std.proofs.Common.{◌≡◌, ℕ, suc, ◌≤◌, ◌<◌, ◌++◌, arith, refl, sym, ap, subst, ◌∙◌, Bool, true, false, cond, ◌&&◌, not, T, List, [], ◌∷◌, map, length, append_assoc, is_eq, is_lt, Ordering, Less, Equal, Greater, Option, Some, is_some, filter}
 use Rattle.std.specs.Cmp.{Equal-is, tied_itself}
+use Rattle.std.specs.Ordering.{ordering_reverse}
+use Rattle.lab_table.proofs.Maps.{tested_same}
 use Rattle.lab_engine.proofs.Common.{get, find, is_sorted, from_sorted, get-from_sorted, below_all, Row, row_cmp, row_eq, rows_total, rows_apart, row_test, same_row, joined, if_any, numbers_of, groups_from, IsSortedByKey, IsStableByKey, rows_tested, turned, true_and_false, ⊤, Option, Some, None, filter, slice_index_or, ranks_by, sorted_far, map-append, entries, entries_sorted, get-entries, find_below, both, Version}
 use Rattle.std.proofs.lemmas.List.Elements.{filter-append}
 use Rattle.lab_engine.specs.Sight.{Listed}
@@ -54,102 +56,92 @@ none_of row y (i ∷ is) less h =
 
 -- ---- groups
 
--- who installed a row where nobody did before the first of a list
-one_first : (i : Row × ℕ) (b : Bool) (rest : Installs) → cond b (Some (map (λ (k : Row × ℕ). k.1) (cond b (i ∷ rest) rest))) (if_any (map (λ (k : Row × ℕ). k.1) (cond b (i ∷ rest) rest))) ≡ if_any
-    (map (λ (k : Row × ℕ). k.1) (cond b (i ∷ rest) rest))
-one_first i true rest = refl
-one_first i false rest = refl
+-- what is shown of groups, one install after the other, the last one first: one more of the same row, or of a row below
+module _ (P : List ℕ → Row × ℕ → Installs → List (Row × List ℕ) → Type 0)
+    (one : (before : List ℕ) (x : Row × ℕ) → P before x [] ((x.0, before ++ x.1 ∷ []) ∷ []))
+    (again : (before : List ℕ) (x y : Row × ℕ) (ys : Installs) (es : List (Row × List ℕ)) → x.0 ≡ y.0 → P (before ++ x.1 ∷ []) y ys es → P before x (y ∷ ys) es)
+    (next : (before : List ℕ) (x y : Row × ℕ) (ys : Installs) (es : List (Row × List ℕ)) → row_cmp x.0 y.0 ≡ Less → NotBelow y.0 ys → P [] y ys es
+    → P before x (y ∷ ys) ((x.0, before ++ x.1 ∷ []) ∷ es)) where
+  by_groups : (before : List ℕ) (x : Row × ℕ) (xs : Installs) → Rising (x ∷ xs) → P before x xs (groups_from before (x ∷ xs))
+  by_groups before x [] up = one before x
+  by_groups before x (y ∷ ys) up =
+      elim (row_test x.0 y.0) as (λ b. row_test x.0 y.0 ≡ b
+      → P before x (y ∷ ys) (cond b (groups_from (before ++ x.1 ∷ []) (y ∷ ys)) ((x.0, before ++ x.1 ∷ []) ∷ groups_from [] (y ∷ ys)))) [
+        | true ↦ λ t. again before x y ys (groups_from (before ++ x.1 ∷ []) (y ∷ ys)) (tested_same x.0 y.0 t) (by_groups (before ++ x.1 ∷ []) y ys up.1)
+        | false ↦ λ f. next before x y ys (groups_from [] (y ∷ ys)) (above x.0 y.0 up.0.0 f) up.1.0 (by_groups [] y ys up.1)
+      ] refl
 
--- who installed a row, of those that are left and those of the first row before them
-group_found : (row : Row) (before : List ℕ) (x : Row × ℕ) (xs : Installs) → Rising (x ∷ xs)
-    → find row_cmp row (groups_from before (x ∷ xs)) ≡ cond (row_eq row x.0) (Some (before ++ numbers_of row (x ∷ xs))) (if_any (numbers_of row (x ∷ xs)))
-group_found row before x [] up = at (row_eq row x.0)
+-- groups rise, and what is below the first row is below them all
+abbrev GroupsRise : List ℕ → Row × ℕ → Installs → List (Row × List ℕ) → Type 0
+GroupsRise before x xs es = ((row : Row) → row_cmp row x.0 ≡ Less → T (below_all row_cmp row es)) × T (is_sorted row_cmp es)
+
+groups_rise : (before : List ℕ) (x : Row × ℕ) (xs : Installs) → Rising (x ∷ xs) → GroupsRise before x xs (groups_from before (x ∷ xs))
+groups_rise = by_groups GroupsRise
+    (λ before x. ((λ row less. joined (is_lt (row_cmp row x.0)) true (lies_below row x.0 less) tt), tt))
+    (λ before x y ys es same rest. ((λ row less. rest.0 row (ap (row_cmp row) (sym same) ∙ less)), rest.1))
+    (λ before x y ys es up high rest. (
+      (λ row less. joined (is_lt (row_cmp row x.0)) (below_all row_cmp row es) (lies_below row x.0 less) (rest.0 row (rows_total.trans row x.0 y.0 less up))),
+      joined (below_all row_cmp x.0 es) (is_sorted row_cmp es) (rest.0 x.0 up) rest.1,
+    ))
   where
-    at : (b : Bool) → cond b (Some (before ++ x.1 ∷ [])) None ≡ cond b (Some (before ++ map (λ (k : Row × ℕ). k.1) (cond b (x ∷ []) []))) (if_any (map (λ (k : Row × ℕ). k.1) (cond b (x ∷ []) [])))
-    at true = refl
-    at false = refl
-group_found row before x (y ∷ ys) up = split (group_found row (before ++ x.1 ∷ []) y ys up.1) (group_found row [] y ys up.1) (row_test x.0 y.0) refl
-  where
-    own : Installs
-    own = filter (λ (k : Row × ℕ). row_eq row k.0) (y ∷ ys)
-
-    whole : Bool → Option (List ℕ)
-    whole b = cond b (Some (before ++ map (λ (k : Row × ℕ). k.1) (cond b (x ∷ own) own))) (if_any (map (λ (k : Row × ℕ). k.1) (cond b (x ∷ own) own)))
-
-    put_together : (b : Bool) → cond b (Some ((before ++ x.1 ∷ []) ++ map (λ (k : Row × ℕ). k.1) own)) (if_any (map (λ (k : Row × ℕ). k.1) own)) ≡ whole b
-    put_together true = ap Some (append_assoc before (x.1 ∷ []) (map (λ (k : Row × ℕ). k.1) own))
-    put_together false = refl
-
-    ends : (find row_cmp row (groups_from [] (y ∷ ys)) ≡ cond (row_eq row y.0) (Some ([] ++ numbers_of row (y ∷ ys))) (if_any (numbers_of row (y ∷ ys)))) → (row_test x.0 y.0) ≡ false → (b : Bool)
-        → row_eq row x.0 ≡ b → cond b (Some (before ++ x.1 ∷ [])) (find row_cmp row (groups_from [] (y ∷ ys))) ≡ whole b
-    ends next f true t =
-        let less : row_cmp row y.0 ≡ Less = ap (λ k. row_cmp k y.0) (same_row row x.0 t) ∙ above x.0 y.0 up.0.0 f in
-        ap (λ l. Some (before ++ x.1 ∷ l)) (sym (none_of row y.0 (y ∷ ys) less (ap is_lt (tied_itself rows_total y.0), up.1.0)))
-    ends next f false t = next ∙ one_first y (row_eq row y.0) (filter (λ (k : Row × ℕ). row_eq row k.0) ys)
-
-    split : (find row_cmp row (groups_from (before ++ x.1 ∷ []) (y ∷ ys)) ≡ cond (row_eq row y.0) (Some ((before ++ x.1 ∷ []) ++ numbers_of row (y ∷ ys))) (if_any (numbers_of row (y ∷ ys))))
-        → (find row_cmp row (groups_from [] (y ∷ ys)) ≡ cond (row_eq row y.0) (Some ([] ++ numbers_of row (y ∷ ys))) (if_any (numbers_of row (y ∷ ys)))) → (b : Bool) → (row_test x.0 y.0) ≡ b
-        → find row_cmp row (cond b (groups_from (before ++ x.1 ∷ []) (y ∷ ys)) ((x.0, before ++ x.1 ∷ []) ∷ groups_from [] (y ∷ ys))) ≡ whole (row_eq row x.0)
-    split again next true t =
-        let same : x.0 ≡ y.0 = same_row x.0 y.0 (sym (rows_tested x.0 y.0) ∙ t) in
-        again
-        ∙ ap (λ k. cond (row_eq row k) (Some ((before ++ x.1 ∷ []) ++ numbers_of row (y ∷ ys))) (if_any (numbers_of row (y ∷ ys)))) (sym same)
-        ∙ put_together (row_eq row x.0)
-    split again next false f = ends next f (row_eq row x.0) refl
-
--- what is below the first row is below that of each group
-group_above : (r : Row) (before : List ℕ) (x : Row × ℕ) (xs : Installs) → Rising (x ∷ xs) → row_cmp r x.0 ≡ Less → T (below_all row_cmp r (groups_from before (x ∷ xs)))
-group_above r before x [] up less = joined (is_lt (row_cmp r x.0)) true (subst (λ o. T (is_lt o)) (sym less) tt) tt
-group_above r before x (y ∷ ys) up less = split (group_above r (before ++ x.1 ∷ []) y ys up.1) (group_above r [] y ys up.1) (row_test x.0 y.0) refl
-  where
-    split : (row_cmp r y.0 ≡ Less → T (below_all row_cmp r (groups_from (before ++ x.1 ∷ []) (y ∷ ys)))) → (row_cmp r y.0 ≡ Less → T (below_all row_cmp r (groups_from [] (y ∷ ys)))) → (b : Bool)
-        → (row_test x.0 y.0) ≡ b → T (below_all row_cmp r (cond b (groups_from (before ++ x.1 ∷ []) (y ∷ ys)) ((x.0, before ++ x.1 ∷ []) ∷ groups_from [] (y ∷ ys))))
-    split again next true t =
-        let same : x.0 ≡ y.0 = same_row x.0 y.0 (sym (rows_tested x.0 y.0) ∙ t) in
-        again (ap (row_cmp r) (sym same) ∙ less)
-    split again next false f =
-        joined (is_lt (row_cmp r x.0)) (below_all row_cmp r (groups_from [] (y ∷ ys))) (subst (λ o. T (is_lt o)) (sym less) tt)
-        (next (rows_total.trans r x.0 y.0 less (above x.0 y.0 up.0.0 f)))
-
-group_sorted : (before : List ℕ) (x : Row × ℕ) (xs : Installs) → Rising (x ∷ xs) → T (is_sorted row_cmp (groups_from before (x ∷ xs)))
-group_sorted before x [] up = tt
-group_sorted before x (y ∷ ys) up = split (group_sorted (before ++ x.1 ∷ []) y ys up.1) (group_sorted [] y ys up.1) (row_test x.0 y.0) refl
-  where
-    split : T (is_sorted row_cmp (groups_from (before ++ x.1 ∷ []) (y ∷ ys))) → T (is_sorted row_cmp (groups_from [] (y ∷ ys))) → (b : Bool) → (row_test x.0 y.0) ≡ b
-        → T (is_sorted row_cmp (cond b (groups_from (before ++ x.1 ∷ []) (y ∷ ys)) ((x.0, before ++ x.1 ∷ []) ∷ groups_from [] (y ∷ ys))))
-    split again next true t = again
-    split again next false f =
-        joined (below_all row_cmp x.0 (groups_from [] (y ∷ ys))) (is_sorted row_cmp (groups_from [] (y ∷ ys)))
-        (group_above x.0 [] y ys up.1 (above x.0 y.0 up.0.0 f)) next
+    lies_below : (a b : Row) → row_cmp a b ≡ Less → T (is_lt (row_cmp a b))
+    lies_below a b less = subst (λ o. T (is_lt o)) (sym less) tt
 
 -- the rows of the groups rise
 pub groups_sorted : (is : Installs) (es : List (Row × List ℕ)) → IsSortedByKey (λ e. e.0) row_cmp is → es ≡ groups_from [] is → T (is_sorted row_cmp es)
 groups_sorted [] es up is = subst (λ l. T (is_sorted row_cmp l)) (sym is) tt
-groups_sorted (x ∷ xs) es up is = subst (λ l. T (is_sorted row_cmp l)) (sym is) (group_sorted [] x xs (rises (x ∷ xs) up))
+groups_sorted (x ∷ xs) es up is = subst (λ l. T (is_sorted row_cmp l)) (sym is) (groups_rise [] x xs (rises (x ∷ xs) up)).1
 
-found : (row : Row) (is : Installs) → Rising is → find row_cmp row (groups_from [] is) ≡ if_any (numbers_of row is)
-found row [] up = refl
-found row (x ∷ xs) up = group_found row [] x xs up ∙ one_first x (row_eq row x.0) (filter (λ (k : Row × ℕ). row_eq row k.0) xs)
+-- ---- who installed a row
 
--- installs of one row keep their order when they are sorted by row
-kept : (row : Row) (old new : Installs) → IsStableByKey (λ e. e.0) row_cmp old new → numbers_of row new ≡ numbers_of row old
-kept row old new stable =
-    ap (map (λ (k : Row × ℕ). k.1)) (same_tests new ∙ stable (row, 0) ∙ sym (same_tests old))
-  where
-    tie : Row × ℕ → Bool
-    tie k = not (is_lt (row_cmp row k.0)) && not (is_lt (row_cmp k.0 row))
+module _ (row : Row) where
+  -- who did of these
+  abbrev by : Installs → List ℕ
+  by is = map (λ (k : Row × ℕ). k.1) is
 
-    at : (k : Row) (r : Ordering) → row_cmp row k ≡ r → is_eq (row_cmp row k) ≡ (not (is_lt (row_cmp row k)) && not (is_lt (row_cmp k row)))
-    at k Less p = ap is_eq p ∙ sym (ap (λ r. not (is_lt r) && not (is_lt (row_cmp k row))) p)
-    at k Equal p =
-        ap is_eq p ∙ sym (ap (λ r. not (is_lt r) && not (is_lt (row_cmp k row))) p ∙ ap (λ r. not (is_lt r)) (ap (λ m. row_cmp m row) (sym (rows_apart row k p)) ∙ tied_itself rows_total row))
-    at k Greater p = ap is_eq p ∙ sym (ap (λ r. not (is_lt r) && not (is_lt (row_cmp k row))) p ∙ ap (λ r. not (is_lt r)) (turned row k p))
+  -- the installs of the row
+  abbrev own : Installs → Installs
+  own is = filter (λ (k : Row × ℕ). row_eq row k.0) is
 
-    same_tests : (is : Installs) → filter (λ (k : Row × ℕ). row_eq row k.0) is ≡ filter tie is
-    same_tests [] = refl
-    same_tests (i ∷ is) =
-        ap (λ b. cond b (i ∷ filter (λ (k : Row × ℕ). row_eq row k.0) is) (filter (λ (k : Row × ℕ). row_eq row k.0) is)) (at i.0 (row_cmp row i.0) refl)
-        ∙ ap (λ l. cond (not (is_lt (row_cmp row i.0)) && not (is_lt (row_cmp i.0 row))) (i ∷ l) l) (same_tests is)
+  -- who did, of the first install, which may be of the row, those before it, which are if it is, and others behind it
+  abbrev whole : List ℕ → Row × ℕ → Installs → Bool → Option (List ℕ)
+  whole before x is b = cond b (Some (before ++ by (cond b (x ∷ is) is))) (if_any (by (cond b (x ∷ is) is)))
+
+  with_first : (before : List ℕ) (x : Row × ℕ) (is : Installs) (b : Bool) → cond b (Some ((before ++ x.1 ∷ []) ++ by is)) (if_any (by is)) ≡ whole before x is b
+  with_first before x is true = ap Some (append_assoc before (x.1 ∷ []) (by is))
+  with_first before x is false = refl
+
+  none_before : (x : Row × ℕ) (is : Installs) (b : Bool) → whole [] x is b ≡ if_any (by (cond b (x ∷ is) is))
+  none_before x is true = refl
+  none_before x is false = refl
+
+  found_from : (before : List ℕ) (x : Row × ℕ) (xs : Installs) → Rising (x ∷ xs) → find row_cmp row (groups_from before (x ∷ xs)) ≡ whole before x (own xs) (row_eq row x.0)
+  found_from = by_groups (λ before x xs es. find row_cmp row es ≡ whole before x (own xs) (row_eq row x.0))
+      (λ before x. elim (row_eq row x.0) as (λ b. cond b (Some (before ++ x.1 ∷ [])) None ≡ whole before x [] b) [ true ↦ refl | false ↦ refl ])
+      (λ before x y ys es same rest. rest
+      ∙ ap (λ k. cond (row_eq row k) (Some ((before ++ x.1 ∷ []) ++ by (own (y ∷ ys)))) (if_any (by (own (y ∷ ys))))) (sym same)
+      ∙ with_first before x (own (y ∷ ys)) (row_eq row x.0))
+      (λ before x y ys es up high rest.
+      elim (row_eq row x.0) as (λ b. row_eq row x.0 ≡ b → cond b (Some (before ++ x.1 ∷ [])) (find row_cmp row es) ≡ whole before x (own (y ∷ ys)) b) [
+        | true ↦ λ t. ap (λ l. Some (before ++ x.1 ∷ l))
+            (sym (none_of row y.0 (y ∷ ys) (ap (λ k. row_cmp k y.0) (same_row row x.0 t) ∙ up) (ap is_lt (tied_itself rows_total y.0), high)))
+        | false ↦ λ f. rest ∙ none_before y (own ys) (row_eq row y.0)
+      ] refl)
+
+  found : (is : Installs) → Rising is → find row_cmp row (groups_from [] is) ≡ if_any (numbers_of row is)
+  found [] up = refl
+  found (x ∷ xs) up = found_from [] x xs up ∙ none_before x (own xs) (row_eq row x.0)
+
+  -- installs of one row keep their order when they are sorted by row
+  kept : (old new : Installs) → IsStableByKey (λ e. e.0) row_cmp old new → numbers_of row new ≡ numbers_of row old
+  kept old new stable = ap by ((λ i. filter (λ k. tied k i) new) ∙ stable (row, 0) ∙ sym (λ i. filter (λ k. tied k i) old))
+    where
+      either : (r : Ordering) → is_eq r ≡ (not (is_lt r) && not (is_lt (ordering_reverse r)))
+      either Less = refl
+      either other = refl
+
+      tied : (k : Row × ℕ) → row_eq row k.0 ≡ (not (is_lt (row_cmp row k.0)) && not (is_lt (row_cmp k.0 row)))
+      tied k = either (row_cmp row k.0) ∙ ap (λ r. not (is_lt (row_cmp row k.0)) && not (is_lt r)) (sym (rows_total.antisymm k.0 row))
 
 -- each row has those who installed it, in their order
 pub groups_found : (row : Row) (old new : Installs) (es : List (Row × List ℕ)) → IsStableByKey (λ e. e.0) row_cmp old new → IsSortedByKey (λ e. e.0) row_cmp new → es ≡ groups_from [] new

@@ -35,21 +35,14 @@ module _ (row : Row) (before : Past) where
   one_more : (outcome : Outcome) (act : Option Txn) (past : Past) → length before ≤ length past → (s : SinceThen row past before)
       → (newer : List Txn) × (writers row (commits_after outcome act (commits past)) ≡ newer ++ writers row (commits before))
       × (first_since (length before) (chain_after outcome act (length past) row (chain past row)) ≡ last_no newer)
-  one_more Committed (Some t) past later s = at (version_by t row) refl where
-    at : (v : Option Version) → version_by t row ≡ v
-        → (newer : List Txn) × (cond (is_some (version_by t row)) (t ∷ writers row (commits past)) (writers row (commits past)) ≡ newer ++ writers row (commits before))
-        × (first_since (length before) (longer t.no (length past) (version_by t row) (chain past row)) ≡ last_no newer)
-    at None is = (
-      s.newer,
-      ap (λ (o : Option Version). cond (is_some o) (t ∷ writers row (commits past)) (writers row (commits past))) is ∙ s.writers_are,
-      ap (λ o. first_since (length before) (longer t.no (length past) o (chain past row))) is ∙ s.first_is,
-    )
-    at (Some v) is = (
+  one_more Committed (Some t) past later s = at (version_by t row) where
+    at : (v : Option Version) → (newer : List Txn) × (cond (is_some v) (t ∷ writers row (commits past)) (writers row (commits past)) ≡ newer ++ writers row (commits before))
+        × (first_since (length before) (longer t.no (length past) v (chain past row)) ≡ last_no newer)
+    at None = (s.newer, s.writers_are, s.first_is)
+    at (Some v) = (
       t ∷ s.newer,
-      ap (λ (o : Option Version). cond (is_some o) (t ∷ writers row (commits past)) (writers row (commits past))) is ∙ ap (λ (l : List Txn). t ∷ l) s.writers_are,
-      ap (λ o. first_since (length before) (longer t.no (length past) o (chain past row))) is
-          ∙ ap (λ b. cond b None (Some (unwrap_or (first_since (length before) (chain past row)) t.no))) (le-ltb (length past) (length before) later)
-          ∙ ap (λ o. Some (unwrap_or o t.no)) s.first_is,
+      ap (λ (l : List Txn). t ∷ l) s.writers_are,
+      ap (λ b. cond b None (Some (unwrap_or (first_since (length before) (chain past row)) t.no))) (le-ltb (length past) (length before) later) ∙ ap (λ o. Some (unwrap_or o t.no)) s.first_is,
     )
   one_more other act past later s = (s.newer, s.writers_are, s.first_is)
 
@@ -60,7 +53,7 @@ module _ (row : Row) (before : Past) where
     first_is = none_since row (length before) before (omega arith);
   }
   since_then (event ∷ since) =
-      let more = one_more event.outcome (active (since ++ before) event.session) (since ++ before) (let both = length-append since before in omega (arith, both)) (since_then since) in
+      let more = one_more event.outcome (active (since ++ before) event.session) (since ++ before) (omega (arith, length-append since before)) (since_then since) in
       record { newer = more.0; writers_are = more.1; first_is = more.2 }
 
 -- so does it of an active transaction's begin
@@ -97,8 +90,7 @@ module _ (row : Row) where
   last_then : (before since : Past) → last_before (length before) (chain (since ++ before) row) ≡ last_installed (commits before) row
   last_then before [] = last_in (length before) before (omega arith)
   last_then before (event ∷ since) =
-      later_after (length before) event.outcome (active (since ++ before) event.session) (length (since ++ before)) (chain (since ++ before) row)
-      (let both = length-append since before in omega (arith, both))
+      later_after (length before) event.outcome (active (since ++ before) event.session) (length (since ++ before)) (chain (since ++ before) row) (omega (arith, length-append since before))
       ∙ last_then before since
 
 -- before the place of an active transaction's begin, a row's chain ends with the version that was installed last at the begin

@@ -1,6 +1,7 @@
 -- Lists that are alike in what they hold.
-use Rattle.std.proofs.Common.{◌≡◌, ℕ, zero, suc, ◌+◌, ◌≤◌, ◌<◌, refl, sym, ap, subst, ◌∙◌, arith, List, [], ◌∷◌, ◌++◌, length, length-append}
-use Rattle.lab_engine.proofs.Common.{AllPairs, Contains, IsStrictlyIncreasing}
+use Rattle.std.proofs.Common.{◌≡◌, ℕ, zero, suc, ◌≤◌, ◌<◌, refl, sym, ap, subst, ◌∙◌, arith, List, [], ◌∷◌, ◌++◌, length, length-append, append_assoc, reverse}
+use Rattle.lab_engine.proofs.Common.{AllPairs, Contains, IsStrictlyIncreasing, reverse-append}
+use Rattle.std.proofs.lemmas.List.{append_cancel_right}
 use Rattle.std.proofs.lemmas.List.Kept.{AllPairs-from_increasing}
 use Rattle.lab_table.proofs.Members.{no_member}
 
@@ -20,7 +21,7 @@ behind x xs k less (suc i, lt, is) = (i, omega (arith, lt), is)
 -- of two lists that hold the same the first of the one isn't below the first of the other
 not_below : (x y : ℕ) (xs ys : List ℕ) → AllPairs (λ a b. a < b) (y ∷ ys) → Contains (y ∷ ys) x → y ≤ x
 not_below x y xs ys rise (zero, lt, is) = omega (arith, is)
-not_below x y xs ys rise (suc i, lt, is) = let l : y < x = first_below y ys x rise (i, omega (arith, lt), is) in omega (arith, l)
+not_below x y xs ys rise (suc i, lt, is) = omega (arith, first_below y ys x rise (i, omega (arith, lt), is))
 
 same_pairs : (xs ys : List ℕ) → AllPairs (λ a b. a < b) xs → AllPairs (λ a b. a < b) ys → ((k : ℕ) → Contains xs k → Contains ys k) → ((k : ℕ) → Contains ys k → Contains xs k) → xs ≡ ys
 same_pairs [] [] h k to from = refl
@@ -29,10 +30,7 @@ same_pairs (x ∷ xs) [] h k to from = absurd (no_member x (to x (0, omega arith
 same_pairs (x ∷ xs) (y ∷ ys) h k to from = ap (λ v. v ∷ xs) same ∙ ap (λ vs. y ∷ vs) (same_pairs xs ys (others_rise x xs h) (others_rise y ys k) those back)
   where
     same : x ≡ y
-    same =
-        let le : y ≤ x = not_below x y xs ys k (to x (0, omega arith, refl)) in
-        let ge : x ≤ y = not_below y x ys xs h (from y (0, omega arith, refl)) in
-        omega (arith, le, ge)
+    same = omega (arith, not_below x y xs ys k (to x (0, omega arith, refl)), not_below y x ys xs h (from y (0, omega arith, refl)))
 
     those : (n : ℕ) → Contains xs n → Contains ys n
     those n c = behind y ys n (subst (λ v. v < n) same (first_below x xs n h c)) (to n (suc c.0, omega (arith, c.1), c.2))
@@ -46,20 +44,11 @@ same_rising xs ys h k to from = same_pairs xs ys (AllPairs-from_increasing xs h)
 
 -- what stands right before the same end of one list is one
 pub before_end : {A : Type 0} (xs ys : List A) (x y : A) (end : List A) → xs ++ x ∷ end ≡ ys ++ y ∷ end → x ≡ y
-before_end [] [] x y end same = cc
-before_end [] (b ∷ ys) x y end same =
-    let size : length (x ∷ end) ≡ length ((b ∷ ys) ++ y ∷ end) = ap length same in
-    let more : length (ys ++ y ∷ end) ≡ length ys + length (y ∷ end) = length-append ys (y ∷ end) in
-    absurd (omega (arith, size, more))
-before_end (a ∷ xs) [] x y end same =
-    let size : length ((a ∷ xs) ++ x ∷ end) ≡ length (y ∷ end) = ap length same in
-    let more : length (xs ++ x ∷ end) ≡ length xs + length (x ∷ end) = length-append xs (x ∷ end) in
-    absurd (omega (arith, size, more))
-before_end (a ∷ xs) (b ∷ ys) x y end same = before_end xs ys x y end cc
+before_end xs ys x y end same =
+    let fronts : xs ++ x ∷ [] ≡ ys ++ y ∷ [] = append_cancel_right (xs ++ x ∷ []) (ys ++ y ∷ []) end (append_assoc xs (x ∷ []) end ∙ same ∙ sym (append_assoc ys (y ∷ []) end)) in
+    let turned : x ∷ reverse xs ≡ y ∷ reverse ys = sym (reverse-append xs (x ∷ [])) ∙ ap reverse fronts ∙ reverse-append ys (y ∷ []) in
+    cc
 
 -- nothing stands before the whole of a list
 pub none_before : {A : Type 0} (xs : List A) (x : A) (end : List A) → end ≡ xs ++ x ∷ end → ⊥
-none_before xs x end same =
-    let size : length end ≡ length (xs ++ x ∷ end) = ap length same in
-    let more : length (xs ++ x ∷ end) ≡ length xs + length (x ∷ end) = length-append xs (x ∷ end) in
-    omega (arith, size, more)
+none_before xs x end same = omega (arith, ap length same, length-append xs (x ∷ end))

@@ -29,35 +29,26 @@ module _ (name : VersionName) (session : ℕ) (row : Row) (n : ℕ) where
   -- writes of other rows leave it
   held_none : (es : List (Row × Written)) (v : Option Version) → find row_cmp row (new_states es) ≡ None → held name session row n es v ≡ v
   held_none [] v h = refl
-  held_none (e ∷ es) v h = at (held_none es v) (row_eq row e.0) refl h where
-    at : (find row_cmp row (new_states es) ≡ None → held name session row n es v ≡ v) → (b : Bool) → row_eq row e.0 ≡ b
-        → cond b (Some (state_value e.1)) (find row_cmp row (new_states es)) ≡ None → held name session row n (e ∷ es) v ≡ v
-    at rest true is h = absurd (cc)
-    at rest false is h = ap (λ b. held name session row n es (cond (b && n == session) (Some (record { name = name; state = state_value e.1 })) v)) is ∙ rest h
+  held_none (e ∷ es) v h =
+      elim (row_eq row e.0) as (λ b. cond b (Some (state_value e.1)) (find row_cmp row (new_states es)) ≡ None
+      → held name session row n es (cond (b && n == session) (Some (record { name = name; state = state_value e.1 })) v) ≡ v) [
+        | true ↦ λ none. absurd cc
+        | false ↦ λ none. held_none es v none
+      ] h
 
   -- the row's own write is pending
   held_all : (es : List (Row × Written)) (v : Option Version) → T (is_sorted row_cmp (new_states es))
       → held name session row n es v ≡ cond (n == session) (option_or (written_version name (find row_cmp row (new_states es))) v) v
-  held_all [] v h = same (n == session) where
-    same : (b : Bool) → v ≡ cond b v v
-    same true = refl
-    same false = refl
-  held_all (e ∷ es) v h = at (held_all es v) (row_eq row e.0) refl where
-    parts : T (below_all row_cmp e.0 (new_states es)) × T (is_sorted row_cmp (new_states es))
-    parts = both (below_all row_cmp e.0 (new_states es)) (is_sorted row_cmp (new_states es)) h
-
-    at : (T (is_sorted row_cmp (new_states es)) → held name session row n es v ≡ cond (n == session) (option_or (written_version name (find row_cmp row (new_states es))) v) v)
-        → (b : Bool) → row_eq row e.0 ≡ b → held name session row n (e ∷ es) v
-        ≡ cond (n == session) (option_or (written_version name (cond (row_eq row e.0) (Some (state_value e.1)) (find row_cmp row (new_states es)))) v) v
-    at rest true is =
-        ap (λ b. held name session row n es (cond (b && n == session) (Some (record { name = name; state = state_value e.1 })) v)) is
-        ∙ held_none es (cond (n == session) (Some (record { name = name; state = state_value e.1 })) v)
-        (find_below row (new_states es) (subst (λ x. T (below_all row_cmp x (new_states es))) (sym (same_row row e.0 is)) parts.0))
-        ∙ sym (ap (λ b. cond (n == session) (option_or (written_version name (cond b (Some (state_value e.1)) (find row_cmp row (new_states es)))) v) v) is)
-    at rest false is =
-        ap (λ b. held name session row n es (cond (b && n == session) (Some (record { name = name; state = state_value e.1 })) v)) is
-        ∙ rest parts.1
-        ∙ sym (ap (λ b. cond (n == session) (option_or (written_version name (cond b (Some (state_value e.1)) (find row_cmp row (new_states es)))) v) v) is)
+  held_all [] v h = elim (n == session) as (λ b. v ≡ cond b v v) [ true ↦ refl | false ↦ refl ]
+  held_all (e ∷ es) v h =
+      let parts = both (below_all row_cmp e.0 (new_states es)) (is_sorted row_cmp (new_states es)) h in
+      let now : Version = record { name = name; state = state_value e.1 } in
+      elim (row_eq row e.0) as (λ b. row_eq row e.0 ≡ b → held name session row n es (cond (b && n == session) (Some now) v)
+      ≡ cond (n == session) (option_or (written_version name (cond b (Some (state_value e.1)) (find row_cmp row (new_states es)))) v) v) [
+        | true ↦ λ is. held_none es (cond (n == session) (Some now) v)
+            (find_below row (new_states es) (subst (λ x. T (below_all row_cmp x (new_states es))) (sym (same_row row e.0 is)) parts.0))
+        | false ↦ λ is. held_all es v parts.1
+      ] refl
 
   -- the same by the writes as a map
   pub held_map : (all : Writes) (es : List (Row × Written)) (v : Option Version) → new_states es ≡ entries all

@@ -1,13 +1,9 @@
 -- Bits of a set of sessions.
-use Rattle.std.proofs.Common.{◌≡◌, ℕ, ◌-◌, ◌*◌, ◌/◌, ◌%◌, ◌^◌, ◌<◌, ◌≤◌, ◌==◌, ◌||◌, ◌&&◌, min, max, true, false, refl, ap, sym, subst, ◌∙◌, inl, inr, arith, IsTrue, bit_or, bit_and, Option, Some, None, IsSome, IfSome, ◌↔◌}
+use Rattle.std.proofs.Common.{◌≡◌, ℕ, ◌-◌, ◌*◌, ◌/◌, ◌%◌, ◌^◌, ◌<◌, ◌≤◌, ◌==◌, ◌||◌, ◌&&◌, ◌⊎◌, ◌+◌, min, true, false, refl, ap, sym, subst, ◌∙◌, inl, inr, arith, IsTrue, bit_or, bit_and, Option, Some, None, IsSome, IfSome, ◌↔◌}
 use Rattle.std.specs.Int.{bit_at, trailing_zeros, w16}
 use Rattle.lab_engine.proofs.Common.{cases_eq, eq-eqb, ne_eqb, eqb-true, both_ways, or_cases, and_parts, cases_lt, has, AreSessions}
 use Rattle.std.proofs.lemmas.Nat.Bits.{bit_at_and, bit_at_or, bit_at-lt, bit_at-zero, bit_at_set_same, bit_at_set_other, shr_and_one, bit_at-trailing_zeros, bit_at_ones, same_from_bits}
 use Rattle.std.specs.Int.Bits.{mask_lt}
-
--- a bit that both words have
-both : (a b : ℕ) → a < 2 → b < 2 → (min a b == 1) ≡ ((a == 1) && (b == 1))
-both a b small few = grind (arith, small, few)
 
 -- the set of nobody
 pub has_nobody : (n : ℕ) → has 0 n ≡ false
@@ -17,16 +13,12 @@ has_nobody n = ap (λ b. b == 1) (bit_at-zero n)
 -- what two sets have in common
 pub has_common : (a b n : ℕ) → has (bit_and a b) n ≡ (has a n && has b n)
 unfolding has
-has_common a b n = ap (λ x. x == 1) (bit_at_and a b n) ∙ both (bit_at a n) (bit_at b n) (bit_at-lt a n) (bit_at-lt b n)
-
--- a bit that either word has
-either : (a b : ℕ) → a < 2 → b < 2 → (max a b == 1) ≡ ((a == 1) || (b == 1))
-either a b small few = grind (arith, small, few)
+has_common a b n = ap (λ x. x == 1) (bit_at_and a b n) ∙ grind (arith, bit_at-lt a n, bit_at-lt b n)
 
 -- what is in one of two sets
 pub has_either : (a b n : ℕ) → has (bit_or a b) n ≡ (has a n || has b n)
 unfolding has
-has_either a b n = ap (λ x. x == 1) (bit_at_or a b n) ∙ either (bit_at a n) (bit_at b n) (bit_at-lt a n) (bit_at-lt b n)
+has_either a b n = ap (λ x. x == 1) (bit_at_or a b n) ∙ grind (arith, bit_at-lt a n, bit_at-lt b n)
 
 -- what is tested
 pub has_tested : (set n : ℕ) → (bit_and (set / 2 ^ n) 1 == 1) ≡ has set n

@@ -1,6 +1,6 @@
 -- What is kept of a session and of the rows goes on by an event of the session.
-use Rattle.std.proofs.Common.{◌≡◌, ◌∙◌, ℕ, ◌+◌, ◌==◌, ◌||◌, ◌&&◌, cond, Bool, true, false, [], ◌∷◌, ◌++◌, map as each, length, Option, Some, None, refl, sym, ap, subst, inl, inr, option_map, is_some, is_none}
-use Rattle.lab_engine.proofs.Common.{none_of, both_ways, cases_eq, eq-eqb, ne_eqb, true≢false, reverse-append, same_Some, Row, State, Rows, Writes, Statement, Command, Run, View, Op, Busy, LogEvent, Outcome, Committed, Refused, RunningTxn, Past, Txn, Version, version_or, version_by, active, active_after, ops_after, waiting, waiting_after, chain, chain_after, longer, chain_in, pending_in, DescribesRows, Agree, IsRunning, has_written, grown, written_by, asked, statements_of, RowStates}
+use Rattle.std.proofs.Common.{◌≡◌, ◌∙◌, ℕ, ◌+◌, ◌==◌, ◌||◌, ◌&&◌, cond, true, false, [], ◌∷◌, ◌++◌, map as each, length, Option, Some, None, refl, sym, ap, subst, inl, inr, option_map, is_some, is_none}
+use Rattle.lab_engine.proofs.Common.{none_of, both_ways, cases_eq, eq-eqb, ne_eqb, true≢false, reverse-append, same_Some, Row, State, Rows, Writes, Statement, Command, Run, View, Op, Busy, LogEvent, Outcome, Committed, Refused, RunningTxn, Past, Txn, Version, version_or, version_by, active, active_after, ops_after, waiting, waiting_after, chain_after, longer, chain_in, pending_in, DescribesRows, Agree, IsRunning, has_written, grown, written_by, asked, statements_of, RowStates}
 use Rattle.std.specs.FinMap as map
 use Rattle.lab_engine.specs.EventQuery.{busy}
 
@@ -34,8 +34,7 @@ module _ (txn : Txn) (op : Op) (old new : RunningTxn) (running : IsRunning txn o
     before = before ∙ running.before;
     statements = statements ∙ ap (λ l. l ++ op.statement ∷ []) running.statements ∙ sym (reverse-append (op.statement ∷ []) (each (λ op. op.statement) txn.ops));
     written = λ row.
-        written row ∙ ap (λ b. b || (is_some (map.get op.writes row) && is_none (pending row))) (running.written row)
-        ∙ ap (λ (o : Option Version). is_some (version_by txn row) || (is_some (map.get op.writes row) && is_none o)) (is row)
+        written row ∙ (λ i. running.written row i || (is_some (map.get op.writes row) && is_none (is row i)))
         ∙ written_then txn.no (length txn.ops + 1) (map.get op.writes row) (version_by txn row);
   }
 
@@ -70,9 +69,7 @@ module _ (past : Past) (event : LogEvent) (session : ℕ) (own : event.session �
       → DescribesRows (event ∷ past) new
   rows_then old new before place is chains pending = record {
     chains = λ row.
-        chains row ∙ ap (λ n. chain_after event.outcome (active past session) n row (chain_in old row)) place
-        ∙ ap (chain_after event.outcome (active past session) (length past) row) (is.chains row)
-        ∙ ap (λ n. chain_after event.outcome (active past n) (length past) row (chain past row)) (sym own);
+        chains row ∙ (λ i. chain_after event.outcome (active past ((sym own) i)) (place i) row (is.chains row i));
     pending = λ row n. pending row n ∙ elim (cases_eq n session) [
       | inl same ↦
           ap (λ b. cond b (written_by (active_after event.command event.outcome past (active past session)) row) (pending_in old row n)) (eq-eqb n session same)
@@ -93,47 +90,37 @@ module _ (rows : RowStates) (session : ℕ) where
   abbrev pub IsPending : Option Txn → Type 0
   IsPending txn = (row : Row) → pending_in rows row session ≡ written_by txn row
 
+  -- where it has nothing pending, nothing is to be settled
+  nothing_there : (row : Row) (n : ℕ) → pending_in rows row session ≡ None → pending_in rows row n ≡ cond (n == session) None (pending_in rows row n)
+  nothing_there row n none = elim (cases_eq n session) [
+    | inl same ↦ ap (pending_in rows row) same ∙ none ∙ sym (ap (λ b. cond b None (pending_in rows row n)) (eq-eqb n session same))
+    | inr apart ↦ sym (ap (λ b. cond b None (pending_in rows row n)) (ne_eqb n session apart))
+  ]
+
   -- what is settled of the rows that it wrote is settled of all
   pub all_settled : (txn : Option Txn) (running : RunningTxn) → Agree txn (Some running) → IsPending txn → (row : Row) (n : ℕ)
       → cond (has_written running row && n == session) None (pending_in rows row n) ≡ cond (n == session) None (pending_in rows row n)
   all_settled None running agree was row n = absurd agree
-  all_settled (Some t) running agree was row n = elim (cases_eq n session) [
-    | inl same ↦ at (has_written running row) refl same
-    | inr apart ↦ off (has_written running row) (n == session) (ne_eqb n session apart)
-  ]
-    where
-      off : (b own : Bool) → own ≡ false → cond (b && own) None (pending_in rows row n) ≡ cond own None (pending_in rows row n)
-      off true own is = refl
-      off false own is = sym (ap (λ b. cond b None (pending_in rows row n)) is)
+  all_settled (Some t) running agree was row n =
+      elim (has_written running row) as (λ b. has_written running row ≡ b → cond (b && n == session) None (pending_in rows row n) ≡ cond (n == session) None (pending_in rows row n)) [
+        | true ↦ λ is. refl
+        | false ↦ λ is. nothing_there row n (was row ∙ none_of (version_by t row) (both_ways _ (sym (agree.written row) ∙ is)))
+      ] refl
 
-      at : (b : Bool) → has_written running row ≡ b → n ≡ session → cond (has_written running row && n == session) None (pending_in rows row n) ≡ cond (n == session) None (pending_in rows row n)
-      at true is same = ap (λ b. cond (b && n == session) None (pending_in rows row n)) is
-      at false is same =
-          ap (λ b. cond (b && n == session) None (pending_in rows row n)) is ∙ ap (pending_in rows row) same ∙ was row
-          ∙ none_of (version_by t row) (both_ways _ (sym (agree.written row) ∙ is)) ∙ sym (ap (λ b. cond b None (pending_in rows row n)) (eq-eqb n session same))
-
-  -- where it has none, nothing is to be settled
   pub none_settled : (txn : Option Txn) → Agree txn None → IsPending txn → (row : Row) (n : ℕ) → pending_in rows row n ≡ cond (n == session) None (pending_in rows row n)
-  none_settled None agree was row n = elim (cases_eq n session) [
-    | inl same ↦ ap (pending_in rows row) same ∙ was row ∙ sym (ap (λ b. cond b None (pending_in rows row n)) (eq-eqb n session same))
-    | inr apart ↦ sym (ap (λ b. cond b None (pending_in rows row n)) (ne_eqb n session apart))
-  ]
+  none_settled None agree was row n = nothing_there row n (was row)
   none_settled (Some t) agree was row n = absurd agree
 
   -- a commit puts what it wrote onto the chains
   pub installs_all : (txn : Option Txn) (running : RunningTxn) (place : ℕ) → Agree txn (Some running) → IsPending txn → (row : Row)
       → cond (has_written running row) (longer running.number place (pending_in rows row session) (chain_in rows row)) (chain_in rows row) ≡ chain_after Committed txn place row (chain_in rows row)
   installs_all None running place agree was row = absurd agree
-  installs_all (Some t) running place agree was row = at (version_by t row) refl
+  installs_all (Some t) running place agree was row =
+      (λ i. cond (agree.written row i) (longer (agree.number i) place (was row i) (chain_in rows row)) (chain_in rows row)) ∙ at (version_by t row)
     where
-      at : (o : Option Version) → version_by t row ≡ o
-          → cond (has_written running row) (longer running.number place (pending_in rows row session) (chain_in rows row)) (chain_in rows row) ≡ longer t.no place (version_by t row) (chain_in rows row)
-      at None is =
-          ap (λ b. cond b (longer running.number place (pending_in rows row session) (chain_in rows row)) (chain_in rows row)) (agree.written row ∙ ap is_some is)
-          ∙ sym (ap (λ o. longer t.no place o (chain_in rows row)) is)
-      at (Some v) is =
-          ap (λ b. cond b (longer running.number place (pending_in rows row session) (chain_in rows row)) (chain_in rows row)) (agree.written row ∙ ap is_some is)
-          ∙ ap (λ o. longer running.number place o (chain_in rows row)) (was row) ∙ ap (λ n. longer n place (version_by t row) (chain_in rows row)) agree.number
+      at : (o : Option Version) → cond (is_some o) (longer t.no place o (chain_in rows row)) (chain_in rows row) ≡ longer t.no place o (chain_in rows row)
+      at None = refl
+      at (Some v) = refl
 
   pub installs_none : (txn : Option Txn) (place : ℕ) → Agree txn None → (row : Row) → chain_in rows row ≡ chain_after Committed txn place row (chain_in rows row)
   installs_none None place agree row = refl

@@ -1,6 +1,7 @@
 -- What is kept of the sessions, as a list.
 use Rattle.std.proofs.Common.{◌≡◌, ◌≢◌, ℕ, zero, suc, ◌+◌, ◌-◌, ◌≤◌, ◌<◌, false, cond, List, [], ◌∷◌, map, length, set, get_or, refl, sym, ap, subst, ◌∙◌, arith, ◌==◌, eq-eqb, ne_eqb}
-use Rattle.lab_engine.proofs.Common.{length-map, get_or-set_same, LogEvent, SessionState, Past, active, active_after, waiting, waiting_after, DescribesSession, DescribesAll, Agree, HasRoom, all_sessions, running_of, ⊤}
+use Rattle.lab_engine.proofs.Common.{length-map, length-set, get_or-set_same, LogEvent, SessionState, Past, active, active_after, waiting, waiting_after, DescribesSession, DescribesAll, Agree, HasRoom, all_sessions, running_of, ⊤}
+use Rattle.std.proofs.Math.Seq.{map-set_same}
 use Rattle.lab_engine.proofs.EventBounds.{has_room}
 
 -- after an event of another session what is kept of a session still agrees
@@ -47,14 +48,7 @@ describes_one past (suc k) (state ∷ states) d few all = describes_one past k s
 session_one : (n k : ℕ) (states : List SessionState) (d : SessionState) → Rise n states → k < length states → (get_or states k d).session ≡ n + k
 session_one n k [] d rise few = absurd (omega arith)
 session_one n zero (state ∷ states) d rise few = omega (arith, rise.0)
-session_one n (suc k) (state ∷ states) d rise few = let rest = session_one (suc n) k states d rise.1 (omega arith) in omega (arith, rest)
-
--- the sessions of a list with one state replaced
-sessions_one : (k : ℕ) (states : List SessionState) (new d : SessionState) → k < length states → new.session ≡ (get_or states k d).session
-    → map (λ state. state.session) (set states k new) ≡ map (λ state. state.session) states
-sessions_one k [] new d few same = refl
-sessions_one zero (state ∷ states) new d few same = ap (λ n. n ∷ map (λ state. state.session) states) same
-sessions_one (suc k) (state ∷ states) new d few same = ap (λ l. state.session ∷ l) (sessions_one k states new d (omega arith) same)
+session_one n (suc k) (state ∷ states) d rise few = omega (arith, session_one (suc n) k states d rise.1 (omega arith))
 
 -- the transaction that is kept of the session at a place
 running_one : (n k session : ℕ) (states : List SessionState) (d : SessionState) → Rise n states → session ≡ n + k → k < length states
@@ -76,7 +70,7 @@ same_one past (suc k) (state ∷ states) new d few same all = (all.0, same_one p
 module _ (states : List SessionState) (n k : ℕ) (state : SessionState) (sessions : map (λ state. state.session) states ≡ all_sessions) (low : 1 ≤ n) (high : n ≤ 9) (place : k ≡ n - 1)
     (is : state ≡ get_or states k state) where
   there : k < length states
-  there = let same = sym (length-map states (λ state. state.session)) ∙ ap length sessions in omega (arith, same, place, low, high)
+  there = omega (arith, length-map states (λ state. state.session), ap length sessions, place, low, high)
 
   -- what is kept of it has room for one more statement
   pub room_at : (past : Past) → DescribesAll past states → length past < 100000 → HasRoom state.running
@@ -84,7 +78,7 @@ module _ (states : List SessionState) (n k : ℕ) (state : SessionState) (sessio
 
   -- the sessions stay
   pub sessions_stay : (new : SessionState) → new.session ≡ state.session → map (λ state. state.session) (set states k new) ≡ all_sessions
-  sessions_stay new same = sessions_one k states new state there (same ∙ ap (λ s. s.session) is) ∙ sessions
+  sessions_stay new same = map-set_same (λ state. state.session) states k new state (same ∙ ap (λ s. s.session) is) ∙ sessions
 
   -- it is described where all are
   pub described_there : (past : Past) → DescribesAll past states → DescribesSession past state
@@ -114,8 +108,5 @@ module _ (states : List SessionState) (n k : ℕ) (state : SessionState) (sessio
   -- and has its transaction
   pub running_put : (new : SessionState) → new.session ≡ state.session → running_of (set states k new) n ≡ new.running
   running_put new same =
-      running_one 1 k n (set states k new) new (all_rise (set states k new) (sessions_stay new same)) (omega (arith, place, low)) (let len = length-set_here in omega (arith, len, there))
+      running_one 1 k n (set states k new) new (all_rise (set states k new) (sessions_stay new same)) (omega (arith, place, low)) (omega (arith, length-set states k new, there))
       ∙ ap (λ s. s.running) (get_or-set_same states k new new there)
-    where
-      length-set_here : length (set states k new) ≡ length states
-      length-set_here = sym (length-map (set states k new) (λ state. state.session)) ∙ ap length (sessions_stay new same ∙ sym sessions) ∙ length-map states (λ state. state.session)

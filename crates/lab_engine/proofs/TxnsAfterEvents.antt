@@ -1,10 +1,11 @@
 -- The transactions of a log after one more event.
-use Rattle.std.proofs.Common.{◌≡◌, ◌≢◌, ℕ, zero, suc, ◌+◌, ◌-◌, ◌≤◌, ◌<◌, ◌++◌, arith, refl, sym, ap, subst, ◌∙◌, false, cond, ◌||◌, List, [], ◌∷◌, map as each, length, get_or, set, ◌==◌, Option, Some, ne_eqb, eq-eqb}
-use Rattle.lab_engine.proofs.Common.{list_any, append-nil, map-append, Table, Command, Op, Outcome, Begun, Listed, Committed, Level, LogEvent, Past, Txn, active, commits_after, commits, begun, begun_after, Permitted, IsLegal, AllNumbered, has_number, op_of, ops_of, numbers_from, recorded_txn, recorded_txns, number_of, recorded, with_ops, committed, txns_after, IsWithin, end_of, new_txn, changed, changed_by, Recorded, GatheredTxn}
+use Rattle.std.proofs.Common.{◌≡◌, ◌≢◌, ℕ, zero, suc, ◌+◌, ◌-◌, ◌≤◌, ◌<◌, ◌++◌, arith, refl, sym, ap, subst, ◌∙◌, Bool, true, false, cond, ◌||◌, List, [], ◌∷◌, map as each, length, get_or, set, ◌==◌, Option, Some, ne_eqb, eq-eqb}
+use Rattle.lab_engine.proofs.Common.{list_any, map-append, Table, Rows, Writes, View, Command, Op, Outcome, Begun, Listed, Committed, Level, LogEvent, Past, Txn, active, commits_after, commits, begun, Permitted, IsLegal, AllNumbered, has_number, op_of, ops_of, numbers_from, recorded_txn, recorded_txns, number_of, recorded, with_ops, committed, txns_after, IsWithin, end_of, new_txn, changed, changed_by, Recorded, GatheredTxn}
 use Rattle.lab_history.specs.declared.transaction.Outcome.TheVariants.{Committed as EndCommitted, Aborted as EndAborted}
 use Rattle.lab_engine.proofs.Numbers.{numbers_hold}
 use Rattle.lab_engine.proofs.Records.{records_hold, nothing_added}
-use Rattle.lab_engine.proofs.GatheredNumbers.{each-same, numbers_more}
+use Rattle.lab_engine.specs.Recording.{has_committed}
+use Rattle.lab_engine.proofs.GatheredNumbers.{numbers_more}
 
 -- ---- transactions
 
@@ -44,92 +45,80 @@ changed_at f g h first (suc count) (suc i) others own =
     ap (λ r. r ∷ each g (numbers_from (suc first) count)) (others first (λ same. absurd (omega (arith, same))))
     ∙ ap (λ l. f first ∷ l) (changed_at f g h (suc first) count i (λ n apart. others n (λ same. apart (same ∙ there))) (subst (λ k. g k ≡ h (f k)) there own))
 
--- a transaction that an event does nothing to
-same_txn : (past : Past) (event : LogEvent) (n : ℕ) → op_of event.command event.outcome ≡ [] → commits_after event.outcome (active past event.session) (commits past) ≡ commits past
-    → recorded_txn (event ∷ past) n ≡ recorded_txn past n
-same_txn past event n none same =
-    ap (λ (txns : List Txn). record { no = n; outcome = cond (list_any (λ (t : Txn). t.no == n) txns) EndCommitted EndAborted; ops = ops_of (event ∷ past) n }) same
-    ∙ ap (λ (ops : List Op). record { no = n; outcome = end_of past n; ops = ops })
-    (ap (λ (ops : List Op). ops_of past n ++ cond (has_number n (active past event.session)) ops []) none ∙ nothing_added (ops_of past n) (has_number n (active past event.session)))
+-- a transaction to whose operations nothing is added
+same_txn : (past : Past) (n : ℕ) (b : Bool) → record { no = n; outcome = end_of past n; ops = ops_of past n ++ cond b [] [] } ≡ recorded_txn past n
+same_txn past n b = λ i. record { no = n; outcome = end_of past n; ops = nothing_added (ops_of past n) b i }
 
 not_among : (m n : ℕ) (txns : List Txn) → AllNumbered m txns → m < n → list_any (λ (t : Txn). t.no == n) txns ≡ false
 not_among m n [] all high = refl
 not_among m n (t ∷ txns) all high =
     ap (λ b. b || list_any (λ (t : Txn). t.no == n) txns) (ne_eqb t.no n (λ same. absurd (omega (arith, same, all.0.1, high)))) ∙ not_among m n txns all.1 high
 
-module _ (level : Level) (setup : Table) (past : Past) (legal : IsLegal level setup past) where
+module _ (level : Level) (setup : Table) (past : Past) (legal : IsLegal level setup past) (session : ℕ) (command : Command) where
   -- a number that nobody had yet
   fresh : (n : ℕ) → begun past < n → recorded_txn past n ≡ new_txn n
-  fresh n high =
-      ap (λ b. record { no = n; outcome = cond b EndCommitted EndAborted; ops = ops_of past n }) (not_among (begun past) n (commits past) (numbers_hold level setup past legal).done_numbered high)
-      ∙ ap (λ (ops : List Op). record { no = n; outcome = EndAborted; ops = ops }) ((records_hold level setup past legal).none_above n high)
+  fresh n high = λ i. record {
+    no = n;
+    outcome = cond (not_among (begun past) n (commits past) (numbers_hold level setup past legal).done_numbered high i) EndCommitted EndAborted;
+    ops = (records_hold level setup past legal).none_above n high i;
+  }
 
-  begins : (event : LogEvent) (n : ℕ) → event.outcome ≡ Begun n → n ≡ begun past + 1 → recorded_txns (event ∷ past) ≡ recorded_txns past ++ new_txn n ∷ []
-  begins event n is next =
-      let f : ℕ → Recorded = recorded_txn past in
-      let more : begun (event ∷ past) ≡ suc (begun past) = ap (λ o. begun_by o) is ∙ omega arith in
+  -- the log with an event
+  abbrev after : Outcome → Past
+  after outcome = record { session = session; command = command; outcome = outcome } ∷ past
+
+  begins : (n : ℕ) → n ≡ begun past + 1 → recorded_txns (after (Begun n)) ≡ recorded_txns past ++ new_txn n ∷ []
+  begins n next =
+      let more : begun past + 1 ≡ suc (begun past) = omega arith in
       let own : 1 + begun past ≡ n = omega (arith, next) in
-      ap (λ k. each (recorded_txn (event ∷ past)) (numbers_from 1 k)) more
-      ∙ each-same (recorded_txn (event ∷ past)) f (numbers_from 1 (suc (begun past))) (λ k. same_txn past event k (ap (op_of event.command) is)
-      (ap (λ o. commits_after o (active past event.session) (commits past)) is))
-      ∙ ap (each f) (numbers_more 1 (begun past)) ∙ map-append f (numbers_from 1 (begun past)) ((1 + begun past) ∷ [])
-      ∙ ap (λ r. recorded_txns past ++ r ∷ []) (ap f own ∙ fresh n (omega (arith, next)))
-    where
-      begun_by : Outcome → ℕ
-      begun_by o = begun_after o (begun past)
+      (λ i. each (λ k. same_txn past k (has_number k (active past session)) i) (numbers_from 1 (more i)))
+      ∙ ap (each (recorded_txn past)) (numbers_more 1 (begun past)) ∙ map-append (recorded_txn past) (numbers_from 1 (begun past)) ((1 + begun past) ∷ [])
+      ∙ ap (λ r. recorded_txns past ++ r ∷ []) (ap (recorded_txn past) own ∙ fresh n (omega (arith, next)))
 
-  -- the active transaction of the event's session goes on by it
-  goes : (event : LogEvent) (t : Txn) (h : Recorded → Recorded) → begun (event ∷ past) ≡ begun past → active past event.session ≡ Some t
-      → ((n : ℕ) → n ≢ t.no → recorded_txn (event ∷ past) n ≡ recorded_txn past n) → recorded_txn (event ∷ past) t.no ≡ h (recorded_txn past t.no)
-      → recorded_txns (event ∷ past) ≡ changed_by (number_of (active past event.session)) h (recorded_txns past)
-  goes event t h same is others own =
-      let place : 1 + (t.no - 1) ≡ t.no = let low : 1 ≤ t.no = ((numbers_hold level setup past legal).numbered event.session t is).0 in omega (arith, low) in
-      ap (λ k. each (recorded_txn (event ∷ past)) (numbers_from 1 k)) same
-      ∙ changed_at (recorded_txn past) (recorded_txn (event ∷ past)) h 1 (begun past) (t.no - 1) (λ n apart. others n (λ e. apart (e ∙ sym place)))
-      (subst (λ k. recorded_txn (event ∷ past) k ≡ h (recorded_txn past k)) (sym place) own)
+  -- the active transaction of the session goes on by an event
+  goes : (outcome : Outcome) (t : Txn) (h : Recorded → Recorded) → begun (after outcome) ≡ begun past → active past session ≡ Some t
+      → ((n : ℕ) → recorded_txn (after outcome) n ≡ cond (t.no == n) (h (recorded_txn past n)) (recorded_txn past n))
+      → recorded_txns (after outcome) ≡ changed_by (number_of (active past session)) h (recorded_txns past)
+  goes outcome t h same is by =
+      let place : 1 + (t.no - 1) ≡ t.no = omega (arith, ((numbers_hold level setup past legal).numbered session t is).0) in
+      ap (λ k. each (recorded_txn (after outcome)) (numbers_from 1 k)) same
+      ∙ changed_at (recorded_txn past) (recorded_txn (after outcome)) h 1 (begun past) (t.no - 1)
+      (λ n apart. by n ∙ ap (λ b. cond b (h (recorded_txn past n)) (recorded_txn past n)) (ne_eqb t.no n (λ e. apart (sym e ∙ sym place))))
+      (subst (λ k. recorded_txn (after outcome) k ≡ h (recorded_txn past k)) (sym place)
+      (by t.no ∙ ap (λ b. cond b (h (recorded_txn past t.no)) (recorded_txn past t.no)) (eq-eqb t.no t.no refl)))
       ∙ ap (λ o. changed_by (number_of o) h (recorded_txns past)) (sym is)
 
-  runs : (event : LogEvent) (t : Txn) → begun (event ∷ past) ≡ begun past → commits (event ∷ past) ≡ commits past → active past event.session ≡ Some t
-      → recorded_txns (event ∷ past) ≡ changed_by (number_of (active past event.session)) (with_ops (op_of event.command event.outcome)) (recorded_txns past)
-  runs event t same done is =
-      goes event t (with_ops (op_of event.command event.outcome)) same is
-      (λ n apart. ended n ∙ ap (λ (ops : List Op). record { no = n; outcome = end_of past n; ops = ops })
-      (added n ∙ ap (λ b. ops_of past n ++ cond b (op_of event.command event.outcome) []) (ne_eqb t.no n (λ e. apart (sym e))) ∙ append-nil (ops_of past n)))
-      (ended t.no ∙ ap (λ (ops : List Op). record { no = t.no; outcome = end_of past t.no; ops = ops })
-      (added t.no ∙ ap (λ b. ops_of past t.no ++ cond b (op_of event.command event.outcome) []) (eq-eqb t.no t.no refl)))
+  runs : (view : View) (rows : Rows) (writes : Writes) (t : Txn) → active past session ≡ Some t
+      → recorded_txns (after (Listed view rows writes)) ≡ changed_by (number_of (active past session)) (with_ops (op_of command (Listed view rows writes))) (recorded_txns past)
+  runs view rows writes t is = goes (Listed view rows writes) t (with_ops new) refl is (λ n. ap (λ o. added n (has_number n o)) is ∙ at n (t.no == n))
     where
-      ended : (n : ℕ) → recorded_txn (event ∷ past) n ≡ record { no = n; outcome = end_of past n; ops = ops_of (event ∷ past) n }
-      ended n = ap (λ (txns : List Txn). record { no = n; outcome = cond (list_any (λ (t : Txn). t.no == n) txns) EndCommitted EndAborted; ops = ops_of (event ∷ past) n }) done
+      new : List Op
+      new = op_of command (Listed view rows writes)
 
-      added : (n : ℕ) → ops_of (event ∷ past) n ≡ ops_of past n ++ cond (t.no == n) (op_of event.command event.outcome) []
-      added n = ap (λ o. ops_of past n ++ cond (has_number n o) (op_of event.command event.outcome) []) is
+      added : ℕ → Bool → Recorded
+      added n b = record { no = n; outcome = end_of past n; ops = ops_of past n ++ cond b new [] }
 
-  commit : (event : LogEvent) (t : Txn) → begun (event ∷ past) ≡ begun past → commits (event ∷ past) ≡ t ∷ commits past → op_of event.command event.outcome ≡ [] → active past event.session ≡ Some t
-      → recorded_txns (event ∷ past) ≡ changed_by (number_of (active past event.session)) committed (recorded_txns past)
-  commit event t same done none is =
-      goes event t committed same is
-      (λ n apart. ended n ∙ ap (λ b. record { no = n; outcome = cond (b || list_any (λ (t : Txn). t.no == n) (commits past)) EndCommitted EndAborted; ops = ops_of past n })
-      (ne_eqb t.no n (λ e. apart (sym e))))
-      (ended t.no ∙ ap (λ b. record { no = t.no; outcome = cond (b || list_any (λ (u : Txn). u.no == t.no) (commits past)) EndCommitted EndAborted; ops = ops_of past t.no }) (eq-eqb t.no t.no refl))
+      at : (n : ℕ) (b : Bool) → added n b ≡ cond b (with_ops new (recorded_txn past n)) (recorded_txn past n)
+      at n true = refl
+      at n false = same_txn past n false
+
+  commit : (t : Txn) → active past session ≡ Some t → recorded_txns (after Committed) ≡ changed_by (number_of (active past session)) committed (recorded_txns past)
+  commit t is = goes Committed t committed refl is (λ n. ap (ended n) is ∙ at n (t.no == n))
     where
-      ended : (n : ℕ) → recorded_txn (event ∷ past) n ≡ record { no = n; outcome = cond ((t.no == n) || list_any (λ (u : Txn). u.no == n) (commits past)) EndCommitted EndAborted; ops = ops_of past n }
-      ended n =
-          ap (λ (txns : List Txn). record { no = n; outcome = cond (list_any (λ (u : Txn). u.no == n) txns) EndCommitted EndAborted; ops = ops_of (event ∷ past) n }) done
-          ∙ ap (λ (ops : List Op). record { no = n; outcome = cond ((t.no == n) || list_any (λ (u : Txn). u.no == n) (commits past)) EndCommitted EndAborted; ops = ops })
-          (ap (λ (ops : List Op). ops_of past n ++ cond (has_number n (active past event.session)) ops []) none ∙ nothing_added (ops_of past n) (has_number n (active past event.session)))
+      ended : ℕ → Option Txn → Recorded
+      ended n o = record { no = n; outcome = cond (list_any (λ u. u.no == n) (commits_after Committed o (commits past))) EndCommitted EndAborted; ops = ops_of past n ++ cond (has_number n o) [] [] }
 
-  rests : (event : LogEvent) → begun (event ∷ past) ≡ begun past → commits (event ∷ past) ≡ commits past → op_of event.command event.outcome ≡ [] → recorded_txns (event ∷ past) ≡ recorded_txns past
-  rests event same done none =
-      ap (λ k. each (recorded_txn (event ∷ past)) (numbers_from 1 k)) same
-      ∙ each-same (recorded_txn (event ∷ past)) (recorded_txn past) (numbers_from 1 (begun past)) (λ n. same_txn past event n none done)
+      at : (n : ℕ) (b : Bool) → record { no = n; outcome = cond (b || has_committed past n) EndCommitted EndAborted; ops = ops_of past n ++ cond b [] [] }
+          ≡ cond b (committed (recorded_txn past n)) (recorded_txn past n)
+      at n true = ap committed (same_txn past n true)
+      at n false = same_txn past n false
 
-  txns_goes : (session : ℕ) (command : Command) (outcome : Outcome) → Permitted level setup past session command outcome
-      → recorded_txns (record { session = session; command = command; outcome = outcome } ∷ past) ≡ txns_after command outcome (number_of (active past session)) (recorded_txns past)
-  txns_goes session command (Begun n) (is_begin, none, next) = begins (record { session = session; command = command; outcome = Begun n }) n refl next
-  txns_goes session command (Listed view rows writes) (s, t, asks, free, effect) = runs (record { session = session; command = command; outcome = Listed view rows writes }) t refl refl asks.active_is
-  txns_goes session command Committed (t, gives, may) =
-      commit (record { session = session; command = command; outcome = Committed }) t refl (ap (λ o. commits_after Committed o (commits past)) gives.active_is) refl gives.active_is
-  txns_goes session command other permitted = rests (record { session = session; command = command; outcome = other }) refl refl refl
+  txns_goes : (outcome : Outcome) → Permitted level setup past session command outcome
+      → recorded_txns (after outcome) ≡ txns_after command outcome (number_of (active past session)) (recorded_txns past)
+  txns_goes (Begun n) (is_begin, none, next) = begins n next
+  txns_goes (Listed view rows writes) (s, t, asks, free, effect) = runs view rows writes t asks.active_is
+  txns_goes Committed (t, gives, may) = commit t gives.active_is
+  txns_goes other permitted = λ i. each (λ n. same_txn past n (has_number n (active past session)) i) (numbers_from 1 (begun past))
 
 -- the transactions after one more event
 pub txns_go : (level : Level) (setup : Table) (past : Past) (event : LogEvent) → IsLegal level setup (event ∷ past)

@@ -1,5 +1,5 @@
 -- A graph of who waits for whom, as the sets of those that each session waits for.
-use Rattle.std.proofs.Common.{◌≡◌, ◌≢◌, ℕ, ◌-◌, ◌<◌, ◌≤◌, ◌==◌, ◌&&◌, cond, Bool, true, false, refl, ap, sym, subst, ◌∙◌, inl, inr, arith, List, length, get_or, set, replicate, IsTrue, Option, Some, None, IfSome, ◌↔◌, is_some}
+use Rattle.std.proofs.Common.{◌≡◌, ◌≢◌, ℕ, ◌-◌, ◌<◌, ◌≤◌, ◌==◌, ◌&&◌, cond, true, false, refl, ap, sym, subst, ◌∙◌, inl, inr, arith, List, length, get_or, set, replicate, IsTrue, Option, Some, None, IfSome, ◌↔◌, is_some}
 use Rattle.lab_engine.proofs.Common.{cases_eq, eq-eqb, ne_eqb, both_ways, and_parts, and_from, get_or-set_same, get_or-set_other, get_or_default, has, waits_for, WaitsForOne, get_or-replicate, is_session}
 
 -- a session is from 1 to 9
@@ -17,13 +17,11 @@ waiter_range graph session other h = session_range session (and_parts _ _ h).0
 -- where nobody waits
 pub none_wait : (none : ℕ) → ((n : ℕ) → has none n ≡ false) → (session other : ℕ) → waits_for (replicate 9 none) session other ≡ false
 unfolding waits_for
-none_wait none nobody session other = at (is_session session) refl
-  where
-    at : (own : Bool) → is_session session ≡ own → (own && has (get_or (replicate 9 none) (session - 1) 0) other) ≡ false
-    at false is = refl
-    at true is =
-        let range : (1 ≤ session) × (session ≤ 9) = session_range session is in
-        ap (λ set. has set other) (get_or-replicate 9 (session - 1) none 0 (omega (arith, range.0, range.1))) ∙ nobody other
+none_wait none nobody session other =
+    elim (is_session session) as (λ own. is_session session ≡ own → (own && has (get_or (replicate 9 none) (session - 1) 0) other) ≡ false) [
+      | false ↦ λ is. refl
+      | true ↦ λ is. ap (λ set. has set other) (get_or-replicate 9 (session - 1) none 0 (omega (arith, session_range session is))) ∙ nobody other
+    ] refl
 
 module _ (graph : List ℕ) (size : length graph ≡ 9) (session : ℕ) (low : 1 ≤ session) (high : session ≤ 9) where
   within : session - 1 < length graph
@@ -45,15 +43,17 @@ module _ (graph : List ℕ) (size : length graph ≡ 9) (session : ℕ) (low : 1
         (ap (λ b. b && has (get_or (set graph (session - 1) new) (session - 1) 0) other) (is_one session low high)
         ∙ ap (λ s. has s other) (get_or-set_same graph (session - 1) new 0 within)
         ∙ sym (ap (λ b. cond b (has new other) (waits_for graph session other)) (eq-eqb session session refl)))
-    | inr apart ↦ kept apart (is_session waiter) refl ∙ sym (ap (λ b. cond b (has new other) (waits_for graph waiter other)) (ne_eqb waiter session apart))
+    | inr apart ↦ kept apart ∙ sym (ap (λ b. cond b (has new other) (waits_for graph waiter other)) (ne_eqb waiter session apart))
   ]
     where
-      kept : waiter ≢ session → (own : Bool) → is_session waiter ≡ own
-          → (is_session waiter && has (get_or (set graph (session - 1) new) (waiter - 1) 0) other) ≡ (is_session waiter && has (get_or graph (waiter - 1) 0) other)
-      kept apart false is = ap (λ b. b && has (get_or (set graph (session - 1) new) (waiter - 1) 0) other) is ∙ sym (ap (λ b. b && has (get_or graph (waiter - 1) 0) other) is)
-      kept apart true is =
-          let range : (1 ≤ waiter) × (waiter ≤ 9) = session_range waiter is in
-          ap (λ x. is_session waiter && has x other) (get_or-set_other graph (session - 1) (waiter - 1) new 0 (λ same. apart (omega (arith, same, low, range.0))))
+      kept : waiter ≢ session → (is_session waiter && has (get_or (set graph (session - 1) new) (waiter - 1) 0) other) ≡ (is_session waiter && has (get_or graph (waiter - 1) 0) other)
+      kept apart =
+          elim (is_session waiter) as (λ own. is_session waiter ≡ own
+          → (own && has (get_or (set graph (session - 1) new) (waiter - 1) 0) other) ≡ (own && has (get_or graph (waiter - 1) 0) other)) [
+            | false ↦ λ is. refl
+            | true ↦ λ is. ap (λ x. has x other)
+                (get_or-set_other graph (session - 1) (waiter - 1) new 0 (λ same. apart (omega (arith, same, low, (session_range waiter is).0))))
+          ] refl
 
 -- somebody whom a session waits for is in a set
 module _ (graph : List ℕ) (set own common session : ℕ) (on : (other : ℕ) → has own other ≡ waits_for graph session other)

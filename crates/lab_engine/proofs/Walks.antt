@@ -1,55 +1,50 @@
 -- Walks to a goal along the graph of who waits for whom.
-use Rattle.std.proofs.Common.{◌∙◌, ap, ◌≡◌, ℕ, ◌≤◌, ◌<◌, ◌==◌, ◌⊎◌, refl, sym, subst, inl, inr, arith, Bool, true, false, List, [], ◌∷◌, length, IsTrue}
+use Rattle.std.proofs.Common.{◌∙◌, ap, ◌≡◌, ℕ, ◌≤◌, ◌<◌, ◌==◌, refl, sym, subst, inl, inr, arith, true, false, List, [], ◌∷◌, length, IsTrue}
 use Rattle.lab_engine.proofs.Common.{false_from_ne_true, list_any, AllByRecursion, eq-eqb, ne_eqb, eqb-true, eqb-false, both_ways, or_cases, or_parts, IsWalk, AllDistinct, Any-from_list_any, list_any_at}
 use Rattle.std.specs.List.{IsDistinct}
 use Rattle.std.proofs.lemmas.Map.Steps.{length-le_from_distinct_below}
 use Rattle.lab_engine.proofs.WaitGraphs.{waiter_range}
 
+-- a walk with nobody on it twice, and with at most so many between
+abbrev WalksOnce : List ℕ → ℕ → ℕ → ℕ → Type 0
+WalksOnce graph goal session most = (other : List ℕ) × IsWalk graph session other goal × AllDistinct (session ∷ other) × (length other ≤ most)
+
 -- from each session on a walk one leads on that is no longer, with nobody on it twice if nobody was
 from_there : (graph : List ℕ) (goal there session : ℕ) (rest : List ℕ) → IsWalk graph session rest goal → AllDistinct (session ∷ rest) → IsTrue (list_any (λ m. m == there) (session ∷ rest))
-    → (other : List ℕ) × IsWalk graph there other goal × AllDistinct (there ∷ other) × (length other ≤ length rest)
+    → WalksOnce graph goal there (length rest)
 from_there graph goal there session [] walk once on = elim (or_cases (session == there) false on) [
-  | inl p ↦ subst (λ k. (other : List ℕ) × IsWalk graph k other goal × AllDistinct (k ∷ other) × (length other ≤ 0)) (eqb-true session there p) ([], walk, once, omega arith)
+  | inl p ↦ subst (λ k. WalksOnce graph goal k 0) (eqb-true session there p) ([], walk, once, omega arith)
   | inr p ↦ absurd (both_ways _ refl p)
 ]
-from_there graph goal there session (next ∷ rest) walk once on = at (from_there graph goal there next rest walk.1 once.1) (or_cases (session == there) (list_any (λ m. m == there) (next ∷ rest)) on)
-  where
-    at : (IsTrue (list_any (λ m. m == there) (next ∷ rest)) → (other : List ℕ) × IsWalk graph there other goal × AllDistinct (there ∷ other) × (length other ≤ length rest))
-        → (IsTrue (session == there) ⊎ IsTrue (list_any (λ m. m == there) (next ∷ rest)))
-        → (other : List ℕ) × IsWalk graph there other goal × AllDistinct (there ∷ other) × (length other ≤ length (next ∷ rest))
-    at later (inl p) = subst (λ k. (other : List ℕ) × IsWalk graph k other goal × AllDistinct (k ∷ other) × (length other ≤ length (next ∷ rest))) (eqb-true session there p)
-        (next ∷ rest, walk, once, omega arith)
-    at later (inr p) = let on : (other : List ℕ) × IsWalk graph there other goal × AllDistinct (there ∷ other) × (length other ≤ length rest) = later p in
-        (on.0, on.1, on.2, omega (arith, on.3))
+from_there graph goal there session (next ∷ rest) walk once on = elim (or_cases (session == there) (list_any (λ m. m == there) (next ∷ rest)) on) [
+  | inl p ↦ subst (λ k. WalksOnce graph goal k (length (next ∷ rest))) (eqb-true session there p) (next ∷ rest, walk, once, omega arith)
+  | inr p ↦ let later = from_there graph goal there next rest walk.1 once.1 p in (later.0, later.1, later.2, omega (arith, later.3))
+]
 
 -- a session isn't on a shortest walk behind it
 not_behind : (graph : List ℕ) (goal session next : ℕ) (rest : List ℕ) → IsWalk graph next rest goal → AllDistinct (next ∷ rest)
     → ((other : List ℕ) → IsWalk graph session other goal → length (next ∷ rest) ≤ length other) → list_any (λ m. m == session) (next ∷ rest) ≡ false
 not_behind graph goal session next rest walk once short = false_from_ne_true _ (λ there.
-    let on : (other : List ℕ) × IsWalk graph session other goal × AllDistinct (session ∷ other) × (length other ≤ length rest) = from_there graph goal session next rest walk once there in
-    let le : length (next ∷ rest) ≤ length on.0 = short on.0 on.1 in
-    omega (arith, le, on.3))
+    let on = from_there graph goal session next rest walk once there in
+    omega (arith, short on.0 on.1, on.3))
 
 -- on a walk than which none is shorter nobody stands twice
 pub shortest_once : (graph : List ℕ) (goal session : ℕ) (rest : List ℕ) → IsWalk graph session rest goal → ((other : List ℕ) → IsWalk graph session other goal → length rest ≤ length other)
     → AllDistinct (session ∷ rest)
 shortest_once graph goal session [] walk short = (refl, tt)
 shortest_once graph goal session (next ∷ rest) walk short =
-    let behind : AllDistinct (next ∷ rest) =
-    shortest_once graph goal next rest walk.1 (λ other w. let le : length (next ∷ rest) ≤ length (next ∷ other) = short (next ∷ other) (walk.0, w) in omega (arith, le)) in
+    let behind = shortest_once graph goal next rest walk.1 (λ other w. omega (arith, short (next ∷ other) (walk.0, w))) in
     (not_behind graph goal session next rest walk.1 behind short, behind)
 
 -- where a walk leads, one leads on which nobody stands twice
 pub once_walk : (graph : List ℕ) (goal session : ℕ) (rest : List ℕ) → IsWalk graph session rest goal → (other : List ℕ) × IsWalk graph session other goal × AllDistinct (session ∷ other)
 once_walk graph goal session [] walk = ([], walk, (refl, tt))
-once_walk graph goal session (next ∷ rest) walk = at (once_walk graph goal next rest walk.1)
-  where
-    at : (other : List ℕ) × IsWalk graph next other goal × AllDistinct (next ∷ other) → (other : List ℕ) × IsWalk graph session other goal × AllDistinct (session ∷ other)
-    at (other, on, once) = by (list_any (λ m. m == session) (next ∷ other)) refl
-      where
-        by : (b : Bool) → list_any (λ m. m == session) (next ∷ other) ≡ b → (o : List ℕ) × IsWalk graph session o goal × AllDistinct (session ∷ o)
-        by true q = let back = from_there graph goal session next other on once q in (back.0, back.1, back.2)
-        by false q = (next ∷ other, (walk.0, on), (q, once))
+once_walk graph goal session (next ∷ rest) walk =
+    let on = once_walk graph goal next rest walk.1 in
+    elim (list_any (λ m. m == session) (next ∷ on.0)) as (λ b. list_any (λ m. m == session) (next ∷ on.0) ≡ b → (other : List ℕ) × IsWalk graph session other goal × AllDistinct (session ∷ other)) [
+      | true ↦ λ there. let back = from_there graph goal session next on.0 on.1 on.2 there in (back.0, back.1, back.2)
+      | false ↦ λ away. (next ∷ on.0, (walk.0, on.1), (away, on.2))
+    ] refl
 
 -- all on a walk wait, so they are sessions
 walkers : (graph : List ℕ) (goal session : ℕ) (rest : List ℕ) → IsWalk graph session rest goal → (n : ℕ) → IsTrue (list_any (λ m. m == n) (session ∷ rest)) → (1 ≤ n) × (n ≤ 9)
@@ -57,11 +52,10 @@ walkers graph goal session [] walk n there = elim (or_cases (session == n) false
   | inl p ↦ subst (λ k. (1 ≤ k) × (k ≤ 9)) (eqb-true session n p) (waiter_range graph session goal walk)
   | inr p ↦ absurd (both_ways _ refl p)
 ]
-walkers graph goal session (next ∷ rest) walk n there = at (walkers graph goal next rest walk.1 n) (or_cases (session == n) (list_any (λ m. m == n) (next ∷ rest)) there)
-  where
-    at : (IsTrue (list_any (λ m. m == n) (next ∷ rest)) → (1 ≤ n) × (n ≤ 9)) → (IsTrue (session == n) ⊎ IsTrue (list_any (λ m. m == n) (next ∷ rest))) → (1 ≤ n) × (n ≤ 9)
-    at later (inl p) = subst (λ k. (1 ≤ k) × (k ≤ 9)) (eqb-true session n p) (waiter_range graph session next walk.0)
-    at later (inr p) = later p
+walkers graph goal session (next ∷ rest) walk n there = elim (or_cases (session == n) (list_any (λ m. m == n) (next ∷ rest)) there) [
+  | inl p ↦ subst (λ k. (1 ≤ k) × (k ≤ 9)) (eqb-true session n p) (waiter_range graph session next walk.0)
+  | inr p ↦ walkers graph goal next rest walk.1 n p
+]
 
 -- numbers that differ are distinct keys
 apart_from : (n : ℕ) (ns : List ℕ) → list_any (λ m. m == n) ns ≡ false → AllByRecursion (λ m. (n == m) ≡ false) ns
@@ -81,14 +75,13 @@ found_there n ns h =
 -- on a walk on which nobody stands twice are at most nine
 pub once_few : (graph : List ℕ) (goal session : ℕ) (rest : List ℕ) → IsWalk graph session rest goal → AllDistinct (session ∷ rest) → length rest < 9
 once_few graph goal session rest walk once =
-    let le : length (0 ∷ session ∷ rest) ≤ 10 = length-le_from_distinct_below (0 ∷ session ∷ rest) 10 (distinct_keys (0 ∷ session ∷ rest) (nobody, once)) below in
-    omega (arith, le)
+    omega (arith, length-le_from_distinct_below (0 ∷ session ∷ rest) 10 (distinct_keys (0 ∷ session ∷ rest) (nobody, once)) below)
   where
     nobody : list_any (λ m. m == 0) (session ∷ rest) ≡ false
-    nobody = false_from_ne_true _ (λ there. let range : (1 ≤ 0) × (0 ≤ 9) = walkers graph goal session rest walk 0 there in omega (arith, range.0))
+    nobody = false_from_ne_true _ (λ there. omega (arith, (walkers graph goal session rest walk 0 there).0))
 
     below : (n : ℕ) → list_any (λ m. n == m) (0 ∷ session ∷ rest) ≡ true → n < 10
     below n there = elim (or_cases (n == 0) (list_any (λ m. n == m) (session ∷ rest)) there) [
       | inl p ↦ omega (arith, eqb-true n 0 p)
-      | inr p ↦ let range : (1 ≤ n) × (n ≤ 9) = walkers graph goal session rest walk n (found_there n (session ∷ rest) p) in omega (arith, range.1)
+      | inr p ↦ omega (arith, (walkers graph goal session rest walk n (found_there n (session ∷ rest) p)).1)
     ]

@@ -1,5 +1,5 @@
 -- What an engine decides before it changes anything.
-use Rattle.std.specs.Prelude.{◌≡◌, ◌≢◌, ◌+◌, ◌≤◌, ℕ, cond, Option, Some, None, is_some, List, [], ◌∷◌, length, ◌⊎◌, MatchOption}
+use Rattle.std.specs.Prelude.{◌≡◌, ◌≢◌, ◌+◌, ◌≤◌, ℕ, Option, Some, None, is_some, List, length, count_by, ◌⊎◌, MatchOption}
 use Rattle.lab_table.specs.Table.{Table}
 use Rattle.lab_table.specs.declared.statement.Statement.{Statement}
 use Rattle.lab_table.specs.declared.statement.Command.{Command}
@@ -31,8 +31,7 @@ IsRetryChoice level setup past choice = MatchOption choice (NoneRetryable level 
 
 -- how many of some sessions have an active transaction
 abbrev pub active_among : Past → List ℕ → ℕ
-active_among past [] = 0
-active_among past (session ∷ sessions) = cond (is_some (active past session)) 1 0 + active_among past sessions
+active_among past sessions = count_by (λ session. is_some (active past session)) sessions
 
 -- among so many places for events there is one for each event, and one for the end of each active transaction
 abbrev pub HasPlacesOfEnds : Past → ℕ → Type 0

@@ -1,5 +1,5 @@
 -- What is kept of a row.
-use Rattle.std.specs.Prelude.{◌≡◌, ◌≤◌, ℕ, ◌+◌, ◌-◌, cond, Option, Some, None, List, [], ◌∷◌, length, get_or}
+use Rattle.std.specs.Prelude.{◌≡◌, ◌≤◌, ℕ, ◌+◌, ◌-◌, cond, Option, None, is_some, List, length, get_or, count_by}
 use Rattle.std.specs.Coded.{Coded, coded×, coded_list, coded_ℕ, coded_option, code_by}
 use Rattle.std.proofs.Common.{refl}
 use Rattle.lab_engine.specs.declared.version.Version.{Version}
@@ -23,9 +23,7 @@ pending_of kept session = cond (is_session session) (get_or kept.pending (sessio
 
 -- how many of some versions there are
 abbrev pub count : List (Option Version) → ℕ
-count [] = 0
-count (None ∷ versions) = count versions
-count (Some version ∷ versions) = count versions + 1
+count versions = count_by is_some versions
 
 -- there is room for so many installed versions and each pending one
 pub record IsRoomy (installed : ℕ) (pending : List (Option Version)) (places : ℕ) : Type 0 where

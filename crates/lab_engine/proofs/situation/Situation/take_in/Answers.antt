@@ -10,11 +10,7 @@ pub advance_session-requires-clause-few : goal.advance_session-requires-clause-f
 advance_session-requires-clause-few c = (c.requires.few.0, c.requires.few.1.states, c.requires.few.2)
 
 pub begun_next-self-requires : goal.begun_next-self-requires
-begun_next-self-requires c =
-    let few = c.requires.few.2 in
-    let most = begun_at_most c.requires.few.0 in
-    let is = c.requires.few.1.begun in
-    omega (arith, few, most, is)
+begun_next-self-requires c = omega (arith, c.requires.few.2, begun_at_most c.requires.few.0, c.requires.few.1.begun)
 
 pub returns : goal.returns
 returns c = λ past is.
