@@ -11,7 +11,7 @@ ghost use Rattle.lab_deps.specs.declared.kind.OpFault.TheVariants as kind;
 
 use crate::broken::{is_extra, is_unlisted, lists_other, viewed};
 use crate::effect::{change_differs, is_same, state_near};
-use crate::near::value_near;
+use crate::near::{likely_place, value_near};
 use crate::passes::miswritten_row;
 use crate::relevant_rows::only_row;
 use crate::span::within;
@@ -71,7 +71,7 @@ fn lists_no_more(history: &History, op: &Op) -> bool
     let initial = history.initial().rows();
     let entries = op.rows.entries();
     for entry in entries {
-        let found = value_near(initial, near, entry.0);
+        let found = value_near(initial, likely_place(initial, near, entry.0), entry.0);
         near = found.1;
         let due = op.statement.listed(entry.0, found.0);
         if !is_same(Some(entry.1), due) && is_extra(history, op, entry.0, entry.1) {

@@ -36,6 +36,21 @@ pub fn value_near<V: Copy>(
     (found, next)
 }
 
+/// A place at which a row is likely to stand in a list whose rows rise strictly: this one, where it does; else the one at
+/// which it stands where the rows' numbers follow each other.
+#[inline(always)]
+pub fn likely_place<V>(entries: &[(RowName, V)], near: usize, row: RowName) -> usize {
+    if let Some(entry) = entries.get(near) {
+        if row == entry.0 {
+            return near;
+        }
+    }
+    match entries.first() {
+        None => near,
+        Some(first) => row.id.number().wrapping_sub(first.0.id.number()) as usize,
+    }
+}
+
 /// The place of a row in a list whose rows rise strictly, looked at a place first.
 #[inline(always)]
 fn place_near<V>(entries: &[(RowName, V)], near: usize, row: RowName) -> usize
