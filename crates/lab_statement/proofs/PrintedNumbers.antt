@@ -1,9 +1,10 @@
 -- Printed numbers: their tokens, and that all of them is code.
-use Rattle.std.proofs.Common.{◌≡◌, ℕ, zero, suc, ◌/◌, ◌%◌, ◌≤◌, ◌<◌, Bool, true, false, cond, List, [], ◌∷◌, ◌++◌, refl, ap, ◌∙◌, arith, subst}
+use Rattle.std.proofs.Common.{◌≡◌, ℕ, zero, suc, ◌/◌, ◌%◌, ◌≤◌, ◌<◌, Bool, true, false, cond, List, [], ◌∷◌, ◌++◌, length, refl, ap, ◌∙◌, arith, subst}
 use Rattle.std.specs.Prelude.{◌&&◌, ◌==◌, ℤ, pos, negsuc, ◌-ℤ◌, codes}
 use Rattle.std.specs.List.{list_all}
 use Rattle.std.specs.Fmt.{digits, digits_onto, digit_glyph, decimal, signed_decimal}
 use Rattle.std.proofs.lemmas.Bool.Decides.{nat_tests}
+use Rattle.std.proofs.lemmas.Fmt.{decimal_nonempty}
 use Rattle.std.proofs.lemmas.Int.{ints}
 use Rattle.lab_statement.specs.declared.token.Token.{Token}
 use Rattle.lab_statement.specs.declared.token.Token.TheVariants as token
@@ -34,48 +35,28 @@ number_fits (negsuc n) r = subst (IsNumber (number_tokens (negsuc n))) (negated 
 glyph_plain : (d : ℕ) → d < 10 → is_plain (digit_glyph false d) ≡ true
 glyph_plain d lt = grind (arith, nat_tests)
 
--- plain bytes, at least one
-abbrev is_solid : List ℕ → Bool
-is_solid [] = false
-is_solid (b ∷ bs) = list_all is_plain (b ∷ bs)
-
 -- digits in front of plain bytes are plain
-onto_solid : (k n b : ℕ) (acc : List ℕ) → list_all is_plain (b ∷ acc) ≡ true → is_solid (digits_onto k 10 false n (b ∷ acc)) ≡ true
-onto_solid zero n b acc h = h
-onto_solid (suc k) n b acc h =
-    let more : list_all is_plain (digit_glyph false (n % 10) ∷ b ∷ acc) ≡ true = ap (λ (v : Bool). v && list_all is_plain (b ∷ acc)) (glyph_plain (n % 10) (omega arith)) ∙ h in
-    elim (n / 10 == 0) as (λ v. is_solid (cond v (digit_glyph false (n % 10) ∷ b ∷ acc) (digits_onto k 10 false (n / 10) (digit_glyph false (n % 10) ∷ b ∷ acc))) ≡ true) [
+onto_plain : (k n : ℕ) (acc : List ℕ) → list_all is_plain acc ≡ true → list_all is_plain (digits_onto k 10 false n acc) ≡ true
+onto_plain zero n acc h = h
+onto_plain (suc k) n acc h =
+    let more : list_all is_plain (digit_glyph false (n % 10) ∷ acc) ≡ true = ap (λ (v : Bool). v && list_all is_plain acc) (glyph_plain (n % 10) (omega arith)) ∙ h in
+    elim (n / 10 == 0) as (λ v. list_all is_plain (cond v (digit_glyph false (n % 10) ∷ acc) (digits_onto k 10 false (n / 10) (digit_glyph false (n % 10) ∷ acc))) ≡ true) [
       | true ↦ more
-      | false ↦ onto_solid k (n / 10) (digit_glyph false (n % 10)) (b ∷ acc) more
+      | false ↦ onto_plain k (n / 10) (digit_glyph false (n % 10) ∷ acc) more
     ]
 
--- the digits of a number are plain, and there is one
-digits_solid : (k n : ℕ) → is_solid (digits_onto (suc k) 10 false n []) ≡ true
-digits_solid k n =
-    let one : list_all is_plain (digit_glyph false (n % 10) ∷ []) ≡ true = ap (λ (v : Bool). v && true) (glyph_plain (n % 10) (omega arith)) in
-    elim (n / 10 == 0) as (λ v. is_solid (cond v (digit_glyph false (n % 10) ∷ []) (digits_onto k 10 false (n / 10) (digit_glyph false (n % 10) ∷ []))) ≡ true) [
-      | true ↦ one
-      | false ↦ onto_solid k (n / 10) (digit_glyph false (n % 10)) [] one
-    ]
-
--- a printed number is plain, and not empty
-decimal_solid : (n : ℕ) → is_solid (decimal n) ≡ true
+digits_plain : (n : ℕ) → list_all is_plain (decimal n) ≡ true
 unfolding digits
-decimal_solid n = digits_solid 63 n
-
--- plain bytes are code
-solid_plain : (text : List ℕ) → is_solid text ≡ true → Plain text
-solid_plain [] h = absurd cc
-solid_plain (b ∷ text) h = all_plain (b ∷ text) h
-
--- a dash before plain bytes
-minus_plain : (text : List ℕ) → is_solid text ≡ true → Plain (45 ∷ text)
-minus_plain [] h = absurd cc
-minus_plain (b ∷ text) h = dash_plain b text (plain_no_dash b (list_all is_plain text) h) (all_plain (b ∷ text) h)
+digits_plain n = onto_plain 64 n [] refl
 
 -- all of a printed number without a sign is code
 pub decimal_plain : (n : ℕ) → Plain (decimal n)
-decimal_plain n = solid_plain (decimal n) (decimal_solid n)
+decimal_plain n = all_plain (decimal n) (digits_plain n)
+
+-- a dash before plain bytes
+minus_plain : (text : List ℕ) → 0 < length text → list_all is_plain text ≡ true → Plain (45 ∷ text)
+minus_plain [] long h = absurd (omega (arith, long))
+minus_plain (b ∷ text) long h = dash_plain b text (plain_no_dash b (list_all is_plain text) h) (all_plain (b ∷ text) h)
 
 -- a printed number without a sign has its token
 pub decimal_reads : (n : ℕ) → n ≤ 1000000000 → Reads (decimal n) (token.Digits n ∷ [])
@@ -85,7 +66,7 @@ decimal_reads n le = record { is = λ rest h. decimal_are n rest le ∙ number_e
 minus_reads : (n : ℕ) → n ≤ 1000000000 → Reads (45 ∷ decimal n) (token.Minus ∷ token.Digits n ∷ [])
 minus_reads n le = record {
   is = λ rest h. whole_run token.Minus (decimal n ++ rest) (λ b. refl) ∙ ap (λ (ts : List Token). token.Minus ∷ ts) ((decimal_reads n le).is rest h);
-  plain = minus_plain (decimal n) (decimal_solid n);
+  plain = minus_plain (decimal n) (decimal_nonempty n (omega arith)) (digits_plain n);
 }
 
 -- a printed number has its tokens
@@ -107,9 +88,7 @@ comma_leads = literal (λ rest. refl) refl
 pub list_reads : (zs : List ℤ) → Each ValueInRange zs → Reads (joined (printed_numbers zs)) (list_tokens zs)
 list_reads [] r = empty_reads
 list_reads (z ∷ []) r = number_reads z r.0
-list_reads (z ∷ y ∷ zs) r =
-    reads_between (signed_decimal z) (codes ", ") (joined (printed_numbers (y ∷ zs))) (number_tokens z) (token.Comma ∷ []) (list_tokens (y ∷ zs))
-    (number_reads z r.0) (λ rest. refl) comma_leads (list_reads (y ∷ zs) r.1)
+list_reads (z ∷ y ∷ zs) r = reads_between (number_reads z r.0) comma_leads (λ rest. refl) (list_reads (y ∷ zs) r.1)
 
 -- the tokens of one number or more are in the grammar
 numbers_fit : (z : ℤ) (zs : List ℤ) → Each ValueInRange (z ∷ zs) → IsNumbers (list_tokens (z ∷ zs)) (z ∷ zs)

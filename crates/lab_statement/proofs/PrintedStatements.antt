@@ -1,7 +1,6 @@
 -- Printed statements: their tokens, which are in the grammar, and that all of them is code.
 use Rattle.std.proofs.Common.{◌≡◌, ◌≤◌, ℕ, true, List, [], ◌∷◌, ◌++◌, Option, Some, None, refl, sym, ◌∙◌, arith}
 use Rattle.std.specs.Prelude.{ℤ, codes}
-use Rattle.std.specs.Fmt.{decimal, signed_decimal}
 use Rattle.std.proofs.lemmas.List.{append-nil}
 use Rattle.lab_table.specs.Predicate.{Predicate}
 use Rattle.lab_table.specs.TableName.{is_table_name}
@@ -17,23 +16,19 @@ use Rattle.lab_statement.specs.Grammar.{over, IsWhere, IsExpr, IsRow, IsStatemen
 use Rattle.lab_statement.specs.Grammar as grammar
 use Rattle.lab_statement.specs.Depth.{where_depth, kind_depth, statement_depth}
 use Rattle.lab_statement.specs.Limits.{StatementPrints}
-use Rattle.lab_statement.specs.Printed.{printed_where, printed_expr, printed_row, printed_pred, printed_kind, printed_statement}
+use Rattle.lab_statement.specs.Printed.{printed_where, printed_expr, printed_row, printed_kind, printed_statement}
 use Rattle.lab_statement.specs.Text.{SpellsStatement}
 use Rattle.lab_statement.specs.Ranges.{WhereInRange, ExprInRange, RowInRange, ValueInRange, KindInRange, StatementInRange}
 use Rattle.lab_statement.proofs.PrintedText.{Plain, all_plain, dash_plain, append_plain, plain_code, Leads, Reads, Breaks, empty_reads, reads_all, leads_reads, leads_leads, leads_then, cut_leads, reads_then, reads_between, literal}
 use Rattle.lab_statement.proofs.PrintedNames.{name_reads}
 use Rattle.lab_statement.proofs.PrintedNumbers.{comma_leads, number_tokens, number_reads, number_fits, decimal_reads}
 use Rattle.lab_statement.proofs.PrintedTokens.{pred_tokens, pred_fits}
-use Rattle.lab_statement.proofs.PrintedPreds.{pred_reads, open_leads, close_leads}
+use Rattle.lab_statement.proofs.PrintedPreds.{pred_reads, open_leads, closed_leads}
 
 -- the tokens behind a statement
 abbrev pub where_tokens : Option Predicate → List Token
 where_tokens None = []
 where_tokens (Some p) = token.Word word.Where ∷ pred_tokens p
-
--- the word before a predicate has its token
-where_leads : Leads (codes " where ") (token.Word word.Where ∷ [])
-where_leads = literal (λ rest. refl) refl
 
 -- what stands behind a statement breaks a word or a number at its end
 where_breaks : (p : Option Predicate) → Breaks (printed_where p)
@@ -43,7 +38,7 @@ where_breaks (Some p) rest h = refl
 -- what is printed behind a statement has its tokens
 where_reads : (p : Option Predicate) → WhereInRange p → Reads (printed_where p) (where_tokens p)
 where_reads None h = empty_reads
-where_reads (Some p) h = leads_then (codes " where ") (printed_pred p) (token.Word word.Where ∷ []) (pred_tokens p) where_leads (pred_reads p h)
+where_reads (Some p) h = leads_then (literal {text = codes " where "} {ts = token.Word word.Where ∷ []} (λ rest. refl) refl) (pred_reads p h)
 
 -- the tokens behind a statement are in the grammar
 where_fits : (p : Option Predicate) → WhereInRange p → where_depth p ≤ 16 → IsWhere (where_tokens p) p
@@ -60,18 +55,14 @@ expr_tokens (expr.Minus z) = token.Word word.Value ∷ token.Minus ∷ number_to
 minus_plain : Plain (codes "value - ")
 minus_plain = append_plain (codes "value ") (codes "- ") (all_plain (codes "value ") refl) (dash_plain 32 [] refl (all_plain (codes " ") refl))
 
--- the words and marks before a number that is added or taken off have their tokens
-plus_leads : Leads (codes "value + ") (token.Word word.Value ∷ token.Plus ∷ [])
-plus_leads = literal (λ rest. refl) refl
-
-minus_leads : Leads (codes "value - ") (token.Word word.Value ∷ token.Minus ∷ [])
-minus_leads = record { is = λ rest. refl; plain = minus_plain }
-
 -- a printed new value has its tokens
 expr_reads : (e : Expr) → ExprInRange e → Reads (printed_expr e) (expr_tokens e)
 expr_reads (expr.Set z) h = number_reads z h
-expr_reads (expr.Plus z) h = leads_then (codes "value + ") (signed_decimal z) (token.Word word.Value ∷ token.Plus ∷ []) (number_tokens z) plus_leads (number_reads z h)
-expr_reads (expr.Minus z) h = leads_then (codes "value - ") (signed_decimal z) (token.Word word.Value ∷ token.Minus ∷ []) (number_tokens z) minus_leads (number_reads z h)
+expr_reads (expr.Plus z) h = leads_then (literal {text = codes "value + "} {ts = token.Word word.Value ∷ token.Plus ∷ []} (λ rest. refl) refl) (number_reads z h)
+expr_reads (expr.Minus z) h = leads_then minus_leads (number_reads z h)
+  where
+    minus_leads : Leads (codes "value - ") (token.Word word.Value ∷ token.Minus ∷ [])
+    minus_leads = record { is = λ rest. refl; plain = minus_plain }
 
 -- the tokens of a printed new value are in the grammar
 expr_fits : (e : Expr) → ExprInRange e → IsExpr (expr_tokens e) e
@@ -85,11 +76,7 @@ row_tokens id z = token.Open ∷ token.Digits id ∷ token.Comma ∷ number_toke
 
 -- a printed row has its tokens
 pub row_leads : (id : ℕ) (z : ℤ) → RowInRange id → ValueInRange z → Leads (printed_row id z) (row_tokens id z)
-row_leads id z r h =
-    cut_leads (codes "(" ++ decimal id ++ codes ", " ++ signed_decimal z) (codes ")") (token.Open ∷ token.Digits id ∷ token.Comma ∷ number_tokens z) (token.Close ∷ [])
-    (reads_between (codes "(" ++ decimal id) (codes ", ") (signed_decimal z) (token.Open ∷ token.Digits id ∷ []) (token.Comma ∷ []) (number_tokens z)
-    (leads_then (codes "(") (decimal id) (token.Open ∷ []) (token.Digits id ∷ []) open_leads (decimal_reads id (omega arith))) (λ rest. refl) comma_leads (number_reads z h))
-    (λ rest. refl) close_leads
+row_leads id z r h = closed_leads (reads_between (leads_then open_leads (decimal_reads id (omega arith))) comma_leads (λ rest. refl) (number_reads z h))
 
 -- the tokens of a printed row are in the grammar
 pub row_fits : (id : ℕ) (z : ℤ) → RowInRange id → ValueInRange z → IsRow (row_tokens id z) id z
@@ -108,59 +95,28 @@ kind_tokens table (kind.Delete p) = token.Word word.Delete ∷ token.Word word.F
 abbrev pub statement_tokens : Statement → List Token
 statement_tokens s = kind_tokens s.table s.kind
 
--- the first words of each statement have their tokens
-select_leads : Leads (codes "select * from ") (token.Word word.Select ∷ token.Star ∷ token.Word word.From ∷ [])
-select_leads = literal (λ rest. refl) refl
-
-delete_leads : Leads (codes "delete from ") (token.Word word.Delete ∷ token.Word word.From ∷ [])
-delete_leads = literal (λ rest. refl) refl
-
-update_leads : Leads (codes "update ") (token.Word word.Update ∷ [])
-update_leads = literal (λ rest. refl) refl
-
-insert_leads : Leads (codes "insert into ") (token.Word word.Insert ∷ token.Word word.Into ∷ [])
-insert_leads = literal (λ rest. refl) refl
-
--- and so have the words behind the name of a table
-set_leads : Leads (codes " set value = ") (token.Word word.Set ∷ token.Word word.Value ∷ token.Equal ∷ [])
-set_leads = literal (λ rest. refl) refl
-
-values_leads : Leads (codes " (id, value) values ") (token.Open ∷ token.Word word.Id ∷ token.Comma ∷ token.Word word.Value ∷ token.Close ∷ token.Word word.Values ∷ [])
-values_leads = literal (λ rest. refl) refl
-
 module _ (table : List ℕ) (named : is_table_name table ≡ true) where
-  select_reads : Reads (codes "select * from " ++ table) (token.Word word.Select ∷ token.Star ∷ token.Word word.From ∷ token.Name table ∷ [])
-  select_reads = leads_then (codes "select * from ") table _ (token.Name table ∷ []) select_leads (name_reads table named)
+  -- words, and the name of the table behind them
+  words_read : {text : List ℕ} {ts : List Token} → Leads text ts → Reads (text ++ table) (ts ++ token.Name table ∷ [])
+  words_read words = leads_then words (name_reads table named)
 
-  delete_reads : Reads (codes "delete from " ++ table) (token.Word word.Delete ∷ token.Word word.From ∷ token.Name table ∷ [])
-  delete_reads = leads_then (codes "delete from ") table _ (token.Name table ∷ []) delete_leads (name_reads table named)
+  update_leads : Leads (codes "update " ++ table ++ codes " set value = ") (token.Word word.Update ∷ token.Name table ∷ token.Word word.Set ∷ token.Word word.Value ∷ token.Equal ∷ [])
+  update_leads = cut_leads _ (codes " set value = ") _ _ (words_read (literal {text = codes "update "} {ts = token.Word word.Update ∷ []} (λ rest. refl) refl)) (λ rest. refl) (literal (λ rest. refl) refl)
 
-  update_front : Leads (codes "update " ++ table ++ codes " set value = ") (token.Word word.Update ∷ token.Name table ∷ token.Word word.Set ∷ token.Word word.Value ∷ token.Equal ∷ [])
-  update_front =
-      cut_leads (codes "update " ++ table) (codes " set value = ") (token.Word word.Update ∷ token.Name table ∷ []) _
-      (leads_then (codes "update ") table _ (token.Name table ∷ []) update_leads (name_reads table named)) (λ rest. refl) set_leads
-
-  insert_front : Leads (codes "insert into " ++ table ++ codes " (id, value) values ")
+  insert_leads : Leads (codes "insert into " ++ table ++ codes " (id, value) values ")
       (token.Word word.Insert ∷ token.Word word.Into ∷ token.Name table ∷ token.Open ∷ token.Word word.Id ∷ token.Comma ∷ token.Word word.Value ∷ token.Close ∷ token.Word word.Values ∷ [])
-  insert_front =
-      cut_leads (codes "insert into " ++ table) (codes " (id, value) values ") (token.Word word.Insert ∷ token.Word word.Into ∷ token.Name table ∷ []) _
-      (leads_then (codes "insert into ") table _ (token.Name table ∷ []) insert_leads (name_reads table named)) (λ rest. refl) values_leads
+  insert_leads =
+      cut_leads _ (codes " (id, value) values ") _ (token.Open ∷ token.Word word.Id ∷ token.Comma ∷ token.Word word.Value ∷ token.Close ∷ token.Word word.Values ∷ [])
+      (words_read (literal {text = codes "insert into "} {ts = token.Word word.Insert ∷ token.Word word.Into ∷ []} (λ rest. refl) refl)) (λ rest. refl) (literal (λ rest. refl) refl)
 
   -- a printed statement has its tokens
   kind_reads : (k : StatementKind) → KindInRange k → Reads (printed_kind table k) (kind_tokens table k)
   kind_reads (kind.Select p) h =
-      reads_then (codes "select * from " ++ table) (printed_where p) (token.Word word.Select ∷ token.Star ∷ token.Word word.From ∷ token.Name table ∷ [])
-      (where_tokens p) select_reads (where_breaks p) (where_reads p h)
-  kind_reads (kind.Update e p) h =
-      reads_then (codes "update " ++ table ++ codes " set value = " ++ printed_expr e) (printed_where p)
-      (token.Word word.Update ∷ token.Name table ∷ token.Word word.Set ∷ token.Word word.Value ∷ token.Equal ∷ expr_tokens e) (where_tokens p)
-      (leads_then (codes "update " ++ table ++ codes " set value = ") (printed_expr e)
-      (token.Word word.Update ∷ token.Name table ∷ token.Word word.Set ∷ token.Word word.Value ∷ token.Equal ∷ []) (expr_tokens e) update_front (expr_reads e h.0))
-      (where_breaks p) (where_reads p h.1)
-  kind_reads (kind.Insert id z) h =
-      leads_reads _ _ (leads_leads (codes "insert into " ++ table ++ codes " (id, value) values ") (printed_row id z) _ (row_tokens id z) insert_front (row_leads id z h.0 h.1))
+      reads_then (words_read (literal {text = codes "select * from "} {ts = token.Word word.Select ∷ token.Star ∷ token.Word word.From ∷ []} (λ rest. refl) refl)) (where_reads p h) (where_breaks p)
+  kind_reads (kind.Update e p) h = reads_then (leads_then update_leads (expr_reads e h.0)) (where_reads p h.1) (where_breaks p)
+  kind_reads (kind.Insert id z) h = leads_reads _ _ (leads_leads _ (printed_row id z) _ (row_tokens id z) insert_leads (row_leads id z h.0 h.1))
   kind_reads (kind.Delete p) h =
-      reads_then (codes "delete from " ++ table) (printed_where p) (token.Word word.Delete ∷ token.Word word.From ∷ token.Name table ∷ []) (where_tokens p) delete_reads (where_breaks p) (where_reads p h)
+      reads_then (words_read (literal {text = codes "delete from "} {ts = token.Word word.Delete ∷ token.Word word.From ∷ []} (λ rest. refl) refl)) (where_reads p h) (where_breaks p)
 
   -- the tokens of a printed statement are in the grammar
   kind_fits : (k : StatementKind) → KindInRange k → kind_depth k ≤ 16 → IsStatement (kind_tokens table k) (over table k)

@@ -94,10 +94,6 @@ append_plain a b p q = record {
   remark = λ rest. ap remark_of (append_assoc a b rest) ∙ p.remark (b ++ rest) ∙ q.remark rest;
 }
 
--- three texts that are code
-pub plain_between : (a middle b : List ℕ) → Plain a → Plain middle → Plain b → Plain (a ++ middle ++ b)
-plain_between a middle b p m q = append_plain (a ++ middle) b (append_plain a middle p m) q
-
 -- all of the text is code
 pub plain_code : (text : List ℕ) → Plain text → code_of text ≡ text
 plain_code text p = ap code_of (sym (append-nil text)) ∙ p.code [] ∙ append-nil text
@@ -137,12 +133,12 @@ behind : (a b rest : List ℕ) (ts us : List Token) → tokens (a ++ (b ++ rest)
 behind a b rest ts us first second = ap tokens (append_assoc a b rest) ∙ first ∙ ap (λ (x : List Token). ts ++ x) second ∙ sym (append_assoc ts us (tokens rest))
 
 -- a text that has its tokens whatever follows, and then another
-pub leads_then : (a b : List ℕ) (ts us : List Token) → Leads a ts → Reads b us → Reads (a ++ b) (ts ++ us)
-leads_then a b ts us l r = record { is = λ rest h. behind a b rest ts us (l.is (b ++ rest)) (r.is rest h); plain = append_plain a b l.plain r.plain }
+pub leads_then : {a b : List ℕ} {ts us : List Token} → Leads a ts → Reads b us → Reads (a ++ b) (ts ++ us)
+leads_then {a} {b} {ts} {us} l r = record { is = λ rest h. behind a b rest ts us (l.is (b ++ rest)) (r.is rest h); plain = append_plain a b l.plain r.plain }
 
 -- a text, and then another that breaks a word or a number at its end
-pub reads_then : (a b : List ℕ) (ts us : List Token) → Reads a ts → Breaks b → Reads b us → Reads (a ++ b) (ts ++ us)
-reads_then a b ts us l breaks r = record { is = λ rest h. behind a b rest ts us (l.is (b ++ rest) (breaks rest h)) (r.is rest h); plain = append_plain a b l.plain r.plain }
+pub reads_then : {a b : List ℕ} {ts us : List Token} → Reads a ts → Reads b us → Breaks b → Reads (a ++ b) (ts ++ us)
+reads_then {a} {b} {ts} {us} l r breaks = record { is = λ rest h. behind a b rest ts us (l.is (b ++ rest) (breaks rest h)) (r.is rest h); plain = append_plain a b l.plain r.plain }
 
 -- two texts that have their tokens whatever follows
 pub leads_leads : (a b : List ℕ) (ts us : List Token) → Leads a ts → Leads b us → Leads (a ++ b) (ts ++ us)
@@ -153,9 +149,8 @@ pub cut_leads : (a b : List ℕ) (ts us : List Token) → Reads a ts → Cuts b 
 cut_leads a b ts us r cuts l = record { is = λ rest. behind a b rest ts us (r.is (b ++ rest) (cuts rest)) (l.is rest); plain = append_plain a b r.plain l.plain }
 
 -- two texts, and between them a third that cuts the first and has its tokens whatever follows
-pub reads_between : (a middle b : List ℕ) (ts ms us : List Token) → Reads a ts → Cuts middle → Leads middle ms → Reads b us → Reads (a ++ middle ++ b) (ts ++ (ms ++ us))
-reads_between a middle b ts ms us r cuts m s =
-    subst (Reads (a ++ middle ++ b)) (append_assoc ts ms us) (leads_then (a ++ middle) b (ts ++ ms) us (cut_leads a middle ts ms r cuts m) s)
+pub reads_between : {a middle b : List ℕ} {ts ms us : List Token} → Reads a ts → Leads middle ms → Cuts middle → Reads b us → Reads (a ++ middle ++ b) (ts ++ (ms ++ us))
+reads_between {a} {middle} {b} {ts} {ms} {us} r m cuts s = subst (Reads (a ++ middle ++ b)) (append_assoc ts ms us) (leads_then (cut_leads a middle ts ms r cuts m) s)
 
 -- a mark that no byte makes longer, and that begins no remark
 pub mark_leads : (b : ℕ) (t : Token) → ((rest : List ℕ) → tokens (b ∷ rest) ≡ tokens_from (whole t) rest) → ((n : ℕ) → longer_token t n ≡ None) → list_all is_plain (b ∷ []) ≡ true → Leads (b ∷ []) (t ∷ [])
