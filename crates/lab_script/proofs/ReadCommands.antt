@@ -9,11 +9,12 @@ use Rattle.lab_script.specs.Grammar.{IsCommand, IsCommands}
 use Rattle.lab_script.specs.Grammar as grammar
 use Rattle.lab_statement.specs.Grammar as statement_grammar
 use Rattle.lab_script.specs.Script.{begins_setup}
-use Rattle.lab_statement.specs.Stopping.{Reading, Reads, Stops, ◌>>=◌}
+use Rattle.lab_statement.specs.Stopping.{Reads, Stops, if_found}
 use Rattle.lab_statement.specs.FirstFaults.{end_read}
-use Rattle.lab_script.specs.FirstFaults.{terminated_read, one_added, step_read, more_commands_read, commands_read}
+use Rattle.lab_script.specs.FirstFaults.{terminated_read, one_added, step_read, repeated_read, some_left, commands_read}
 use Rattle.lab_statement.proofs.Readings.{bind_reads, cond_reads, reads, reads_is}
 use Rattle.lab_statement.proofs.ReadStatements.{Closes, nothing, semicolon, ended_is}
+use Rattle.lab_script.proofs.StoppedLoops.{some_more}
 use Rattle.lab_script.proofs.OneCommand.{listed, command_long, closed_again, closed_takes, closed_short}
 
 -- one statement more
@@ -55,51 +56,40 @@ step_takes room before ts x e le =
     let d = added_is room before b.0 a.0.0 a.0.1 b.1 le in
     subst (StepTaken room before ts) (reads_is (b.0, a.0.1) x b.2) (c.0, c.1, listed a.0.0, c.2, c.3, c.4, d.0, d.1)
 
-pub step_short : (room : ℕ) (before : List Command) (ts : List Token) (x : List Command × List Token) → step_read room before ts ≡ Reads x → length before ≤ room → length x.1 < length ts
-step_short room before ts x e le = let s = step_takes room before ts x e le in closed_short ts s.0 s.1 s.2 x.1 s.3 s.4 s.5
+pub step_short : (room : ℕ) (before : List Command) (ts : List Token) (x : List Command × List Token) → step_read room before ts ≡ Reads x → length x.1 < length ts
+unfolding step_read
+step_short room before ts x e =
+    let a = bind_reads (terminated_read ts) _ x e in
+    let b = bind_reads (one_added room before a.0.0 a.0.1) _ x a.2 in
+    let c = closed_takes ts a.0 a.1 in
+    subst (λ (y : List Command × List Token). length y.1 < length ts) (reads_is (b.0, a.0.1) x b.2) (closed_short ts c.0 c.1 (listed a.0.0) a.0.1 c.2 c.3 c.4)
 
 -- all statements
-
--- the commands of a line that are read by one statement and those behind it
-abbrev chained : ℕ → ℕ → List Command → List Token → Reading (List Command)
-chained k room before ts = step_read room before ts >>= λ s. more_commands_read s.1 k room s.0
 
 commands_long : {ts : List Token} {cs : List Command} → IsCommands ts cs → 1 ≤ length ts
 commands_long (grammar.one h) = command_long h
 commands_long (grammar.closed {ts} h) = omega (arith, length-append ts (token.Semicolon ∷ []))
 commands_long (grammar.more {ts} {rest = others} h hs) = omega (arith, length-append ts (token.Semicolon ∷ others))
 
--- the statements behind one are read, as soon as they are with any number to spare
-on_again : (others : List Token) (k room : ℕ) (before : List Command) (total : Reading (List Command)) → 1 ≤ length others → length others ≤ k
-    → ((j : ℕ) → length others ≤ suc j → chained j room before others ≡ total) → more_commands_read others k room before ≡ total
-unfolding more_commands_read
-on_again [] k room before total some le h = absurd (omega (arith, some))
-on_again (t ∷ ts) zero room before total some le h = absurd (omega (arith, le))
-on_again (t ∷ ts) (suc k) room before total some le h = h k (omega (arith, le))
-
-pub chained_again : {ts : List Token} {cs : List Command} → IsCommands ts cs → (k room : ℕ) (before : List Command) → length ts ≤ suc k → length (before ++ cs) ≤ room
-    → chained k room before ts ≡ Reads (before ++ cs)
-unfolding more_commands_read end_read
-chained_again (grammar.one {ts} {cs} h) k room before le fits =
-    subst (λ (us : List Token). chained k room before us ≡ Reads (before ++ cs)) (append-nil ts) (rw (step_again h [] [] nothing refl room before fits) refl)
-chained_again (grammar.closed {ts} {cs} h) k room before le fits = rw (step_again h (token.Semicolon ∷ []) [] (semicolon []) refl room before fits) refl
-chained_again (grammar.more {ts} {rest = others} {cs} {ds} h hs) k room before le fits =
+-- the commands of a line of the grammar are read behind others, if there is room for them
+all_again : {ts : List Token} {cs : List Command} → IsCommands ts cs → (k room : ℕ) (before : List Command) → length ts < k → length (before ++ cs) ≤ room
+    → repeated_read k (step_read room) some_left before ts ≡ Reads (before ++ cs, [])
+unfolding repeated_read end_read
+all_again h zero room before lt fits = absurd (omega (arith, lt))
+all_again (grammar.one {ts} {cs} h) (suc k) room before lt fits =
+    subst (λ (us : List Token). repeated_read (suc k) (step_read room) some_left before us ≡ Reads (before ++ cs, [])) (append-nil ts)
+    (rw (repeated_read, step_again h [] [] nothing refl room before fits) refl)
+all_again (grammar.closed {ts} {cs} h) (suc k) room before lt fits = rw (repeated_read, step_again h (token.Semicolon ∷ []) [] (semicolon []) refl room before fits) refl
+all_again (grammar.more {ts} {rest = others} {cs} {ds} h hs) (suc k) room before lt fits =
     let all : length ((before ++ cs) ++ ds) ≤ room = subst (λ (es : List Command). length es ≤ room) (sym (append_assoc before cs ds)) fits in
     let first : length (before ++ cs) ≤ room = omega (arith, all, length-append (before ++ cs) ds) in
-    let few : length others ≤ k = omega (arith, le, length-append ts (token.Semicolon ∷ others)) in
-    rw (step_again h (token.Semicolon ∷ others) others (semicolon others) refl room before first)
-    (on_again others k room (before ++ cs) _ (commands_long hs) few (λ j l. chained_again hs j room (before ++ cs) l all) ∙ ap (λ (es : List Command). reads es) (append_assoc before cs ds))
+    let few : length others < k = omega (arith, lt, length-append ts (token.Semicolon ∷ others)) in
+    rw (repeated_read, step_again h (token.Semicolon ∷ others) others (semicolon others) refl room before first, some_more others (commands_long hs))
+    (all_again hs k room (before ++ cs) few all ∙ ap (λ (es : List Command). reads (es, [])) (append_assoc before cs ds))
 
--- the commands of a line of the grammar are read, if there is room for them
 pub commands_again : {ts : List Token} {cs : List Command} → IsCommands ts cs → (room : ℕ) → length cs ≤ room → commands_read room ts ≡ Reads cs
-unfolding commands_read more_commands_read end_read
-commands_again (grammar.one {ts} {cs} h) room le =
-    subst (λ (us : List Token). commands_read room us ≡ Reads cs) (append-nil ts) (rw (step_again h [] [] nothing refl room [] le) refl)
-commands_again (grammar.closed {ts} {cs} h) room le = rw (step_again h (token.Semicolon ∷ []) [] (semicolon []) refl room [] le) refl
-commands_again (grammar.more {ts} {rest = others} {cs} {ds} h hs) room le =
-    let first : length cs ≤ room = omega (arith, le, length-append cs ds) in
-    rw (step_again h (token.Semicolon ∷ others) others (semicolon others) refl room [] first)
-    (on_again others (length others) room cs _ (commands_long hs) (omega arith) (λ j l. chained_again hs j room cs l le))
+unfolding commands_read
+commands_again {ts} h room le = rw (all_again h (suc (length ts)) room [] (omega arith) le) refl
 
 -- commands in front of those that were read
 abbrev Chained : List Command → List Token → List Command → Type 0
@@ -123,28 +113,34 @@ joined_on : (earlier cs ds before all : List Command) → earlier ++ cs ≡ befo
 joined_on earlier cs ds before all joined on = sym (append_assoc earlier cs ds) ∙ ap (λ (es : List Command). es ++ ds) joined ∙ on
 
 -- the statements behind one that was taken
-on_takes : (k room : ℕ) (before : List Command) (rest : List Token) (all : List Command) → more_commands_read rest k room before ≡ Reads all → length before ≤ room
+on_takes : (k room : ℕ) (before : List Command) (rest : List Token) (x : List Command × List Token)
+    → if_found (some_left rest) (λ us. repeated_read k (step_read room) some_left before us) (Reads (before, rest)) ≡ Reads x → length before ≤ room
     → (ts front end : List Token) (earlier cs : List Command) → ts ≡ front ++ end → IsCommand front cs → end_read end ≡ Reads rest → earlier ++ cs ≡ before
-    → Chained earlier ts all × (length all ≤ room)
-unfolding more_commands_read
-on_takes k room before [] all e le ts front end earlier cs is h ended joined =
-    let same : before ≡ all = reads_is before all e in
-    ((cs, step_last ts front end cs is h ended, joined ∙ same), omega (arith, le, ap length same))
-on_takes zero room before (t ∷ others) all e le ts front end earlier cs is h ended joined = absurd cc
-on_takes (suc k) room before (t ∷ others) all e le ts front end earlier cs is h ended joined =
-    let a = bind_reads (step_read room before (t ∷ others)) _ all e in
+    → Chained earlier ts x.0 × (length x.0 ≤ room)
+unfolding repeated_read
+on_takes k room before [] x e le ts front end earlier cs is h ended joined =
+    subst (λ (y : List Command × List Token). Chained earlier ts y.0 × (length y.0 ≤ room)) (reads_is (before, []) x e) ((cs, step_last ts front end cs is h ended, joined), le)
+on_takes zero room before (t ∷ others) x e le ts front end earlier cs is h ended joined = absurd cc
+on_takes (suc k) room before (t ∷ others) x e le ts front end earlier cs is h ended joined =
+    let a = bind_reads (step_read room before (t ∷ others)) _ x e in
     let s = step_takes room before (t ∷ others) a.0 a.1 le in
-    let m = on_takes k room a.0.0 a.0.1 all a.2 s.7 (t ∷ others) s.0 s.1 before s.2 s.3 s.4 s.5 s.6 in
-    ((cs ++ m.0.0, step_more ts front end others t cs m.0.0 is h ended m.0.1, joined_on earlier cs m.0.0 before all joined m.0.2), m.1)
+    let m = on_takes k room a.0.0 a.0.1 x a.2 s.7 (t ∷ others) s.0 s.1 before s.2 s.3 s.4 s.5 s.6 in
+    ((cs ++ m.0.0, step_more ts front end others t cs m.0.0 is h ended m.0.1, joined_on earlier cs m.0.0 before x.0 joined m.0.2), m.1)
+
+all_take : (room : ℕ) (ts : List Token) (x : List Command × List Token) → repeated_read (suc (length ts)) (step_read room) some_left [] ts ≡ Reads x → IsCommands ts x.0 × (length x.0 ≤ room)
+unfolding repeated_read
+all_take room ts x e =
+    let a = bind_reads (step_read room [] ts) _ x e in
+    let s = step_takes room [] ts a.0 a.1 (omega arith) in
+    let m = on_takes (length ts) room a.0.0 a.0.1 x a.2 s.7 ts s.0 s.1 [] s.2 s.3 s.4 s.5 s.6 in
+    (subst (IsCommands ts) m.0.2 m.0.1, m.1)
 
 -- what is read of a line is its commands in the grammar, and there is room for them
 pub commands_take : (room : ℕ) (ts : List Token) (cs : List Command) → commands_read room ts ≡ Reads cs → IsCommands ts cs × (length cs ≤ room)
 unfolding commands_read
 commands_take room ts cs e =
-    let a = bind_reads (step_read room [] ts) _ cs e in
-    let s = step_takes room [] ts a.0 a.1 (omega arith) in
-    let m = on_takes (length a.0.1) room a.0.0 a.0.1 cs a.2 s.7 ts s.0 s.1 [] s.2 s.3 s.4 s.5 s.6 in
-    (subst (IsCommands ts) m.0.2 m.0.1, m.1)
+    let x = bind_reads (repeated_read (suc (length ts)) (step_read room) some_left [] ts) _ cs e in
+    subst (λ (es : List Command). IsCommands ts es × (length es ≤ room)) (reads_is x.0.0 cs x.2) (all_take room ts x.0 x.1)
 
 -- a line has one list of commands
 pub commands_once : {ts : List Token} {cs ds : List Command} → IsCommands ts cs → IsCommands ts ds → cs ≡ ds
@@ -168,7 +164,3 @@ pub no_setup : {ts : List Token} {cs : List Command} → IsCommands ts cs → be
 no_setup (grammar.one {ts} h) = ap begins_setup (sym (append-nil ts)) ∙ begins_otherwise h []
 no_setup (grammar.closed h) = begins_otherwise h (token.Semicolon ∷ [])
 no_setup (grammar.more {rest = others} h hs) = begins_otherwise h (token.Semicolon ∷ others)
-
--- a statement adds no more than there is room for
-pub step_fits : (room : ℕ) (before after : List Command) (ts rest : List Token) → step_read room before ts ≡ Reads (after, rest) → length before ≤ room → length after ≤ room
-step_fits room before after ts rest read le = let s = step_takes room before ts (after, rest) read le in s.7
