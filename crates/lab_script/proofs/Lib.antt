@@ -1,16 +1,12 @@
 pub mod DistinctRows
 pub mod ReadSetup
-pub mod OneCommand
 pub mod ReadCommands
 pub mod Remarks
 pub mod ScriptLines
 pub mod TextLines
-pub mod ReadLines
 pub mod HeldTokens
 pub mod FirstFault
-pub mod CutTexts
 pub mod LongTexts
-pub mod SpelledPrints
 pub mod StatementLines
 pub mod RemainingTranscript
 pub mod BrokenLimits

@@ -7,7 +7,7 @@ use Rattle.lab_statement.specs.declared.token.Token.{Token}
 use Rattle.lab_script.specs.Grammar.{IsCommands, IsSetup}
 use Rattle.lab_script.specs.Tables.{with_commands, setup_tables, script_tables}
 use Rattle.lab_statement.specs.FirstFaults.{fifth_table, no_rows_at, placed_kind, behind_tables}
-use Rattle.lab_script.specs.FirstFaults.{commands_read, setup_read, commands_placed, setup_placed, commands_fault, setup_fault, row_table_of, named_row_read, row_table_read, words_read, level_read, command_read, terminated_read, one_added, step_read, more_commands_read, row_onto_read, rows_onto_read, rows_read, table_read, setup_ended, setup_end_read, passed}
+use Rattle.lab_script.specs.FirstFaults.{commands_read, setup_read, commands_placed, setup_placed, commands_fault, setup_fault, row_table_of, named_row_read, row_table_read, words_read, level_read, command_read, terminated_read, one_added, step_read, repeated_read, some_left, row_onto_read, rows_read, table_read, setup_ended, setup_end_read, passed}
 use Rattle.lab_script.proofs.ReadCommands.{commands_take, commands_again}
 use Rattle.lab_script.proofs.ReadSetup.{setup_takes, table_takes, setup_again}
 use Rattle.lab_statement.proofs.GrammarFaults.{valued, faultless, are_four, no_fifth, fault_is}
@@ -20,7 +20,7 @@ use Rattle.lab_statement.specs.Limits.{max_line_bytes}
 use Rattle.lab_script.specs.Printed.{printed_setup}
 use Rattle.lab_statement.specs.Text.{HasWhere, code_of, remark_of}
 use Rattle.lab_script.specs.Script.{BeginsLongSetup, session_of, is_ascii_code, is_passed, begins_setup}
-use Rattle.lab_statement.specs.Stopping.{Reads, Stops, token_read}
+use Rattle.lab_statement.specs.Stopping.{Reading, Reads, Stops, token_read}
 use Rattle.lab_statement.proofs.Readings.{token_is}
 use Rattle.lab_statement.proofs.ReadNumbers.{under}
 use Rattle.std.specs.Option.{option_or}
@@ -57,6 +57,13 @@ no_setup_fault ts = (
 )
 
 module _ (Is : ScriptFaultKind → Type 0) (unknown : Is kinds.UnknownStatement) (name : Is kinds.BadTableName) (range : Is kinds.NumberOutOfRange) where
+  -- items one after another
+  repeated_only : {A : Type 0} (item : A → List Token → Reading (A × List Token)) (next : List Token → Option (List Token)) → ((a : A) (ts : List Token) → StopsOnly Is (item a ts))
+      → (k : ℕ) (a : A) (ts : List Token) → StopsOnly Is (repeated_read k item next a ts)
+  unfolding repeated_read
+  repeated_only item next only zero a ts = unknown
+  repeated_only item next only (suc k) a ts = bind_only Is _ _ (only a ts) (λ x _. found_only Is (next x.1) _ _ (λ rest. repeated_only item next only k x.0 rest) tt)
+
   module _ (deep : Is kinds.TooDeep) where
     words_only : (ts : List Token) → StopsOnly Is (words_read ts)
     unfolding words_read
@@ -77,15 +84,9 @@ module _ (Is : ScriptFaultKind → Type 0) (unknown : Is kinds.UnknownStatement)
           added_only None left = tt
           added_only (Some c) left = cond_only Is (nat_lt (length cs) room) _ _ tt (λ not. long)
 
-      more_commands_only : (ts : List Token) (k room : ℕ) (cs : List Command) → StopsOnly Is (more_commands_read ts k room cs)
-      unfolding more_commands_read
-      more_commands_only [] k room cs = tt
-      more_commands_only (t ∷ ts) zero room cs = unknown
-      more_commands_only (t ∷ ts) (suc k) room cs = bind_only Is _ _ (step_only room cs (t ∷ ts)) (λ s _. more_commands_only s.1 k room s.0)
-
       pub commands_only : (room : ℕ) (ts : List Token) → StopsOnly Is (commands_read room ts)
       unfolding commands_read
-      commands_only room ts = bind_only Is _ _ (step_only room [] ts) (λ s _. more_commands_only s.1 (length s.1) room s.0)
+      commands_only room ts = bind_only Is _ _ (repeated_only (step_read room) some_left (step_only room) (suc (length ts)) [] ts) (λ x _. tt)
 
   table_of_only : (t : Token) (ts : List Token) → StopsOnly Is (row_table_of t ts)
   table_of_only t ts = cond_only Is (is_word t) _ _ (name_of_only Is unknown name range t ts) (λ not. tt)
@@ -101,14 +102,13 @@ module _ (Is : ScriptFaultKind → Type 0) (unknown : Is kinds.UnknownStatement)
 
   -- the same of the rows of a setup, of which one may come twice
   module _ (twice : Is kinds.DuplicateSetupRow) where
-    rows_onto_only : (k : ℕ) (table : Table) (ts : List Token) → StopsOnly Is (rows_onto_read k table ts)
-    unfolding rows_onto_read row_onto_read
-    rows_onto_only zero table ts = unknown
-    rows_onto_only (suc k) table ts = search (bind_only Is, found_only Is, cond_only Is, named_row_only, rows_onto_only k) depth 9
+    row_onto_only : (table : Table) (ts : List Token) → StopsOnly Is (row_onto_read table ts)
+    unfolding row_onto_read
+    row_onto_only table ts = search (bind_only Is, cond_only Is, named_row_only) depth 9
 
     pub table_only : (ts : List Token) → StopsOnly Is (table_read ts)
     unfolding table_read rows_read
-    table_only ts = found_only Is (no_rows_at ts) _ _ (λ rest. tt) (rows_onto_only (suc (length ts)) map.empty ts)
+    table_only ts = found_only Is (no_rows_at ts) _ _ (λ rest. tt) (repeated_only row_onto_read (after token.Comma) row_onto_only (suc (length ts)) map.empty ts)
 
 module _ (Is : ScriptFaultKind → Type 0) (ts : List Token) (unknown : Is kinds.UnknownStatement) (behind_where : HasWhere ts → Is kinds.BadPredicate) (name : Is kinds.BadTableName)
     (range : Is kinds.NumberOutOfRange) (deep : Is kinds.TooDeep) where

@@ -3,7 +3,7 @@ use Rattle.std.proofs.Common.{◌≡◌, ◌⊎◌, inl, inr, ℕ, zero, suc, �
 use Rattle.lab_table.specs.TableName.{test_name}
 use Rattle.lab_statement.specs.declared.token.Token.{Token}
 use Rattle.lab_statement.specs.Stopping.{Reads, row_read, Stops, if_found, token_read}
-use Rattle.lab_script.specs.FirstFaults.{row_table_of, row_table_read, named_row_read, row_onto_read, rows_onto_read, rows_read, table_read, setup_end_read, setup_read, setup_ended}
+use Rattle.lab_script.specs.FirstFaults.{row_table_of, row_table_read, named_row_read, row_onto_read, repeated_read, rows_read, table_read, setup_end_read, setup_read, setup_ended}
 use Rattle.lab_statement.proofs.Readings.{reads_is, bind_reads, found_reads, nothing_is, token_is, under_limit}
 use Rattle.std.specs.Prelude.{ℤ, nat_le}
 use Rattle.lab_table.specs.Row.{Row, numbered, row_cmp}
@@ -88,17 +88,17 @@ row_onto_again {ts} {id} {value} h before none rest =
 
 -- rows of the grammar are added to those before them, where no row comes twice
 rows_again : {ts : List Token} {rows : List (Row × ℤ)} → IsRows ts rows → (before : List (Row × ℤ)) → AllDistinct (before ++ rows) → (end : List Token) → after token.Comma end ≡ None
-    → (k : ℕ) → length (ts ++ end) < k → rows_onto_read k (table_of before) (ts ++ end) ≡ Reads (table_of (before ++ rows), end)
-unfolding rows_onto_read
+    → (k : ℕ) → length (ts ++ end) < k → repeated_read k row_onto_read (after token.Comma) (table_of before) (ts ++ end) ≡ Reads (table_of (before ++ rows), end)
+unfolding repeated_read
 rows_again h before all end none zero lt = absurd (omega (arith, lt))
 rows_again (line_grammar.last {ts} {row} {value} h) before all end none (suc k) lt =
-    rw (rows_onto_read, row_onto_again h before (not_before before [] (row, value) all) end, none) refl
+    rw (repeated_read, row_onto_again h before (not_before before [] (row, value) all) end, none) refl
 rows_again (line_grammar.more {ts} {rest} {row} {value} {rows} h hs) before all end none (suc k) lt =
     let text : ts ++ token.Comma ∷ rest ++ end ≡ ts ++ (token.Comma ∷ (rest ++ end)) = append_assoc ts (token.Comma ∷ rest) end in
     let listed : before ++ (row, value) ∷ rows ≡ before ++ (row, value) ∷ [] ++ rows = sym (append_assoc before ((row, value) ∷ []) rows) in
     let long : length (ts ++ token.Comma ∷ rest ++ end) ≡ length ts + suc (length (rest ++ end)) = ap length text ∙ length-append ts (token.Comma ∷ (rest ++ end)) in
     let next = rows_again hs (before ++ (row, value) ∷ []) (subst AllDistinct listed all) end none k (omega (arith, lt, long)) in
-    rw (text, rows_onto_read, row_onto_again h before (not_before before rows (row, value) all) (token.Comma ∷ (rest ++ end))) (next ∙ ap (λ (l : List (Row × ℤ)). Reads (table_of l, end)) (sym listed))
+    rw (text, repeated_read, row_onto_again h before (not_before before rows (row, value) all) (token.Comma ∷ (rest ++ end))) (next ∙ ap (λ (l : List (Row × ℤ)). Reads (table_of l, end)) (sym listed))
 
 id_no_close : {ts : List Token} {id : ℕ} → IsId ts id → (rest : List Token) → after token.Close (ts ++ rest) ≡ None
 id_no_close (grammar.named id number low high) rest = no_close number rest
@@ -190,15 +190,15 @@ more_added before ts rest x y r comma s =
     }
 
 -- what is read as rows is rows of the grammar, none of which comes twice
-rows_take : (k : ℕ) (x : Table × List Token) (before : List (Row × ℤ)) (ts : List Token) → AllDistinct before → rows_onto_read k (table_of before) ts ≡ Reads x → RowsAdded before ts x
-unfolding rows_onto_read
+rows_take : (k : ℕ) (x : Table × List Token) (before : List (Row × ℤ)) (ts : List Token) → AllDistinct before → repeated_read k row_onto_read (after token.Comma) (table_of before) ts ≡ Reads x → RowsAdded before ts x
+unfolding repeated_read
 rows_take zero x before ts all e = absurd cc
 rows_take (suc k) x before ts all e =
     let a = bind_reads (row_onto_read (table_of before) ts) _ x e in
     let r = row_onto_takes before ts a.0 a.1 in
     let distinct = pushed_distinct before r.row all r.absent in
     found_reads token.Comma a.0.1 _ _ x a.2
-    (λ rest comma h. more_added before ts rest x a.0 r comma (rows_take k x (before ++ r.row ∷ []) rest distinct (ap (λ (t : Table). rows_onto_read k t rest) (sym r.table) ∙ h)))
+    (λ rest comma h. more_added before ts rest x a.0 r comma (rows_take k x (before ++ r.row ∷ []) rest distinct (ap (λ (t : Table). repeated_read k row_onto_read (after token.Comma) t rest) (sym r.table) ∙ h)))
     (λ none h. subst (RowsAdded before ts) (reads_is a.0 x h) (one_added before ts a.0 all r))
 
 -- the parentheses of no row

@@ -1,23 +1,32 @@
--- What lines spell: a line makes one thing at most of what stands before it, and so do lines.
-use Rattle.std.proofs.Common.{◌≡◌, ℕ, ◌+◌, ◌≤◌, Bool, true, cond, List, [], ◌∷◌, ◌++◌, length, map, Option, Some, refl, sym, ap, subst, ◌∙◌, arith, length-append}
-use Rattle.std.specs.Prelude.{◌-◌, IfSome}
+-- What lines spell: a line makes one thing at most of what stands before it, and so do lines; what is made prints.
+use Rattle.std.proofs.Common.{◌≡◌, ℕ, ◌+◌, ◌≤◌, Bool, true, cond, List, [], ◌∷◌, ◌++◌, length, map, Option, Some, refl, sym, ap, subst, ◌∙◌, arith, length-append, false, None}
+use Rattle.std.specs.Prelude.{◌-◌, IfSome, nat_lt}
 use Rattle.std.specs.List.{list_all}
 use Rattle.std.specs.Char.{to_ascii_lowercase, is_ascii_digit}
 use Rattle.std.proofs.lemmas.List.{length-map}
-use Rattle.std.proofs.lemmas.Bool.{and_parts, false≢true}
+use Rattle.std.proofs.lemmas.Bool.{and_parts, false≢true, ltb-false, or_parts}
 use Rattle.std.proofs.lemmas.Option.{same_Some}
 use Rattle.lab_table.specs.declared.statement.Command.{Command}
 use Rattle.lab_script.specs.declared.script.Line.{Line}
 use Rattle.lab_script.specs.declared.script.Script.{Script}
 use Rattle.lab_statement.specs.declared.token.Token.{Token}
-use Rattle.lab_statement.specs.declared.token.Token.TheVariants as token
 use Rattle.lab_statement.specs.Token.{gap, letters, whole, is_letter, is_blank, mark, tokens, tokens_from}
-use Rattle.lab_script.specs.Grammar.{IsCommands}
-use Rattle.lab_script.specs.Script as script
-use Rattle.lab_statement.specs.Text.{code_of}
-use Rattle.lab_script.specs.Script.{is_passed, IsFit, begins_setup, extended, LineSpells, LinesSpell}
+use Rattle.lab_script.specs.Grammar.{IsCommands, IsSetup, IsCommand}
+use Rattle.lab_statement.specs.Text.{code_of, remark_of, is_code_byte}
+use Rattle.lab_script.specs.Script.{is_passed, IsFit, begins_setup, extended, LineSpells, LinesSpell, session_of, TokensSpell, Spells}
 use Rattle.lab_script.proofs.ReadCommands.{commands_once, not_empty}
-use Rattle.lab_script.proofs.ReadSetup.{setup_once, setup_begins}
+use Rattle.lab_script.proofs.ReadSetup.{setup_once, setup_begins, setup_short}
+use Rattle.lab_statement.specs.HeldTokens.{held_tokens}
+use Rattle.lab_script.specs.Fault.{is_over}
+use Rattle.lab_script.proofs.HeldTokens.{held_setup, held_commands}
+use Rattle.lab_statement.specs.Each.{Each}
+use Rattle.lab_statement.specs.Limits.{CommandPrints}
+use Rattle.lab_statement.proofs.ShallowStatements.{statement_shallow}
+use Rattle.lab_script.specs.Limits.{AllPrint, ScriptPrints}
+use Rattle.lab_script.proofs.FewTables.{tables_extended}
+use Rattle.lab_statement.specs.declared.token.Token.TheVariants as token
+use Rattle.lab_script.specs.Script as script
+use Rattle.lab_script.specs.Grammar as line_grammar
 
 -- blanks have no tokens
 pub no_tokens : (code : List ℕ) → list_all is_blank code ≡ true → tokens code ≡ []
@@ -92,3 +101,70 @@ line_few {number} (script.commands {cs = cs} {session = one} s fit spelled sessi
     let more : List Line = map (λ c. record { session = one; command = c; text_line = number }) cs in
     let len : length more ≡ length cs = length-map cs _ in
     omega (arith, length-append s.lines more)
+
+module _ (number : ℕ) (line : List ℕ) {code remark : List ℕ} (within : is_over number line ≡ false) (code_is : code ≡ code_of line) (remark_is : remark ≡ remark_of line) where
+  module _ (ascii : list_all is_code_byte code ≡ true) where
+    fit : IsFit number line
+    fit =
+        let both = or_parts (nat_lt 2000 number) (nat_lt 4000 (length line)) within in
+        record { lines = ltb-false 2000 number both.0; bytes = ltb-false 4000 (length line) both.1; ascii = ap (list_all is_code_byte) (sym code_is) ∙ ascii }
+
+    pub blank_line : (before : Option Script) → list_all is_blank code ≡ true → LineSpells number line before before
+    blank_line before blank = script.passed before fit (ap (list_all is_blank) (sym code_is) ∙ blank)
+
+    module _ {ts : List Token} (of_code : ts ≡ held_tokens code) where
+      of_line : ts ≡ held_tokens (code_of line)
+      of_line = of_code ∙ ap held_tokens code_is
+
+      -- a line spells what its tokens spell
+      pub tokens_line : (before after : Option Script) → TokensSpell number ts remark before after → LineSpells number line before after
+      tokens_line None after (table, is, small, e) =
+          subst (LineSpells number line None) (sym e) (script.setup fit (held_setup _ table (subst (λ us. IsSetup us table) of_line is)) small)
+      tokens_line (Some before) after (cs, session, is, named, room, small, e) =
+          subst (LineSpells number line (Some before)) (sym e)
+          (script.commands before fit (held_commands _ cs (subst (λ us. IsCommands us cs) of_line is)) (ap session_of (sym remark_is) ∙ named) room small)
+
+command_prints : {ts : List Token} {cs : List Command} → IsCommand ts cs → Each CommandPrints cs
+command_prints (line_grammar.level t ts all) = tt
+command_prints (line_grammar.run h le) = (record { shallow = statement_shallow h; short = le }, tt)
+command_prints is = (tt, tt)
+
+both_print : (cs ds : List Command) → Each CommandPrints cs → Each CommandPrints ds → Each CommandPrints (cs ++ ds)
+both_print [] ds h i = i
+both_print (c ∷ cs) ds h i = (h.0, both_print cs ds h.1 i)
+
+-- the commands of a line print
+pub commands_print : {ts : List Token} {cs : List Command} → IsCommands ts cs → Each CommandPrints cs
+commands_print (line_grammar.one h) = command_prints h
+commands_print (line_grammar.closed h) = command_prints h
+commands_print (line_grammar.more {cs} {ds} h hs) = both_print cs ds (command_prints h) (commands_print hs)
+
+-- lines print, and so do those of commands behind them
+all_print : (lines : List Line) (cs : List Command) (session number : ℕ) → AllPrint lines → Each CommandPrints cs
+    → AllPrint (lines ++ map (λ c. record { session = session; command = c; text_line = number }) cs)
+all_print [] [] session number lines commands = tt
+all_print [] (c ∷ cs) session number lines commands = (commands.0, all_print [] cs session number tt commands.1)
+all_print (line ∷ lines) cs session number all commands = (all.0, all_print lines cs session number all.1 commands)
+
+-- what a line makes of a script that prints prints
+line_prints : {number : ℕ} {line : List ℕ} {before after : Option Script} → LineSpells number line before after → IfSome before ScriptPrints → IfSome after ScriptPrints
+line_prints (script.passed s fit is) prints = prints
+line_prints (script.setup fit spelled small) prints = record { setup = setup_short spelled; few = omega arith; lines = tt; tables = small }
+line_prints {number} (script.commands {cs = cs} {session = one} s fit spelled session room small) prints =
+    let more : List Line = map (λ c. record { session = one; command = c; text_line = number }) cs in
+    let len : length more ≡ length cs = length-map cs _ in
+    record {
+      setup = prints.setup;
+      few = omega (arith, length-append s.lines more);
+      lines = all_print s.lines cs one number prints.lines (commands_print spelled);
+      tables = subst (λ names. length names ≤ 4) (sym (tables_extended s one number cs)) small;
+    }
+
+-- lines keep a script printing
+lines_print : (number : ℕ) (before : Option Script) (ls : List (List ℕ)) (after : Option Script) → LinesSpell number before ls after → IfSome before ScriptPrints → IfSome after ScriptPrints
+lines_print number before [] after spelled prints = subst (λ (s : Option Script). IfSome s ScriptPrints) (sym spelled) prints
+lines_print number before (line ∷ ls) after spelled prints = lines_print (number + 1) spelled.0 ls after spelled.2 (line_prints spelled.1 prints)
+
+-- a script that a text spells prints
+pub spelled_prints : (text : List ℕ) (s : Script) → Spells text s → ScriptPrints s
+spelled_prints text s spelled = lines_print 1 None _ (Some s) spelled tt

@@ -78,19 +78,23 @@ step_read room cs ts = do
   ds ← one_added room cs c.0 c.1
   Reads (ds, c.1)
 
--- commands with those of all statements that are left, which are at most k
-unfoldable pub more_commands_read : List Token → ℕ → ℕ → List Command → Reading (List Command)
-more_commands_read [] k room cs = Reads cs
-more_commands_read (t ∷ ts) zero room cs = Stops UnknownStatement (t ∷ ts)
-more_commands_read (t ∷ ts) (suc k) room cs = do
-  s ← step_read room cs (t ∷ ts)
-  more_commands_read s.1 k room s.0
+-- items one after another, each behind what was made of those before it, as long as another is to come, at most k of them
+unfoldable pub repeated_read : {A : Type 0} → ℕ → (A → List Token → Reading (A × List Token)) → (List Token → Option (List Token)) → A → List Token → Reading (A × List Token)
+repeated_read zero item next a ts = Stops UnknownStatement ts
+repeated_read (suc k) item next a ts = do
+  x ← item a ts
+  if_found (next x.1) (λ rest. repeated_read k item next x.0 rest) (Reads x)
+
+-- what is left, if anything is
+abbrev pub some_left : List Token → Option (List Token)
+some_left [] = None
+some_left (t ∷ ts) = Some (t ∷ ts)
 
 -- the commands of a line, for which there is this much room
 unfoldable pub commands_read : ℕ → List Token → Reading (List Command)
 commands_read room ts = do
-  s ← step_read room [] ts
-  more_commands_read s.1 (length s.1) room s.0
+  x ← repeated_read (suc (length ts)) (step_read room) some_left [] ts
+  Reads x.0
 
 -- a row that is added to a table, and stops at its end where it is present
 unfoldable pub row_onto_read : Table → List Token → Reading (Table × List Token)
@@ -98,16 +102,9 @@ row_onto_read table ts = do
   row ← named_row_read ts
   if map.contains_key table row.0.0 then Stops DuplicateSetupRow row.1 else Reads (map.insert table row.0.0 row.0.1, row.1)
 
--- rows with a comma between two of them, at most k, that are added to a table one by one
-unfoldable pub rows_onto_read : ℕ → Table → List Token → Reading (Table × List Token)
-rows_onto_read zero table ts = Stops UnknownStatement ts
-rows_onto_read (suc k) table ts = do
-  x ← row_onto_read table ts
-  if_found (after token.Comma x.1) (λ rest. rows_onto_read k x.0 rest) (Reads x)
-
--- one row or more
+-- one row or more, with a comma between two of them, that are added to a table one by one
 unfoldable pub rows_read : List Token → Reading (Table × List Token)
-rows_read ts = rows_onto_read (suc (length ts)) map.empty ts
+rows_read ts = repeated_read (suc (length ts)) row_onto_read (after token.Comma) map.empty ts
 
 -- no row, or rows
 unfoldable pub table_read : List Token → Reading (Table × List Token)

@@ -22,11 +22,12 @@ pub fn commands(alloc: Global, parser: &mut Parser, room: usize) -> Result<Vec<C
     ensures { Comes (λ x. x.items) result parser.new (commands_read room parser.old) }
 {
     let mut commands = Vec::new(alloc);
-    step(alloc, parser, room, &mut commands)?;
-    while !parser.is_done() {
+    loop {
         step(alloc, parser, room, &mut commands)?;
+        if parser.is_done() {
+            return Ok(commands);
+        }
     }
-    Ok(commands)
 }
 
 /// Reads a statement with its end, and adds its command.

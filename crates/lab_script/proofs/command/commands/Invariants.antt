@@ -1,12 +1,11 @@
-use Rattle.std.proofs.Common.{◌≡◌, ℕ, ◌≤◌, length}
-use Rattle.lab_script.specs.FirstFaults.{more_commands_read, commands_read}
+use Rattle.std.proofs.Common.{◌≡◌, ℕ, suc, ◌<◌, [], length}
+use Rattle.lab_script.specs.FirstFaults.{repeated_read, some_left, step_read}
 use Rattle.lab_script.proofs.command.commands.Given as goal
 
-abbrev pub invariant-loop-alloc : goal.invariant-loop-alloc
-invariant-loop-alloc l = record {
-  fits : length l.commands.items ≤ l.room;
-  so_far : (k : ℕ) × (length l.parser ≤ k) × (more_commands_read l.parser k l.room l.commands.items ≡ commands_read l.room l.fn.parser);
-}
+-- what is left, behind the commands so far, gives the whole
+abbrev pub invariant-loop-commands : goal.invariant-loop-commands
+invariant-loop-commands l =
+    (k : ℕ) × (length l.parser < k) × (repeated_read k (step_read l.room) some_left l.commands.items l.parser ≡ repeated_read (suc (length l.fn.parser)) (step_read l.room) some_left [] l.fn.parser)
 
-abbrev pub decreases-loop-alloc : goal.decreases-loop-alloc
-decreases-loop-alloc l = length l.parser
+abbrev pub decreases-loop-commands : goal.decreases-loop-commands
+decreases-loop-commands l = length l.parser

@@ -4,7 +4,7 @@ use Rattle.std.proofs.lemmas.Result.{IfOk-weaker, err_from_is_err_and}
 use Rattle.lab_script.specs.Script.{Spells}
 use Rattle.lab_script.specs.Fault.{IsFaultOf}
 use Rattle.lab_script.proofs.FirstFault.{IsReadTo, none_read, one_more_read, only_read, line_faults, whole_read, if_read}
-use Rattle.lab_script.proofs.SpelledPrints.{spelled_prints}
+use Rattle.lab_script.proofs.ScriptLines.{spelled_prints}
 use Rattle.lab_script.proofs.TextLines.{text_lines}
 use Rattle.lab_script.proofs.parse.parse_script.Goals as goal
 

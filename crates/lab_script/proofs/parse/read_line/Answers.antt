@@ -1,6 +1,6 @@
 use Rattle.std.proofs.Common.{sym, ◌∙◌}
 use Rattle.std.proofs.lemmas.Result.{on_ok_weaker}
-use Rattle.lab_script.proofs.ReadLines.{blank_line, tokens_line}
+use Rattle.lab_script.proofs.ScriptLines.{blank_line, tokens_line}
 use Rattle.lab_script.proofs.parse.read_line.Goals as goal
 
 pub returns-then-is_blank_code-clause-found : goal.returns-then-is_blank_code-clause-found

@@ -1,10 +1,12 @@
 use Rattle.std.proofs.Common.{◌≡◌, ℕ, ◌<◌, length}
-use Rattle.lab_script.specs.FirstFaults.{rows_onto_read, rows_read}
+use Rattle.lab_statement.specs.declared.token.Token.TheVariants as token
+use Rattle.lab_statement.specs.Reading.{after}
+use Rattle.lab_script.specs.FirstFaults.{repeated_read, row_onto_read, rows_read}
 use Rattle.lab_script.proofs.setup.rows.Given as goal
 
 -- what is left, added to the table so far, gives the whole
 abbrev pub invariant-loop-table : goal.invariant-loop-table
-invariant-loop-table l = (k : ℕ) × (length l.parser < k) × (rows_onto_read k l.table l.parser ≡ rows_read l.fn.parser)
+invariant-loop-table l = (k : ℕ) × (length l.parser < k) × (repeated_read k row_onto_read (after token.Comma) l.table l.parser ≡ rows_read l.fn.parser)
 
 abbrev pub decreases-loop-table : goal.decreases-loop-table
 decreases-loop-table l = length l.parser
