@@ -51,5 +51,7 @@ pub mod DoneTransactions
 pub mod RecordedCommits
 pub mod RecordedViews
 mod Shown
+mod Paths
+mod NewWaiters
 mod QuietEvents
 pub mod OneRecording
