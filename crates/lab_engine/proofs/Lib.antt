@@ -52,5 +52,7 @@ pub mod DoneTransactions
 pub mod RecordedCommits
 pub mod RecordedViews
 mod Shown
+mod Paths
+mod NewWaiters
 mod QuietEvents
 pub mod OneRecording

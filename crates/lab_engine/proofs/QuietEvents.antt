@@ -1,10 +1,12 @@
 -- Events that free no session that waits.
-use Rattle.std.proofs.Common.{◌≡◌, ◌≢◌, ℕ, refl, sym, ap, subst, ◌∙◌, false, cond, List, [], ◌∷◌, ◌==◌, Option, Some, None, inl, inr, IsTrue, ◌||◌, ◌+◌, ◌↔◌, length, is_some, option_map}
+use Rattle.std.proofs.Common.{◌≡◌, ◌≢◌, ℕ, refl, sym, ap, subst, ◌∙◌, false, cond, List, [], ◌∷◌, ◌==◌, Option, Some, None, inl, inr, IsTrue, ◌||◌, ◌+◌, ◌↔◌, length, is_some, option_map, Contains, arith}
 use Rattle.std.specs.FinMap as map
-use Rattle.lab_engine.proofs.Common.{none_some, cases_eq, eq-eqb, ne_eqb, both_ways, or_cases, or_left, or_right, matches, State, HoldsWrite, eqb-true, Row, row_cmp, Rows, Run, View, Table, Writes, Statement, Command, Level, Outcome, Begun, Listed, Committed, Refused, NoTransaction, AlreadyBegun, Busy, Op, Past, Txn, LogEvent, active, active_after, waiting, waiting_after, version_by, version_or, has_read, Blocks, BlockedBy, IsChain, Permitted, IsRetryable, NoneRetryable, grown}
+use Rattle.lab_engine.proofs.Common.{none_some, cases_eq, eq-eqb, ne_eqb, both_ways, or_cases, or_left, or_right, matches, State, HoldsWrite, eqb-true, Row, row_cmp, Rows, Run, View, Table, Writes, Statement, Command, Level, Outcome, Begun, Listed, Committed, Refused, Waits, asked, NoTransaction, AlreadyBegun, Busy, Op, Past, Txn, LogEvent, active, active_after, waiting, waiting_after, version_by, version_or, has_read, Blocks, BlockedBy, IsChain, Permitted, IsRetryable, NoneRetryable, grown}
 use Rattle.lab_engine.specs.declared.event.Level.TheVariants.{Locking, Snapshot, Committed as ReadCommitted}
 use Rattle.lab_engine.specs.Rules.{HoldsMatch, HasRead}
 use Rattle.lab_engine.specs.Answer.{IsRetryChoice}
+use Rattle.lab_engine.specs.Recording.{is_answer}
+use Rattle.lab_engine.proofs.NewWaiters.{BeginsToWait, none_retryable_waiting}
 use Rattle.lab_engine.specs.EventQuery.{frees_nobody}
 
 -- ---- from blockers to sessions that are retryable
@@ -137,22 +139,60 @@ runs_on level setup past e s view rows writes none =
       blocks = λ holder is. (grown holder op, ap (option_map (λ t. grown t op)) is, λ asker t b. still_blocks level setup past asker t holder op (written_none writes none) b);
     }
 
--- so does one after each event that frees nobody
-goes_on_after : (level : Level) (setup : Table) (past : Past) (e : ℕ) (command : Command) (outcome : Outcome) → IsTrue (frees_nobody outcome) → Permitted level setup past e command outcome
-    → GoesOn level setup past e command outcome
-goes_on_after level setup past e command (Begun n) frees (begin, idle, number) = record { waits = λ s is. none_some _ is; blocks = λ holder is. none_some _ (sym idle ∙ is) }
-goes_on_after level setup past e command (Listed view rows writes) frees (s, txn, asks, free, effect) =
+-- so does one after each event that frees nobody and answers
+goes_on_after : (level : Level) (setup : Table) (past : Past) (e : ℕ) (command : Command) (outcome : Outcome) → IsTrue (frees_nobody outcome) → IsTrue (is_answer outcome)
+    → Permitted level setup past e command outcome → GoesOn level setup past e command outcome
+goes_on_after level setup past e command (Begun n) frees answers (begin, idle, number) = record { waits = λ s is. none_some _ is; blocks = λ holder is. none_some _ (sym idle ∙ is) }
+goes_on_after level setup past e command (Listed view rows writes) frees answers (s, txn, asks, free, effect) =
     subst (λ c. GoesOn level setup past e c (Listed view rows writes)) (sym asks.command_is) (runs_on level setup past e s view rows writes frees)
-goes_on_after level setup past e command (Refused NoTransaction) frees permitted = record { waits = λ s is. none_some _ is; blocks = λ holder is. (holder, is, λ asker s b. b) }
-goes_on_after level setup past e command (Refused AlreadyBegun) frees permitted = record { waits = λ s is. none_some _ is; blocks = λ holder is. (holder, is, λ asker s b. b) }
-goes_on_after level setup past e command (Refused Busy) frees permitted = record { waits = λ s is. (is, refl); blocks = λ holder is. (holder, is, λ asker s b. b) }
-goes_on_after level setup past e command other frees permitted = absurd (both_ways _ refl frees)
+goes_on_after level setup past e command (Refused NoTransaction) frees answers permitted = record { waits = λ s is. none_some _ is; blocks = λ holder is. (holder, is, λ asker s b. b) }
+goes_on_after level setup past e command (Refused AlreadyBegun) frees answers permitted = record { waits = λ s is. none_some _ is; blocks = λ holder is. (holder, is, λ asker s b. b) }
+goes_on_after level setup past e command (Refused Busy) frees answers permitted = record { waits = λ s is. (is, refl); blocks = λ holder is. (holder, is, λ asker s b. b) }
+goes_on_after level setup past e command (Waits on) frees answers permitted = absurd (both_ways _ refl answers)
+goes_on_after level setup past e command other frees answers permitted = absurd (both_ways _ refl frees)
+
+-- where a session's statement waits, it is blocked, and on no cycle
+module _ (level : Level) (setup : Table) (past : Past) (e : ℕ) (command : Command) (on : List ℕ) where
+  abbrev waiter : Past
+  waiter = record { session = e; command = command; outcome = Waits on } ∷ past
+
+  all_active : (k : ℕ) → active waiter k ≡ active past k
+  all_active k = elim (cases_eq e k) [
+    | inl own ↦ subst (λ j. active waiter j ≡ active past j) own (own_active level setup past e command (Waits on))
+    | inr apart ↦ other_active level setup past e command (Waits on) k apart
+  ]
+
+  begins_to_wait : (s : Statement) → command ≡ Run s → BeginsToWait level setup past waiter e s
+  begins_to_wait s is = record {
+    own = own_waiting level setup past e command (Waits on) ∙ ap asked is;
+    others = other_waiting level setup past e command (Waits on);
+    same = λ k other t. (
+      (λ b. (b.0, b.1, b.2, sym (all_active k) ∙ b.3, sym (all_active other) ∙ b.4, (same_blocks level setup past e command (Waits on) refl b.0 b.1 t).0 b.5)),
+      (λ b. (b.0, b.1, b.2, all_active k ∙ b.3, all_active other ∙ b.4, (same_blocks level setup past e command (Waits on) refl b.0 b.1 t).1 b.5)),
+    );
+  }
+
+-- a list that isn't empty has a first element
+some_element : (xs : List ℕ) → xs ≢ [] → (x : ℕ) × Contains xs x
+some_element [] some = absurd (some refl)
+some_element (x ∷ xs) some = (x, (0, omega arith, refl))
+
+none_waiting : (level : Level) (setup : Table) (past : Past) (e : ℕ) (command : Command) (on : List ℕ) → Permitted level setup past e command (Waits on)
+    → NoneRetryable level setup past → NoneRetryable level setup (record { session = e; command = command; outcome = Waits on } ∷ past)
+none_waiting level setup past e command on (s, txn, asks, rising, blocking, some, no_circle) none =
+    let first = some_element on some in
+    none_retryable_waiting level setup past (waiter level setup past e command on) e s (begins_to_wait level setup past e command on s asks.command_is)
+    (first.0, (blocking first.0).0 first.1) no_circle none
+
+none_goes_on : (level : Level) (setup : Table) (past : Past) (e : ℕ) (command : Command) (outcome : Outcome) → IsTrue (frees_nobody outcome) → Permitted level setup past e command outcome
+    → NoneRetryable level setup past → NoneRetryable level setup (record { session = e; command = command; outcome = outcome } ∷ past)
+none_goes_on level setup past e command (Waits on) frees permitted none = none_waiting level setup past e command on permitted none
+none_goes_on level setup past e command other frees permitted none = λ session retryable.
+    none session (retryable_before level setup past (record { session = e; command = command; outcome = other } ∷ past)
+    (goes_on_quiet level setup past e command other frees (goes_on_after level setup past e command other frees refl permitted)) session retryable)
 
 -- where nobody was retryable nobody is after an event that frees nobody
 pub none_after : (level : Level) (setup : Table) (past : Past) (event : LogEvent) (before : Option ℕ) → is_some before ≡ false → IsTrue (frees_nobody event.outcome)
     → Permitted level setup past event.session event.command event.outcome → IsRetryChoice level setup past before → NoneRetryable level setup (event ∷ past)
 none_after level setup past event (Some session) is frees permitted choice = absurd (both_ways _ is refl)
-none_after level setup past event None is frees permitted none = λ session retryable.
-    none session (retryable_before level setup past (event ∷ past)
-    (goes_on_quiet level setup past event.session event.command event.outcome frees
-    (goes_on_after level setup past event.session event.command event.outcome frees permitted)) session retryable)
+none_after level setup past event None is frees permitted none = none_goes_on level setup past event.session event.command event.outcome frees permitted none

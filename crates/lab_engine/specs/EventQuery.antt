@@ -47,5 +47,5 @@ frees_nobody (Begun n) = true
 frees_nobody (Listed view rows writes) = map.len writes == 0
 frees_nobody Committed = false
 frees_nobody Aborted = false
-frees_nobody (Waits on) = false
+frees_nobody (Waits on) = true
 frees_nobody (Refused fault) = not (is_fatal fault)

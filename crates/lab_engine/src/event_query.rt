@@ -82,7 +82,7 @@ pub fn frees_nobody(outcome: &Outcome) -> bool
         Outcome::Rows { writes, .. } => writes.entries().is_empty(),
         Outcome::Committed => false,
         Outcome::Aborted => false,
-        Outcome::Waits { .. } => false,
+        Outcome::Waits { .. } => true,
         Outcome::Refused(fault) => !is_fatal_fault(fault),
     }
 }
