@@ -3,7 +3,8 @@ use Rattle.std.proofs.Common.{◌≡◌, ℕ, Bool, true, false, List, [], ◌�
 use Rattle.std.specs.Prelude.{ℤ, ◌&&◌, nat_le, Option}
 use Rattle.std.specs.List.{list_all}
 use Rattle.std.proofs.lemmas.Bool.{false≢true, le-leb, leb-true, and_parts}
-use Rattle.std.proofs.Math.Bool.{and-false, and_assoc}
+use Rattle.std.proofs.Math.Bool.{and-false}
+use Rattle.std.proofs.lemmas.List.Folds.{list_all-append}
 use Rattle.lab_table.specs.Predicate.{Predicate}
 use Rattle.lab_table.specs.declared.statement.Statement.{Statement}
 use Rattle.lab_table.specs.declared.predicate.Col.{Col}
@@ -33,12 +34,8 @@ AllKnown ts = list_all is_known ts ≡ true
 one : (t : Token) (ts : List Token) → is_known t ≡ true → AllKnown ts → AllKnown (t ∷ ts)
 one t ts is all = ap (λ (v : Bool). v && list_all is_known ts) is ∙ all
 
-joined : (ts rest : List Token) → list_all is_known (ts ++ rest) ≡ (list_all is_known ts && list_all is_known rest)
-joined [] rest = refl
-joined (t ∷ ts) rest = ap (λ (v : Bool). is_known t && v) (joined ts rest) ∙ sym (and_assoc (is_known t) (list_all is_known ts) (list_all is_known rest))
-
 pub both : (ts rest : List Token) → AllKnown ts → AllKnown rest → AllKnown (ts ++ rest)
-both ts rest one other = joined ts rest ∙ ap (λ (v : Bool). v && list_all is_known rest) one ∙ other
+both ts rest one other = list_all-append is_known ts rest ∙ ap (λ (v : Bool). v && list_all is_known rest) one ∙ other
 
 number_known : {ts : List Token} {z : ℤ} → IsNumber ts z → AllKnown ts
 number_known (grammar.positive n le) = one (token.Digits n) [] (le-leb n 1000000000 le) refl
@@ -107,7 +104,7 @@ whole_known whole = let parts = whole.parts in ap (list_all is_known) parts.2 �
 -- no statement ends in a byte that begins no token
 pub closed_known : (ts : List Token) (s : Statement) → IsWholeStatement (ts ++ token.Unknown ∷ []) s → ⊥
 closed_known ts s closed =
-    false≢true (sym (and-false (list_all is_known ts)) ∙ sym (joined ts (token.Unknown ∷ [])) ∙ whole_known closed)
+    false≢true (sym (and-false (list_all is_known ts)) ∙ sym (list_all-append is_known ts (token.Unknown ∷ [])) ∙ whole_known closed)
 
 -- a token that is one of the grammar, or is held as one, is held as it is
 known_kept : (t : Token) → is_known t ≡ true → held t ≡ t

@@ -1,5 +1,4 @@
 pub mod Tokens
-pub mod HeldDigits
 pub mod SameTokens
 pub mod Tests
 pub mod Numbers
@@ -12,7 +11,6 @@ pub mod PutTexts
 pub mod ReadNames
 pub mod ReadRows
 pub mod AtomParts
-pub mod ReadAtoms
 pub mod ReadPredicates
 pub mod ReadStatements
 pub mod Remarks

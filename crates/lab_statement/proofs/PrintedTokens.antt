@@ -29,20 +29,14 @@ pred_tokens (predicate.Or p q) = pred_tokens p ++ token.Word word.Or ∷ wrapped
 
 -- the kind that a predicate's printed form has
 abbrev kind_of : Predicate → Kind
-kind_of (predicate.Compare c m n) = N
-kind_of (predicate.Remainder c m r) = N
-kind_of (predicate.OneOf c ns) = N
-kind_of (predicate.Not p) = N
 kind_of (predicate.And p q) = A
 kind_of (predicate.Or p q) = P
+kind_of p = N
 
 any_kind : {d : ℕ} {ts : List Token} (p q : Predicate) → IsPred d (kind_of q) ts p → IsPred d P ts p
-any_kind p (predicate.Compare c m n) h = grammar.one_member (grammar.one_factor h)
-any_kind p (predicate.Remainder c m r) h = grammar.one_member (grammar.one_factor h)
-any_kind p (predicate.OneOf c ns) h = grammar.one_member (grammar.one_factor h)
-any_kind p (predicate.Not q) h = grammar.one_member (grammar.one_factor h)
 any_kind p (predicate.And q r) h = grammar.one_member h
 any_kind p (predicate.Or q r) h = h
+any_kind p q h = grammar.one_member (grammar.one_factor h)
 
 inside : (d k : ℕ) (ts : List Token) (p : Predicate) → ((e : ℕ) → k ≤ e → IsPred e P ts p) → suc k ≤ d → IsPred d N (token.Open ∷ ts ++ token.Close ∷ []) p
 inside zero k ts p h le = absurd (omega arith)
@@ -52,20 +46,14 @@ abbrev Good : Predicate → Type 0
 Good p = (d : ℕ) → depth_of p ≤ d → IsPred d (kind_of p) (pred_tokens p) p
 
 as_conj : (d : ℕ) (p : Predicate) → Good p → deeper (is_or p) (depth_of p) ≤ d → IsPred d A (wrapped (is_or p) (pred_tokens p)) p
-as_conj d (predicate.Compare c m n) h le = grammar.one_factor (h d le)
-as_conj d (predicate.Remainder c m r) h le = grammar.one_factor (h d le)
-as_conj d (predicate.OneOf c ns) h le = grammar.one_factor (h d le)
-as_conj d (predicate.Not p) h le = grammar.one_factor (h d le)
 as_conj d (predicate.And p q) h le = h d le
 as_conj d (predicate.Or p q) h le = grammar.one_factor (inside d (depth_of (predicate.Or p q)) (pred_tokens (predicate.Or p q)) (predicate.Or p q) h le)
+as_conj d p h le = grammar.one_factor (h d le)
 
 as_term : (d : ℕ) (p : Predicate) → Good p → deeper (is_and p || is_or p) (depth_of p) ≤ d → IsPred d N (wrapped (is_and p || is_or p) (pred_tokens p)) p
-as_term d (predicate.Compare c m n) h le = h d le
-as_term d (predicate.Remainder c m r) h le = h d le
-as_term d (predicate.OneOf c ns) h le = h d le
-as_term d (predicate.Not p) h le = h d le
 as_term d (predicate.And p q) h le = inside d (depth_of (predicate.And p q)) (pred_tokens (predicate.And p q)) (predicate.And p q) (λ e l. grammar.one_member (h e l)) le
 as_term d (predicate.Or p q) h le = inside d (depth_of (predicate.Or p q)) (pred_tokens (predicate.Or p q)) (predicate.Or p q) h le
+as_term d p h le = h d le
 
 negated : (d : ℕ) (p : Predicate) → Good p → suc (deeper (is_and p || is_or p) (depth_of p)) ≤ d
     → IsPred d N (token.Word word.Not ∷ wrapped (is_and p || is_or p) (pred_tokens p)) (predicate.Not p)

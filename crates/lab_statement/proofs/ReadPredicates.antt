@@ -6,12 +6,13 @@ use Rattle.lab_table.specs.declared.predicate.Col.TheVariants as col
 use Rattle.lab_table.specs.declared.word.Word.TheVariants as word
 use Rattle.lab_statement.specs.declared.token.Token.{Token}
 use Rattle.lab_statement.specs.declared.token.Token.TheVariants as token
-use Rattle.lab_statement.specs.Grammar.{Kind, P, A, N, IsAtom, IsPred, IsWhere}
+use Rattle.lab_statement.specs.Grammar.{Kind, P, A, N, IsAtom, IsPred, IsWhere, col_token}
 use Rattle.lab_statement.specs.Grammar as grammar
 use Rattle.lab_statement.specs.Reading.{after}
-use Rattle.lab_statement.specs.Stopping.{Reads, term_read, conj_read, pred_read, where_read}
-use Rattle.lab_statement.proofs.ReadAtoms.{atom_again}
+use Rattle.lab_statement.specs.Stopping.{Reads, term_read, conj_read, pred_read, where_read, Reading, atom_read}
+use Rattle.lab_statement.proofs.AtomParts.{atom_again}
 use Rattle.lab_statement.proofs.StoppedLoops.{ReadsOn, starts, goes_on, ends}
+use Rattle.lab_table.specs.declared.predicate.Col.{Col}
 
 -- what reading gives in front of a rest: the value at once, or a value with which the loop goes on
 abbrev Again : ℕ → Kind → List Token → Predicate → Type 0
@@ -19,20 +20,18 @@ Again d N ts p = (rest : List Token) → term_read d (ts ++ rest) ≡ Reads (p, 
 Again d A ts p = (rest : List Token) → ReadsOn (term_read d) (token.Word word.And) predicate.And p rest (conj_read d (ts ++ rest))
 Again d P ts p = (rest : List Token) → after (token.Word word.And) rest ≡ None → ReadsOn (conj_read d) (token.Word word.Or) predicate.Or p rest (pred_read d (ts ++ rest))
 
-atom_term : (d : ℕ) {ts : List Token} {p : Predicate} → IsAtom ts p → (rest : List Token) → term_read d (ts ++ rest) ≡ Reads (p, rest)
+-- what begins with a column is read as an atom
+column_term : (d : ℕ) (c : Col) (ts : List Token) {r : Reading (Predicate × List Token)} → atom_read (col_token c ∷ ts) ≡ r → term_read d (col_token c ∷ ts) ≡ r
 unfolding term_read
-atom_term zero (grammar.compare col.Id m h) rest = atom_again (grammar.compare col.Id m h) rest
-atom_term zero (grammar.compare col.Value m h) rest = atom_again (grammar.compare col.Value m h) rest
-atom_term zero (grammar.one_of col.Id h) rest = atom_again (grammar.one_of col.Id h) rest
-atom_term zero (grammar.one_of col.Value h) rest = atom_again (grammar.one_of col.Value h) rest
-atom_term zero (grammar.remainder col.Id h low high i) rest = atom_again (grammar.remainder col.Id h low high i) rest
-atom_term zero (grammar.remainder col.Value h low high i) rest = atom_again (grammar.remainder col.Value h low high i) rest
-atom_term (suc d) (grammar.compare col.Id m h) rest = atom_again (grammar.compare col.Id m h) rest
-atom_term (suc d) (grammar.compare col.Value m h) rest = atom_again (grammar.compare col.Value m h) rest
-atom_term (suc d) (grammar.one_of col.Id h) rest = atom_again (grammar.one_of col.Id h) rest
-atom_term (suc d) (grammar.one_of col.Value h) rest = atom_again (grammar.one_of col.Value h) rest
-atom_term (suc d) (grammar.remainder col.Id h low high i) rest = atom_again (grammar.remainder col.Id h low high i) rest
-atom_term (suc d) (grammar.remainder col.Value h low high i) rest = atom_again (grammar.remainder col.Value h low high i) rest
+column_term zero col.Id ts is = is
+column_term zero col.Value ts is = is
+column_term (suc d) col.Id ts is = is
+column_term (suc d) col.Value ts is = is
+
+atom_term : (d : ℕ) {ts : List Token} {p : Predicate} → IsAtom ts p → (rest : List Token) → term_read d (ts ++ rest) ≡ Reads (p, rest)
+atom_term d (grammar.compare c m h) rest = column_term d c _ (atom_again (grammar.compare c m h) rest)
+atom_term d (grammar.one_of c h) rest = column_term d c _ (atom_again (grammar.one_of c h) rest)
+atom_term d (grammar.remainder c h low high i) rest = column_term d c _ (atom_again (grammar.remainder c h low high i) rest)
 
 shorter : (a b : List Token) → length b ≤ length (a ++ b)
 shorter a b = grind (arith, length-append)

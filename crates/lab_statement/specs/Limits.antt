@@ -25,21 +25,15 @@ pub record StatementPrints (s : Statement) : Type 0 where
 
 -- begin, commit and abort always print
 abbrev pub CommandPrints : Command → Type 0
-CommandPrints command.Begin = Unit {0}
-CommandPrints command.Commit = Unit {0}
-CommandPrints command.Abort = Unit {0}
 CommandPrints (command.Run s) = StatementPrints s
+CommandPrints c = Unit {0}
 
 -- a statement that is too deep
 abbrev pub IsDeep : Command → Type 0
-IsDeep command.Begin = ⊥
-IsDeep command.Commit = ⊥
-IsDeep command.Abort = ⊥
 IsDeep (command.Run s) = max_depth < statement_depth s
+IsDeep c = ⊥
 
 -- a statement that is too long
 abbrev pub IsLong : Command → Type 0
-IsLong command.Begin = ⊥
-IsLong command.Commit = ⊥
-IsLong command.Abort = ⊥
 IsLong (command.Run s) = max_statement_bytes < length (printed_statement s)
+IsLong c = ⊥

@@ -57,7 +57,5 @@ StatementInRange s = (is_table_name s.table ≡ true) × KindInRange s.kind
 
 -- the table's name and each number of what a command runs
 abbrev pub CommandInRange : Command → Type 0
-CommandInRange command.Begin = Unit {0}
-CommandInRange command.Commit = Unit {0}
-CommandInRange command.Abort = Unit {0}
 CommandInRange (command.Run s) = StatementInRange s
+CommandInRange c = Unit {0}

@@ -1,5 +1,5 @@
 use Rattle.std.proofs.Common.{sym, ◌∙◌, arith}
-use Rattle.lab_statement.proofs.HeldDigits.{held_on}
+use Rattle.lab_statement.proofs.Tokens.{held_on}
 use Rattle.lab_statement.proofs.token.digits_at.Goals as goal
 
 pub loop-i-preserved : goal.loop-i-preserved
