@@ -89,9 +89,7 @@ module _ (level : Level) (setup : Table) (past : Past) (legal : IsLegal level se
     here (Some t) is at =
         let own = gathered session t is in
         let same : own.0 ≡ u = same_Some own.0 u (sym own.1 ∙ at) in
-        let many = ap (λ (k : GatheredTxn). length k.ops.items) (sym same) ∙ ap length own.3 ∙ length-reverse t.ops in
-        let most = ops_at_most past session t is in
-        omega (arith, many, most, room)
+        omega (arith, ap (λ (k : GatheredTxn). length k.ops.items) (sym same) ∙ ap length own.3 ∙ length-reverse t.ops, ops_at_most past session t is, room)
 
   version_is : (session : ℕ) (t : Txn) (is : active past session ≡ Some t) (row : Row) → version_told (gathered session t is).0 row ≡ version_by t row
   version_is session t is row =

@@ -1,6 +1,6 @@
 -- Layers of those from which walks lead to a goal, by how many stand between.
 use Rattle.std.proofs.Common.{◌≡◌, ℕ, ◌+◌, ◌-◌, ◌≤◌, ◌<◌, ◌==◌, ◌&&◌, ◌⊎◌, refl, sym, ap, subst, ◌∙◌, inl, inr, arith, false, List, [], ◌∷◌, ◌++◌, length, get_or, set, replicate, IsTrue, Option, Some, None, IfSome, ◌↔◌, is_some, get_or-set_same, get_or-set_other, append_assoc}
-use Rattle.lab_engine.proofs.Common.{list_any, cases_eq, cases_lt, eq-eqb, eqb-true, both_ways, or_left, and_parts, and_from, has, waits_for, WaitsForOne, IsWalk, IsRound, NotAfter, or-false, AllDistinct}
+use Rattle.lab_engine.proofs.Common.{list_any, cases_eq, cases_lt, eq-eqb, eqb-true, both_ways, or_left, and_parts, and_from, has, waits_for, WaitsForOne, IsWalk, IsRound, NotAfter, or-false}
 use Rattle.lab_engine.specs.LeastWalk.{Leads, AreLayers, IsLeastWalk}
 use Rattle.lab_engine.proofs.Walks.{shortest_once, once_walk, once_few}
 
@@ -11,7 +11,7 @@ module _ (graph : List ℕ) (goal : ℕ) where
     where
       to : IsTrue (has set s) → Leads graph 0 s goal
       to there =
-          let w : WaitsForOne graph only s = (waiters s).0 there in
+          let w = (waiters s).0 there in
           ([], refl, subst (λ k. IsTrue (waits_for graph s k)) (sym (eqb-true goal w.0 (sym (or-false (goal == w.0)) ∙ sym (is w.0) ∙ w.2))) w.1)
 
       from : Leads graph 0 s goal → IsTrue (has set s)
@@ -25,8 +25,8 @@ module _ (graph : List ℕ) (goal : ℕ) where
     where
       to : IsTrue (has new s) → Leads graph (between + 1) s goal
       to there =
-          let w : WaitsForOne graph last s = (waiters s).0 there in
-          let on : Leads graph between w.0 goal = (h w.0).0 w.2 in
+          let w = (waiters s).0 there in
+          let on = (h w.0).0 w.2 in
           (w.0 ∷ on.0, omega (arith, on.1), (w.1, on.2))
 
       from : Leads graph (between + 1) s goal → IsTrue (has new s)
@@ -36,9 +36,7 @@ module _ (graph : List ℕ) (goal : ℕ) where
   -- the layers before the first turn
   pub layers_first : (only first : ℕ) → ((n : ℕ) → has only n ≡ list_any (λ k. k == n) (goal ∷ [])) → ((s : ℕ) → IsTrue (has first s) ↔ WaitsForOne graph only s) → AreLayers graph goal 1 (replicate 9 first)
   layers_first only first is waiters between less s =
-      let none : between ≡ 0 = omega (arith, less) in
-      subst (λ k. IsTrue (has (get_or (replicate 9 first) k 0) s) ↔ Leads graph k s goal) (sym none)
-      (first_layer only first is waiters s)
+      subst (λ k. IsTrue (has (get_or (replicate 9 first) k 0) s) ↔ Leads graph k s goal) (omega (arith, less)) (first_layer only first is waiters s)
 
   -- one more turn
   pub layers_more : (layers : List ℕ) (between last new : ℕ) → length layers ≡ 9 → 1 ≤ between → between < 9 → AreLayers graph goal between layers → last ≡ get_or layers (between - 1) 0
@@ -86,8 +84,7 @@ module _ (graph : List ℕ) (goal : ℕ) where
 
       whole : (tail : List ℕ) → IsLeastWalk graph left next goal tail → (rest : List ℕ) × ((front ++ next ∷ []) ++ tail ≡ goal ∷ rest) × IsLeastWalk graph between goal goal rest
       whole tail w =
-          let all : (rest : List ℕ) × (front ++ next ∷ tail ≡ goal ∷ rest) × IsLeastWalk graph between goal goal rest =
-          goes.whole (next ∷ tail) (step_before left at next tail (parts next there).0 chosen w) in
+          let all = goes.whole (next ∷ tail) (step_before left at next tail (parts next there).0 chosen w) in
           (all.0, append_assoc front (next ∷ []) tail ∙ all.1, all.2)
 
   -- there is somebody in common
@@ -103,8 +100,8 @@ module _ (graph : List ℕ) (goal : ℕ) where
     -- where no layer has the goal, no walk leads back to it
     pub no_round : ((k : ℕ) → k < 9 → has (get_or layers k 0) goal ≡ false) → (rest : List ℕ) → ¬ IsWalk graph goal rest goal
     no_round none rest walk =
-        let once : (other : List ℕ) × IsWalk graph goal other goal × AllDistinct (goal ∷ other) = once_walk graph goal goal rest walk in
-        let few : length once.0 < 9 = once_few graph goal goal once.0 once.1 once.2 in
+        let once = once_walk graph goal goal rest walk in
+        let few = once_few graph goal goal once.0 once.1 once.2 in
         both_ways _ (none (length once.0) few) ((h (length once.0) few goal).1 (once.0, refl, once.1))
 
     -- no walk back to the goal has fewer between than the first layer that has it
@@ -114,23 +111,20 @@ module _ (graph : List ℕ) (goal : ℕ) where
       | inr le ↦ le
     ]
 
-    -- a layer that has the goal gives a cycle
-    pub some_round : (between : ℕ) → between < 9 → IsTrue (has (get_or layers between 0) goal) → (circle : List ℕ) × IsRound graph goal circle
-    some_round between few there =
-        let leads : Leads graph between goal goal = (h between few goal).0 there in
-        let once : (other : List ℕ) × IsWalk graph goal other goal × AllDistinct (goal ∷ other) = once_walk graph goal goal leads.0 leads.2 in
-        (goal ∷ once.0, (refl, once.1, once.2))
-
-    -- and a cycle such a layer
+    -- where there is a cycle, a layer has the goal
     pub round_found : (found : Option ℕ) → (found ≡ None → (k : ℕ) → k < 9 → has (get_or layers k 0) goal ≡ false) → (circle : List ℕ) × IsRound graph goal circle → IsTrue (is_some found)
     round_found (Some between) none round = refl
     round_found None none ([], round) = absurd round
     round_found None none (first ∷ rest, round) = absurd (no_round (none refl) rest round.1)
 
+    -- where a layer has it, there is a cycle
     pub found_round : (found : Option ℕ) → IfSome found (λ between. between < 9) → IfSome found (λ between. IsTrue (has (get_or layers between 0) goal)) → IsTrue (is_some found)
         → (circle : List ℕ) × IsRound graph goal circle
     found_round None few there some = absurd (both_ways _ refl some)
-    found_round (Some between) few there some = some_round between few there
+    found_round (Some between) few there some =
+        let leads = (h between few goal).0 there in
+        let once = once_walk graph goal goal leads.0 leads.2 in
+        (goal ∷ once.0, (refl, once.1, once.2))
 
     -- the least walk of the least length is a cycle
     pub least_round : (between : ℕ) (rest : List ℕ) → between < 9 → ((k : ℕ) → k < between → has (get_or layers k 0) goal ≡ false) → IsLeastWalk graph between goal goal rest → IsRound graph goal (goal ∷ rest)
