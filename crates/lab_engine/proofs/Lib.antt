@@ -51,4 +51,5 @@ pub mod DoneTransactions
 pub mod RecordedCommits
 pub mod RecordedViews
 mod Shown
+pub mod Overlaid
 pub mod OneRecording

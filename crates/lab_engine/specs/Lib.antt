@@ -10,6 +10,7 @@ pub mod KeptRows
 pub mod Situation
 pub mod Sight
 pub mod Seen
+pub mod Overlay
 pub mod Others
 pub mod Chains
 pub mod Effect

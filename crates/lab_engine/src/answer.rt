@@ -17,6 +17,7 @@ ghost use Rattle.lab_engine.specs.Answer.{MayGive, Answers};
 
 use crate::effect::{EffectFault, effect_of};
 use crate::event::{EngineFault, Outcome};
+use crate::reading::read;
 use crate::rules::Rules;
 use crate::session_state::RunningTxn;
 use crate::sight::seen_by;
@@ -94,15 +95,11 @@ pub fn run_statement<R: Rules>(
 {
     let on = blockers(alloc, rules, setup, situation, session, running, statement)?;
     if on.as_slice().is_empty() {
-        let seen = seen_by(
-            alloc,
-            rules.level(),
-            setup,
-            situation,
-            session,
-            running,
-            statement,
-        )?;
+        let level = rules.level();
+        if statement.is_read_only() {
+            return read(alloc, level, setup, situation, session, running, statement);
+        }
+        let seen = seen_by(alloc, level, setup, situation, session, running, statement)?;
         return unblocked(alloc, statement, &seen);
     }
     match deadlock(alloc, rules, setup, situation, session, &on)? {

@@ -29,6 +29,7 @@ mod gathering;
 mod installs;
 mod journal;
 mod laws;
+mod reading;
 mod recording;
 mod recording_laws;
 mod reserved;

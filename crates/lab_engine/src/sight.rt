@@ -17,7 +17,7 @@ use std::alloc::Global;
 
 /// Before which event a commit has to stand that an active transaction sees: before the next one, at snapshot before its
 /// begin.
-fn place_seen(level: Level, situation: &Situation, running: &RunningTxn) -> usize
+pub(crate) fn place_seen(level: Level, situation: &Situation, running: &RunningTxn) -> usize
     ensures { result ≡ plain.place_seen level situation.now running.now }
 {
     match level {

@@ -296,7 +296,7 @@ fn written_entries(
 }
 
 /// The entries behind the row's, of a list that has none before it.
-fn behind(entries: &[(RowName, Version)], row: RowName) -> &[(RowName, Version)]
+pub(crate) fn behind<V>(entries: &[(RowName, V)], row: RowName) -> &[(RowName, V)]
     ensures { result.now ≡ without_row row entries.now }
 {
     match entries.split_first() {
@@ -327,7 +327,7 @@ fn merged_entries(
 }
 
 /// How many entries stand before a row. They are mostly few, so they are counted.
-fn place_near(entries: &[(RowName, Version)], row: RowName) -> usize
+pub(crate) fn place_near<V>(entries: &[(RowName, V)], row: RowName) -> usize
     ensures value { result ≡ prefix_len (comes_after row) entries.now }
     ensures bound { result ≤ length entries.now }
 {
