@@ -6,6 +6,7 @@ use Rattle.std.specs.declared.alloc.AllocError.{AllocError}
 use Rattle.lab_table.specs.Row.{Row}
 use Rattle.lab_table.specs.Table.{Table, Rows, Writes}
 use Rattle.lab_history.specs.VersionName.{View}
+use Rattle.lab_table.specs.Statement.{fails, listed, written}
 use Rattle.lab_table.specs.declared.statement.Statement.{Statement}
 use Rattle.lab_table.specs.declared.statement.Command.TheVariants.{Run}
 use Rattle.lab_engine.specs.declared.event.Level.{Level}
@@ -13,14 +14,13 @@ use Rattle.lab_engine.specs.declared.event.EngineFault.{EngineFault}
 use Rattle.lab_engine.specs.declared.event.EngineFault.TheVariants.{DuplicateKey, OutOfRange, Deadlock, WriteConflict, NoTransaction, AlreadyBegun, Busy}
 use Rattle.lab_engine.specs.declared.event.Outcome.{Outcome}
 use Rattle.lab_engine.specs.declared.event.Outcome.TheVariants.{Begun, Rows as Listed, Committed, Aborted, Waits, Refused}
-use Rattle.lab_engine.proofs.Shown.{shown_view, shown_listed, shown_written, shown_fails}
-use Rattle.lab_engine.specs.Sight.{IsShown, IsFirstConflict}
+use Rattle.lab_engine.specs.Sight.{IsFirstConflict}
 use Rattle.lab_engine.specs.declared.rules.Conflict.{Conflict}
 use Rattle.lab_engine.specs.Effect.{IsEffectOn, IsRefusalOn, IsResultOn}
 use Rattle.lab_engine.specs.WaitsFor.{AreBlockers}
 use Rattle.lab_table.specs.declared.statement.Command.{Command}
 use Rattle.lab_engine.specs.Log.{seen, Past, Txn, Version, active, waiting, asked}
-use Rattle.lab_engine.specs.Rules.{Gives, MayAsk, Asks, IsFree, IsCircle, IsEffect, MayCommit}
+use Rattle.lab_engine.specs.Rules.{in_view, Gives, MayAsk, Asks, IsFree, IsCircle, IsEffect, MayCommit}
 use Rattle.lab_engine.specs.Answer.{MayGive, Answers}
 use Rattle.lab_engine.specs.LeastCircle.{IsLeastCircle}
 use Rattle.std.proofs.lemmas.Result.{IfOk-weaker}
@@ -59,18 +59,18 @@ abbrev Searched : Level → Table → Past → ℕ → Statement → Option (Lis
 Searched level setup past session s found = MatchOption found ((circle : List ℕ) → ¬ IsCircle level setup past session s circle) (IsLeastCircle level setup past session s)
 
 module _ (level : Level) (setup : Table) (past : Past) (session : ℕ) (s : Statement) (txn : Txn) (asks : Asks past session (Run s) s txn) where
-  module _ (free : IsFree level setup past session s) (shown : Row → Version) (sight : (row : Row) → IsShown s row (shown row) (seen level setup past txn row)) where
+  module _ (free : IsFree level setup past session s) (shown : Row → Version) (sight : (row : Row) → shown row ≡ seen level setup past txn row) where
     effect : (view : View) (rows : Rows) (writes : Writes) → IsEffectOn shown s view rows writes → IsEffect level setup past txn s view rows writes
     effect view rows writes e = record {
-      runs = λ row. sym (shown_fails s row (shown row) (seen level setup past txn row) (sight row)) ∙ e.runs row;
-      view_is = λ row. e.view_is row ∙ shown_view s row (shown row) (seen level setup past txn row) (sight row);
-      rows_are = λ row. e.rows_are row ∙ shown_listed s row (shown row) (seen level setup past txn row) (sight row);
-      writes_are = λ row. e.writes_are row ∙ shown_written s row (shown row) (seen level setup past txn row) (sight row);
+      runs = λ row. sym (ap (λ (v : Version). fails s row v.state) (sight row)) ∙ e.runs row;
+      view_is = λ row. e.view_is row ∙ ap (λ (v : Version). in_view v.name) (sight row);
+      rows_are = λ row. e.rows_are row ∙ ap (λ (v : Version). listed s row v.state) (sight row);
+      writes_are = λ row. e.writes_are row ∙ ap (λ (v : Version). written s row v.state) (sight row);
     }
 
     refusal_answers : (fault : EngineFault) → IsRefusalOn shown s fault → Answers level setup past session (Run s) (Refused fault)
     refusal_answers (DuplicateKey row) f =
-        ((s, txn, asks, free, f.0, sym (shown_fails s row (shown row) (seen level setup past txn row) (sight row)) ∙ f.1), (λ eq. cc), λ t run circle eq. cc)
+        ((s, txn, asks, free, f.0, sym (ap (λ (v : Version). fails s row v.state) (sight row)) ∙ f.1), (λ eq. cc), λ t run circle eq. cc)
     refusal_answers (OutOfRange row) f = (
       (
         s,
@@ -78,8 +78,8 @@ module _ (level : Level) (setup : Table) (past : Past) (session : ℕ) (s : Stat
         asks,
         free,
         f.0,
-        sym (shown_fails s row (shown row) (seen level setup past txn row) (sight row)) ∙ f.1,
-        λ other below. sym (shown_fails s other (shown other) (seen level setup past txn other) (sight other)) ∙ f.2 other below,
+        sym (ap (λ (v : Version). fails s row v.state) (sight row)) ∙ f.1,
+        λ other below. sym (ap (λ (v : Version). fails s other v.state) (sight other)) ∙ f.2 other below,
       ),
       (λ eq. cc),
       λ t run circle eq. cc,

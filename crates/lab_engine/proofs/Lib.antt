@@ -10,7 +10,6 @@ pub mod Begins
 pub mod Describing
 pub mod EventBounds
 pub mod Holding
-pub mod Narrowing
 pub mod SeenRows
 pub mod OtherWriters
 pub mod InstalledChains
@@ -50,6 +49,5 @@ pub mod LimitOrder
 pub mod DoneTransactions
 pub mod RecordedCommits
 pub mod RecordedViews
-mod Shown
 pub mod Overlaid
 pub mod OneRecording

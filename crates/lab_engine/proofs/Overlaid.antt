@@ -6,18 +6,13 @@ use Rattle.std.specs.List.Sorted.{IsStrictlySortedBy}
 use Rattle.std.specs.Map.{keys_of, lookup}
 use Rattle.std.specs.BTreeMap.{is_at}
 use Rattle.std.specs.Prelude.{Result, Ok, Err, IfOk}
-use Rattle.lab_engine.proofs.Common.{cons_option, prefix_len, option_or, find, is_sorted, get, entries, entries_sorted, get-entries, Row, row_cmp, row_eq, row_test, State, Table, may_match, Statement, false≢true, same_row, row_eq_self, find-map, Version, initially, comes_after, Kept, RowStates, initial_version, each_row, with_row, initial_entry, merged, without_row, no_match, kept_at, from_sorted, pending_kept, chain_kept, last_before, VersionName, View, Rows, Writes, inserted, listed, is_read_only, in_view, get-from_sorted}
-use Rattle.lab_table.specs.Statement.{matched, kind_inserted, kind_listed, kind_matched}
-use Rattle.lab_table.specs.declared.statement.StatementKind.{StatementKind}
-use Rattle.lab_table.specs.declared.statement.StatementKind.TheVariants.{Insert}
-use Rattle.lab_table.proofs.OneRow.{others_run, reader_writes_none, reader_inserts_none, reader_updates_none}
-use Rattle.lab_engine.specs.Effect.{IsEffectOn}
+use Rattle.lab_engine.proofs.Common.{cons_option, prefix_len, option_or, find, is_sorted, get, entries, entries_sorted, get-entries, Row, row_cmp, row_eq, row_test, State, Table, may_match, Statement, false≢true, same_row, row_eq_self, find-map, Version, initially, comes_after, Kept, RowStates, each_row, with_row, initial_entry, merged, without_row, no_match, kept_at, false_from_ne_true, from_sorted, pending_kept, chain_kept, last_before, VersionName, View, in_view}
+use Rattle.lab_table.specs.Statement.{matched}
 use Rattle.lab_engine.specs.KeptRows.{entries_in}
-use Rattle.lab_engine.specs.Overlay.{seen_of, seen_over, state_over, matching_entries, matching_rows, laid_over, name_over}
+use Rattle.lab_engine.specs.Overlay.{seen_of, seen_over, state_over, matching_entries, matching_rows, laid_over, name_over, version_over, AreMatching}
 use Rattle.lab_engine.proofs.Effects.{sorted_each, find_each}
 use Rattle.lab_engine.proofs.KeptChains.{sorted_kept, find_kept, seen_kept, made_sorted, made_found}
 use Rattle.lab_engine.proofs.Merging.{merged_put, each_sorted, each_found}
-use Rattle.lab_engine.proofs.Narrowing.{others_off}
 use Rattle.lab_engine.proofs.VersionLists.{Entries, initial_sorted}
 
 -- ---- the walk through both lists
@@ -118,14 +113,9 @@ module _ (s : Statement) (setup : Table) (rows : RowStates) (session place : ℕ
       ∙ ap (option_or (seen_over rows session place row)) (under_found row))
       ∙ matched_over s row (seen_over rows session place row) (get setup row)
 
--- rows with their values that are sorted, and those of what a session sees that match a statement
-pub record AreMatching (s : Statement) (setup : Table) (rows : RowStates) (session place : ℕ) (items : List (Row × ℤ)) : Type 0 where
-  pub sorted : T (is_sorted row_cmp items)
-  pub found : (row : Row) → find row_cmp row items ≡ matched s row (state_over setup rows session place row)
-
 -- what the walk through both lists finds
 pub walked : (s : Statement) (setup : Table) (rows : RowStates) (session place : ℕ) (shown : List (Row × ℤ)) (kept : List (Row × Kept)) (items : List (Row × ℤ)) → shown ≡ entries setup → kept ≡ entries_in rows
-    → IsStrictlySortedBy row_cmp (keys_of kept) → items ≡ matching_entries s (laid_over shown (each_row (λ row k. seen_of session place k) kept)) → AreMatching s setup rows session place items
+    → IsStrictlySortedBy row_cmp (keys_of kept) → items ≡ matching_entries s (laid_over shown (each_row (λ row k. seen_of session place k) kept)) → AreMatching s (state_over setup rows session place) items
 walked s setup rows session place shown kept items table written in_order made =
     let ordered : IsStrictlySortedBy row_cmp (keys_of (entries_in rows)) = subst (λ es. IsStrictlySortedBy row_cmp (keys_of es)) written in_order in
     let is : items ≡ matching_entries s (laid_over (entries setup) (each_row (λ row k. seen_of session place k) (entries_in rows))) =
@@ -160,6 +150,11 @@ module _ (rows : RowStates) (session place : ℕ) (kept : List (Row × Kept)) (i
 
 -- ---- the row that a statement names
 
+-- another row than the only one that may match doesn't
+others_off : (s : Statement) (row : Row) → ((other : Row) → may_match s other ≡ true → other ≡ row) → (other : Row) → row_eq other row ≡ false → may_match s other ≡ false
+others_off s row only other apart =
+    false_from_ne_true (may_match s other) (λ may. false≢true (sym apart ∙ ap (λ r. row_eq r row) (only other may) ∙ row_eq_self row))
+
 unmatched : (s : Statement) (row : Row) → may_match s row ≡ false → (state : State) → matched s row state ≡ None
 unmatched s row off None = refl
 unmatched s row off (Some value) = ap (λ b. cond b (Some value) None) (no_match s row off (Some value))
@@ -177,39 +172,28 @@ one_found row q None = elim (row_eq q row) as (λ b. absent_state ≡ cond b abs
 
 module _ (s : Statement) (row : Row) (only : (other : Row) → may_match s other ≡ true → other ≡ row) (state : Row → State) (made : List (Row × ℤ))
     (is : made ≡ cons_option (with_row row (matched s row (state row))) []) where
-  pub named_sorted : T (is_sorted row_cmp made)
+  named_sorted : T (is_sorted row_cmp made)
   named_sorted = subst (λ l. T (is_sorted row_cmp l)) (sym is) (one_sorted row (matched s row (state row)))
 
   -- no other row matches
-  pub named_found : (q : Row) → find row_cmp q made ≡ matched s q (state q)
+  named_found : (q : Row) → find row_cmp q made ≡ matched s q (state q)
   named_found q = ap (find row_cmp q) is ∙ one_found row q (matched s row (state row)) ∙ by (row_eq q row) refl
     where
       by : (b : Bool) → row_eq q row ≡ b → cond b (matched s row (state row)) None ≡ matched s q (state q)
       by true same = ap (λ r. matched s r (state r)) (sym (same_row q row same))
-      by false apart = sym (unmatched s q (others_off s row only q (λ same. false≢true (sym apart ∙ ap (λ r. row_eq r row) same ∙ row_eq_self row))) (state q))
+      by false apart = sym (unmatched s q (others_off s row only q apart) (state q))
 
--- ---- a statement that only reads
+  pub named_matching : AreMatching s state made
+  named_matching = record { sorted = named_sorted; found = named_found }
 
--- a statement that is no insert lists the rows that match
-kind_lists_matched : (t : List ℕ) (s : StatementKind) → kind_inserted t s ≡ None → (row : Row) (state : State) → kind_listed t s row state ≡ kind_matched t s row state
-kind_lists_matched t (Insert id new) none row state = absurd cc
-kind_lists_matched t other none row state = refl
-
-lists_matched : (s : Statement) → inserted s ≡ None → (row : Row) (state : State) → listed s row state ≡ matched s row state
-lists_matched s = kind_lists_matched s.table s.kind
+-- ---- what is seen
 
 -- the setup's version is in no view
 named_over : (over : Option Version) (state : State) → name_over over ≡ in_view (unwrap_or over (initially state)).name
 named_over None state = refl
 named_over (Some v) state = refl
 
--- it answers the view and the rows that match, and writes none
-pub read_effect : (s : Statement) (setup : Table) (rows : RowStates) (session place : ℕ) (view : View) (listed : Rows) (writes : Writes) → is_read_only s ≡ true
-    → ((row : Row) → get view row ≡ name_over (seen_over rows session place row)) → ((row : Row) → get listed row ≡ matched s row (state_over setup rows session place row))
-    → writes ≡ from_sorted [] → IsEffectOn (λ row. unwrap_or (seen_over rows session place row) (initial_version setup row)) s view listed writes
-read_effect s setup rows session place view listed writes reads names found none = record {
-  runs = λ row. others_run s (reader_updates_none s reads) (reader_inserts_none s reads) row (state_over setup rows session place row);
-  view_is = λ row. names row ∙ named_over (seen_over rows session place row) (get setup row);
-  rows_are = λ row. found row ∙ sym (lists_matched s (reader_inserts_none s reads) row (state_over setup rows session place row));
-  writes_are = λ row. ap (λ m. get m row) none ∙ get-from_sorted row_cmp [] row tt ∙ sym (reader_writes_none s reads row (state_over setup rows session place row));
-}
+-- a view of what is seen over the setup is one of what is seen
+pub view_over : (setup : Table) (rows : RowStates) (session place : ℕ) (view : View) → ((row : Row) → get view row ≡ name_over (seen_over rows session place row))
+    → (row : Row) → get view row ≡ in_view (version_over setup rows session place row).name
+view_over setup rows session place view names row = names row ∙ named_over (seen_over rows session place row) (get setup row)

@@ -20,7 +20,6 @@ pub mod Journal
 pub mod EventQuery
 pub mod Merging
 pub mod EachRow
-pub mod Candidates
 pub mod SessionBits
 pub mod LeastWalk
 pub mod Released

@@ -3,7 +3,7 @@
 ghost use Rattle.std.specs.Prelude.{◌≡◌, ◌<◌, Some, None, length, IsSome, IfOk, OnErr};
 ghost use Rattle.lab_table.specs.Table.{Table as PlainTable};
 ghost use Rattle.lab_engine.specs.declared.event.Level.{Level as Kind};
-ghost use Rattle.lab_engine.specs.Sight.{version_in};
+ghost use Rattle.lab_engine.specs.Seen.{seen_in};
 ghost use Rattle.lab_engine.specs.Effect.{IsResultOn, IsRefusalOn, IsEffectFault};
 ghost use Rattle.lab_engine.specs.Limits.{max_events};
 ghost use Rattle.lab_table.specs.Row.{Row};
@@ -16,13 +16,11 @@ ghost use Rattle.lab_engine.specs.Situation.{Describes, IsRunning};
 ghost use Rattle.lab_engine.specs.Answer.{MayGive, Answers};
 
 use crate::effect::{EffectFault, effect_of};
-use crate::event::{EngineFault, Outcome};
-use crate::reading::read;
+use crate::event::{EngineFault, Level, Outcome};
 use crate::rules::Rules;
 use crate::session_state::RunningTxn;
-use crate::sight::seen_by;
+use crate::sight::place_seen;
 use crate::situation::Situation;
-use crate::version::Versions;
 use crate::waits::{blockers, deadlock};
 use lab_table::{Command, NoMemory, Session, Statement, Table, TxnNo};
 use std::alloc::{AllocError, Global};
@@ -96,11 +94,7 @@ pub fn run_statement<R: Rules>(
     let on = blockers(alloc, rules, setup, situation, session, running, statement)?;
     if on.as_slice().is_empty() {
         let level = rules.level();
-        if statement.is_read_only() {
-            return read(alloc, level, setup, situation, session, running, statement);
-        }
-        let seen = seen_by(alloc, level, setup, situation, session, running, statement)?;
-        return unblocked(alloc, statement, &seen);
+        return unblocked(alloc, level, setup, situation, session, running, statement);
     }
     match deadlock(alloc, rules, setup, situation, session, &on)? {
         Some(circle) => Ok(Outcome::Refused(EngineFault::Deadlock { circle })),
@@ -108,11 +102,21 @@ pub fn run_statement<R: Rules>(
     }
 }
 
-/// What a statement that nobody blocks answers on what is seen. NoMemory where an allocation was refused.
-fn unblocked(alloc: Global, statement: &Statement, seen: &Versions) -> Result<Outcome, NoMemory>
-    ensures { IfOk result (IsResultOn (version_in seen.now) statement.now) }
+/// What a statement that nobody blocks answers on what an active transaction sees. NoMemory where an allocation was
+/// refused.
+fn unblocked(
+    alloc: Global,
+    level: Level,
+    setup: &Table,
+    situation: &Situation,
+    session: Session,
+    running: &RunningTxn,
+    statement: &Statement,
+) -> Result<Outcome, NoMemory>
+    ensures { IfOk result (IsResultOn (seen_in level setup.now situation.now session running.now) statement.now) }
 {
-    match effect_of(alloc, statement, seen) {
+    let place = place_seen(level, situation, running);
+    match effect_of(alloc, statement, setup, &situation.rows, session, place) {
         Ok(effect) => Ok(Outcome::Rows {
             view: effect.view,
             rows: effect.rows,

@@ -17,7 +17,6 @@
 
 mod answer;
 mod answer_laws;
-mod candidate;
 mod circle;
 mod decision;
 mod effect;

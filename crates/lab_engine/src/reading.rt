@@ -1,56 +1,26 @@
-//! What statements that only read answer: what a session sees of rows, and which of these match.
+//! What a session sees of rows, and which of these match a statement.
 
-ghost use Rattle.std.specs.Prelude.{◌≡◌, T, ◌++◌, [], true, IfOk};
+ghost use Rattle.std.specs.Prelude.{◌≡◌, ◌++◌, [], IfOk};
 ghost use Rattle.std.specs.List.{cons_option};
 ghost use Rattle.std.specs.BTreeMap.{IsOrdered};
 ghost use Rattle.std.specs.FinMap as map;
 ghost use Rattle.lab_table.specs.Row.{Row, row_cmp};
-ghost use Rattle.lab_table.specs.Statement.{matched, is_read_only};
-ghost use Rattle.lab_engine.specs.Effect.{IsResultOn};
-ghost use Rattle.lab_engine.specs.Seen.{seen_in};
+ghost use Rattle.lab_table.specs.Statement.{matched};
 ghost use Rattle.lab_engine.specs.EachRow.{with_row, each_row};
 ghost use Rattle.lab_engine.specs.Rules.{in_view};
-ghost use Rattle.lab_engine.specs.Overlay.{seen_of, seen_over, state_over, name_over, matching_rows, matching_entries, laid_over};
+ghost use Rattle.lab_engine.specs.Overlay.{seen_of, seen_over, state_over, name_over, matching_rows, matching_entries, laid_over, AreMatching};
 
-use crate::event::{Level, Outcome};
 use crate::row_state::RowState;
 use crate::row_states::RowStates;
-use crate::session_state::RunningTxn;
-use crate::sight::place_seen;
-use crate::situation::Situation;
 use crate::version::{behind, place_near};
-use lab_history::{Rows, VersionName, View, Writes};
+use lab_history::{VersionName, View};
 use lab_table::{NoMemory, RowName, Session, Statement, Table, Value};
 use std::alloc::Global;
 use std::collections::BTreeMap;
 
-/// What a statement that only reads answers on what an active transaction sees, where nobody blocks it. NoMemory where an
-/// allocation was refused.
-pub fn read(
-    alloc: Global,
-    level: Level,
-    setup: &Table,
-    situation: &Situation,
-    session: Session,
-    running: &RunningTxn,
-    statement: &Statement,
-) -> Result<Outcome, NoMemory>
-    requires { is_read_only statement.now ≡ true }
-    ensures { IfOk result (IsResultOn (seen_in level setup.now situation.now session running.now) statement.now) }
-{
-    let place = place_seen(level, situation, running);
-    let view = view_seen(alloc, &situation.rows, session, place)?;
-    let rows = rows_matching(alloc, statement, setup, &situation.rows, session, place)?;
-    Ok(Outcome::Rows {
-        view,
-        rows: Rows::new(rows),
-        writes: Writes::new(Vec::new(alloc)),
-    })
-}
-
 /// The view of a session that sees the commits with fewer than so many events before them. NoMemory where an allocation
 /// was refused.
-fn view_seen(
+pub fn view_seen(
     alloc: Global,
     rows: &RowStates,
     session: Session,
@@ -122,7 +92,7 @@ fn without_spare(
 /// The rows that match a statement as a session sees them that sees the commits with fewer than so many events before
 /// them, with their values, by rising row. Where the statement names a row, no other one is looked at. NoMemory where an
 /// allocation was refused.
-fn rows_matching(
+pub fn rows_matching(
     alloc: Global,
     statement: &Statement,
     setup: &Table,
@@ -130,8 +100,7 @@ fn rows_matching(
     session: Session,
     place: usize,
 ) -> Result<Vec<(RowName, Value)>, NoMemory>
-    ensures sorted { IfOk result (λ v. T (map.is_sorted row_cmp v.items)) }
-    ensures found { IfOk result (λ v. (row : Row) → map.find row_cmp row v.items ≡ matched statement.now row (state_over setup.now rows.now session place row)) }
+    ensures { IfOk result (λ v. AreMatching statement.now (state_over setup.now rows.now session place) v.items) }
 {
     match statement.named_row() {
         Some(row) => {

@@ -1,19 +1,15 @@
 //! What a transaction sees.
 
-ghost use Rattle.std.specs.Prelude.{◌≡◌, Some, IfOk};
-ghost use Rattle.lab_engine.specs.Log.{Past, Txn, active};
-ghost use Rattle.lab_engine.specs.Situation.{Describes, IsRunning};
+ghost use Rattle.std.specs.Prelude.{◌≡◌};
 ghost use Rattle.lab_engine.specs.Seen as plain;
 ghost use Rattle.lab_engine.specs.Seen.{seen_in};
-ghost use Rattle.lab_engine.specs.Sight.{IsSight};
 
 use crate::event::Level;
 use crate::session_state::RunningTxn;
 use crate::situation::Situation;
-use crate::version::{Version, Versions};
+use crate::version::Version;
 use lab_history::VersionName;
-use lab_table::{NoMemory, RowName, Session, Statement, Table};
-use std::alloc::Global;
+use lab_table::{RowName, Session, Table};
 
 /// Before which event a commit has to stand that an active transaction sees: before the next one, at snapshot before its
 /// begin.
@@ -46,24 +42,4 @@ pub fn row_seen(
             state: setup.get(row),
         },
     }
-}
-
-/// What a statement of an active transaction is shown of the versions that this sees: its own last ones over those
-/// committed now, or at snapshot over those committed at its begin, over the setup's that match the statement.
-/// NoMemory where an allocation was refused.
-pub fn seen_by(
-    alloc: Global,
-    level: Level,
-    setup: &Table,
-    situation: &Situation,
-    session: Session,
-    running: &RunningTxn,
-    statement: &Statement,
-) -> Result<Versions, NoMemory>
-    ensures { (past : Past) (txn : Txn) → Describes past situation.now → active past session ≡ Some txn → IsRunning txn running.now
-        → IfOk result (IsSight statement.now level setup.now past txn) }
-{
-    let place = place_seen(level, situation, running);
-    let versions = situation.rows.all_seen(alloc, session, place)?;
-    versions.over_matching(alloc, statement, setup)
 }
