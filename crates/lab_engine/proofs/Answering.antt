@@ -3,8 +3,10 @@ use Rattle.std.proofs.Common.{◌≡◌, ◌≢◌, ℕ, Bool, true≢false, Opt
 use Rattle.std.proofs.Common.{refl}
 use Rattle.std.specs.Prelude.{MatchOption, Result, IfOk, Contains, is_some, true, false, ◌==◌}
 use Rattle.std.specs.declared.alloc.AllocError.{AllocError}
+use Rattle.lab_table.specs.Row.{Row}
 use Rattle.lab_table.specs.Table.{Table, Rows, Writes}
 use Rattle.lab_history.specs.VersionName.{View}
+use Rattle.lab_table.specs.Statement.{fails, listed, written}
 use Rattle.lab_table.specs.declared.statement.Statement.{Statement}
 use Rattle.lab_table.specs.declared.statement.Command.TheVariants.{Run}
 use Rattle.lab_engine.specs.declared.event.Level.{Level}
@@ -12,14 +14,13 @@ use Rattle.lab_engine.specs.declared.event.EngineFault.{EngineFault}
 use Rattle.lab_engine.specs.declared.event.EngineFault.TheVariants.{DuplicateKey, OutOfRange, Deadlock, WriteConflict, NoTransaction, AlreadyBegun, Busy}
 use Rattle.lab_engine.specs.declared.event.Outcome.{Outcome}
 use Rattle.lab_engine.specs.declared.event.Outcome.TheVariants.{Begun, Rows as Listed, Committed, Aborted, Waits, Refused}
-use Rattle.lab_engine.proofs.Shown.{shown_view, shown_listed, shown_written, shown_fails}
-use Rattle.lab_engine.specs.Sight.{Listed as Seen, IsSight, IsFirstConflict, version_in}
+use Rattle.lab_engine.specs.Sight.{IsFirstConflict}
 use Rattle.lab_engine.specs.declared.rules.Conflict.{Conflict}
 use Rattle.lab_engine.specs.Effect.{IsEffectOn, IsRefusalOn, IsResultOn}
 use Rattle.lab_engine.specs.WaitsFor.{AreBlockers}
 use Rattle.lab_table.specs.declared.statement.Command.{Command}
-use Rattle.lab_engine.specs.Log.{seen, Past, Txn, active, waiting, asked}
-use Rattle.lab_engine.specs.Rules.{Gives, MayAsk, Asks, IsFree, IsCircle, IsEffect, MayCommit}
+use Rattle.lab_engine.specs.Log.{seen, Past, Txn, Version, active, waiting, asked}
+use Rattle.lab_engine.specs.Rules.{in_view, Gives, MayAsk, Asks, IsFree, IsCircle, IsEffect, MayCommit}
 use Rattle.lab_engine.specs.Answer.{MayGive, Answers}
 use Rattle.lab_engine.specs.LeastCircle.{IsLeastCircle}
 use Rattle.std.proofs.lemmas.Result.{IfOk-weaker}
@@ -58,18 +59,18 @@ abbrev Searched : Level → Table → Past → ℕ → Statement → Option (Lis
 Searched level setup past session s found = MatchOption found ((circle : List ℕ) → ¬ IsCircle level setup past session s circle) (IsLeastCircle level setup past session s)
 
 module _ (level : Level) (setup : Table) (past : Past) (session : ℕ) (s : Statement) (txn : Txn) (asks : Asks past session (Run s) s txn) where
-  module _ (free : IsFree level setup past session s) (versions : Seen) (sight : IsSight s level setup past txn versions) where
-    effect : (view : View) (rows : Rows) (writes : Writes) → IsEffectOn (version_in versions) s view rows writes → IsEffect level setup past txn s view rows writes
+  module _ (free : IsFree level setup past session s) (shown : Row → Version) (sight : (row : Row) → shown row ≡ seen level setup past txn row) where
+    effect : (view : View) (rows : Rows) (writes : Writes) → IsEffectOn shown s view rows writes → IsEffect level setup past txn s view rows writes
     effect view rows writes e = record {
-      runs = λ row. sym (shown_fails s row (version_in versions row) (seen level setup past txn row) (sight row)) ∙ e.runs row;
-      view_is = λ row. e.view_is row ∙ shown_view s row (version_in versions row) (seen level setup past txn row) (sight row);
-      rows_are = λ row. e.rows_are row ∙ shown_listed s row (version_in versions row) (seen level setup past txn row) (sight row);
-      writes_are = λ row. e.writes_are row ∙ shown_written s row (version_in versions row) (seen level setup past txn row) (sight row);
+      runs = λ row. sym (ap (λ (v : Version). fails s row v.state) (sight row)) ∙ e.runs row;
+      view_is = λ row. e.view_is row ∙ ap (λ (v : Version). in_view v.name) (sight row);
+      rows_are = λ row. e.rows_are row ∙ ap (λ (v : Version). listed s row v.state) (sight row);
+      writes_are = λ row. e.writes_are row ∙ ap (λ (v : Version). written s row v.state) (sight row);
     }
 
-    refusal_answers : (fault : EngineFault) → IsRefusalOn (version_in versions) s fault → Answers level setup past session (Run s) (Refused fault)
+    refusal_answers : (fault : EngineFault) → IsRefusalOn shown s fault → Answers level setup past session (Run s) (Refused fault)
     refusal_answers (DuplicateKey row) f =
-        ((s, txn, asks, free, f.0, sym (shown_fails s row (version_in versions row) (seen level setup past txn row) (sight row)) ∙ f.1), (λ eq. cc), λ t run circle eq. cc)
+        ((s, txn, asks, free, f.0, sym (ap (λ (v : Version). fails s row v.state) (sight row)) ∙ f.1), (λ eq. cc), λ t run circle eq. cc)
     refusal_answers (OutOfRange row) f = (
       (
         s,
@@ -77,8 +78,8 @@ module _ (level : Level) (setup : Table) (past : Past) (session : ℕ) (s : Stat
         asks,
         free,
         f.0,
-        sym (shown_fails s row (version_in versions row) (seen level setup past txn row) (sight row)) ∙ f.1,
-        λ other below. sym (shown_fails s other (version_in versions other) (seen level setup past txn other) (sight other)) ∙ f.2 other below,
+        sym (ap (λ (v : Version). fails s row v.state) (sight row)) ∙ f.1,
+        λ other below. sym (ap (λ (v : Version). fails s other v.state) (sight other)) ∙ f.2 other below,
       ),
       (λ eq. cc),
       λ t run circle eq. cc,
@@ -89,7 +90,7 @@ module _ (level : Level) (setup : Table) (past : Past) (session : ℕ) (s : Stat
     refusal_answers AlreadyBegun f = absurd f
     refusal_answers Busy f = absurd f
 
-    result_answers : (outcome : Outcome) → IsResultOn (version_in versions) s outcome → Answers level setup past session (Run s) outcome
+    result_answers : (outcome : Outcome) → IsResultOn shown s outcome → Answers level setup past session (Run s) outcome
     result_answers (Begun number) f = absurd f
     result_answers (Listed view rows writes) f = ((s, txn, asks, free, effect view rows writes f), (λ eq. cc), λ t run circle eq. cc)
     result_answers Committed f = absurd f
@@ -97,8 +98,8 @@ module _ (level : Level) (setup : Table) (past : Past) (session : ℕ) (s : Stat
     result_answers (Waits on) f = absurd f
     result_answers (Refused fault) f = refusal_answers fault f
 
-    pub unblocked_answers : (r : Result Outcome AllocError) → IfOk r (IsResultOn (version_in versions) s) → IfOk r (Answers level setup past session (Run s))
-    unblocked_answers r f = IfOk-weaker r (IsResultOn (version_in versions) s) (Answers level setup past session (Run s)) result_answers f
+    pub unblocked_answers : (r : Result Outcome AllocError) → IfOk r (IsResultOn shown s) → IfOk r (Answers level setup past session (Run s))
+    unblocked_answers r f = IfOk-weaker r (IsResultOn shown s) (Answers level setup past session (Run s)) result_answers f
 
   module _ (on : List ℕ) (blockers : AreBlockers level setup past session s on) where
     -- where nobody blocks it the statement is free

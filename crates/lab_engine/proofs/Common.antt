@@ -34,7 +34,7 @@ pub use Rattle.lab_engine.specs.Chains.{chain, chain_after, first_since, last_be
 unfoldable pub use Rattle.lab_engine.specs.SessionBits.{has}
 pub use Rattle.lab_engine.specs.SessionBits.{AreSessions}
 pub use Rattle.lab_engine.specs.Recording.{IsLeastRetryable, IsLegalRecording, IsRecording, IsRetryable, NoneRetryable, end_of, has_number, if_any, numbers_from, op_of, ops_of, recorded_txn, recorded_txns}
-pub use Rattle.lab_engine.specs.Sight.{IsShown, comes_after, initially, listed_version, matching_version, version_in}
+pub use Rattle.lab_engine.specs.Sight.{comes_after, initially, listed_version}
 pub use Rattle.lab_engine.specs.declared.session_state.SessionState.{SessionState}
 pub use Rattle.lab_engine.specs.declared.session_state.RunningTxn.{RunningTxn}
 pub use Rattle.lab_engine.specs.declared.situation.Situation.{Situation}
@@ -42,7 +42,7 @@ pub use Rattle.lab_engine.specs.Laws.{AllDone, AllKeepOff, AllNumbered, AllRan, 
 unfoldable pub use Rattle.lab_engine.specs.WaitsFor.{waits_for}
 pub use Rattle.lab_engine.specs.WaitsFor.{AreBlockers, AreWaits, IsRound, IsWalk, WaitsForOne, WaitsOn, is_session}
 pub use Rattle.lab_engine.specs.Gathered.{AreActive, Gathers, IsShort, IsWithin, changed, changed_by, committed, gathered_by, groups_from, installed_over, installing, installs_by, new_txn, number_after, number_at, number_of, numbers_of, recorded, txns_after, version_told, with_ops}
-pub use Rattle.lab_engine.specs.EachRow.{each_row, first_failing, rewritten, stored, value_rewritten, with_row}
+pub use Rattle.lab_engine.specs.EachRow.{each_row, first_failing, stored, value_rewritten, with_row}
 pub use Rattle.lab_history.specs.History.{History}
 pub use Rattle.lab_engine.specs.Others.{IsOther}
 pub use Rattle.std.proofs.lemmas.Bool.Decides.{eqb_tells, same_from_decides}

@@ -1,10 +1,11 @@
 -- What is made of each row that is seen, row by row, and which row keeps a statement from running.
-use Rattle.std.proofs.Common.{◌≡◌, ◌∙◌, refl, sym, ap, subst, ℤ, true, false, cond, T, List, [], ◌∷◌, is_lt, Option, Some, None, option_map, option_and_then, unwrap_or}
-use Rattle.lab_engine.proofs.Common.{Written, cons_option, FinMap, find, is_sorted, get, entries, entries_sorted, get-entries, from_sorted, get-from_sorted, below_all, Row, row_cmp, row_eq, State, Rows, inserted, listed, written, fails, Statement, same_row, find_below, both, joined, View, state_value, new_states, VersionName, Version, in_view, version_in, is_read_only, with_row, each_row, stored, rewritten, change_is}
+use Rattle.std.proofs.Common.{◌≡◌, ◌∙◌, refl, sym, ap, subst, ℕ, ℤ, true, false, cond, T, List, [], ◌∷◌, is_lt, Option, Some, None, option_map, option_and_then}
+use Rattle.lab_engine.proofs.Common.{Written, cons_option, FinMap, find, is_sorted, get, entries, entries_sorted, get-entries, from_sorted, get-from_sorted, below_all, Row, row_cmp, row_eq, State, inserted, listed, written, fails, Statement, same_row, find_below, both, joined, state_value, new_states, is_read_only, with_row, each_row, stored, value_rewritten, change_is}
 use Rattle.lab_table.specs.Statement as statement
-use Rattle.lab_engine.specs.Sight.{Listed}
-use Rattle.lab_engine.proofs.Holding.{absent}
-use Rattle.lab_table.proofs.Statements.{absent_unlisted}
+use Rattle.lab_table.specs.Statement.{matched, kind_inserted, kind_listed, kind_matched}
+use Rattle.lab_table.specs.declared.statement.StatementKind.{StatementKind}
+use Rattle.lab_table.specs.declared.statement.StatementKind.TheVariants.{Select, Update, Insert, Delete}
+use Rattle.lab_engine.specs.Overlay.{AreMatching}
 
 module _ {A B : Type 0} (f : Row → A → Option B) where
   below_each : (x : Row) (es : List (Row × A)) → T (below_all row_cmp x es) → T (below_all row_cmp x (each_row f es))
@@ -68,64 +69,43 @@ states_of_each {A} f (e ∷ es) = at (f e.0 e.1) (states_of_each f es)
     at None rest = rest
     at (Some left) rest = ap (λ es'. (e.0, state_value left) ∷ es') rest
 
--- what a view names is what is seen
-named : (o : Option Version) → option_and_then (λ (v : Version). in_view v.name) o ≡ in_view (unwrap_or o absent).name
-named None = refl
-named (Some v) = refl
-
--- what is listed is listed of what is seen
-listed_is : (s : Statement) (q : Row) (o : Option Version) → option_and_then (λ (v : Version). listed s q v.state) o ≡ listed s q (unwrap_or o absent).state
-listed_is s q None = sym (absent_unlisted s q)
-listed_is s q (Some v) = refl
-
 -- a list that is made of each row of a map is sorted
 pub sorted_made : {A B : Type 0} (f : Row → A → Option B) (m : FinMap row_cmp A) (es : List (Row × A)) (items : List (Row × B)) → es ≡ entries m → items ≡ each_row f es → T (is_sorted row_cmp items)
 sorted_made f m es items of_map made = subst (λ k. T (is_sorted row_cmp k)) (sym (made ∙ ap (each_row f) of_map)) (sorted_each f (entries m) (entries_sorted m))
-
--- the view of what is seen
-pub view_made : (m : Listed) (es : List (Row × Version)) (items : List (Row × VersionName)) (view : View) → es ≡ entries m → items ≡ each_row (λ row (v : Version). in_view v.name) es
-    → view ≡ from_sorted items → (q : Row) → get view q ≡ in_view (version_in m q).name
-view_made m es items view of_map made is q =
-    ap (λ k. get k q) (is ∙ ap (λ k. from_sorted {R = row_cmp} k) (made ∙ ap (each_row (λ row (v : Version). in_view v.name)) of_map))
-    ∙ get_each (λ row (v : Version). in_view v.name) m q ∙ named (get m q)
-
--- the rows that a statement lists
-pub rows_made : (s : Statement) (m : Listed) (es : List (Row × Version)) (items : List (Row × ℤ)) (rows : Rows) → es ≡ entries m → items ≡ each_row (λ row (v : Version). listed s row v.state) es
-    → rows ≡ from_sorted items → (q : Row) → get rows q ≡ listed s q (version_in m q).state
-rows_made s m es items rows of_map made is q =
-    ap (λ k. get k q) (is ∙ ap (λ k. from_sorted {R = row_cmp} k) (made ∙ ap (each_row (λ row (v : Version). listed s row v.state)) of_map))
-    ∙ get_each (λ row (v : Version). listed s row v.state) m q ∙ listed_is s q (get m q)
 
 -- a state as histories have it is the state
 stored_is : (o : Option State) → option_map state_value (option_map stored o) ≡ o
 stored_is (Some None) = refl
 stored_is other = refl
 
-made_is : (f : ℤ → Option State) (o : State) → option_map state_value (option_and_then (λ old. option_map stored (f old)) o) ≡ option_and_then f o
+-- what is made of a value as histories have it
+made_is : (f : ℤ → Option State) (o : State) → option_and_then (λ old. option_map state_value (option_map stored (f old))) o ≡ option_and_then f o
 made_is f None = refl
 made_is f (Some old) = stored_is (f old)
 
--- a statement that neither only lists nor adds a row rewrites a row as it writes it, and doesn't write an absent one
-rewrites_seen : (s : Statement) → is_read_only s ≡ false → inserted s ≡ None → (q : Row) (o : Option Version) → fails s q (unwrap_or o absent).state ≡ false
-    → option_and_then (λ (v : Version). option_map state_value (rewritten s q v.state)) o ≡ written s q (unwrap_or o absent).state
-rewrites_seen s changes none q None h = sym ((change_is s changes none).writes_listed q None (absent_unlisted s q))
-rewrites_seen s changes none q (Some v) h = made_is (statement.rewritten s) (listed s q v.state) ∙ sym ((change_is s changes none).writes q v.state h)
+-- a statement that adds no row lists those that match
+kind_lists_matched : (t : List ℕ) (s : StatementKind) → kind_inserted t s ≡ None → (row : Row) (state : State) → kind_listed t s row state ≡ kind_matched t s row state
+kind_lists_matched t (Insert id new) none row state = absurd cc
+kind_lists_matched t (Select pred) none row state = refl
+kind_lists_matched t (Update expr pred) none row state = refl
+kind_lists_matched t (Delete pred) none row state = refl
 
--- new states as the code has them: sorted, and those that a statement writes of the rows seen, if none of these keeps it from running
-pub record AreWritten (s : Statement) (m : Listed) (items : List (Row × Written)) : Type 0 where
-  pub sorted : T (is_sorted row_cmp (new_states items))
-  pub found : ((q : Row) → fails s q (version_in m q).state ≡ false) → (q : Row) → find row_cmp q (new_states items) ≡ written s q (version_in m q).state
+pub lists_matched : (s : Statement) → inserted s ≡ None → (row : Row) (state : State) → listed s row state ≡ matched s row state
+lists_matched s = kind_lists_matched s.table s.kind
 
--- what such a statement writes
-pub change_made : (s : Statement) (m : Listed) (es : List (Row × Version)) (items : List (Row × Written)) → is_read_only s ≡ false → inserted s ≡ None
-    → es ≡ entries m → items ≡ each_row (λ row (v : Version). rewritten s row v.state) es → AreWritten s m items
-change_made s m es items changes none of_map made =
-    let f : Row → Version → Option Written = λ row v. rewritten s row v.state in
-    let g : Row → Version → Option State = λ row v. option_map state_value (rewritten s row v.state) in
-    let same : new_states items ≡ each_row g (entries m) = ap new_states (made ∙ ap (each_row f) of_map) ∙ states_of_each f (entries m) in
-    record {
-      sorted = subst (λ k. T (is_sorted row_cmp k)) (sym same) (sorted_each g (entries m) (entries_sorted m));
-      found = λ runs q.
-          ap (find row_cmp q) same ∙ find_each g q (entries m) (entries_sorted m) ∙ ap (option_and_then (g q)) (sym (get-entries m q))
-          ∙ rewrites_seen s changes none q (get m q) (runs q);
-    }
+module _ (s : Statement) (es : List (Row × ℤ)) (items : List (Row × Written)) (made : items ≡ each_row (λ row value. value_rewritten s value) es) where
+  -- new states as the code has them, by what is made of each row
+  left_is : new_states items ≡ each_row (λ row value. option_map state_value (value_rewritten s value)) es
+  left_is = ap new_states made ∙ states_of_each (λ row value. value_rewritten s value) es
+
+  pub change_sorted : T (is_sorted row_cmp es) → T (is_sorted row_cmp (new_states items))
+  change_sorted h = subst (λ k. T (is_sorted row_cmp k)) (sym left_is) (sorted_each (λ row value. option_map state_value (value_rewritten s value)) es h)
+
+  -- a statement that neither only lists nor adds a row writes what it makes of the rows that match
+  pub change_found : is_read_only s ≡ false → inserted s ≡ None → (states : Row → State) → AreMatching s states es → ((q : Row) → fails s q (states q) ≡ false)
+      → (q : Row) → find row_cmp q (new_states items) ≡ written s q (states q)
+  change_found changes none states are runs q =
+      ap (find row_cmp q) left_is ∙ find_each (λ row value. option_map state_value (value_rewritten s value)) q es are.sorted
+      ∙ ap (option_and_then (λ value. option_map state_value (value_rewritten s value))) (are.found q ∙ sym (lists_matched s none q (states q)))
+      ∙ made_is (statement.rewritten s) (listed s q (states q))
+      ∙ sym ((change_is s changes none).writes q (states q) (runs q))

@@ -27,7 +27,7 @@ found_in {A} p (e ∷ es) h any =
       | inr there ↦ let f = found_in p es parts.1 there in (f.0, f.1, behind e es f.0 f.1 parts.0 f.2, f.3)
     ]
 
-none_in : {A : Type 0} (p : Row × A → Bool) (es : List (Row × A)) → list_any p es ≡ false → (row : Row) (v : A) → find row_cmp row es ≡ Some v → p (row, v) ≡ false
+pub none_in : {A : Type 0} (p : Row × A → Bool) (es : List (Row × A)) → list_any p es ≡ false → (row : Row) (v : A) → find row_cmp row es ≡ Some v → p (row, v) ≡ false
 none_in p [] any row v h = none_some _ h
 none_in {A} p (e ∷ es) any row v h =
     let parts = or_parts (p e) (list_any p es) any in

@@ -1,6 +1,6 @@
 -- What is made of what is kept of rows, by rising row.
 use Rattle.std.proofs.Common.{◌≡◌, ◌∙◌, ℕ, refl, sym, ap, subst, cond, T, List, [], ◌∷◌, Option, Some, None, option_and_then, is_lt, is_eq, Less}
-use Rattle.lab_engine.proofs.Common.{option_or, AllByRecursion, find, is_sorted, get, from_sorted, get-from_sorted, below_all, Row, row_cmp, joined, Version, last_before, Kept, pending_of, chain_kept, pending_kept, each_row}
+use Rattle.lab_engine.proofs.Common.{option_or, AllByRecursion, find, is_sorted, get, from_sorted, get-from_sorted, below_all, Row, row_cmp, joined, last_before, Kept, pending_of, chain_kept, pending_kept, each_row}
 use Rattle.std.specs.List.Sorted.{IsStrictlySortedBy}
 use Rattle.std.specs.Map.{keys_of, lookup}
 use Rattle.std.specs.BTreeMap.{is_at}
@@ -12,7 +12,7 @@ module _ {A : Type 0} where
   below_kept row (e ∷ es) h = joined (is_lt (row_cmp row e.0)) (below_all row_cmp row es) (subst (λ r. T (is_lt r)) (sym h.0) tt) (below_kept row es h.1)
 
   -- entries in order of their keys are sorted
-  sorted_kept : (es : List (Row × A)) → IsStrictlySortedBy row_cmp (keys_of es) → T (is_sorted row_cmp es)
+  pub sorted_kept : (es : List (Row × A)) → IsStrictlySortedBy row_cmp (keys_of es) → T (is_sorted row_cmp es)
   unfolding IsStrictlySortedBy
   sorted_kept [] h = tt
   sorted_kept (e ∷ es) h = joined (below_all row_cmp e.0 es) (is_sorted row_cmp es) (below_kept e.0 es h.0) (sorted_kept es h.1)
@@ -22,7 +22,7 @@ module _ {A : Type 0} where
   find_kept row [] = refl
   find_kept row (e ∷ es) = ap (cond (is_eq (row_cmp row e.0)) (Some e.1)) (find_kept row es)
 
-  module _ (f : Row → A → Option Version) (es : List (Row × A)) (ordered : IsStrictlySortedBy row_cmp (keys_of es)) (made : List (Row × Version)) (is : made ≡ each_row f es) where
+  module _ {B : Type 0} (f : Row → A → Option B) (es : List (Row × A)) (ordered : IsStrictlySortedBy row_cmp (keys_of es)) (made : List (Row × B)) (is : made ≡ each_row f es) where
     -- what is made of each row is in order
     pub made_sorted : T (is_sorted row_cmp made)
     made_sorted = subst (λ l. T (is_sorted row_cmp l)) (sym is) (sorted_each f es (sorted_kept es ordered))

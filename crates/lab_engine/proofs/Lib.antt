@@ -10,7 +10,6 @@ pub mod Begins
 pub mod Describing
 pub mod EventBounds
 pub mod Holding
-pub mod Narrowing
 pub mod SeenRows
 pub mod Choosing
 pub mod OtherWriters
@@ -51,8 +50,8 @@ pub mod LimitOrder
 pub mod DoneTransactions
 pub mod RecordedCommits
 pub mod RecordedViews
-mod Shown
 mod Paths
 mod NewWaiters
 mod QuietEvents
+pub mod Overlaid
 pub mod OneRecording

@@ -56,7 +56,7 @@ front_below row (e ∷ es) over h = at (front_below row es over h) (row_cmp row 
     at rest Greater q = subst (λ n. AllBelow (take n (e ∷ es)) over) (sym (one-add (prefix_len (comes_after row) es))) (lower e.0 row over (turned row e.0 q) h, rest)
 
 -- to merge is to put each entry
-merged_put : (under over : Entries) → T (is_sorted row_cmp over) → merged under over ≡ put_each under over
+pub merged_put : (under over : Entries) → T (is_sorted row_cmp over) → merged under over ≡ put_each under over
 merged_put under [] h = refl
 merged_put under (e ∷ over) h =
     let parts = both (below_all row_cmp e.0 over) (is_sorted row_cmp over) h in
@@ -67,7 +67,7 @@ merged_put under (e ∷ over) h =
     ∙ past front (e ∷ left) over (front_below e.0 under over parts.0)
     ∙ ap (λ l. put_each l over) (split e.0 e.1 under)
 
-each_sorted : (es over : Entries) → T (is_sorted row_cmp es) → T (is_sorted row_cmp (put_each es over))
+pub each_sorted : (es over : Entries) → T (is_sorted row_cmp es) → T (is_sorted row_cmp (put_each es over))
 each_sorted es [] h = h
 each_sorted es (e ∷ over) h = each_sorted (put row_cmp e.0 e.1 es) over (is_sorted-put row_cmp rows_total e.0 e.1 es h)
 
@@ -80,7 +80,7 @@ first_stays row e over old below =
       | false ↦ λ t. refl
     ] refl
 
-each_found : (row : Row) (es over : Entries) → T (is_sorted row_cmp over) → find row_cmp row (put_each es over) ≡ option_or (find row_cmp row over) (find row_cmp row es)
+pub each_found : (row : Row) (es over : Entries) → T (is_sorted row_cmp over) → find row_cmp row (put_each es over) ≡ option_or (find row_cmp row over) (find row_cmp row es)
 each_found row es [] h = refl
 each_found row es (e ∷ over) h =
     let parts = both (below_all row_cmp e.0 over) (is_sorted row_cmp over) h in

@@ -11,6 +11,7 @@ pub mod Situation
 pub mod Sight
 pub mod Asker
 pub mod Chosen
+pub mod Overlay
 pub mod Others
 pub mod Chains
 pub mod Effect
@@ -20,7 +21,6 @@ pub mod Journal
 pub mod EventQuery
 pub mod Merging
 pub mod EachRow
-pub mod Candidates
 pub mod SessionBits
 pub mod LeastWalk
 pub mod Released

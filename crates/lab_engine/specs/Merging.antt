@@ -25,7 +25,7 @@ written_version name None = None
 written_version name (Some state) = Some (record { name = name; state = state })
 
 -- a list without its first entry, if that is the row's
-abbrev pub without_row : Row → List (Row × Version) → List (Row × Version)
+abbrev pub without_row : {V : Type 0} → Row → List (Row × V) → List (Row × V)
 without_row row [] = []
 without_row row (e ∷ es) = cond (row_test row e.0) es (e ∷ es)
 

@@ -3,7 +3,6 @@
 ghost use Rattle.std.specs.Prelude.{◌≡◌, ◌<◌, None, length, IsSome, IfOk, OnErr};
 ghost use Rattle.lab_table.specs.Table.{Table as PlainTable};
 ghost use Rattle.lab_engine.specs.declared.event.Level.{Level as Kind};
-ghost use Rattle.lab_engine.specs.Sight.{version_in};
 ghost use Rattle.lab_engine.specs.Effect.{IsResultOn, IsRefusalOn, IsEffectFault};
 ghost use Rattle.lab_engine.specs.Limits.{max_events};
 ghost use Rattle.lab_table.specs.Row.{Row};
@@ -11,7 +10,7 @@ ghost use Rattle.lab_table.specs.declared.statement.Statement.{Statement as Aske
 ghost use Rattle.lab_engine.specs.Log.{Version as Seen};
 ghost use Rattle.lab_table.specs.declared.statement.Command.TheVariants.{Run};
 ghost use Rattle.lab_engine.specs.Log.{Past, Txn, active, asked};
-ghost use Rattle.lab_engine.specs.Asker.{IsAsker};
+ghost use Rattle.lab_engine.specs.Asker.{IsAsker, seen_in};
 ghost use Rattle.lab_engine.specs.Rules.{MayAsk};
 ghost use Rattle.lab_engine.specs.Situation.{Describes};
 ghost use Rattle.lab_engine.specs.Answer.{MayGive, Answers};
@@ -20,9 +19,7 @@ use crate::asker::Asker;
 use crate::effect::{EffectFault, effect_of};
 use crate::event::{EngineFault, Outcome};
 use crate::rules::Rules;
-use crate::sight::seen_by;
 use crate::situation::Situation;
-use crate::version::Versions;
 use crate::waits::{blockers, deadlock};
 use lab_table::{Command, NoMemory, Session, Statement, Table, TxnNo};
 use std::alloc::{AllocError, Global};
@@ -90,8 +87,7 @@ pub fn run_statement<R: Rules>(
 {
     let on = blockers(alloc, rules, asker, statement)?;
     if on.as_slice().is_empty() {
-        let seen = seen_by(alloc, asker, statement)?;
-        return unblocked(alloc, statement, &seen);
+        return unblocked(alloc, asker, statement);
     }
     match deadlock(alloc, rules, asker, &on)? {
         Some(circle) => Ok(Outcome::Refused(EngineFault::Deadlock { circle })),
@@ -99,11 +95,13 @@ pub fn run_statement<R: Rules>(
     }
 }
 
-/// What a statement that nobody blocks answers on what is seen. NoMemory where an allocation was refused.
-fn unblocked(alloc: Global, statement: &Statement, seen: &Versions) -> Result<Outcome, NoMemory>
-    ensures { IfOk result (IsResultOn (version_in seen.now) statement.now) }
+/// What a statement that nobody blocks answers on what an active transaction sees. NoMemory where an allocation was
+/// refused.
+fn unblocked(alloc: Global, asker: &Asker, statement: &Statement) -> Result<Outcome, NoMemory>
+    ensures { IfOk result (IsResultOn (seen_in asker.now) statement.now) }
 {
-    match effect_of(alloc, statement, seen) {
+    let rows = &asker.situation.rows;
+    match effect_of(alloc, statement, asker.setup, rows, asker.session, asker.sees_before) {
         Ok(effect) => Ok(Outcome::Rows {
             view: effect.view,
             rows: effect.rows,

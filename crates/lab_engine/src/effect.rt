@@ -1,22 +1,23 @@
 //! What a statement does to the rows that a transaction sees.
 
-ghost use Rattle.std.specs.Prelude.{◌≡◌, ◌≢◌, T, false, Some, None, is_some, ◌∷◌, [], length, filter, IfOk, IfErr, IfSome, MatchOption};
+ghost use Rattle.std.specs.Prelude.{◌≡◌, ◌≢◌, T, false, ◌∷◌, [], IfOk, IfErr, IfSome, MatchOption};
 ghost use Rattle.std.specs.FinMap as map;
 ghost use Rattle.lab_table.specs.Row.{Row, row_cmp};
+ghost use Rattle.lab_table.specs.Table.{State as Seen};
 ghost use Rattle.lab_table.specs.Statement.{listed, written, fails};
 ghost use Rattle.lab_history.specs.VersionName.{new_states};
 ghost use Rattle.lab_history.specs.declared.operation.State.TheVariants.{Present};
-ghost use Rattle.lab_engine.specs.Rules.{in_view};
-ghost use Rattle.lab_engine.specs.Sight.{version_in};
-ghost use Rattle.lab_engine.specs.EachRow.{with_row, each_row, rewritten};
+ghost use Rattle.lab_engine.specs.Log.{Version};
+ghost use Rattle.lab_engine.specs.EachRow.{with_row, each_row, value_rewritten};
 ghost use Rattle.lab_engine.specs.EachRow as made;
 ghost use Rattle.lab_engine.specs.Effect.{IsEffectOn, IsEffectFault};
+ghost use Rattle.lab_engine.specs.Overlay.{AreMatching, version_over};
 ghost use Rattle.lab_engine.specs.declared.effect.EffectFault.TheVariants.{NoMemory};
 
-use crate::candidate::candidates;
-use crate::version::{Version, Versions};
-use lab_history::{Rows, State, VersionName, View, Writes};
-use lab_table::{NoMemory, RowName, Statement, Value};
+use crate::reading::{rows_matching, view_seen};
+use crate::row_states::RowStates;
+use lab_history::{Rows, State, View, Writes};
+use lab_table::{NoMemory, RowName, Session, Statement, Table, Value};
 use std::alloc::{AllocError, Global};
 
 /// What a statement saw, listed and wrote.
@@ -52,91 +53,21 @@ impl From<AllocError> for EffectFault {
     }
 }
 
-fn name_at(entry: &(RowName, Version)) -> Option<(RowName, VersionName)>
-    ensures { result ≡ with_row entry.now.0 (in_view entry.now.1.name) }
+/// The rows that a statement lists, of those that match it: all, or none where it adds a row.
+fn rows_of(alloc: Global, statement: &Statement, matching: Vec<(RowName, Value)>) -> Rows
+    requires { T (map.is_sorted row_cmp matching.items) }
+    ensures { (states : Row → Seen) → AreMatching statement.now states matching.items → (row : Row) → map.get result row ≡ listed statement.now row (states row) }
 {
-    match entry.1.name {
-        VersionName::Initial => None,
-        VersionName::Of { txn, op } => Some((entry.0, VersionName::Of { txn, op })),
+    match statement.inserted() {
+        Some(_) => Rows::new(Vec::new(alloc)),
+        None => Rows::new(matching),
     }
-}
-
-fn names(
-    alloc: Global,
-    entries: &[(RowName, Version)],
-) -> Result<Vec<(RowName, VersionName)>, NoMemory>
-    ensures { IfOk result (λ v. v.items ≡ each_row (λ row version. in_view version.name) entries.now) }
-{
-    // A log keeps its views, so each gets the room that it fills and no more.
-    let mut named = Vec::with_capacity(alloc, named_count(entries))?;
-    for entry in entries {
-        if let Some(listed) = name_at(entry) {
-            named.push(listed)?;
-        }
-    }
-    Ok(named)
-}
-
-/// How many of these versions a view lists.
-fn named_count(entries: &[(RowName, Version)]) -> usize
-    ensures { result ≡ length (filter (λ entry. is_some (with_row entry.0 (in_view entry.1.name))) entries.now) }
-{
-    entries
-        .iter()
-        .filter(|entry| name_at(entry).is_some())
-        .count()
-}
-
-/// The view of these versions: those that the setup doesn't have.
-fn view_of(alloc: Global, seen: &Versions) -> Result<View, NoMemory>
-    ensures { IfOk result (λ view. (row : Row) → map.get view row ≡ in_view (version_in seen.now row).name) }
-{
-    Ok(View::new(names(alloc, seen.entries())?))
-}
-
-fn value_at(statement: &Statement, entry: &(RowName, Version)) -> Option<(RowName, Value)>
-    ensures { result ≡ with_row entry.now.0 (listed statement.now entry.now.0 entry.now.1.state) }
-{
-    let value = statement.listed(entry.0, entry.1.state)?;
-    Some((entry.0, value))
-}
-
-fn values(
-    alloc: Global,
-    statement: &Statement,
-    entries: &[(RowName, Version)],
-) -> Result<Vec<(RowName, Value)>, NoMemory>
-    ensures { IfOk result (λ v. v.items ≡ each_row (λ row version. listed statement.now row version.state) entries.now) }
-{
-    entries
-        .iter()
-        .filter_map(|entry| value_at(statement, entry))
-        .collect(alloc)
-}
-
-/// The same, where only the rows are looked at that the statement may match.
-fn listed_values(
-    alloc: Global,
-    statement: &Statement,
-    entries: &[(RowName, Version)],
-) -> Result<Vec<(RowName, Value)>, NoMemory>
-    requires { T (map.is_sorted row_cmp entries.now) }
-    ensures { IfOk result (λ v. v.items ≡ each_row (λ row version. listed statement.now row version.state) entries.now) }
-{
-    values(alloc, statement, candidates(statement, entries))
-}
-
-/// The rows that a statement lists.
-fn rows_of(alloc: Global, statement: &Statement, seen: &Versions) -> Result<Rows, NoMemory>
-    ensures { IfOk result (λ rows. (row : Row) → map.get rows row ≡ listed statement.now row (version_in seen.now row).state) }
-{
-    Ok(Rows::new(listed_values(alloc, statement, seen.entries())?))
 }
 
 /// The new state of a row that a statement lists with this value, if it writes what it lists.
 /// Nothing where the result is out of range.
 fn rewritten_value(statement: &Statement, value: Value) -> Option<State>
-    ensures { result ≡ made.value_rewritten statement.now value }
+    ensures { result ≡ value_rewritten statement.now value }
 {
     match statement.rewritten(value)? {
         None => Some(State::Absent),
@@ -144,37 +75,24 @@ fn rewritten_value(statement: &Statement, value: Value) -> Option<State>
     }
 }
 
-fn state_at(statement: &Statement, entry: &(RowName, Version)) -> Option<(RowName, State)>
-    ensures { result ≡ with_row entry.now.0 (rewritten statement.now entry.now.0 entry.now.1.state) }
+fn state_at(statement: &Statement, entry: &(RowName, Value)) -> Option<(RowName, State)>
+    ensures { result ≡ with_row entry.now.0 (value_rewritten statement.now entry.now.1) }
 {
-    let value = statement.listed(entry.0, entry.1.state)?;
-    let state = rewritten_value(statement, value)?;
+    let state = rewritten_value(statement, entry.1)?;
     Some((entry.0, state))
 }
 
 fn states(
     alloc: Global,
     statement: &Statement,
-    entries: &[(RowName, Version)],
+    matching: &[(RowName, Value)],
 ) -> Result<Vec<(RowName, State)>, NoMemory>
-    ensures { IfOk result (λ v. v.items ≡ each_row (λ row version. rewritten statement.now row version.state) entries.now) }
+    ensures { IfOk result (λ v. v.items ≡ each_row (λ row value. value_rewritten statement.now value) matching.now) }
 {
-    entries
+    matching
         .iter()
         .filter_map(|entry| state_at(statement, entry))
         .collect(alloc)
-}
-
-/// The same, where only the rows are looked at that the statement may match.
-fn rewritten_states(
-    alloc: Global,
-    statement: &Statement,
-    entries: &[(RowName, Version)],
-) -> Result<Vec<(RowName, State)>, NoMemory>
-    requires { T (map.is_sorted row_cmp entries.now) }
-    ensures { IfOk result (λ v. v.items ≡ each_row (λ row version. rewritten statement.now row version.state) entries.now) }
-{
-    states(alloc, statement, candidates(statement, entries))
 }
 
 fn inserted(alloc: Global, id: RowName, value: Value) -> Result<Vec<(RowName, State)>, NoMemory>
@@ -186,15 +104,16 @@ fn inserted(alloc: Global, id: RowName, value: Value) -> Result<Vec<(RowName, St
 }
 
 /// What a statement that no row keeps from running writes.
-/// An insert writes its row alone, which may not be among those seen.
+/// An insert writes its row alone, which is absent.
 fn written_states(
     alloc: Global,
     statement: &Statement,
-    seen: &Versions,
+    matching: &[(RowName, Value)],
 ) -> Result<Vec<(RowName, State)>, NoMemory>
+    requires { T (map.is_sorted row_cmp matching.now) }
     ensures sorted { IfOk result (λ v. T (map.is_sorted row_cmp (new_states v.items))) }
-    ensures found { ((row : Row) → fails statement.now row (version_in seen.now row).state ≡ false)
-        → IfOk result (λ v. (row : Row) → map.find row_cmp row (new_states v.items) ≡ written statement.now row (version_in seen.now row).state) }
+    ensures found { (states : Row → Seen) → AreMatching statement.now states matching.now → ((row : Row) → fails statement.now row (states row) ≡ false)
+        → IfOk result (λ v. (row : Row) → map.find row_cmp row (new_states v.items) ≡ written statement.now row (states row)) }
 {
     match statement.inserted() {
         Some((id, value)) => inserted(alloc, id, value),
@@ -202,91 +121,75 @@ fn written_states(
             if statement.is_read_only() {
                 Ok(Vec::new(alloc))
             } else {
-                rewritten_states(alloc, statement, seen.entries())
+                states(alloc, statement, matching)
             }
         }
     }
 }
 
-fn writes_of(alloc: Global, statement: &Statement, seen: &Versions) -> Result<Writes, NoMemory>
-    ensures { ((row : Row) → fails statement.now row (version_in seen.now row).state ≡ false)
-        → IfOk result (λ writes. (row : Row) → map.get writes row ≡ written statement.now row (version_in seen.now row).state) }
+fn writes_of(
+    alloc: Global,
+    statement: &Statement,
+    matching: &[(RowName, Value)],
+) -> Result<Writes, NoMemory>
+    requires { T (map.is_sorted row_cmp matching.now) }
+    ensures { (states : Row → Seen) → AreMatching statement.now states matching.now → ((row : Row) → fails statement.now row (states row) ≡ false)
+        → IfOk result (λ writes. (row : Row) → map.get writes row ≡ written statement.now row (states row)) }
 {
-    Ok(Writes::new(written_states(alloc, statement, seen)?))
+    Ok(Writes::new(written_states(alloc, statement, matching)?))
 }
 
-fn first_failing(statement: &Statement, entries: &[(RowName, Version)]) -> Option<RowName>
-    ensures { result ≡ made.first_failing statement.now entries.now }
+fn first_failing(statement: &Statement, matching: &[(RowName, Value)]) -> Option<RowName>
+    ensures { result ≡ made.first_failing statement.now matching.now }
 {
-    for entry in entries {
-        if statement.fails_at(entry.0, entry.1.state) {
+    for entry in matching {
+        if statement.fails_at(entry.0, Some(entry.1)) {
             return Some(entry.0);
         }
     }
     None
 }
 
-/// The same, where only the rows are looked at that the statement may match.
-fn first_candidate_failing(statement: &Statement, entries: &[(RowName, Version)]) -> Option<RowName>
-    requires { T (map.is_sorted row_cmp entries.now) }
-    ensures { result ≡ made.first_failing statement.now entries.now }
-{
-    first_failing(statement, candidates(statement, entries))
-}
-
-/// The version of a row that is seen: the one listed, else that of a row absent from the start.
-fn version_seen(seen: &Versions, row: RowName) -> Version
-    ensures { result ≡ version_in seen.now row }
-{
-    match seen.get(row) {
-        Some(version) => version,
-        None => Version {
-            name: VersionName::Initial,
-            state: None,
-        },
-    }
-}
-
-/// Why a statement can't run on rows that are seen at these versions, if it can't.
-fn fault_of(statement: &Statement, seen: &Versions) -> Option<EffectFault>
-    ensures fault { MatchOption result ((row : Row) → fails statement.now row (version_in seen.now row).state ≡ false)
-        (IsEffectFault (version_in seen.now) statement.now) }
+/// Why a statement can't run on what is seen, by the rows that match it, if it can't: that an insert's row is there, or
+/// the first whose new value is out of range.
+fn fault_of(statement: &Statement, matching: &[(RowName, Value)]) -> Option<EffectFault>
+    ensures fault { (sees : Row → Version) → AreMatching statement.now (λ row. (sees row).state) matching.now
+        → MatchOption result ((row : Row) → fails statement.now row (sees row).state ≡ false) (IsEffectFault sees statement.now) }
     ensures own { IfSome result (λ fault. fault ≢ NoMemory) }
 {
-    match statement.inserted() {
-        Some((id, _)) => {
-            if version_seen(seen, id).state.is_some() {
-                Some(EffectFault::DuplicateKey { id })
-            } else {
-                None
-            }
-        }
-        None => {
-            if !statement.is_update() {
-                return None;
-            }
-            let id = first_candidate_failing(statement, seen.entries())?;
-            Some(EffectFault::OutOfRange { id })
-        }
+    if statement.is_read_only() {
+        return None;
+    }
+    let id = first_failing(statement, matching)?;
+    if statement.is_update() {
+        Some(EffectFault::OutOfRange { id })
+    } else {
+        Some(EffectFault::DuplicateKey { id })
     }
 }
 
-/// What a statement does to rows that are seen at these versions.
+/// What a statement does to rows as a session sees them that sees the commits with fewer than so many events before them.
 /// It is refused where a row that is seen keeps it from running, or for want of memory.
 pub fn effect_of(
     alloc: Global,
     statement: &Statement,
-    seen: &Versions,
+    setup: &Table,
+    rows: &RowStates,
+    session: Session,
+    place: usize,
 ) -> Result<Effect, EffectFault>
-    ensures ok { IfOk result (λ e. IsEffectOn (version_in seen.now) statement.now e.view e.rows e.writes) }
-    ensures fault { IfErr result (IsEffectFault (version_in seen.now) statement.now) }
+    ensures ok { IfOk result (λ e. IsEffectOn (version_over setup.now rows.now session place) statement.now e.view e.rows e.writes) }
+    ensures fault { IfErr result (IsEffectFault (version_over setup.now rows.now session place) statement.now) }
 {
-    if let Some(fault) = fault_of(statement, seen) {
+    let matching = rows_matching(alloc, statement, setup, rows, session, place)?;
+    if let Some(fault) = fault_of(statement, &matching) {
         return Err(fault);
     }
+    let view = view_seen(alloc, rows, session, place)?;
+    let writes = writes_of(alloc, statement, &matching)?;
     Ok(Effect {
-        view: view_of(alloc, seen)?,
-        rows: rows_of(alloc, statement, seen)?,
-        writes: writes_of(alloc, statement, seen)?,
+        view,
+        rows: rows_of(alloc, statement, matching),
+        writes,
     })
 }

@@ -18,7 +18,7 @@ ghost use Rattle.lab_engine.specs.Merging.{written_version};
 
 use crate::reserved::append;
 use crate::row_state::RowState;
-use crate::version::{Version, Versions, value_of};
+use crate::version::{Version, value_of};
 use lab_history::{State, VersionName, Writes};
 use lab_table::{NoMemory, RowName, Session, TxnNo};
 use std::alloc::Global;
@@ -93,20 +93,6 @@ impl RowStates {
             Some(kept) => kept.first_since(place),
             None => None,
         }
-    }
-
-    /// What a session sees of all rows that have a version which isn't the setup's. NoMemory where an allocation was
-    /// refused.
-    pub(crate) fn all_seen(
-        &self,
-        alloc: Global,
-        session: Session,
-        place: usize,
-    ) -> Result<Versions, NoMemory>
-        ensures { IfOk result (λ made. (row : Row) → map.get made row ≡ option_or (pending_in self.now row session) (plain.last_before place (chain_in self.now row))) }
-    {
-        let entries = entries_seen(alloc, &self.rows, session, place)?;
-        Ok(Versions::from_rising(entries))
     }
 
     /// Makes room for a version of a row by each session. NoMemory where an allocation was refused.
@@ -230,23 +216,4 @@ fn version_named(name: &VersionName, state: State) -> Version
         name: *name,
         state: value_of(state),
     }
-}
-
-/// What a session sees of each row that has a version which isn't the setup's, by rising row.
-fn entries_seen(
-    alloc: Global,
-    rows: &BTreeMap<RowName, RowState>,
-    session: Session,
-    place: usize,
-) -> Result<Vec<(RowName, Version)>, NoMemory>
-    ensures ordered { IfOk result (λ _. IsOrdered row_cmp rows.now) }
-    ensures made { IfOk result (λ v. v.items ≡ each_row (λ row kept. option_or (pending_of kept session) (plain.last_before place kept.chain)) rows.now.entries) }
-{
-    let mut entries = Vec::with_capacity(alloc, rows.len())?;
-    for (row, kept) in rows {
-        if let Some(version) = kept.seen_by(session, place) {
-            entries.push((*row, version))?;
-        }
-    }
-    Ok(entries)
 }

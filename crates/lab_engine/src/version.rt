@@ -1,18 +1,17 @@
 //! The versions of rows.
 
-ghost use Rattle.std.specs.Prelude.{◌≡◌, T, ◌≤◌, length, cond, None, is_some, option_and_then, IfOk, OnErr};
+ghost use Rattle.std.specs.Prelude.{◌≡◌, T, ◌≤◌, length, IfOk, OnErr};
 ghost use Rattle.std.specs.Prelude as list;
 ghost use Rattle.std.specs.List.{prefix_len};
 ghost use Rattle.std.specs.FinMap as map;
 ghost use Rattle.std.specs.Option.{option_or};
 ghost use Rattle.lab_table.specs.Row.{Row, row_cmp};
-ghost use Rattle.lab_engine.specs.EachRow.{with_row, each_row};
-ghost use Rattle.lab_engine.specs.Sight.{listed_version, matching_version, comes_after};
+ghost use Rattle.lab_engine.specs.Sight.{listed_version, comes_after};
 ghost use Rattle.lab_history.specs.VersionName.{state_value};
 ghost use Rattle.lab_engine.specs.Merging.{initial_entry, written_entry, written_version, insert_each, insert_missing, merged, without_row};
 
 use lab_history::{State, VersionName, Writes};
-use lab_table::{ByRow, NoMemory, RowName, Statement, Table, Value};
+use lab_table::{ByRow, NoMemory, RowName, Table, Value};
 use std::alloc::Global;
 use std::marker::Model;
 
@@ -56,64 +55,12 @@ impl Versions {
         }
     }
 
-    /// The versions of these rows, which rise strictly; it takes no memory.
-    pub(crate) fn from_rising(entries: Vec<(RowName, Version)>) -> Versions
-        requires { T (map.is_sorted row_cmp entries.items) }
-        ensures { result ≡ map.from_sorted entries.items }
-    {
-        Versions {
-            by_row: ByRow::from_rising(entries),
-        }
-    }
-
     /// The initial version of each row that the table has. NoMemory where an allocation was refused.
     pub fn of_table(alloc: Global, table: &Table) -> Result<Versions, NoMemory>
         ensures { IfOk result (λ made. (row : Row) → map.get made row ≡ listed_version (map.get table.now row)) }
     {
         Ok(Versions {
             by_row: ByRow::from_rising(initial_entries(alloc, table.rows())?),
-        })
-    }
-
-    /// These versions, over the initial one of each row of the table that matches a statement: where the statement names
-    /// a row, no other one is looked at. NoMemory where an allocation was refused.
-    pub(crate) fn over_matching(
-        &self,
-        alloc: Global,
-        statement: &Statement,
-        table: &Table,
-    ) -> Result<Versions, NoMemory>
-        ensures { IfOk result (λ made. (row : Row) → map.get made row
-            ≡ option_or (map.get self.now row) (option_and_then (matching_version statement.now row) (map.get table.now row))) }
-    {
-        let Some(row) = statement.named_row() else {
-            let mut made = Versions::matching(alloc, statement, table)?;
-            made.overlay(alloc, self)?;
-            return Ok(made);
-        };
-        let mut made = self.copy(alloc)?;
-        if let Some(version) = self.matching_at(statement, row, table) {
-            made.put(alloc, row, version)?;
-        }
-        Ok(made)
-    }
-
-    /// The initial version of a row that has none here, where it matches a statement.
-    fn matching_at(&self, statement: &Statement, row: RowName, table: &Table) -> Option<Version>
-        ensures { result ≡ cond (is_some (map.get self.now row)) None (option_and_then (matching_version statement.now row) (map.get table.now row)) }
-    {
-        match self.get(row) {
-            Some(_) => None,
-            None => version_matching(statement, row, table.get(row)?),
-        }
-    }
-
-    /// The initial version of each row of the table that matches a statement. NoMemory where an allocation was refused.
-    fn matching(alloc: Global, statement: &Statement, table: &Table) -> Result<Versions, NoMemory>
-        ensures { IfOk result (λ made. (row : Row) → map.get made row ≡ option_and_then (matching_version statement.now row) (map.get table.now row)) }
-    {
-        Ok(Versions {
-            by_row: ByRow::from_rising(entries_matching(alloc, statement, table.rows())?),
         })
     }
 
@@ -231,39 +178,6 @@ fn initial_entries(
         .collect(alloc)
 }
 
-/// The initial version of a row with this value, where it matches a statement.
-fn version_matching(statement: &Statement, row: RowName, value: Value) -> Option<Version>
-    ensures { result ≡ matching_version statement.now row value }
-{
-    if statement.matches(row, Some(value)) {
-        Some(Version {
-            name: VersionName::Initial,
-            state: Some(value),
-        })
-    } else {
-        None
-    }
-}
-
-fn entry_matching(statement: &Statement, entry: &(RowName, Value)) -> Option<(RowName, Version)>
-    ensures { result ≡ with_row entry.now.0 (matching_version statement.now entry.now.0 entry.now.1) }
-{
-    let version = version_matching(statement, entry.0, entry.1)?;
-    Some((entry.0, version))
-}
-
-fn entries_matching(
-    alloc: Global,
-    statement: &Statement,
-    rows: &[(RowName, Value)],
-) -> Result<Vec<(RowName, Version)>, NoMemory>
-    ensures { IfOk result (λ v. v.items ≡ each_row (matching_version statement.now) rows.now) }
-{
-    rows.iter()
-        .filter_map(|entry| entry_matching(statement, entry))
-        .collect(alloc)
-}
-
 /// The value of a row in a state that was written; None where that is absent.
 pub(crate) fn value_of(state: State) -> Option<Value>
     ensures { result ≡ state_value state }
@@ -296,7 +210,7 @@ fn written_entries(
 }
 
 /// The entries behind the row's, of a list that has none before it.
-fn behind(entries: &[(RowName, Version)], row: RowName) -> &[(RowName, Version)]
+pub(crate) fn behind<V>(entries: &[(RowName, V)], row: RowName) -> &[(RowName, V)]
     ensures { result.now ≡ without_row row entries.now }
 {
     match entries.split_first() {
@@ -327,7 +241,7 @@ fn merged_entries(
 }
 
 /// How many entries stand before a row. They are mostly few, so they are counted.
-fn place_near(entries: &[(RowName, Version)], row: RowName) -> usize
+pub(crate) fn place_near<V>(entries: &[(RowName, V)], row: RowName) -> usize
     ensures value { result ≡ prefix_len (comes_after row) entries.now }
     ensures bound { result ≤ length entries.now }
 {

@@ -1,14 +1,14 @@
 use Rattle.std.proofs.Common.{sym, ◌∙◌}
+use Rattle.lab_engine.proofs.SeenRows.{seen_is}
 use Rattle.lab_engine.proofs.Answering.{asking, unblocked_answers, nobody_blocks, waits_answers, deadlock_answers, none_empty, some_empty}
 use Rattle.lab_engine.proofs.answer.run_statement.Goals as goal
 
 pub returns-then-is_empty : goal.returns-then-is_empty
 returns-then-is_empty g c past txn asks may =
     let may_run = asking c.args.statement.now txn may asks.active in
-    let sight = c.in_ok-seen.ensures g.R.Rules.kind past txn asks in
     let blockers = c.in_ok-on.ensures past txn asks in
     let empty = none_empty c.as_slice.result.now c.in_ok-on.on c.as_slice.ensures c.if-is_empty.ensures in
-    unblocked_answers _ _ _ _ _ txn may_run (nobody_blocks _ _ _ _ _ txn may_run _ blockers empty) _ sight _ c.unblocked.ensures
+    unblocked_answers _ _ _ _ _ txn may_run (nobody_blocks _ _ _ _ _ txn may_run _ blockers empty) _ (seen_is g.R.Rules.kind past txn c.args.asker.now asks) _ c.unblocked.ensures
 
 pub returns-in-Some : goal.returns-in-Some
 returns-in-Some g c past txn asks may =

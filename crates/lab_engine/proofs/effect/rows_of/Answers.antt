@@ -1,15 +1,15 @@
-use Rattle.std.proofs.Common.{T, sym, subst}
-use Rattle.lab_engine.proofs.Common.{is_sorted, entries_sorted, row_cmp, listed, Version}
-use Rattle.lab_engine.proofs.Effects.{sorted_made, rows_made}
+use Rattle.std.proofs.Common.{◌∙◌, [], ap, sym}
+use Rattle.lab_engine.proofs.Common.{from_sorted, get, get-from_sorted, row_cmp, insert_is}
+use Rattle.lab_engine.proofs.Effects.{lists_matched}
 use Rattle.lab_engine.proofs.effect.rows_of.Goals as goal
 
-pub listed_values-requires : goal.listed_values-requires
-listed_values-requires c = subst (λ l. T (is_sorted row_cmp l)) (sym c.entries.ensures) (entries_sorted c.args.seen.now)
+pub returns-in-Some : goal.returns-in-Some
+returns-in-Some c = λ states are row.
+    ap (λ m. get m row) c.new-in-Some.ensures
+    ∙ ap (λ l. get (from_sorted {R = row_cmp} l) row) c.new.ensures.items ∙ get-from_sorted row_cmp [] row tt
+    ∙ sym ((insert_is c.args.statement.now _ _ (sym c.inserted.ensures ∙ c.in-Some.is)).lists_none row (states row))
 
-pub new-requires : goal.new-requires
-new-requires c = sorted_made (λ row (v : Version). listed c.args.statement.now row v.state) c.args.seen.now c.entries.result.now
-    c.in_ok-listed_values.field-0.items c.entries.ensures c.in_ok-listed_values.ensures
-
-pub returns : goal.returns
-returns c = rows_made c.args.statement.now c.args.seen.now c.entries.result.now
-    c.in_ok-listed_values.field-0.items c.new.result c.entries.ensures c.in_ok-listed_values.ensures c.new.ensures
+pub returns-in-None : goal.returns-in-None
+returns-in-None c = λ states are row.
+    ap (λ m. get m row) c.new-in-None.ensures ∙ get-from_sorted row_cmp c.args.matching.items row c.requires
+    ∙ are.found row ∙ sym (lists_matched c.args.statement.now (sym c.inserted.ensures ∙ c.in-None.is) row (states row))

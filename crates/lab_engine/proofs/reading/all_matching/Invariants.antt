@@ -1,0 +1,10 @@
+use Rattle.std.proofs.Common.{◌≡◌, ◌++◌}
+use Rattle.lab_engine.specs.EachRow.{each_row}
+use Rattle.lab_engine.specs.Overlay.{seen_of, matching_entries, laid_over}
+use Rattle.lab_engine.proofs.reading.all_matching.Given as goal
+
+-- the rows so far and those that match of what is left of both lists are those of the whole
+abbrev pub invariant-loop-row : goal.invariant-loop-row
+invariant-loop-row l =
+    l.found.items ++ matching_entries l.statement (laid_over l.left (each_row (λ row kept. seen_of l.fn.session l.fn.place kept) l.row-iterator))
+    ≡ matching_entries l.statement (laid_over l.setup (each_row (λ row kept. seen_of l.fn.session l.fn.place kept) l.rows.entries))

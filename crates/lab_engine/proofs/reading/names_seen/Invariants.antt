@@ -1,0 +1,9 @@
+use Rattle.std.proofs.Common.{◌≡◌, ◌++◌}
+use Rattle.lab_engine.specs.EachRow.{each_row}
+use Rattle.lab_engine.specs.Overlay.{seen_of, name_over}
+use Rattle.lab_engine.proofs.reading.names_seen.Given as goal
+
+-- the names so far and those of the rows that are left are those of all
+abbrev pub invariant-loop-row : goal.invariant-loop-row
+invariant-loop-row l =
+    l.names.items ++ each_row (λ row kept. name_over (seen_of l.session l.place kept)) l.row-iterator ≡ each_row (λ row kept. name_over (seen_of l.session l.place kept)) l.rows.entries

@@ -1,0 +1,223 @@
+//! What a session sees of rows, and which of these match a statement.
+
+ghost use Rattle.std.specs.Prelude.{◌≡◌, ◌++◌, [], IfOk};
+ghost use Rattle.std.specs.List.{cons_option};
+ghost use Rattle.std.specs.BTreeMap.{IsOrdered};
+ghost use Rattle.std.specs.FinMap as map;
+ghost use Rattle.lab_table.specs.Row.{Row, row_cmp};
+ghost use Rattle.lab_table.specs.Statement.{matched};
+ghost use Rattle.lab_engine.specs.EachRow.{with_row, each_row};
+ghost use Rattle.lab_engine.specs.Rules.{in_view};
+ghost use Rattle.lab_engine.specs.Overlay.{seen_of, seen_over, state_over, name_over, matching_rows, matching_entries, laid_over, AreMatching};
+
+use crate::row_state::RowState;
+use crate::row_states::RowStates;
+use crate::version::{behind, place_near};
+use lab_history::{VersionName, View};
+use lab_table::{NoMemory, RowName, Session, Statement, Table, Value};
+use std::alloc::Global;
+use std::collections::BTreeMap;
+
+/// The view of a session that sees the commits with fewer than so many events before them. NoMemory where an allocation
+/// was refused.
+pub fn view_seen(
+    alloc: Global,
+    rows: &RowStates,
+    session: Session,
+    place: usize,
+) -> Result<View, NoMemory>
+    ensures { IfOk result (λ view. (row : Row) → map.get view row ≡ name_over (seen_over rows.now session place row)) }
+{
+    let names = names_seen(alloc, rows.by_row(), session, place)?;
+    Ok(View::new(names))
+}
+
+/// The names of a view, by rising row.
+fn names_seen(
+    alloc: Global,
+    rows: &BTreeMap<RowName, RowState>,
+    session: Session,
+    place: usize,
+) -> Result<Vec<(RowName, VersionName)>, NoMemory>
+    ensures ordered { IfOk result (λ _. IsOrdered row_cmp rows.now) }
+    ensures made { IfOk result (λ v. v.items ≡ each_row (λ row kept. name_over (seen_of session place kept)) rows.now.entries) }
+{
+    let mut names = Vec::with_capacity(alloc, rows.len())?;
+    for (row, kept) in rows {
+        if let Some(name) = name_seen(*row, kept, session, place) {
+            names.push(name)?;
+        }
+    }
+    without_spare(alloc, names)
+}
+
+/// What a view lists of a row, if anything.
+fn name_seen(
+    row: RowName,
+    kept: &RowState,
+    session: Session,
+    place: usize,
+) -> Option<(RowName, VersionName)>
+    ensures { result ≡ with_row row (name_over (seen_of session place kept.now)) }
+{
+    match kept.seen_by(session, place) {
+        Some(version) => listed_name(row, version.name),
+        None => None,
+    }
+}
+
+/// A row with the name of its version, where a view lists that.
+fn listed_name(row: RowName, name: VersionName) -> Option<(RowName, VersionName)>
+    ensures { result ≡ with_row row (in_view name) }
+{
+    match name {
+        VersionName::Initial => None,
+        VersionName::Of { txn, op } => Some((row, VersionName::Of { txn, op })),
+    }
+}
+
+/// The same names in as much room as they fill: a log keeps its views.
+fn without_spare(
+    alloc: Global,
+    names: Vec<(RowName, VersionName)>,
+) -> Result<Vec<(RowName, VersionName)>, NoMemory>
+    ensures { IfOk result (λ v. v.items ≡ names.items) }
+{
+    if names.len() == names.capacity() {
+        return Ok(names);
+    }
+    Vec::from_slice(alloc, &names)
+}
+
+/// The rows that match a statement as a session sees them that sees the commits with fewer than so many events before
+/// them, with their values, by rising row. Where the statement names a row, no other one is looked at. NoMemory where an
+/// allocation was refused.
+pub fn rows_matching(
+    alloc: Global,
+    statement: &Statement,
+    setup: &Table,
+    rows: &RowStates,
+    session: Session,
+    place: usize,
+) -> Result<Vec<(RowName, Value)>, NoMemory>
+    ensures { IfOk result (λ v. AreMatching statement.now (state_over setup.now rows.now session place) v.items) }
+{
+    match statement.named_row() {
+        Some(row) => {
+            let state = state_seen(setup, rows, session, place, row);
+            entry_of(alloc, matching_entry(statement, row, state))
+        }
+        None => all_matching(
+            alloc,
+            statement,
+            setup.rows(),
+            rows.by_row(),
+            session,
+            place,
+        ),
+    }
+}
+
+/// The state of a row as such a session sees it.
+fn state_seen(
+    setup: &Table,
+    rows: &RowStates,
+    session: Session,
+    place: usize,
+    row: RowName,
+) -> Option<Value>
+    ensures { result ≡ state_over setup.now rows.now session place row }
+{
+    match rows.seen_by(row, session, place) {
+        Some(version) => version.state,
+        None => setup.get(row),
+    }
+}
+
+/// A row with its value in this state, where that matches a statement.
+#[inline(always)]
+fn matching_entry(
+    statement: &Statement,
+    row: RowName,
+    state: Option<Value>,
+) -> Option<(RowName, Value)>
+    ensures { result ≡ with_row row (matched statement.now row state) }
+{
+    let value = state?;
+    if statement.matches(row, Some(value)) {
+        Some((row, value))
+    } else {
+        None
+    }
+}
+
+/// A list of this entry, if there is one, without room for more.
+fn entry_of(
+    alloc: Global,
+    entry: Option<(RowName, Value)>,
+) -> Result<Vec<(RowName, Value)>, NoMemory>
+    ensures { IfOk result (λ v. v.items ≡ cons_option entry []) }
+{
+    let Some(entry) = entry else {
+        return Ok(Vec::new(alloc));
+    };
+    let mut entries = Vec::with_capacity(alloc, 1)?;
+    entries.push(entry)?;
+    Ok(entries)
+}
+
+/// The rows that match, of a setup's and those that transactions have written: walks through both at once, and tests a
+/// row in the version that is seen alone.
+fn all_matching(
+    alloc: Global,
+    statement: &Statement,
+    setup: &[(RowName, Value)],
+    rows: &BTreeMap<RowName, RowState>,
+    session: Session,
+    place: usize,
+) -> Result<Vec<(RowName, Value)>, NoMemory>
+    ensures ordered { IfOk result (λ _. IsOrdered row_cmp rows.now) }
+    ensures made { IfOk result (λ v. v.items ≡ matching_entries statement.now (laid_over setup.now (each_row (λ row kept. seen_of session place kept) rows.now.entries))) }
+{
+    let mut found = Vec::new(alloc);
+    let mut left = setup;
+    for (row, kept) in rows {
+        if let Some(version) = kept.seen_by(session, place) {
+            let (before, rest) = left.split_at(place_near(left, *row));
+            put_matching(statement, before, &mut found)?;
+            put_entry(matching_entry(statement, *row, version.state), &mut found)?;
+            left = behind(rest, *row);
+        }
+    }
+    put_matching(statement, left, &mut found)?;
+    Ok(found)
+}
+
+/// Puts those of some rows that match behind others.
+fn put_matching(
+    statement: &Statement,
+    rows: &[(RowName, Value)],
+    found: &mut Vec<(RowName, Value)>,
+) -> Result<(), NoMemory>
+    ensures { IfOk result (λ _. found.new.items ≡ found.old.items ++ matching_rows statement.now rows.now) }
+{
+    for row in rows {
+        if let Some(entry) = matching_entry(statement, row.0, Some(row.1)) {
+            found.push(entry)?;
+        }
+    }
+    Ok(())
+}
+
+/// Puts this entry, if there is one, behind others.
+fn put_entry(
+    entry: Option<(RowName, Value)>,
+    found: &mut Vec<(RowName, Value)>,
+) -> Result<(), NoMemory>
+    ensures { IfOk result (λ _. found.new.items ≡ found.old.items ++ cons_option entry []) }
+{
+    if let Some(entry) = entry {
+        found.push(entry)?;
+    }
+    Ok(())
+}
