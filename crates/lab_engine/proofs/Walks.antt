@@ -1,32 +1,31 @@
 -- Walks to a goal along the graph of who waits for whom.
-use Rattle.std.proofs.Common.{◌∙◌, ap, ◌≡◌, ℕ, ◌≤◌, ◌<◌, ◌==◌, refl, sym, subst, inl, inr, arith, true, false, List, [], ◌∷◌, length, IsTrue}
-use Rattle.lab_engine.proofs.Common.{false_from_ne_true, list_any, AllByRecursion, eq-eqb, ne_eqb, eqb-true, eqb-false, both_ways, or_cases, or_parts, IsWalk, AllDistinct, Any-from_list_any, list_any_at}
+use Rattle.std.proofs.Common.{◌∙◌, ap, ◌≡◌, ℕ, ◌≤◌, ◌<◌, ◌==◌, ◌⊎◌, refl, sym, subst, inl, inr, arith, true, false, List, [], ◌∷◌, length, IsTrue}
+use Rattle.lab_engine.proofs.Common.{false_from_ne_true, list_any, AllByRecursion, eq-eqb, ne_eqb, eqb-true, eqb-false, both_ways, or_cases, or_parts, waits_for, IsWalk, AllDistinct, Any-from_list_any, list_any_at}
 use Rattle.std.specs.List.{IsDistinct}
 use Rattle.std.proofs.lemmas.Map.Steps.{length-le_from_distinct_below}
+use Rattle.lab_engine.proofs.Paths.{IsPath, from_there, once_path}
 use Rattle.lab_engine.proofs.WaitGraphs.{waiter_range}
 
--- a walk with nobody on it twice, and with at most so many between
-abbrev WalksOnce : List ℕ → ℕ → ℕ → ℕ → Type 0
-WalksOnce graph goal session most = (other : List ℕ) × IsWalk graph session other goal × AllDistinct (session ∷ other) × (length other ≤ most)
+-- a walk is a path along who waits for whom
+abbrev Waits : List ℕ → ℕ → ℕ → Type 0
+Waits graph session other = IsTrue (waits_for graph session other)
 
--- from each session on a walk one leads on that is no longer, with nobody on it twice if nobody was
-from_there : (graph : List ℕ) (goal there session : ℕ) (rest : List ℕ) → IsWalk graph session rest goal → AllDistinct (session ∷ rest) → IsTrue (list_any (λ m. m == there) (session ∷ rest))
-    → WalksOnce graph goal there (length rest)
-from_there graph goal there session [] walk once on = elim (or_cases (session == there) false on) [
-  | inl p ↦ subst (λ k. WalksOnce graph goal k 0) (eqb-true session there p) ([], walk, once, omega arith)
-  | inr p ↦ absurd (both_ways _ refl p)
-]
-from_there graph goal there session (next ∷ rest) walk once on = elim (or_cases (session == there) (list_any (λ m. m == there) (next ∷ rest)) on) [
-  | inl p ↦ subst (λ k. WalksOnce graph goal k (length (next ∷ rest))) (eqb-true session there p) (next ∷ rest, walk, once, omega arith)
-  | inr p ↦ let later = from_there graph goal there next rest walk.1 once.1 p in (later.0, later.1, later.2, omega (arith, later.3))
-]
+path_of : (graph : List ℕ) (goal session : ℕ) (rest : List ℕ) → IsWalk graph session rest goal → IsPath (Waits graph) session rest goal
+path_of graph goal session [] walk = walk
+path_of graph goal session (next ∷ rest) (first, walk) = (first, path_of graph goal next rest walk)
+
+walk_of : (graph : List ℕ) (goal session : ℕ) (rest : List ℕ) → IsPath (Waits graph) session rest goal → IsWalk graph session rest goal
+walk_of graph goal session [] path = path
+walk_of graph goal session (next ∷ rest) (first, path) = (first, walk_of graph goal next rest path)
 
 -- a session isn't on a shortest walk behind it
 not_behind : (graph : List ℕ) (goal session next : ℕ) (rest : List ℕ) → IsWalk graph next rest goal → AllDistinct (next ∷ rest)
     → ((other : List ℕ) → IsWalk graph session other goal → length (next ∷ rest) ≤ length other) → list_any (λ m. m == session) (next ∷ rest) ≡ false
 not_behind graph goal session next rest walk once short = false_from_ne_true _ (λ there.
-    let on = from_there graph goal session next rest walk once there in
-    omega (arith, short on.0 on.1, on.3))
+    let on : (other : List ℕ) × IsPath (Waits graph) session other goal × AllDistinct (session ∷ other) × (length other ≤ length rest) =
+    from_there (Waits graph) next session goal rest (path_of graph goal next rest walk) once there in
+    let le : length (next ∷ rest) ≤ length on.0 = short on.0 (walk_of graph goal session on.0 on.1) in
+    omega (arith, le, on.3))
 
 -- on a walk than which none is shorter nobody stands twice
 pub shortest_once : (graph : List ℕ) (goal session : ℕ) (rest : List ℕ) → IsWalk graph session rest goal → ((other : List ℕ) → IsWalk graph session other goal → length rest ≤ length other)
@@ -38,13 +37,8 @@ shortest_once graph goal session (next ∷ rest) walk short =
 
 -- where a walk leads, one leads on which nobody stands twice
 pub once_walk : (graph : List ℕ) (goal session : ℕ) (rest : List ℕ) → IsWalk graph session rest goal → (other : List ℕ) × IsWalk graph session other goal × AllDistinct (session ∷ other)
-once_walk graph goal session [] walk = ([], walk, (refl, tt))
-once_walk graph goal session (next ∷ rest) walk =
-    let on = once_walk graph goal next rest walk.1 in
-    elim (list_any (λ m. m == session) (next ∷ on.0)) as (λ b. list_any (λ m. m == session) (next ∷ on.0) ≡ b → (other : List ℕ) × IsWalk graph session other goal × AllDistinct (session ∷ other)) [
-      | true ↦ λ there. let back = from_there graph goal session next on.0 on.1 on.2 there in (back.0, back.1, back.2)
-      | false ↦ λ away. (next ∷ on.0, (walk.0, on.1), (away, on.2))
-    ] refl
+once_walk graph goal session rest walk =
+    let once = once_path (Waits graph) session goal rest (path_of graph goal session rest walk) in (once.0, walk_of graph goal session once.0 once.1, once.2)
 
 -- all on a walk wait, so they are sessions
 walkers : (graph : List ℕ) (goal session : ℕ) (rest : List ℕ) → IsWalk graph session rest goal → (n : ℕ) → IsTrue (list_any (λ m. m == n) (session ∷ rest)) → (1 ≤ n) × (n ≤ 9)
