@@ -101,7 +101,14 @@ fn unblocked(alloc: Global, asker: &Asker, statement: &Statement) -> Result<Outc
     ensures { IfOk result (IsResultOn (seen_in asker.now) statement.now) }
 {
     let rows = &asker.situation.rows;
-    match effect_of(alloc, statement, asker.setup, rows, asker.session, asker.sees_before) {
+    match effect_of(
+        alloc,
+        statement,
+        asker.setup,
+        rows,
+        asker.session,
+        asker.sees_before,
+    ) {
         Ok(effect) => Ok(Outcome::Rows {
             view: effect.view,
             rows: effect.rows,
