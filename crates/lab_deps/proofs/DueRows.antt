@@ -59,6 +59,19 @@ none_and : (b : Bool) → (b && false) ≡ false
 none_and true = refl
 none_and false = refl
 
+is_there : (o : Option VersionName) → is_some o ≡ true → is_none o ≡ false
+is_there None t = absurd (false≢true t)
+is_there (Some v) t = refl
+
+-- a row that is seen isn't listed beyond what is seen, nor left out of it
+pub seen_not_extra : (h : History) (op : Op) (row : Row) (value : ℤ) → is_some (get op.view row) ≡ true → is_extra h op row value ≡ false
+seen_not_extra h op row value seen = ap (λ b. b && not (same_state (Some value) (listed op.statement row (get h.initial row)))) (is_there (get op.view row) seen)
+
+pub seen_not_unlisted : (op : Op) (row : Row) (value : ℤ) → is_some (get op.view row) ≡ true → is_unlisted op row value ≡ false
+seen_not_unlisted op row value seen =
+    ap (λ b. is_some (listed op.statement row (Some value)) && (b && not (same_state (get op.rows row) (listed op.statement row (Some value))))) (is_there (get op.view row) seen)
+    ∙ none_and (is_some (listed op.statement row (Some value)))
+
 -- a row isn't listed beyond what is due, where its value is what the initial one gives
 pub listed_not_extra : (h : History) (op : Op) (row : Row) (value : ℤ) (found due : State) → found ≡ get h.initial row → due ≡ listed op.statement row found → same_state (Some value) due ≡ true
     → is_extra h op row value ≡ false

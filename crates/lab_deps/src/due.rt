@@ -1,6 +1,6 @@
 //! Whether an operation lists and writes what is due.
 
-ghost use Rattle.std.specs.Prelude.{◌≡◌, ℕ, true, false, Some, None, option_map};
+ghost use Rattle.std.specs.Prelude.{◌≡◌, ℕ, true, false, Some, None, is_some, option_map};
 ghost use Rattle.lab_table.specs.Row.{Row};
 ghost use Rattle.lab_table.specs.Table.{State as Left};
 ghost use Rattle.lab_history.specs.VersionName.{state_value};
@@ -9,7 +9,7 @@ ghost use Rattle.lab_deps.specs.Broken as test;
 ghost use Rattle.lab_deps.specs.Passes as pass;
 ghost use Rattle.lab_deps.specs.declared.kind.OpFault.TheVariants as kind;
 
-use crate::broken::{is_extra, is_unlisted, lists_other, viewed};
+use crate::broken::{lists_other, viewed};
 use crate::effect::{change_differs, is_same, state_near};
 use crate::near::{likely_place, value_near};
 use crate::passes::miswritten_row;
@@ -63,18 +63,28 @@ fn lists_seen(history: &History, op: &Op) -> bool
     true
 }
 
+/// Whether an operation's view has a row, looked for at a place first.
+fn is_seen(op: &Op, near: &mut usize, row: RowName) -> bool
+    ensures { result ≡ is_some (map.get op.now.view row) }
+{
+    let found = value_near(op.view.entries(), *near, row);
+    *near = found.1;
+    found.0.is_some()
+}
+
 /// Whether each row that an operation lists and doesn't see is due by the initial table.
 fn lists_no_more(history: &History, op: &Op) -> bool
     ensures { result ≡ true → pass.first_value (test.is_extra history.now op.now) (map.entries op.now.rows) ≡ None }
 {
     let mut near = 0;
+    let mut seen = 0;
     let initial = history.initial().rows();
     let entries = op.rows.entries();
     for entry in entries {
         let found = value_near(initial, likely_place(initial, near, entry.0), entry.0);
         near = found.1;
         let due = op.statement.listed(entry.0, found.0);
-        if !is_same(Some(entry.1), due) && is_extra(history, op, entry.0, entry.1) {
+        if !is_same(Some(entry.1), due) && !is_seen(op, &mut seen, entry.0) {
             return false;
         }
     }
@@ -96,12 +106,13 @@ fn lists_initial(history: &History, op: &Op) -> bool
     ensures { result ≡ true → pass.first_value (test.is_unlisted op.now) (map.entries history.now.initial) ≡ None }
 {
     let mut near = 0;
+    let mut seen = 0;
     let entries = within(&op.statement, history.initial().rows());
     for entry in entries {
         if op.statement.matches(entry.0, Some(entry.1)) {
             let found = value_near(op.rows.entries(), near, entry.0);
             near = found.1;
-            if !is_same(found.0, Some(entry.1)) && is_unlisted(op, entry.0, entry.1) {
+            if !is_same(found.0, Some(entry.1)) && !is_seen(op, &mut seen, entry.0) {
                 return false;
             }
         }

@@ -51,17 +51,36 @@ pub fn likely_place<V>(entries: &[(RowName, V)], near: usize, row: RowName) -> u
     }
 }
 
-/// The place of a row in a list whose rows rise strictly, looked at a place first.
+/// The place of a row in a list whose rows rise strictly, looked for at a place and a little behind it first.
 #[inline(always)]
 fn place_near<V>(entries: &[(RowName, V)], near: usize, row: RowName) -> usize
     requires { T (map.is_sorted row_cmp entries.now) }
     ensures { result ≡ prefix_len (comes_after row) entries.now }
 {
-    if is_place(entries, near, row) {
-        near
+    let ahead = ahead(entries, near, row);
+    if is_place(entries, ahead, row) {
+        ahead
     } else {
         place_of(entries, row)
     }
+}
+
+/// A place behind the entries from one on that a row comes after, as far as these are four at the most.
+#[inline(always)]
+fn ahead<V>(entries: &[(RowName, V)], near: usize, row: RowName) -> usize {
+    let mut place = near;
+    for _ in 0..4 {
+        match entries.get(place) {
+            None => return place,
+            Some(entry) => {
+                if !follows(row, entry.0) {
+                    return place;
+                }
+                place = place.wrapping_add(1);
+            }
+        }
+    }
+    place
 }
 
 /// Whether this is found to be the place of a row: it comes after the entry before, and not after the one there.

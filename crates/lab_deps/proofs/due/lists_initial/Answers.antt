@@ -5,9 +5,9 @@ use Rattle.lab_deps.specs.Broken.{is_unlisted}
 use Rattle.lab_deps.specs.Passes.{first_value}
 use Rattle.lab_deps.proofs.NearValues.{passed}
 use Rattle.lab_deps.proofs.Spans.{unlisted_within}
-use Rattle.lab_deps.proofs.DueRows.{listed_not_unlisted, unmatched_not_unlisted}
+use Rattle.lab_deps.proofs.DueRows.{listed_not_unlisted, seen_not_unlisted, unmatched_not_unlisted}
 use Rattle.lab_deps.proofs.due.lists_initial.Goals as goal
-use Rattle.lab_deps.proofs.due.lists_initial.Goals.{then-matches+else-not-is_same, else-not-is_same-via-then-not-is_same+else-is_unlisted, else-not-is_same-via-else-not-is_same, else-matches}
+use Rattle.lab_deps.proofs.due.lists_initial.Goals.{then-matches+else-not-is_same, else-not-is_same-via-then-not-is_same+else-not-is_seen, else-not-is_same-via-else-not-is_same, else-matches}
 
 pub value_near-found-requires : goal.value_near-found-requires
 value_near-found-requires c = subst (λ es. T (is_sorted row_cmp es)) (sym c.entries.ensures) (entries_sorted c.args.op.now.rows)
@@ -27,7 +27,7 @@ loop-entry-preserved c =
     elim c.if-matches.branch [
       | then-matches+else-not-is_same w ↦
           elim w.else-not-is_same.branch [
-            | else-not-is_same-via-then-not-is_same+else-is_unlisted v ↦ sym v.is_unlisted.ensures ∙ v.if-is_unlisted.false
+            | else-not-is_same-via-then-not-is_same+else-not-is_seen v ↦ seen_not_unlisted op e.0 e.1 (sym v.is_seen.ensures ∙ v.if-not-is_seen.false)
             | else-not-is_same-via-else-not-is_same v ↦
                 listed_not_unlisted op e.0 e.1 _ (w.value_near-found.ensures ∙ ap (find row_cmp e.0) w.entries.ensures ∙ sym (get-entries op.rows e.0)) (sym w.is_same.ensures ∙ v.if-not-is_same.false)
           ]
