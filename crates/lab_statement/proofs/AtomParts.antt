@@ -1,5 +1,5 @@
 -- Atoms of the grammar are read, part after part.
-use Rattle.std.proofs.Common.{◌≡◌, ℕ, zero, suc, ◌+◌, ◌≤◌, List, [], ◌∷◌, ◌++◌, length, None, refl, ap, ◌∙◌, append_assoc, length-append, arith}
+use Rattle.std.proofs.Common.{◌≡◌, ◌≤◌, List, [], ◌∷◌, ◌++◌, length, None, refl, ap, ◌∙◌, append_assoc, length-append, arith}
 use Rattle.std.specs.Prelude.{ℤ}
 use Rattle.lab_table.specs.declared.predicate.Col.{Col}
 use Rattle.lab_table.specs.declared.predicate.Col.TheVariants as col
@@ -10,10 +10,10 @@ use Rattle.lab_statement.specs.declared.token.Token.TheVariants as token
 use Rattle.lab_statement.specs.Grammar.{IsNumber, IsNumbers, IsNumberList, col_token, cmp_token, IsAtom}
 use Rattle.lab_statement.specs.Grammar as grammar
 use Rattle.lab_statement.specs.Reading.{after}
-use Rattle.lab_statement.specs.Stopping.{Reads, ◌>>=◌, number_read, more_read, col_read, cmp_read, one_more, numbers_read, number_list_read, compare_read, remainder_read, one_of_read, atom_read}
+use Rattle.lab_statement.specs.Stopping.{Reading, Reads, number_read, col_read, cmp_read, one_more, numbers_read, number_list_read, compare_read, remainder_read, one_of_read, atom_read}
 use Rattle.lab_statement.proofs.Readings.{reads}
 use Rattle.lab_statement.proofs.ReadNumbers.{number_again, positive_again}
-use Rattle.lab_statement.proofs.StoppedLoops.{ended}
+use Rattle.lab_statement.proofs.StoppedLoops.{ReadsOn, within, goes_on, ends, ended}
 use Rattle.lab_table.specs.Predicate.{Predicate}
 use Rattle.lab_table.specs.declared.word.Word.TheVariants as word
 
@@ -33,30 +33,26 @@ cmp_again m rest = refl
 
 -- numbers
 
--- what stands behind a front and one token more is shorter
-shorter_by : (ts us rest behind : List Token) (t : Token) (k : ℕ) → us ++ rest ≡ t ∷ behind → length ((ts ++ us) ++ rest) ≤ suc k → length behind ≤ k
-shorter_by ts us rest behind t k is le =
-    let whole : length ((ts ++ us) ++ rest) ≡ length ts + suc (length behind) =
-    ap length (append_assoc ts us rest) ∙ length-append ts (us ++ rest) ∙ ap (λ (r : List Token). length ts + length r) is in
-    omega arith
+pub shorter : (a b : List Token) → length b ≤ length (a ++ b)
+shorter a b = grind (arith, length-append)
 
--- the numbers that the loop adds to those before them
-numbers_on : {ts : List Token} {zs : List ℤ} → IsNumbers ts zs → (rest : List Token) → after token.Comma rest ≡ None → (k : ℕ) (before : List ℤ) → length (ts ++ rest) ≤ k
-    → (number_read (ts ++ rest) >>= λ z. more_read k number_read token.Comma one_more (one_more before z.0) z.1) ≡ Reads (before ++ zs, rest)
-unfolding more_read
-numbers_on (grammar.last {ts} {z} h) rest none k before le = rw (number_again h rest) (ended number_read token.Comma one_more k (before ++ z ∷ []) rest none)
-numbers_on (grammar.more {ts} {rest = others} {z} {zs} h hs) rest none zero before le = absurd (grind (arith, length-append))
-numbers_on (grammar.more {ts} {rest = others} {z} {zs} h hs) rest none (suc k) before le =
-    rw (append_assoc ts (token.Comma ∷ others) rest, number_again h (token.Comma ∷ others ++ rest))
-    (numbers_on hs rest none k (before ++ z ∷ []) (shorter_by ts (token.Comma ∷ others) rest (others ++ rest) token.Comma k refl le)
-    ∙ ap (λ (all : List ℤ). reads (all, rest)) (append_assoc before (z ∷ []) zs))
+-- numbers of the grammar are read by the loop, behind those before them
+numbers_on : {ts : List Token} {zs : List ℤ} → IsNumbers ts zs → (rest : List Token) → after token.Comma rest ≡ None → (before : List ℤ) {whole : Reading (List ℤ × List Token)}
+    → ReadsOn number_read token.Comma one_more before (token.Comma ∷ (ts ++ rest)) whole → whole ≡ Reads (before ++ zs, rest)
+numbers_on (grammar.last {ts} {z} h) rest none before so_far = ends (goes_on so_far refl (omega arith) (number_again h rest) (shorter ts rest) refl) none
+numbers_on (grammar.more {ts} {rest = others} {z} {zs} h hs) rest none before so_far =
+    let here = append_assoc ts (token.Comma ∷ others) rest in
+    numbers_on hs rest none (before ++ z ∷ [])
+    (goes_on so_far refl (omega arith) (rw here (number_again h (token.Comma ∷ others ++ rest))) (rw here (shorter ts (token.Comma ∷ others ++ rest))) refl)
+    ∙ ap (λ (all : List ℤ). reads (all, rest)) (append_assoc before (z ∷ []) zs)
 
 -- numbers of the grammar are read
 pub numbers_again : {ts : List Token} {zs : List ℤ} → IsNumbers ts zs → (rest : List Token) → after token.Comma rest ≡ None → numbers_read (ts ++ rest) ≡ Reads (zs, rest)
-unfolding numbers_read more_read
-numbers_again (grammar.last {ts} {z} h) rest none = rw (numbers_read, number_again h rest) (ended number_read token.Comma one_more (length rest) (z ∷ []) rest none)
+unfolding numbers_read
+numbers_again (grammar.last {ts} {z} h) rest none = rw (number_again h rest) (ended number_read token.Comma one_more (length rest) (z ∷ []) rest none)
 numbers_again (grammar.more {ts} {rest = others} {z} {zs} h hs) rest none =
-    rw (append_assoc ts (token.Comma ∷ others) rest, number_again h (token.Comma ∷ others ++ rest)) (numbers_on hs rest none (length (others ++ rest)) (z ∷ []) (omega arith))
+    rw (append_assoc ts (token.Comma ∷ others) rest, number_again h (token.Comma ∷ others ++ rest))
+    (numbers_on hs rest none (z ∷ []) (within (length (token.Comma ∷ others ++ rest)) (omega arith) refl))
 
 -- a list of numbers
 

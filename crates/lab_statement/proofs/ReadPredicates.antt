@@ -1,5 +1,5 @@
 -- Predicates of the grammar are read.
-use Rattle.std.proofs.Common.{◌≡◌, ℕ, zero, suc, ◌≤◌, List, [], ◌∷◌, ◌++◌, length, Option, None, refl, ap, ◌∙◌, append_assoc, length-append, arith}
+use Rattle.std.proofs.Common.{◌≡◌, ℕ, zero, suc, List, [], ◌∷◌, ◌++◌, Option, None, refl, ap, ◌∙◌, append_assoc, arith}
 use Rattle.lab_table.specs.Predicate.{Predicate}
 use Rattle.lab_table.specs.Predicate as predicate
 use Rattle.lab_table.specs.declared.predicate.Col.TheVariants as col
@@ -10,7 +10,7 @@ use Rattle.lab_statement.specs.Grammar.{Kind, P, A, N, IsAtom, IsPred, IsWhere, 
 use Rattle.lab_statement.specs.Grammar as grammar
 use Rattle.lab_statement.specs.Reading.{after}
 use Rattle.lab_statement.specs.Stopping.{Reads, term_read, conj_read, pred_read, where_read, Reading, atom_read}
-use Rattle.lab_statement.proofs.AtomParts.{atom_again}
+use Rattle.lab_statement.proofs.AtomParts.{shorter, atom_again}
 use Rattle.lab_statement.proofs.StoppedLoops.{ReadsOn, starts, goes_on, ends}
 use Rattle.lab_table.specs.declared.predicate.Col.{Col}
 
@@ -33,35 +33,25 @@ atom_term d (grammar.compare c m h) rest = column_term d c _ (atom_again (gramma
 atom_term d (grammar.one_of c h) rest = column_term d c _ (atom_again (grammar.one_of c h) rest)
 atom_term d (grammar.remainder c h low high i) rest = column_term d c _ (atom_again (grammar.remainder c h low high i) rest)
 
-shorter : (a b : List Token) → length b ≤ length (a ++ b)
-shorter a b = grind (arith, length-append)
-
-conj_whole : (d : ℕ) (ts rest : List Token) (p : Predicate) → Again d A ts p → after (token.Word word.And) rest ≡ None → conj_read d (ts ++ rest) ≡ Reads (p, rest)
-conj_whole d ts rest p h none = ends (h rest) none
-
-pred_whole : (d : ℕ) (ts rest : List Token) (p : Predicate) → Again d P ts p → after (token.Word word.And) rest ≡ None → after (token.Word word.Or) rest ≡ None
-    → pred_read d (ts ++ rest) ≡ Reads (p, rest)
-pred_whole d ts rest p h none none' = ends (h rest none) none'
-
 again : {d : ℕ} {kind : Kind} {ts : List Token} {p : Predicate} → IsPred d kind ts p → Again d kind ts p
 unfolding term_read conj_read pred_read
 again (grammar.atom {d} h) = atom_term d h
 again (grammar.negation h) = λ rest. rw (again h rest) refl
 again (grammar.parenthesized {d} {ts} {p} h) = λ rest.
     ap (term_read (suc d)) (ap (λ (x : List Token). token.Open ∷ x) (append_assoc ts (token.Close ∷ []) rest))
-    ∙ rw (pred_whole d ts (token.Close ∷ rest) p (again h) refl refl) refl
+    ∙ rw (ends (again h (token.Close ∷ rest) refl) refl) refl
 again (grammar.one_factor {d} {ts} {p} h) = λ rest. starts (term_read d) (token.Word word.And) predicate.And (again h rest)
 again (grammar.conjunction {d} {ts} {rest = others} {p} {q} hp hq) = λ rest.
     rw (append_assoc ts (token.Word word.And ∷ others) rest) (goes_on (again hp (token.Word word.And ∷ others ++ rest)) refl (omega arith) (again hq rest) (shorter others rest) refl)
-again (grammar.one_member {d} {ts} {p} h) = λ rest none. starts (conj_read d) (token.Word word.Or) predicate.Or (conj_whole d ts rest p (again h) none)
+again (grammar.one_member {d} {ts} {p} h) = λ rest none. starts (conj_read d) (token.Word word.Or) predicate.Or (ends (again h rest) none)
 again (grammar.disjunction {d} {ts} {rest = others} {p} {q} hp hq) = λ rest none.
     rw (append_assoc ts (token.Word word.Or ∷ others) rest)
-    (goes_on (again hp (token.Word word.Or ∷ others ++ rest) refl) refl (omega arith) (conj_whole d others rest q (again hq) none) (shorter others rest) refl)
+    (goes_on (again hp (token.Word word.Or ∷ others ++ rest) refl) refl (omega arith) (ends (again hq rest) none) (shorter others rest) refl)
 
 -- a predicate of the grammar is read as itself
 pub pred_again : {ts : List Token} {p : Predicate} (d : ℕ) → IsPred d P ts p → (rest : List Token) → after (token.Word word.And) rest ≡ None
     → after (token.Word word.Or) rest ≡ None → pred_read d (ts ++ rest) ≡ Reads (p, rest)
-pred_again {ts} {p} d h rest none none' = pred_whole d ts rest p (again h) none none'
+pred_again {ts} {p} d h rest none none' = ends (again h rest none) none'
 
 -- what may stand behind a statement
 abbrev pub IsUnjoined : List Token → Type 0
