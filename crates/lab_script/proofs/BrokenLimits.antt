@@ -11,27 +11,21 @@ use Rattle.lab_table.specs.declared.statement.Command.TheVariants.{Begin, Commit
 use Rattle.lab_script.specs.declared.script.Line.{Line}
 use Rattle.lab_script.specs.declared.script.Script.{Script}
 use Rattle.lab_statement.specs.declared.print.PrintFault.{PrintFault}
-use Rattle.lab_statement.specs.declared.print.PrintFault.TheVariants.{NoMemory, TooDeep, TooLong, TooManyTables}
+use Rattle.lab_statement.specs.declared.print.PrintFault.TheVariants.{TooDeep, TooLong}
 use Rattle.lab_statement.specs.Depth.{statement_depth}
 use Rattle.lab_statement.specs.Printed.{printed_statement}
-use Rattle.lab_statement.specs.Limits.{StatementPrints, CommandPrints}
+use Rattle.lab_statement.specs.Limits.{CommandPrints}
 use Rattle.lab_script.specs.Limits.{AllPrint, SomeLine}
 use Rattle.lab_script.specs.Transcript.{statements_on, statements_of, inside_after, is_begin, nobody, transaction_of, transactions, table_with, table_after}
 use Rattle.lab_script.specs.TranscriptView.{Breaks, shown_of, shown, limit_broken, first_broken, unprintable}
 
--- a statement that prints breaks no limit
-prints : (fault : PrintFault) (s : Statement) → StatementPrints s → Breaks fault (Run s) → ⊥
-prints NoMemory s p h = h
-prints TooDeep s p h = omega arith
-prints TooLong s p h = omega arith
-prints TooManyTables s p h = h
-
--- a command that isn't a statement breaks none
-breaks_none : (fault : PrintFault) → (Breaks fault Begin → ⊥) × (Breaks fault Commit → ⊥) × (Breaks fault Abort → ⊥)
-breaks_none NoMemory = (λ h. h, λ h. h, λ h. h)
-breaks_none TooDeep = (λ h. h, λ h. h, λ h. h)
-breaks_none TooLong = (λ h. h, λ h. h, λ h. h)
-breaks_none TooManyTables = (λ h. h, λ h. h, λ h. h)
+-- a command that prints breaks no limit
+command_prints : (fault : PrintFault) (c : Command) → CommandPrints c → Breaks fault c → ⊥
+command_prints TooDeep (Run s) p h = omega arith
+command_prints TooLong (Run s) p h = omega arith
+command_prints TooDeep c p h = h
+command_prints TooLong c p h = h
+command_prints fault c p h = h
 
 module _ (fault : PrintFault) where
   -- some statement of a list breaks this limit
@@ -120,15 +114,9 @@ module _ (fault : PrintFault) where
         | false ↦ λ other. later line lines (any_shown after table lines other)
       ] h
 
-  command_prints : (c : Command) → CommandPrints c → Breaks fault c → ⊥
-  command_prints Begin p h = (breaks_none fault).0 h
-  command_prints Commit p h = (breaks_none fault).1 h
-  command_prints Abort p h = (breaks_none fault).2 h
-  command_prints (Run s) p h = prints fault s p h
-
   all_print : (lines : List Line) (line : Line) (k : ℕ) → k < length lines → get_or lines k line ≡ line → AllPrint lines → Breaks fault line.command → ⊥
   all_print [] line k below at p h = omega arith
-  all_print (first ∷ lines) line zero below at p h = command_prints line.command (subst (λ (x : Line). CommandPrints x.command) at p.0) h
+  all_print (first ∷ lines) line zero below at p h = command_prints fault line.command (subst (λ (x : Line). CommandPrints x.command) at p.0) h
   all_print (first ∷ lines) line (suc k) below at p h = all_print lines line k (omega arith) at p.1 h
 
 -- the limit that a transcript breaks is broken by a statement of the script

@@ -15,7 +15,7 @@ use Rattle.lab_statement.specs.HeldTokens.{held_tokens}
 use Rattle.lab_statement.specs.Text.{code_of, remark_of}
 use Rattle.lab_script.specs.Grammar.{IsCommands, IsSetup}
 use Rattle.lab_script.specs.FirstFaults.{commands_fault, setup_fault}
-use Rattle.lab_script.specs.Limits.{max_commands}
+use Rattle.lab_script.specs.Limits.{max_commands, ScriptPrints}
 use Rattle.lab_script.specs.Script as script
 use Rattle.lab_script.specs.Script.{is_passed, IsFit, LineSpells, LinesSpell, Spells}
 use Rattle.lab_script.specs.Tables.{script_tables}
@@ -25,7 +25,7 @@ use Rattle.lab_script.proofs.HeldTokens.{setup_held, commands_held}
 use Rattle.lab_script.proofs.OneFault.{none_at_all}
 use Rattle.lab_script.proofs.ReadCommands.{no_setup}
 use Rattle.lab_script.proofs.ReadSetup.{setup_begins}
-use Rattle.lab_script.proofs.ScriptLines.{fit_of, lines_once, lines_join, IsFew, line_few}
+use Rattle.lab_script.proofs.ScriptLines.{fit_of, lines_once, lines_join, IsFew, line_few, spelled_prints}
 use Rattle.lab_table.proofs.Tests.{slice_get-middle}
 
 -- the lines so far, of which there are so many, spell nothing yet or a script, and these are left
@@ -115,13 +115,6 @@ end_fault {text} {number} read =
     let size : number + 1 ≡ length (lines text) + 1 = ap (λ (n : ℕ). n + 1) (sym (ap length (read.whole ∙ append-nil read.front) ∙ read.counted)) in
     inr (record { counted = size; spelled = all_read read; missing = refl })
 
--- what reading a text gave is the script that it spells, or there was no memory
-pub only_read : (text : List ℕ) (result : Result Script ScriptFault) → MatchResult result (λ r. Spells text r) (IsFaultOf text)
-    → (s : Script) → Spells text s → MatchResult result (λ r. r ≡ s) (λ f. f ≡ fault.NoMemory)
-only_read text (Ok r) is s spells = same_Some _ _ (lines_once 1 None (lines text) is spells)
-only_read text (Err fault.NoMemory) is s spells = refl
-only_read text (Err (fault.At number kind)) is s spells = absurd (fault_spells_nothing text number kind s is spells)
-
 -- the fault of a line is the text's
 pub line_faults : {text : List ℕ} {number : ℕ} {line : List ℕ} {rest : List (List ℕ)} {before : Option Script}
     → IsReadTo text number (line ∷ rest) before → (f : ScriptFault) → IsFaultAt (number + 1) (first_fault (number + 1) line before) f → IsFaultOf text f
@@ -134,7 +127,9 @@ pub whole_read : {text : List ℕ} {number : ℕ} (script : Option Script) → I
 whole_read (Some s) read = all_read read
 whole_read None read = end_fault read
 
--- the same, by each of its two cases
-pub if_read : (text : List ℕ) (result : Result Script ScriptFault) → MatchResult result (λ r. Spells text r) (IsFaultOf text) → IfOk result (λ r. Spells text r) × IfErr result (IsFaultOf text)
-if_read text (Ok r) is = (is, tt)
-if_read text (Err f) is = (tt, is)
+-- what reading a text gave is the one script that it spells, which prints, or its fault
+pub all_told : (text : List ℕ) (result : Result Script ScriptFault) → MatchResult result (λ r. Spells text r) (IsFaultOf text)
+    → IfOk result (λ r. Spells text r) × ((s : Script) → Spells text s → MatchResult result (λ r. r ≡ s) (λ f. f ≡ fault.NoMemory)) × IfOk result ScriptPrints × IfErr result (IsFaultOf text)
+all_told text (Ok r) is = (is, λ s spells. same_Some r s (lines_once 1 None (lines text) is spells), spelled_prints text r is, tt)
+all_told text (Err fault.NoMemory) is = (tt, λ s spells. refl, tt, is)
+all_told text (Err (fault.At number kind)) is = (tt, λ s spells. absurd (fault_spells_nothing text number kind s is spells), tt, is)

@@ -1,10 +1,9 @@
 use Rattle.std.proofs.Common.{sym, subst, ◌∙◌, List, ℕ, [], None}
 use Rattle.std.specs.Prelude.{MatchResult}
-use Rattle.std.proofs.lemmas.Result.{IfOk-weaker, err_from_is_err_and}
+use Rattle.std.proofs.lemmas.Result.{err_from_is_err_and}
 use Rattle.lab_script.specs.Script.{Spells}
 use Rattle.lab_script.specs.Fault.{IsFaultOf}
-use Rattle.lab_script.proofs.FirstFault.{IsReadTo, none_read, one_more_read, only_read, line_faults, whole_read, if_read}
-use Rattle.lab_script.proofs.ScriptLines.{spelled_prints}
+use Rattle.lab_script.proofs.FirstFault.{IsReadTo, none_read, one_more_read, line_faults, whole_read, all_told}
 use Rattle.lab_script.proofs.TextLines.{text_lines}
 use Rattle.lab_script.proofs.parse.parse_script.Goals as goal
 
@@ -32,13 +31,8 @@ returns-in_err-read_line c =
     let fault : IsFaultOf text given = line_faults rest given c.in_err-read_line.ensures.fault in
     let p = err_from_is_err_and c.from_residual.result c.from_residual.ensures.1 in
     let read : MatchResult c.from_residual.result (λ s. Spells text s) (IsFaultOf text) = rw (p.1, p.2) fault in
-    let both = if_read text c.from_residual.result read in
-    record {
-      found = both.0;
-      only = only_read text c.from_residual.result read;
-      prints = IfOk-weaker c.from_residual.result _ _ (λ s spells. spelled_prints text s spells) both.0;
-      fault = both.1;
-    }
+    let told = all_told text c.from_residual.result read in
+    record { found = told.0; only = told.1; prints = told.2; fault = told.3 }
 
 pub returns : goal.returns
 returns c =
@@ -46,10 +40,5 @@ returns c =
     let rest : IsReadTo text c.loop-line.number [] c.loop-line.script =
     subst (λ (ls : List (List ℕ)). IsReadTo text c.loop-line.number ls c.loop-line.script) c.in-None.ensures.steps.0 c.loop-line.invariant.0 in
     let read : MatchResult c.ok_or.result (λ s. Spells text s) (IsFaultOf text) = rw c.ok_or.ensures.value (whole_read c.loop-line.script rest) in
-    let both = if_read text c.ok_or.result read in
-    record {
-      found = both.0;
-      only = only_read text c.ok_or.result read;
-      prints = IfOk-weaker c.ok_or.result _ _ (λ s spells. spelled_prints text s spells) both.0;
-      fault = both.1;
-    }
+    let told = all_told text c.ok_or.result read in
+    record { found = told.0; only = told.1; prints = told.2; fault = told.3 }
