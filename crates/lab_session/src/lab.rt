@@ -20,16 +20,21 @@ use lab_engine::{Engine, Recording};
 use lab_table::{Command, NoMemory, Session};
 use std::alloc::Global;
 use std::marker::Model;
-use std::sync::atomic::{AtomicBool, Ordering};
 use std::sync::{Condvar, Mutex, MutexGuard, Wait};
+
+/// What a lab's lock holds.
+#[derive(Drop)]
+struct Shared<E: Engine> {
+    bench: Bench<E>,
+    /// Set where a play is given up: a session that waits ends then.
+    given_up: bool,
+}
 
 /// A bench under a lock, and how many sessions it has seats for. Contracts see that number, at most 9.
 #[derive(Drop)]
 pub struct Lab<E: Engine> {
-    bench: Mutex<Bench<E>>,
+    shared: Mutex<Shared<E>>,
     changed: Condvar,
-    /// Set where a play is given up: a session that waits ends then.
-    given_up: AtomicBool,
     sessions: u8,
 }
 
@@ -82,10 +87,13 @@ impl<E: Engine + Drop> Lab<E> {
         ensures seats { IfOk result (λ started. started.1.items ≡ map new_seat (numbers_from 1 sessions)) }
     {
         let seats = new_seats(alloc, sessions)?;
+        let shared = Shared {
+            bench: Bench::new(engine),
+            given_up: false,
+        };
         let lab = Lab {
-            bench: Mutex::new(Bench::new(engine)),
+            shared: Mutex::new(shared),
             changed: Condvar::new(),
-            given_up: AtomicBool::new(false),
             sessions,
         };
         Ok((lab, seats))
@@ -97,7 +105,7 @@ impl<E: Engine + Drop> Lab<E> {
         &self,
         rt: &R,
         alloc: Global,
-        bench: MutexGuard<'_, Bench<E>>,
+        shared: MutexGuard<'_, Shared<E>>,
         seat: Seat,
     ) -> Result<Seat, (Seat, LabFault)>
         requires { IsSome seat.holds }
@@ -108,22 +116,22 @@ impl<E: Engine + Drop> Lab<E> {
         ensures waiting { IfErr result (λ e. still_waits e.1 ≡ true) }
         ensures full { IfErr result (λ e. TellsFull e.1) }
     {
-        let mut bench = bench;
+        let mut shared = shared;
         let mut seat = seat;
         for _ in rt.forever() {
-            match retried(&mut bench, alloc, &mut seat) {
+            match retried(&mut shared.bench, alloc, &mut seat) {
                 Ok(Some(change)) => {
                     change.wake(&self.changed);
                     return Ok(seat);
                 }
                 Ok(None) => {
-                    if self.given_up.load(Ordering::SeqCst) {
-                        return Err((seat, ended(&bench)));
+                    if shared.given_up {
+                        return Err((seat, ended(&shared.bench)));
                     }
                 }
                 Err(fault) => return Err((seat, fault)),
             }
-            bench = self.changed.wait(rt, bench);
+            shared = self.changed.wait(rt, shared);
         }
         unreachable!()
     }
@@ -151,15 +159,15 @@ impl<E: Engine + Drop> Lab<E> {
         ensures full { IfErr result (λ e. TellsFull e.1) }
     {
         let mut seat = seat;
-        let mut bench = self.bench.lock(rt);
-        match asked(&mut bench, alloc, &mut seat, command) {
+        let mut shared = self.shared.lock(rt);
+        match asked(&mut shared.bench, alloc, &mut seat, command) {
             Ok(progress) => {
                 let Progress { answered, change } = progress;
                 change.wake(&self.changed);
                 if answered {
                     return Ok(seat);
                 }
-                self.waited(rt, alloc, bench, seat)
+                self.waited(rt, alloc, shared, seat)
             }
             Err(refused) => Err((seat, refused.1)),
         }
@@ -186,17 +194,17 @@ impl<E: Engine + Drop> Lab<E> {
             return Err((seat, LabFault::NothingWaiting));
         }
         let mut seat = seat;
-        let mut bench = self.bench.lock(rt);
-        match gone_on(&mut bench, alloc, &mut seat) {
+        let mut shared = self.shared.lock(rt);
+        match gone_on(&mut shared.bench, alloc, &mut seat) {
             Ok(Some(progress)) => {
                 let Progress { answered, change } = progress;
                 change.wake(&self.changed);
                 if answered {
                     return Ok(seat);
                 }
-                self.waited(rt, alloc, bench, seat)
+                self.waited(rt, alloc, shared, seat)
             }
-            Ok(None) => self.waited(rt, alloc, bench, seat),
+            Ok(None) => self.waited(rt, alloc, shared, seat),
             Err(fault) => Err((seat, fault)),
         }
     }
@@ -204,17 +212,17 @@ impl<E: Engine + Drop> Lab<E> {
     /// Gives a play up: from now on no session waits for another. A refused session that keeps its transaction would
     /// let them wait for ever. The flag is set under the lock, so that none falls asleep between its look and the call.
     pub(crate) fn give_up<R: Wait>(&self, rt: &R) {
-        let bench = self.bench.lock(rt);
-        self.given_up.store(true, Ordering::SeqCst);
+        let mut shared = self.shared.lock(rt);
+        shared.given_up = true;
         self.changed.notify_all();
-        drop(bench);
+        drop(shared);
     }
 
     /// Whether a session has an active transaction.
     pub(crate) fn is_active<R: Wait>(&self, rt: &R, session: Session) -> bool
         ensures { (run : EngineRun) × IsSoundRun run × (result ≡ is_some (active (past_of run.log) session)) }
     {
-        self.bench.lock(rt).is_active(session)
+        self.shared.lock(rt).bench.is_active(session)
     }
 
     /// The recording of the lab's bench, as by `Bench::close` with the lab's sessions and these seats. It waits for
@@ -233,19 +241,17 @@ impl<E: Engine + Drop> Lab<E> {
         ensures fault { IfErr result (λ e. (engine : _) × IsLabCloseFault (E.kind engine) (E.opening engine) self seats.items e.2) }
     {
         let Lab {
-            bench,
+            shared,
             changed,
-            given_up,
             sessions,
         } = self;
-        let bench = bench.into_inner();
+        let Shared { bench, given_up } = shared.into_inner();
         match bench.close(alloc, sessions, &seats) {
             Ok(recording) => Ok(recording),
             Err(fault) => {
                 let lab = Lab {
-                    bench: Mutex::new(bench),
+                    shared: Mutex::new(Shared { bench, given_up }),
                     changed,
-                    given_up,
                     sessions,
                 };
                 Err((lab, seats, fault))

@@ -1,15 +1,16 @@
 //! What is done under the lock of a lab: each function here is lent the bench for one turn.
 
-ghost use Rattle.std.specs.Prelude.{◌≡◌, ◌≢◌, ◌<◌, None, Some, true, false, length, IsSome, IfOk, IfErr, OnOk, OnErr, IfSome, IfNone, Err};
+ghost use Rattle.std.specs.Prelude.{◌≡◌, ◌≢◌, ◌<◌, ◌≤◌, ◌+◌, None, Some, true, false, length, IsSome, IsOk, IfOk, IfErr, OnOk, OnErr, IfSome, IfNone, Err};
 ghost use Rattle.std.specs.Vec.{vec_capacity};
 ghost use Rattle.lab_engine.specs.Limits.{max_events};
+ghost use Rattle.lab_engine.specs.Engine.{Ends};
 ghost use Rattle.lab_engine.specs.declared.event.EngineFault.TheVariants.{Busy};
 ghost use Rattle.lab_engine.specs.declared.event.Outcome.TheVariants.{Refused};
 ghost use Rattle.lab_engine.specs.Log.{past_of, waiting, asked as asks_for};
 ghost use Rattle.lab_engine.specs.Recording.{IsLeastRetryable};
 ghost use Rattle.lab_session.specs.Bench.{IsFull};
 ghost use Rattle.lab_session.specs.Waiting.{still_waits, lab_fault_of, TellsFull};
-ghost use Rattle.lab_session.specs.Seats.{last_outcome};
+ghost use Rattle.lab_session.specs.Seats.{last_outcome, IsOpen};
 ghost use Rattle.lab_session.specs.Turns.{resting, IsAsked, IsRetried};
 
 use crate::bench::{Bench, BenchFault};
@@ -36,16 +37,16 @@ fn lab_fault(fault: BenchFault, waiting: bool) -> LabFault
     }
 }
 
-/// Makes room for a command that is answered. Any but an abort leaves a place for one behind it, so that the abort of
-/// what a session has active needs no memory in its list. NoMemory where an allocation was refused.
-fn reserve_call(calls: &mut Vec<Call>, command: &Command) -> Result<(), NoMemory>
+/// Makes room for a call that is answered, and for one behind it where this one doesn't end its session's transaction.
+/// So the call that ends one needs no memory. NoMemory where an allocation was refused.
+fn reserve_call(calls: &mut Vec<Call>, ends: bool) -> Result<(), NoMemory>
     ensures calls { calls.new.items ≡ calls.old.items }
+    ensures capacity { vec_capacity calls.old ≤ vec_capacity calls.new }
     ensures place { OnOk result (length calls.new.items < vec_capacity calls.new) }
+    ensures behind { OnOk result (ends ≡ false → length calls.new.items + 1 < vec_capacity calls.new) }
+    ensures end { ends ≡ true → length calls.old.items < vec_capacity calls.old → IsOk result }
 {
-    match command {
-        Command::Abort => calls.try_reserve(1),
-        _ => calls.try_reserve(2),
-    }
+    calls.try_reserve(if ends { 1 } else { 2 })
 }
 
 /// Steps a command of a seat's session. Answered, it stands in the seat's list with its receipt; else it waits, and the
@@ -67,9 +68,11 @@ pub(crate) fn asked<E: Engine>(
     ensures waiting { IfErr result (λ e. still_waits e.1 ≡ false) }
     ensures fault { IfErr result (λ e. e.1 ≢ LabFault.NothingWaiting) }
     ensures full { IfErr result (λ e. e.1 ≡ LabFault.Full false → length bench.old.log ≡ max_events) }
+    ensures end { length bench.old.log < max_events → Ends (past_of bench.old.log) seat.old.session command → IsOpen seat.old.calls → IsOk result }
     ensures told { IfErr result (λ e. TellsFull e.1) }
 {
-    if reserve_call(&mut seat.calls, &command).is_err() {
+    let ends = bench.ends(seat.session, &command);
+    if reserve_call(&mut seat.calls, ends).is_err() {
         return Err((command, LabFault::NoMemory { waiting: false }));
     }
     let receipt = match bench.step(alloc, seat.session, &command) {
@@ -84,10 +87,7 @@ pub(crate) fn asked<E: Engine>(
             change,
         });
     }
-    match seat.calls.push(Call { command, receipt }) {
-        Ok(()) => (),
-        Err(_) => unreachable!(),
-    }
+    seat.calls.push_reserved(Call { command, receipt });
     Ok(Progress {
         answered: true,
         change,
@@ -159,7 +159,7 @@ pub(crate) fn retried<E: Engine>(
     if bench.retryable() != Some(seat.session) {
         return Ok(None);
     }
-    if seat.calls.try_reserve(1).is_err() {
+    if reserve_call(&mut seat.calls, false).is_err() {
         return Err(LabFault::NoMemory { waiting: true });
     }
     let receipt = match bench.retry(alloc, seat.session) {
@@ -170,10 +170,7 @@ pub(crate) fn retried<E: Engine>(
     let Some(command) = seat.holds.take() else {
         unreachable!()
     };
-    match seat.calls.push(Call { command, receipt }) {
-        Ok(()) => (),
-        Err(_) => unreachable!(),
-    }
+    seat.calls.push_reserved(Call { command, receipt });
     Ok(Some(change))
 }
 

@@ -1,15 +1,17 @@
-//! Commits and aborts that may have no memory at all.
+//! Commits and aborts that may have no memory at all: of a bench, and of a seat.
 
 ghost use Rattle.std.specs.Prelude.{◌≡◌, []};
 
 use crate::refusal::{refuse, was_refused};
+use crate::refused::lines_submitted;
 use lab_engine::{Engine, EngineFault, Level, Outcome};
 use lab_locking::LockEngine;
-use lab_script::{Line, Script, parse_script};
-use lab_session::Bench;
+use lab_script::{Line, parse_script};
+use lab_session::{Bench, Lab, Seat};
 use lab_table::{Command, Session, Table};
 use lab_versions::{CommittedEngine, SnapshotEngine};
 use std::alloc::Global;
+use std::sync::Wait;
 use std::test::Fail;
 
 /// Session 1 has two rows pending, and at snapshot session 2 has installed one of them since session 1's begin. Before
@@ -18,6 +20,21 @@ const SNAPSHOT: &[u8] = b"setup (1, 10), (2, 20);
 begin; -- T1
 begin; -- T2
 update test set value = 12 where id = 1; -- T2
+commit; -- T2
+update test set value = 11 where id = 1; -- T1
+update test set value = 21 where id = 2; -- T1
+insert into test (id, value) values (3, 30); -- T1
+commit; -- T2
+commit; -- T2
+commit; -- T2
+commit; -- T2
+";
+
+/// The same, but that session 2 has installed another row.
+const APART: &[u8] = b"setup (1, 10), (2, 20), (4, 40);
+begin; -- T1
+begin; -- T2
+update test set value = 42 where id = 4; -- T2
 commit; -- T2
 update test set value = 11 where id = 1; -- T1
 update test set value = 21 where id = 2; -- T1
@@ -51,21 +68,15 @@ enum End {
     Conflict,
 }
 
-const ENDS: [(Level, End); 6] = [
-    (Level::Locking, End::Committed),
-    (Level::Locking, End::Aborted),
-    (Level::Committed, End::Committed),
-    (Level::Committed, End::Aborted),
-    (Level::Snapshot, End::Conflict),
-    (Level::Snapshot, End::Aborted),
+const ENDS: [(Level, &[u8], End); 7] = [
+    (Level::Locking, HELD, End::Committed),
+    (Level::Locking, HELD, End::Aborted),
+    (Level::Committed, HELD, End::Committed),
+    (Level::Committed, HELD, End::Aborted),
+    (Level::Snapshot, SNAPSHOT, End::Conflict),
+    (Level::Snapshot, SNAPSHOT, End::Aborted),
+    (Level::Snapshot, APART, End::Committed),
 ];
-
-fn script_of(alloc: Global, level: Level) -> Option<Script> {
-    match level {
-        Level::Snapshot => parse_script(alloc, SNAPSHOT).ok(),
-        _ => parse_script(alloc, HELD).ok(),
-    }
-}
 
 fn command_of(end: End) -> Command {
     match end {
@@ -138,8 +149,8 @@ fn ended_at(
     }
 }
 
-fn end_made(alloc: Global, level: Level, end: End) -> Option<(Option<End>, bool)> {
-    let script = script_of(alloc, level)?;
+fn end_made(alloc: Global, level: Level, before: &[u8], end: End) -> Option<(Option<End>, bool)> {
+    let script = parse_script(alloc, before).ok()?;
     let Ok(setup) = script.setup.copy(alloc) else {
         drop(script);
         return None;
@@ -150,10 +161,87 @@ fn end_made(alloc: Global, level: Level, end: End) -> Option<(Option<End>, bool)
 }
 
 #[test]
-fn an_end_takes_no_memory(rt: HostRuntime) -> Result<(), Fail> {
-    for (level, end) in ENDS {
-        let made = end_made(rt.alloc(), level, end);
+fn an_end_is_refused_no_memory(rt: HostRuntime) -> Result<(), Fail> {
+    for (level, before, end) in ENDS {
+        let made = end_made(rt.alloc(), level, before, end);
         assert_eq!(rt; made, Some((Some(end), false)), "{level:?}");
+    }
+    Ok(())
+}
+
+/// A transaction of session 1 of as many calls as a list grows for more than once.
+const LOOKS: &[u8] = b"setup (1, 10);
+begin; -- T1
+select * from test where id = 1; -- T1
+select * from test where id = 1; -- T1
+select * from test where id = 1; -- T1
+select * from test where id = 1; -- T1
+select * from test where id = 1; -- T1
+select * from test where id = 1; -- T1
+select * from test where id = 1; -- T1
+select * from test where id = 1; -- T1
+select * from test where id = 1; -- T1
+";
+
+/// Gives the last seat's abort with the first allocation refused. What it came to, and whether an allocation was refused.
+fn aborted<R: Wait>(
+    rt: &R,
+    alloc: Global,
+    lab: &Lab<LockEngine>,
+    seats: &mut Vec<Seat>,
+) -> Option<(Option<End>, bool)> {
+    let seat = seats.pop()?;
+    refuse(alloc, 1);
+    let answered = lab.submit(rt, alloc, seat, Command::Abort);
+    let refused = was_refused(alloc);
+    let seat = answered.ok()?;
+    let made = seat.reply().and_then(end_of);
+    drop(seat);
+    Some((made, refused))
+}
+
+/// The same after these lines, in a lab of one session.
+fn aborted_after<R: Wait>(
+    rt: &R,
+    alloc: Global,
+    setup: Table,
+    lines: &[Line],
+) -> Option<(Option<End>, bool)> {
+    let engine = LockEngine::new(alloc, setup);
+    let (lab, mut seats) = Lab::start(alloc, engine, 1).ok()?;
+    let made = match lines_submitted(rt, alloc, &lab, &mut seats, lines) {
+        Some(()) => aborted(rt, alloc, &lab, &mut seats),
+        None => None,
+    };
+    drop(lab);
+    drop(seats);
+    made
+}
+
+/// The same after so many lines of that transaction.
+fn aborted_behind<R: Wait>(rt: &R, alloc: Global, calls: usize) -> Option<(Option<End>, bool)> {
+    let script = parse_script(alloc, LOOKS).ok()?;
+    let Ok(setup) = script.setup.copy(alloc) else {
+        drop(script);
+        return None;
+    };
+    let made = match script.lines.as_slice().get(..calls) {
+        Some(lines) => aborted_after(rt, alloc, setup, lines),
+        None => {
+            drop(setup);
+            None
+        }
+    };
+    drop(script);
+    made
+}
+
+/// As a thread of a free play ends, whichever place in its seat's list the abort takes.
+#[test]
+fn the_last_abort_of_a_seat_is_refused_no_memory(rt: HostRuntime) -> Result<(), Fail> {
+    for calls in 1..=10usize {
+        let made = aborted_behind(&rt, rt.alloc(), calls);
+        assert_eq!(rt; made, Some((Some(End::Aborted), false)), "{calls}");
     }
     Ok(())
 }

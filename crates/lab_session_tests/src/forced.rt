@@ -1,117 +1,19 @@
 //! Free plays whose order a gate forces: at each level the log is the one that the level's rules leave.
 
-ghost use Rattle.std.specs.Prelude.{◌≡◌, []};
-
-use lab_engine::{Engine, Level, LogEvent, Outcome, Recording};
+use crate::instrumented::{Counts, Refusals, play_instrumented};
+use lab_engine::{Level, Recording};
 use lab_locking::LockEngine;
 use lab_script::{Script, parse_script};
-use lab_session::{Gate, PlayFault, play_free, print_log};
-use lab_table::{Command, NoMemory, Session, Table};
+use lab_session::{Gate, PlayFault, print_log};
+use lab_table::{NoMemory, Session, Table};
 use lab_versions::{CommittedEngine, SnapshotEngine};
-use std::alloc::{AllocError, Global};
-use std::sync::atomic::{AtomicBool, AtomicU32, Ordering};
+use std::alloc::Global;
+use std::sync::atomic::{AtomicU32, Ordering};
 use std::sync::{Arc, Wait};
 use std::test::Fail;
 use std::thread::{Threads, yield_now};
 
 const MAX_TURNS: u32 = 20_000_000;
-
-/// What an engine did so far.
-struct Counts {
-    /// The events of its log.
-    events: AtomicU32,
-    /// The commands of sessions 1 and 2 that were answered, or refused.
-    ended: [AtomicU32; 2],
-}
-
-impl Drop for Counts {
-    fn drop(self) {
-        let Counts {
-            events: _,
-            ended: _,
-        } = self;
-    }
-}
-
-impl Counts {
-    /// The count of a session, of which there are two.
-    fn ended_of(&self, session: Session) -> &AtomicU32 {
-        if session.number() == 1 {
-            &self.ended[0]
-        } else {
-            &self.ended[1]
-        }
-    }
-
-    fn count(&self, session: Session, outcome: &Outcome) {
-        if !matches!(outcome, Outcome::Waits { .. }) {
-            self.ended_of(session).fetch_add(1, Ordering::SeqCst);
-        }
-        self.events.fetch_add(1, Ordering::SeqCst);
-    }
-}
-
-/// An engine that counts what it does. Where it is to refuse, its first retry has no memory.
-#[derive(Drop)]
-struct Counted<E: Engine> {
-    engine: E,
-    refuses: bool,
-    counts: Arc<Counts, Global>,
-}
-
-impl<E: Engine> Engine for Counted<E> {
-    ghost events = { λ c. E.events c.engine };
-
-    ghost opening = { λ c. E.opening c.engine };
-
-    ghost kind = { λ c. E.kind c.engine };
-
-    fn level(&self) -> Level {
-        self.engine.level()
-    }
-
-    fn setup(&self) -> &Table {
-        self.engine.setup()
-    }
-
-    fn log(&self) -> &[LogEvent] {
-        self.engine.log()
-    }
-
-    fn is_active(&self, session: Session) -> bool {
-        self.engine.is_active(session)
-    }
-
-    fn is_waiting(&self, session: Session) -> bool {
-        self.engine.is_waiting(session)
-    }
-
-    fn step(
-        &mut self,
-        alloc: Global,
-        session: Session,
-        command: &Command,
-    ) -> Result<Outcome, NoMemory> {
-        let outcome = self.engine.step(alloc, session, command)?;
-        self.counts.count(session, &outcome);
-        Ok(outcome)
-    }
-
-    fn retry(&mut self, alloc: Global, session: Session) -> Result<Outcome, NoMemory> {
-        if self.refuses {
-            self.refuses = false;
-            self.counts.ended_of(session).fetch_add(1, Ordering::SeqCst);
-            return Err(AllocError);
-        }
-        let outcome = self.engine.retry(alloc, session)?;
-        self.counts.count(session, &outcome);
-        Ok(outcome)
-    }
-
-    fn retryable(&self) -> Option<Session> {
-        self.engine.retryable()
-    }
-}
 
 /// Session 2 begins behind session 1's update. Session 1 commits once the log has so many events, and session 2 behind
 /// that.
@@ -134,13 +36,9 @@ impl Drop for Forcing {
 
 impl Forcing {
     fn new(alloc: Global, before_commit: u32) -> Result<Forcing, NoMemory> {
-        let counts = Counts {
-            events: AtomicU32::new(0),
-            ended: [AtomicU32::new(0), AtomicU32::new(0)],
-        };
         Ok(Forcing {
             before_commit,
-            counts: Arc::new(alloc, counts)?,
+            counts: Counts::new(alloc)?,
             in_place: AtomicU32::new(0),
         })
     }
@@ -229,47 +127,37 @@ T2 commit: refused WriteConflict row 1 by 1
     ),
 ];
 
-/// A free play of the script on an engine that counts.
-fn play_counted<R: Threads + Wait + Sync, E: Engine + Drop + Send>(
-    rt: &R,
-    alloc: Global,
-    engine: E,
-    refuses: bool,
-    script: &Script,
-    gate: &Forcing,
-) -> Result<Recording, PlayFault>
-    requires { E.events engine ≡ [] }
-{
-    let engine = Counted {
-        engine,
-        refuses,
-        counts: Arc::try_clone(&gate.counts)?,
-    };
-    play_free(rt, alloc, engine, script, gate)
+/// What is refused in a play: nothing, or the first retry.
+fn refusals_of(retry: bool) -> Refusals {
+    Refusals {
+        idle: None,
+        statement: None,
+        retry,
+    }
 }
 
-/// The same on the engine of a level.
+/// A free play of the script on the engine of a level.
 fn play_on<R: Threads + Wait + Sync>(
     rt: &R,
     alloc: Global,
     level: Level,
     setup: Table,
-    refuses: bool,
+    refusals: Refusals,
     script: &Script,
     gate: &Forcing,
 ) -> Result<Recording, PlayFault> {
     match level {
         Level::Locking => {
             let engine = LockEngine::new(alloc, setup);
-            play_counted(rt, alloc, engine, refuses, script, gate)
+            play_instrumented(rt, alloc, engine, refusals, &gate.counts, script, gate)
         }
         Level::Committed => {
             let engine = CommittedEngine::new(alloc, setup);
-            play_counted(rt, alloc, engine, refuses, script, gate)
+            play_instrumented(rt, alloc, engine, refusals, &gate.counts, script, gate)
         }
         Level::Snapshot => {
             let engine = SnapshotEngine::new(alloc, setup);
-            play_counted(rt, alloc, engine, refuses, script, gate)
+            play_instrumented(rt, alloc, engine, refusals, &gate.counts, script, gate)
         }
     }
 }
@@ -287,7 +175,7 @@ fn play_at<R: Threads + Wait + Sync>(
         drop(script);
         return None;
     };
-    let played = play_on(rt, alloc, level, setup, refuses, &script, gate);
+    let played = play_on(rt, alloc, level, setup, refusals_of(refuses), &script, gate);
     drop(script);
     Some(played)
 }

@@ -2,13 +2,14 @@
 
 ghost use Rattle.std.specs.Prelude.{◌≡◌, []};
 
-use lab_engine::{Engine, EngineFault, Level, LogEvent, Outcome};
+use crate::instrumented::{Counts, Refusals, play_instrumented};
+use lab_engine::{Engine, EngineFault, Outcome};
 use lab_locking::LockEngine;
 use lab_script::{Line, Lines, Script};
-use lab_session::{Bench, BenchFault, Gate, PlayFault, play_free, play_script};
-use lab_table::{Command, NoMemory, Session, Table};
+use lab_session::{Bench, BenchFault, Gate, PlayFault, play_script};
+use lab_table::{Command, Session, Table};
 use lab_versions::{CommittedEngine, SnapshotEngine};
-use std::alloc::{AllocError, Global};
+use std::alloc::Global;
 use std::sync::Wait;
 use std::sync::atomic::{AtomicBool, Ordering};
 use std::test::Fail;
@@ -108,62 +109,6 @@ fn script_of(alloc: Global, one: u8, other: u8) -> Option<Script> {
     })
 }
 
-/// An engine that refuses a session each command for want of memory, as long as it has no active transaction: that of
-/// one ends without memory.
-#[derive(Drop)]
-struct Refusing {
-    engine: LockEngine,
-    session: u8,
-}
-
-impl Engine for Refusing {
-    ghost events = { λ e. ⟦<LockEngine as Engine>⟧.events e.engine };
-
-    ghost opening = { λ e. ⟦<LockEngine as Engine>⟧.opening e.engine };
-
-    ghost kind = { λ e. ⟦<LockEngine as Engine>⟧.kind e.engine };
-
-    fn level(&self) -> Level {
-        self.engine.level()
-    }
-
-    fn setup(&self) -> &Table {
-        self.engine.setup()
-    }
-
-    fn log(&self) -> &[LogEvent] {
-        self.engine.log()
-    }
-
-    fn is_active(&self, session: Session) -> bool {
-        self.engine.is_active(session)
-    }
-
-    fn is_waiting(&self, session: Session) -> bool {
-        self.engine.is_waiting(session)
-    }
-
-    fn step(
-        &mut self,
-        alloc: Global,
-        session: Session,
-        command: &Command,
-    ) -> Result<Outcome, NoMemory> {
-        if session.number() == self.session && !self.engine.is_active(session) {
-            return Err(AllocError);
-        }
-        self.engine.step(alloc, session, command)
-    }
-
-    fn retry(&mut self, alloc: Global, session: Session) -> Result<Outcome, NoMemory> {
-        self.engine.retry(alloc, session)
-    }
-
-    fn retryable(&self) -> Option<Session> {
-        self.engine.retryable()
-    }
-}
-
 /// Holds all but one session until that one's first line was refused.
 struct Behind {
     session: u8,
@@ -201,25 +146,33 @@ impl Gate for Behind {
     }
 }
 
-/// Why a free play has no recording in which one session is refused memory, and another then fills the log.
+/// Why a free play has no recording in which one session is refused memory for each command, as long as it has no active
+/// transaction, and another then fills the log.
 fn fault_of<R: Threads + Wait + Sync>(
     rt: &R,
     alloc: Global,
     refused: u8,
     filling: u8,
 ) -> Option<PlayFault> {
-    let script = script_of(alloc, refused, filling)?;
-    let engine = Refusing {
-        engine: LockEngine::new(alloc, Table::new(alloc)),
-        session: refused,
+    let refusals = Refusals {
+        idle: Session::new(refused),
+        statement: None,
+        retry: false,
     };
+    let counts = Counts::new(alloc).ok()?;
+    let Some(script) = script_of(alloc, refused, filling) else {
+        drop(counts);
+        return None;
+    };
+    let engine = LockEngine::new(alloc, Table::new(alloc));
     let gate = Behind {
         session: refused,
         refused: AtomicBool::new(false),
     };
-    let fault = play_free(rt, alloc, engine, &script, &gate).err();
+    let fault = play_instrumented(rt, alloc, engine, refusals, &counts, &script, &gate).err();
     drop(script);
     drop(gate);
+    drop(counts);
     fault
 }
 

@@ -1,12 +1,13 @@
 //! Commands that are refused memory before their event, and while they wait, and that are told Busy then.
 
-use lab_engine::{Engine, EngineFault, Level, LogEvent, Outcome};
+use crate::instrumented::{Counts, Instrumented, Refusals};
+use lab_engine::{EngineFault, Outcome};
 use lab_locking::LockEngine;
 use lab_script::parse_script;
 use lab_session::{Lab, LabFault, Seat, print_log};
 use lab_statement::parse_statement;
-use lab_table::{Command, NoMemory, Session, Table};
-use std::alloc::{AllocError, Global};
+use lab_table::{Command, Session, Table};
+use std::alloc::Global;
 use std::sync::atomic::{AtomicBool, Ordering};
 use std::sync::{Arc, Wait};
 use std::test::Fail;
@@ -14,72 +15,8 @@ use std::thread;
 
 const MAX_TURNS: u32 = 200_000_000;
 
-/// The locking engine, but that session 2's first statement and the first retry are refused. It raises a flag when a
-/// command waits.
-#[derive(Drop)]
-struct Refusing {
-    engine: LockEngine,
-    refuses_step: bool,
-    refuses_retry: bool,
-    waits: Arc<AtomicBool, Global>,
-}
-
-impl Engine for Refusing {
-    ghost events = { λ e. ⟦<LockEngine as Engine>⟧.events e.engine };
-
-    ghost opening = { λ e. ⟦<LockEngine as Engine>⟧.opening e.engine };
-
-    ghost kind = { λ e. ⟦<LockEngine as Engine>⟧.kind e.engine };
-
-    fn level(&self) -> Level {
-        self.engine.level()
-    }
-
-    fn setup(&self) -> &Table {
-        self.engine.setup()
-    }
-
-    fn log(&self) -> &[LogEvent] {
-        self.engine.log()
-    }
-
-    fn is_active(&self, session: Session) -> bool {
-        self.engine.is_active(session)
-    }
-
-    fn is_waiting(&self, session: Session) -> bool {
-        self.engine.is_waiting(session)
-    }
-
-    fn step(
-        &mut self,
-        alloc: Global,
-        session: Session,
-        command: &Command,
-    ) -> Result<Outcome, NoMemory> {
-        if self.refuses_step && session.number() == 2 && matches!(command, Command::Run(_)) {
-            self.refuses_step = false;
-            return Err(AllocError);
-        }
-        let outcome = self.engine.step(alloc, session, command)?;
-        if let Outcome::Waits { .. } = &outcome {
-            self.waits.store(true, Ordering::SeqCst);
-        }
-        Ok(outcome)
-    }
-
-    fn retry(&mut self, alloc: Global, session: Session) -> Result<Outcome, NoMemory> {
-        if self.refuses_retry {
-            self.refuses_retry = false;
-            return Err(AllocError);
-        }
-        self.engine.retry(alloc, session)
-    }
-
-    fn retryable(&self) -> Option<Session> {
-        self.engine.retryable()
-    }
-}
+/// The locking engine, but that it is refused memory where it is told so.
+type Refusing = Instrumented<LockEngine>;
 
 /// Turns until a flag is raised; false where it isn't within so many.
 fn seen(flag: &AtomicBool) -> bool {
@@ -115,9 +52,9 @@ fn commits<R: Wait>(
     alloc: Global,
     lab: &Lab<Refusing>,
     seat: Seat,
-    waits: &AtomicBool,
+    counts: &Counts,
 ) -> Option<Seat> {
-    if !seen(waits) {
+    if !seen(&counts.waits) {
         drop(seat);
         return None;
     }
@@ -131,12 +68,12 @@ fn first<R: Wait>(
     lab: &Lab<Refusing>,
     seat: Seat,
     updated: &AtomicBool,
-    waits: &AtomicBool,
+    counts: &Counts,
 ) -> Option<Seat> {
     let seat = lab.submit(rt, alloc, seat, Command::Begin).ok()?;
     let seat = updates(rt, alloc, lab, seat)?;
     updated.store(true, Ordering::SeqCst);
-    commits(rt, alloc, lab, seat, waits)
+    commits(rt, alloc, lab, seat, counts)
 }
 
 /// The seat that was handed back, where this was the fault and the seat has its begin alone.
@@ -228,13 +165,18 @@ fn setup(alloc: Global) -> Option<Table> {
     Some(script.setup)
 }
 
-fn lab_of_two(alloc: Global, waits: Arc<AtomicBool, Global>) -> Option<(Lab<Refusing>, Vec<Seat>)> {
-    let engine = Refusing {
-        engine: LockEngine::new(alloc, setup(alloc)?),
-        refuses_step: true,
-        refuses_retry: true,
-        waits,
+/// A lab whose session 2 is refused its first statement, and which is refused its first retry.
+fn lab_of_two(alloc: Global, counts: Arc<Counts, Global>) -> Option<(Lab<Refusing>, Vec<Seat>)> {
+    let refusals = Refusals {
+        idle: None,
+        statement: Session::new(2),
+        retry: true,
     };
+    let Some(setup) = setup(alloc) else {
+        drop(counts);
+        return None;
+    };
+    let engine = Instrumented::new(LockEngine::new(alloc, setup), refusals, counts);
     Lab::start(alloc, engine, 2).ok()
 }
 
@@ -245,8 +187,8 @@ fn two(seats: &mut Vec<Seat>) -> Option<(Seat, Seat)> {
 }
 
 /// A lab of two sessions, and their seats.
-fn started(alloc: Global, waits: &Arc<AtomicBool, Global>) -> Option<(Lab<Refusing>, Seat, Seat)> {
-    let (lab, mut seats) = lab_of_two(alloc, Arc::try_clone(waits).ok()?)?;
+fn started(alloc: Global, counts: &Arc<Counts, Global>) -> Option<(Lab<Refusing>, Seat, Seat)> {
+    let (lab, mut seats) = lab_of_two(alloc, Arc::try_clone(counts).ok()?)?;
     let both = two(&mut seats);
     drop(seats);
     let Some((ours, theirs)) = both else {
@@ -305,18 +247,18 @@ fn logged(
 #[test]
 fn a_command_whose_retry_had_no_memory_goes_on(rt: HostRuntime) -> Result<(), Fail> {
     let alloc = rt.alloc();
-    let waits = Arc::new(alloc, AtomicBool::new(false))?;
-    let Some((lab, ours, theirs)) = started(alloc, &waits) else {
-        drop(waits);
+    let counts = Counts::new(alloc)?;
+    let Some((lab, ours, theirs)) = started(alloc, &counts) else {
+        drop(counts);
         return Err(Fail::from("a lab"));
     };
     let updated = AtomicBool::new(false);
     let (ours, theirs) = thread::join(
         &rt,
-        || first(&rt, alloc, &lab, ours, &updated, &waits),
+        || first(&rt, alloc, &lab, ours, &updated, &counts),
         || second(&rt, alloc, &lab, theirs, &updated),
     );
-    drop(waits);
+    drop(counts);
     let text = logged(alloc, lab, ours, theirs).ok_or("a log")?;
     assert_eq!(rt; text.as_slice(), DUE);
     Ok(())

@@ -15,6 +15,8 @@ mod full;
 #[cfg(test)]
 mod goes_on;
 #[cfg(test)]
+mod instrumented;
+#[cfg(test)]
 mod meeting;
 #[cfg(test)]
 mod refusal;

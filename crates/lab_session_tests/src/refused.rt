@@ -289,7 +289,8 @@ fn submitted<R: Wait>(
     seats.insert(place, seat).ok()
 }
 
-fn lines_submitted<R: Wait>(
+/// Submits lines in order, each by its session's seat.
+pub fn lines_submitted<R: Wait>(
     rt: &R,
     alloc: Global,
     lab: &Lab<LockEngine>,

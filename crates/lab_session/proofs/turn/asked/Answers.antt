@@ -1,12 +1,15 @@
-use Rattle.std.proofs.Common.{rules, ◌≡◌, true, false, refl, sym, subst, Some}
+use Rattle.std.proofs.Common.{rules, ◌≡◌, ◌<◌, ◌+◌, length, true, false, refl, sym, subst, Some}
 use Rattle.std.proofs.lemmas.Bool.{both_ways}
 use Rattle.std.specs.Prelude.{IsSome}
+use Rattle.std.specs.Vec.{vec_capacity}
 use Rattle.lab_engine.specs.Log.{past_of, waiting}
 use Rattle.lab_engine.specs.Recording.{is_answer}
+use Rattle.lab_session.specs.declared.seat.Call.{Call}
 use Rattle.lab_session.specs.Seats.{Seated, GrowsBy}
 use Rattle.lab_session.specs.Turns.{IsAsked}
 use Rattle.lab_session.specs.Waiting.{TellsFull}
 use Rattle.lab_session.proofs.Filled.{tells_full}
+use Rattle.lab_session.proofs.Places.{placed, no_end}
 use Rattle.lab_session.proofs.Turning.{grown, logged, unanswered_waits, unanswered_asks}
 use Rattle.lab_session.proofs.turn.asked.Goals as goal
 
@@ -29,10 +32,10 @@ returns-then-not-is_answered-clause-asked g c =
 pub returns-clause-asked : goal.returns-clause-asked
 returns-clause-asked g c =
     let inside : Seated = record { session = c.seat.inside.session; calls = c.seat.inside.calls.items; holds = c.seat.inside.holds } in
-    let after : Seated = record { session = c.seat.inside.session; calls = c.push.new.self.items; holds = c.seat.inside.holds } in
+    let after : Seated = record { session = c.seat.inside.session; calls = c.push_reserved.new.self.items; holds = c.seat.inside.holds } in
     let answer : is_answer c.in-Ok.receipt.outcome ≡ true = search rules in
     let grows : GrowsBy inside after c.args.command c.in-Ok.receipt =
-    grown inside c.args.command c.in-Ok.receipt c.reserve_call.new.calls.items c.push.new.self.items c.seat.inside.holds c.reserve_call.ensures.calls c.in-Ok-push.ensures.items answer in
+    grown inside c.args.command c.in-Ok.receipt c.reserve_call.new.calls.items c.push_reserved.new.self.items c.seat.inside.holds c.reserve_call.ensures.calls c.push_reserved.ensures.items answer in
     subst (λ s. IsAsked c.args.bench.now c.step.new.self s after c.args.command true) c.seat.view_is (record {
       receipt = c.in-Ok.receipt;
       step = c.in-Ok.ensures.step;
@@ -59,3 +62,12 @@ returns-then-not-is_answered-clause-asks g c =
     let run = c.args.bench.now in
     let answer : is_answer c.in-Ok.receipt.outcome ≡ false = search rules in
     λ is. unanswered_asks run.level run.setup run.log c.step.new.self.log c.seat.inside.session c.args.command c.in-Ok.receipt.outcome c.in-Ok.ensures.step answer
+
+pub invariant_of-seat-2 : goal.invariant_of-seat-2
+invariant_of-seat-2 g c =
+    let run = c.args.bench.now in
+    let behind : c.ends-ends.result ≡ false → length c.reserve_call.new.calls.items + 1 < vec_capacity c.reserve_call.new.calls = search rules in
+    let call : Call = record { command = c.args.command; receipt = c.in-Ok.receipt } in
+    placed c.reserve_call.new.calls.items c.push_reserved.new.self.items call (vec_capacity c.push_reserved.new.self) c.push_reserved.ensures.items
+    (λ going. subst (λ n. length c.reserve_call.new.calls.items + 1 < n) (sym c.push_reserved.ensures.capacity)
+    (behind (no_end run.level run.setup (past_of run.log) c.seat.inside.session c.args.command c.in-Ok.receipt.outcome c.ends-ends.result c.ends-ends.ensures c.in-Ok.ensures.step.0.1 going)))

@@ -19,14 +19,14 @@ pub returns-clause-retried : goal.returns-clause-retried
 returns-clause-retried g c =
     let run = c.args.bench.now in
     let inside : Seated = record { session = c.seat.inside.session; calls = c.seat.inside.calls.items; holds = c.seat.inside.holds } in
-    let after : Seated = record { session = c.seat.inside.session; calls = c.push.new.self.items; holds = c.take.new.self } in
+    let after : Seated = record { session = c.seat.inside.session; calls = c.push_reserved.new.self.items; holds = c.take.new.self } in
     let is : c.retryable.result ≡ Some c.seat.inside.session = search rules in
     let due : IsLeastRetryable run.level run.setup (past_of run.log) c.seat.inside.session =
     subst (λ r. MatchOption r (NoneRetryable run.level run.setup (past_of run.log)) (IsLeastRetryable run.level run.setup (past_of run.log))) is c.retryable.ensures in
     let answered : is_answer c.in-Ok.receipt.outcome ≡ true =
     retry_answers run.level run.setup run.log c.retry.new.self.log c.seat.inside.session c.in-Ok.receipt.outcome due c.in-Ok.ensures.retry in
     let grows : GrowsBy inside after c.in-Some.command c.in-Ok.receipt =
-    grown inside c.in-Some.command c.in-Ok.receipt c.try_reserve.new.self.items c.push.new.self.items c.take.new.self c.try_reserve.ensures.items c.in-Ok-push.ensures.items answered in
+    grown inside c.in-Some.command c.in-Ok.receipt c.reserve_call.new.calls.items c.push_reserved.new.self.items c.take.new.self c.reserve_call.ensures.calls c.push_reserved.ensures.items answered in
     let held : c.seat.inside.holds ≡ Some c.in-Some.command = search rules in
     let rests : c.take.new.self ≡ None = search rules in
     subst (λ s. IsRetried run c.retry.new.self s after) c.seat.view_is (record {
@@ -48,11 +48,11 @@ pub returns-clause-apart : goal.returns-clause-apart
 returns-clause-apart g c =
     let run = c.args.bench.now in
     let inside : Seated = record { session = c.seat.inside.session; calls = c.seat.inside.calls.items; holds = c.seat.inside.holds } in
-    let after : Seated = record { session = c.seat.inside.session; calls = c.push.new.self.items; holds = c.take.new.self } in
+    let after : Seated = record { session = c.seat.inside.session; calls = c.push_reserved.new.self.items; holds = c.take.new.self } in
     let is : c.retryable.result ≡ Some c.seat.inside.session = search rules in
     let due : IsLeastRetryable run.level run.setup (past_of run.log) c.seat.inside.session =
     subst (λ r. MatchOption r (NoneRetryable run.level run.setup (past_of run.log)) (IsLeastRetryable run.level run.setup (past_of run.log))) is c.retryable.ensures in
     let answered : is_answer c.in-Ok.receipt.outcome ≡ true =
     retry_answers run.level run.setup run.log c.retry.new.self.log c.seat.inside.session c.in-Ok.receipt.outcome due c.in-Ok.ensures.retry in
     not_told_busy run.level run.setup run.log c.retry.new.self.log inside after c.in-Some.command c.in-Ok.receipt c.in-Ok.ensures.retry
-    (grown inside c.in-Some.command c.in-Ok.receipt c.try_reserve.new.self.items c.push.new.self.items c.take.new.self c.try_reserve.ensures.items c.in-Ok-push.ensures.items answered)
+    (grown inside c.in-Some.command c.in-Ok.receipt c.reserve_call.new.calls.items c.push_reserved.new.self.items c.take.new.self c.reserve_call.ensures.calls c.push_reserved.ensures.items answered)

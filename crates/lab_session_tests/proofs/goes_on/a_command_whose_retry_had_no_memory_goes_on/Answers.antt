@@ -1,38 +1,32 @@
 -- The lab and a seat may be handed to another thread, which the prover doesn't find alone.
+use denote.RattleType.{RattleType}
 use denote.Param.Send.{IsSend, IsSync, sendable}
-use denote.Param.SendFields.{declared_send, declared_sync}
+use denote.Param.SendFields.{declared_send}
+use mir.Syntax.{Dict}
 use Rattle.std.proofs.Crossing.{crosses}
 use Rattle.lab_table.proofs.number.Session.TheSendSync as session
 use Rattle.lab_table.proofs.predicate.Pred.TheLaws.TheKnot as predicate
 use Rattle.lab_table.specs.contracts.statement.Command as Command
 use Rattle.lab_engine.proofs.event.Outcome.TheSendSync as outcome
+use Rattle.lab_engine.specs.declared.engine.Engine.{Ghosts as Engine}
 use Rattle.lab_engine.proofs.Crosses.{journal}
-use Rattle.lab_session.specs.contracts.bench.Bench as Bench
-use Rattle.lab_session.specs.contracts.bench.Bench.TheInside as Inside
 use Rattle.lab_session.specs.contracts.bench.Receipt as Receipt
 use Rattle.lab_session.specs.contracts.lab.Lab as Lab
-use Rattle.lab_session.specs.contracts.lab.Lab.TheInside as LabInside
+use Rattle.lab_session.proofs.lab.Lab.TheSendSync as lab_sync
 use Rattle.lab_session.specs.contracts.seat.Call as Call
 use Rattle.lab_session.specs.contracts.seat.Seat as Seat
 use Rattle.lab_session.specs.contracts.seat.Seat.TheInside as SeatInside
-use Rattle.lab_session_tests.specs.contracts.goes_on.Refusing as Refusing
-use Rattle.lab_session_tests.specs.contracts.goes_on.RefusingEngine.TheImpl as impl
+use Rattle.lab_session_tests.specs.contracts.instrumented.Instrumented as Instrumented
+use Rattle.lab_session_tests.specs.contracts.instrumented.InstrumentedEngine.TheImpl as impl
 use Rattle.lab_session_tests.proofs.goes_on.a_command_whose_retry_had_no_memory_goes_on.Goals as goal
 
-refusing : IsSend Refusing.the_row
-refusing = declared_send Refusing.the_type (search (sendable, journal), (search sendable, (search sendable, (search (sendable, crosses) depth 40, tt))))
+-- a lab of an instrumented engine, where the engine may be handed to another thread
+module _ (E : RattleType) (engine : Engine E.Denot) (dict : Dict) where
+  instrumented : IsSend E → IsSend (Instrumented.the_row E)
+  instrumented e = declared_send (Instrumented.the_type E) (search (sendable, e), (search (sendable, crosses, session.the_send) depth 40, (search (sendable, crosses) depth 40, tt)))
 
-inside : IsSend (Inside.the_row Refusing.the_row impl.ghosts)
-inside = declared_send (Inside.the_type Refusing.the_row impl.ghosts) (search (sendable, refusing), tt)
-
-bench : IsSend (Bench.the_row Refusing.the_row impl.ghosts)
-bench = search (sendable, inside)
-
-lab_inside : IsSync (LabInside.the_row Refusing.the_row impl.ghosts)
-lab_inside = declared_sync (LabInside.the_type Refusing.the_row impl.ghosts) (search (sendable, crosses, bench) depth 40, (search (sendable, crosses) depth 40, (search (sendable, crosses) depth 40, (search sendable, tt))))
-
-lab : IsSync (Lab.the_row Refusing.the_row impl.ghosts)
-lab = search (sendable, lab_inside)
+  lab : IsSend E → IsSync (Lab.the_row (Instrumented.the_row E) (impl.ghosts E engine dict))
+  lab e = lab_sync.the_sync (Instrumented.the_row E) (impl.ghosts E engine dict) (instrumented e)
 
 command : IsSend Command.the_row
 command = search (sendable, crosses, predicate.crosses) depth 40 fits 20000
@@ -49,9 +43,8 @@ seat_inside = declared_send SeatInside.the_type (search (sendable, session.the_s
 seat : IsSend Seat.the_row
 seat = search (sendable, seat_inside)
 
--- src/goes_on.rt:185:26
 pub join-ours-requires-send-F : goal.join-ours-requires-send-F
-join-ours-requires-send-F g c κs within = search (sendable, crosses, lab, seat) depth 40 fits 20000
+join-ours-requires-send-F g c κs within = search (sendable, crosses, journal, lab, seat) depth 40 fits 20000
 
 pub join-ours-requires-send-A : goal.join-ours-requires-send-A
 join-ours-requires-send-A g c κs within = search (sendable, crosses, seat) depth 40 fits 20000

@@ -6,7 +6,7 @@ use Rattle.lab_session.proofs.lab.Lab.close.Goals as goal
 
 pub returns-in-Err-clause-fault : goal.returns-in-Err-clause-fault
 returns-in-Err-clause-fault g c =
-    let run = c.into_inner-bench.result in (
+    let run = c.into_inner-bench.result.bench in (
       c.bench.inside.engine,
       (
         run,
