@@ -1,5 +1,5 @@
 -- The pending versions of a row, one for each session.
-use Rattle.std.proofs.Common.{◌≡◌, ◌∙◌, ℕ, ◌+◌, ◌-◌, ◌≤◌, ◌<◌, refl, ap, arith, cond, List, length, set, get_or, Option, Some, None, is_some}
+use Rattle.std.proofs.Common.{◌≡◌, ◌∙◌, ℕ, ◌+◌, ◌-◌, ◌≤◌, ◌<◌, ap, arith, cond, List, length, set, get_or, Option, Some, None, is_some}
 use Rattle.lab_engine.proofs.Common.{get_or_default, length-set, count, IsRoomy}
 use Rattle.std.proofs.lemmas.List.Sums.{count_by-le-length, sum_by-set}
 use Rattle.lab_engine.specs.declared.version.Version.{Version}

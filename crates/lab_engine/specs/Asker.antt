@@ -1,13 +1,11 @@
 -- A session with an active transaction, in a situation.
-use Rattle.std.specs.Prelude.{◌≡◌, ◌↔◌, ℕ, Bool, true, false, Some, unwrap_or, length, IsTrue}
-use Rattle.std.specs.Option.{option_or}
+use Rattle.std.specs.Prelude.{◌≡◌, ◌↔◌, ℕ, Bool, true, false, Some, length, IsTrue}
 use Rattle.lab_table.specs.Row.{Row}
 use Rattle.lab_engine.specs.declared.event.Level.{Level}
 use Rattle.lab_engine.specs.declared.event.Level.TheVariants.{Locking, Snapshot, Committed as ReadCommitted}
 use Rattle.lab_engine.specs.declared.asker.Asker.{Asker}
-use Rattle.lab_engine.specs.Log.{Past, Txn, Version, active, initial_version, sight}
-use Rattle.lab_engine.specs.Chains.{last_before}
-use Rattle.lab_engine.specs.KeptRows.{chain_in, pending_in}
+use Rattle.lab_engine.specs.Log.{Past, Txn, Version, active, sight}
+use Rattle.lab_engine.specs.Overlay.{version_over}
 use Rattle.lab_engine.specs.Others.{IsOther}
 use Rattle.lab_engine.specs.SessionBits.{has}
 use Rattle.lab_engine.specs.Situation.{Describes, IsRunning}
@@ -20,9 +18,7 @@ sees_as_of_begin Snapshot = true
 
 -- the version of a row that a session's transaction sees: its own, else the last installed one that it sees, else the setup's
 abbrev pub seen_in : Asker → Row → Version
-seen_in asker row =
-    unwrap_or (option_or (pending_in asker.situation.now.rows row asker.session) (last_before asker.sees_before (chain_in asker.situation.now.rows row)))
-    (initial_version asker.setup.now row)
+seen_in asker row = version_over asker.setup.now asker.situation.now.rows asker.session asker.sees_before row
 
 -- a session asks after a log, with this active transaction at a level
 pub record IsAsker (level : Level) (past : Past) (txn : Txn) (asker : Asker) : Type 0 where

@@ -9,9 +9,9 @@ pub mod Kept
 pub mod KeptRows
 pub mod Situation
 pub mod Sight
+pub mod Overlay
 pub mod Asker
 pub mod Chosen
-pub mod Overlay
 pub mod Others
 pub mod Chains
 pub mod Effect

@@ -15,7 +15,6 @@ use crate::decision::{copy_of, step_outcome, waiting_command};
 use crate::engine::Engine;
 use crate::event::{Level, LogEvent, Outcome};
 use crate::event_query::{ends_transaction, frees_nobody};
-use crate::reserved::append;
 use crate::rules::Rules;
 use crate::situation::Situation;
 use crate::waits::retryable;
@@ -102,7 +101,7 @@ impl<R: Rules> Journal<R> {
             self.retryable,
             &event,
         );
-        append(&mut self.log, event);
+        self.log.push_reserved(event);
         Ok(answer)
     }
 }

@@ -32,7 +32,6 @@ mod laws;
 mod reading;
 mod recording;
 mod recording_laws;
-mod reserved;
 mod row_state;
 mod row_states;
 mod rules;

@@ -128,8 +128,8 @@ impl RowState {
             return;
         };
         self.pending[usize::from(session.number()) - 1] = None;
-        let installed = self.installed.push(Installed { version, by, place });
-        prove!(installed.is_ok());
+        self.installed
+            .push_reserved(Installed { version, by, place });
     }
 }
 

@@ -16,7 +16,6 @@ ghost use Rattle.lab_engine.specs.Kept.{pending_of};
 ghost use Rattle.lab_engine.specs.KeptRows.{kept_at, entries_in, chain_in, pending_in, IsReadyAt, AreReady, IsSame};
 ghost use Rattle.lab_engine.specs.Merging.{written_version};
 
-use crate::reserved::append;
 use crate::row_state::RowState;
 use crate::version::{Version, value_of};
 use lab_history::{State, VersionName, Writes};
@@ -130,7 +129,7 @@ impl RowStates {
         let entries = writes.entries();
         for entry in entries {
             if self.pending(entry.0, session).is_none() {
-                append(rows, entry.0);
+                rows.push_reserved(entry.0);
             }
         }
     }

@@ -20,7 +20,6 @@ ghost use Rattle.lab_engine.specs.Situation.{DescribesSession, DescribesRows, Ag
 
 use crate::event::{LogEvent, Outcome};
 use crate::event_query::{is_busy, is_fatal_fault};
-use crate::reserved::append;
 use crate::row_states::RowStates;
 use lab_history::{VersionName, Writes};
 use lab_table::{Command, NoMemory, RowName, Session, Statement, TxnNo};
@@ -187,7 +186,7 @@ impl RunningTxn {
         };
         rows.note_new(session, writes, &mut self.written);
         rows.hold_each(session, name, writes);
-        append(&mut self.statements, statement);
+        self.statements.push_reserved(statement);
     }
 }
 

@@ -28,14 +28,14 @@ pub invariant_of-self-2 : goal.invariant_of-self-2
 invariant_of-self-2 g c =
     let past : Past = past_of c.self.inside.log.items in
     let event : LogEvent = record { session = c.args.session; command = c.args.command; outcome = c.args.outcome } in
-    let longer : past_of c.append.new.list.items ≡ event ∷ past =
-    ap past_of c.append.ensures.items ∙ reverse-append c.reserve_place.new.log.items (event ∷ []) ∙ ap (λ log. event ∷ past_of log) c.reserve_place.ensures.log in
+    let longer : past_of c.push_reserved.new.self.items ≡ event ∷ past =
+    ap past_of c.push_reserved.ensures.items ∙ reverse-append c.reserve_place.new.log.items (event ∷ []) ∙ ap (λ log. event ∷ past_of log) c.reserve_place.ensures.log in
     let describes = c.take_in.ensures past (c.reserve.ensures.same past c.self.invariant.situation) in
     let permitted = subst (λ (k : EngineRun). Permitted k.level k.setup (past_of k.log) c.args.session c.args.command c.args.outcome) (sym c.self.view_is) c.requires.permitted in
     let places : HasPlacesOfEnds (event ∷ past) (vec_capacity c.reserve_place.new.log) = c.in_ok-reserve_place.ensures.next in
-    subst (λ (p : Past). Keeps g.R.Rules.kind c.self.inside.setup p c.retryable_after-self-inside.result c.take_in.new.self (vec_capacity c.append.new.list)) (sym longer)
+    subst (λ (p : Past). Keeps g.R.Rules.kind c.self.inside.setup p c.retryable_after-self-inside.result c.take_in.new.self (vec_capacity c.push_reserved.new.self)) (sym longer)
     (record {
       retryable = c.retryable_after-self-inside.ensures past describes permitted c.self.invariant.retryable;
       situation = describes;
-      places_of_ends = omega (arith, places, c.append.ensures.capacity);
+      places_of_ends = omega (arith, places, c.push_reserved.ensures.capacity);
     })
