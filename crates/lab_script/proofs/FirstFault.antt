@@ -11,9 +11,8 @@ use Rattle.lab_statement.specs.declared.fault.ScriptFaultKind.{ScriptFaultKind}
 use Rattle.lab_statement.specs.declared.fault.ScriptFaultKind.TheVariants as kinds
 use Rattle.lab_script.specs.declared.script.Script.{Script}
 use Rattle.lab_statement.specs.declared.token.Token.{Token}
-use Rattle.lab_statement.specs.HeldTokens.{held_tokens}
+use Rattle.lab_statement.specs.Token.{tokens}
 use Rattle.lab_statement.specs.Text.{code_of, remark_of}
-use Rattle.lab_script.specs.Grammar.{IsCommands, IsSetup}
 use Rattle.lab_script.specs.FirstFaults.{commands_fault, setup_fault}
 use Rattle.lab_script.specs.Limits.{max_commands, ScriptPrints}
 use Rattle.lab_script.specs.Script as script
@@ -21,7 +20,6 @@ use Rattle.lab_script.specs.Script.{is_passed, IsFit, LineSpells, LinesSpell, Sp
 use Rattle.lab_script.specs.Tables.{script_tables}
 use Rattle.lab_script.specs.Fault.{first_fault, tokens_fault, IsFaultAt, IsFaultOf}
 use Rattle.lab_script.proofs.LineFaults.{no_commands_fault, no_setup_fault, line_tells}
-use Rattle.lab_script.proofs.HeldTokens.{setup_held, commands_held}
 use Rattle.lab_script.proofs.OneFault.{none_at_all}
 use Rattle.lab_script.proofs.ReadCommands.{no_setup}
 use Rattle.lab_script.proofs.ReadSetup.{setup_begins}
@@ -59,7 +57,7 @@ all_read {script = script} read = subst (λ (ls : List (List ℕ)). LinesSpell 1
 
 -- a line that may have its number has the faults of its tokens
 fit_fault : {number : ℕ} {line : List ℕ} (before : Option Script) → IsFit number line
-    → first_fault number line before ≡ (if is_passed line then None else tokens_fault (held_tokens (code_of line)) (remark_of line) before)
+    → first_fault number line before ≡ (if is_passed line then None else tokens_fault (tokens (code_of line)) (remark_of line) before)
 fit_fault {number} {line} before fit = rw (le-ltb 2000 number fit.lines, le-ltb 4000 (length line) fit.bytes, fit.ascii) refl
 
 unless_passed : (passed : Bool) (found : Option ScriptFaultKind) → found ≡ None → (if passed then None else found) ≡ None
@@ -70,15 +68,13 @@ unless_passed false found none = none
 spelled_faultless : {number : ℕ} {line : List ℕ} {before after : Option Script} → LineSpells number line before after → first_fault number line before ≡ None
 spelled_faultless (script.passed s fit is) = fit_fault s fit ∙ rw is refl
 spelled_faultless {line = line} (script.setup {table = table} fit spelled few) =
-    let ts : List Token = held_tokens (code_of line) in
-    let is : IsSetup ts table = setup_held _ table spelled in
-    let none : setup_fault ts ≡ None = (no_setup_fault ts).1 (table, is, few) in
-    fit_fault None fit ∙ unless_passed (is_passed line) _ (rw (setup_begins is) none)
+    let ts : List Token = tokens (code_of line) in
+    let none : setup_fault ts ≡ None = (no_setup_fault ts).1 (table, spelled, few) in
+    fit_fault None fit ∙ unless_passed (is_passed line) _ (rw (setup_begins spelled) none)
 spelled_faultless {line = line} (script.commands {cs = cs} s fit spelled session room few) =
-    let ts : List Token = held_tokens (code_of line) in
-    let is : IsCommands ts cs = commands_held _ cs spelled in
-    let none : commands_fault (script_tables s) (max_commands - length s.lines) ts ≡ None = (no_commands_fault (script_tables s) (max_commands - length s.lines) ts).1 (cs, is, omega (arith, room), few) in
-    fit_fault (Some s) fit ∙ unless_passed (is_passed line) _ (rw (no_setup is, none, session) refl)
+    let ts : List Token = tokens (code_of line) in
+    let none : commands_fault (script_tables s) (max_commands - length s.lines) ts ≡ None = (no_commands_fault (script_tables s) (max_commands - length s.lines) ts).1 (cs, spelled, omega (arith, room), few) in
+    fit_fault (Some s) fit ∙ unless_passed (is_passed line) _ (rw (no_setup spelled, none, session) refl)
 
 -- a text with a fault spells nothing
 pub fault_spells_nothing : (text : List ℕ) (number : ℕ) (kind : ScriptFaultKind) (s : Script) → IsFaultOf text (fault.At number kind) → Spells text s → ⊥

@@ -4,7 +4,6 @@ pub mod ReadCommands
 pub mod Remarks
 pub mod ScriptLines
 pub mod TextLines
-pub mod HeldTokens
 pub mod FirstFault
 pub mod LongTexts
 pub mod StatementLines

@@ -1,5 +1,5 @@
 -- The first fault of a line: there is none exactly where its tokens are in the grammar, and what it tells where there is one.
-use Rattle.std.proofs.Common.{◌≡◌, ℕ, ◌≤◌, List, length, None, zero, suc, [], ◌∷◌, Option, Some, ◌<◌, subst, ◌∙◌, Bool, true, false, map, refl}
+use Rattle.std.proofs.Common.{◌≡◌, ℕ, ◌≤◌, List, length, None, zero, suc, [], ◌∷◌, Option, Some, ◌<◌, subst, ◌∙◌, Bool, true, false, refl}
 use Rattle.std.specs.Prelude.{◌↔◌, nat_lt, nat_le, ◌-◌, is_some, not, if◌then◌else◌}
 use Rattle.lab_table.specs.Table.{Table}
 use Rattle.lab_table.specs.declared.statement.Command.{Command}
@@ -25,14 +25,11 @@ use Rattle.lab_statement.proofs.Readings.{token_is}
 use Rattle.lab_statement.proofs.ReadNumbers.{under}
 use Rattle.std.specs.Option.{option_or}
 use Rattle.std.proofs.lemmas.Option.{none-some, same_Some}
-use Rattle.lab_statement.specs.HeldTokens.{held}
 use Rattle.lab_table.specs.TableSet.{are_few}
 use Rattle.lab_script.specs.declared.script.Script.{Script}
 use Rattle.lab_script.specs.Fault.{is_over, remark_fault, tokens_fault, first_fault, TellsOfTokens}
 use Rattle.lab_script.specs.Limits.{max_commands}
 use Rattle.lab_script.specs.PassedTables.{with_tokens, with_setup_tokens}
-use Rattle.lab_statement.proofs.HeldTokens.{held_where}
-use Rattle.lab_script.proofs.HeldTokens.{held_long}
 use Rattle.std.specs.FinMap as map
 use Rattle.lab_table.specs.declared.word.Word.TheVariants as word
 use Rattle.lab_statement.specs.declared.token.Token.TheVariants as token
@@ -160,23 +157,23 @@ behind_is Is names kind wrong many = elim (are_few names) as (λ b. Is (if b the
 
 module _ (ts : List Token) where
   -- the first fault of a setup
-  setup_tells : (f : ScriptFaultKind) → setup_fault (map held ts) ≡ Some f → TellsOfTokens f ts None
+  setup_tells : (f : ScriptFaultKind) → setup_fault ts ≡ Some f → TellsOfTokens f ts None
   setup_tells f first =
       let Is = λ (kind : ScriptFaultKind). TellsOfTokens kind ts None in
-      fault_is (λ table. fifth_table (setup_tables table)) (setup_placed (map held ts)) Is (setup_read (map held ts)) f first
+      fault_is (λ table. fifth_table (setup_tables table)) (setup_placed ts) Is (setup_read ts) f first
       (λ table read e. fifth_is Is (are_few (setup_tables table)) f e tt)
-      (λ kind left stops. behind_is Is (with_setup_tokens [] (passed (map held ts) (length left))) kind (setup_kinds Is (map held ts) tt tt tt refl (held_long ts) kind left stops) tt)
+      (λ kind left stops. behind_is Is (with_setup_tokens [] (passed ts (length left))) kind (setup_kinds Is ts tt tt tt refl (λ long. long) kind left stops) tt)
 
   module _ (script : Script) where
     -- of commands
-    commands_tell : (names : List (List ℕ)) (room : ℕ) (f : ScriptFaultKind) → commands_fault names room (map held ts) ≡ Some f → TellsOfTokens f ts (Some script)
+    commands_tell : (names : List (List ℕ)) (room : ℕ) (f : ScriptFaultKind) → commands_fault names room ts ≡ Some f → TellsOfTokens f ts (Some script)
     commands_tell names room f first =
         let Is = λ (kind : ScriptFaultKind). TellsOfTokens kind ts (Some script) in
-        fault_is (λ cs. fifth_table (with_commands names cs)) (commands_placed names (map held ts)) Is (commands_read room (map held ts)) f first
+        fault_is (λ cs. fifth_table (with_commands names cs)) (commands_placed names ts) Is (commands_read room ts) f first
         (λ cs read e. fifth_is Is (are_few (with_commands names cs)) f e tt)
         (λ kind left stops.
-        behind_is Is (with_tokens names (passed (map held ts) (length left))) (placed_kind (map held ts) kind (length left))
-        (line_kinds Is (map held ts) tt (λ has. (refl, held_where ts has)) tt tt refl tt room kind left stops) tt)
+        behind_is Is (with_tokens names (passed ts (length left))) (placed_kind ts kind (length left))
+        (line_kinds Is ts tt (λ has. (refl, has)) tt tt refl tt room kind left stops) tt)
 
     -- of a remark
     session_tells : (session : Bool) (f : ScriptFaultKind) → (if session then None else Some kinds.NoSession) ≡ Some f → TellsOfTokens f ts (Some script)
@@ -184,13 +181,13 @@ module _ (ts : List Token) where
     session_tells false f first = subst (λ kind. TellsOfTokens kind ts (Some script)) (same_Some kinds.NoSession f first) tt
 
   -- of a line, by its tokens
-  tokens_tell : (remark : List ℕ) (before : Option Script) (f : ScriptFaultKind) → tokens_fault (map held ts) remark before ≡ Some f → TellsOfTokens f ts before
-  tokens_tell remark None f first = opened (begins_setup (map held ts)) first
+  tokens_tell : (remark : List ℕ) (before : Option Script) (f : ScriptFaultKind) → tokens_fault ts remark before ≡ Some f → TellsOfTokens f ts before
+  tokens_tell remark None f first = opened (begins_setup ts) first
     where
-      opened : (begins : Bool) → (if begins then setup_fault (map held ts) else Some kinds.NoSetup) ≡ Some f → TellsOfTokens f ts None
+      opened : (begins : Bool) → (if begins then setup_fault ts else Some kinds.NoSetup) ≡ Some f → TellsOfTokens f ts None
       opened true e = setup_tells f e
       opened false e = subst (λ kind. TellsOfTokens kind ts None) (same_Some kinds.NoSetup f e) tt
-  tokens_tell remark (Some script) f first = behind (begins_setup (map held ts)) (commands_fault names room (map held ts)) refl first
+  tokens_tell remark (Some script) f first = behind (begins_setup ts) (commands_fault names room ts) refl first
     where
       names : List (List ℕ)
       names = script_tables script
@@ -198,7 +195,7 @@ module _ (ts : List Token) where
       room : ℕ
       room = max_commands - length script.lines
 
-      behind : (begins : Bool) (found : Option ScriptFaultKind) → commands_fault names room (map held ts) ≡ found
+      behind : (begins : Bool) (found : Option ScriptFaultKind) → commands_fault names room ts ≡ found
           → (if begins then Some kinds.SetupRepeated else option_or found (remark_fault remark)) ≡ Some f → TellsOfTokens f ts (Some script)
       behind true found is e = subst (λ kind. TellsOfTokens kind ts (Some script)) (same_Some kinds.SetupRepeated f e) tt
       behind false (Some kind) is e = commands_tell script names room f (is ∙ e)
@@ -213,7 +210,7 @@ line_tells number line before f first = chosen (is_over number line) (is_ascii_c
     ts = tokens (code_of line)
 
     chosen : (over ascii passed : Bool)
-        → (if over then Some kinds.TooLong else if not ascii then Some kinds.NotAscii else if passed then None else tokens_fault (map held ts) (remark_of line) before) ≡ Some f
+        → (if over then Some kinds.TooLong else if not ascii then Some kinds.NotAscii else if passed then None else tokens_fault ts (remark_of line) before) ≡ Some f
         → over ≡ false → TellsOfTokens f ts before
     chosen true ascii passed e isnt = absurd (true≢false isnt)
     chosen false false passed e isnt = subst (λ kind. TellsOfTokens kind ts before) (same_Some kinds.NotAscii f e) tt

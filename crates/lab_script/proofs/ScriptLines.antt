@@ -16,9 +16,7 @@ use Rattle.lab_statement.specs.Text.{code_of, remark_of, is_code_byte}
 use Rattle.lab_script.specs.Script.{is_passed, IsFit, begins_setup, extended, LineSpells, LinesSpell, session_of, TokensSpell, Spells}
 use Rattle.lab_script.proofs.ReadCommands.{commands_once, not_empty}
 use Rattle.lab_script.proofs.ReadSetup.{setup_once, setup_begins, setup_short}
-use Rattle.lab_statement.specs.HeldTokens.{held_tokens}
 use Rattle.lab_script.specs.Fault.{is_over}
-use Rattle.lab_script.proofs.HeldTokens.{held_setup, held_commands}
 use Rattle.lab_statement.specs.Each.{Each}
 use Rattle.lab_statement.specs.Limits.{CommandPrints}
 use Rattle.lab_statement.proofs.ShallowStatements.{statement_shallow}
@@ -112,17 +110,17 @@ module _ (number : ℕ) (line : List ℕ) {code remark : List ℕ} (within : is_
     pub blank_line : (before : Option Script) → list_all is_blank code ≡ true → LineSpells number line before before
     blank_line before blank = script.passed before fit (ap (list_all is_blank) (sym code_is) ∙ blank)
 
-    module _ {ts : List Token} (of_code : ts ≡ held_tokens code) where
-      of_line : ts ≡ held_tokens (code_of line)
-      of_line = of_code ∙ ap held_tokens code_is
+    module _ {ts : List Token} (of_code : ts ≡ tokens code) where
+      of_line : ts ≡ tokens (code_of line)
+      of_line = of_code ∙ ap tokens code_is
 
       -- a line spells what its tokens spell
       pub tokens_line : (before after : Option Script) → TokensSpell number ts remark before after → LineSpells number line before after
       tokens_line None after (table, is, small, e) =
-          subst (LineSpells number line None) (sym e) (script.setup fit (held_setup _ table (subst (λ us. IsSetup us table) of_line is)) small)
+          subst (LineSpells number line None) (sym e) (script.setup fit (subst (λ us. IsSetup us table) of_line is) small)
       tokens_line (Some before) after (cs, session, is, named, room, small, e) =
           subst (LineSpells number line (Some before)) (sym e)
-          (script.commands before fit (held_commands _ cs (subst (λ us. IsCommands us cs) of_line is)) (ap session_of (sym remark_is) ∙ named) room small)
+          (script.commands before fit (subst (λ us. IsCommands us cs) of_line is) (ap session_of (sym remark_is) ∙ named) room small)
 
 command_prints : {ts : List Token} {cs : List Command} → IsCommand ts cs → Each CommandPrints cs
 command_prints (line_grammar.level t ts all) = tt

@@ -9,7 +9,6 @@ use Rattle.lab_statement.specs.declared.fault.ScriptFaultKind.TheVariants as kin
 use Rattle.lab_script.specs.declared.script.Script.{Script}
 use Rattle.lab_statement.specs.declared.token.Token.{Token}
 use Rattle.lab_script.specs.FirstFaults.{commands_fault, setup_fault}
-use Rattle.lab_statement.specs.HeldTokens.{held_tokens}
 use Rattle.lab_statement.specs.Token.{tokens}
 use Rattle.lab_statement.specs.Text.{code_of, remark_of, HasWhere}
 use Rattle.lab_script.specs.Script.{session_of, is_ascii_code, is_passed, begins_setup, BeginsLongSetup, LineSpells, LinesSpell}
@@ -25,7 +24,7 @@ is_over number line = nat_lt max_lines number || nat_lt max_line_bytes (length l
 abbrev pub remark_fault : List ℕ → Option ScriptFaultKind
 remark_fault remark = if is_some (session_of remark) then None else Some kinds.NoSession
 
--- The first fault from the left of the tokens of a line, as they are held, and of its remark, behind what the lines before it spell: of a setup where that is still to come,
+-- The first fault from the left of the tokens of a line and of its remark, behind what the lines before it spell: of a setup where that is still to come,
 -- else of commands for which there is room and which name few tables.
 abbrev pub tokens_fault : List Token → List ℕ → Option Script → Option ScriptFaultKind
 tokens_fault ts remark None = if begins_setup ts then setup_fault ts else Some kinds.NoSetup
@@ -38,7 +37,7 @@ first_fault number line before =
     if is_over number line then Some kinds.TooLong
     else if not (is_ascii_code line) then Some kinds.NotAscii
     else if is_passed line then None
-    else tokens_fault (held_tokens (code_of line)) (remark_of line) before
+    else tokens_fault (tokens (code_of line)) (remark_of line) before
 
 -- what else this kind of fault tells of the tokens of a line, behind what the lines before it spell
 abbrev pub TellsOfTokens : ScriptFaultKind → List Token → Option Script → Type 0

@@ -15,7 +15,7 @@ use Rattle.lab_statement.proofs.ReadStatements.{whole_takes, whole_again}
 use Rattle.lab_statement.specs.declared.fault.Refusal.{Refusal}
 use Rattle.lab_statement.specs.declared.fault.Refusal.TheVariants as refusal
 use Rattle.lab_statement.specs.Fault.{refusal_at, IsFirstInText}
-use Rattle.lab_statement.specs.HeldTokens.{AreStatementTokens}
+use Rattle.lab_statement.specs.Text.{AreStatementTokens}
 
 -- a reading has no fault exactly where it has a value that has none
 module _ {X : Type 0} (of : X → Option ScriptFaultKind) (placed : ScriptFaultKind → ℕ → ScriptFaultKind) where

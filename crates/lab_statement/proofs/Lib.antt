@@ -14,7 +14,7 @@ pub mod AtomParts
 pub mod ReadPredicates
 pub mod ReadStatements
 pub mod Remarks
-pub mod HeldTokens
+mod KnownTokens
 pub mod StatementText
 pub mod PrintedText
 pub mod PrintedNumbers

@@ -8,8 +8,7 @@ use Rattle.lab_statement.specs.declared.fault.ScriptFaultKind.TheVariants as kin
 use Rattle.lab_statement.specs.declared.token.Token.{Token}
 use Rattle.lab_statement.specs.Fault.{SaysOfStatement, IsStatementFault, IsFirstInText}
 use Rattle.lab_statement.specs.FirstFaults.{statement_fault}
-use Rattle.lab_statement.specs.HeldTokens.{AreStatementTokens}
-use Rattle.lab_statement.specs.Text.{is_code_byte}
+use Rattle.lab_statement.specs.Text.{AreStatementTokens, is_code_byte}
 use Rattle.std.proofs.lemmas.Option.{same_Some}
 
 module _ (text : List ℕ) where

@@ -11,12 +11,11 @@ use Rattle.lab_statement.specs.declared.token.Token.TheVariants as token
 use Rattle.lab_statement.specs.Token.{tokens}
 use Rattle.lab_statement.specs.Fault.{SaysOfStatement, IsStatementFault, refusal_at}
 use Rattle.lab_statement.specs.Grammar.{IsWholeStatement}
-use Rattle.lab_statement.specs.HeldTokens.{held_tokens, AreStatementTokens}
-use Rattle.lab_statement.specs.Text.{begins_remark, code_of, is_code_byte, HasWhere, BeginsLongStatement, SpellsStatement}
+use Rattle.lab_statement.specs.Text.{AreStatementTokens, begins_remark, code_of, is_code_byte, HasWhere, BeginsLongStatement, SpellsStatement}
 use Rattle.lab_statement.specs.FirstFaults.{statement_fault, StopsFirst}
 use Rattle.lab_statement.proofs.GrammarFaults.{no_statement_fault}
 use Rattle.lab_statement.proofs.FaultKinds.{statement_kinds}
-use Rattle.lab_statement.proofs.HeldTokens.{closed_known, held_whole, whole_held, held_where, held_long_statement, long_before_last}
+use Rattle.lab_statement.proofs.KnownTokens.{closed_known, long_before_last}
 use Rattle.lab_statement.proofs.Wheres.{where_before_last}
 
 -- code that is as long as the text is the text
@@ -35,17 +34,17 @@ all_code (b ∷ bytes) within =
     ]
 
 -- the tokens of a text that is all code, and of one that isn't
-pub code_tokens : (text code : List ℕ) {ts found : List Token} → code ≡ code_of text → length text ≤ length code → ts ≡ found → found ≡ held_tokens code → AreStatementTokens text ts
+pub code_tokens : (text code : List ℕ) {ts found : List Token} → code ≡ code_of text → length text ≤ length code → ts ≡ found → found ≡ tokens code → AreStatementTokens text ts
 code_tokens text code is within same found =
     let all : code_of text ≡ text = all_code text (subst (λ (c : List ℕ). length text ≤ length c) is within) in
-    inl (all, same ∙ found ∙ ap held_tokens (is ∙ all))
+    inl (all, same ∙ found ∙ ap tokens (is ∙ all))
 
-pub remark_tokens : (text code : List ℕ) {ts found : List Token} → code ≡ code_of text → length code < length text → ts ≡ found ++ token.Unknown ∷ [] → found ≡ held_tokens code
+pub remark_tokens : (text code : List ℕ) {ts found : List Token} → code ≡ code_of text → length code < length text → ts ≡ found ++ token.Unknown ∷ [] → found ≡ tokens code
     → AreStatementTokens text ts
 remark_tokens text code is shorter same found =
     inr (
       λ all. let len : length code ≡ length text = ap length (is ∙ all) in absurd (omega arith),
-      same ∙ ap (λ (t : List Token). t ++ token.Unknown ∷ []) (found ∙ ap held_tokens is),
+      same ∙ ap (λ (t : List Token). t ++ token.Unknown ∷ []) (found ∙ ap tokens is),
     )
 
 module _ (text : List ℕ) (ts : List Token) (are : AreStatementTokens text ts) (short : length text ≤ 4000) (ascii : list_all is_code_byte text ≡ true) where
@@ -53,21 +52,21 @@ module _ (text : List ℕ) (ts : List Token) (are : AreStatementTokens text ts) 
   pub text_spells : (s : Statement) → IsWholeStatement ts s → SpellsStatement text s
   text_spells s closed =
       ⊎_elim
-      (λ (all : _). let whole = held_whole (tokens text) s (subst (λ (t : List Token). IsWholeStatement t s) all.1 closed) in record {
+      (λ (all : _). let whole = subst (λ (t : List Token). IsWholeStatement t s) all.1 closed in record {
         bytes = short;
         ascii = ascii;
         no_remark = all.0;
         parts = whole.parts;
         printed = whole.printed;
       })
-      (λ (cut : _). absurd (closed_known (held_tokens (code_of text)) s (subst (λ (t : List Token). IsWholeStatement t s) cut.1 closed)))
+      (λ (cut : _). absurd (closed_known (tokens (code_of text)) s (subst (λ (t : List Token). IsWholeStatement t s) cut.1 closed)))
       are
 
   -- what the text spells, these tokens spell
   spelled_tokens : (s : Statement) → SpellsStatement text s → IsWholeStatement ts s
   spelled_tokens s spells =
       ⊎_elim
-      (λ (all : _). subst (λ (t : List Token). IsWholeStatement t s) (sym all.1) (whole_held (tokens text) s (record { parts = spells.parts; printed = spells.printed })))
+      (λ (all : _). subst (λ (t : List Token). IsWholeStatement t s) (sym all.1) (record { parts = spells.parts; printed = spells.printed }))
       (λ (cut : _). absurd (cut.0 spells.no_remark))
       are
 
@@ -75,16 +74,16 @@ module _ (text : List ℕ) (ts : List Token) (are : AreStatementTokens text ts) 
   where_of : HasWhere ts → HasWhere (tokens (code_of text))
   where_of has =
       ⊎_elim
-      (λ (all : _). held_where (tokens (code_of text)) (subst HasWhere (all.1 ∙ ap held_tokens (sym all.0)) has))
-      (λ (cut : _). held_where (tokens (code_of text)) (where_before_last (held_tokens (code_of text)) has.0 has.1 (sym cut.1 ∙ has.2)))
+      (λ (all : _). subst HasWhere (all.1 ∙ ap tokens (sym all.0)) has)
+      (λ (cut : _). where_before_last (tokens (code_of text)) has.0 has.1 (sym cut.1 ∙ has.2))
       are
 
   -- and a statement with which they begin
   long_of : BeginsLongStatement ts → BeginsLongStatement (tokens (code_of text))
   long_of long =
       ⊎_elim
-      (λ (all : _). held_long_statement (tokens (code_of text)) (subst BeginsLongStatement (all.1 ∙ ap held_tokens (sym all.0)) long))
-      (λ (cut : _). held_long_statement (tokens (code_of text)) (long_before_last (held_tokens (code_of text)) (subst BeginsLongStatement cut.1 long)))
+      (λ (all : _). subst BeginsLongStatement (all.1 ∙ ap tokens (sym all.0)) long)
+      (λ (cut : _). long_before_last (tokens (code_of text)) (subst BeginsLongStatement cut.1 long))
       are
 
   -- where reading these tokens stopped, the text spells nothing

@@ -11,9 +11,8 @@ use Rattle.lab_statement.specs.declared.fault.Refusal.{Refusal}
 use Rattle.lab_statement.specs.declared.fault.Refusal.TheVariants as refusal
 use Rattle.lab_statement.specs.declared.token.Token.{Token}
 use Rattle.lab_statement.specs.FirstFaults.{statement_fault}
-use Rattle.lab_statement.specs.HeldTokens.{AreStatementTokens}
 use Rattle.lab_statement.specs.Token.{tokens}
-use Rattle.lab_statement.specs.Text.{code_of, is_code_byte, HasWhere, BeginsLongStatement, SpellsStatement}
+use Rattle.lab_statement.specs.Text.{AreStatementTokens, code_of, is_code_byte, HasWhere, BeginsLongStatement, SpellsStatement}
 use Rattle.lab_statement.specs.Printed.{newline}
 use Rattle.lab_statement.specs.Limits.{max_line_bytes}
 
@@ -39,7 +38,7 @@ abbrev pub refusal_at : Refusal → ℕ → ScriptFault
 refusal_at refusal.NoMemory number = fault.NoMemory
 refusal_at (refusal.Fault kind) number = fault.At number kind
 
--- in the text of one statement, that is short enough and code, the fault is the first from the left of its tokens, as they are held
+-- in the text of one statement, that is short enough and code, the fault is the first from the left of its tokens
 abbrev pub IsFirstInText : List ℕ → ScriptFault → Type 0
 IsFirstInText text fault.NoMemory = Unit {0}
 IsFirstInText text (fault.At line kind) = length text ≤ max_line_bytes → list_all is_code_byte text ≡ true → (ts : List Token) × AreStatementTokens text ts × (statement_fault ts ≡ Some kind)

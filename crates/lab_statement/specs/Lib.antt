@@ -7,7 +7,6 @@ pub mod Limits
 pub mod Each
 pub mod Ranges
 pub mod Text
-pub mod HeldTokens
 pub mod Fault
 pub mod Reading
 pub mod StatementText

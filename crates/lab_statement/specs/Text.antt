@@ -1,5 +1,5 @@
 -- Which text spells a statement.
-use Rattle.std.specs.Prelude.{◌≡◌, ℕ, ◌≤◌, ◌<◌, Bool, true, false, ◌&&◌, ◌||◌, ◌==◌, nat_le, if◌then◌else◌, List, [], ◌∷◌, ◌++◌, length, drop}
+use Rattle.std.specs.Prelude.{◌≡◌, ℕ, ◌≤◌, ◌<◌, ◌⊎◌, Bool, true, false, ◌&&◌, ◌||◌, ◌==◌, nat_le, if◌then◌else◌, List, [], ◌∷◌, ◌++◌, length, drop}
 use Rattle.std.specs.List.{list_all}
 use Rattle.lab_table.specs.declared.statement.Statement.{Statement}
 use Rattle.lab_table.specs.declared.word.Word.TheVariants as word
@@ -29,6 +29,12 @@ remark_of (b ∷ bytes) = if begins_remark (b ∷ bytes) then drop 1 bytes else 
 -- a tab or a byte that is printed
 abbrev pub is_code_byte : ℕ → Bool
 is_code_byte b = b == 9 || (nat_le 32 b && nat_le b 126)
+
+-- the tokens of a statement's text: those of its code, and one that is none where two dashes stand behind it
+abbrev pub AreStatementTokens : List ℕ → List Token → Type 0
+AreStatementTokens text ts =
+    ((code_of text ≡ text) × (ts ≡ tokens text))
+    ⊎ ((code_of text ≡ text → ⊥) × (ts ≡ tokens (code_of text) ++ token.Unknown ∷ []))
 
 -- whether a where stands among tokens
 abbrev pub HasWhere : List Token → Type 0

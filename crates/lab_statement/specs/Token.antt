@@ -1,5 +1,5 @@
 -- The tokens of a text: each is as long as it can be, and spaces and tabs only separate.
-use Rattle.std.specs.Prelude.{ℕ, ◌+◌, ◌-◌, ◌*◌, Bool, true, false, ◌||◌, ◌==◌, if◌then◌else◌, List, [], ◌∷◌, ◌++◌, Option, Some, None, is_some, option_map, unwrap_or}
+use Rattle.std.specs.Prelude.{ℕ, ◌+◌, ◌-◌, ◌*◌, Bool, true, false, ◌||◌, ◌==◌, if◌then◌else◌, List, [], ◌∷◌, ◌++◌, Option, Some, None, is_some, option_map, unwrap_or, min}
 use Rattle.std.specs.Char.{to_ascii_lowercase, is_ascii_alphabetic, is_ascii_digit}
 use Rattle.lab_table.specs.TableName.{is_table_name}
 use Rattle.lab_table.specs.Words.{word_named}
@@ -41,6 +41,10 @@ mark b =
     else if b == 45 then token.Minus
     else token.Unknown
 
+-- a number with one more digit, or one above the greatest number of any text
+abbrev pub with_digit : ℕ → ℕ → ℕ
+with_digit n b = min (10 * n + (b - 48)) 1000000001
+
 -- what has been read of a token: nothing between tokens, a word so far in lower case, or another token so far
 pub data Part : Type 0 where
   gap : Part
@@ -57,7 +61,7 @@ begun b =
 
 -- the longer token that a byte makes of one
 abbrev pub longer_token : Token → ℕ → Option Token
-longer_token (token.Digits n) b = if is_ascii_digit b then Some (token.Digits (10 * n + (b - 48))) else None
+longer_token (token.Digits n) b = if is_ascii_digit b then Some (token.Digits (with_digit n b)) else None
 longer_token token.Less b = if b == 62 then Some token.Unequal else if b == 61 then Some token.AtMost else None
 longer_token token.Greater b = if b == 61 then Some token.AtLeast else None
 longer_token t b = None

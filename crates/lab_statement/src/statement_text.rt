@@ -2,8 +2,7 @@
 
 ghost use Rattle.std.specs.Prelude.{◌≡◌, ◌≢◌, Some, None, IfOk, IfErr, MatchResult};
 ghost use Rattle.lab_table.specs.declared.statement.Statement.{Statement as Spelled};
-ghost use Rattle.lab_statement.specs.HeldTokens.{AreStatementTokens};
-ghost use Rattle.lab_statement.specs.Text.{SpellsStatement};
+ghost use Rattle.lab_statement.specs.Text.{AreStatementTokens, SpellsStatement};
 ghost use Rattle.lab_statement.specs.Fault.{IsFirstInText, IsStatementFault};
 ghost use Rattle.lab_statement.specs.StatementText.{statement_in};
 

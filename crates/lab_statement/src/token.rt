@@ -4,8 +4,7 @@ ghost use Rattle.std.specs.Prelude.{◌≡◌, ◌≤◌, ◌∷◌, [], length,
 ghost use Rattle.std.specs.List.{prefix_len};
 ghost use Rattle.std.specs.Char.{to_ascii_lowercase};
 ghost use Rattle.lab_statement.specs.declared.token.Token.TheVariants as token;
-ghost use Rattle.lab_statement.specs.Token.{letters, whole, is_letter, is_blank, is_word, word_token, mark};
-ghost use Rattle.lab_statement.specs.HeldTokens.{held_from, held_tokens};
+ghost use Rattle.lab_statement.specs.Token.{letters, whole, is_letter, is_blank, is_word, word_token, mark, tokens, tokens_from};
 
 use lab_table::{NoMemory, TableName, Word};
 use std::alloc::Global;
@@ -99,7 +98,7 @@ pub fn blanks_len(bytes: &[u8]) -> usize
 /// The word at the front, and what follows it.
 #[tactic(auto, using(crate::proofs::Tokens::letters_run))]
 fn word_at(bytes: &[u8]) -> (Token, &[u8])
-    ensures value { held_from (letters []) bytes.now ≡ result.0 ∷ held_tokens result.1.now }
+    ensures value { tokens_from (letters []) bytes.now ≡ result.0 ∷ tokens result.1.now }
     ensures within { length result.1.now ≤ length bytes.now }
 {
     let (text, rest) = bytes.split_at(letters_len(bytes));
@@ -110,7 +109,7 @@ fn word_at(bytes: &[u8]) -> (Token, &[u8])
 #[inline(always)]
 fn digits_at(number: u32, bytes: &[u8]) -> (u32, &[u8])
     requires { number ≤ 1000000001 }
-    ensures value { held_from (whole (token.Digits number)) bytes.now ≡ token.Digits result.0 ∷ held_tokens result.1.now }
+    ensures value { tokens_from (whole (token.Digits number)) bytes.now ≡ token.Digits result.0 ∷ tokens result.1.now }
     ensures within { length result.1.now ≤ length bytes.now }
 {
     let mut number = u64::from(number);
@@ -125,7 +124,7 @@ fn digits_at(number: u32, bytes: &[u8]) -> (u32, &[u8])
 
 /// The token that `<` begins, and what follows it.
 fn less_at(after: &[u8]) -> (Token, &[u8])
-    ensures value { held_from (whole token.Less) after.now ≡ result.0 ∷ held_tokens result.1.now }
+    ensures value { tokens_from (whole token.Less) after.now ≡ result.0 ∷ tokens result.1.now }
     ensures within { length result.1.now ≤ length after.now }
 {
     match after {
@@ -144,7 +143,7 @@ fn less_at(after: &[u8]) -> (Token, &[u8])
 
 /// The token that `>` begins, and what follows it.
 fn greater_at(after: &[u8]) -> (Token, &[u8])
-    ensures value { held_from (whole token.Greater) after.now ≡ result.0 ∷ held_tokens result.1.now }
+    ensures value { tokens_from (whole token.Greater) after.now ≡ result.0 ∷ tokens result.1.now }
     ensures within { length result.1.now ≤ length after.now }
 {
     match after {
@@ -175,7 +174,7 @@ fn mark_of(byte: u8) -> Token
 
 /// The mark that begins with this byte, and what follows it.
 fn mark_at(first: u8, after: &[u8]) -> (Token, &[u8])
-    ensures value { held_from (whole (mark first)) after.now ≡ result.0 ∷ held_tokens result.1.now }
+    ensures value { tokens_from (whole (mark first)) after.now ≡ result.0 ∷ tokens result.1.now }
     ensures within { length result.1.now ≤ length after.now }
 {
     if first == b'<' {
@@ -187,20 +186,19 @@ fn mark_at(first: u8, after: &[u8]) -> (Token, &[u8])
     }
 }
 
-/// The tokens of a text, with a number past every range as `TOO_LARGE`; NoMemory where an allocation was refused.
+/// The tokens of a text; NoMemory where an allocation was refused.
 pub fn tokens_of(alloc: Global, text: &[u8]) -> Result<Vec<Token>, NoMemory>
-    ensures { IfOk result (λ found. found.items ≡ held_tokens text.now) }
+    ensures { IfOk result (λ found. found.items ≡ tokens text.now) }
 {
     let mut found = Vec::new(alloc);
     tokens_into(&mut found, text)?;
     Ok(found)
 }
 
-/// Puts the tokens of a text, with a number past every range as `TOO_LARGE`, in place of what was found before;
-/// NoMemory where an allocation was refused.
+/// Puts the tokens of a text in place of what was found before; NoMemory where an allocation was refused.
 #[tactic(auto, using(crate::proofs::Tokens::comma_begins))]
 pub fn tokens_into(found: &mut Vec<Token>, text: &[u8]) -> Result<(), NoMemory>
-    ensures { OnOk result (found.new.items ≡ held_tokens text.now) }
+    ensures { OnOk result (found.new.items ≡ tokens text.now) }
 {
     found.clear();
     let mut rest = text;

@@ -1,6 +1,6 @@
 use Rattle.std.proofs.Common.{List, sym, subst, ◌∙◌}
 use Rattle.lab_statement.specs.declared.token.Token.{Token}
-use Rattle.lab_statement.specs.HeldTokens.{AreStatementTokens}
+use Rattle.lab_statement.specs.Text.{AreStatementTokens}
 use Rattle.lab_statement.specs.Fault.{IsStatementFault, IsFirstInText}
 use Rattle.lab_statement.proofs.GrammarFaults.{first_in_text}
 use Rattle.lab_statement.proofs.StatementText.{text_spells, stop_fault}

@@ -1,9 +1,9 @@
 use Rattle.std.proofs.Common.{◌≡◌, ◌++◌, ◌+◌, length}
-use Rattle.lab_statement.specs.HeldTokens.{held_tokens}
+use Rattle.lab_statement.specs.Token.{tokens}
 use Rattle.lab_statement.proofs.token.tokens_into.Given as goal
 
 abbrev pub invariant-loop-first : goal.invariant-loop-first
-invariant-loop-first l = l.found.items ++ held_tokens l.rest ≡ held_tokens l.fn.text
+invariant-loop-first l = l.found.items ++ tokens l.rest ≡ tokens l.fn.text
 
 abbrev pub decreases-loop-first : goal.decreases-loop-first
-decreases-loop-first l = length (held_tokens l.rest) + length l.rest
+decreases-loop-first l = length (tokens l.rest) + length l.rest
