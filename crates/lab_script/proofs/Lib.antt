@@ -1,4 +1,6 @@
 pub mod DistinctRows
+mod CommandsTaken
+mod SetupTaken
 pub mod ReadSetup
 pub mod ReadCommands
 pub mod Remarks

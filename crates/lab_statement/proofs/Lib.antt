@@ -8,7 +8,6 @@ pub mod ReadNumbers
 pub mod Joined
 pub mod Appended
 pub mod PutTexts
-pub mod ReadNames
 pub mod ReadRows
 pub mod AtomParts
 pub mod ReadPredicates

@@ -9,10 +9,6 @@ use Rattle.lab_statement.specs.declared.token.Token.TheVariants as token
 use Rattle.lab_statement.specs.Grammar.{IsNumber}
 use Rattle.lab_statement.specs.Grammar as grammar
 use Rattle.lab_statement.specs.Stopping.{Reads, Stops, digits_read, magnitude_read, number_read, positive_read}
-pub use Rattle.lab_statement.proofs.Takes.{Taken}
-
-pub under : (t : Token) (ts us : List Token) → ts ≡ us → t ∷ ts ≡ t ∷ us
-under t ts us e = ap (λ (r : List Token). t ∷ r) e
 
 pub magnitude_again : (n : ℕ) (rest : List Token) → n ≤ 1000000000 → magnitude_read (token.Digits n ∷ rest) ≡ Reads (n, rest)
 unfolding magnitude_read digits_read

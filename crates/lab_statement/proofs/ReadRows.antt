@@ -1,4 +1,4 @@
--- A row of a statement is read exactly where the grammar has one.
+-- A row of the grammar is read.
 use Rattle.std.proofs.Common.{◌≡◌, ℕ, List, [], ◌∷◌, ◌++◌, refl, ◌∙◌, append_assoc}
 use Rattle.std.specs.Prelude.{ℤ}
 use Rattle.lab_statement.specs.declared.token.Token.{Token}
@@ -6,9 +6,7 @@ use Rattle.lab_statement.specs.declared.token.Token.TheVariants as token
 use Rattle.lab_statement.specs.Grammar.{IsId, IsRow}
 use Rattle.lab_statement.specs.Grammar as grammar
 use Rattle.lab_statement.specs.Stopping.{Reads, positive_read, row_read}
-use Rattle.lab_statement.proofs.Takes.{Any, taken_of}
-use Rattle.lab_statement.proofs.StatementTaken.{row_taken}
-use Rattle.lab_statement.proofs.ReadNumbers.{Taken, number_again, positive_again}
+use Rattle.lab_statement.proofs.ReadNumbers.{number_again, positive_again}
 
 -- an id of the grammar is read, whatever follows it
 id_again : {ts : List Token} {id : ℕ} → IsId ts id → (rest : List Token) → positive_read 999999 (ts ++ rest) ≡ Reads (id, rest)
@@ -22,11 +20,3 @@ parts_of is vs rest = append_assoc (is ++ token.Comma ∷ vs) (token.Close ∷ [
 pub row_again : {ts : List Token} {id : ℕ} {value : ℤ} → IsRow ts id value → (rest : List Token) → row_read (ts ++ rest) ≡ Reads ((id, value), rest)
 unfolding row_read
 row_again (grammar.row {is} {vs} i v) rest = rw (parts_of is vs rest, id_again i (token.Comma ∷ (vs ++ token.Close ∷ rest)), number_again v (token.Close ∷ rest)) refl
-
--- a row at the front, and what is left
-abbrev pub RowTaken : List Token → (ℕ × ℤ) × List Token → Type 0
-RowTaken ts x = Taken (λ front row. IsRow front row.0 row.1) ts x
-
--- what is read as a row is one of the grammar
-pub row_takes : (ts : List Token) (x : (ℕ × ℤ) × List Token) → row_read ts ≡ Reads x → RowTaken ts x
-row_takes ts x e = taken_of x (row_taken {Fault = Any} tt tt tt ts) e

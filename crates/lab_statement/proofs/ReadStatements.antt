@@ -1,6 +1,6 @@
 -- Statements of the grammar are read, and what is read is one.
 use Rattle.std.proofs.Common.{◌≡◌, ◌≤◌, List, [], ◌∷◌, ◌++◌, length, None, refl, append_assoc}
-use Rattle.std.specs.Prelude.{ℤ, ◌⊎◌}
+use Rattle.std.specs.Prelude.{ℤ}
 use Rattle.std.proofs.lemmas.Bool.{le-leb}
 use Rattle.lab_table.specs.declared.statement.Statement.{Statement}
 use Rattle.lab_table.specs.declared.statement.Expr.{Expr}
@@ -13,9 +13,9 @@ use Rattle.lab_statement.specs.Printed.{printed_statement}
 use Rattle.lab_statement.specs.Reading.{after}
 use Rattle.lab_statement.specs.Stopping.{Reads, name_read}
 use Rattle.lab_statement.specs.FirstFaults.{expr_read, select_read, update_read, insert_read, delete_read, statement_read, end_read, whole_statement_read}
-use Rattle.lab_statement.proofs.Takes.{Any, gives_of, taken_of}
-use Rattle.lab_statement.proofs.StatementTaken.{statement_taken, end_gives, whole_gives}
-use Rattle.lab_statement.proofs.ReadNumbers.{Taken, number_again}
+use Rattle.lab_statement.proofs.Takes.{Any, gives_of}
+use Rattle.lab_statement.proofs.StatementTaken.{whole_gives}
+use Rattle.lab_statement.proofs.ReadNumbers.{number_again}
 use Rattle.lab_statement.proofs.ReadRows.{row_again}
 use Rattle.lab_statement.proofs.ReadPredicates.{IsUnjoined, where_again}
 
@@ -41,10 +41,6 @@ statement_again (grammar.update {es} {ts} table g h) rest none = rw (append_asso
 statement_again (grammar.insert table h) rest none = rw (row_again h rest) refl
 statement_again (grammar.delete table h) rest none = rw (where_again h rest none) refl
 
--- what is read as a statement is one of the grammar
-pub statement_takes : (ts : List Token) (x : Statement × List Token) → statement_read ts ≡ Reads x → Taken IsStatement ts x
-statement_takes ts x e = taken_of x (statement_taken {Fault = Any} tt tt tt tt ts) e
-
 -- the end of a statement
 
 -- what may stand behind a statement: nothing, or a semicolon
@@ -64,10 +60,6 @@ pub ended_again : {end : List Token} → IsEnd end → end_read end ≡ Reads []
 unfolding end_read
 ended_again grammar.open_end = refl
 ended_again grammar.semicolon = refl
-
--- an end that was read is nothing, or a semicolon before what is left
-pub ended_is : (ts rest : List Token) → end_read ts ≡ Reads rest → ((ts ≡ []) × (rest ≡ [])) ⊎ (ts ≡ token.Semicolon ∷ rest)
-ended_is ts rest e = gives_of rest (end_gives {Fault = Any} tt tt tt tt ts) e
 
 -- one statement, and nothing else
 

@@ -18,10 +18,6 @@ pub record Front {X : Type 0} (Is : List Token → X → Type 0) (ts : List Toke
   pub text : ts ≡ front ++ x.1
   pub is : Is front x.0
 
--- the same as a tuple
-abbrev pub Taken : {X : Type 0} → (List Token → X → Type 0) → List Token → X × List Token → Type 0
-Taken Is ts x = (front : List Token) × (ts ≡ front ++ x.1) × Is front x.0
-
 -- what is read is such a front
 abbrev pub Takes : {X : Type 0} → (ScriptFaultKind → Type 0) → (List Token → X → Type 0) → List Token → Reading (X × List Token) → Type 0
 Takes Fault Is ts r = Gives Fault (Front Is ts) r
@@ -40,9 +36,6 @@ module _ {Fault : ScriptFaultKind → Type 0} where
   stop_of kind left (gives h) is = absurd cc
   stop_of kind left (stops {kind = other} h) is = let same : other ≡ kind = cc in subst Fault same h
 
-  pub taken_of : {X : Type 0} {Is : List Token → X → Type 0} {ts : List Token} {r : Reading (X × List Token)} (x : X × List Token) → Takes Fault Is ts r → r ≡ Reads x → Taken Is ts x
-  taken_of x h is = let at = gives_of x h is in (at.front, at.text, at.is)
-
   -- what each value is, said otherwise
   pub each_gives : {X : Type 0} {P Q : X → Type 0} {r : Reading X} → Gives Fault P r → ((x : X) → P x → Q x) → Gives Fault Q r
   each_gives (gives {x} h) more = gives (more x h)
@@ -57,6 +50,15 @@ module _ {Fault : ScriptFaultKind → Type 0} where
   if_gives true holds fails = holds refl
   if_gives false holds fails = fails refl
 
+  -- a token that may be found
+  pub found_gives : {A : Type 0} {Q : A → Type 0} (t : Token) (ts : List Token) (one : List Token → Reading A) (other : Reading A) → ((rest : List Token) → ts ≡ t ∷ rest → Gives Fault Q (one rest)) → Gives Fault Q other
+      → Gives Fault Q (if_found (after t ts) one other)
+  found_gives {A} {Q} t ts one other there instead = choose (after t ts) refl
+    where
+      choose : (o : Option (List Token)) → after t ts ≡ o → Gives Fault Q (if_found o one other)
+      choose (Some rest) is = there rest (after_is t ts rest is)
+      choose None is = instead
+
   module _ {X : Type 0} {To : List Token → X → Type 0} where
     pub taken : {ts rest : List Token} {x : X} (front : List Token) → ts ≡ front ++ rest → To front x → Takes Fault To ts (Reads (x, rest))
     taken front text is = gives (record { front = front; text = text; is = is })
@@ -65,7 +67,7 @@ module _ {Fault : ScriptFaultKind → Type 0} where
     each_taken h more = each_gives h (λ x h. record { front = h.front; text = h.text; is = more h.front x.0 h.is })
 
     -- what is taken behind a front is taken with it
-    further : {ts rest : List Token} {r : Reading (X × List Token)} (front : List Token) → ts ≡ front ++ rest → Takes Fault (λ back. To (front ++ back)) rest r → Takes Fault To ts r
+    pub further : {ts rest : List Token} {r : Reading (X × List Token)} (front : List Token) → ts ≡ front ++ rest → Takes Fault (λ back. To (front ++ back)) rest r → Takes Fault To ts r
     further front text h =
         each_gives h (λ x h. record { front = front ++ h.front; text = text ∙ ap (λ (us : List Token). front ++ us) h.text ∙ sym (append_assoc front h.front x.1); is = h.is })
 
@@ -83,23 +85,15 @@ module _ {Fault : ScriptFaultKind → Type 0} where
         → Takes Fault To ts (r >>= λ x. Reads (g x.0, x.1))
     made g h next = then_gives _ h (λ x h. taken h.front h.text (next x.0 h.front h.is))
 
-    -- a token that may be found
+    -- the same of what is taken
     pub found : (t : Token) (ts : List Token) (one : List Token → Reading (X × List Token)) (other : Reading (X × List Token)) → ((rest : List Token) → Takes Fault (λ back. To (t ∷ back)) rest (one rest))
         → Takes Fault To ts other → Takes Fault To ts (if_found (after t ts) one other)
-    found t ts one other there instead = choose (after t ts) refl
-      where
-        choose : (o : Option (List Token)) → after t ts ≡ o → Takes Fault To ts (if_found o one other)
-        choose (Some rest) is = further (t ∷ []) (after_is t ts rest is) (there rest)
-        choose None is = instead
+    found t ts one other there instead = found_gives t ts one other (λ rest is. further (t ∷ []) is (there rest)) instead
 
   -- tokens that must be the first
   module _ (unknown : Fault UnknownStatement) where
     pub token_gives : (t : Token) (ts : List Token) → Gives Fault (λ rest. ts ≡ t ∷ rest) (token_read t ts)
-    token_gives t ts = choose (after t ts) refl
-      where
-        choose : (o : Option (List Token)) → after t ts ≡ o → Gives Fault (λ rest. ts ≡ t ∷ rest) (if_found o (λ rest. Reads rest) (Stops UnknownStatement ts))
-        choose (Some rest) is = gives (after_is t ts rest is)
-        choose None is = stops unknown
+    token_gives t ts = found_gives t ts _ _ (λ rest is. gives is) (stops unknown)
 
     pub tokens_give : (us ts : List Token) → Gives Fault (λ rest. ts ≡ us ++ rest) (tokens_read us ts)
     tokens_give [] ts = gives refl

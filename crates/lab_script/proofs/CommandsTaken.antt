@@ -1,0 +1,131 @@
+-- What is read as the commands of a line is in the grammar, and reading stops with few kinds of faults.
+use Rattle.std.proofs.Common.{◌≡◌, ◌⊎◌, ℕ, zero, suc, ◌≤◌, ◌<◌, true, List, [], ◌∷◌, ◌++◌, length, take, Option, Some, None, refl, sym, ap, subst, ◌∙◌, length-append, one-add, arith, inl, inr, append_assoc, append-nil}
+use Rattle.std.specs.Prelude.{nat_lt}
+use Rattle.std.specs.List.{list_all, prefix_len}
+use Rattle.std.proofs.lemmas.List.{take-append-drop}
+use Rattle.std.proofs.lemmas.Bool.{and_from, cases_Bool, leb-true, ltb-true}
+use Rattle.lab_table.specs.declared.statement.Command.{Command}
+use Rattle.lab_table.specs.declared.statement.Command.TheVariants as command
+use Rattle.lab_table.specs.declared.word.Word.TheVariants as word
+use Rattle.lab_statement.specs.declared.token.Token.{Token}
+use Rattle.lab_statement.specs.declared.token.Token.TheVariants as token
+use Rattle.lab_statement.specs.declared.fault.ScriptFaultKind.{ScriptFaultKind}
+use Rattle.lab_statement.specs.declared.fault.ScriptFaultKind.TheVariants as kinds
+use Rattle.lab_statement.specs.Stopping.{Reads, if_found}
+use Rattle.lab_statement.specs.FirstFaults.{is_short}
+use Rattle.lab_statement.specs.Token.{is_word}
+use Rattle.lab_script.specs.FirstFaults.{words_read, level_read, command_read, terminated_read, one_added, step_read, repeated_read, some_left, commands_read}
+use Rattle.lab_script.specs.Grammar.{IsCommand, IsCommands}
+use Rattle.lab_script.specs.Grammar as grammar
+use Rattle.lab_statement.specs.Grammar as statement
+use Rattle.lab_statement.proofs.Takes.{Gives, gives, stops, Takes, Any, gives_of, then_gives, each_gives, if_gives, taken, made, found, tokens_give}
+use Rattle.lab_statement.proofs.StatementTaken.{statement_taken, end_gives}
+
+-- the tokens at the front, as far as they are words, are all words
+words_all : (ts : List Token) → list_all is_word (take (prefix_len is_word ts) ts) ≡ true
+words_all [] = refl
+words_all (t ∷ ts) = elim (cases_Bool (is_word t)) [
+  | inl is ↦ rw (is, one-add (prefix_len is_word ts)) (and_from (is_word t) _ is (words_all ts))
+  | inr isnt ↦ rw isnt refl
+]
+
+-- the command that a statement gives, if any, as a list
+abbrev pub listed : Option Command → List Command
+listed None = []
+listed (Some c) = c ∷ []
+
+-- words behind these tokens, at least one
+abbrev Worded : List Token → List Token → List Token → Type 0
+Worded front ts rest = (w : Token) × (ws : List Token) × (ts ≡ front ++ w ∷ ws ++ rest) × (list_all is_word (w ∷ ws) ≡ true)
+
+-- a statement at the front, and its end
+abbrev Closed : List Token → List Command → List Token → Type 0
+Closed ts cs rest = (front end : List Token) × (ts ≡ front ++ end) × IsCommand front cs × (((end ≡ []) × (rest ≡ [])) ⊎ (end ≡ token.Semicolon ∷ rest))
+
+-- the commands of a statement behind others, for which there is room
+abbrev Stepped : ℕ → List Command → List Token → List Command × List Token → Type 0
+Stepped room before ts x = (cs : List Command) × Closed ts cs x.1 × (before ++ cs ≡ x.0) × (length before ≤ room → length x.0 ≤ room)
+
+-- the commands of all statements, behind others
+abbrev AllStepped : ℕ → List Command → List Token → List Command × List Token → Type 0
+AllStepped room before ts x = ((cs : List Command) × IsCommands ts cs × (before ++ cs ≡ x.0)) × (length x.0 ≤ room)
+
+closed_last : (ts : List Token) (cs : List Command) (rest : List Token) → rest ≡ [] → Closed ts cs rest → IsCommands ts cs
+closed_last ts cs rest none (front, end, is, h, inl both) = subst (λ (us : List Token). IsCommands us cs) (sym (is ∙ ap (λ (us : List Token). front ++ us) both.0 ∙ append-nil front)) (grammar.one h)
+closed_last ts cs rest none (front, end, is, h, inr closed) =
+    subst (λ (us : List Token). IsCommands us cs) (sym (is ∙ ap (λ (us : List Token). front ++ us) closed ∙ ap (λ (us : List Token). front ++ token.Semicolon ∷ us) none)) (grammar.closed h)
+
+closed_more : (ts : List Token) (cs ds : List Command) (t : Token) (others : List Token) → Closed ts cs (t ∷ others) → IsCommands (t ∷ others) ds → IsCommands ts (cs ++ ds)
+closed_more ts cs ds t others (front, end, is, h, inl both) hs = absurd (cc both.1)
+closed_more ts cs ds t others (front, end, is, h, inr closed) hs = subst (λ (us : List Token). IsCommands us (cs ++ ds)) (sym (is ∙ ap (λ (us : List Token). front ++ us) closed)) (grammar.more h hs)
+
+-- a command is at least one token
+pub command_long : {ts : List Token} {cs : List Command} → IsCommand ts cs → 1 ≤ length ts
+command_long (grammar.run (statement.select table h) le) = omega arith
+command_long h = omega arith
+
+closed_short : (ts : List Token) (cs : List Command) (rest : List Token) → Closed ts cs rest → length rest < length ts
+closed_short ts cs rest (front, end, is, h, inl both) = omega (arith, ap length is, length-append front end, command_long h, ap length both.1)
+closed_short ts cs rest (front, end, is, h, inr closed) = omega (arith, ap length is, length-append front end, command_long h, ap length closed)
+
+module _ {Fault : ScriptFaultKind → Type 0} (unknown : Fault kinds.UnknownStatement) (name : Fault kinds.BadTableName) (range : Fault kinds.NumberOutOfRange) (deep : Fault kinds.TooDeep)
+    (long : Fault kinds.TooLong) where
+  words_give : (ts : List Token) → Gives Fault (Worded [] ts) (words_read ts)
+  unfolding words_read
+  words_give [] = stops unknown
+  words_give (t ∷ ts) =
+      let n = prefix_len is_word ts in
+      if_gives (is_word t) (λ is. gives (t, take n ts, ap (λ (us : List Token). t ∷ us) (sym (take-append-drop n ts)), and_from (is_word t) _ is (words_all ts))) (λ not. stops unknown)
+
+  level_gives : (ts : List Token) → Gives Fault (Worded (token.Word word.Transaction ∷ token.Word word.Isolation ∷ token.Word word.Level ∷ []) ts) (level_read ts)
+  unfolding level_read
+  level_gives ts = then_gives _ (tokens_give unknown (token.Word word.Transaction ∷ token.Word word.Isolation ∷ token.Word word.Level ∷ []) ts) (λ rest is.
+      each_gives (words_give rest) (λ left w. (w.0, w.1, is ∙ ap (λ (us : List Token). token.Word word.Transaction ∷ token.Word word.Isolation ∷ token.Word word.Level ∷ us) w.2, w.3)))
+
+  command_taken : (ts : List Token) → Takes Fault (λ front c. is_short c ≡ true → IsCommand front (listed c)) ts (command_read ts)
+  unfolding command_read
+  command_taken ts = found (token.Word word.Begin) ts _ _ (λ rest. taken [] refl (λ short. grammar.begin))
+      (found (token.Word word.Commit) ts _ _ (λ rest. taken [] refl (λ short. grammar.commit))
+      (found (token.Word word.Abort) ts _ _ (λ rest. taken [] refl (λ short. grammar.abort))
+      (found (token.Word word.Rollback) ts _ _ (λ rest. taken [] refl (λ short. grammar.rollback))
+      (found (token.Word word.Set) ts _ _ (λ rest. then_gives _ (level_gives rest) (λ left w.
+      taken (token.Word word.Transaction ∷ token.Word word.Isolation ∷ token.Word word.Level ∷ w.0 ∷ w.1) w.2 (λ short. grammar.level w.0 w.1 w.3)))
+      (made (λ s. Some (command.Run s)) (statement_taken unknown name range deep ts) (λ s front is short. grammar.run is (leb-true _ _ short)))))))
+
+  terminated_gives : (ts : List Token) → Gives Fault (λ x. Closed ts (listed x.0) x.1) (terminated_read ts)
+  unfolding terminated_read
+  terminated_gives ts = then_gives _ (command_taken ts) (λ c h. then_gives _ (end_gives unknown name range deep c.1) (λ rest end.
+      if_gives (is_short c.0) (λ short. gives (h.front, c.1, h.text, h.is short, end)) (λ not. stops long)))
+
+  added_gives : (room : ℕ) (before : List Command) (c : Option Command) (left : List Token)
+      → Gives Fault (λ ds. (before ++ listed c ≡ ds) × (length before ≤ room → length ds ≤ room)) (one_added room before c left)
+  added_gives room before None left = gives (append-nil before, λ le. le)
+  added_gives room before (Some c) left =
+      if_gives (nat_lt (length before) room)
+      (λ lt. let less : length before < room = ltb-true _ _ lt in gives (refl, λ le. omega (arith, less, length-append before (c ∷ []))))
+      (λ not. stops long)
+
+  step_gives : (room : ℕ) (before : List Command) (ts : List Token) → Gives Fault (Stepped room before ts) (step_read room before ts)
+  unfolding step_read
+  step_gives room before ts = then_gives _ (terminated_gives ts) (λ c h. then_gives _ (added_gives room before c.0 c.1) (λ ds d. gives (listed c.0, h, d.0, d.1)))
+
+  all_give : (k room : ℕ) (before : List Command) (ts : List Token) → length before ≤ room → Gives Fault (AllStepped room before ts) (repeated_read k (step_read room) some_left before ts)
+  unfolding repeated_read
+  all_give zero room before ts le = stops unknown
+  all_give (suc k) room before ts le = then_gives _ (step_gives room before ts) (on (all_give k room))
+    where
+      on : ((all : List Command) (others : List Token) → length all ≤ room → Gives Fault (AllStepped room all others) (repeated_read k (step_read room) some_left all others))
+          → (x : List Command × List Token) → Stepped room before ts x → Gives Fault (AllStepped room before ts) (if_found (some_left x.1) (λ rest. repeated_read k (step_read room) some_left x.0 rest) (Reads x))
+      on next (all, []) (cs, h, joined, few) = gives ((cs, closed_last ts cs [] refl h, joined), few le)
+      on next (all, t ∷ others) (cs, h, joined, few) = each_gives (next all (t ∷ others) (few le)) (λ y m. (
+        (cs ++ m.0.0, closed_more ts cs m.0.0 t others h m.0.1, sym (append_assoc before cs m.0.0) ∙ ap (λ (ds : List Command). ds ++ m.0.0) joined ∙ m.0.2),
+        m.1,
+      ))
+
+  -- what is read of a line is its commands in the grammar, and there is room for them
+  pub commands_give : (room : ℕ) (ts : List Token) → Gives Fault (λ cs. IsCommands ts cs × (length cs ≤ room)) (commands_read room ts)
+  unfolding commands_read
+  commands_give room ts = then_gives _ (all_give (suc (length ts)) room [] ts (omega arith)) (λ x h. gives (subst (IsCommands ts) h.0.2 h.0.1, h.1))
+
+pub step_short : (room : ℕ) (before : List Command) (ts : List Token) (x : List Command × List Token) → step_read room before ts ≡ Reads x → length x.1 < length ts
+step_short room before ts x e = let s = gives_of x (step_gives {Fault = Any} tt tt tt tt tt room before ts) e in closed_short ts s.0 x.1 s.1
