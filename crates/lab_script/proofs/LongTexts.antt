@@ -1,12 +1,11 @@
 -- What stands behind the first 8,388,609 bytes of a text doesn't matter to what it spells: a script has at most 2,000 lines,
 -- each of at most 4,000 bytes and what ends it.
-use Rattle.std.proofs.Common.{◌≡◌, ℕ, zero, suc, ◌+◌, ◌-◌, ◌<◌, ◌≤◌, ◌==◌, min, Bool, true, false, cond, List, [], ◌∷◌, ◌++◌, length, take, get_or, refl, sym, ap, ◌∙◌, inl, inr, ⊎_elim, arith, length-append, append_assoc, ◌*◌, drop, Option, Some, None, subst}
-use Rattle.std.specs.Str.Lines.{lines, lines_of_parts, strip_carriage_return}
-use Rattle.std.proofs.lemmas.Bool.{cases_lt, false≢true, lt-ltb, true≢false}
-use Rattle.std.proofs.lemmas.List.{length-take, get_or_append_left, append-nil, take_all, take_at, take-append-le, take-append-drop, length-drop}
+use Rattle.std.proofs.Common.{◌≡◌, ℕ, zero, suc, ◌+◌, ◌-◌, ◌<◌, ◌≤◌, ◌==◌, min, Bool, true, false, cond, List, [], ◌∷◌, ◌++◌, length, take, get_or, refl, sym, ap, ◌∙◌, inl, inr, ⊎_elim, arith, length-append, ◌*◌, drop, Option, Some, None, subst}
+use Rattle.std.specs.Str.Lines.{lines, strip_carriage_return}
+use Rattle.std.proofs.lemmas.Bool.{cases_Bool, cases_lt, lt-ltb, true≢false}
+use Rattle.std.proofs.lemmas.List.{length-take, append-nil, take_all, take_at, take-append-le, take-append-drop, length-drop}
 use Rattle.std.proofs.Math.Dec.{eqb-suc-zero}
-use Rattle.std.proofs.Math.Seq.{get_or-append_seam}
-use Rattle.lab_script.proofs.TextLines.{IsWhole, IsCut, cut, parts_step}
+use Rattle.lab_script.proofs.TextLines.{lines_behind, lines_are}
 use Rattle.std.specs.Prelude.{nat_lt, slice_get}
 use Rattle.std.proofs.Math.Bool.{or-true}
 use Rattle.std.proofs.lemmas.Option.{slice_get_within}
@@ -33,82 +32,51 @@ stripped l =
     ]
 
 -- the lines that newlines end, and what stands behind the last newline
-pub record IsCutUp (text : List ℕ) : Type 0 where
-  pub ended : List (List ℕ)
-  pub tail : List ℕ
-  pub whole : IsWhole tail
-  pub lines_are : (more : List ℕ) → lines (text ++ more) ≡ ended ++ lines (tail ++ more)
-  pub sized : length text ≤ weight ended + length tail
+record IsCutUp (line text : List ℕ) : Type 0 where
+  ended : List (List ℕ)
+  tail : List ℕ
+  lines_are : (more : List ℕ) → lines_behind line (text ++ more) ≡ ended ++ lines_behind tail more
+  sized : length line + length text ≤ weight ended + length tail
 
--- one more line
-cut_more : (text : List ℕ) (two : IsCut text) → IsCutUp two.rest → IsCutUp text
-cut_more text two up =
-    let size : length text ≡ length two.front + length (10 ∷ two.rest) = ap length two.whole ∙ length-append two.front (10 ∷ two.rest) in
-    let short = stripped two.front in
-    let rest : length two.rest ≤ weight up.ended + length up.tail = up.sized in
-    record {
-      ended = strip_carriage_return two.front ∷ up.ended;
-      tail = up.tail;
-      whole = up.whole;
-      lines_are = λ more. ap (λ (bytes : List ℕ). lines (bytes ++ more)) two.whole ∙ ap lines (append_assoc two.front (10 ∷ two.rest) more)
-          ∙ ap lines_of_parts (two.parts (two.rest ++ more)) ∙ parts_step two.front (two.rest ++ more)
-          ∙ ap (λ (ls : List (List ℕ)). strip_carriage_return two.front ∷ ls) (up.lines_are more);
-      sized = omega arith;
-    }
-
-cut_within : (fuel : ℕ) (text : List ℕ) → length text ≤ fuel → IsCutUp text
-cut_within zero text within = elim (cut text) [
-  | inl whole ↦ record { ended = []; tail = text; whole = whole; lines_are = λ more. refl; sized = omega arith }
-  | inr two ↦ let size : length text ≡ length two.front + length (10 ∷ two.rest) = ap length two.whole ∙ length-append two.front (10 ∷ two.rest) in absurd (omega arith)
+cut_up : (line text : List ℕ) → IsCutUp line text
+cut_up line [] = record { ended = []; tail = line; lines_are = λ more. refl; sized = omega arith }
+cut_up line (b ∷ bytes) = elim (cases_Bool (b == 10)) [
+  | inl is ↦ let up = cut_up [] bytes in record {
+    ended = strip_carriage_return line ∷ up.ended;
+    tail = up.tail;
+    lines_are = λ more. ap (λ (v : Bool). cond v (strip_carriage_return line ∷ lines_behind [] (bytes ++ more)) (lines_behind (line ++ b ∷ []) (bytes ++ more))) is
+        ∙ ap (λ (ls : List (List ℕ)). strip_carriage_return line ∷ ls) (up.lines_are more);
+    sized = omega (arith, stripped line, up.sized);
+  }
+  | inr isnt ↦ let up = cut_up (line ++ b ∷ []) bytes in record {
+    ended = up.ended;
+    tail = up.tail;
+    lines_are = λ more. ap (λ (v : Bool). cond v (strip_carriage_return line ∷ lines_behind [] (bytes ++ more)) (lines_behind (line ++ b ∷ []) (bytes ++ more))) isnt ∙ up.lines_are more;
+    sized = omega (arith, length-append line (b ∷ []), up.sized);
+  }
 ]
-cut_within (suc fuel) text within = elim (cut text) [
-  | inl whole ↦ record { ended = []; tail = text; whole = whole; lines_are = λ more. refl; sized = omega arith }
-  | inr two ↦
-      let size : length text ≡ length two.front + length (10 ∷ two.rest) = ap length two.whole ∙ length-append two.front (10 ∷ two.rest) in cut_more text two (cut_within fuel two.rest (omega arith))
-]
-
-pub cut_up : (text : List ℕ) → IsCutUp text
-cut_up text = cut_within (length text) text (omega arith)
 
 -- bytes without a newline are one line, unless there are none
-pub alone : (tail : List ℕ) → IsWhole tail → 0 < length tail → lines tail ≡ tail ∷ []
-alone [] whole some = absurd (omega arith)
-alone (b ∷ bytes) whole some = ap lines_of_parts whole.part ∙ ap (λ (v : Bool). cond v [] ((b ∷ bytes) ∷ [])) (eqb-suc-zero (length bytes))
-
--- the first newline behind bytes that have none
-newline_behind : (tail more : List ℕ) → IsWhole tail → (two : IsCut (tail ++ more)) → length tail ≤ length two.front
-newline_behind tail more whole two =
-    ⊎_elim
-    (λ (short : length two.front < length tail).
-    let n = length two.front in
-    let there : get_or tail n 0 ≡ 10 =
-    sym (get_or_append_left tail more 0 n short) ∙ ap (λ (bytes : List ℕ). get_or bytes n 0) two.whole ∙ get_or-append_seam two.front 10 two.rest 0 in
-    absurd (false≢true (sym (whole.free n) ∙ ap (λ (b : ℕ). b == 10) there)))
-    (λ (long : length tail ≤ length two.front). long)
-    (cases_lt (length two.front) (length tail))
+alone : (tail : List ℕ) → 0 < length tail → lines_behind tail [] ≡ tail ∷ []
+alone [] some = absurd (omega arith)
+alone (b ∷ bytes) some = ap (λ (v : Bool). cond v [] ((b ∷ bytes) ∷ [])) (eqb-suc-zero (length bytes))
 
 -- the line that bytes without a newline begin, where others follow
-pub record IsFirst (tail more : List ℕ) : Type 0 where
-  pub line : List ℕ
-  pub others : List (List ℕ)
-  pub is : lines (tail ++ more) ≡ line ∷ others
-  pub size : length tail ≤ length line + 1
+record IsFirst (tail more : List ℕ) : Type 0 where
+  line : List ℕ
+  others : List (List ℕ)
+  is : lines_behind tail more ≡ line ∷ others
+  size : length tail ≤ length line + 1
 
-pub first_of : (tail more : List ℕ) → IsWhole tail → 0 < length more → IsFirst tail more
-first_of tail more whole some =
-    let len : length (tail ++ more) ≡ length tail + length more = length-append tail more in
-    elim (cut (tail ++ more)) [
-      | inl one ↦ record { line = tail ++ more; others = []; is = alone (tail ++ more) one (omega arith); size = omega arith }
-      | inr two ↦
-          let behind = newline_behind tail more whole two in
-          let short = stripped two.front in
-          record {
-            line = strip_carriage_return two.front;
-            others = lines two.rest;
-            is = ap lines two.whole ∙ ap lines_of_parts (two.parts two.rest) ∙ parts_step two.front two.rest;
-            size = omega arith;
-          }
-    ]
+first_of : (tail more : List ℕ) → 0 < length tail + length more → IsFirst tail more
+first_of tail [] some = record { line = tail; others = []; is = alone tail (omega arith); size = omega arith }
+first_of tail (b ∷ more) some = elim (cases_Bool (b == 10)) [
+  | inl is ↦ record { line = strip_carriage_return tail; others = lines_behind [] more; is = rw is refl; size = stripped tail }
+  | inr isnt ↦
+      let len = length-append tail (b ∷ []) in
+      let first = first_of (tail ++ b ∷ []) more (omega (arith, len)) in
+      record { line = first.line; others = first.others; is = rw isnt first.is; size = omega (arith, len, first.size) }
+]
 
 -- lines that spell something are few and short
 few_short : (number : ℕ) (before after : Option Script) (ls : List (List ℕ)) → LinesSpell number before ls after → number ≤ 2001 → (number + length ls ≤ 2001) × (weight ls ≤ 4002 * length ls)
@@ -121,19 +89,19 @@ few_short number before after (line ∷ ls) spells le =
 light : (ls : List (List ℕ)) (after : Option Script) → LinesSpell 1 None ls after → weight ls ≤ 8004000
 light ls after spells = let small = few_short 1 None after ls spells (omega arith) in omega (arith, small.0, small.1)
 
-module _ {text : List ℕ} (up : IsCutUp text) where
-  lines_here : lines text ≡ up.ended ++ lines up.tail
-  lines_here = ap lines (sym (append-nil text)) ∙ up.lines_are [] ∙ ap (λ (bytes : List ℕ). up.ended ++ lines bytes) (append-nil up.tail)
+module _ {text : List ℕ} (up : IsCutUp [] text) where
+  lines_here : lines text ≡ up.ended ++ lines_behind up.tail []
+  lines_here = lines_are text ∙ ap (lines_behind []) (sym (append-nil text)) ∙ up.lines_are []
 
   -- a text whose lines spell something is short
   spelled_size : (after : Option Script) → LinesSpell 1 None (lines text) after → length text ≤ 8008000
   spelled_size after spells =
-      let parts = lines_front 1 None up.ended (lines up.tail) after (subst (λ (ls : List (List ℕ)). LinesSpell 1 None ls after) lines_here spells) in
+      let parts = lines_front 1 None up.ended (lines_behind up.tail []) after (subst (λ (ls : List (List ℕ)). LinesSpell 1 None ls after) lines_here spells) in
       let small = light up.ended parts.0 parts.1 in
-      let size : length text ≤ weight up.ended + length up.tail = up.sized in
+      let size = up.sized in
       ⊎_elim
       (λ (some : 0 < length up.tail).
-      let last = subst (λ (ls : List (List ℕ)). LinesSpell (1 + length up.ended) parts.0 ls after) (alone up.tail up.whole some) parts.2 in
+      let last = subst (λ (ls : List (List ℕ)). LinesSpell (1 + length up.ended) parts.0 ls after) (alone up.tail some) parts.2 in
       let fit = fit_of last.1 in
       omega (arith, fit.bytes))
       (λ (none : length up.tail ≤ 0). omega arith)
@@ -150,17 +118,17 @@ over : (number : ℕ) (line : List ℕ) → 4000 < length line → is_over numbe
 over number line long = rw (lt-ltb 4000 (length line) long) (or-true (nat_lt 2000 number))
 
 -- text that is longer than a script is, and more behind it
-module _ (text more : List ℕ) (up : IsCutUp text) (long : 8388608 < length text) (some : 0 < length more) where
-  lines_there : lines (text ++ more) ≡ up.ended ++ lines (up.tail ++ more)
-  lines_there = up.lines_are more
+module _ (text more : List ℕ) (up : IsCutUp [] text) (long : 8388608 < length text) (some : 0 < length more) where
+  lines_there : lines (text ++ more) ≡ up.ended ++ lines_behind up.tail more
+  lines_there = lines_are (text ++ more) ∙ up.lines_are more
 
   same_front : (i : ℕ) → i ≤ length up.ended → take i (lines text) ≡ take i (lines (text ++ more))
   same_front i le =
-      ap (take i) (lines_here up) ∙ take-append-le i up.ended (lines up.tail) le ∙ sym (take-append-le i up.ended (lines (up.tail ++ more)) le) ∙ sym (ap (take i) lines_there)
+      ap (take i) (lines_here up) ∙ take-append-le i up.ended (lines_behind up.tail []) le ∙ sym (take-append-le i up.ended (lines_behind up.tail more) le) ∙ sym (ap (take i) lines_there)
 
   same_line : (i : ℕ) → i < length up.ended → slice_get (lines text) i ≡ slice_get (lines (text ++ more)) i
   same_line i lt =
-      ap (λ (ls : List (List ℕ)). slice_get ls i) (lines_here up) ∙ got up.ended (lines up.tail) (lines (up.tail ++ more)) i lt ∙ sym (ap (λ (ls : List (List ℕ)). slice_get ls i) lines_there)
+      ap (λ (ls : List (List ℕ)). slice_get ls i) (lines_here up) ∙ got up.ended (lines_behind up.tail []) (lines_behind up.tail more) i lt ∙ sym (ap (λ (ls : List (List ℕ)). slice_get ls i) lines_there)
 
   same_spelled : (i : ℕ) (script : Option Script) → i ≤ length up.ended → LinesSpell 1 None (take i (lines text)) script → LinesSpell 1 None (take i (lines (text ++ more))) script
   same_spelled i script le spells = subst (λ (ls : List (List ℕ)). LinesSpell 1 None ls script) (same_front i le) spells
@@ -184,20 +152,17 @@ module _ (text more : List ℕ) (up : IsCutUp text) (long : 8388608 < length tex
   -- a fault in the line that the text's end cuts, which is too long
   module _ (number : ℕ) (kind : ScriptFaultKind) (last : length up.ended < number) (within : number ≤ length (lines text)) (line : IsFaultyLine text number kind) where
     first : IsFirst up.tail more
-    first = first_of up.tail more up.whole some
+    first = first_of up.tail more (omega arith)
 
     has_tail : 0 < length up.tail
-    has_tail = ⊎_elim (λ (is : 0 < length up.tail). is) (λ (none : length up.tail ≤ 0). absurd (without up.tail up.whole none refl)) (cases_lt 0 (length up.tail))
+    has_tail = at up.tail (lines_here up)
       where
-        without : (tail : List ℕ) → IsWhole tail → length tail ≤ 0 → tail ≡ up.tail → ⊥
-        without [] whole none is =
-            let here : lines text ≡ up.ended = lines_here up ∙ ap (λ (bytes : List ℕ). up.ended ++ lines bytes) (sym is) ∙ append-nil up.ended in
-            let size : length (lines text) ≡ length up.ended = ap length here in
-            omega arith
-        without (b ∷ bytes) whole none is = omega arith
+        at : (tail : List ℕ) → lines text ≡ up.ended ++ lines_behind tail [] → 0 < length tail
+        at [] here = let size : length (lines text) ≡ length up.ended = ap length (here ∙ append-nil up.ended) in absurd (omega arith)
+        at (b ∷ bytes) here = omega arith
 
     here : lines text ≡ up.ended ++ up.tail ∷ []
-    here = lines_here up ∙ ap (λ (ls : List (List ℕ)). up.ended ++ ls) (alone up.tail up.whole has_tail)
+    here = lines_here up ∙ ap (λ (ls : List (List ℕ)). up.ended ++ ls) (alone up.tail has_tail)
 
     there : lines (text ++ more) ≡ up.ended ++ first.line ∷ first.others
     there = lines_there ∙ ap (λ (ls : List (List ℕ)). up.ended ++ ls) first.is
@@ -210,10 +175,10 @@ module _ (text more : List ℕ) (up : IsCutUp text) (long : 8388608 < length tex
 
     before_it : LinesSpell 1 None up.ended line.before
     before_it =
-        subst (λ (ls : List (List ℕ)). LinesSpell 1 None ls line.before) (ap (take line.index) (lines_here up) ∙ take_at up.ended (lines up.tail) line.index (sym at_end)) line.spelled
+        subst (λ (ls : List (List ℕ)). LinesSpell 1 None ls line.before) (ap (take line.index) (lines_here up) ∙ take_at up.ended (lines_behind up.tail []) line.index (sym at_end)) line.spelled
 
     wide : 4001 < length up.tail
-    wide = let small = light up.ended line.before before_it in let size : length text ≤ weight up.ended + length up.tail = up.sized in omega arith
+    wide = let small = light up.ended line.before before_it in let size = up.sized in omega arith
 
     is_tail : line.line ≡ up.tail
     is_tail =
@@ -258,7 +223,7 @@ module _ (text more : List ℕ) (up : IsCutUp text) (long : 8388608 < length tex
 
 -- a text that spells a script is short
 pub script_short : (text : List ℕ) (s : Script) → Spells text s → length text ≤ 8008000
-script_short text s spells = spelled_size (cut_up text) (Some s) spells
+script_short text s spells = spelled_size (cut_up [] text) (Some s) spells
 
 -- the first bytes of a text, where they are more than a script has, spell a script only where they are all of it
 pub first_spell : (text : List ℕ) (n : ℕ) (s : Script) → 8388608 < n → Spells (take n text) s → Spells text s
@@ -274,6 +239,6 @@ first_fault text n f many is =
     (λ (longer : n < length text).
     let front : length (take n text) ≡ min n (length text) = length-take n text in
     let back : length (drop n text) ≡ length text - n = length-drop n text in
-    subst (λ (bytes : List ℕ). IsFaultOf bytes f) (take-append-drop n text) (fault_stays (take n text) (drop n text) (cut_up (take n text)) (omega arith) (omega arith) f is))
+    subst (λ (bytes : List ℕ). IsFaultOf bytes f) (take-append-drop n text) (fault_stays (take n text) (drop n text) (cut_up [] (take n text)) (omega arith) (omega arith) f is))
     (λ (all : length text ≤ n). subst (λ (bytes : List ℕ). IsFaultOf bytes f) (take_all n text all) is)
     (cases_lt n (length text))
