@@ -1,23 +1,7 @@
 -- The limit that a transcript breaks is one that a statement of the script breaks.
-use Rattle.std.proofs.Common.{◌≡◌, ℕ, zero, suc, ◌<◌, Bool, true, false, cond, ◌==◌, List, [], ◌∷◌, ◌++◌, length, get_or, Option, Some, None, refl, sym, ◌∙◌, ◌⊎◌, inl, inr, subst, arith}
-use Rattle.std.specs.Prelude.{◌&&◌, not, nat_lt, IfSome}
-use Rattle.std.specs.List.{Contains}
-use Rattle.std.proofs.lemmas.Bool.{ltb-true}
-use Rattle.std.proofs.lemmas.Option.{none-some}
-use Rattle.lab_table.specs.Table.{Table}
-use Rattle.lab_table.specs.declared.statement.Statement.{Statement}
-use Rattle.lab_table.specs.declared.statement.Command.{Command}
+use Rattle.lab_script.proofs.Common.{◌≡◌, ℕ, zero, suc, ◌<◌, Bool, true, false, cond, ◌==◌, List, [], ◌∷◌, ◌++◌, length, get_or, Option, Some, None, refl, sym, ◌∙◌, ◌⊎◌, inl, inr, subst, arith, ◌&&◌, not, nat_lt, IfSome, Contains, ltb-true, none-some, Table, Statement, Command, Line, Script, PrintFault, statement_depth, printed_statement, CommandPrints, AllPrint, SomeLine, statements_on, statements_of, inside_after, is_begin, nobody, transaction_of, transactions, table_with, table_after, Breaks, shown_of, shown, limit_broken, first_broken, unprintable}
 use Rattle.lab_table.specs.declared.statement.Command.TheVariants.{Begin, Commit, Abort, Run}
-use Rattle.lab_script.specs.declared.script.Line.{Line}
-use Rattle.lab_script.specs.declared.script.Script.{Script}
-use Rattle.lab_statement.specs.declared.print.PrintFault.{PrintFault}
 use Rattle.lab_statement.specs.declared.print.PrintFault.TheVariants.{TooDeep, TooLong}
-use Rattle.lab_statement.specs.Depth.{statement_depth}
-use Rattle.lab_statement.specs.Printed.{printed_statement}
-use Rattle.lab_statement.specs.Limits.{CommandPrints}
-use Rattle.lab_script.specs.Limits.{AllPrint, SomeLine}
-use Rattle.lab_script.specs.Transcript.{statements_on, statements_of, inside_after, is_begin, nobody, transaction_of, transactions, table_with, table_after}
-use Rattle.lab_script.specs.TranscriptView.{Breaks, shown_of, shown, limit_broken, first_broken, unprintable}
 
 -- a command that prints breaks no limit
 command_prints : (fault : PrintFault) (c : Command) → CommandPrints c → Breaks fault c → ⊥

@@ -1,25 +1,11 @@
 -- What is read as the commands of a line is in the grammar, and reading stops with few kinds of faults.
-use Rattle.std.proofs.Common.{◌≡◌, ◌⊎◌, ℕ, zero, suc, ◌≤◌, ◌<◌, true, List, [], ◌∷◌, ◌++◌, length, take, Option, Some, None, refl, sym, ap, subst, ◌∙◌, length-append, one-add, arith, inl, inr, append_assoc, append-nil}
-use Rattle.std.specs.Prelude.{nat_lt}
-use Rattle.std.specs.List.{list_all, prefix_len}
-use Rattle.std.proofs.lemmas.List.{take-append-drop}
-use Rattle.std.proofs.lemmas.Bool.{and_from, cases_Bool, leb-true, ltb-true}
-use Rattle.lab_table.specs.declared.statement.Command.{Command}
+use Rattle.lab_script.proofs.Common.{◌≡◌, ◌⊎◌, ℕ, zero, suc, ◌≤◌, ◌<◌, true, List, [], ◌∷◌, ◌++◌, length, take, Option, Some, None, refl, sym, ap, subst, ◌∙◌, length-append, one-add, arith, inl, inr, append_assoc, append-nil, nat_lt, list_all, prefix_len, take-append-drop, and_from, cases_Bool, leb-true, ltb-true, Command, Token, ScriptFaultKind, Reads, if_found, is_short, is_word, words_read, level_read, command_read, terminated_read, one_added, step_read, repeated_read, some_left, commands_read, IsCommand, IsCommands, Gives, gives, stops, Takes, Any, gives_of, then_gives, each_gives, if_gives, taken, made, found, tokens_give, statement_taken, end_gives}
 use Rattle.lab_table.specs.declared.statement.Command.TheVariants as command
 use Rattle.lab_table.specs.declared.word.Word.TheVariants as word
-use Rattle.lab_statement.specs.declared.token.Token.{Token}
 use Rattle.lab_statement.specs.declared.token.Token.TheVariants as token
-use Rattle.lab_statement.specs.declared.fault.ScriptFaultKind.{ScriptFaultKind}
 use Rattle.lab_statement.specs.declared.fault.ScriptFaultKind.TheVariants as kinds
-use Rattle.lab_statement.specs.Stopping.{Reads, if_found}
-use Rattle.lab_statement.specs.FirstFaults.{is_short}
-use Rattle.lab_statement.specs.Token.{is_word}
-use Rattle.lab_script.specs.FirstFaults.{words_read, level_read, command_read, terminated_read, one_added, step_read, repeated_read, some_left, commands_read}
-use Rattle.lab_script.specs.Grammar.{IsCommand, IsCommands}
 use Rattle.lab_script.specs.Grammar as grammar
 use Rattle.lab_statement.specs.Grammar as statement
-use Rattle.lab_statement.proofs.Takes.{Gives, gives, stops, Takes, Any, gives_of, then_gives, each_gives, if_gives, taken, made, found, tokens_give}
-use Rattle.lab_statement.proofs.StatementTaken.{statement_taken, end_gives}
 
 -- the tokens at the front, as far as they are words, are all words
 words_all : (ts : List Token) → list_all is_word (take (prefix_len is_word ts) ts) ≡ true

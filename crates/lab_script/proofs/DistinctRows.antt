@@ -1,16 +1,9 @@
 -- Lists of rows in which no row comes twice, and the tables that they make.
-use Rattle.std.proofs.Common.{◌≡◌, ℤ, true, false, cond, T, List, [], ◌∷◌, ◌++◌, Option, Some, None, is_some, refl, sym, ap, ◌∙◌, inl, inr}
-use Rattle.std.specs.FinMap.{find, insert, contains_key, from_entries, from_entries_push, get-from_entries}
+use Rattle.lab_script.proofs.Common.{◌≡◌, ℤ, true, false, cond, T, List, [], ◌∷◌, ◌++◌, Option, Some, None, is_some, refl, sym, ap, ◌∙◌, inl, inr, find, insert, contains_key, from_entries, from_entries_push, get-from_entries, cases_Bool, true≢false, none-some, Row, row_cmp, row_eq, rows_total, rows_apart, Table, both, AllDistinct}
 use Rattle.std.specs.FinMap.Entries.{below_all, find-append, is_sorted}
 use Rattle.std.specs.Ordering.{is_eq, is_lt}
-use Rattle.std.proofs.lemmas.Bool.{cases_Bool, true≢false}
-use Rattle.std.proofs.lemmas.Option.{none-some}
-use Rattle.lab_table.specs.Row.{Row, row_cmp, row_eq, rows_total, rows_apart}
-use Rattle.lab_table.specs.Table.{Table}
 use Rattle.lab_table.proofs.Maps.{same_row, row_eq_self}
 use Rattle.lab_table.proofs.Orderings.{is_less}
-use Rattle.lab_table.proofs.Tests.{both}
-use Rattle.lab_script.specs.Grammar.{AllDistinct}
 
 -- the table that rows make
 abbrev pub table_of : List (Row × ℤ) → Table

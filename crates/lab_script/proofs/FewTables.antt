@@ -1,11 +1,5 @@
 -- Names of tables that are added to others.
-use Rattle.std.proofs.Common.{◌≡◌, ℕ, ◌<◌, ◌≤◌, true, false, cond, List, [], ◌∷◌, ◌++◌, map, length, Option, Some, None, refl, ap, ◌∙◌, arith, length-append}
-use Rattle.lab_table.specs.declared.statement.Command.{Command}
-use Rattle.lab_script.specs.declared.script.Line.{Line}
-use Rattle.lab_script.specs.declared.script.Script.{Script}
-use Rattle.lab_script.specs.Script.{extended}
-use Rattle.lab_table.specs.TableSet.{is_among, with_name}
-use Rattle.lab_script.specs.Tables.{with_any, with_all, line_table, with_command, with_commands, with_lines, setup_tables, script_tables}
+use Rattle.lab_script.proofs.Common.{◌≡◌, ℕ, ◌<◌, ◌≤◌, true, false, cond, List, [], ◌∷◌, ◌++◌, map, length, Option, Some, None, refl, ap, ◌∙◌, arith, length-append, Command, Line, Script, extended, is_among, with_name, with_any, with_all, line_table, with_command, with_commands, with_lines, setup_tables, script_tables}
 
 -- a name more makes no fewer
 one_longer : (names : List (List ℕ)) (name : List ℕ) → length names ≤ length (with_name names name)

@@ -1,30 +1,13 @@
 -- Where a text has its first fault, read line by line.
-use Rattle.std.proofs.Common.{◌≡◌, ℕ, ◌+◌, ◌≤◌, Bool, true, false, List, [], ◌∷◌, ◌++◌, length, take, Option, Some, None, Result, Ok, Err, refl, sym, ap, subst, ◌∙◌, inl, inr, arith, length-append, append_assoc}
-use Rattle.std.specs.Prelude.{◌-◌, if◌then◌else◌, slice_get, MatchResult, IfOk, IfErr, ok_or}
-use Rattle.std.specs.Str.Lines.{lines}
-use Rattle.std.proofs.lemmas.Bool.{le-ltb}
-use Rattle.std.proofs.lemmas.List.{append-nil, take_at}
-use Rattle.std.proofs.lemmas.Option.{none-some, same_Some}
-use Rattle.lab_statement.specs.declared.fault.ScriptFault.{ScriptFault}
+use Rattle.lab_script.proofs.Common.{◌≡◌, ℕ, ◌+◌, ◌≤◌, Bool, true, false, List, [], ◌∷◌, ◌++◌, length, take, Option, Some, None, Result, Ok, Err, refl, sym, ap, subst, ◌∙◌, inl, inr, arith, length-append, append_assoc, ◌-◌, if◌then◌else◌, slice_get, MatchResult, IfOk, IfErr, ok_or, lines, le-ltb, append-nil, take_at, none-some, same_Some, ScriptFault, ScriptFaultKind, Script, Token, tokens, code_of, remark_of, commands_fault, setup_fault, max_commands, ScriptPrints, is_passed, IsFit, LineSpells, LinesSpell, Spells, script_tables, first_fault, tokens_fault, IsFaultAt, IsFaultOf, slice_get-middle}
 use Rattle.lab_statement.specs.declared.fault.ScriptFault.TheVariants as fault
-use Rattle.lab_statement.specs.declared.fault.ScriptFaultKind.{ScriptFaultKind}
 use Rattle.lab_statement.specs.declared.fault.ScriptFaultKind.TheVariants as kinds
-use Rattle.lab_script.specs.declared.script.Script.{Script}
-use Rattle.lab_statement.specs.declared.token.Token.{Token}
-use Rattle.lab_statement.specs.Token.{tokens}
-use Rattle.lab_statement.specs.Text.{code_of, remark_of}
-use Rattle.lab_script.specs.FirstFaults.{commands_fault, setup_fault}
-use Rattle.lab_script.specs.Limits.{max_commands, ScriptPrints}
 use Rattle.lab_script.specs.Script as script
-use Rattle.lab_script.specs.Script.{is_passed, IsFit, LineSpells, LinesSpell, Spells}
-use Rattle.lab_script.specs.Tables.{script_tables}
-use Rattle.lab_script.specs.Fault.{first_fault, tokens_fault, IsFaultAt, IsFaultOf}
 use Rattle.lab_script.proofs.LineFaults.{no_commands_fault, no_setup_fault, line_tells}
 use Rattle.lab_script.proofs.OneFault.{none_at_all}
 use Rattle.lab_script.proofs.ReadCommands.{no_setup}
 use Rattle.lab_script.proofs.ReadSetup.{setup_begins}
 use Rattle.lab_script.proofs.ScriptLines.{fit_of, lines_once, lines_join, IsFew, line_few, spelled_prints}
-use Rattle.lab_table.proofs.Tests.{slice_get-middle}
 
 -- the lines so far, of which there are so many, spell nothing yet or a script, and these are left
 pub record IsReadTo (text : List ℕ) (number : ℕ) (rest : List (List ℕ)) (script : Option Script) : Type 0 where

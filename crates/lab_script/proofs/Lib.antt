@@ -1,3 +1,4 @@
+pub mod Common
 pub mod DistinctRows
 mod CommandsTaken
 mod SetupTaken

@@ -1,32 +1,11 @@
 -- The first fault of a line: there is none exactly where its tokens are in the grammar, and what it tells where there is one.
-use Rattle.std.proofs.Common.{◌≡◌, ℕ, ◌≤◌, List, length, None, [], Option, Some, subst, ◌∙◌, Bool, true, false, refl}
-use Rattle.std.specs.Prelude.{◌↔◌, ◌-◌, is_some, not, if◌then◌else◌}
-use Rattle.lab_table.specs.Table.{Table}
-use Rattle.lab_table.specs.declared.statement.Command.{Command}
-use Rattle.lab_statement.specs.declared.token.Token.{Token}
-use Rattle.lab_script.specs.Grammar.{IsCommands, IsSetup}
-use Rattle.lab_script.specs.Tables.{with_commands, setup_tables, script_tables}
-use Rattle.lab_statement.specs.FirstFaults.{fifth_table, placed_kind, behind_tables}
-use Rattle.lab_script.specs.FirstFaults.{commands_read, setup_read, commands_placed, setup_placed, commands_fault, setup_fault, passed}
+use Rattle.lab_script.proofs.Common.{◌≡◌, ℕ, ◌≤◌, List, length, None, [], Option, Some, subst, ◌∙◌, Bool, true, false, refl, ◌↔◌, ◌-◌, is_some, not, if◌then◌else◌, Table, Command, Token, IsCommands, IsSetup, with_commands, setup_tables, script_tables, fifth_table, placed_kind, behind_tables, commands_read, setup_read, commands_placed, setup_placed, commands_fault, setup_fault, passed, Any, gives_of, stop_of, valued, faultless, are_four, no_fifth, fault_is, ScriptFaultKind, tokens, true≢false, code_of, remark_of, session_of, is_ascii_code, is_passed, begins_setup, none-some, same_Some, are_few, Script, is_over, remark_fault, tokens_fault, first_fault, TellsOfTokens, max_commands, with_tokens, with_setup_tokens}
 use Rattle.lab_script.proofs.ReadCommands.{commands_again}
 use Rattle.lab_script.proofs.ReadSetup.{setup_again}
 use Rattle.lab_script.proofs.CommandsTaken.{commands_give}
 use Rattle.lab_script.proofs.SetupTaken.{setup_gives}
-use Rattle.lab_statement.proofs.Takes.{Any, gives_of, stop_of}
-use Rattle.lab_statement.proofs.GrammarFaults.{valued, faultless, are_four, no_fifth, fault_is}
-use Rattle.lab_statement.specs.declared.fault.ScriptFaultKind.{ScriptFaultKind}
-use Rattle.lab_statement.specs.Token.{tokens}
 use Rattle.lab_statement.proofs.FaultKinds.{Placed, unknown_placed}
-use Rattle.std.proofs.lemmas.Bool.{true≢false}
-use Rattle.lab_statement.specs.Text.{code_of, remark_of}
-use Rattle.lab_script.specs.Script.{session_of, is_ascii_code, is_passed, begins_setup}
 use Rattle.std.specs.Option.{option_or}
-use Rattle.std.proofs.lemmas.Option.{none-some, same_Some}
-use Rattle.lab_table.specs.TableSet.{are_few}
-use Rattle.lab_script.specs.declared.script.Script.{Script}
-use Rattle.lab_script.specs.Fault.{is_over, remark_fault, tokens_fault, first_fault, TellsOfTokens}
-use Rattle.lab_script.specs.Limits.{max_commands}
-use Rattle.lab_script.specs.PassedTables.{with_tokens, with_setup_tokens}
 use Rattle.lab_statement.specs.declared.fault.ScriptFaultKind.TheVariants as kinds
 
 -- a line of commands, and a setup, without a fault

@@ -1,21 +1,9 @@
 -- What stands behind the first 8,388,609 bytes of a text doesn't matter to what it spells: a script has at most 2,000 lines,
 -- each of at most 4,000 bytes and what ends it.
-use Rattle.std.proofs.Common.{◌≡◌, ℕ, zero, suc, ◌+◌, ◌-◌, ◌<◌, ◌≤◌, ◌==◌, min, Bool, true, false, cond, List, [], ◌∷◌, ◌++◌, length, take, get_or, refl, sym, ap, ◌∙◌, inl, inr, ⊎_elim, arith, length-append, ◌*◌, drop, Option, Some, None, subst}
-use Rattle.std.specs.Str.Lines.{lines, strip_carriage_return}
-use Rattle.std.proofs.lemmas.Bool.{cases_Bool, cases_lt, lt-ltb, true≢false}
-use Rattle.std.proofs.lemmas.List.{length-take, append-nil, take_all, take_at, take-append-le, take-append-drop, length-drop}
-use Rattle.std.proofs.Math.Dec.{eqb-suc-zero}
+use Rattle.lab_script.proofs.Common.{◌≡◌, ℕ, zero, suc, ◌+◌, ◌-◌, ◌<◌, ◌≤◌, ◌==◌, min, Bool, true, false, cond, List, [], ◌∷◌, ◌++◌, length, take, get_or, refl, sym, ap, ◌∙◌, inl, inr, ⊎_elim, arith, length-append, ◌*◌, drop, Option, Some, None, subst, lines, strip_carriage_return, cases_Bool, cases_lt, lt-ltb, true≢false, length-take, append-nil, take_all, take_at, take-append-le, take-append-drop, length-drop, eqb-suc-zero, nat_lt, slice_get, slice_get_within, ScriptFault, ScriptFaultKind, Script, LinesSpell, Spells, is_over, IsFaultyLine, IsFaultOf, slice_get-middle}
 use Rattle.lab_script.proofs.TextLines.{lines_behind, lines_are}
-use Rattle.std.specs.Prelude.{nat_lt, slice_get}
 use Rattle.std.proofs.Math.Bool.{or-true}
-use Rattle.std.proofs.lemmas.Option.{slice_get_within}
-use Rattle.lab_statement.specs.declared.fault.ScriptFault.{ScriptFault}
-use Rattle.lab_statement.specs.declared.fault.ScriptFaultKind.{ScriptFaultKind}
-use Rattle.lab_script.specs.declared.script.Script.{Script}
-use Rattle.lab_script.specs.Script.{LinesSpell, Spells}
-use Rattle.lab_script.specs.Fault.{is_over, IsFaultyLine, IsFaultOf}
 use Rattle.lab_script.proofs.ScriptLines.{fit_of, lines_front}
-use Rattle.lab_table.proofs.Tests.{slice_get-middle}
 use Rattle.lab_statement.specs.declared.fault.ScriptFault.TheVariants as fault
 
 -- the most bytes that lines come from: each may have lost a carriage return and its newline

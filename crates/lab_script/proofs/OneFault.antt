@@ -1,15 +1,6 @@
 -- A text has one fault, or spells one script.
-use Rattle.std.proofs.Common.{◌≡◌, inl, inr, ℕ, zero, suc, ◌+◌, ◌<◌, List, [], ◌∷◌, length, take, Option, Some, None, refl, sym, ap, subst, ◌∙◌, arith}
-use Rattle.std.specs.Prelude.{slice_get}
-use Rattle.std.specs.Str.Lines.{lines}
-use Rattle.std.proofs.lemmas.Bool.{cases_lt}
-use Rattle.std.proofs.lemmas.List.{take_all}
-use Rattle.std.proofs.lemmas.Option.{same_Some, slice_get_within}
+use Rattle.lab_script.proofs.Common.{◌≡◌, inl, inr, ℕ, zero, suc, ◌+◌, ◌<◌, List, [], ◌∷◌, length, take, Option, Some, None, refl, sym, ap, subst, ◌∙◌, arith, slice_get, lines, cases_lt, take_all, same_Some, slice_get_within, ScriptFaultKind, Script, first_fault, IsFaultyLine, IsFaultOf, LineSpells, LinesSpell, Spells}
 use Rattle.lab_statement.specs.declared.fault.ScriptFault.TheVariants as fault
-use Rattle.lab_statement.specs.declared.fault.ScriptFaultKind.{ScriptFaultKind}
-use Rattle.lab_script.specs.declared.script.Script.{Script}
-use Rattle.lab_script.specs.Fault.{first_fault, IsFaultyLine, IsFaultOf}
-use Rattle.lab_script.specs.Script.{LineSpells, LinesSpell, Spells}
 use Rattle.lab_script.proofs.ScriptLines.{lines_once}
 
 -- where lines spell something, each of them does behind those before it

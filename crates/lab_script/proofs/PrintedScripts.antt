@@ -1,32 +1,9 @@
 -- A printed script spells the script, with the lines of the printed text.
-use Rattle.std.proofs.Common.{◌≡◌, ℕ, zero, suc, ◌-◌, ◌<◌, Bool, true, false, cond, List, [], ◌∷◌, ◌++◌, length, take, refl, ap, ◌∙◌, append_assoc, arith, ◌+◌, ◌≤◌, Some, None, sym, length-append, subst, decimal, map, flat_map}
-use Rattle.std.specs.Prelude.{◌==◌, slice_index, ◌&&◌, codes, nat_le}
-use Rattle.std.specs.List.{list_all, slice_split, onto_first}
-use Rattle.std.specs.Str.Lines.{lines, lines_of_parts, strip_carriage_return}
-use Rattle.std.proofs.lemmas.Bool.Decides.{nat_tests}
+use Rattle.lab_script.proofs.Common.{◌≡◌, ℕ, zero, suc, ◌-◌, ◌<◌, Bool, true, false, cond, List, [], ◌∷◌, ◌++◌, length, take, refl, ap, ◌∙◌, append_assoc, arith, ◌+◌, ◌≤◌, Some, None, sym, length-append, subst, decimal, map, flat_map, ◌==◌, slice_index, ◌&&◌, codes, nat_le, list_all, slice_split, onto_first, lines, lines_of_parts, strip_carriage_return, nat_tests, and_parts, le-leb, newline, printed_command, is_code_byte, code_of, remark_of, Command, Token, Line, Script, tokens, IsCommand, IsCommands, CommandPrints, session_digit, session_of, IsFit, LineSpells, extended, LinesSpell, Spells, SessionInRange, LineInRange, ScriptInRange, with_command, script_tables, with_lines, setup_tables, all_plain, append_plain, append_ascii, word_ends, statement_tokens, statement_reads, statement_fits, decimal_plain, append-nil, AllPrint, ScriptPrints, printed_setup, printed_line, printed_script, Each}
 use Rattle.std.proofs.lemmas.List.Splits.{slice_split-cons_yes, slice_split-cons_no, length-slice_split}
-use Rattle.std.proofs.lemmas.Bool.{and_parts, le-leb}
-use Rattle.lab_statement.specs.Printed.{newline, printed_command}
-use Rattle.lab_statement.specs.Text.{is_code_byte, code_of, remark_of}
 use Rattle.std.proofs.lemmas.Fmt.{decimal_digit}
-use Rattle.lab_table.specs.declared.statement.Command.{Command}
-use Rattle.lab_statement.specs.declared.token.Token.{Token}
-use Rattle.lab_script.specs.declared.script.Line.{Line}
-use Rattle.lab_script.specs.declared.script.Script.{Script}
-use Rattle.lab_statement.specs.Token.{tokens}
-use Rattle.lab_script.specs.Grammar.{IsCommand, IsCommands}
-use Rattle.lab_statement.specs.Limits.{CommandPrints}
-use Rattle.lab_script.specs.Script.{session_digit, session_of, IsFit, LineSpells, extended, LinesSpell, Spells}
 use Rattle.lab_statement.specs.Ranges.{CommandInRange}
-use Rattle.lab_script.specs.Ranges.{SessionInRange, LineInRange, ScriptInRange}
-use Rattle.lab_script.specs.Tables.{with_command, script_tables, with_lines, setup_tables}
-use Rattle.lab_statement.proofs.PrintedText.{all_plain, append_plain, append_ascii, Reads, word_ends}
-use Rattle.lab_statement.proofs.PrintedStatements.{statement_tokens, statement_reads, statement_fits}
-use Rattle.lab_statement.proofs.PrintedNumbers.{decimal_plain}
-use Rattle.std.proofs.lemmas.List.{append-nil}
-use Rattle.lab_script.specs.Limits.{AllPrint, ScriptPrints}
-use Rattle.lab_script.specs.Printed.{printed_setup, printed_line, printed_script}
-use Rattle.lab_statement.specs.Each.{Each}
+use Rattle.lab_statement.proofs.PrintedText.{Reads}
 use Rattle.lab_script.specs.Renumbered.{numbered, renumbered}
 use Rattle.lab_script.proofs.FewTables.{lines_longer, tables_extended}
 use Rattle.lab_script.proofs.PrintedSetups.{setup_leads, setup_spells}

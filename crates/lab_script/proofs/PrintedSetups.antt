@@ -1,29 +1,11 @@
 -- Printed setups.
-use Rattle.std.proofs.Common.{◌≡◌, ℕ, ◌≤◌, List, [], ◌∷◌, ◌++◌, length, refl, sym, ap, subst, ◌∙◌, append_assoc, arith}
-use Rattle.std.specs.Prelude.{ℤ, Bool, true, false, if◌then◌else◌, codes, None, Some}
-use Rattle.std.specs.List.{list_all}
+use Rattle.lab_script.proofs.Common.{◌≡◌, ℕ, ◌≤◌, List, [], ◌∷◌, ◌++◌, length, refl, sym, ap, subst, ◌∙◌, append_assoc, arith, ℤ, Bool, true, false, if◌then◌else◌, codes, None, Some, list_all, Row, numbered, rows_total, rows_apart, table_name_eq, test_name, Table, Token, tokens, IsNamedRow, IsRows, IsRowList, IsSetup, joined, printed_row, printed_named_row, printed_named_rows, named_rows_or, printed_setup, code_of, LineSpells, Each, EntryInRange, setup_tables, plain_code, Leads, literal, leads_reads, leads_leads, cut_leads, mark_leads, reads_all, comma_leads, row_tokens, row_leads, row_fits}
 use Rattle.std.specs.FinMap as finite
 use Rattle.std.specs.Cmp.Lexicographic.{bytes_decides}
-use Rattle.lab_table.specs.Row.{Row, numbered, rows_total, rows_apart}
-use Rattle.lab_table.specs.TableName.{table_name_eq, test_name}
-use Rattle.lab_table.specs.Table.{Table}
 use Rattle.lab_table.specs.declared.word.Word.TheVariants as word
-use Rattle.lab_statement.specs.declared.token.Token.{Token}
 use Rattle.lab_statement.specs.declared.token.Token.TheVariants as token
-use Rattle.lab_statement.specs.Token.{tokens}
-use Rattle.lab_script.specs.Grammar.{IsNamedRow, IsRows, IsRowList, IsSetup}
-use Rattle.lab_statement.specs.Printed.{joined, printed_row}
-use Rattle.lab_script.specs.Printed.{printed_named_row, printed_named_rows, named_rows_or, printed_setup}
-use Rattle.lab_statement.specs.Text.{code_of}
-use Rattle.lab_script.specs.Script.{LineSpells}
-use Rattle.lab_statement.specs.Each.{Each}
-use Rattle.lab_script.specs.Ranges.{EntryInRange}
-use Rattle.lab_script.specs.Tables.{setup_tables}
-use Rattle.lab_statement.proofs.PrintedText.{plain_code, Leads, literal, leads_reads, leads_leads, cut_leads, mark_leads, reads_all}
 use Rattle.lab_statement.proofs.PrintedNames.{name_reads}
-use Rattle.lab_statement.proofs.PrintedNumbers.{comma_leads}
 use Rattle.lab_statement.proofs.PrintedPreds.{open_leads, close_leads}
-use Rattle.lab_statement.proofs.PrintedStatements.{row_tokens, row_leads, row_fits}
 use Rattle.lab_statement.specs.Grammar as grammar
 use Rattle.lab_script.specs.Grammar as line_grammar
 use Rattle.lab_script.proofs.DistinctRows.{sorted_distinct}

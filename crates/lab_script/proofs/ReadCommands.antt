@@ -1,21 +1,7 @@
 -- The commands of a line of the grammar are read.
-use Rattle.std.proofs.Common.{◌≡◌, ◌≤◌, ◌<◌, true, List, [], ◌∷◌, ◌++◌, length, drop, Option, Some, None, refl, sym, ap, subst, ◌∙◌, length-append, one-add, arith, ℕ, zero, suc, ◌+◌, Bool, false, cond, append_assoc, append-nil}
-use Rattle.std.specs.List.{list_all, prefix_len}
-use Rattle.std.proofs.lemmas.Bool.{and_parts, le-leb, lt-ltb}
-use Rattle.lab_table.specs.declared.statement.Statement.{Statement}
-use Rattle.lab_table.specs.declared.statement.Command.{Command}
-use Rattle.lab_statement.specs.declared.token.Token.{Token}
-use Rattle.lab_statement.specs.Grammar.{IsStatement}
-use Rattle.lab_script.specs.Grammar.{IsCommand, IsCommands}
-use Rattle.lab_statement.specs.Printed.{printed_statement}
-use Rattle.lab_statement.specs.Stopping.{Reads, Stops}
-use Rattle.lab_statement.specs.FirstFaults.{end_read, is_short}
-use Rattle.lab_statement.specs.Token.{is_word}
-use Rattle.lab_script.specs.FirstFaults.{words_read, level_read, command_read, terminated_read, one_added, step_read, repeated_read, some_left, commands_read}
-use Rattle.lab_statement.proofs.Readings.{reads, reads_is}
+use Rattle.lab_script.proofs.Common.{◌≡◌, ◌≤◌, ◌<◌, true, List, [], ◌∷◌, ◌++◌, length, drop, Option, Some, None, refl, sym, ap, subst, ◌∙◌, length-append, one-add, arith, ℕ, zero, suc, ◌+◌, Bool, false, cond, append_assoc, append-nil, list_all, prefix_len, and_parts, le-leb, lt-ltb, Statement, Command, Token, IsStatement, IsCommand, IsCommands, printed_statement, Reads, Stops, end_read, is_short, is_word, words_read, level_read, command_read, terminated_read, one_added, step_read, repeated_read, some_left, commands_read, reads, reads_is, begins_setup}
 use Rattle.lab_statement.proofs.ReadStatements.{statement_again, Closes, nothing, semicolon, unjoined}
 use Rattle.lab_statement.specs.declared.fault.ScriptFaultKind.TheVariants.{TooLong}
-use Rattle.lab_script.specs.Script.{begins_setup}
 use Rattle.lab_script.proofs.StoppedLoops.{some_more}
 use Rattle.lab_script.proofs.CommandsTaken.{listed, command_long}
 use Rattle.lab_table.specs.declared.statement.Command.TheVariants as command

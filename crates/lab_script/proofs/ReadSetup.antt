@@ -1,25 +1,8 @@
 -- A setup of the grammar is read.
-use Rattle.std.proofs.Common.{◌≡◌, ℕ, zero, suc, ◌+◌, ◌<◌, ◌≤◌, true, List, [], ◌∷◌, ◌++◌, length, None, sym, ap, refl, subst, ◌∙◌, append_assoc, arith}
-use Rattle.lab_table.specs.TableName.{test_name}
-use Rattle.lab_statement.specs.declared.token.Token.{Token}
-use Rattle.lab_statement.specs.Stopping.{Reads}
-use Rattle.lab_script.specs.FirstFaults.{row_table_read, named_row_read, row_onto_read, repeated_read, rows_read, table_read, setup_end_read, setup_read}
-use Rattle.lab_statement.proofs.Readings.{reads_is}
-use Rattle.std.specs.Prelude.{ℤ}
-use Rattle.lab_table.specs.Row.{Row, row_cmp}
-use Rattle.lab_statement.specs.Grammar.{IsRow, IsId, IsEnd}
-use Rattle.lab_script.specs.Grammar.{IsNamedRow, IsRows, IsRowList, IsSetup, AllDistinct}
+use Rattle.lab_script.proofs.Common.{◌≡◌, ℕ, zero, suc, ◌+◌, ◌<◌, ◌≤◌, true, List, [], ◌∷◌, ◌++◌, length, None, sym, ap, refl, subst, ◌∙◌, append_assoc, arith, test_name, Token, Reads, row_table_read, named_row_read, row_onto_read, repeated_read, rows_read, table_read, setup_end_read, setup_read, reads_is, ℤ, Row, row_cmp, IsRow, IsId, IsEnd, IsNamedRow, IsRows, IsRowList, IsSetup, AllDistinct, find, le-leb, length-append, Table, printed_setup, after, no_rows_at, begins_setup}
 use Rattle.lab_statement.proofs.ReadRows.{row_again, parts_of}
-use Rattle.std.specs.FinMap.{find}
-use Rattle.std.proofs.lemmas.Bool.{le-leb}
-use Rattle.std.proofs.lemmas.List.{length-append}
-use Rattle.lab_table.specs.Table.{Table}
-use Rattle.lab_script.specs.Printed.{printed_setup}
-use Rattle.lab_statement.specs.Reading.{after}
-use Rattle.lab_statement.specs.FirstFaults.{no_rows_at}
 use Rattle.lab_script.proofs.DistinctRows.{not_before, is_absent, pushed_table, table_of}
 use Rattle.lab_statement.proofs.AtomParts.{no_close}
-use Rattle.lab_script.specs.Script.{begins_setup}
 use Rattle.lab_statement.specs.declared.token.Token.TheVariants as token
 use Rattle.lab_statement.specs.Grammar as grammar
 use Rattle.lab_script.specs.Grammar as line_grammar

@@ -1,12 +1,5 @@
 -- What a run holds in the end, from what it holds now and the lines that are left: each step of the run keeps it.
-use Rattle.std.proofs.Common.{◌≡◌, ℕ, ◌+◌, Bool, true, false, cond, not, List, [], ◌∷◌, ◌++◌, Option, refl, sym, ap, ◌∙◌, append_assoc}
-use Rattle.std.specs.Prelude.{◌&&◌}
-use Rattle.lab_table.specs.Table.{Table}
-use Rattle.lab_table.specs.declared.statement.Statement.{Statement}
-use Rattle.lab_script.specs.declared.script.Line.{Line}
-use Rattle.lab_statement.specs.declared.print.PrintFault.{PrintFault}
-use Rattle.lab_script.specs.Transcript.{Transaction, statements_of, commits_of, inside_after, is_begin, transaction_of, transactions, body_text, committed, table_after, transaction_text, serial_text}
-use Rattle.lab_script.specs.TranscriptView.{TranscriptView, shown_of, shown, broken_with, first_broken}
+use Rattle.lab_script.proofs.Common.{◌≡◌, ℕ, ◌+◌, Bool, true, false, cond, not, List, [], ◌∷◌, ◌++◌, Option, refl, sym, ap, ◌∙◌, append_assoc, ◌&&◌, Table, Statement, Line, PrintFault, Transaction, statements_of, commits_of, inside_after, is_begin, transaction_of, transactions, body_text, committed, table_after, transaction_text, serial_text, TranscriptView, shown_of, shown, broken_with, first_broken}
 
 -- what a transcript holds, and the table that commits, once a transaction has ended
 pub record Ended : Type 0 where

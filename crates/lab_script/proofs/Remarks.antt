@@ -1,12 +1,5 @@
 -- The session that a remark names.
-use Rattle.std.proofs.Common.{◌≡◌, ℕ, Bool, cond, List, [], ◌∷◌, length, drop, None, refl, sym, ap, ◌∙◌, inl, inr}
-use Rattle.std.specs.Prelude.{◌==◌}
-use Rattle.std.specs.List.{prefix_len}
-use Rattle.std.specs.Char.{to_ascii_lowercase}
-use Rattle.std.proofs.lemmas.Bool.{cases_Bool}
-use Rattle.std.proofs.lemmas.List.{nil_from_length}
-use Rattle.lab_statement.specs.Token.{is_blank}
-use Rattle.lab_script.specs.Script.{session_digit, session_of}
+use Rattle.lab_script.proofs.Common.{◌≡◌, ℕ, Bool, cond, List, [], ◌∷◌, length, drop, None, refl, sym, ap, ◌∙◌, inl, inr, ◌==◌, prefix_len, to_ascii_lowercase, cases_Bool, nil_from_length, is_blank, session_digit, session_of}
 use Rattle.lab_statement.proofs.Tokens.{front_stops, one_more, no_more}
 
 -- blanks before the session don't matter

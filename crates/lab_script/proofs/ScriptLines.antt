@@ -1,26 +1,8 @@
 -- What lines spell: a line makes one thing at most of what stands before it, and so do lines; what is made prints.
-use Rattle.std.proofs.Common.{◌≡◌, ℕ, ◌+◌, ◌≤◌, Bool, true, cond, List, [], ◌∷◌, ◌++◌, length, map, Option, Some, refl, sym, ap, subst, ◌∙◌, arith, length-append, false, None}
-use Rattle.std.specs.Prelude.{◌-◌, IfSome, nat_lt}
-use Rattle.std.specs.List.{list_all}
-use Rattle.std.specs.Char.{to_ascii_lowercase, is_ascii_digit}
-use Rattle.std.proofs.lemmas.List.{length-map}
-use Rattle.std.proofs.lemmas.Bool.{and_parts, false≢true, ltb-false, or_parts}
-use Rattle.std.proofs.lemmas.Option.{same_Some}
-use Rattle.lab_table.specs.declared.statement.Command.{Command}
-use Rattle.lab_script.specs.declared.script.Line.{Line}
-use Rattle.lab_script.specs.declared.script.Script.{Script}
-use Rattle.lab_statement.specs.declared.token.Token.{Token}
-use Rattle.lab_statement.specs.Token.{gap, letters, whole, is_letter, is_blank, mark, tokens, tokens_from}
-use Rattle.lab_script.specs.Grammar.{IsCommands, IsSetup, IsCommand}
-use Rattle.lab_statement.specs.Text.{code_of, remark_of, is_code_byte}
-use Rattle.lab_script.specs.Script.{is_passed, IsFit, begins_setup, extended, LineSpells, LinesSpell, session_of, TokensSpell, Spells}
+use Rattle.lab_script.proofs.Common.{◌≡◌, ℕ, ◌+◌, ◌≤◌, Bool, true, cond, List, [], ◌∷◌, ◌++◌, length, map, Option, Some, refl, sym, ap, subst, ◌∙◌, arith, length-append, false, None, ◌-◌, IfSome, nat_lt, list_all, to_ascii_lowercase, is_ascii_digit, length-map, and_parts, false≢true, ltb-false, or_parts, same_Some, Command, Line, Script, Token, gap, letters, whole, is_letter, is_blank, mark, tokens, tokens_from, IsCommands, IsSetup, IsCommand, code_of, remark_of, is_code_byte, is_passed, IsFit, begins_setup, extended, LineSpells, LinesSpell, session_of, TokensSpell, Spells, is_over, Each, CommandPrints, AllPrint, ScriptPrints}
 use Rattle.lab_script.proofs.ReadCommands.{commands_once, not_empty}
 use Rattle.lab_script.proofs.ReadSetup.{setup_once, setup_begins, setup_short}
-use Rattle.lab_script.specs.Fault.{is_over}
-use Rattle.lab_statement.specs.Each.{Each}
-use Rattle.lab_statement.specs.Limits.{CommandPrints}
 use Rattle.lab_statement.proofs.ShallowStatements.{statement_shallow}
-use Rattle.lab_script.specs.Limits.{AllPrint, ScriptPrints}
 use Rattle.lab_script.proofs.FewTables.{tables_extended}
 use Rattle.lab_statement.specs.declared.token.Token.TheVariants as token
 use Rattle.lab_script.specs.Script as script

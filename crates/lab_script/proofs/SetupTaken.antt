@@ -1,31 +1,11 @@
 -- What is read as a setup is in the grammar, and reading stops with few kinds of faults.
-use Rattle.std.proofs.Common.{◌≡◌, ◌⊎◌, ℕ, zero, suc, ◌<◌, ◌≤◌, List, [], ◌∷◌, ◌++◌, length, Option, Some, None, refl, sym, ap, subst, ◌∙◌, append_assoc, inl, inr}
-use Rattle.std.specs.Prelude.{ℤ, nat_le}
-use Rattle.std.specs.FinMap.{find, contains_key, empty}
-use Rattle.std.proofs.lemmas.Bool.{leb-true, leb-false}
-use Rattle.lab_table.specs.Row.{Row, row_cmp, numbered}
-use Rattle.lab_table.specs.Table.{Table}
-use Rattle.lab_table.specs.TableName.{test_name}
+use Rattle.lab_script.proofs.Common.{◌≡◌, ◌⊎◌, ℕ, zero, suc, ◌<◌, ◌≤◌, List, [], ◌∷◌, ◌++◌, length, Option, Some, None, refl, sym, ap, subst, ◌∙◌, append_assoc, inl, inr, ℤ, nat_le, find, contains_key, empty, leb-true, leb-false, Row, row_cmp, numbered, Table, test_name, Token, ScriptFaultKind, IsEnd, after, Reads, ◌>>=◌, if_found, row_read, no_rows_at, is_word, Gives, gives, stops, Takes, then_gives, each_gives, if_gives, found_gives, further, made, token_gives, row_taken, name_of_gives, nothing_gives, row_table_read, named_row_read, row_onto_read, repeated_read, rows_read, table_read, setup_end_read, setup_read, setup_ended, IsNamedRow, IsRows, IsRowList, IsSetup, AllDistinct, max_line_bytes, printed_setup, BeginsLongSetup}
 use Rattle.lab_table.specs.declared.word.Word.TheVariants as word
-use Rattle.lab_statement.specs.declared.token.Token.{Token}
 use Rattle.lab_statement.specs.declared.token.Token.TheVariants as token
-use Rattle.lab_statement.specs.declared.fault.ScriptFaultKind.{ScriptFaultKind}
 use Rattle.lab_statement.specs.declared.fault.ScriptFaultKind.TheVariants as kinds
-use Rattle.lab_statement.specs.Grammar.{IsEnd}
 use Rattle.lab_statement.specs.Grammar as statement
-use Rattle.lab_statement.specs.Reading.{after}
-use Rattle.lab_statement.specs.Stopping.{Reads, ◌>>=◌, if_found, row_read}
-use Rattle.lab_statement.specs.FirstFaults.{no_rows_at}
-use Rattle.lab_statement.specs.Token.{is_word}
 use Rattle.lab_statement.proofs.SameTokens.{after_is}
-use Rattle.lab_statement.proofs.Takes.{Gives, gives, stops, Takes, then_gives, each_gives, if_gives, found_gives, further, made, token_gives}
-use Rattle.lab_statement.proofs.StatementTaken.{row_taken, name_of_gives, nothing_gives}
-use Rattle.lab_script.specs.FirstFaults.{row_table_read, named_row_read, row_onto_read, repeated_read, rows_read, table_read, setup_end_read, setup_read, setup_ended}
-use Rattle.lab_script.specs.Grammar.{IsNamedRow, IsRows, IsRowList, IsSetup, AllDistinct}
 use Rattle.lab_script.specs.Grammar as grammar
-use Rattle.lab_statement.specs.Limits.{max_line_bytes}
-use Rattle.lab_script.specs.Printed.{printed_setup}
-use Rattle.lab_script.specs.Script.{BeginsLongSetup}
 use Rattle.lab_script.proofs.DistinctRows.{table_of, absent_from, pushed_table, pushed_distinct}
 
 -- a row's table is that of the word before it, or `test`

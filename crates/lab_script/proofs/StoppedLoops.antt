@@ -1,10 +1,5 @@
 -- Statements of a line, and rows of a setup, read by a loop that may stop at a fault.
-use Rattle.std.proofs.Common.{◌≡◌, ℕ, zero, suc, ◌<◌, ◌≤◌, List, [], ◌∷◌, length, Option, Some, None, refl, sym, ◌∙◌, arith}
-use Rattle.lab_statement.specs.declared.token.Token.{Token}
-use Rattle.lab_statement.specs.declared.fault.Refusal.{Refusal}
-use Rattle.lab_statement.specs.Stopping.{Reading, Reads, StopsAt}
-use Rattle.lab_script.specs.FirstFaults.{commands_read, repeated_read, some_left, step_read}
-use Rattle.lab_statement.proofs.Readings.{stops_as}
+use Rattle.lab_script.proofs.Common.{◌≡◌, ℕ, zero, suc, ◌<◌, ◌≤◌, List, [], ◌∷◌, length, Option, Some, None, refl, sym, ◌∙◌, arith, Token, Refusal, Reading, Reads, StopsAt, commands_read, repeated_read, some_left, step_read, stops_as}
 
 module _ {A : Type 0} (item : A → List Token → Reading (A × List Token)) (next : List Token → Option (List Token)) where
   -- where an item stops, all do

@@ -1,7 +1,5 @@
 -- Texts that are appended one behind the other.
-use Rattle.std.proofs.Common.{◌≡◌, ℕ, List, ◌++◌, Result, sym, ap, ◌∙◌, append_assoc}
-use Rattle.std.specs.Prelude.{OnOk}
-use Rattle.std.proofs.lemmas.Result.{IfOk-equal}
+use Rattle.lab_statement.proofs.Common.{◌≡◌, ℕ, List, ◌++◌, Result, sym, ap, ◌∙◌, append_assoc, OnOk, IfOk-equal}
 
 -- a call that appends the back of a text behind its front appends the text
 pub rest_appended : {X E : Type 0} (r : Result X E) (old front back middle new whole : List ℕ) → middle ≡ old ++ front → OnOk r (new ≡ middle ++ back) → whole ≡ front ++ back

@@ -1,20 +1,12 @@
 -- Atoms of the grammar are read, part after part.
-use Rattle.std.proofs.Common.{◌≡◌, ◌≤◌, List, [], ◌∷◌, ◌++◌, length, None, refl, ap, ◌∙◌, append_assoc, length-append, arith}
-use Rattle.std.specs.Prelude.{ℤ}
-use Rattle.lab_table.specs.declared.predicate.Col.{Col}
+use Rattle.lab_statement.proofs.Common.{◌≡◌, ◌≤◌, List, [], ◌∷◌, ◌++◌, length, None, refl, ap, ◌∙◌, append_assoc, length-append, arith, ℤ, Col, Cmp, Token, IsNumber, IsNumbers, IsNumberList, col_token, cmp_token, IsAtom, after, Reading, Reads, number_read, col_read, cmp_read, one_more, numbers_read, number_list_read, compare_read, remainder_read, one_of_read, atom_read, Predicate}
 use Rattle.lab_table.specs.declared.predicate.Col.TheVariants as col
-use Rattle.lab_table.specs.declared.predicate.Cmp.{Cmp}
 use Rattle.lab_table.specs.declared.predicate.Cmp.TheVariants as cmp
-use Rattle.lab_statement.specs.declared.token.Token.{Token}
 use Rattle.lab_statement.specs.declared.token.Token.TheVariants as token
-use Rattle.lab_statement.specs.Grammar.{IsNumber, IsNumbers, IsNumberList, col_token, cmp_token, IsAtom}
 use Rattle.lab_statement.specs.Grammar as grammar
-use Rattle.lab_statement.specs.Reading.{after}
-use Rattle.lab_statement.specs.Stopping.{Reading, Reads, number_read, col_read, cmp_read, one_more, numbers_read, number_list_read, compare_read, remainder_read, one_of_read, atom_read}
 use Rattle.lab_statement.proofs.Readings.{reads}
 use Rattle.lab_statement.proofs.ReadNumbers.{number_again, positive_again}
 use Rattle.lab_statement.proofs.StoppedLoops.{ReadsOn, within, goes_on, ends, ended}
-use Rattle.lab_table.specs.Predicate.{Predicate}
 use Rattle.lab_table.specs.declared.word.Word.TheVariants as word
 
 -- a column

@@ -1,12 +1,6 @@
 -- With which faults reading stops.
-use Rattle.std.proofs.Common.{◌≡◌, ℕ, false, List, length, Some, None, take, inl, inr}
-use Rattle.std.specs.Prelude.{◌-◌}
-use Rattle.lab_statement.specs.declared.token.Token.{Token}
-use Rattle.lab_statement.specs.declared.fault.ScriptFaultKind.{ScriptFaultKind}
+use Rattle.lab_statement.proofs.Common.{◌≡◌, ℕ, false, List, length, Some, None, take, inl, inr, ◌-◌, Token, ScriptFaultKind, in_predicate, statement_fault, whole_statement_read, placed_kind, cases_Bool, HasWhere, BeginsLongStatement}
 use Rattle.lab_statement.specs.declared.fault.ScriptFaultKind.TheVariants as kinds
-use Rattle.lab_statement.specs.FirstFaults.{in_predicate, statement_fault, whole_statement_read, placed_kind}
-use Rattle.std.proofs.lemmas.Bool.{cases_Bool}
-use Rattle.lab_statement.specs.Text.{HasWhere, BeginsLongStatement}
 use Rattle.lab_statement.proofs.GrammarFaults.{fault_is}
 use Rattle.lab_statement.proofs.Takes.{stop_of}
 use Rattle.lab_statement.proofs.StatementTaken.{whole_gives}

@@ -1,21 +1,8 @@
 -- The first fault of tokens: where reading stops, and none exactly where they are in the grammar.
-use Rattle.std.proofs.Common.{◌≡◌, ℕ, ◌<◌, ◌≤◌, Bool, true, false, List, length, Option, Some, None, refl, subst, ap}
-use Rattle.std.specs.Prelude.{◌↔◌, if◌then◌else◌}
-use Rattle.std.proofs.lemmas.Bool.{le-leb, leb-true, lt-leb}
+use Rattle.lab_statement.proofs.Common.{◌≡◌, ℕ, ◌<◌, ◌≤◌, Bool, true, false, List, length, Option, Some, None, refl, subst, ap, ◌↔◌, if◌then◌else◌, le-leb, leb-true, lt-leb, Statement, ScriptFaultKind, TooManyTables, Token, IsWholeStatement, Reading, Reads, Stops, StopsAt, whole_statement_read, placed_kind, fault_of, fifth_table, statement_fault, refusal_as, StopsFirst, same_Some, Refusal, refusal_at, IsFirstInText, AreStatementTokens}
 use Rattle.lab_table.specs.TableSet.{are_few}
-use Rattle.lab_table.specs.declared.statement.Statement.{Statement}
-use Rattle.lab_statement.specs.declared.fault.ScriptFaultKind.{ScriptFaultKind}
-use Rattle.lab_statement.specs.declared.fault.ScriptFaultKind.TheVariants.{TooManyTables}
-use Rattle.lab_statement.specs.declared.token.Token.{Token}
-use Rattle.lab_statement.specs.Grammar.{IsWholeStatement}
-use Rattle.lab_statement.specs.Stopping.{Reading, Reads, Stops, StopsAt}
-use Rattle.lab_statement.specs.FirstFaults.{whole_statement_read, placed_kind, fault_of, fifth_table, statement_fault, refusal_as, StopsFirst}
-use Rattle.std.proofs.lemmas.Option.{same_Some}
 use Rattle.lab_statement.proofs.ReadStatements.{whole_takes, whole_again}
-use Rattle.lab_statement.specs.declared.fault.Refusal.{Refusal}
 use Rattle.lab_statement.specs.declared.fault.Refusal.TheVariants as refusal
-use Rattle.lab_statement.specs.Fault.{refusal_at, IsFirstInText}
-use Rattle.lab_statement.specs.Text.{AreStatementTokens}
 
 -- a reading has no fault exactly where it has a value that has none
 module _ {X : Type 0} (of : X → Option ScriptFaultKind) (placed : ScriptFaultKind → ℕ → ScriptFaultKind) where

@@ -1,7 +1,5 @@
 -- Texts with commas between them, one after another.
-use Rattle.std.proofs.Common.{◌≡◌, ℕ, List, [], ◌∷◌, ◌++◌, sym, ap, ◌∙◌, append_assoc, append-nil}
-use Rattle.std.specs.Prelude.{codes}
-use Rattle.lab_statement.specs.Printed.{joined}
+use Rattle.lab_statement.proofs.Common.{◌≡◌, ℕ, List, [], ◌∷◌, ◌++◌, sym, ap, ◌∙◌, append_assoc, append-nil, codes, joined}
 
 -- each text behind a comma and a space
 abbrev pub followed : List (List ℕ) → List ℕ

@@ -1,23 +1,10 @@
 -- No statement is spelled with a byte that begins no token.
-use Rattle.std.proofs.Common.{◌≡◌, ℕ, Bool, true, false, List, [], ◌∷◌, ◌++◌, refl, sym, ap, ◌∙◌}
-use Rattle.std.specs.Prelude.{ℤ, ◌&&◌, Option}
-use Rattle.std.specs.List.{list_all}
-use Rattle.std.proofs.lemmas.Bool.{false≢true, and_parts}
-use Rattle.std.proofs.Math.Bool.{and-false}
-use Rattle.std.proofs.lemmas.List.Folds.{list_all-append}
-use Rattle.lab_table.specs.Predicate.{Predicate}
-use Rattle.lab_table.specs.declared.statement.Statement.{Statement}
-use Rattle.lab_table.specs.declared.predicate.Col.{Col}
+use Rattle.lab_statement.proofs.Common.{◌≡◌, ℕ, Bool, true, false, List, [], ◌∷◌, ◌++◌, refl, sym, ap, ◌∙◌, ℤ, ◌&&◌, Option, list_all, false≢true, and_parts, and-false, list_all-append, Predicate, Statement, Col, Cmp, Expr, Token, Kind, col_token, cmp_token, IsNumber, IsNumbers, IsNumberList, IsAtom, IsPred, IsWhere, IsExpr, IsRow, IsStatement, IsEnd, IsWholeStatement, BeginsLongStatement}
 use Rattle.lab_table.specs.declared.predicate.Col.TheVariants as col
-use Rattle.lab_table.specs.declared.predicate.Cmp.{Cmp}
 use Rattle.lab_table.specs.declared.predicate.Cmp.TheVariants as cmp
-use Rattle.lab_table.specs.declared.statement.Expr.{Expr}
 use Rattle.lab_table.specs.declared.word.Word.TheVariants as word
-use Rattle.lab_statement.specs.declared.token.Token.{Token}
 use Rattle.lab_statement.specs.declared.token.Token.TheVariants as token
 use Rattle.lab_statement.specs.Grammar as grammar
-use Rattle.lab_statement.specs.Grammar.{Kind, col_token, cmp_token, IsNumber, IsNumbers, IsNumberList, IsAtom, IsPred, IsWhere, IsExpr, IsRow, IsStatement, IsEnd, IsWholeStatement}
-use Rattle.lab_statement.specs.Text.{BeginsLongStatement}
 
 -- whether a token is one of the grammar
 abbrev is_known : Token → Bool

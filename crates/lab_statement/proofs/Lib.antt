@@ -1,3 +1,4 @@
+pub mod Common
 pub mod Tokens
 pub mod SameTokens
 pub mod Tests

@@ -1,11 +1,6 @@
 -- A printed number is one token.
-use Rattle.std.proofs.Common.{◌≡◌, ℕ, ◌+◌, ◌-◌, ◌*◌, ◌/◌, ◌%◌, ◌≤◌, ◌<◌, true, false, List, [], ◌∷◌, ◌++◌, ap, append_assoc, ◌∙◌, arith}
-use Rattle.std.proofs.lemmas.Bool.Decides.{nat_tests}
-use Rattle.std.proofs.lemmas.Fmt.{decimal_by_steps}
-use Rattle.std.specs.Fmt.{decimal}
-use Rattle.std.specs.Char.{is_ascii_digit}
+use Rattle.lab_statement.proofs.Common.{◌≡◌, ℕ, ◌+◌, ◌-◌, ◌*◌, ◌/◌, ◌%◌, ◌≤◌, ◌<◌, true, false, List, [], ◌∷◌, ◌++◌, ap, append_assoc, ◌∙◌, arith, nat_tests, decimal_by_steps, decimal, is_ascii_digit, whole, is_letter, is_blank, with_digit, tokens, tokens_from}
 use Rattle.lab_statement.specs.declared.token.Token.TheVariants as token
-use Rattle.lab_statement.specs.Token.{whole, is_letter, is_blank, with_digit, tokens, tokens_from}
 use Rattle.lab_statement.proofs.Tokens.{digit_begins, digit_goes_on}
 
 one_digit : (d : ℕ) → d < 10 → is_ascii_digit (48 + d) ≡ true

@@ -1,15 +1,7 @@
 -- The text of one statement has one fault.
-use Rattle.std.proofs.Common.{◌≡◌, ◌⊎◌, inl, inr, ℕ, ◌<◌, ◌≤◌, true, false, List, length, refl, sym, ap, ◌∙◌, arith}
-use Rattle.std.specs.List.{list_all}
-use Rattle.std.proofs.lemmas.Bool.{false≢true, cases_lt}
+use Rattle.lab_statement.proofs.Common.{◌≡◌, ◌⊎◌, inl, inr, ℕ, ◌<◌, ◌≤◌, true, false, List, length, refl, sym, ap, ◌∙◌, arith, list_all, false≢true, cases_lt, ScriptFaultKind, Token, SaysOfStatement, IsStatementFault, IsFirstInText, statement_fault, AreStatementTokens, is_code_byte, same_Some}
 use Rattle.lab_statement.specs.declared.fault.ScriptFault.TheVariants as fault
-use Rattle.lab_statement.specs.declared.fault.ScriptFaultKind.{ScriptFaultKind}
 use Rattle.lab_statement.specs.declared.fault.ScriptFaultKind.TheVariants as kinds
-use Rattle.lab_statement.specs.declared.token.Token.{Token}
-use Rattle.lab_statement.specs.Fault.{SaysOfStatement, IsStatementFault, IsFirstInText}
-use Rattle.lab_statement.specs.FirstFaults.{statement_fault}
-use Rattle.lab_statement.specs.Text.{AreStatementTokens, is_code_byte}
-use Rattle.std.proofs.lemmas.Option.{same_Some}
 
 module _ (text : List ℕ) where
   -- the three sorts of faults: the text is over its limit, or it isn't and has a byte that is no code, or its tokens are looked at

@@ -1,16 +1,6 @@
 -- Printed names of tables: each is one word, and code.
-use Rattle.std.proofs.Common.{◌≡◌, ℕ, ◌≤◌, Bool, true, false, ◌&&◌, not, cond, List, [], ◌∷◌, ◌++◌, length, Some, None, refl, sym, ap, ◌∙◌, append_assoc, arith}
-use Rattle.std.specs.Prelude.{nat_le}
-use Rattle.std.specs.List.{list_all}
-use Rattle.std.specs.Char.{to_ascii_lowercase}
-use Rattle.std.proofs.lemmas.Bool.{and_parts, and_from, leb-true}
-use Rattle.std.proofs.lemmas.Bool.Decides.{nat_tests}
-use Rattle.std.proofs.lemmas.List.{append-nil}
-use Rattle.lab_table.specs.Words.{is_reserved}
-use Rattle.lab_table.specs.TableName.{has_name_form, is_name_letter, is_table_name}
-use Rattle.lab_statement.specs.declared.token.Token.{Token}
+use Rattle.lab_statement.proofs.Common.{◌≡◌, ℕ, ◌≤◌, Bool, true, false, ◌&&◌, not, cond, List, [], ◌∷◌, ◌++◌, length, Some, None, refl, sym, ap, ◌∙◌, append_assoc, arith, nat_le, list_all, to_ascii_lowercase, and_parts, and_from, leb-true, nat_tests, append-nil, is_reserved, has_name_form, is_name_letter, is_table_name, Token, letters, is_letter, is_blank, tokens, tokens_from}
 use Rattle.lab_statement.specs.declared.token.Token.TheVariants as token
-use Rattle.lab_statement.specs.Token.{letters, is_letter, is_blank, tokens, tokens_from}
 use Rattle.lab_statement.proofs.Tokens.{goes_on, word_begins}
 use Rattle.lab_statement.proofs.PrintedText.{is_plain, all_plain, Reads, word_ends}
 use Rattle.lab_statement.proofs.ReservedWords.{name_named}

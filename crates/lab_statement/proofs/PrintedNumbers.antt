@@ -1,18 +1,8 @@
 -- Printed numbers: their tokens, and that all of them is code.
-use Rattle.std.proofs.Common.{◌≡◌, ℕ, zero, suc, ◌/◌, ◌%◌, ◌≤◌, ◌<◌, Bool, true, false, cond, List, [], ◌∷◌, ◌++◌, length, refl, ap, ◌∙◌, arith, subst}
-use Rattle.std.specs.Prelude.{◌&&◌, ◌==◌, ℤ, pos, negsuc, ◌-ℤ◌, codes}
-use Rattle.std.specs.List.{list_all}
-use Rattle.std.specs.Fmt.{digits, digits_onto, digit_glyph, decimal, signed_decimal}
-use Rattle.std.proofs.lemmas.Bool.Decides.{nat_tests}
-use Rattle.std.proofs.lemmas.Fmt.{decimal_nonempty}
+use Rattle.lab_statement.proofs.Common.{◌≡◌, ℕ, zero, suc, ◌/◌, ◌%◌, ◌≤◌, ◌<◌, Bool, true, false, cond, List, [], ◌∷◌, ◌++◌, length, refl, ap, ◌∙◌, arith, subst, ◌&&◌, ◌==◌, ℤ, pos, negsuc, ◌-ℤ◌, codes, list_all, digits, digits_onto, digit_glyph, decimal, signed_decimal, nat_tests, decimal_nonempty, Token, IsNumber, IsNumbers, IsNumberList, joined, printed_numbers, Each, ValueInRange}
 use Rattle.std.proofs.lemmas.Int.{ints}
-use Rattle.lab_statement.specs.declared.token.Token.{Token}
 use Rattle.lab_statement.specs.declared.token.Token.TheVariants as token
-use Rattle.lab_statement.specs.Grammar.{IsNumber, IsNumbers, IsNumberList}
 use Rattle.lab_statement.specs.Grammar as grammar
-use Rattle.lab_statement.specs.Printed.{joined, printed_numbers}
-use Rattle.lab_statement.specs.Each.{Each}
-use Rattle.lab_statement.specs.Ranges.{ValueInRange}
 use Rattle.lab_statement.proofs.Numbers.{decimal_are}
 use Rattle.lab_statement.proofs.Tokens.{whole_run}
 use Rattle.lab_statement.proofs.PrintedText.{is_plain, Plain, all_plain, dash_plain, plain_no_dash, Reads, Leads, literal, empty_reads, reads_between, number_ends}

@@ -1,18 +1,10 @@
 -- Printed predicates have their tokens.
-use Rattle.std.proofs.Common.{ℕ, Bool, true, false, List, [], ◌∷◌, ◌++◌, refl, arith}
-use Rattle.std.specs.Prelude.{◌||◌, codes}
-use Rattle.lab_table.specs.Predicate.{Predicate}
+use Rattle.lab_statement.proofs.Common.{ℕ, Bool, true, false, List, [], ◌∷◌, ◌++◌, refl, arith, ◌||◌, codes, Predicate, Col, Cmp, Token, col_token, cmp_token, printed_col, printed_cmp, parenthesized, is_or, is_and, printed_pred, PredInRange}
 use Rattle.lab_table.specs.Predicate as predicate
-use Rattle.lab_table.specs.declared.predicate.Col.{Col}
 use Rattle.lab_table.specs.declared.predicate.Col.TheVariants as col
-use Rattle.lab_table.specs.declared.predicate.Cmp.{Cmp}
 use Rattle.lab_table.specs.declared.predicate.Cmp.TheVariants as cmp
 use Rattle.lab_table.specs.declared.word.Word.TheVariants as word
-use Rattle.lab_statement.specs.declared.token.Token.{Token}
 use Rattle.lab_statement.specs.declared.token.Token.TheVariants as token
-use Rattle.lab_statement.specs.Grammar.{col_token, cmp_token}
-use Rattle.lab_statement.specs.Printed.{printed_col, printed_cmp, parenthesized, is_or, is_and, printed_pred}
-use Rattle.lab_statement.specs.Ranges.{PredInRange}
 use Rattle.lab_statement.proofs.PrintedTokens.{wrapped, pred_tokens}
 use Rattle.lab_statement.proofs.PrintedText.{all_plain, Leads, Reads, Cuts, literal, word_ends, leads_reads, leads_leads, leads_then, cut_leads, reads_between, mark_leads}
 use Rattle.lab_statement.proofs.PrintedNumbers.{number_reads, decimal_reads, list_reads}

@@ -1,24 +1,11 @@
 -- Printed statements: their tokens, which are in the grammar, and that all of them is code.
-use Rattle.std.proofs.Common.{◌≡◌, ◌≤◌, ℕ, true, List, [], ◌∷◌, ◌++◌, Option, Some, None, refl, sym, ◌∙◌, arith}
-use Rattle.std.specs.Prelude.{ℤ, codes}
-use Rattle.std.proofs.lemmas.List.{append-nil}
-use Rattle.lab_table.specs.Predicate.{Predicate}
-use Rattle.lab_table.specs.TableName.{is_table_name}
-use Rattle.lab_table.specs.declared.statement.Statement.{Statement}
+use Rattle.lab_statement.proofs.Common.{◌≡◌, ◌≤◌, ℕ, true, List, [], ◌∷◌, ◌++◌, Option, Some, None, refl, sym, ◌∙◌, arith, ℤ, codes, append-nil, Predicate, is_table_name, Statement, Expr, Token, over, IsWhere, IsExpr, IsRow, IsStatement, where_depth, kind_depth, statement_depth, StatementPrints, printed_where, printed_expr, printed_row, printed_kind, printed_statement, SpellsStatement, WhereInRange, ExprInRange, RowInRange, ValueInRange, KindInRange, StatementInRange}
 use Rattle.lab_table.specs.declared.statement.StatementKind.{StatementKind}
 use Rattle.lab_table.specs.declared.statement.StatementKind.TheVariants as kind
-use Rattle.lab_table.specs.declared.statement.Expr.{Expr}
 use Rattle.lab_table.specs.declared.statement.Expr.TheVariants as expr
 use Rattle.lab_table.specs.declared.word.Word.TheVariants as word
-use Rattle.lab_statement.specs.declared.token.Token.{Token}
 use Rattle.lab_statement.specs.declared.token.Token.TheVariants as token
-use Rattle.lab_statement.specs.Grammar.{over, IsWhere, IsExpr, IsRow, IsStatement}
 use Rattle.lab_statement.specs.Grammar as grammar
-use Rattle.lab_statement.specs.Depth.{where_depth, kind_depth, statement_depth}
-use Rattle.lab_statement.specs.Limits.{StatementPrints}
-use Rattle.lab_statement.specs.Printed.{printed_where, printed_expr, printed_row, printed_kind, printed_statement}
-use Rattle.lab_statement.specs.Text.{SpellsStatement}
-use Rattle.lab_statement.specs.Ranges.{WhereInRange, ExprInRange, RowInRange, ValueInRange, KindInRange, StatementInRange}
 use Rattle.lab_statement.proofs.PrintedText.{Plain, all_plain, dash_plain, append_plain, plain_code, Leads, Reads, Breaks, empty_reads, reads_all, leads_reads, leads_leads, leads_then, cut_leads, reads_then, reads_between, literal}
 use Rattle.lab_statement.proofs.PrintedNames.{name_reads}
 use Rattle.lab_statement.proofs.PrintedNumbers.{comma_leads, number_tokens, number_reads, number_fits, decimal_reads}

@@ -1,16 +1,6 @@
 -- Printed text, read from the left: its tokens, and that all of it is code.
-use Rattle.std.proofs.Common.{◌≡◌, ℕ, Bool, true, false, cond, List, [], ◌∷◌, ◌++◌, Some, None, refl, sym, ap, ◌∙◌, append_assoc, subst}
-use Rattle.std.specs.Prelude.{drop, not, ◌&&◌, ◌==◌}
-use Rattle.std.specs.List.{list_all}
-use Rattle.std.specs.Char.{to_ascii_lowercase, is_ascii_digit}
-use Rattle.std.proofs.lemmas.List.{append-nil}
-use Rattle.std.proofs.lemmas.List.Folds.{list_all-append}
-use Rattle.std.proofs.lemmas.Bool.{not-true, and_from, and_parts}
-use Rattle.std.proofs.Math.Bool.{and-false}
-use Rattle.lab_statement.specs.declared.token.Token.{Token}
+use Rattle.lab_statement.proofs.Common.{◌≡◌, ℕ, Bool, true, false, cond, List, [], ◌∷◌, ◌++◌, Some, None, refl, sym, ap, ◌∙◌, append_assoc, subst, drop, not, ◌&&◌, ◌==◌, list_all, to_ascii_lowercase, is_ascii_digit, append-nil, list_all-append, not-true, and_from, and_parts, and-false, Token, letters, whole, is_letter, word_token, tokens, tokens_from, longer_token, begins_remark, code_of, remark_of, is_code_byte}
 use Rattle.lab_statement.specs.declared.token.Token.TheVariants as token
-use Rattle.lab_statement.specs.Token.{letters, whole, is_letter, word_token, tokens, tokens_from, longer_token}
-use Rattle.lab_statement.specs.Text.{begins_remark, code_of, remark_of, is_code_byte}
 use Rattle.lab_statement.proofs.Tokens.{breaks, digit_ends, whole_run}
 
 -- no letter and no digit stands here, so that a word or a number before it ends

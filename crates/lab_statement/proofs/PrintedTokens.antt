@@ -1,16 +1,9 @@
 -- The printed form of a predicate is in the grammar.
-use Rattle.std.proofs.Common.{ℕ, zero, suc, ◌≤◌, Bool, true, false, List, [], ◌∷◌, ◌++◌, arith}
-use Rattle.std.specs.Prelude.{◌||◌}
-use Rattle.lab_table.specs.Predicate.{Predicate}
+use Rattle.lab_statement.proofs.Common.{ℕ, zero, suc, ◌≤◌, Bool, true, false, List, [], ◌∷◌, ◌++◌, arith, ◌||◌, Predicate, Token, is_and, is_or, deeper, depth_of, Kind, P, A, N, IsPred, col_token, cmp_token, PredInRange}
 use Rattle.lab_table.specs.Predicate as predicate
 use Rattle.lab_table.specs.declared.word.Word.TheVariants as word
-use Rattle.lab_statement.specs.declared.token.Token.{Token}
 use Rattle.lab_statement.specs.declared.token.Token.TheVariants as token
-use Rattle.lab_statement.specs.Printed.{is_and, is_or}
-use Rattle.lab_statement.specs.Depth.{deeper, depth_of}
-use Rattle.lab_statement.specs.Grammar.{Kind, P, A, N, IsPred, col_token, cmp_token}
 use Rattle.lab_statement.specs.Grammar as grammar
-use Rattle.lab_statement.specs.Ranges.{PredInRange}
 use Rattle.lab_statement.proofs.PrintedNumbers.{number_tokens, number_fits, list_tokens, list_fits}
 
 -- tokens, in parentheses where the test is true

@@ -1,8 +1,5 @@
 -- Texts that a sink was handed, one behind the other.
-use Rattle.std.proofs.Common.{rules, ◌≡◌, ◌≤◌, ◌+◌, ℕ, suc, Bool, List, ◌∷◌, ◌++◌, Result, Ok, Err, length, map, replicate, refl, sym, ap, ◌∙◌, append_assoc, arith, length-append}
-use Rattle.std.specs.Prelude.{◌↔◌, IsTrue, is_ok}
-use Rattle.std.proofs.lemmas.List.{map-append, length-map, length-replicate}
-use Rattle.lab_statement.specs.Printed.{joined}
+use Rattle.lab_statement.proofs.Common.{rules, ◌≡◌, ◌≤◌, ◌+◌, ℕ, suc, Bool, List, ◌∷◌, ◌++◌, Result, Ok, Err, length, map, replicate, refl, sym, ap, ◌∙◌, append_assoc, arith, length-append, ◌↔◌, IsTrue, is_ok, map-append, length-map, length-replicate, joined}
 use Rattle.lab_statement.specs.Sink.{Puts}
 use Rattle.lab_statement.proofs.Joined.{followed, joined_is}
 

@@ -1,14 +1,8 @@
 -- Numbers of the grammar are read.
-use Rattle.std.proofs.Common.{◌≡◌, ℕ, zero, suc, ◌≤◌, Bool, cond, List, ◌∷◌, ◌++◌, refl, sym, ap, ◌∙◌, arith}
-use Rattle.std.specs.Prelude.{ℤ, pos, negsuc, ◌-ℤ◌}
-use Rattle.std.proofs.lemmas.Bool.{le-leb}
+use Rattle.lab_statement.proofs.Common.{◌≡◌, ℕ, zero, suc, ◌≤◌, Bool, cond, List, ◌∷◌, ◌++◌, refl, sym, ap, ◌∙◌, arith, ℤ, pos, negsuc, ◌-ℤ◌, le-leb, NumberOutOfRange, Token, IsNumber, Reads, Stops, digits_read, magnitude_read, number_read, positive_read}
 use Rattle.std.proofs.Math.IntN.{pos-ne-negsuc, +ℤ_idl}
-use Rattle.lab_statement.specs.declared.fault.ScriptFaultKind.TheVariants.{NumberOutOfRange}
-use Rattle.lab_statement.specs.declared.token.Token.{Token}
 use Rattle.lab_statement.specs.declared.token.Token.TheVariants as token
-use Rattle.lab_statement.specs.Grammar.{IsNumber}
 use Rattle.lab_statement.specs.Grammar as grammar
-use Rattle.lab_statement.specs.Stopping.{Reads, Stops, digits_read, magnitude_read, number_read, positive_read}
 
 pub magnitude_again : (n : ℕ) (rest : List Token) → n ≤ 1000000000 → magnitude_read (token.Digits n ∷ rest) ≡ Reads (n, rest)
 unfolding magnitude_read digits_read

@@ -1,18 +1,12 @@
 -- Predicates of the grammar are read.
-use Rattle.std.proofs.Common.{◌≡◌, ℕ, zero, suc, List, [], ◌∷◌, ◌++◌, Option, None, refl, ap, ◌∙◌, append_assoc, arith}
-use Rattle.lab_table.specs.Predicate.{Predicate}
+use Rattle.lab_statement.proofs.Common.{◌≡◌, ℕ, zero, suc, List, [], ◌∷◌, ◌++◌, Option, None, refl, ap, ◌∙◌, append_assoc, arith, Predicate, Token, Kind, P, A, N, IsAtom, IsPred, IsWhere, col_token, after, Reads, term_read, conj_read, pred_read, where_read, Reading, atom_read, Col}
 use Rattle.lab_table.specs.Predicate as predicate
 use Rattle.lab_table.specs.declared.predicate.Col.TheVariants as col
 use Rattle.lab_table.specs.declared.word.Word.TheVariants as word
-use Rattle.lab_statement.specs.declared.token.Token.{Token}
 use Rattle.lab_statement.specs.declared.token.Token.TheVariants as token
-use Rattle.lab_statement.specs.Grammar.{Kind, P, A, N, IsAtom, IsPred, IsWhere, col_token}
 use Rattle.lab_statement.specs.Grammar as grammar
-use Rattle.lab_statement.specs.Reading.{after}
-use Rattle.lab_statement.specs.Stopping.{Reads, term_read, conj_read, pred_read, where_read, Reading, atom_read}
 use Rattle.lab_statement.proofs.AtomParts.{shorter, atom_again}
 use Rattle.lab_statement.proofs.StoppedLoops.{ReadsOn, starts, goes_on, ends}
-use Rattle.lab_table.specs.declared.predicate.Col.{Col}
 
 -- what reading gives in front of a rest: the value at once, or a value with which the loop goes on
 abbrev Again : ℕ → Kind → List Token → Predicate → Type 0

@@ -1,11 +1,7 @@
 -- A row of the grammar is read.
-use Rattle.std.proofs.Common.{◌≡◌, ℕ, List, [], ◌∷◌, ◌++◌, refl, ◌∙◌, append_assoc}
-use Rattle.std.specs.Prelude.{ℤ}
-use Rattle.lab_statement.specs.declared.token.Token.{Token}
+use Rattle.lab_statement.proofs.Common.{◌≡◌, ℕ, List, [], ◌∷◌, ◌++◌, refl, ◌∙◌, append_assoc, ℤ, Token, IsId, IsRow, Reads, positive_read, row_read}
 use Rattle.lab_statement.specs.declared.token.Token.TheVariants as token
-use Rattle.lab_statement.specs.Grammar.{IsId, IsRow}
 use Rattle.lab_statement.specs.Grammar as grammar
-use Rattle.lab_statement.specs.Stopping.{Reads, positive_read, row_read}
 use Rattle.lab_statement.proofs.ReadNumbers.{number_again, positive_again}
 
 -- an id of the grammar is read, whatever follows it

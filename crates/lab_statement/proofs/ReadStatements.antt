@@ -1,18 +1,8 @@
 -- Statements of the grammar are read, and what is read is one.
-use Rattle.std.proofs.Common.{◌≡◌, ◌≤◌, List, [], ◌∷◌, ◌++◌, length, None, refl, append_assoc}
-use Rattle.std.specs.Prelude.{ℤ}
-use Rattle.std.proofs.lemmas.Bool.{le-leb}
-use Rattle.lab_table.specs.declared.statement.Statement.{Statement}
-use Rattle.lab_table.specs.declared.statement.Expr.{Expr}
+use Rattle.lab_statement.proofs.Common.{◌≡◌, ◌≤◌, List, [], ◌∷◌, ◌++◌, length, None, refl, append_assoc, ℤ, le-leb, Statement, Expr, Token, IsNumber, IsExpr, IsStatement, IsEnd, IsWholeStatement, printed_statement, after, Reads, name_read, expr_read, select_read, update_read, insert_read, delete_read, statement_read, end_read, whole_statement_read}
 use Rattle.lab_table.specs.declared.word.Word.TheVariants as word
-use Rattle.lab_statement.specs.declared.token.Token.{Token}
 use Rattle.lab_statement.specs.declared.token.Token.TheVariants as token
-use Rattle.lab_statement.specs.Grammar.{IsNumber, IsExpr, IsStatement, IsEnd, IsWholeStatement}
 use Rattle.lab_statement.specs.Grammar as grammar
-use Rattle.lab_statement.specs.Printed.{printed_statement}
-use Rattle.lab_statement.specs.Reading.{after}
-use Rattle.lab_statement.specs.Stopping.{Reads, name_read}
-use Rattle.lab_statement.specs.FirstFaults.{expr_read, select_read, update_read, insert_read, delete_read, statement_read, end_read, whole_statement_read}
 use Rattle.lab_statement.proofs.Takes.{Any, gives_of}
 use Rattle.lab_statement.proofs.StatementTaken.{whole_gives}
 use Rattle.lab_statement.proofs.ReadNumbers.{number_again}

@@ -1,10 +1,6 @@
 -- What was read where a reading of several parts has a value.
-use Rattle.std.proofs.Common.{◌≡◌, List, Some, ap}
-use Rattle.lab_statement.specs.declared.token.Token.{Token}
-use Rattle.lab_statement.specs.declared.fault.ScriptFaultKind.{ScriptFaultKind}
-use Rattle.lab_statement.specs.declared.fault.Refusal.{Refusal}
+use Rattle.lab_statement.proofs.Common.{◌≡◌, List, Some, ap, Token, ScriptFaultKind, Refusal, Reading, Reads, Stops, StopsAt, read_value}
 use Rattle.lab_statement.specs.declared.fault.Refusal.TheVariants as refusal
-use Rattle.lab_statement.specs.Stopping.{Reading, Reads, Stops, StopsAt, read_value}
 
 -- Reads as a function
 abbrev pub reads : {A : Type 0} → A → Reading A

@@ -1,10 +1,6 @@
 -- Code without a remark, and the code and the remark of a line.
-use Rattle.std.proofs.Common.{◌≡◌, ℕ, ◌+◌, ◌<◌, ◌≤◌, true, false, List, [], ◌∷◌, ◌++◌, length, take, drop, get_or, refl, sym, ap, ◌∙◌, append_assoc, subst, arith, zero, suc, length-drop, drop-drop}
-use Rattle.std.specs.Prelude.{◌-◌, ◌==◌}
-use Rattle.std.proofs.lemmas.Bool.{eqb-true, false≢true, false_from_ne_true, and_parts}
-use Rattle.std.proofs.lemmas.List.{append-nil, drop_more, drop_all, take_more, take_all, take_rest, get_or-drop}
+use Rattle.lab_statement.proofs.Common.{◌≡◌, ℕ, ◌+◌, ◌<◌, ◌≤◌, true, false, List, [], ◌∷◌, ◌++◌, length, take, drop, get_or, refl, sym, ap, ◌∙◌, append_assoc, subst, arith, zero, suc, length-drop, drop-drop, ◌-◌, ◌==◌, eqb-true, false≢true, false_from_ne_true, and_parts, append-nil, drop_more, drop_all, take_more, take_all, take_rest, get_or-drop, begins_remark, code_of, remark_of}
 use Rattle.bstr.specs.Find.{OccursAt}
-use Rattle.lab_statement.specs.Text.{begins_remark, code_of, remark_of}
 
 -- two dashes
 abbrev dashes : List ℕ

@@ -1,12 +1,6 @@
 -- A text is a word of the grammar where it is reserved, and else the name of a table where it can be one.
-use Rattle.std.proofs.Common.{◌≡◌, ℕ, Bool, true, false, ◌&&◌, not, List, Option, Some, None, refl, sym, ap}
-use Rattle.std.specs.Prelude.{if◌then◌else◌, ◌↔◌, IsTrue, is_some, option_map, unwrap_or}
-use Rattle.lab_table.specs.declared.word.Word.{Word}
-use Rattle.lab_table.specs.TableName.{has_name_form, is_table_name}
-use Rattle.lab_table.specs.Words.{is_reserved, word_named}
-use Rattle.lab_statement.specs.declared.token.Token.{Token}
+use Rattle.lab_statement.proofs.Common.{◌≡◌, ℕ, Bool, true, false, ◌&&◌, not, List, Option, Some, None, refl, sym, ap, if◌then◌else◌, ◌↔◌, IsTrue, is_some, option_map, unwrap_or, Word, has_name_form, is_table_name, is_reserved, word_named, Token, word_token}
 use Rattle.lab_statement.specs.declared.token.Token.TheVariants as token
-use Rattle.lab_statement.specs.Token.{word_token}
 
 -- the word that a text spells which has a name's form or not, where it may be a reserved one
 abbrev spelled : Option Word → Bool → List ℕ → Token

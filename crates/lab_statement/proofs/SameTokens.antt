@@ -1,19 +1,14 @@
 -- Tokens that their derived test finds the same are the same.
-use Rattle.std.proofs.Common.{rules, ◌≡◌, ℕ, Bool, true, false, cond, inl, inr, List, [], ◌∷◌, Some, None, refl, sym, ap, ◌∙◌}
+use Rattle.lab_statement.proofs.Common.{rules, ◌≡◌, ℕ, Bool, true, false, cond, inl, inr, List, [], ◌∷◌, Some, None, refl, sym, ap, ◌∙◌, eqb-true, cases_Bool, false≢true, none-some, same_Some, Word, Token, is_token, after}
 use Rattle.std.specs.Cmp.Lexicographic.{bytes_decides}
-use Rattle.std.proofs.lemmas.Bool.{eqb-true, cases_Bool, false≢true}
-use Rattle.std.proofs.lemmas.Option.{none-some, same_Some}
 use denote.Struct.Field.{Field}
 use denote.Struct.Values.{Values}
 use denote.Enum.Declared.{Choice, Record, values_one}
 use denote.Enum.Compared.{Each, by}
 use denote.Enum.Bare.{same_true}
-use Rattle.lab_table.specs.declared.word.Word.{Word}
-use Rattle.lab_statement.specs.declared.token.Token.{Token}
 use Rattle.lab_table.specs.contracts.word.Word as word
 use Rattle.lab_table.specs.contracts.word.WordPartialEq.TheImpl as words
 use Rattle.lab_statement.specs.contracts.token.Token as token
-use Rattle.lab_statement.specs.Reading.{is_token, after}
 
 -- the test of each variant's fields tells that they are the same; where it has none there is nothing to tell
 abbrev pub Tells : (Fss : List (List Field)) → Each Bool Fss → Type 0

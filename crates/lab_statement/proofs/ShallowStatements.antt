@@ -1,12 +1,5 @@
 -- The statements of the grammar are no deeper than they may be.
-use Rattle.std.proofs.Common.{◌≡◌, ℕ, suc, ◌≤◌, Bool, true, false, List, Option, refl, arith}
-use Rattle.std.specs.Prelude.{◌||◌}
-use Rattle.lab_table.specs.Predicate.{Predicate}
-use Rattle.lab_table.specs.declared.statement.Statement.{Statement}
-use Rattle.lab_statement.specs.declared.token.Token.{Token}
-use Rattle.lab_statement.specs.Grammar.{Kind, P, A, N, IsAtom, IsPred, IsWhere, IsStatement}
-use Rattle.lab_statement.specs.Printed.{is_and, is_or}
-use Rattle.lab_statement.specs.Depth.{deeper, depth_of, where_depth, statement_depth}
+use Rattle.lab_statement.proofs.Common.{◌≡◌, ℕ, suc, ◌≤◌, Bool, true, false, List, Option, refl, arith, ◌||◌, Predicate, Statement, Token, Kind, P, A, N, IsAtom, IsPred, IsWhere, IsStatement, is_and, is_or, deeper, depth_of, where_depth, statement_depth}
 use Rattle.lab_statement.specs.Grammar as grammar
 
 -- how deep a predicate of a kind is where it stands as such

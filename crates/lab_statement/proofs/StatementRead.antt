@@ -1,17 +1,7 @@
 -- The statement that a text spells is what reading the text gives.
-use Rattle.std.proofs.Common.{◌≡◌, ℕ, Bool, true, cond, List, length, Option, Some, None, ◌≢◌, refl, sym, ap, ◌∙◌, arith}
-use Rattle.std.specs.Prelude.{nat_le}
-use Rattle.std.specs.List.{list_all}
-use Rattle.std.proofs.lemmas.Bool.{eqb-true, eq-eqb, le-leb, leb-true, and_from, and_parts}
-use Rattle.std.proofs.lemmas.Option.{same_Some}
-use Rattle.lab_table.specs.declared.statement.Statement.{Statement}
+use Rattle.lab_statement.proofs.Common.{◌≡◌, ℕ, Bool, true, cond, List, length, Option, Some, None, ◌≢◌, refl, sym, ap, ◌∙◌, arith, nat_le, list_all, eqb-true, eq-eqb, le-leb, leb-true, and_from, and_parts, same_Some, Statement, IsStatementFault, tokens, read_value, whole_statement_read, code_of, is_code_byte, SpellsStatement}
 use Rattle.lab_statement.specs.declared.fault.ScriptFault.{ScriptFault}
 use Rattle.lab_statement.specs.declared.fault.ScriptFault.TheVariants as fault
-use Rattle.lab_statement.specs.Fault.{IsStatementFault}
-use Rattle.lab_statement.specs.Token.{tokens}
-use Rattle.lab_statement.specs.Stopping.{read_value}
-use Rattle.lab_statement.specs.FirstFaults.{whole_statement_read}
-use Rattle.lab_statement.specs.Text.{code_of, is_code_byte, SpellsStatement}
 use Rattle.lab_statement.specs.StatementText.{is_code_alone, statement_in}
 use Rattle.lab_statement.proofs.Readings.{valued}
 use Rattle.lab_statement.proofs.ReadStatements.{whole_again, whole_takes}

@@ -1,18 +1,7 @@
 -- The tokens of the text of one statement.
-use Rattle.std.proofs.Common.{◌≡◌, ℕ, ◌<◌, ◌≤◌, Bool, true, cond, List, [], ◌∷◌, ◌++◌, length, Option, Some, None, refl, sym, ap, subst, ◌∙◌, inl, inr, ⊎_elim, arith}
-use Rattle.std.specs.List.{list_all}
-use Rattle.std.proofs.lemmas.Bool.{cases_Bool}
-use Rattle.lab_table.specs.declared.statement.Statement.{Statement}
-use Rattle.lab_statement.specs.declared.fault.ScriptFaultKind.{ScriptFaultKind}
-use Rattle.lab_statement.specs.declared.fault.Refusal.{Refusal}
+use Rattle.lab_statement.proofs.Common.{◌≡◌, ℕ, ◌<◌, ◌≤◌, Bool, true, cond, List, [], ◌∷◌, ◌++◌, length, Option, Some, None, refl, sym, ap, subst, ◌∙◌, inl, inr, ⊎_elim, arith, list_all, cases_Bool, Statement, ScriptFaultKind, Refusal, Token, tokens, SaysOfStatement, IsStatementFault, refusal_at, IsWholeStatement, AreStatementTokens, begins_remark, code_of, is_code_byte, HasWhere, BeginsLongStatement, SpellsStatement, statement_fault, StopsFirst}
 use Rattle.lab_statement.specs.declared.fault.Refusal.TheVariants as refusal
-use Rattle.lab_statement.specs.declared.token.Token.{Token}
 use Rattle.lab_statement.specs.declared.token.Token.TheVariants as token
-use Rattle.lab_statement.specs.Token.{tokens}
-use Rattle.lab_statement.specs.Fault.{SaysOfStatement, IsStatementFault, refusal_at}
-use Rattle.lab_statement.specs.Grammar.{IsWholeStatement}
-use Rattle.lab_statement.specs.Text.{AreStatementTokens, begins_remark, code_of, is_code_byte, HasWhere, BeginsLongStatement, SpellsStatement}
-use Rattle.lab_statement.specs.FirstFaults.{statement_fault, StopsFirst}
 use Rattle.lab_statement.proofs.GrammarFaults.{no_statement_fault}
 use Rattle.lab_statement.proofs.FaultKinds.{statement_kinds}
 use Rattle.lab_statement.proofs.KnownTokens.{closed_known, long_before_last}

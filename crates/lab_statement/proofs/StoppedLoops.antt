@@ -1,10 +1,5 @@
 -- Members with a connective between two of them, read by a loop that may stop at a fault.
-use Rattle.std.proofs.Common.{◌≡◌, ℕ, zero, suc, ◌≤◌, ◌<◌, List, length, Some, None, refl, sym, ap, ◌∙◌, arith}
-use Rattle.lab_table.specs.Predicate.{Predicate}
-use Rattle.lab_statement.specs.declared.token.Token.{Token}
-use Rattle.lab_statement.specs.declared.fault.Refusal.{Refusal}
-use Rattle.lab_statement.specs.Reading.{after}
-use Rattle.lab_statement.specs.Stopping.{Reading, Reads, StopsAt, more_read, joined_read}
+use Rattle.lab_statement.proofs.Common.{◌≡◌, ℕ, zero, suc, ◌≤◌, ◌<◌, List, length, Some, None, refl, sym, ap, ◌∙◌, arith, Predicate, Token, Refusal, after, Reading, Reads, StopsAt, more_read, joined_read}
 use Rattle.lab_statement.proofs.Readings.{stops_as}
 
 abbrev pub Reader : Type 0 → Type 0

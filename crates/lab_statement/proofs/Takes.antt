@@ -1,10 +1,5 @@
 -- What a reading takes from the front of tokens, and with which faults it stops.
-use Rattle.std.proofs.Common.{◌≡◌, Bool, true, false, cond, List, [], ◌∷◌, ◌++◌, Option, Some, None, refl, sym, ap, subst, ◌∙◌, append_assoc}
-use Rattle.lab_statement.specs.declared.token.Token.{Token}
-use Rattle.lab_statement.specs.declared.fault.ScriptFaultKind.{ScriptFaultKind}
-use Rattle.lab_statement.specs.declared.fault.ScriptFaultKind.TheVariants.{UnknownStatement}
-use Rattle.lab_statement.specs.Reading.{after}
-use Rattle.lab_statement.specs.Stopping.{Reading, Reads, Stops, ◌>>=◌, if_found, token_read, tokens_read}
+use Rattle.lab_statement.proofs.Common.{◌≡◌, Bool, true, false, cond, List, [], ◌∷◌, ◌++◌, Option, Some, None, refl, sym, ap, subst, ◌∙◌, append_assoc, Token, ScriptFaultKind, UnknownStatement, after, Reading, Reads, Stops, ◌>>=◌, if_found, token_read, tokens_read}
 use Rattle.lab_statement.proofs.SameTokens.{after_is}
 
 -- each value that is read is one of these, and each fault with which reading stops is one of those

@@ -1,7 +1,5 @@
 -- Tests that say what others say.
-use Rattle.std.proofs.Common.{◌≡◌, ℕ, Bool, true, false, inl, inr, refl}
-use Rattle.std.specs.Prelude.{◌≤◌, nat_le}
-use Rattle.std.proofs.lemmas.Bool.{cases_Bool, le-leb, leb-true, false≢true}
+use Rattle.lab_statement.proofs.Common.{◌≡◌, ℕ, Bool, true, false, inl, inr, refl, ◌≤◌, nat_le, cases_Bool, le-leb, leb-true, false≢true}
 
 pub same_test : (b : Bool) (m n : ℕ) → (b ≡ true → m ≤ n) → (m ≤ n → b ≡ true) → nat_le m n ≡ b
 same_test true m n there back = le-leb m n (there refl)

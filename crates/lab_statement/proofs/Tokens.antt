@@ -1,14 +1,7 @@
 -- How tokens go on.
-use Rattle.std.proofs.Common.{◌≡◌, ℕ, ◌+◌, ◌-◌, ◌*◌, ◌<◌, Bool, true, false, cond, ◌==◌, List, [], ◌∷◌, ◌++◌, length, take, drop, map, Option, Some, None, refl, sym, ap, ◌∙◌, append_assoc, suc, subst, get_or, drop-cons, add-one, inl, inr, min}
+use Rattle.lab_statement.proofs.Common.{◌≡◌, ℕ, ◌+◌, ◌-◌, ◌*◌, ◌<◌, Bool, true, false, cond, ◌==◌, List, [], ◌∷◌, ◌++◌, length, take, drop, map, Option, Some, None, refl, sym, ap, ◌∙◌, append_assoc, suc, subst, get_or, drop-cons, add-one, inl, inr, min, is_some, unwrap_or, prefix_len, to_ascii_lowercase, is_ascii_digit, append-nil, cases_Bool, false_from_ne_true, eqb-true, Token, Part, letters, whole, is_letter, is_blank, word_token, mark, with_digit, begun, longer, ended, longer_token, tokens, tokens_from}
 use Rattle.std.proofs.Math.Numerals.{one-add}
-use Rattle.std.specs.Prelude.{is_some, unwrap_or}
-use Rattle.std.specs.List.{prefix_len}
-use Rattle.std.specs.Char.{to_ascii_lowercase, is_ascii_digit}
-use Rattle.std.proofs.lemmas.List.{append-nil}
-use Rattle.std.proofs.lemmas.Bool.{cases_Bool, false_from_ne_true, eqb-true}
-use Rattle.lab_statement.specs.declared.token.Token.{Token}
 use Rattle.lab_statement.specs.declared.token.Token.TheVariants as token
-use Rattle.lab_statement.specs.Token.{Part, letters, whole, is_letter, is_blank, word_token, mark, with_digit, begun, longer, ended, longer_token, tokens, tokens_from}
 
 pub goes_on : (part more : Part) (b : ℕ) (bs : List ℕ) → longer part b ≡ Some more → tokens_from part (b ∷ bs) ≡ tokens_from more bs
 goes_on part more b bs h = ap (λ (o : Option Part). cond (is_some o) [] (ended part) ++ tokens_from (unwrap_or o (begun b)) bs) h

@@ -1,14 +1,7 @@
 -- Tokens among which a where stands.
-use Rattle.std.proofs.Common.{◌≡◌, ℕ, inl, inr, ⊎_elim, Bool, true, false, take, drop, List, [], ◌∷◌, ◌++◌, refl, sym, ap, ◌∙◌, append_assoc}
-use Rattle.std.specs.Prelude.{◌⊎◌, if◌then◌else◌}
-use Rattle.std.proofs.lemmas.Bool.{false≢true}
-use Rattle.std.proofs.lemmas.List.{take-append-drop}
+use Rattle.lab_statement.proofs.Common.{◌≡◌, ℕ, inl, inr, ⊎_elim, Bool, true, false, take, drop, List, [], ◌∷◌, ◌++◌, refl, sym, ap, ◌∙◌, append_assoc, ◌⊎◌, if◌then◌else◌, false≢true, take-append-drop, Token, is_token, HasWhere, in_predicate}
 use Rattle.lab_table.specs.declared.word.Word.TheVariants as word
-use Rattle.lab_statement.specs.declared.token.Token.{Token}
 use Rattle.lab_statement.specs.declared.token.Token.TheVariants as token
-use Rattle.lab_statement.specs.Reading.{is_token}
-use Rattle.lab_statement.specs.Text.{HasWhere}
-use Rattle.lab_statement.specs.FirstFaults.{in_predicate}
 use Rattle.lab_statement.proofs.SameTokens.{same_token}
 
 -- with one more token in front

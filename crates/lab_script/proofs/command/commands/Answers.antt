@@ -1,7 +1,4 @@
-use Rattle.std.proofs.Common.{◌≡◌, ◌≤◌, length, suc, refl, arith}
-use Rattle.std.proofs.lemmas.Bool.Decides.{nat_tests}
-use Rattle.std.proofs.lemmas.Result.{err_from_is_err_and}
-use Rattle.lab_script.specs.FirstFaults.{commands_read, some_left, step_read}
+use Rattle.lab_script.proofs.Common.{◌≡◌, ◌≤◌, length, suc, refl, arith, nat_tests, err_from_is_err_and, commands_read, some_left, step_read}
 use Rattle.lab_script.proofs.CommandsTaken.{step_short}
 use Rattle.lab_script.proofs.StoppedLoops.{item_stops, item_ends, goes_on, some_more, no_more, commands_stop}
 use Rattle.lab_script.proofs.command.commands.Goals as goal

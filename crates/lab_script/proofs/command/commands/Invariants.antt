@@ -1,5 +1,4 @@
-use Rattle.std.proofs.Common.{◌≡◌, ℕ, suc, ◌<◌, [], length}
-use Rattle.lab_script.specs.FirstFaults.{repeated_read, some_left, step_read}
+use Rattle.lab_script.proofs.Common.{◌≡◌, ℕ, suc, ◌<◌, [], length, repeated_read, some_left, step_read}
 use Rattle.lab_script.proofs.command.commands.Given as goal
 
 -- what is left, behind the commands so far, gives the whole

@@ -1,4 +1,4 @@
-use Rattle.lab_statement.proofs.Takes.{Any, gives_of}
+use Rattle.lab_script.proofs.Common.{Any, gives_of}
 use Rattle.lab_script.proofs.CommandsTaken.{commands_give}
 use Rattle.lab_script.proofs.command.read_commands.Goals as goal
 

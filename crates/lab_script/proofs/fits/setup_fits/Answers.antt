@@ -1,6 +1,4 @@
-use Rattle.lab_statement.specs.Limits.{max_line_bytes}
-use Rattle.lab_script.specs.Printed.{printed_setup}
-use Rattle.lab_statement.proofs.PutTexts.{room_tells}
+use Rattle.lab_script.proofs.Common.{max_line_bytes, printed_setup, room_tells}
 use Rattle.lab_script.proofs.fits.setup_fits.Goals as goal
 
 pub returns : goal.returns

@@ -1,4 +1,4 @@
-use Rattle.std.proofs.Common.{arith}
+use Rattle.lab_script.proofs.Common.{arith}
 use Rattle.lab_script.proofs.LongTexts.{script_short, first_spell, first_fault}
 use Rattle.lab_script.proofs.laws.first_bytes_tell_a_script.Goals as goal
 

@@ -1,6 +1,4 @@
-use Rattle.std.proofs.Common.{None, cond, sym, ◌∙◌, ap}
-use Rattle.std.proofs.lemmas.Bool.{eq-eqb, ne_eqb}
-use Rattle.lab_script.specs.Script.{session_digit}
+use Rattle.lab_script.proofs.Common.{None, cond, sym, ◌∙◌, ap, eq-eqb, ne_eqb, session_digit}
 use Rattle.lab_script.proofs.Remarks.{session_at, no_session}
 use Rattle.lab_script.proofs.line.session_of.Goals as goal
 

@@ -1,5 +1,4 @@
-use Rattle.std.proofs.Common.{sym, ap, ◌∙◌}
-use Rattle.lab_script.specs.Tables.{with_commands, script_tables}
+use Rattle.lab_script.proofs.Common.{sym, ap, ◌∙◌, with_commands, script_tables}
 use Rattle.lab_script.proofs.FewTables.{tables_extended}
 use Rattle.lab_script.proofs.parse.add_commands.Goals as goal
 

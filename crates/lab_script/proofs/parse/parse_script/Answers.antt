@@ -1,8 +1,4 @@
-use Rattle.std.proofs.Common.{sym, subst, ◌∙◌, List, ℕ, [], None}
-use Rattle.std.specs.Prelude.{MatchResult}
-use Rattle.std.proofs.lemmas.Result.{err_from_is_err_and}
-use Rattle.lab_script.specs.Script.{Spells}
-use Rattle.lab_script.specs.Fault.{IsFaultOf}
+use Rattle.lab_script.proofs.Common.{sym, subst, ◌∙◌, List, ℕ, [], None, MatchResult, err_from_is_err_and, Spells, IsFaultOf}
 use Rattle.lab_script.proofs.FirstFault.{IsReadTo, none_read, one_more_read, line_faults, whole_read, all_told}
 use Rattle.lab_script.proofs.TextLines.{text_lines}
 use Rattle.lab_script.proofs.parse.parse_script.Goals as goal

@@ -1,5 +1,4 @@
-use Rattle.std.proofs.Common.{◌≡◌}
-use Rattle.lab_script.specs.Tables.{tables_so_far}
+use Rattle.lab_script.proofs.Common.{◌≡◌, tables_so_far}
 use Rattle.lab_script.proofs.FirstFault.{IsReadTo}
 use Rattle.lab_script.proofs.parse.parse_script.Given as goal
 

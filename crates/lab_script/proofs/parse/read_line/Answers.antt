@@ -1,5 +1,4 @@
-use Rattle.std.proofs.Common.{sym, ◌∙◌}
-use Rattle.std.proofs.lemmas.Result.{on_ok_weaker}
+use Rattle.lab_script.proofs.Common.{sym, ◌∙◌, on_ok_weaker}
 use Rattle.lab_script.proofs.ScriptLines.{blank_line, tokens_line}
 use Rattle.lab_script.proofs.parse.read_line.Goals as goal
 

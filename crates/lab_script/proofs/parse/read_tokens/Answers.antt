@@ -1,7 +1,4 @@
-use Rattle.std.proofs.Common.{Option, Some, sym, subst}
-use Rattle.std.proofs.lemmas.Result.{err_from_is_err_and}
-use Rattle.lab_script.specs.declared.script.Script.{Script}
-use Rattle.lab_script.specs.Script.{TokensSpell}
+use Rattle.lab_script.proofs.Common.{Option, Some, sym, subst, err_from_is_err_and, Script, TokensSpell}
 use Rattle.lab_script.proofs.parse.read_tokens.Goals as goal
 
 pub returns-in_err-setup_script-in-None-clause-fault :

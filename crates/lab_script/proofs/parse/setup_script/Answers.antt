@@ -1,4 +1,4 @@
-use Rattle.std.proofs.Common.{◌≤◌, Some, length, ap, subst, ◌∙◌}
+use Rattle.lab_script.proofs.Common.{◌≤◌, Some, length, ap, subst, ◌∙◌}
 use Rattle.lab_script.proofs.parse.setup_script.Goals as goal
 
 pub returns-in-Ok-clause-found : goal.returns-in-Ok-clause-found

@@ -1,5 +1,4 @@
-use Rattle.std.proofs.Common.{◌<◌, [], length, refl, ap, ◌∙◌, arith}
-use Rattle.lab_script.specs.Tables.{with_rows, setup_tables}
+use Rattle.lab_script.proofs.Common.{◌<◌, [], length, refl, ap, ◌∙◌, arith, with_rows, setup_tables}
 use Rattle.lab_script.proofs.FewTables.{lines_longer}
 use Rattle.lab_script.proofs.print.check_tables.Goals as goal
 

@@ -1,10 +1,4 @@
-use Rattle.std.proofs.Common.{◌≡◌, sym, subst, arith}
-use Rattle.std.proofs.lemmas.Grind.{common_steps}
-use Rattle.std.proofs.lemmas.List.{drop_all}
-use Rattle.lab_statement.specs.Each.{Each}
-use Rattle.lab_script.specs.Limits.{ScriptPrints}
-use Rattle.lab_script.specs.Printed.{printed_script}
-use Rattle.lab_script.specs.Ranges.{LineInRange, ScriptInRange}
+use Rattle.lab_script.proofs.Common.{◌≡◌, sym, subst, arith, common_steps, drop_all, Each, ScriptPrints, printed_script, LineInRange, ScriptInRange}
 use Rattle.lab_script.proofs.PrintedScripts.{script_spells}
 use Rattle.lab_script.proofs.print.print_script.Goals as goal
 

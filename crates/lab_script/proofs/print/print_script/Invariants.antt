@@ -1,8 +1,4 @@
-use Rattle.std.proofs.Common.{◌≡◌, ◌++◌, drop, flat_map}
-use Rattle.lab_script.specs.Printed.{printed_line}
-use Rattle.lab_statement.specs.Each.{Each}
-use Rattle.lab_script.specs.Ranges.{LineInRange}
-use Rattle.lab_script.specs.Limits.{AllPrint}
+use Rattle.lab_script.proofs.Common.{◌≡◌, ◌++◌, drop, flat_map, printed_line, Each, LineInRange, AllPrint}
 use Rattle.lab_script.proofs.print.print_script.Given as goal
 
 abbrev pub invariant-loop-line : goal.invariant-loop-line

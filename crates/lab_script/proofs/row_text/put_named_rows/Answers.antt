@@ -1,11 +1,4 @@
-use Rattle.std.proofs.Common.{◌≡◌, ◌∷◌, ◌++◌, map, drop, ap, sym, subst, ◌∙◌, arith, rules}
-use Rattle.std.proofs.lemmas.Grind.{common_steps}
-use Rattle.lab_statement.specs.Each.{Each}
-use Rattle.lab_script.specs.Ranges.{EntryInRange}
-use Rattle.lab_statement.specs.Printed.{joined}
-use Rattle.lab_script.specs.Printed.{printed_named_row, printed_named_rows}
-use Rattle.lab_statement.proofs.Joined.{followed}
-use Rattle.lab_statement.proofs.PutTexts.{first_put, same_length}
+use Rattle.lab_script.proofs.Common.{◌≡◌, ◌∷◌, ◌++◌, map, drop, ap, sym, subst, ◌∙◌, arith, rules, common_steps, Each, EntryInRange, joined, printed_named_row, printed_named_rows, followed, first_put, same_length}
 use Rattle.lab_script.proofs.row_text.put_named_rows.Goals as goal
 
 pub loop-row-init : goal.loop-row-init

@@ -1,9 +1,4 @@
-use Rattle.std.proofs.Common.{◌≡◌, ◌++◌, drop, map}
-use Rattle.lab_statement.specs.Each.{Each}
-use Rattle.lab_script.specs.Ranges.{EntryInRange}
-use Rattle.lab_statement.specs.Printed.{joined}
-use Rattle.lab_script.specs.Printed.{printed_named_rows}
-use Rattle.lab_statement.proofs.Joined.{followed}
+use Rattle.lab_script.proofs.Common.{◌≡◌, ◌++◌, drop, map, Each, EntryInRange, joined, printed_named_rows, followed}
 use Rattle.lab_script.proofs.row_text.put_named_rows.Given as goal
 
 abbrev pub invariant-loop-row : goal.invariant-loop-row

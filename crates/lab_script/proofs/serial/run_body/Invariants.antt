@@ -1,4 +1,4 @@
-use Rattle.std.proofs.Common.{◌≡◌, drop}
+use Rattle.lab_script.proofs.Common.{◌≡◌, drop}
 use Rattle.lab_script.proofs.RemainingTranscript.{ended_by}
 use Rattle.lab_script.proofs.serial.run_body.Given as goal
 

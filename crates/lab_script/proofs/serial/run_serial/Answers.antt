@@ -1,7 +1,4 @@
-use Rattle.std.proofs.Common.{◌≡◌, sym, ap, ◌∙◌, arith}
-use Rattle.std.proofs.lemmas.List.{nil_from_length}
-use Rattle.lab_script.specs.TranscriptView.{TranscriptView, unprintable}
-use Rattle.lab_script.specs.Transcript.{sessions_in}
+use Rattle.lab_script.proofs.Common.{◌≡◌, sym, ap, ◌∙◌, arith, nil_from_length, TranscriptView, unprintable, sessions_in}
 use Rattle.lab_script.proofs.BrokenLimits.{broken_in, printed_all}
 use Rattle.lab_script.proofs.RemainingTranscript.{transaction_line, other_line, no_line}
 use Rattle.lab_script.proofs.serial.run_serial.Goals as goal

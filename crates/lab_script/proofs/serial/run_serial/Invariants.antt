@@ -1,6 +1,4 @@
-use Rattle.std.proofs.Common.{◌≡◌, ◌+◌, ◌≤◌, length}
-use Rattle.lab_script.specs.TranscriptView.{unprintable}
-use Rattle.lab_script.specs.Transcript.{sessions_in, transcript}
+use Rattle.lab_script.proofs.Common.{◌≡◌, ◌+◌, ◌≤◌, length, unprintable, sessions_in, transcript}
 use Rattle.lab_script.proofs.RemainingTranscript.{output_by}
 use Rattle.lab_script.proofs.serial.run_serial.Given as goal
 

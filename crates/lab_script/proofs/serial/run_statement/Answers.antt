@@ -1,8 +1,4 @@
-use Rattle.std.proofs.Common.{Bool, cond, Some, None, sym, ap, ◌++◌, ◌∙◌, List}
-use Rattle.std.specs.Prelude.{codes, ℤ}
-use Rattle.lab_table.specs.Row.{Row}
-use Rattle.lab_statement.specs.Printed.{rows_or}
-use Rattle.lab_script.specs.TranscriptView.{TranscriptView}
+use Rattle.lab_script.proofs.Common.{Bool, cond, Some, None, sym, ap, ◌++◌, ◌∙◌, List, codes, ℤ, Row, rows_or, TranscriptView}
 use Rattle.lab_script.proofs.StatementLines.{line_of_rows, line_of_fault, with_rows, with_fault}
 use Rattle.lab_script.proofs.serial.run_statement.Goals as goal
 use Rattle.lab_script.proofs.serial.run_statement.Goals.{in-Ok+in_ok-put_rows-in-Ok, in-Err+in_ok-put_fault-in-Err}

@@ -1,4 +1,4 @@
-use Rattle.lab_statement.proofs.Takes.{Any, gives_of}
+use Rattle.lab_script.proofs.Common.{Any, gives_of}
 use Rattle.lab_script.proofs.SetupTaken.{setup_gives}
 use Rattle.lab_script.proofs.setup.read_setup.Goals as goal
 

@@ -1,7 +1,5 @@
-use Rattle.std.proofs.Common.{◌≡◌, ℕ, ◌<◌, length}
+use Rattle.lab_script.proofs.Common.{◌≡◌, ℕ, ◌<◌, length, after, repeated_read, row_onto_read, rows_read}
 use Rattle.lab_statement.specs.declared.token.Token.TheVariants as token
-use Rattle.lab_statement.specs.Reading.{after}
-use Rattle.lab_script.specs.FirstFaults.{repeated_read, row_onto_read, rows_read}
 use Rattle.lab_script.proofs.setup.rows.Given as goal
 
 -- what is left, added to the table so far, gives the whole

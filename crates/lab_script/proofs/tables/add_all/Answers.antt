@@ -1,6 +1,4 @@
-use Rattle.std.proofs.Common.{◌+◌, ◌<◌, ◌∷◌, drop, length, sym, ap, subst, ◌∙◌}
-use Rattle.std.proofs.lemmas.List.{drop_more}
-use Rattle.lab_script.specs.Tables.{with_any, with_all}
+use Rattle.lab_script.proofs.Common.{◌+◌, ◌<◌, ◌∷◌, drop, length, sym, ap, subst, ◌∙◌, drop_more, with_any, with_all}
 use Rattle.lab_script.proofs.FewTables.{over_all}
 use Rattle.lab_script.proofs.tables.add_all.Goals as goal
 

@@ -1,5 +1,4 @@
-use Rattle.std.proofs.Common.{◌≡◌, drop}
-use Rattle.lab_script.specs.Tables.{with_all}
+use Rattle.lab_script.proofs.Common.{◌≡◌, drop, with_all}
 use Rattle.lab_script.proofs.tables.add_all.Given as goal
 
 abbrev pub invariant-loop-item : goal.invariant-loop-item

@@ -1,8 +1,5 @@
-use Rattle.std.proofs.Common.{◌+◌, ◌<◌, ◌∷◌, drop, length, sym, ap, subst, ◌∙◌}
-use Rattle.std.specs.Prelude.{is_some}
-use Rattle.lab_script.specs.PassedTables.{setup_table, setup_tables, token_table, with_named}
-use Rattle.std.proofs.lemmas.List.{drop_more}
-use Rattle.lab_script.specs.Tables.{with_any}
+use Rattle.lab_script.proofs.Common.{◌+◌, ◌<◌, ◌∷◌, drop, length, sym, ap, subst, ◌∙◌, is_some, setup_table, token_table, with_named, drop_more, with_any}
+use Rattle.lab_script.specs.PassedTables.{setup_tables}
 use Rattle.lab_script.proofs.FewTables.{over_all}
 use Rattle.lab_script.proofs.tables.add_setup_tokens.Goals as goal
 

@@ -1,7 +1,4 @@
-use Rattle.std.proofs.Common.{◌+◌, ◌<◌, ◌∷◌, drop, length, sym, ap, subst, ◌∙◌}
-use Rattle.lab_script.specs.PassedTables.{is_behind_set, statement_table, statement_tables, with_named}
-use Rattle.std.proofs.lemmas.List.{drop_more}
-use Rattle.lab_script.specs.Tables.{with_any}
+use Rattle.lab_script.proofs.Common.{◌+◌, ◌<◌, ◌∷◌, drop, length, sym, ap, subst, ◌∙◌, is_behind_set, statement_table, statement_tables, with_named, drop_more, with_any}
 use Rattle.lab_script.proofs.FewTables.{over_all}
 use Rattle.lab_script.proofs.tables.add_tokens.Goals as goal
 

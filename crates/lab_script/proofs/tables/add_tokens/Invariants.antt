@@ -1,5 +1,4 @@
-use Rattle.std.proofs.Common.{◌≡◌, drop}
-use Rattle.lab_script.specs.PassedTables.{statement_tables, with_named, with_tokens}
+use Rattle.lab_script.proofs.Common.{◌≡◌, drop, statement_tables, with_named, with_tokens}
 use Rattle.lab_script.proofs.tables.add_tokens.Given as goal
 
 abbrev pub invariant-loop-token : goal.invariant-loop-token

@@ -1,7 +1,5 @@
-use Rattle.std.proofs.Common.{◌≡◌, ◌≤◌, ◌-◌, ℕ, suc, Bool, true, false, ap, subst, sym, ◌∙◌, arith}
-use Rattle.lab_table.specs.Predicate.{Predicate}
+use Rattle.lab_statement.proofs.Common.{◌≡◌, ◌≤◌, ◌-◌, ℕ, suc, Bool, true, false, ap, subst, sym, ◌∙◌, arith, Predicate, deeper, depth_of}
 use Rattle.lab_table.specs.PredKinds.{predicate_of}
-use Rattle.lab_statement.specs.Depth.{deeper, depth_of}
 use Rattle.lab_statement.proofs.fits.+nests_within.Goals as goal
 
 -- no depth is left for a not

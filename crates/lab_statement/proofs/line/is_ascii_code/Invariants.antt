@@ -1,7 +1,4 @@
-use Rattle.std.proofs.Common.{◌≡◌, drop}
-use Rattle.std.specs.Prelude.{◌&&◌}
-use Rattle.std.specs.List.{list_all}
-use Rattle.lab_statement.specs.Text.{is_code_byte}
+use Rattle.lab_statement.proofs.Common.{◌≡◌, drop, ◌&&◌, list_all, is_code_byte}
 use Rattle.lab_statement.proofs.line.is_ascii_code.Given as goal
 
 abbrev pub invariant-loop-byte : goal.invariant-loop-byte

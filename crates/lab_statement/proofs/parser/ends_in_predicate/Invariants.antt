@@ -1,5 +1,4 @@
-use Rattle.std.proofs.Common.{◌≡◌, false, drop}
-use Rattle.lab_statement.specs.FirstFaults.{in_predicate}
+use Rattle.lab_statement.proofs.Common.{◌≡◌, false, drop, in_predicate}
 use Rattle.lab_statement.proofs.parser.ends_in_predicate.Given as goal
 
 abbrev pub invariant-loop-token : goal.invariant-loop-token

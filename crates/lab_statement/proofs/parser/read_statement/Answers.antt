@@ -1,5 +1,4 @@
-use Rattle.std.proofs.Common.{None, refl, sym, ap, ◌∙◌, subst}
-use Rattle.lab_statement.specs.FirstFaults.{whole_statement_read, placed_kind, refusal_as, statement_fault, StopsFirst}
+use Rattle.lab_statement.proofs.Common.{None, refl, sym, ap, ◌∙◌, subst, whole_statement_read, placed_kind, refusal_as, statement_fault, StopsFirst}
 use Rattle.lab_statement.proofs.GrammarFaults.{faultless, stops_first}
 use Rattle.lab_statement.proofs.ReadStatements.{whole_takes}
 use Rattle.lab_statement.proofs.parser.read_statement.Goals as goal

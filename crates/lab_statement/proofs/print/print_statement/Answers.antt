@@ -1,6 +1,4 @@
-use Rattle.std.proofs.Common.{◌≡◌, ℕ, List, ◌++◌, map, ap, ◌∙◌}
-use Rattle.std.proofs.lemmas.List.{map-id}
-use Rattle.lab_statement.specs.Printed.{printed_statement}
+use Rattle.lab_statement.proofs.Common.{◌≡◌, ℕ, List, ◌++◌, map, ap, ◌∙◌, map-id, printed_statement}
 use Rattle.lab_statement.proofs.StatementRead.{spells_in}
 use Rattle.lab_statement.proofs.PrintedStatements.{statement_spells}
 use Rattle.lab_statement.proofs.print.print_statement.Goals as goal

@@ -1,8 +1,4 @@
-use Rattle.std.proofs.Common.{◌≡◌, ◌∷◌, ◌++◌, [], ap, sym, ◌∙◌, arith, drop}
-use Rattle.std.specs.Prelude.{codes}
-use Rattle.std.proofs.lemmas.Grind.{common_steps}
-use Rattle.std.proofs.lemmas.List.{drop_all}
-use Rattle.lab_statement.specs.Printed.{printed_row, printed_rows, rows_or}
+use Rattle.lab_statement.proofs.Common.{◌≡◌, ◌∷◌, ◌++◌, [], ap, sym, ◌∙◌, arith, drop, codes, common_steps, drop_all, printed_row, printed_rows, rows_or}
 use Rattle.lab_statement.proofs.Joined.{all_joined, followed}
 use Rattle.lab_statement.proofs.row_text.put_list.Goals as goal
 

@@ -1,5 +1,4 @@
-use Rattle.std.proofs.Common.{◌≡◌, ◌++◌, drop}
-use Rattle.lab_statement.specs.Printed.{printed_rows}
+use Rattle.lab_statement.proofs.Common.{◌≡◌, ◌++◌, drop, printed_rows}
 use Rattle.lab_statement.proofs.Joined.{followed}
 use Rattle.lab_statement.proofs.row_text.put_list.Given as goal
 

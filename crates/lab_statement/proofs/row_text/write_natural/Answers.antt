@@ -1,5 +1,4 @@
-use Rattle.std.proofs.Common.{arith, rules}
-use Rattle.std.proofs.lemmas.Fmt.{length-decimal-le}
+use Rattle.lab_statement.proofs.Common.{arith, rules, length-decimal-le}
 use Rattle.lab_statement.proofs.row_text.write_natural.Goals as goal
 
 pub write_digits-requires : goal.write_digits-requires

@@ -1,5 +1,4 @@
-use Rattle.std.proofs.Common.{refl, arith, append_assoc, to_z-of_z, w64}
-use Rattle.std.proofs.lemmas.List.{drop_all}
+use Rattle.lab_statement.proofs.Common.{refl, arith, append_assoc, to_z-of_z, w64, drop_all}
 use Rattle.lab_statement.proofs.row_text.write_row.Goals as goal
 
 pub returns-clause-written : goal.returns-clause-written

@@ -1,5 +1,4 @@
-use Rattle.std.proofs.Common.{◌+◌, ◌*◌, cond}
-use Rattle.lab_table.specs.Predicate.{parts}
+use Rattle.lab_statement.proofs.Common.{◌+◌, ◌*◌, cond, parts}
 use Rattle.lab_statement.proofs.spelling.+put_pred.Given as goal
 
 abbrev pub decreases-put_pred : goal.decreases-put_pred

@@ -1,9 +1,4 @@
-use Rattle.std.proofs.Common.{◌≡◌, ◌∷◌, ◌++◌, map, drop, ap, sym, subst, ◌∙◌, arith, rules}
-use Rattle.std.specs.Fmt.{signed_decimal}
-use Rattle.std.proofs.lemmas.Grind.{common_steps}
-use Rattle.lab_statement.specs.Each.{Each}
-use Rattle.lab_statement.specs.Ranges.{ValueInRange}
-use Rattle.lab_statement.specs.Printed.{joined, printed_numbers}
+use Rattle.lab_statement.proofs.Common.{◌≡◌, ◌∷◌, ◌++◌, map, drop, ap, sym, subst, ◌∙◌, arith, rules, signed_decimal, common_steps, Each, ValueInRange, joined, printed_numbers}
 use Rattle.lab_statement.proofs.Joined.{followed}
 use Rattle.lab_statement.proofs.PutTexts.{first_put, same_length}
 use Rattle.lab_statement.proofs.spelling.put_numbers.Goals as goal

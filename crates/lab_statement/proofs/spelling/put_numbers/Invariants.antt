@@ -1,7 +1,4 @@
-use Rattle.std.proofs.Common.{◌≡◌, ◌++◌, drop, map}
-use Rattle.lab_statement.specs.Each.{Each}
-use Rattle.lab_statement.specs.Ranges.{ValueInRange}
-use Rattle.lab_statement.specs.Printed.{joined, printed_numbers}
+use Rattle.lab_statement.proofs.Common.{◌≡◌, ◌++◌, drop, map, Each, ValueInRange, joined, printed_numbers}
 use Rattle.lab_statement.proofs.Joined.{followed}
 use Rattle.lab_statement.proofs.spelling.put_numbers.Given as goal
 

@@ -1,6 +1,4 @@
-use Rattle.std.proofs.Common.{◌++◌, ap}
-use Rattle.std.specs.Prelude.{codes}
-use Rattle.lab_statement.specs.Printed.{printed_kind, printed_where, printed_row}
+use Rattle.lab_statement.proofs.Common.{◌++◌, ap, codes, printed_kind, printed_where, printed_row}
 use Rattle.lab_statement.proofs.PutTexts.{put_behind, puts_rest}
 use Rattle.lab_statement.proofs.spelling.put_statement.Goals as goal
 

@@ -1,7 +1,4 @@
-use Rattle.std.proofs.Common.{List, sym, subst, ◌∙◌}
-use Rattle.lab_statement.specs.declared.token.Token.{Token}
-use Rattle.lab_statement.specs.Text.{AreStatementTokens}
-use Rattle.lab_statement.specs.Fault.{IsStatementFault, IsFirstInText}
+use Rattle.lab_statement.proofs.Common.{List, sym, subst, ◌∙◌, Token, AreStatementTokens, IsStatementFault, IsFirstInText}
 use Rattle.lab_statement.proofs.GrammarFaults.{first_in_text}
 use Rattle.lab_statement.proofs.StatementText.{text_spells, stop_fault}
 use Rattle.lab_statement.proofs.StatementRead.{spells_in, spells_once, fault_only, fault_read}

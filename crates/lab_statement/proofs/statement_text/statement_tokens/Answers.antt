@@ -1,4 +1,4 @@
-use Rattle.std.proofs.Common.{ap, ◌∙◌}
+use Rattle.lab_statement.proofs.Common.{ap, ◌∙◌}
 use Rattle.lab_statement.proofs.StatementText.{code_tokens, remark_tokens}
 use Rattle.lab_statement.proofs.statement_text.statement_tokens.Goals as goal
 use Rattle.lab_statement.proofs.statement_text.statement_tokens.Goals.{then-code-text+in_ok-extend_from_slice, else-code-text}

@@ -1,4 +1,4 @@
-use Rattle.std.proofs.Common.{sym, ◌∙◌, arith}
+use Rattle.lab_statement.proofs.Common.{sym, ◌∙◌, arith}
 use Rattle.lab_statement.proofs.Tokens.{digit_on}
 use Rattle.lab_statement.proofs.token.digits_at.Goals as goal
 

@@ -1,6 +1,5 @@
-use Rattle.std.proofs.Common.{◌≡◌, ◌≤◌, drop}
+use Rattle.lab_statement.proofs.Common.{◌≡◌, ◌≤◌, drop, whole, tokens_from}
 use Rattle.lab_statement.specs.declared.token.Token.TheVariants as token
-use Rattle.lab_statement.specs.Token.{whole, tokens_from}
 use Rattle.lab_statement.proofs.token.digits_at.Given as goal
 
 abbrev pub invariant-loop-i : goal.invariant-loop-i

@@ -1,5 +1,4 @@
-use Rattle.std.proofs.Common.{◌∙◌, ap}
-use Rattle.lab_statement.specs.Token.{tokens}
+use Rattle.lab_statement.proofs.Common.{◌∙◌, ap, tokens}
 use Rattle.lab_statement.proofs.Tokens.{comma_begins, placed}
 use Rattle.lab_statement.proofs.token.tokens_into.Goals as goal
 

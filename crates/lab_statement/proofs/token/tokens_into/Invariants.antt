@@ -1,5 +1,4 @@
-use Rattle.std.proofs.Common.{◌≡◌, ◌++◌, ◌+◌, length}
-use Rattle.lab_statement.specs.Token.{tokens}
+use Rattle.lab_statement.proofs.Common.{◌≡◌, ◌++◌, ◌+◌, length, tokens}
 use Rattle.lab_statement.proofs.token.tokens_into.Given as goal
 
 abbrev pub invariant-loop-first : goal.invariant-loop-first

@@ -1,5 +1,4 @@
-use Rattle.std.proofs.Common.{◌≡◌}
-use Rattle.lab_script.specs.Script.{extended}
+use Rattle.lab_script.proofs.Common.{◌≡◌, extended}
 use Rattle.lab_script.proofs.script.Script.add.Given as goal
 
 abbrev pub invariant-loop-command : goal.invariant-loop-command

@@ -1,9 +1,7 @@
-use Rattle.std.proofs.Common.{sym, arith}
-use Rattle.std.proofs.lemmas.Result.{err_from_is_err_and}
+use Rattle.lab_statement.proofs.Common.{sym, arith, err_from_is_err_and, term_read, conj_read, pred_read}
 use Rattle.lab_table.specs.Predicate as predicate
 use Rattle.lab_table.specs.declared.word.Word.TheVariants as word
 use Rattle.lab_statement.specs.declared.token.Token.TheVariants as token
-use Rattle.lab_statement.specs.Stopping.{term_read, conj_read, pred_read}
 use Rattle.lab_statement.proofs.StoppedLoops.{starts, first_stops, goes_on, next_stops, ends}
 use Rattle.lab_statement.proofs.parser.Parser.+pred.Goals as goal
 

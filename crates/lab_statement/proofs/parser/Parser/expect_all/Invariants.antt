@@ -1,5 +1,4 @@
-use Rattle.std.proofs.Common.{◌≡◌, drop}
-use Rattle.lab_statement.specs.Stopping.{tokens_read}
+use Rattle.lab_statement.proofs.Common.{◌≡◌, drop, tokens_read}
 use Rattle.lab_statement.proofs.parser.Parser.expect_all.Given as goal
 
 abbrev pub invariant-loop-token : goal.invariant-loop-token

@@ -1,6 +1,4 @@
-use Rattle.std.proofs.Common.{rules, length, sym, arith}
-use Rattle.std.proofs.lemmas.Result.{err_from_is_err_and}
-use Rattle.lab_statement.specs.Stopping.{numbers_read}
+use Rattle.lab_statement.proofs.Common.{rules, length, sym, arith, err_from_is_err_and, numbers_read}
 use Rattle.lab_statement.proofs.StoppedLoops.{within, goes_on, next_stops, ends}
 use Rattle.lab_statement.proofs.parser.Parser.numbers.Goals as goal
 

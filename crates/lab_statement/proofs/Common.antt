@@ -1,0 +1,42 @@
+-- The names that most proofs cite, passed on from one place.
+pub use Rattle.std.proofs.Common.{Bool, Err, List, None, Ok, Option, Result, Some, [], add-one, ap, append-nil, append_assoc, arith, cond, drop, drop-cons, drop-drop, false, get_or, inl, inr, length, length-append, length-drop, map, min, not, refl, replicate, rules, subst, suc, sym, take, to_z-of_z, true, w64, zero, ℕ, ⊎_elim, ◌%◌, ◌&&◌, ◌*◌, ◌++◌, ◌+◌, ◌-◌, ◌/◌, ◌<◌, ◌==◌, ◌∙◌, ◌∷◌, ◌≡◌, ◌≢◌, ◌≤◌, ◌⊎◌}
+pub use Rattle.std.proofs.Math.Bool.{and-false}
+pub use Rattle.std.proofs.lemmas.Bool.{and_from, and_parts, cases_Bool, cases_lt, eq-eqb, eqb-true, false_from_ne_true, false≢true, le-leb, leb-false, leb-true, lt-leb, not-true}
+pub use Rattle.std.proofs.lemmas.Bool.Decides.{nat_tests}
+pub use Rattle.std.proofs.lemmas.Fmt.{decimal_by_steps, decimal_nonempty, length-decimal-le}
+pub use Rattle.std.proofs.lemmas.Grind.{common_steps}
+pub use Rattle.std.proofs.lemmas.List.{drop_all, drop_more, get_or-drop, length-map, length-replicate, map-append, map-id, nil_from_length, replicate-append-replicate, take-append-drop, take_all, take_more, take_rest}
+pub use Rattle.std.proofs.lemmas.List.Folds.{list_all-append}
+pub use Rattle.std.proofs.lemmas.Option.{none-some, same_Some}
+pub use Rattle.std.proofs.lemmas.Result.{IfOk-equal, err_from_is_err_and}
+pub use Rattle.std.specs.Char.{is_ascii_digit, to_ascii_lowercase}
+unfoldable pub use Rattle.std.specs.Fmt.{digits}
+pub use Rattle.std.specs.Fmt.{decimal, digit_glyph, digits_onto, signed_decimal}
+pub use Rattle.std.specs.List.{list_all, prefix_len}
+pub use Rattle.std.specs.Prelude.{IsTrue, OnOk, codes, if◌then◌else◌, is_ok, is_some, nat_le, negsuc, option_map, pos, unwrap_or, ℤ, ◌-ℤ◌, ◌||◌, ◌↔◌}
+pub use Rattle.lab_statement.specs.Depth.{deeper, depth_of, kind_depth, statement_depth, where_depth}
+pub use Rattle.lab_statement.specs.Each.{Each}
+pub use Rattle.lab_statement.specs.Fault.{IsFirstInText, IsStatementFault, SaysOfStatement, refusal_at}
+unfoldable pub use Rattle.lab_statement.specs.FirstFaults.{delete_read, end_read, expr_read, insert_read, select_read, statement_read, update_read, whole_statement_read}
+pub use Rattle.lab_statement.specs.FirstFaults.{StopsFirst, fault_of, fifth_table, in_predicate, nothing_read, placed_kind, refusal_as, statement_fault}
+pub use Rattle.lab_statement.specs.Grammar.{A, IsAtom, IsEnd, IsExpr, IsId, IsNumber, IsNumberList, IsNumbers, IsPred, IsRow, IsStatement, IsWhere, IsWholeStatement, Kind, N, P, cmp_token, col_token, over}
+pub use Rattle.lab_statement.specs.Limits.{StatementPrints, max_statement_bytes}
+pub use Rattle.lab_statement.specs.Printed.{is_and, is_or, joined, parenthesized, printed_cmp, printed_col, printed_expr, printed_kind, printed_numbers, printed_pred, printed_row, printed_rows, printed_statement, printed_where, rows_or}
+pub use Rattle.lab_statement.specs.Ranges.{ExprInRange, KindInRange, PredInRange, RowInRange, StatementInRange, ValueInRange, WhereInRange}
+pub use Rattle.lab_statement.specs.Reading.{after, is_token}
+unfoldable pub use Rattle.lab_statement.specs.Stopping.{atom_read, cmp_read, col_read, compare_read, conj_read, digits_read, joined_read, magnitude_read, more_read, name_read, number_list_read, number_read, numbers_read, one_of_read, positive_read, pred_read, remainder_read, row_read, term_read, where_read}
+pub use Rattle.lab_statement.specs.Stopping.{Reading, Reads, Stops, StopsAt, cmp_in, cmp_of, if_found, name_of, one_more, read_value, token_read, tokens_read, ◌>>=◌}
+pub use Rattle.lab_statement.specs.Text.{AreStatementTokens, BeginsLongStatement, HasWhere, SpellsStatement, begins_remark, code_of, is_code_byte, remark_of}
+pub use Rattle.lab_statement.specs.Token.{Part, begun, ended, is_blank, is_letter, letters, longer, longer_token, mark, tokens, tokens_from, whole, with_digit, word_token}
+pub use Rattle.lab_statement.specs.declared.fault.Refusal.{Refusal}
+pub use Rattle.lab_statement.specs.declared.fault.ScriptFaultKind.{ScriptFaultKind}
+pub use Rattle.lab_statement.specs.declared.fault.ScriptFaultKind.TheVariants.{NumberOutOfRange, TooManyTables, UnknownStatement}
+pub use Rattle.lab_statement.specs.declared.token.Token.{Token}
+pub use Rattle.lab_table.specs.Predicate.{Predicate, parts}
+pub use Rattle.lab_table.specs.TableName.{has_name_form, is_name_letter, is_table_name}
+pub use Rattle.lab_table.specs.Words.{is_reserved, word_named}
+pub use Rattle.lab_table.specs.declared.predicate.Cmp.{Cmp}
+pub use Rattle.lab_table.specs.declared.predicate.Col.{Col}
+pub use Rattle.lab_table.specs.declared.statement.Expr.{Expr}
+pub use Rattle.lab_table.specs.declared.statement.Statement.{Statement}
+pub use Rattle.lab_table.specs.declared.word.Word.{Word}
