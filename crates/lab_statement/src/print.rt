@@ -8,6 +8,7 @@ ghost use Rattle.lab_statement.specs.StatementText.{statement_in};
 ghost use Rattle.lab_statement.specs.Limits.{max_depth, max_statement_bytes, StatementPrints, CommandPrints, IsDeep, IsLong};
 
 use crate::fits::{depth_fits, statement_fits};
+use crate::limits::MAX_STATEMENT_BYTES;
 use crate::spelling::{put_command, put_statement};
 use lab_table::{Command, Statement};
 use std::alloc::{AllocError, Global};
@@ -83,8 +84,8 @@ pub fn check_statement(statement: &Statement) -> Result<(), PrintFault>
 }
 
 /// Appends a command in printed form, if that keeps the limits of a text.
-/// TooDeep and TooLong only where it breaks that limit; NoMemory where an allocation was refused, and then part of the
-/// text may stand there.
+/// TooDeep and TooLong only where it breaks that limit; NoMemory where an allocation was refused. Where it is refused,
+/// the text or a part of it may stand there.
 pub fn put_printable(out: &mut Vec<u8>, command: &Command) -> Result<(), PrintFault>
     ensures text { OnOk result (out.new.items ≡ out.old.items ++ printed_command command.now) }
     ensures prints { OnOk result (CommandPrints command.now) }
@@ -92,8 +93,28 @@ pub fn put_printable(out: &mut Vec<u8>, command: &Command) -> Result<(), PrintFa
     ensures too_long { result ≡ Err PrintFault.TooLong → IsLong command.now }
     ensures few_tables { result ≢ Err PrintFault.TooManyTables }
 {
-    check_command(command)?;
-    put_command(out, command)?;
+    match command {
+        Command::Begin | Command::Commit | Command::Abort => Ok(put_command(out, command)?),
+        Command::Run(statement) => put_short(out, statement),
+    }
+}
+
+/// Appends a statement, of which the length is known once it stands there.
+fn put_short(out: &mut Vec<u8>, statement: &Statement) -> Result<(), PrintFault>
+    ensures text { OnOk result (out.new.items ≡ out.old.items ++ printed_statement statement.now) }
+    ensures prints { OnOk result (StatementPrints statement.now) }
+    ensures too_deep { result ≡ Err PrintFault.TooDeep → max_depth < statement_depth statement.now }
+    ensures too_long { result ≡ Err PrintFault.TooLong → max_statement_bytes < length (printed_statement statement.now) }
+    ensures few_tables { result ≢ Err PrintFault.TooManyTables }
+{
+    if !depth_fits(statement) {
+        return Err(PrintFault::TooDeep);
+    }
+    let before = out.len();
+    put_statement(out, statement)?;
+    if out.len() - before > MAX_STATEMENT_BYTES {
+        return Err(PrintFault::TooLong);
+    }
     Ok(())
 }
 
