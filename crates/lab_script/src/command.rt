@@ -16,16 +16,21 @@ use lab_statement::{Parser, Refusal, ScriptFaultKind, Token, check_length, place
 use lab_table::{Command, TableSet, Word};
 use std::alloc::Global;
 
-/// The commands of all statements of a line, of which there is room for so many.
+/// Puts the commands of all statements of a line, of which there is room for so many, in place of others.
 #[tactic(auto, unfolding(crate::specs::FirstFaults::commands_read))]
-pub fn commands(alloc: Global, parser: &mut Parser, room: usize) -> Result<Vec<Command>, Refusal>
-    ensures { Comes (λ x. x.items) result parser.new (commands_read room parser.old) }
+pub fn commands_into(
+    alloc: Global,
+    parser: &mut Parser,
+    room: usize,
+    commands: &mut Vec<Command>,
+) -> Result<(), Refusal>
+    ensures { Comes (λ _. commands.new.items) result parser.new (commands_read room parser.old) }
 {
-    let mut commands = Vec::new(alloc);
+    commands.clear();
     loop {
-        step(alloc, parser, room, &mut commands)?;
+        step(alloc, parser, room, commands)?;
         if parser.is_done() {
-            return Ok(commands);
+            return Ok(());
         }
     }
 }
@@ -143,28 +148,26 @@ fn add(commands: &mut Vec<Command>, room: usize, command: Option<Command>) -> Re
     Ok(())
 }
 
-/// The commands of a line, of which there is room for so many, behind lines that name these tables. The tables of the
-/// commands come to them; a fifth comes before whatever is wrong behind it.
+/// Puts the commands of a line, of which there is room for so many, behind lines that name these tables, in place of
+/// others. The tables of the commands come to them; a fifth comes before whatever is wrong behind it.
 /// NoMemory may come in place of any other answer.
 pub fn read_commands(
     alloc: Global,
     tokens: &[Token],
     room: usize,
     tables: &mut TableSet,
-) -> Result<Vec<Command>, Refusal>
+    commands: &mut Vec<Command>,
+) -> Result<(), Refusal>
     // What is read is in the grammar.
-    ensures found { IfOk result (λ commands. IsCommands tokens.now commands.items) }
-    ensures within { IfOk result (λ commands. length commands.items ≤ room) }
-    ensures tables { IfOk result (λ commands. tables.new.names ≡ with_commands tables.old.names commands.items) }
+    ensures found { OnOk result (IsCommands tokens.now commands.new.items) }
+    ensures within { OnOk result (length commands.new.items ≤ room) }
+    ensures tables { OnOk result (tables.new.names ≡ with_commands tables.old.names commands.new.items) }
     // Of the faults from the left it is the first.
     ensures first { HasFault (commands_fault tables.old.names room tokens.now) result }
 {
     let mut parser = Parser { rest: tokens };
-    match commands(alloc, &mut parser, room) {
-        Ok(commands) => {
-            add_few(tables, &commands)?;
-            Ok(commands)
-        }
+    match commands_into(alloc, &mut parser, room, commands) {
+        Ok(()) => add_few(tables, commands),
         Err(refusal) => {
             let left = parser.left();
             let few = add_tokens(tables, read_before(tokens, left));

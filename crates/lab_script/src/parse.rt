@@ -17,7 +17,7 @@ use lab_statement::{
     MAX_LINE_BYTES, ScriptFault, ScriptFaultKind, Token, code_and_remark, is_ascii_code,
     tokens_into,
 };
-use lab_table::{TableSet, Word};
+use lab_table::{Command, TableSet, Word};
 use std::alloc::Global;
 
 /// The script that a text spells: the setup, then lines of statements with a session in their remarks.
@@ -30,13 +30,16 @@ pub fn parse_script(alloc: Global, text: &[u8]) -> Result<Script, ScriptFault>
     ensures prints { IfOk result ScriptPrints }
     ensures fault { IfErr result (IsFaultOf text.now) }
 {
-    let mut tokens = Vec::new(alloc);
+    let mut room = Room {
+        tokens: Vec::new(alloc),
+        commands: Vec::new(alloc),
+    };
     let mut script = None;
     let mut tables = TableSet::new();
     let mut number: u32 = 0;
     for line in text.lines() {
         number += 1;
-        read_line(alloc, &mut script, &mut tables, number, line, &mut tokens)?;
+        read_line(alloc, &mut script, &mut tables, number, line, &mut room)?;
     }
     script.ok_or(ScriptFault::At {
         line: number + 1,
@@ -44,15 +47,21 @@ pub fn parse_script(alloc: Global, text: &[u8]) -> Result<Script, ScriptFault>
     })
 }
 
+/// Room for what a line has, which serves each line anew.
+#[derive(Drop)]
+struct Room {
+    tokens: Vec<Token>,
+    commands: Vec<Command>,
+}
+
 /// Reads a line with this number behind lines that spell nothing yet or a script, and name these tables.
-/// The tokens are only the room for those of the line.
 fn read_line(
     alloc: Global,
     script: &mut Option<Script>,
     tables: &mut TableSet,
     number: u32,
     line: &[u8],
-    tokens: &mut Vec<Token>,
+    room: &mut Room,
 ) -> Result<(), ScriptFault>
     requires few { IfSome script.old (λ s. length s.lines ≤ max_commands) }
     requires named { tables.old.names ≡ tables_so_far script.old }
@@ -70,8 +79,16 @@ fn read_line(
     if is_blank_code(code) {
         return Ok(());
     }
-    tokens_into(tokens, code)?;
-    read_tokens(alloc, script, tables, number, tokens, remark)
+    tokens_into(&mut room.tokens, code)?;
+    read_tokens(
+        alloc,
+        script,
+        tables,
+        number,
+        &room.tokens,
+        remark,
+        &mut room.commands,
+    )
 }
 
 /// Whether a line is longer than a line may be, or comes after the last that a text may have.
@@ -98,7 +115,8 @@ fn begins_setup(tokens: &[Token]) -> bool
     }
 }
 
-/// Reads the tokens and the remark of a line with this number: the setup, or commands behind it.
+/// Reads the tokens and the remark of a line with this number: the setup, or commands behind it. The commands are only
+/// room for those of the line.
 fn read_tokens(
     alloc: Global,
     script: &mut Option<Script>,
@@ -106,6 +124,7 @@ fn read_tokens(
     number: u32,
     tokens: &[Token],
     remark: &[u8],
+    commands: &mut Vec<Command>,
 ) -> Result<(), ScriptFault>
     requires few { IfSome script.old (λ s. length s.lines ≤ max_commands) }
     requires named { tables.old.names ≡ tables_so_far script.old }
@@ -118,7 +137,7 @@ fn read_tokens(
             *script = Some(setup_script(alloc, number, tokens, tables)?);
             Ok(())
         }
-        Some(script) => add_commands(alloc, script, tables, number, tokens, remark),
+        Some(script) => add_commands(alloc, script, tables, number, tokens, remark, commands),
     }
 }
 
@@ -154,6 +173,7 @@ fn add_commands(
     number: u32,
     tokens: &[Token],
     remark: &[u8],
+    commands: &mut Vec<Command>,
 ) -> Result<(), ScriptFault>
     requires few { length script.old.lines ≤ max_commands }
     requires named { tables.old.names ≡ script_tables script.old }
@@ -165,13 +185,13 @@ fn add_commands(
         return Err(at(number, ScriptFaultKind::SetupRepeated));
     }
     let room = MAX_COMMANDS - script.lines.as_slice().len();
-    let commands = match read_commands(alloc, tokens, room, tables) {
-        Ok(commands) => commands,
+    match read_commands(alloc, tokens, room, tables, commands) {
+        Ok(()) => (),
         Err(refusal) => return Err(refusal.at(number)),
-    };
+    }
     let Some(session) = session_of(remark) else {
         return Err(at(number, ScriptFaultKind::NoSession));
     };
-    script.add(session, number, commands)?;
+    script.take(session, number, commands)?;
     Ok(())
 }

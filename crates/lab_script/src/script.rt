@@ -24,16 +24,17 @@ impl Script {
     ghost use Rattle.std.specs.Prelude.{◌≡◌, OnOk};
     ghost use Rattle.lab_script.specs.Script.{extended};
 
-    /// Adds commands of a session from this line of the text; NoMemory where an allocation was refused.
-    pub(crate) fn add(
+    /// Takes commands and adds them, as those of a session from this line of the text. NoMemory where an allocation was
+    /// refused.
+    pub(crate) fn take(
         &mut self,
         session: Session,
         text_line: u32,
-        commands: Vec<Command>,
+        commands: &mut Vec<Command>,
     ) -> Result<(), NoMemory>
-        ensures { OnOk result (self.new ≡ extended self.old session text_line commands.items) }
+        ensures { OnOk result (self.new ≡ extended self.old session text_line commands.old.items) }
     {
-        for command in commands {
+        for command in commands.drain(..) {
             self.lines.push(Line {
                 session,
                 command,
