@@ -6,7 +6,7 @@ use Rattle.std.specs.Option.{option_or}
 use Rattle.std.specs.FinMap.{find}
 use Rattle.std.proofs.lemmas.Bool.{eq-eqb, false≢true, and_parts}
 use Rattle.std.proofs.lemmas.Option.{none-some, same_Some, slice_get_read}
-use Rattle.lab_table.specs.Row.{Row, row_cmp, row_test, row_eq, rows_tested}
+use Rattle.lab_table.specs.Row.{Row, row_cmp, row_test, rows_tested}
 use Rattle.lab_history.specs.Version.{last_write, new_state, WritesAt}
 use Rattle.lab_history.specs.VersionName.{new_states, state_value}
 use Rattle.lab_history.specs.declared.operation.Op.{Op}

@@ -1,4 +1,3 @@
-use Rattle.std.proofs.Common.{◌∙◌, sym, ap}
 use Rattle.lab_deps.proofs.LastOperations.{ends_with}
 use Rattle.lab_deps.proofs.lookup.is_last_of.Goals as goal
 

@@ -1,4 +1,3 @@
-use Rattle.std.proofs.Common.{refl, ◌∙◌}
 use Rattle.std.proofs.lemmas.List.{at_drop_all}
 use Rattle.lab_history.specs.Version.{last_write}
 use Rattle.lab_deps.proofs.LastOperations.{one_more}
