@@ -1,9 +1,10 @@
 -- What is excluded where each version that an operation sees is one that it may see.
-use Rattle.std.proofs.Common.{◌≡◌, ℕ, ◌+◌, ◌==◌, Bool, true, false, not, ◌&&◌, ◌||◌, cond, Option, Some, None, refl, ap, ◌∙◌, arith}
-use Rattle.std.specs.Prelude.{nat_le, nat_lt, is_none, is_some, option_and_then, unwrap_or}
-use Rattle.std.specs.FinMap.{get, entries}
+use Rattle.std.proofs.Common.{◌≡◌, ℕ, ◌+◌, ◌==◌, Bool, true, false, not, ◌&&◌, ◌||◌, cond, Option, Some, None, List, refl, sym, ap, ◌∙◌, arith}
+use Rattle.std.specs.Prelude.{nat_le, nat_lt, is_none, is_some, option_map, option_and_then, unwrap_or}
+use Rattle.std.specs.FinMap.{find, get, entries, get-entries}
 use Rattle.std.proofs.lemmas.Bool.{false≢true, eqb-true, eq-eqb, and_parts, and_from, not-false}
-use Rattle.lab_table.specs.Row.{Row}
+use Rattle.std.proofs.lemmas.Option.{none-some, same_Some}
+use Rattle.lab_table.specs.Row.{Row, row_cmp}
 use Rattle.lab_history.specs.History.{History}
 use Rattle.lab_history.specs.Version.{IsCommitted, ops_of, outcome_of, viewed, new_state, version_state, last_write, installers, place_in}
 use Rattle.lab_history.specs.declared.operation.Op.{Op}
@@ -15,7 +16,7 @@ use Rattle.lab_deps.specs.Broken.{is_dangling, has_aborted, is_aborted, is_other
 use Rattle.lab_deps.specs.Passes.{is_at, first_value}
 use Rattle.lab_deps.specs.Fine.{is_last, is_own, is_clear, is_fine, is_unfine, IsCleanOp}
 use Rattle.lab_deps.specs.declared.kind.OpFault.TheVariants as kind
-use Rattle.lab_deps.proofs.Rows.{no_value_in_map}
+use Rattle.lab_deps.proofs.Rows.{no_value_in_map, value_in_map}
 use Rattle.lab_deps.proofs.Found.{committed}
 
 -- no fault of what is seen stands
@@ -92,6 +93,23 @@ module _ (h : History) (n k : ℕ) (row : Row) where
     where
       later : (j k : ℕ) → nat_lt j k ≡ true → nat_lt j (k + 1) ≡ true
       later j k t = grind arith
+
+-- what is seen again is known where what the operation before saw is
+pub known_again : (before : Option Op) (op : Op) (known : List (Row × VersionName)) → option_map (λ b. b.view) before ≡ Some op.view → ((b : Op) → before ≡ Some b → entries b.view ≡ known)
+    → (row : Row) (v : VersionName) → get op.view row ≡ Some v → find row_cmp row known ≡ Some v
+known_again None op known again seen row v e = absurd (none-some op.view again)
+known_again (Some b) op known again seen row v e =
+    ap (find row_cmp row) (sym (seen b refl)) ∙ (sym (get-entries b.view row) ∙ (ap (λ view. get view row) (same_Some b.view op.view again) ∙ e))
+
+-- where each version of a view may be seen none is found that may not
+pub all_fine : (h : History) (n k : ℕ) (op : Op) → ((row : Row) (v : VersionName) → get op.view row ≡ Some v → is_fine h n k row v ≡ true) → first_value (is_unfine h n k) (entries op.view) ≡ None
+all_fine h n k op fine =
+    elim (first_value (is_unfine h n k) (entries op.view)) as (λ o. first_value (is_unfine h n k) (entries op.view) ≡ o → o ≡ None) [
+      | None ↦ λ _. refl
+      | Some row ↦ λ e.
+          let found = value_in_map (is_unfine h n k) op.view row e in
+          absurd (false≢true (ap not (sym (fine row found.0 found.1)) ∙ found.2))
+    ] refl
 
 module _ (h : History) (n k : ℕ) (op : Op) (c : IsCommitted h n) (none : first_value (is_unfine h n k) (entries op.view) ≡ None) where
   -- each version of the view may be seen

@@ -1,5 +1,5 @@
 -- Which versions of the operation before an operation doesn't miss.
-use Rattle.std.proofs.Common.{◌≡◌, ℕ, ◌==◌, Bool, true, false, not, ◌&&◌, Some, None, refl, ap, ◌∙◌}
+use Rattle.std.proofs.Common.{◌≡◌, ℕ, ◌==◌, Bool, true, false, not, ◌&&◌, cond, Some, None, List, [], ◌∷◌, refl, sym, ap, ◌∙◌}
 use Rattle.std.specs.Prelude.{is_some, unwrap_or}
 use Rattle.std.specs.FinMap.{get, entries}
 use Rattle.std.proofs.lemmas.Bool.{eq-eqb}
@@ -42,3 +42,14 @@ module _ (n k : ℕ) (before op : Op) (none : first_entry (is_missed n k before 
   same_seen row v g s =
       unless_written row
       (ap (λ o. own_changes n (unwrap_or o Initial) (viewed op row)) g ∙ ap (λ o. own_changes n v (unwrap_or o Initial)) s ∙ unchanged n v)
+
+  -- nothing, where it sees what that one saw
+  pub seen_again : before.view ≡ op.view → first_entry (is_missed n k before op) (entries before.view) ≡ None
+  seen_again e = none_of (entries before.view)
+    where
+      none_of : (es : List (Row × VersionName)) → first_entry (is_missed n k before op) es ≡ None
+      none_of [] = refl
+      none_of (x ∷ es) =
+          ap (λ b. cond b (Some x.0) (first_entry (is_missed n k before op) es))
+          (unless_written x.0 (ap (λ view. own_changes n (viewed before x.0) (unwrap_or (get view x.0) Initial)) (sym e) ∙ unchanged n (viewed before x.0)))
+          ∙ none_of es

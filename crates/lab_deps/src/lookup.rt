@@ -1,9 +1,11 @@
 //! Look-ups in a history that begin where what they look for is likely to stand.
 
-ghost use Rattle.std.specs.Prelude.{◌≡◌, true, option_map};
+ghost use Rattle.std.specs.Prelude.{◌≡◌, true, None, not, is_none, drop, option_map};
 ghost use Rattle.std.specs.Option.{option_copied};
+ghost use Rattle.std.specs.List.{list_all};
 ghost use Rattle.std.specs.FinMap as map;
-ghost use Rattle.lab_history.specs.Version.{find_txn, op_at, version_state, last_write, ops_of, WritesAt};
+ghost use Rattle.lab_table.specs.Row.{row_test};
+ghost use Rattle.lab_history.specs.Version.{find_txn, op_at, version_state, last_write, new_state, ops_of, WritesAt};
 ghost use Rattle.lab_history.specs.VersionName.{state_value};
 ghost use Rattle.lab_deps.specs.Passes.{is_at};
 ghost use Rattle.lab_deps.specs.Fine.{is_last};
@@ -120,7 +122,6 @@ pub fn is_last(history: &History, txn: TxnNo, op: u32, row: RowName, hints: &mut
 }
 
 /// The same of a transaction with these operations.
-#[tactic(auto, using(crate::proofs::LastOperations::ends_with))]
 fn is_last_of(
     history: &History,
     txn: TxnNo,
@@ -132,11 +133,50 @@ fn is_last_of(
     requires { ops_of history.now txn ≡ ops.now }
     ensures { result ≡ true → is_at (last_write ops.now row) op ≡ true }
 {
-    if ops.len() == op as usize {
+    if none_follows(ops, op, row) {
         writes_at(ops, op, row, &mut hints.written)
     } else {
         is_number(history.last_write_near(txn, row, &mut hints.last), op)
     }
+}
+
+/// Whether operations behind the one with this number are found not to write a row. They are looked at where they are few:
+/// that costs less than to halve.
+fn none_follows(ops: &[Op], number: u32, row: RowName) -> bool
+    ensures { result ≡ true → last_write (drop number ops.now) row ≡ None }
+{
+    let number = number as usize;
+    if number > ops.len() || ops.len() - number > 8 {
+        return false;
+    }
+    none_writes(ops.split_at(number).1, row)
+}
+
+/// Whether operations are found not to write a row.
+fn none_writes(ops: &[Op], row: RowName) -> bool
+    ensures { result ≡ true → last_write ops.now row ≡ None }
+{
+    for op in ops {
+        if !writes_few_others(op, row) {
+            return false;
+        }
+    }
+    true
+}
+
+/// Whether an operation is found not to write a row: it writes few, and all are others.
+fn writes_few_others(op: &Op, row: RowName) -> bool
+    ensures { result ≡ true → is_none (new_state op.now row) ≡ true }
+{
+    let entries = op.writes.entries();
+    entries.len() <= 4 && lacks(entries, row)
+}
+
+/// Whether none of these entries is of a row.
+fn lacks(entries: &[(RowName, State)], row: RowName) -> bool
+    ensures { result ≡ list_all (λ e. not (row_test row e.0)) entries.now }
+{
+    entries.iter().all(|entry| row != entry.0)
 }
 
 /// Whether the operation with this number writes a row.
