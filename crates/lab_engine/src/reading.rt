@@ -32,7 +32,7 @@ pub fn view_seen(
     Ok(View::new(names))
 }
 
-/// The names of a view, by rising row.
+/// The names of a view, by rising row, in as much room as they fill: a log keeps its views.
 fn names_seen(
     alloc: Global,
     rows: &BTreeMap<RowName, RowState>,
@@ -44,49 +44,32 @@ fn names_seen(
 {
     let mut names = Vec::with_capacity(alloc, rows.len())?;
     for (row, kept) in rows {
-        if let Some(name) = name_seen(*row, kept, session, place) {
-            names.push(name)?;
+        if let Some(name) = name_seen(kept, session, place) {
+            names.push_reserved((*row, name));
         }
     }
-    without_spare(alloc, names)
+    names.shrink_to_fit();
+    Ok(names)
 }
 
 /// What a view lists of a row, if anything.
-fn name_seen(
-    row: RowName,
-    kept: &RowState,
-    session: Session,
-    place: usize,
-) -> Option<(RowName, VersionName)>
-    ensures { result ≡ with_row row (name_over (seen_of session place kept.now)) }
+fn name_seen(kept: &RowState, session: Session, place: usize) -> Option<VersionName>
+    ensures { result ≡ name_over (seen_of session place kept.now) }
 {
     match kept.seen_by(session, place) {
-        Some(version) => listed_name(row, version.name),
+        Some(version) => listed_name(version.name),
         None => None,
     }
 }
 
-/// A row with the name of its version, where a view lists that.
-fn listed_name(row: RowName, name: VersionName) -> Option<(RowName, VersionName)>
-    ensures { result ≡ with_row row (in_view name) }
+/// The name of a version, where a view lists it.
+fn listed_name(name: VersionName) -> Option<VersionName>
+    ensures { result ≡ in_view name }
 {
     match name {
         VersionName::Initial => None,
-        VersionName::Of { txn, op } => Some((row, VersionName::Of { txn, op })),
+        VersionName::Of { txn, op } => Some(VersionName::Of { txn, op }),
     }
-}
-
-/// The same names in as much room as they fill: a log keeps its views.
-fn without_spare(
-    alloc: Global,
-    names: Vec<(RowName, VersionName)>,
-) -> Result<Vec<(RowName, VersionName)>, NoMemory>
-    ensures { IfOk result (λ v. v.items ≡ names.items) }
-{
-    if names.len() == names.capacity() {
-        return Ok(names);
-    }
-    Vec::from_slice(alloc, &names)
 }
 
 /// The rows that match a statement as a session sees them that sees the commits with fewer than so many events before
