@@ -1,11 +1,17 @@
 -- What is made of each row that is seen, row by row, and which row keeps a statement from running.
 use Rattle.std.proofs.Common.{◌≡◌, ◌∙◌, refl, sym, ap, subst, ℕ, ℤ, true, false, cond, T, List, [], ◌∷◌, is_lt, Option, Some, None, option_map, option_and_then}
-use Rattle.lab_engine.proofs.Common.{Written, cons_option, FinMap, find, is_sorted, get, entries, entries_sorted, get-entries, from_sorted, get-from_sorted, below_all, Row, row_cmp, row_eq, State, inserted, listed, written, fails, Statement, same_row, find_below, both, joined, state_value, new_states, is_read_only, with_row, each_row, stored, value_rewritten, change_is}
+use Rattle.lab_engine.proofs.Common.{Written, cons_option, option_or, FinMap, find, is_sorted, get, entries, entries_sorted, get-entries, from_sorted, get-from_sorted, below_all, Row, row_cmp, row_eq, State, Version, inserted, listed, written, fails, Statement, same_row, find_below, both, joined, state_value, new_states, is_read_only, with_row, each_row, stored, value_rewritten, change_is}
+use Rattle.lab_history.proofs.FirstValues.{or_none}
 use Rattle.lab_table.specs.Statement as statement
 use Rattle.lab_table.specs.Statement.{matched, kind_inserted, kind_listed, kind_matched}
 use Rattle.lab_table.specs.declared.statement.StatementKind.{StatementKind}
 use Rattle.lab_table.specs.declared.statement.StatementKind.TheVariants.{Select, Update, Insert, Delete}
 use Rattle.lab_engine.specs.Overlay.{AreMatching}
+
+-- before others a row is found with what is made of it
+pub find_made : {B : Type 0} (q row : Row) (rest : List (Row × B)) (o : Option B) → find row_cmp q (cons_option (with_row row o) rest) ≡ cond (row_eq q row) (option_or o (find row_cmp q rest)) (find row_cmp q rest)
+find_made q row rest (Some b) = refl
+find_made q row rest None = elim (row_eq q row) as (λ t. find row_cmp q rest ≡ cond t (find row_cmp q rest) (find row_cmp q rest)) [ true ↦ refl | false ↦ refl ]
 
 module _ {A B : Type 0} (f : Row → A → Option B) where
   below_each : (x : Row) (es : List (Row × A)) → T (below_all row_cmp x es) → T (below_all row_cmp x (each_row f es))
@@ -29,29 +35,20 @@ module _ {A B : Type 0} (f : Row → A → Option B) where
         | Some b ↦ joined (below_all row_cmp e.0 (each_row f es)) (is_sorted row_cmp (each_row f es)) (below_each e.0 es parts.0) rest
       ]
 
-  -- the row of an entry is found with what is made of it
-  find_own : (q : Row) (e : Row × A) (rest : List (Row × B)) → row_eq q e.0 ≡ true → find row_cmp q rest ≡ None → (o : Option B) → find row_cmp q (cons_option (with_row e.0 o) rest) ≡ o
-  find_own q e rest own none None = none
-  find_own q e rest own none (Some b) = ap (λ t. cond t (Some b) (find row_cmp q rest)) own
-
-  -- another row is found among the rest
-  find_other : (q : Row) (e : Row × A) (rest : List (Row × B)) → row_eq q e.0 ≡ false → (o : Option B) → find row_cmp q (cons_option (with_row e.0 o) rest) ≡ find row_cmp q rest
-  find_other q e rest other None = refl
-  find_other q e rest other (Some b) = ap (λ t. cond t (Some b) (find row_cmp q rest)) other
-
   -- a row is found with what is made of what it was found with
   pub find_each : (q : Row) (es : List (Row × A)) → T (is_sorted row_cmp es) → find row_cmp q (each_row f es) ≡ option_and_then (f q) (find row_cmp q es)
   find_each q [] h = refl
   find_each q (e ∷ es) h =
       let parts = both (below_all row_cmp e.0 es) (is_sorted row_cmp es) h in
+      let found = find row_cmp q (each_row f es) in
       let rest = find_each q es parts.1 in
-      elim (row_eq q e.0) as (λ t. row_eq q e.0 ≡ t → find row_cmp q (each_row f (e ∷ es)) ≡ option_and_then (f q) (cond t (Some e.1) (find row_cmp q es))) [
+      find_made q e.0 (each_row f es) (f e.0 e.1) ∙ (elim (row_eq q e.0) as (λ t. row_eq q e.0 ≡ t → cond t (option_or (f e.0 e.1) found) found ≡ option_and_then (f q) (cond t (Some e.1) (find row_cmp q es))) [
         | true ↦ λ t.
             let same : q ≡ e.0 = same_row q e.0 t in
             let none : find row_cmp q es ≡ None = find_below q es (subst (λ x. T (below_all row_cmp x es)) (sym same) parts.0) in
-            find_own q e (each_row f es) t (rest ∙ ap (option_and_then (f q)) none) (f e.0 e.1) ∙ ap (λ x. f x e.1) (sym same)
-        | false ↦ λ t. find_other q e (each_row f es) t (f e.0 e.1) ∙ rest
-      ] refl
+            ap (option_or (f e.0 e.1)) (rest ∙ ap (option_and_then (f q)) none) ∙ or_none (f e.0 e.1) ∙ ap (λ x. f x e.1) (sym same)
+        | false ↦ λ t. rest
+      ] refl)
 
   -- the map of what is made of each row, row by row
   pub get_each : (m : FinMap row_cmp A) (q : Row) → get (from_sorted {R = row_cmp} (each_row f (entries m))) q ≡ option_and_then (f q) (get m q)
@@ -102,10 +99,10 @@ module _ (s : Statement) (es : List (Row × ℤ)) (items : List (Row × Written)
   change_sorted h = subst (λ k. T (is_sorted row_cmp k)) (sym left_is) (sorted_each (λ row value. option_map state_value (value_rewritten s value)) es h)
 
   -- a statement that neither only lists nor adds a row writes what it makes of the rows that match
-  pub change_found : is_read_only s ≡ false → inserted s ≡ None → (states : Row → State) → AreMatching s states es → ((q : Row) → fails s q (states q) ≡ false)
-      → (q : Row) → find row_cmp q (new_states items) ≡ written s q (states q)
-  change_found changes none states are runs q =
+  pub change_found : is_read_only s ≡ false → inserted s ≡ None → (sees : Row → Version) → AreMatching s sees es → ((q : Row) → fails s q (sees q).state ≡ false)
+      → (q : Row) → find row_cmp q (new_states items) ≡ written s q (sees q).state
+  change_found changes none sees are runs q =
       ap (find row_cmp q) left_is ∙ find_each (λ row value. option_map state_value (value_rewritten s value)) q es are.sorted
-      ∙ ap (option_and_then (λ value. option_map state_value (value_rewritten s value))) (are.found q ∙ sym (lists_matched s none q (states q)))
-      ∙ made_is (statement.rewritten s) (listed s q (states q))
-      ∙ sym ((change_is s changes none).writes q (states q) (runs q))
+      ∙ ap (option_and_then (λ value. option_map state_value (value_rewritten s value))) (are.found q ∙ sym (lists_matched s none q (sees q).state))
+      ∙ made_is (statement.rewritten s) (listed s q (sees q).state)
+      ∙ sym ((change_is s changes none).writes q (sees q).state (runs q))

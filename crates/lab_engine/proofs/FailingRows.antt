@@ -1,5 +1,6 @@
 -- The first row that keeps a statement from running.
 use Rattle.std.proofs.Common.{◌≡◌, ◌∙◌, refl, sym, ap, subst, Bool, true, false, cond, ◌||◌, ◌&&◌, T, List, [], ◌∷◌, ◌⊎◌, inl, inr, Less, ℕ, ℤ, Option, Some, None, is_some, option_map}
+use Rattle.std.specs.Prelude.{IsTrue}
 use Rattle.lab_engine.proofs.Common.{none_some, list_any, find, is_sorted, below_all, Row, row_cmp, row_eq, rows_total, fails, selects, State, false≢true, Statement, same_row, row_eq_self, both, Version, IsBelow, same_Some, is_update, absent_runs, is_less, first_failing}
 use Rattle.std.specs.Ordering.{is_lt, ordering_reverse}
 use Rattle.lab_engine.specs.Effect.{IsEffectFault}
@@ -88,32 +89,6 @@ matched_as s row (Some w) v is = at (selects s row w) is
     at true same = same
     at false none = none_some _ none
 
-module _ (s : Statement) (states : Row → State) (es : List (Row × ℤ)) (are : AreMatching s states es) where
-  -- a row that matches is seen with its value, and one that doesn't keeps nothing from running
-  found_as : (q : Row) (v : ℤ) → find row_cmp q es ≡ Some v → states q ≡ Some v
-  found_as q v is = matched_as s q (states q) v (sym (are.found q) ∙ is)
-
-  others_go : (q : Row) → find row_cmp q es ≡ None → fails s q (states q) ≡ false
-  others_go q none = fails_alike s q (states q) None (sym (are.found q) ∙ none) ∙ absent_runs s q
-
-  -- where no row that matches fails, none does
-  pub all_run : first_failing s es ≡ None → (q : Row) → fails s q (states q) ≡ false
-  all_run none q = at (find row_cmp q es) refl
-    where
-      at : (o : State) → find row_cmp q es ≡ o → fails s q (states q) ≡ false
-      at None is = others_go q is
-      at (Some v) is = ap (fails s q) (found_as q v is) ∙ none_in (λ e. fails s e.0 (Some e.1)) es (none_failing s es none) q v is
-
-  -- the first row that fails
-  pub fails_first : (row : Row) → first_failing s es ≡ Some row → (fails s row (states row) ≡ true) × ((other : Row) → IsBelow other row → fails s other (states other) ≡ false)
-  fails_first row first =
-      let f = first_is s es row are.sorted first in
-      (ap (fails s row) (found_as row f.value f.found) ∙ f.fails_there, λ other below. at f other below (find row_cmp other es) refl)
-    where
-      at : IsFirst s (λ q. find row_cmp q es) row → (other : Row) → IsBelow other row → (o : State) → find row_cmp other es ≡ o → fails s other (states other) ≡ false
-      at f other below None is = others_go other is
-      at f other below (Some u) is = ap (fails s other) (found_as other u is) ∙ f.before other u below is
-
 -- a statement that is refused and is no update adds the row at which it is
 kind_refused : (t : List ℕ) (s : StatementKind) (row : Row) (state : State) → kind_is_update s ≡ false → kind_fails t s row state ≡ true
     → option_map (λ (added : Row × ℤ). added.0) (kind_inserted t s) ≡ Some row
@@ -126,15 +101,35 @@ kind_refused t (Insert id new) row state other f = ap (λ r. Some r) (sym (same_
     and_left false b h = h
 kind_refused t (Delete pred) row state other f = absurd (false≢true f)
 
--- the fault at the first row that fails
-pub update_fails : (s : Statement) (sees : Row → Version) (es : List (Row × ℤ)) → AreMatching s (λ row. (sees row).state) es → (row : Row) → is_update s ≡ true → first_failing s es ≡ Some row
-    → IsEffectFault sees s (OutOfRange row)
-update_fails s sees es are row updates first =
-    let f = fails_first s (λ row. (sees row).state) es are row first in
-    (updates, f.0, f.1)
+module _ (s : Statement) (sees : Row → Version) (es : List (Row × ℤ)) (are : AreMatching s sees es) where
+  -- a row that matches is seen with its value, and one that doesn't keeps nothing from running
+  found_as : (q : Row) (v : ℤ) → find row_cmp q es ≡ Some v → (sees q).state ≡ Some v
+  found_as q v is = matched_as s q (sees q).state v (sym (are.found q) ∙ is)
 
-pub insert_fails : (s : Statement) (sees : Row → Version) (es : List (Row × ℤ)) → AreMatching s (λ row. (sees row).state) es → (row : Row) → is_update s ≡ false → first_failing s es ≡ Some row
-    → IsEffectFault sees s (DuplicateKey row)
-insert_fails s sees es are row other first =
-    let f = (fails_first s (λ row. (sees row).state) es are row first).0 in
-    (kind_refused s.table s.kind row (sees row).state other f, f)
+  others_go : (q : Row) → find row_cmp q es ≡ None → fails s q (sees q).state ≡ false
+  others_go q none = fails_alike s q (sees q).state None (sym (are.found q) ∙ none) ∙ absent_runs s q
+
+  -- where no row that matches fails, none does
+  pub all_run : first_failing s es ≡ None → (q : Row) → fails s q (sees q).state ≡ false
+  all_run none q = at (find row_cmp q es) refl
+    where
+      at : (o : State) → find row_cmp q es ≡ o → fails s q (sees q).state ≡ false
+      at None is = others_go q is
+      at (Some v) is = ap (fails s q) (found_as q v is) ∙ none_in (λ e. fails s e.0 (Some e.1)) es (none_failing s es none) q v is
+
+  -- the first row that fails
+  fails_first : (row : Row) → first_failing s es ≡ Some row → IsTrue (fails s row (sees row).state) × ((other : Row) → IsBelow other row → fails s other (sees other).state ≡ false)
+  fails_first row first =
+      let f = first_is s es row are.sorted first in
+      (ap (fails s row) (found_as row f.value f.found) ∙ f.fails_there, λ other below. at f other below (find row_cmp other es) refl)
+    where
+      at : IsFirst s (λ q. find row_cmp q es) row → (other : Row) → IsBelow other row → (o : State) → find row_cmp other es ≡ o → fails s other (sees other).state ≡ false
+      at f other below None is = others_go other is
+      at f other below (Some u) is = ap (fails s other) (found_as other u is) ∙ f.before other u below is
+
+  -- the fault there
+  pub update_fails : (row : Row) → is_update s ≡ true → first_failing s es ≡ Some row → IsEffectFault sees s (OutOfRange row)
+  update_fails row updates first = let f = fails_first row first in (updates, f.0, f.1)
+
+  pub insert_fails : (row : Row) → is_update s ≡ false → first_failing s es ≡ Some row → IsEffectFault sees s (DuplicateKey row)
+  insert_fails row other first = let f = (fails_first row first).0 in (kind_refused s.table s.kind row (sees row).state other f, f)

@@ -1,6 +1,7 @@
 -- What is made of what is kept of rows, by rising row.
 use Rattle.std.proofs.Common.{◌≡◌, ◌∙◌, ℕ, refl, sym, ap, subst, cond, T, List, [], ◌∷◌, Option, Some, None, option_and_then, is_lt, is_eq, Less}
-use Rattle.lab_engine.proofs.Common.{option_or, AllByRecursion, find, is_sorted, get, from_sorted, get-from_sorted, below_all, Row, row_cmp, joined, last_before, Kept, pending_of, chain_kept, pending_kept, each_row}
+use Rattle.lab_engine.proofs.Common.{option_or, AllByRecursion, find, is_sorted, below_all, Row, row_cmp, joined, last_before, Kept, Version, chain_kept, pending_kept, each_row}
+use Rattle.lab_engine.specs.Overlay.{seen_of}
 use Rattle.std.specs.List.Sorted.{IsStrictlySortedBy}
 use Rattle.std.specs.Map.{keys_of, lookup}
 use Rattle.std.specs.BTreeMap.{is_at}
@@ -22,19 +23,17 @@ module _ {A : Type 0} where
   find_kept row [] = refl
   find_kept row (e ∷ es) = ap (cond (is_eq (row_cmp row e.0)) (Some e.1)) (find_kept row es)
 
-  module _ {B : Type 0} (f : Row → A → Option B) (es : List (Row × A)) (ordered : IsStrictlySortedBy row_cmp (keys_of es)) (made : List (Row × B)) (is : made ≡ each_row f es) where
+  module _ {B : Type 0} (f : Row → A → Option B) (es : List (Row × A)) (ordered : IsStrictlySortedBy row_cmp (keys_of es)) where
     -- what is made of each row is in order
-    pub made_sorted : T (is_sorted row_cmp made)
-    made_sorted = subst (λ l. T (is_sorted row_cmp l)) (sym is) (sorted_each f es (sorted_kept es ordered))
+    pub each_kept : T (is_sorted row_cmp (each_row f es))
+    each_kept = sorted_each f es (sorted_kept es ordered)
 
     -- and is made of what the row has
-    pub made_found : (row : Row) → get (from_sorted {R = row_cmp} made) row ≡ option_and_then (f row) (lookup (is_at (row_cmp row)) es)
-    made_found row =
-        get-from_sorted row_cmp made row made_sorted ∙ ap (find row_cmp row) is ∙ find_each f row es (sorted_kept es ordered)
-        ∙ ap (option_and_then (f row)) (find_kept row es)
+    pub each_found : (row : Row) → find row_cmp row (each_row f es) ≡ option_and_then (f row) (lookup (is_at (row_cmp row)) es)
+    each_found row = find_each f row es (sorted_kept es ordered) ∙ ap (option_and_then (f row)) (find_kept row es)
 
--- what a session sees of a row, by what is kept of it
-pub seen_kept : (session place : ℕ) (o : Option Kept) → option_and_then (λ kept. option_or (pending_of kept session) (last_before place kept.chain)) o
-    ≡ option_or (pending_kept o session) (last_before place (chain_kept o))
-seen_kept session place None = refl
-seen_kept session place (Some kept) = refl
+-- what is made of what a session sees of a row, by what is kept of it
+pub seen_kept : {B : Type 0} (f : Option Version → Option B) → f None ≡ None → (session place : ℕ) (o : Option Kept) → option_and_then (λ kept. f (seen_of session place kept)) o
+    ≡ f (option_or (pending_kept o session) (last_before place (chain_kept o)))
+seen_kept f none session place None = sym none
+seen_kept f none session place (Some kept) = refl

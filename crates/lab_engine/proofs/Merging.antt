@@ -1,7 +1,7 @@
 -- Sorted lists of rows with their versions, two of which are merged.
-use Rattle.std.proofs.Common.{◌≡◌, ℕ, suc, ◌+◌, true, false, cond, T, [], ◌∷◌, ◌++◌, take, drop, Option, Some, None, Bool, is_some, refl, sym, ap, ◌∙◌, subst, append_assoc, one-add, is_lt, is_gt, Ordering, Less, Equal, Greater}
+use Rattle.std.proofs.Common.{◌≡◌, ℕ, ◌+◌, true, false, cond, T, [], ◌∷◌, ◌++◌, take, drop, Option, Some, None, Bool, is_some, refl, sym, ap, ◌∙◌, subst, append_assoc, one-add, is_lt, is_gt, Ordering, Less, Equal, Greater}
 use Rattle.std.specs.Bool.{⊤}
-use Rattle.lab_engine.proofs.Common.{option_or, prefix_len, find, is_sorted, get, from_sorted, insert, entries, entries_sorted, get-entries, get-from_sorted, get-insert, below_all, Row, row_cmp, row_eq, rows_total, rows_apart, row_test, find_below, same_row, both, Version, comes_after, put, by_order, is_sorted-put, find-put, is_less, turned, turned_back, merged, without_row, insert_each, insert_missing, lower}
+use Rattle.lab_engine.proofs.Common.{option_or, prefix_len, find, is_sorted, get, from_sorted, insert, entries, entries_sorted, get-entries, get-from_sorted, get-insert, below_all, Row, row_cmp, row_eq, rows_total, rows_apart, find_below, same_row, both, Version, comes_after, put, by_order, is_sorted-put, find-put, is_less, turned, turned_back, merged, without_row, insert_each, insert_missing, lower}
 use Rattle.lab_table.proofs.Putting.{is_own}
 use Rattle.lab_engine.specs.Sight.{Listed}
 use Rattle.lab_history.proofs.FirstValues.{or_none}
@@ -56,7 +56,7 @@ front_below row (e ∷ es) over h = at (front_below row es over h) (row_cmp row 
     at rest Greater q = subst (λ n. AllBelow (take n (e ∷ es)) over) (sym (one-add (prefix_len (comes_after row) es))) (lower e.0 row over (turned row e.0 q) h, rest)
 
 -- to merge is to put each entry
-pub merged_put : (under over : Entries) → T (is_sorted row_cmp over) → merged under over ≡ put_each under over
+merged_put : (under over : Entries) → T (is_sorted row_cmp over) → merged under over ≡ put_each under over
 merged_put under [] h = refl
 merged_put under (e ∷ over) h =
     let parts = both (below_all row_cmp e.0 over) (is_sorted row_cmp over) h in
@@ -67,7 +67,7 @@ merged_put under (e ∷ over) h =
     ∙ past front (e ∷ left) over (front_below e.0 under over parts.0)
     ∙ ap (λ l. put_each l over) (split e.0 e.1 under)
 
-pub each_sorted : (es over : Entries) → T (is_sorted row_cmp es) → T (is_sorted row_cmp (put_each es over))
+each_sorted : (es over : Entries) → T (is_sorted row_cmp es) → T (is_sorted row_cmp (put_each es over))
 each_sorted es [] h = h
 each_sorted es (e ∷ over) h = each_sorted (put row_cmp e.0 e.1 es) over (is_sorted-put row_cmp rows_total e.0 e.1 es h)
 
@@ -80,7 +80,7 @@ first_stays row e over old below =
       | false ↦ λ t. refl
     ] refl
 
-pub each_found : (row : Row) (es over : Entries) → T (is_sorted row_cmp over) → find row_cmp row (put_each es over) ≡ option_or (find row_cmp row over) (find row_cmp row es)
+each_found : (row : Row) (es over : Entries) → T (is_sorted row_cmp over) → find row_cmp row (put_each es over) ≡ option_or (find row_cmp row over) (find row_cmp row es)
 each_found row es [] h = refl
 each_found row es (e ∷ over) h =
     let parts = both (below_all row_cmp e.0 over) (is_sorted row_cmp over) h in
@@ -88,35 +88,23 @@ each_found row es (e ∷ over) h =
     ∙ ap (option_or (find row_cmp row over)) (find-put row_cmp rows_total row e.0 e.1 es)
     ∙ first_stays row e over (find row_cmp row es) parts.0
 
--- two maps' entries merged are in order
-pub merged_sorted : (below above : Listed) (made : Entries) → made ≡ merged (entries below) (entries above) → T (is_sorted row_cmp made)
-merged_sorted below above made is =
-    subst (λ l. T (is_sorted row_cmp l)) (sym (is ∙ merged_put (entries below) (entries above) (entries_sorted above))) (each_sorted (entries below) (entries above) (entries_sorted below))
+-- sorted lists merged are in order
+pub merged_sorted : (under over : Entries) → T (is_sorted row_cmp under) → T (is_sorted row_cmp over) → T (is_sorted row_cmp (merged under over))
+merged_sorted under over below above = subst (λ l. T (is_sorted row_cmp l)) (sym (merged_put under over above)) (each_sorted under over below)
 
 -- a row is found as the second has it, else as the first has it
-pub merged_found : (below above : Listed) (made : Entries) (row : Row) → made ≡ merged (entries below) (entries above)
-    → get (from_sorted {R = row_cmp} made) row ≡ option_or (get above row) (get below row)
-merged_found below above made row is =
-    get-from_sorted row_cmp made row (merged_sorted below above made is)
-    ∙ ap (find row_cmp row) (is ∙ merged_put (entries below) (entries above) (entries_sorted above)) ∙ each_found row (entries below) (entries above) (entries_sorted above)
-    ∙ ap (λ o. option_or o (find row_cmp row (entries below))) (sym (get-entries above row)) ∙ ap (option_or (get above row)) (sym (get-entries below row))
+pub merged_found : (row : Row) (under over : Entries) → T (is_sorted row_cmp over) → find row_cmp row (merged under over) ≡ option_or (find row_cmp row over) (find row_cmp row under)
+merged_found row under over above = ap (find row_cmp row) (merged_put under over above) ∙ each_found row under over above
 
--- what is left of a sorted list is in order
-sorted-drop : (n : ℕ) (es : Entries) → T (is_sorted row_cmp es) → T (is_sorted row_cmp (drop n es))
-sorted-drop (suc n) (e ∷ es) h = sorted-drop n es (both (below_all row_cmp e.0 es) (is_sorted row_cmp es) h).1
-sorted-drop n es h = h
+module _ (below above : Listed) (made : Entries) (is : made ≡ merged (entries below) (entries above)) where
+  -- two maps' entries merged are in order
+  pub maps_sorted : T (is_sorted row_cmp made)
+  maps_sorted = subst (λ l. T (is_sorted row_cmp l)) (sym is) (merged_sorted (entries below) (entries above) (entries_sorted below) (entries_sorted above))
 
-sorted-without : (row : Row) (es : Entries) → T (is_sorted row_cmp es) → T (is_sorted row_cmp (without_row row es))
-sorted-without row [] h = h
-sorted-without row (e ∷ es) h =
-    elim (row_test row e.0) as (λ b. T (is_sorted row_cmp (cond b es (e ∷ es)))) [
-      | true ↦ (both (below_all row_cmp e.0 es) (is_sorted row_cmp es) h).1
-      | false ↦ h
-    ]
-
--- what is left to merge after an entry is in order
-pub left_sorted : (row : Row) (n : ℕ) (left rest : Entries) → T (is_sorted row_cmp left) → rest ≡ without_row row (drop n left) → T (is_sorted row_cmp rest)
-left_sorted row n left rest h is = subst (λ l. T (is_sorted row_cmp l)) (sym is) (sorted-without row (drop n left) (sorted-drop n left h))
+  pub maps_found : (row : Row) → get (from_sorted {R = row_cmp} made) row ≡ option_or (get above row) (get below row)
+  maps_found row =
+      get-from_sorted row_cmp made row maps_sorted ∙ ap (find row_cmp row) is ∙ merged_found row (entries below) (entries above) (entries_sorted above)
+      ∙ ap (λ o. option_or o (find row_cmp row (entries below))) (sym (get-entries above row)) ∙ ap (option_or (get above row)) (sym (get-entries below row))
 
 -- one more entry merged
 pub merge_step : (made news left rest over whole : Entries) (e : Row × Version) (n : ℕ) → made ++ merged left (e ∷ over) ≡ whole → n ≡ prefix_len (comes_after e.0) left

@@ -5,14 +5,16 @@ use Rattle.std.proofs.lemmas.List.Elements.{filter_map-append}
 use Rattle.std.specs.List.Sorted.{IsStrictlySortedBy}
 use Rattle.std.specs.Map.{keys_of, lookup}
 use Rattle.std.specs.BTreeMap.{is_at}
-use Rattle.std.specs.Prelude.{Result, Ok, Err, IfOk}
-use Rattle.lab_engine.proofs.Common.{cons_option, prefix_len, option_or, find, is_sorted, get, entries, entries_sorted, get-entries, Row, row_cmp, row_eq, row_test, State, Table, may_match, Statement, false≢true, same_row, row_eq_self, find-map, Version, initially, comes_after, Kept, RowStates, each_row, with_row, initial_entry, merged, without_row, no_match, kept_at, false_from_ne_true, from_sorted, pending_kept, chain_kept, last_before, VersionName, View, in_view}
+use Rattle.lab_engine.proofs.Common.{cons_option, prefix_len, option_or, find, is_sorted, get, entries, entries_sorted, get-entries, get-from_sorted, Row, row_cmp, row_eq, row_test, State, may_match, Statement, false≢true, same_row, row_eq_self, find-map, Version, initially, comes_after, Kept, each_row, with_row, initial_entry, merged, without_row, no_match, kept_at, false_from_ne_true, from_sorted, VersionName, in_view}
 use Rattle.lab_table.specs.Statement.{matched}
 use Rattle.lab_engine.specs.KeptRows.{entries_in}
-use Rattle.lab_engine.specs.Overlay.{seen_of, seen_over, state_over, matching_entries, matching_rows, laid_over, name_over, version_over, AreMatching}
-use Rattle.lab_engine.proofs.Effects.{sorted_each, find_each}
-use Rattle.lab_engine.proofs.KeptChains.{sorted_kept, find_kept, seen_kept, made_sorted, made_found}
-use Rattle.lab_engine.proofs.Merging.{merged_put, each_sorted, each_found}
+use Rattle.lab_engine.specs.declared.asker.Asker.{Asker}
+use Rattle.lab_engine.specs.Asker.{seen_in}
+use Rattle.lab_engine.specs.Overlay.{seen_of, seen_over, matching_entries, matching_rows, laid_over, name_over, AreMatching}
+use Rattle.lab_history.proofs.FirstValues.{or_none}
+use Rattle.lab_engine.proofs.Effects.{sorted_each, find_each, find_made}
+use Rattle.lab_engine.proofs.KeptChains.{each_kept, each_found, seen_kept}
+use Rattle.lab_engine.proofs.Merging.{merged_sorted, merged_found}
 use Rattle.lab_engine.proofs.VersionLists.{Entries, initial_sorted}
 
 -- ---- the walk through both lists
@@ -81,119 +83,85 @@ matched_over s row (Some v) state = refl
 matched_over s row None None = refl
 matched_over s row None (Some value) = refl
 
-module _ (s : Statement) (setup : Table) (rows : RowStates) (session place : ℕ) (ordered : IsStrictlySortedBy row_cmp (keys_of (entries_in rows))) where
-  abbrev over : Entries
-  over = each_row (λ row kept. seen_of session place kept) (entries_in rows)
-
-  abbrev under : Entries
-  under = map initial_entry (entries setup)
-
-  over_sorted : T (is_sorted row_cmp over)
-  over_sorted = sorted_each (λ row kept. seen_of session place kept) (entries_in rows) (sorted_kept (entries_in rows) ordered)
-
-  laid_sorted : T (is_sorted row_cmp (merged under over))
-  laid_sorted = subst (λ l. T (is_sorted row_cmp l)) (sym (merged_put under over over_sorted)) (each_sorted under over (initial_sorted (entries setup) under (entries_sorted setup) refl))
-
-  matching_sorted : T (is_sorted row_cmp (matching_entries s (laid_over (entries setup) over)))
-  matching_sorted = sorted_each (λ row (v : Version). matched s row v.state) (merged under over) laid_sorted
-
-  over_found : (row : Row) → find row_cmp row over ≡ seen_over rows session place row
-  over_found row =
-      find_each (λ row kept. seen_of session place kept) row (entries_in rows) (sorted_kept (entries_in rows) ordered)
-      ∙ ap (option_and_then (λ kept. seen_of session place kept)) (find_kept row (entries_in rows)) ∙ seen_kept session place (kept_at rows row)
-
-  under_found : (row : Row) → find row_cmp row under ≡ option_map (λ value. initially (Some value)) (get setup row)
-  under_found row = find-map (λ (value : ℤ). initially (Some value)) row (entries setup) ∙ ap (option_map (λ value. initially (Some value))) (sym (get-entries setup row))
-
-  matching_found : (row : Row) → find row_cmp row (matching_entries s (laid_over (entries setup) over)) ≡ matched s row (state_over setup rows session place row)
-  matching_found row =
-      find_each (λ row (v : Version). matched s row v.state) row (merged under over) laid_sorted
-      ∙ ap (λ o. option_and_then (λ (v : Version). matched s row v.state) o)
-      (ap (find row_cmp row) (merged_put under over over_sorted) ∙ each_found row under over over_sorted ∙ ap (λ o. option_or o (find row_cmp row under)) (over_found row)
-      ∙ ap (option_or (seen_over rows session place row)) (under_found row))
-      ∙ matched_over s row (seen_over rows session place row) (get setup row)
-
--- what the walk through both lists finds
-pub walked : (s : Statement) (setup : Table) (rows : RowStates) (session place : ℕ) (shown : List (Row × ℤ)) (kept : List (Row × Kept)) (items : List (Row × ℤ)) → shown ≡ entries setup → kept ≡ entries_in rows
-    → IsStrictlySortedBy row_cmp (keys_of kept) → items ≡ matching_entries s (laid_over shown (each_row (λ row k. seen_of session place k) kept)) → AreMatching s (state_over setup rows session place) items
-walked s setup rows session place shown kept items table written in_order made =
-    let ordered : IsStrictlySortedBy row_cmp (keys_of (entries_in rows)) = subst (λ es. IsStrictlySortedBy row_cmp (keys_of es)) written in_order in
-    let is : items ≡ matching_entries s (laid_over (entries setup) (each_row (λ row k. seen_of session place k) (entries_in rows))) =
-    made ∙ ap (λ l. matching_entries s (laid_over l (each_row (λ row k. seen_of session place k) kept))) table
-    ∙ ap (λ es. matching_entries s (laid_over (entries setup) (each_row (λ row k. seen_of session place k) es))) written in
-    record {
-      sorted = subst (λ l. T (is_sorted row_cmp l)) (sym is) (matching_sorted s setup rows session place ordered);
-      found = λ row. ap (find row_cmp row) is ∙ matching_found s setup rows session place ordered row;
-    }
-
--- of a call's result that is returned as it is, what two clauses say together
-pub both_say : {X E : Type 0} (r : Result X E) (P Q R : X → Type 0) → ((x : X) → P x → Q x → R x) → IfOk r P → IfOk r Q → IfOk r R
-both_say (Ok x) P Q R gives p q = gives x p q
-both_say (Err e) P Q R gives p q = tt
-
--- ---- names of versions
-
--- the name of what a session sees of a row, by what is kept of it
-name_kept : (session place : ℕ) (o : Option Kept) → option_and_then (λ kept. name_over (seen_of session place kept)) o ≡ name_over (option_or (pending_kept o session) (last_before place (chain_kept o)))
-name_kept session place None = refl
-name_kept session place (Some kept) = refl
-
-module _ (rows : RowStates) (session place : ℕ) (kept : List (Row × Kept)) (items : List (Row × VersionName)) (written : kept ≡ entries_in rows)
-    (in_order : IsStrictlySortedBy row_cmp (keys_of kept)) (made : items ≡ each_row (λ row k. name_over (seen_of session place k)) kept) where
-  pub names_sorted : T (is_sorted row_cmp items)
-  names_sorted = made_sorted (λ row k. name_over (seen_of session place k)) kept in_order items made
-
-  pub names_found : (row : Row) → get (from_sorted {R = row_cmp} items) row ≡ name_over (seen_over rows session place row)
-  names_found row =
-      made_found (λ row k. name_over (seen_of session place k)) kept in_order items made row
-      ∙ ap (λ es. option_and_then (λ k. name_over (seen_of session place k)) (lookup (is_at (row_cmp row)) es)) written ∙ name_kept session place (kept_at rows row)
-
--- ---- the row that a statement names
-
--- another row than the only one that may match doesn't
-others_off : (s : Statement) (row : Row) → ((other : Row) → may_match s other ≡ true → other ≡ row) → (other : Row) → row_eq other row ≡ false → may_match s other ≡ false
-others_off s row only other apart =
-    false_from_ne_true (may_match s other) (λ may. false≢true (sym apart ∙ ap (λ r. row_eq r row) (only other may) ∙ row_eq_self row))
-
-unmatched : (s : Statement) (row : Row) → may_match s row ≡ false → (state : State) → matched s row state ≡ None
-unmatched s row off None = refl
-unmatched s row off (Some value) = ap (λ b. cond b (Some value) None) (no_match s row off (Some value))
-
-one_sorted : (row : Row) (o : State) → T (is_sorted row_cmp (cons_option (with_row row o) []))
-one_sorted row None = tt
-one_sorted row (Some value) = tt
-
-abbrev absent_state : State
-absent_state = None
-
-one_found : (row q : Row) (o : State) → find row_cmp q (cons_option (with_row row o) []) ≡ cond (row_eq q row) o None
-one_found row q (Some value) = refl
-one_found row q None = elim (row_eq q row) as (λ b. absent_state ≡ cond b absent_state None) [ true ↦ refl | false ↦ refl ]
-
-module _ (s : Statement) (row : Row) (only : (other : Row) → may_match s other ≡ true → other ≡ row) (state : Row → State) (made : List (Row × ℤ))
-    (is : made ≡ cons_option (with_row row (matched s row (state row))) []) where
-  named_sorted : T (is_sorted row_cmp made)
-  named_sorted = subst (λ l. T (is_sorted row_cmp l)) (sym is) (one_sorted row (matched s row (state row)))
-
-  -- no other row matches
-  named_found : (q : Row) → find row_cmp q made ≡ matched s q (state q)
-  named_found q = ap (find row_cmp q) is ∙ one_found row q (matched s row (state row)) ∙ by (row_eq q row) refl
-    where
-      by : (b : Bool) → row_eq q row ≡ b → cond b (matched s row (state row)) None ≡ matched s q (state q)
-      by true same = ap (λ r. matched s r (state r)) (sym (same_row q row same))
-      by false apart = sym (unmatched s q (others_off s row only q apart) (state q))
-
-  pub named_matching : AreMatching s state made
-  named_matching = record { sorted = named_sorted; found = named_found }
-
--- ---- what is seen
-
 -- the setup's version is in no view
 named_over : (over : Option Version) (state : State) → name_over over ≡ in_view (unwrap_or over (initially state)).name
 named_over None state = refl
 named_over (Some v) state = refl
 
--- a view of what is seen over the setup is one of what is seen
-pub view_over : (setup : Table) (rows : RowStates) (session place : ℕ) (view : View) → ((row : Row) → get view row ≡ name_over (seen_over rows session place row))
-    → (row : Row) → get view row ≡ in_view (version_over setup rows session place row).name
-view_over setup rows session place view names row = names row ∙ named_over (seen_over rows session place row) (get setup row)
+module _ (asker : Asker) (kept : List (Row × Kept)) (written : kept ≡ entries_in asker.situation.now.rows) (in_order : IsStrictlySortedBy row_cmp (keys_of kept)) where
+  abbrev found_over : Row → Option Version
+  found_over row = seen_over asker.situation.now.rows asker.session asker.sees_before row
+
+  -- what is made of what is seen of each written row
+  made_over : {B : Type 0} (f : Option Version → Option B) → f None ≡ None → (row : Row) → find row_cmp row (each_row (λ row k. f (seen_of asker.session asker.sees_before k)) kept) ≡ f (found_over row)
+  made_over f none row =
+      each_found (λ row k. f (seen_of asker.session asker.sees_before k)) kept in_order row
+      ∙ ap (λ es. option_and_then (λ k. f (seen_of asker.session asker.sees_before k)) (lookup (is_at (row_cmp row)) es)) written
+      ∙ seen_kept f none asker.session asker.sees_before (kept_at asker.situation.now.rows row)
+
+  module _ (items : List (Row × VersionName)) (made : items ≡ each_row (λ row k. name_over (seen_of asker.session asker.sees_before k)) kept) where
+    pub names_sorted : T (is_sorted row_cmp items)
+    names_sorted = subst (λ l. T (is_sorted row_cmp l)) (sym made) (each_kept (λ row k. name_over (seen_of asker.session asker.sees_before k)) kept in_order)
+
+    -- the names are those of what is seen
+    pub names_found : (row : Row) → get (from_sorted {R = row_cmp} items) row ≡ in_view (seen_in asker row).name
+    names_found row =
+        get-from_sorted row_cmp items row names_sorted ∙ ap (find row_cmp row) made ∙ made_over name_over refl row ∙ named_over (found_over row) (get asker.setup.now row)
+
+  module _ (s : Statement) where
+    abbrev setup : List (Row × ℤ)
+    setup = entries asker.setup.now
+
+    abbrev over : Entries
+    over = each_row (λ row k. seen_of asker.session asker.sees_before k) kept
+
+    over_sorted : T (is_sorted row_cmp over)
+    over_sorted = each_kept (λ row k. seen_of asker.session asker.sees_before k) kept in_order
+
+    laid_sorted : T (is_sorted row_cmp (laid_over setup over))
+    laid_sorted = merged_sorted (map initial_entry setup) over (initial_sorted setup (map initial_entry setup) (entries_sorted asker.setup.now) refl) over_sorted
+
+    laid_found : (row : Row) → find row_cmp row (laid_over setup over) ≡ option_or (found_over row) (option_map (λ value. initially (Some value)) (get asker.setup.now row))
+    laid_found row =
+        merged_found row (map initial_entry setup) over over_sorted
+        ∙ ap (λ o. option_or o (find row_cmp row (map initial_entry setup))) (made_over (λ o. o) refl row)
+        ∙ ap (option_or (found_over row)) (find-map (λ (value : ℤ). initially (Some value)) row setup
+        ∙ ap (option_map (λ value. initially (Some value))) (sym (get-entries asker.setup.now row)))
+
+    -- what the walk through both lists finds
+    pub walked : (items : List (Row × ℤ)) → items ≡ matching_entries s (laid_over setup over) → AreMatching s (seen_in asker) items
+    walked items made =
+        let f : Row → Version → State = λ row v. matched s row v.state in
+        record {
+          sorted = subst (λ l. T (is_sorted row_cmp l)) (sym made) (sorted_each f (laid_over setup over) laid_sorted);
+          found = λ row.
+              ap (find row_cmp row) made ∙ find_each f row (laid_over setup over) laid_sorted ∙ ap (option_and_then (f row)) (laid_found row)
+              ∙ matched_over s row (found_over row) (get asker.setup.now row);
+        }
+
+-- ---- the row that a statement names
+
+-- another row than the only one that may match doesn't
+unmatched : (s : Statement) (row : Row) → ((other : Row) → may_match s other ≡ true → other ≡ row) → (other : Row) → row_eq other row ≡ false → (state : State) → matched s other state ≡ None
+unmatched s row only other apart None = refl
+unmatched s row only other apart (Some value) =
+    ap (λ b. cond b (Some value) None)
+    (no_match s other (false_from_ne_true (may_match s other) (λ may. false≢true (sym apart ∙ ap (λ r. row_eq r row) (only other may) ∙ row_eq_self row))) (Some value))
+
+one_sorted : (row : Row) (o : State) → T (is_sorted row_cmp (cons_option (with_row row o) []))
+one_sorted row None = tt
+one_sorted row (Some value) = tt
+
+module _ (s : Statement) (row : Row) (only : (other : Row) → may_match s other ≡ true → other ≡ row) (sees : Row → Version) (made : List (Row × ℤ))
+    (is : made ≡ cons_option (with_row row (matched s row (sees row).state)) []) where
+  -- no other row matches
+  named_found : (q : Row) → find row_cmp q made ≡ matched s q (sees q).state
+  named_found q =
+      ap (find row_cmp q) is ∙ find_made q row [] (matched s row (sees row).state) ∙ ap (λ o. cond (row_eq q row) o None) (or_none (matched s row (sees row).state)) ∙ by (row_eq q row) refl
+    where
+      by : (b : Bool) → row_eq q row ≡ b → cond b (matched s row (sees row).state) None ≡ matched s q (sees q).state
+      by true same = ap (λ r. matched s r (sees r).state) (sym (same_row q row same))
+      by false apart = sym (unmatched s row only q apart (sees q).state)
+
+  pub named_matching : AreMatching s sees made
+  named_matching = record { sorted = subst (λ l. T (is_sorted row_cmp l)) (sym is) (one_sorted row (matched s row (sees row).state)); found = named_found }

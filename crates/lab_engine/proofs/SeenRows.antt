@@ -1,16 +1,10 @@
 -- What an active transaction sees of a situation.
-use Rattle.std.proofs.Common.{◌≡◌, ◌∙◌, ℕ, refl, ap, arith, cond, length, Option, Some, None, unwrap_or}
-use Rattle.lab_engine.proofs.Common.{option_or, Row, would_write, Statement, Level, RunningTxn, Situation, chain, last_before, chain_in, pending_in, Past, Txn, Version, active, commits, version_by, last_installed, initial_version, sight, seen, Describes, IsRunning, written_by}
+use Rattle.std.proofs.Common.{◌≡◌, ◌∙◌, ℕ, refl, ap, arith, length, Option, Some, None, unwrap_or}
+use Rattle.lab_engine.proofs.Common.{option_or, Row, would_write, Statement, Level, chain, last_before, chain_in, Past, Txn, Version, active, commits, version_by, last_installed, initial_version, sight, seen, written_by}
 use Rattle.lab_engine.specs.declared.event.Level.TheVariants.{Snapshot}
 use Rattle.lab_engine.specs.declared.asker.Asker.{Asker}
-use Rattle.lab_engine.specs.Asker.{IsAsker, seen_in, sees_as_of_begin}
+use Rattle.lab_engine.specs.Asker.{IsAsker, seen_in}
 use Rattle.lab_engine.proofs.InstalledChains.{last_in, last_at_begin}
-
--- how many events stand before what an active transaction sees
-pub sees_is : (level : Level) (past : Past) (txn : Txn) (situation : Situation) (running : RunningTxn) → Describes past situation → IsRunning txn running
-    → cond (sees_as_of_begin level) running.before situation.events ≡ length (sight level past txn)
-sees_is Snapshot past txn situation running d is = is.before
-sees_is other past txn situation running d is = d.events
 
 -- the first of two that is there, or else a third
 either_or : {A : Type 0} (a b : Option A) (c : A) → unwrap_or (option_or a b) c ≡ unwrap_or a (unwrap_or b c)
@@ -24,20 +18,15 @@ last_seen Snapshot past session txn row own = last_at_begin past session txn row
 last_seen other past session txn row own = last_in row (length past) past (omega arith)
 
 module _ (level : Level) (past : Past) (txn : Txn) (asker : Asker) (is : IsAsker level past txn asker) where
-  -- which is found of its own and those
-  pub found_is : (row : Row)
-      → option_or (pending_in asker.situation.now.rows row asker.session) (last_before asker.sees_before (chain_in asker.situation.now.rows row))
-      ≡ option_or (version_by txn row) (last_installed (commits (sight level past txn)) row)
-  found_is row =
-      ap (λ o. option_or o (last_before asker.sees_before (chain_in asker.situation.now.rows row))) (is.situation.rows.pending row asker.session ∙ ap (λ t. written_by t row) is.active)
-      ∙ ap (option_or (version_by txn row))
-      (ap (last_before asker.sees_before) (is.situation.rows.chains row) ∙ ap (λ n. last_before n (chain past row)) is.sees_before ∙ last_seen level past asker.session txn row is.active)
-
-  -- a row's version
+  -- a row's version: its own, else the last one installed before that
   pub seen_is : (row : Row) → seen_in asker row ≡ seen level asker.setup.now past txn row
   seen_is row =
-      ap (λ o. unwrap_or o (initial_version asker.setup.now row)) (found_is row)
-      ∙ either_or (version_by txn row) (last_installed (commits (sight level past txn)) row) (initial_version asker.setup.now row)
+      let first : Row → Version = λ row. initial_version asker.setup.now row in
+      ap (λ o. unwrap_or (option_or o (last_before asker.sees_before (chain_in asker.situation.now.rows row))) (first row))
+      (is.situation.rows.pending row asker.session ∙ ap (λ t. written_by t row) is.active)
+      ∙ ap (λ o. unwrap_or (option_or (version_by txn row) o) (first row))
+      (ap (last_before asker.sees_before) (is.situation.rows.chains row) ∙ ap (λ n. last_before n (chain past row)) is.sees_before ∙ last_seen level past asker.session txn row is.active)
+      ∙ either_or (version_by txn row) (last_installed (commits (sight level past txn)) row) (first row)
 
   -- whether a statement would write it
   pub writes_is : (s : Statement) (row : Row) → would_write s row (seen_in asker row).state ≡ would_write s row (seen level asker.setup.now past txn row).state

@@ -1,11 +1,11 @@
 -- A session with an active transaction, in a situation.
-use Rattle.std.specs.Prelude.{◌≡◌, ◌↔◌, ℕ, Bool, true, false, Some, length, IsTrue}
+use Rattle.std.specs.Prelude.{◌≡◌, ◌↔◌, ℕ, Bool, true, false, Some, unwrap_or, length, IsTrue}
 use Rattle.lab_table.specs.Row.{Row}
 use Rattle.lab_engine.specs.declared.event.Level.{Level}
 use Rattle.lab_engine.specs.declared.event.Level.TheVariants.{Locking, Snapshot, Committed as ReadCommitted}
 use Rattle.lab_engine.specs.declared.asker.Asker.{Asker}
-use Rattle.lab_engine.specs.Log.{Past, Txn, Version, active, sight}
-use Rattle.lab_engine.specs.Overlay.{version_over}
+use Rattle.lab_engine.specs.Log.{Past, Txn, Version, active, sight, initial_version}
+use Rattle.lab_engine.specs.Overlay.{seen_over}
 use Rattle.lab_engine.specs.Others.{IsOther}
 use Rattle.lab_engine.specs.SessionBits.{has}
 use Rattle.lab_engine.specs.Situation.{Describes, IsRunning}
@@ -18,7 +18,7 @@ sees_as_of_begin Snapshot = true
 
 -- the version of a row that a session's transaction sees: its own, else the last installed one that it sees, else the setup's
 abbrev pub seen_in : Asker → Row → Version
-seen_in asker row = version_over asker.setup.now asker.situation.now.rows asker.session asker.sees_before row
+seen_in asker row = unwrap_or (seen_over asker.situation.now.rows asker.session asker.sees_before row) (initial_version asker.setup.now row)
 
 -- a session asks after a log, with this active transaction at a level
 pub record IsAsker (level : Level) (past : Past) (txn : Txn) (asker : Asker) : Type 0 where

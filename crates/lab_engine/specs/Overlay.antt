@@ -1,9 +1,8 @@
 -- What a session sees of the rows that transactions have written, over those of the setup.
-use Rattle.std.specs.Prelude.{◌≡◌, T, ℕ, ℤ, Option, Some, unwrap_or, option_and_then, List, map}
+use Rattle.std.specs.Prelude.{◌≡◌, T, ℕ, ℤ, Option, Some, option_and_then, List, map}
 use Rattle.std.specs.Option.{option_or}
 use Rattle.std.specs.FinMap.{is_sorted, find}
 use Rattle.lab_table.specs.Row.{Row, row_cmp}
-use Rattle.lab_table.specs.Table.{Table, State}
 use Rattle.lab_table.specs.Statement.{matched}
 use Rattle.lab_table.specs.declared.statement.Statement.{Statement}
 use Rattle.lab_history.specs.declared.operation.VersionName.{VersionName}
@@ -12,7 +11,7 @@ use Rattle.lab_engine.specs.Chains.{last_before}
 use Rattle.lab_engine.specs.EachRow.{each_row}
 use Rattle.lab_engine.specs.Kept.{Kept, pending_of}
 use Rattle.lab_engine.specs.KeptRows.{chain_in, pending_in}
-use Rattle.lab_engine.specs.Log.{Version, initial_version}
+use Rattle.lab_engine.specs.Log.{Version}
 use Rattle.lab_engine.specs.Merging.{initial_entry, merged}
 use Rattle.lab_engine.specs.Rules.{in_view}
 
@@ -23,14 +22,6 @@ seen_of session place kept = option_or (pending_of kept session) (last_before pl
 -- the same of a row; none where it is the setup's
 abbrev pub seen_over : RowStates → ℕ → ℕ → Row → Option Version
 seen_over rows session place row = option_or (pending_in rows row session) (last_before place (chain_in rows row))
-
--- the version of a row that is seen, be it the setup's
-abbrev pub version_over : Table → RowStates → ℕ → ℕ → Row → Version
-version_over setup rows session place row = unwrap_or (seen_over rows session place row) (initial_version setup row)
-
--- the row's state in it
-abbrev pub state_over : Table → RowStates → ℕ → ℕ → Row → State
-state_over setup rows session place row = (version_over setup rows session place row).state
 
 -- the name of a version, where it is there and a view lists it
 abbrev pub name_over : Option Version → Option VersionName
@@ -48,7 +39,7 @@ matching_rows s rows = each_row (λ row value. matched s row (Some value)) rows
 abbrev pub laid_over : List (Row × ℤ) → List (Row × Version) → List (Row × Version)
 laid_over rows over = merged (map initial_entry rows) over
 
--- rows with their values, by rising row: those that match a statement where rows are in these states
-pub record AreMatching (s : Statement) (states : Row → State) (items : List (Row × ℤ)) : Type 0 where
+-- rows with their values, by rising row: those that match a statement where rows are seen at these versions
+pub record AreMatching (s : Statement) (sees : Row → Version) (items : List (Row × ℤ)) : Type 0 where
   pub sorted : T (is_sorted row_cmp items)
-  pub found : (row : Row) → find row_cmp row items ≡ matched s row (states row)
+  pub found : (row : Row) → find row_cmp row items ≡ matched s row (sees row).state

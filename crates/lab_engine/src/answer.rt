@@ -100,15 +100,7 @@ pub fn run_statement<R: Rules>(
 fn unblocked(alloc: Global, asker: &Asker, statement: &Statement) -> Result<Outcome, NoMemory>
     ensures { IfOk result (IsResultOn (seen_in asker.now) statement.now) }
 {
-    let rows = &asker.situation.rows;
-    match effect_of(
-        alloc,
-        statement,
-        asker.setup,
-        rows,
-        asker.session,
-        asker.sees_before,
-    ) {
+    match effect_of(alloc, asker, statement) {
         Ok(effect) => Ok(Outcome::Rows {
             view: effect.view,
             rows: effect.rows,

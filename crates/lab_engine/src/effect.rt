@@ -3,7 +3,6 @@
 ghost use Rattle.std.specs.Prelude.{◌≡◌, ◌≢◌, T, false, ◌∷◌, [], IfOk, IfErr, IfSome, MatchOption};
 ghost use Rattle.std.specs.FinMap as map;
 ghost use Rattle.lab_table.specs.Row.{Row, row_cmp};
-ghost use Rattle.lab_table.specs.Table.{State as Seen};
 ghost use Rattle.lab_table.specs.Statement.{listed, written, fails};
 ghost use Rattle.lab_history.specs.VersionName.{new_states};
 ghost use Rattle.lab_history.specs.declared.operation.State.TheVariants.{Present};
@@ -11,13 +10,14 @@ ghost use Rattle.lab_engine.specs.Log.{Version};
 ghost use Rattle.lab_engine.specs.EachRow.{with_row, each_row, value_rewritten};
 ghost use Rattle.lab_engine.specs.EachRow as made;
 ghost use Rattle.lab_engine.specs.Effect.{IsEffectOn, IsEffectFault};
-ghost use Rattle.lab_engine.specs.Overlay.{AreMatching, version_over};
+ghost use Rattle.lab_engine.specs.Asker.{seen_in};
+ghost use Rattle.lab_engine.specs.Overlay.{AreMatching};
 ghost use Rattle.lab_engine.specs.declared.effect.EffectFault.TheVariants.{NoMemory};
 
+use crate::asker::Asker;
 use crate::reading::{rows_matching, view_seen};
-use crate::row_states::RowStates;
 use lab_history::{Rows, State, View, Writes};
-use lab_table::{NoMemory, RowName, Session, Statement, Table, Value};
+use lab_table::{NoMemory, RowName, Statement, Value};
 use std::alloc::{AllocError, Global};
 
 /// What a statement saw, listed and wrote.
@@ -56,7 +56,7 @@ impl From<AllocError> for EffectFault {
 /// The rows that a statement lists, of those that match it: all, or none where it adds a row.
 fn rows_of(alloc: Global, statement: &Statement, matching: Vec<(RowName, Value)>) -> Rows
     requires { T (map.is_sorted row_cmp matching.items) }
-    ensures { (states : Row → Seen) → AreMatching statement.now states matching.items → (row : Row) → map.get result row ≡ listed statement.now row (states row) }
+    ensures { (sees : Row → Version) → AreMatching statement.now sees matching.items → (row : Row) → map.get result row ≡ listed statement.now row (sees row).state }
 {
     match statement.inserted() {
         Some(_) => Rows::new(Vec::new(alloc)),
@@ -112,8 +112,8 @@ fn written_states(
 ) -> Result<Vec<(RowName, State)>, NoMemory>
     requires { T (map.is_sorted row_cmp matching.now) }
     ensures sorted { IfOk result (λ v. T (map.is_sorted row_cmp (new_states v.items))) }
-    ensures found { (states : Row → Seen) → AreMatching statement.now states matching.now → ((row : Row) → fails statement.now row (states row) ≡ false)
-        → IfOk result (λ v. (row : Row) → map.find row_cmp row (new_states v.items) ≡ written statement.now row (states row)) }
+    ensures found { (sees : Row → Version) → AreMatching statement.now sees matching.now → ((row : Row) → fails statement.now row (sees row).state ≡ false)
+        → IfOk result (λ v. (row : Row) → map.find row_cmp row (new_states v.items) ≡ written statement.now row (sees row).state) }
 {
     match statement.inserted() {
         Some((id, value)) => inserted(alloc, id, value),
@@ -133,8 +133,8 @@ fn writes_of(
     matching: &[(RowName, Value)],
 ) -> Result<Writes, NoMemory>
     requires { T (map.is_sorted row_cmp matching.now) }
-    ensures { (states : Row → Seen) → AreMatching statement.now states matching.now → ((row : Row) → fails statement.now row (states row) ≡ false)
-        → IfOk result (λ writes. (row : Row) → map.get writes row ≡ written statement.now row (states row)) }
+    ensures { (sees : Row → Version) → AreMatching statement.now sees matching.now → ((row : Row) → fails statement.now row (sees row).state ≡ false)
+        → IfOk result (λ writes. (row : Row) → map.get writes row ≡ written statement.now row (sees row).state) }
 {
     Ok(Writes::new(written_states(alloc, statement, matching)?))
 }
@@ -153,7 +153,7 @@ fn first_failing(statement: &Statement, matching: &[(RowName, Value)]) -> Option
 /// Why a statement can't run on what is seen, by the rows that match it, if it can't: that an insert's row is there, or
 /// the first whose new value is out of range.
 fn fault_of(statement: &Statement, matching: &[(RowName, Value)]) -> Option<EffectFault>
-    ensures fault { (sees : Row → Version) → AreMatching statement.now (λ row. (sees row).state) matching.now
+    ensures fault { (sees : Row → Version) → AreMatching statement.now sees matching.now
         → MatchOption result ((row : Row) → fails statement.now row (sees row).state ≡ false) (IsEffectFault sees statement.now) }
     ensures own { IfSome result (λ fault. fault ≢ NoMemory) }
 {
@@ -168,24 +168,17 @@ fn fault_of(statement: &Statement, matching: &[(RowName, Value)]) -> Option<Effe
     }
 }
 
-/// What a statement does to rows as a session sees them that sees the commits with fewer than so many events before them.
-/// It is refused where a row that is seen keeps it from running, or for want of memory.
-pub fn effect_of(
-    alloc: Global,
-    statement: &Statement,
-    setup: &Table,
-    rows: &RowStates,
-    session: Session,
-    place: usize,
-) -> Result<Effect, EffectFault>
-    ensures ok { IfOk result (λ e. IsEffectOn (version_over setup.now rows.now session place) statement.now e.view e.rows e.writes) }
-    ensures fault { IfErr result (IsEffectFault (version_over setup.now rows.now session place) statement.now) }
+/// What a statement does to rows as an asker's transaction sees them. It is refused where a row that is seen keeps it from
+/// running, or for want of memory.
+pub fn effect_of(alloc: Global, asker: &Asker, statement: &Statement) -> Result<Effect, EffectFault>
+    ensures ok { IfOk result (λ e. IsEffectOn (seen_in asker.now) statement.now e.view e.rows e.writes) }
+    ensures fault { IfErr result (IsEffectFault (seen_in asker.now) statement.now) }
 {
-    let matching = rows_matching(alloc, statement, setup, rows, session, place)?;
+    let matching = rows_matching(alloc, asker, statement)?;
     if let Some(fault) = fault_of(statement, &matching) {
         return Err(fault);
     }
-    let view = view_seen(alloc, rows, session, place)?;
+    let view = view_seen(alloc, asker)?;
     let writes = writes_of(alloc, statement, &matching)?;
     Ok(Effect {
         view,

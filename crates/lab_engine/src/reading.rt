@@ -6,33 +6,29 @@ ghost use Rattle.std.specs.BTreeMap.{IsOrdered};
 ghost use Rattle.std.specs.FinMap as map;
 ghost use Rattle.lab_table.specs.Row.{Row, row_cmp};
 ghost use Rattle.lab_table.specs.Statement.{matched};
+ghost use Rattle.lab_engine.specs.Asker.{seen_in};
 ghost use Rattle.lab_engine.specs.EachRow.{with_row, each_row};
 ghost use Rattle.lab_engine.specs.Rules.{in_view};
-ghost use Rattle.lab_engine.specs.Overlay.{seen_of, seen_over, state_over, name_over, matching_rows, matching_entries, laid_over, AreMatching};
+ghost use Rattle.lab_engine.specs.Overlay.{seen_of, name_over, matching_rows, AreMatching};
 
+use crate::asker::Asker;
 use crate::row_state::RowState;
-use crate::row_states::RowStates;
 use crate::version::{behind, place_near};
 use lab_history::{VersionName, View};
-use lab_table::{NoMemory, RowName, Session, Statement, Table, Value};
+use lab_table::{NoMemory, RowName, Session, Statement, Value};
 use std::alloc::Global;
 use std::collections::BTreeMap;
 
-/// The view of a session that sees the commits with fewer than so many events before them. NoMemory where an allocation
-/// was refused.
-pub fn view_seen(
-    alloc: Global,
-    rows: &RowStates,
-    session: Session,
-    place: usize,
-) -> Result<View, NoMemory>
-    ensures { IfOk result (λ view. (row : Row) → map.get view row ≡ name_over (seen_over rows.now session place row)) }
+/// The view of an asker's transaction. NoMemory where an allocation was refused.
+pub fn view_seen(alloc: Global, asker: &Asker) -> Result<View, NoMemory>
+    ensures { IfOk result (λ view. (row : Row) → map.get view row ≡ in_view (seen_in asker.now row).name) }
 {
-    let names = names_seen(alloc, rows.by_row(), session, place)?;
+    let rows = asker.situation.rows.by_row();
+    let names = names_seen(alloc, rows, asker.session, asker.sees_before)?;
     Ok(View::new(names))
 }
 
-/// The names of a view, by rising row.
+/// The names of a view, by rising row, in as much room as they fill: a log keeps its views.
 fn names_seen(
     alloc: Global,
     rows: &BTreeMap<RowName, RowState>,
@@ -44,93 +40,49 @@ fn names_seen(
 {
     let mut names = Vec::with_capacity(alloc, rows.len())?;
     for (row, kept) in rows {
-        if let Some(name) = name_seen(*row, kept, session, place) {
-            names.push(name)?;
+        if let Some(name) = name_seen(kept, session, place) {
+            names.push_reserved((*row, name));
         }
     }
-    without_spare(alloc, names)
+    names.shrink_to_fit();
+    Ok(names)
 }
 
 /// What a view lists of a row, if anything.
-fn name_seen(
-    row: RowName,
-    kept: &RowState,
-    session: Session,
-    place: usize,
-) -> Option<(RowName, VersionName)>
-    ensures { result ≡ with_row row (name_over (seen_of session place kept.now)) }
+fn name_seen(kept: &RowState, session: Session, place: usize) -> Option<VersionName>
+    ensures { result ≡ name_over (seen_of session place kept.now) }
 {
     match kept.seen_by(session, place) {
-        Some(version) => listed_name(row, version.name),
+        Some(version) => listed_name(version.name),
         None => None,
     }
 }
 
-/// A row with the name of its version, where a view lists that.
-fn listed_name(row: RowName, name: VersionName) -> Option<(RowName, VersionName)>
-    ensures { result ≡ with_row row (in_view name) }
+/// The name of a version, where a view lists it.
+fn listed_name(name: VersionName) -> Option<VersionName>
+    ensures { result ≡ in_view name }
 {
     match name {
         VersionName::Initial => None,
-        VersionName::Of { txn, op } => Some((row, VersionName::Of { txn, op })),
+        VersionName::Of { txn, op } => Some(VersionName::Of { txn, op }),
     }
 }
 
-/// The same names in as much room as they fill: a log keeps its views.
-fn without_spare(
-    alloc: Global,
-    names: Vec<(RowName, VersionName)>,
-) -> Result<Vec<(RowName, VersionName)>, NoMemory>
-    ensures { IfOk result (λ v. v.items ≡ names.items) }
-{
-    if names.len() == names.capacity() {
-        return Ok(names);
-    }
-    Vec::from_slice(alloc, &names)
-}
-
-/// The rows that match a statement as a session sees them that sees the commits with fewer than so many events before
-/// them, with their values, by rising row. Where the statement names a row, no other one is looked at. NoMemory where an
-/// allocation was refused.
+/// The rows that match a statement as an asker's transaction sees them, with their values, by rising row. Where the
+/// statement names a row, no other one is looked at. NoMemory where an allocation was refused.
 pub fn rows_matching(
     alloc: Global,
+    asker: &Asker,
     statement: &Statement,
-    setup: &Table,
-    rows: &RowStates,
-    session: Session,
-    place: usize,
 ) -> Result<Vec<(RowName, Value)>, NoMemory>
-    ensures { IfOk result (λ v. AreMatching statement.now (state_over setup.now rows.now session place) v.items) }
+    ensures { IfOk result (λ v. AreMatching statement.now (seen_in asker.now) v.items) }
 {
     match statement.named_row() {
         Some(row) => {
-            let state = state_seen(setup, rows, session, place, row);
-            entry_of(alloc, matching_entry(statement, row, state))
+            let seen = asker.row_seen(row);
+            entry_of(alloc, matching_entry(statement, row, seen.state))
         }
-        None => all_matching(
-            alloc,
-            statement,
-            setup.rows(),
-            rows.by_row(),
-            session,
-            place,
-        ),
-    }
-}
-
-/// The state of a row as such a session sees it.
-fn state_seen(
-    setup: &Table,
-    rows: &RowStates,
-    session: Session,
-    place: usize,
-    row: RowName,
-) -> Option<Value>
-    ensures { result ≡ state_over setup.now rows.now session place row }
-{
-    match rows.seen_by(row, session, place) {
-        Some(version) => version.state,
-        None => setup.get(row),
+        None => all_matching(alloc, asker, statement),
     }
 }
 
@@ -166,23 +118,19 @@ fn entry_of(
     Ok(entries)
 }
 
-/// The rows that match, of a setup's and those that transactions have written: walks through both at once, and tests a
+/// The rows that match, of the setup's and those that transactions have written: walks through both at once, and tests a
 /// row in the version that is seen alone.
 fn all_matching(
     alloc: Global,
+    asker: &Asker,
     statement: &Statement,
-    setup: &[(RowName, Value)],
-    rows: &BTreeMap<RowName, RowState>,
-    session: Session,
-    place: usize,
 ) -> Result<Vec<(RowName, Value)>, NoMemory>
-    ensures ordered { IfOk result (λ _. IsOrdered row_cmp rows.now) }
-    ensures made { IfOk result (λ v. v.items ≡ matching_entries statement.now (laid_over setup.now (each_row (λ row kept. seen_of session place kept) rows.now.entries))) }
+    ensures { IfOk result (λ v. AreMatching statement.now (seen_in asker.now) v.items) }
 {
     let mut found = Vec::new(alloc);
-    let mut left = setup;
-    for (row, kept) in rows {
-        if let Some(version) = kept.seen_by(session, place) {
+    let mut left = asker.setup.rows();
+    for (row, kept) in asker.situation.rows.by_row() {
+        if let Some(version) = kept.seen_by(asker.session, asker.sees_before) {
             let (before, rest) = left.split_at(place_near(left, *row));
             put_matching(statement, before, &mut found)?;
             put_entry(matching_entry(statement, *row, version.state), &mut found)?;

@@ -1,6 +1,6 @@
 //! The versions of rows.
 
-ghost use Rattle.std.specs.Prelude.{◌≡◌, T, ◌≤◌, length, IfOk, OnErr};
+ghost use Rattle.std.specs.Prelude.{◌≡◌, ◌≤◌, length, IfOk, OnErr};
 ghost use Rattle.std.specs.Prelude as list;
 ghost use Rattle.std.specs.List.{prefix_len};
 ghost use Rattle.std.specs.FinMap as map;
@@ -225,7 +225,6 @@ fn merged_entries(
     under: &[(RowName, Version)],
     over: &[(RowName, Version)],
 ) -> Result<Vec<(RowName, Version)>, NoMemory>
-    requires { T (map.is_sorted row_cmp under.now) }
     ensures { IfOk result (λ v. v.items ≡ merged under.now over.now) }
 {
     let mut entries = Vec::with_capacity(alloc, under.len())?;

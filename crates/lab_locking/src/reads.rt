@@ -39,34 +39,19 @@ fn readers_of(asker: &Asker, statement: &Statement, row: RowName) -> SessionSet
     }
 }
 
-/// The same of all rows of the setup.
-fn setup_readers(asker: &Asker, statement: &Statement) -> SessionSet
-    ensures { (n : ℕ) → has result n ≡ spec.reads_of_setup asker.now statement.now n }
+/// The same of all rows that are there: those of the setup, and those that transactions have written.
+fn all_readers(asker: &Asker, statement: &Statement) -> SessionSet
+    ensures { (n : ℕ) → has result n ≡ (spec.reads_of_setup asker.now statement.now n || spec.reads_of_written asker.now statement.now n) }
 {
     let mut readers = SessionSet::none();
     let entries = asker.setup.rows();
     for entry in entries {
         readers = readers.with(readers_of(asker, statement, entry.0));
     }
-    readers
-}
-
-/// The same of all rows that transactions have written.
-fn written_readers(asker: &Asker, statement: &Statement) -> SessionSet
-    ensures { (n : ℕ) → has result n ≡ spec.reads_of_written asker.now statement.now n }
-{
-    let mut readers = SessionSet::none();
     for (row, _) in asker.situation.rows.by_row() {
         readers = readers.with(readers_of(asker, statement, *row));
     }
     readers
-}
-
-/// The same of all rows that are there.
-fn all_readers(asker: &Asker, statement: &Statement) -> SessionSet
-    ensures { (n : ℕ) → has result n ≡ (spec.reads_of_setup asker.now statement.now n || spec.reads_of_written asker.now statement.now n) }
-{
-    setup_readers(asker, statement).with(written_readers(asker, statement))
 }
 
 /// The other sessions that have run a statement that matches a row before or after the statement would write it. Where

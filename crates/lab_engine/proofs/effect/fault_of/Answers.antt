@@ -8,7 +8,7 @@ pub returns-in_err-id-clause-fault : goal.returns-in_err-id-clause-fault
 returns-in_err-id-clause-fault c sees are =
     let s = c.args.statement.now in
     subst (λ found. MatchOption found ((row : Row) → fails s row (sees row).state ≡ false) (IsEffectFault sees s)) (sym c.from_residual.ensures)
-    (all_run s (λ row. (sees row).state) c.args.matching.now are (sym c.first_failing.ensures ∙ c.in_err-id.was))
+    (all_run s sees c.args.matching.now are (sym c.first_failing.ensures ∙ c.in_err-id.was))
 
 pub returns-then-is_update-clause-fault : goal.returns-then-is_update-clause-fault
 returns-then-is_update-clause-fault c sees are =

@@ -1,4 +1,6 @@
 use Rattle.std.proofs.Common.{◌≡◌, ◌++◌}
+use Rattle.lab_engine.proofs.Common.{entries}
+use Rattle.lab_engine.specs.KeptRows.{entries_in}
 use Rattle.lab_engine.specs.EachRow.{each_row}
 use Rattle.lab_engine.specs.Overlay.{seen_of, matching_entries, laid_over}
 use Rattle.lab_engine.proofs.reading.all_matching.Given as goal
@@ -6,5 +8,5 @@ use Rattle.lab_engine.proofs.reading.all_matching.Given as goal
 -- the rows so far and those that match of what is left of both lists are those of the whole
 abbrev pub invariant-loop-row : goal.invariant-loop-row
 invariant-loop-row l =
-    l.found.items ++ matching_entries l.statement (laid_over l.left (each_row (λ row kept. seen_of l.fn.session l.fn.place kept) l.row-iterator))
-    ≡ matching_entries l.statement (laid_over l.setup (each_row (λ row kept. seen_of l.fn.session l.fn.place kept) l.rows.entries))
+    l.found.items ++ matching_entries l.statement (laid_over l.left (each_row (λ row kept. seen_of l.asker.session l.asker.sees_before kept) l.row-iterator))
+    ≡ matching_entries l.statement (laid_over (entries l.asker.setup.now) (each_row (λ row kept. seen_of l.asker.session l.asker.sees_before kept) (entries_in l.asker.situation.now.rows)))

@@ -1,9 +1,11 @@
-use Rattle.std.proofs.Common.{◌≡◌, ◌++◌}
+use Rattle.std.proofs.Common.{◌≡◌, ◌≤◌, ◌+◌, ◌++◌, length, vec_capacity}
 use Rattle.lab_engine.specs.EachRow.{each_row}
 use Rattle.lab_engine.specs.Overlay.{seen_of, name_over}
 use Rattle.lab_engine.proofs.reading.names_seen.Given as goal
 
--- the names so far and those of the rows that are left are those of all
+-- there is room for the rows that are left, and the names so far and theirs are those of all
 abbrev pub invariant-loop-row : goal.invariant-loop-row
-invariant-loop-row l =
-    l.names.items ++ each_row (λ row kept. name_over (seen_of l.session l.place kept)) l.row-iterator ≡ each_row (λ row kept. name_over (seen_of l.session l.place kept)) l.rows.entries
+invariant-loop-row l = record {
+  room : length l.names.items + length l.row-iterator ≤ vec_capacity l.names;
+  made : l.names.items ++ each_row (λ row kept. name_over (seen_of l.session l.place kept)) l.row-iterator ≡ each_row (λ row kept. name_over (seen_of l.session l.place kept)) l.rows.entries;
+}

@@ -1,6 +1,6 @@
 use Rattle.std.proofs.Common.{arith, ◌≡◌, ◌∙◌, ◌∷◌, ◌++◌, ◌+◌, [], take, drop, ap, sym}
 use Rattle.lab_engine.proofs.Common.{drop_more, merged, without_row}
-use Rattle.lab_engine.proofs.Merging.{merge_step, left_sorted}
+use Rattle.lab_engine.proofs.Merging.{merge_step}
 use Rattle.lab_engine.proofs.version.merged_entries.Goals as goal
 
 pub loop-entry-preserved : goal.loop-entry-preserved
@@ -10,9 +10,7 @@ loop-entry-preserved c =
     let news : c.push.new.self.items ≡ (c.loop-entry.entries.items ++ take c.place_near.result c.loop-entry.left.now) ++ c.entry-item.result ∷ [] =
     c.in_ok-push.ensures.items ∙ ap (λ l. l ++ c.entry-item.result ∷ []) (c.in_ok-extend_from_slice.ensures.items ∙ ap (λ l. c.loop-entry.entries.items ++ l) c.split_at.ensures.front) in
     let next : drop c.loop-entry.entry-index c.args.over.now ≡ c.entry-item.result ∷ drop (c.loop-entry.entry-index + 1) c.args.over.now =
-    drop_more c.args.over.now c.loop-entry.entry-index c.entry-item.result (omega arith) ∙ ap (λ e. e ∷ drop (c.loop-entry.entry-index + 1) c.args.over.now) (sym c.entry-item.is) in (
-      merge_step c.loop-entry.entries.items c.push.new.self.items c.loop-entry.left.now c.behind-left.result.now (drop (c.loop-entry.entry-index + 1) c.args.over.now)
-          (merged c.args.under.now c.args.over.now)
-          c.entry-item.result c.place_near.result (ap (λ l. c.loop-entry.entries.items ++ merged c.loop-entry.left.now l) (sym next) ∙ c.loop-entry.invariant.0) c.place_near.ensures.value news rest,
-      left_sorted c.entry-item.result.0 c.place_near.result c.loop-entry.left.now c.behind-left.result.now c.loop-entry.invariant.1 rest,
-    )
+    drop_more c.args.over.now c.loop-entry.entry-index c.entry-item.result (omega arith) ∙ ap (λ e. e ∷ drop (c.loop-entry.entry-index + 1) c.args.over.now) (sym c.entry-item.is) in
+    merge_step c.loop-entry.entries.items c.push.new.self.items c.loop-entry.left.now c.behind-left.result.now (drop (c.loop-entry.entry-index + 1) c.args.over.now)
+    (merged c.args.under.now c.args.over.now)
+    c.entry-item.result c.place_near.result (ap (λ l. c.loop-entry.entries.items ++ merged c.loop-entry.left.now l) (sym next) ∙ c.loop-entry.invariant) c.place_near.ensures.value news rest
