@@ -1,5 +1,5 @@
 -- A rising list of rows, to which the rows of lists were added, has each of them once.
-use Rattle.std.proofs.Common.{◌≡◌, ◌+◌, Bool, true, false, cond, ◌||◌, List, [], ◌∷◌, ◌++◌, length, map, suc, refl, sym, ap, ◌∙◌, arith, one-add}
+use Rattle.std.proofs.Common.{◌≡◌, ◌+◌, ◌≤◌, Bool, true, false, cond, ◌||◌, List, [], ◌∷◌, ◌++◌, length, map, suc, refl, sym, ap, subst, ◌∙◌, arith, one-add}
 use Rattle.std.specs.List.{list_any, AllByRecursion, flat_map}
 use Rattle.std.specs.List.Sorted.{IsStrictlySortedBy}
 use Rattle.std.specs.Ordering.{match_ordering, ordering_reverse}
@@ -10,7 +10,7 @@ use Rattle.std.specs.BTreeSet.{insert_key}
 use Rattle.std.specs.FinMap.{entries, keys}
 use Rattle.std.proofs.lemmas.Cmp.{eq_by_cmp_equiv}
 use Rattle.std.proofs.lemmas.Map.Keys.{IsDistinct-from_sorted}
-use Rattle.std.proofs.lemmas.Map.Made.{length-from_keys}
+use Rattle.std.proofs.lemmas.Map.Made.{length-from_keys, length-le_from_is_member}
 use Rattle.std.proofs.lemmas.Grind.{flat_map-append}
 use Rattle.std.proofs.Math.Bool.{or_self_left, or_assoc, or-false}
 use Rattle.lab_table.specs.Row.{Row, row_cmp, row_eq, rows_total, rows_apart}
@@ -99,6 +99,13 @@ length_added : (rows : List Row) → length (rows_added [] rows) ≡ distinct_ro
 length_added rows =
     length-from_keys (eq_by_cmp_equiv rows_total) (rows_added [] rows) rows (IsDistinct-from_sorted row_cmp (rows_added [] rows) (sorted_added [] rows none_sorted)) (λ q. any_added q [] rows)
     ∙ distinct_as rows
+
+-- rows that are all among others are no more than those
+pub distinct_among : (rows others : List Row) → ((row : Row) → list_any (row_eq row) rows ≡ true → list_any (row_eq row) others ≡ true) → distinct_rows rows ≤ length others
+distinct_among rows others all =
+    subst (λ n. n ≤ length others) (length_added rows)
+    (length-le_from_is_member (eq_by_cmp_equiv rows_total) (rows_added [] rows) others (IsDistinct-from_sorted row_cmp (rows_added [] rows) (sorted_added [] rows none_sorted))
+    (λ row is. all row (sym (any_added row [] rows) ∙ is)))
 
 -- ---- along the lists of a history
 

@@ -14,6 +14,9 @@ pub mod CountedRows
 mod RowsMet
 mod IdsWithin
 mod CountedTables
+pub mod NamedRows
+pub mod FewIds
+pub mod RangeEnds
 pub mod LimitsKept
 pub mod CheckedTxns
 pub mod KeptParts

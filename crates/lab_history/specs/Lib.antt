@@ -7,6 +7,7 @@ pub mod Version
 pub mod Faults
 pub mod Limits
 pub mod WithinLimits
+pub mod IdRanges
 pub mod RunningCounts
 pub mod RunningTables
 pub mod FirstPartsFault

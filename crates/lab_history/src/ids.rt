@@ -8,6 +8,7 @@ ghost use Rattle.lab_history.specs.HistoryRules.{named_rows, distinct_rows};
 ghost use Rattle.lab_history.specs.Limits.{max_ids};
 ghost use Rattle.lab_history.specs.RunningCounts.{with_rows, with_op, only_if, ops_within, txns_within};
 
+use crate::id_range::are_few_at_a_glance;
 use crate::limits::MAX_IDS;
 use crate::operation::Op;
 use crate::parts::Parts;
@@ -18,6 +19,16 @@ use std::marker::Model;
 
 /// Whether the lists of these parts name no more different ids than a history may have.
 pub fn has_few_ids(alloc: Global, parts: &Parts) -> Result<bool, NoMemory>
+    ensures { IfOk result (λ few. few ≡ nat_le (distinct_rows (named_rows parts.now)) max_ids) }
+{
+    if are_few_at_a_glance(parts) {
+        return Ok(true);
+    }
+    count_few(alloc, parts)
+}
+
+/// The same, counted.
+fn count_few(alloc: Global, parts: &Parts) -> Result<bool, NoMemory>
     ensures { IfOk result (λ few. few ≡ nat_le (distinct_rows (named_rows parts.now)) max_ids) }
 {
     let mut ids = Ids {

@@ -22,6 +22,7 @@ mod equality;
 mod fault;
 mod hint;
 mod history;
+mod id_range;
 mod ids;
 mod index;
 mod keyed;

@@ -5,7 +5,7 @@ use Rattle.lab_table.specs.Row.{Row}
 use Rattle.lab_history.specs.RunningCounts.{with_rows, only_if, txns_within}
 use Rattle.lab_history.proofs.RowsMet.{keys_empty}
 use Rattle.lab_history.proofs.IdsWithin.{many_on_the_way, all_met}
-use Rattle.lab_history.proofs.ids.has_few_ids.Goals as goal
+use Rattle.lab_history.proofs.ids.count_few.Goals as goal
 
 pub returns-then-not-branch : goal.returns-then-not-branch
 returns-then-not-branch c =
