@@ -1,10 +1,10 @@
 //! Ranges of ids, which show at little cost that the lists of a history name few different rows.
 
 ghost use Rattle.std.specs.Prelude.{◌≡◌, ◌≤◌, ◌+◌, T, true, IfSome};
-ghost use Rattle.std.specs.List.{list_all, list_any, flat_map, sum_by};
+ghost use Rattle.std.specs.List.{list_all, list_any, sum_by};
 ghost use Rattle.std.specs.FinMap as finite;
 ghost use Rattle.lab_table.specs.Row.{row_cmp};
-ghost use Rattle.lab_history.specs.HistoryRules.{op_rows, operations, named_rows, distinct_rows};
+ghost use Rattle.lab_history.specs.HistoryRules.{op_rows, named_rows, distinct_rows};
 ghost use Rattle.lab_history.specs.IdRanges.{rows_in, has_row, has_ends, have_row};
 ghost use Rattle.lab_history.specs.Limits.{max_ids};
 
@@ -24,7 +24,7 @@ pub fn are_few_at_a_glance(parts: &Parts) -> bool
     room_beside(&ranges.ranges).is_some() && ranges.have_all(parts)
 }
 
-/// The rows of a table whose ids are at least `least` and less than `end`.
+/// The rows of a table whose ids are at least `least` and less than `end`. None are where `end` is 0.
 #[derive(Clone, Copy)]
 struct IdRange {
     table: TableName,
@@ -58,7 +58,7 @@ impl IdRange {
     }
 }
 
-/// Ranges of the ids of a few tables.
+/// Ranges of ids, one for each of a few tables.
 #[derive(Drop)]
 struct IdRanges {
     ranges: [IdRange; MAX_TABLES],
@@ -143,6 +143,8 @@ impl IdRanges {
         }
     }
 
+    /// Whether each of these rows, which rise strictly, is in a range. Most lists are of one table, and then no row between
+    /// the first and the last is looked at.
     fn have_rows<X>(&self, entries: &[(RowName, X)]) -> bool
         requires { T (finite.is_sorted row_cmp entries.now) }
         ensures { result ≡ list_all (λ e. have_row self.now.ranges e.0) entries.now }

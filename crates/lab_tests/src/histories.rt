@@ -237,24 +237,36 @@ fn parts_that_are_no_history(rt: HostRuntime) -> Result<(), Fail> {
     Ok(())
 }
 
-/// Whether a history is made of parts with an allocation refused, or they come back for want of memory; and whether an
-/// allocation was refused.
-fn tried(alloc: Global, growth: u16, given: &Parts) -> Option<(bool, bool)> {
-    let parts = parts(alloc, USUAL)?;
+/// Whether with an allocation refused parts of this shape are what they are due to be, or come back for want of memory;
+/// and whether an allocation was refused.
+fn tried(
+    alloc: Global,
+    growth: u16,
+    shape: Shape,
+    given: &Parts,
+    due: Option<FileFault>,
+) -> Option<(bool, bool)> {
+    let parts = parts(alloc, shape)?;
     refuse(alloc, growth);
     let made = History::from_parts(alloc, parts);
     let refused = was_refused(alloc);
     let (came_back, fault) = came_back(alloc, &made, given);
     drop(made);
-    let right = came_back && (fault.is_none() || refused && fault == Some(FileFault::NoMemory));
+    let right = came_back && (fault == due || refused && fault == Some(FileFault::NoMemory));
     Some((right, refused))
 }
 
 /// Fails where it isn't so at each allocation.
-fn shows_tried(rt: &impl Abort, alloc: Global, given: &Parts) -> Result<(), &'static str> {
+fn shows_tried(
+    rt: &impl Abort,
+    alloc: Global,
+    shape: Shape,
+    given: &Parts,
+    due: Option<FileFault>,
+) -> Result<(), &'static str> {
     for growth in 1..1_000u16 {
-        let (right, refused) = tried(alloc, growth, given).ok_or("parts")?;
-        assert!(rt; right, "at growth {growth}");
+        let (right, refused) = tried(alloc, growth, shape, given, due).ok_or("parts")?;
+        assert!(rt; right, "{shape:?} at growth {growth}");
         if !refused {
             return Ok(());
         }
@@ -264,9 +276,16 @@ fn shows_tried(rt: &impl Abort, alloc: Global, given: &Parts) -> Result<(), &'st
 
 #[test]
 fn parts_that_are_refused_memory_come_back(rt: HostRuntime) -> Result<(), Fail> {
-    let given = parts(rt.alloc(), USUAL).ok_or("parts")?;
-    let shown = shows_tried(&rt, rt.alloc(), &given);
-    drop(given);
-    shown?;
+    // Rows are counted only where they don't lie close together, as these 1,001 don't.
+    let many = Shape {
+        rows: 1_001,
+        ..USUAL
+    };
+    for (shape, due) in [(USUAL, None), (many, over(Limit::Ids))] {
+        let given = parts(rt.alloc(), shape).ok_or("parts")?;
+        let shown = shows_tried(&rt, rt.alloc(), shape, &given, due);
+        drop(given);
+        shown?;
+    }
     Ok(())
 }
