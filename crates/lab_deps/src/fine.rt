@@ -2,7 +2,7 @@
 //!
 //! A version that the operation before saw too isn't looked at again.
 
-ghost use Rattle.std.specs.Prelude.{◌≡◌, true, None, Some, T, is_some};
+ghost use Rattle.std.specs.Prelude.{◌≡◌, ◌↔◌, true, None, Some, T, is_some, IsTrue};
 ghost use Rattle.std.specs.FinMap as map;
 ghost use Rattle.lab_table.specs.Row.{Row, row_cmp};
 ghost use Rattle.lab_history.specs.declared.operation.VersionName.{VersionName as Named};
@@ -32,35 +32,16 @@ pub fn sees_fine(
     let mut near = 0;
     let entries = op.view.entries();
     for entry in entries {
-        match place_past(history, txn, number, known, near, entry, hints) {
-            None => return false,
-            Some(next) => near = next,
+        if has_at(known, near, entry) {
+            near = near.wrapping_add(1);
+        } else {
+            match place_past(history, txn, number, known, near, entry, hints) {
+                None => return false,
+                Some(next) => near = next,
+            }
         }
     }
     true
-}
-
-/// The place at which the next row is looked for among what is known, where an entry of a view is found to be one that an
-/// operation of a transaction may see.
-#[inline(always)]
-fn place_past(
-    history: &History,
-    txn: TxnNo,
-    number: u32,
-    known: &[(RowName, VersionName)],
-    near: usize,
-    entry: &(RowName, VersionName),
-    hints: &mut Hints,
-) -> Option<usize>
-    requires sorted { T (map.is_sorted row_cmp known.now) }
-    requires known { (row : Row) (v : Named) → map.find row_cmp row known.now ≡ Some v → fine.is_fine history.now txn number row v ≡ true }
-    ensures { is_some result ≡ true → fine.is_fine history.now txn number entry.now.0 entry.now.1 ≡ true }
-{
-    if has_at(known, near, entry) {
-        Some(near.wrapping_add(1))
-    } else {
-        place_past_other(history, txn, number, known, near, entry, hints)
-    }
 }
 
 /// Whether a list whose rows rise strictly has an entry at this place.
@@ -75,10 +56,11 @@ fn has_at(known: &[(RowName, VersionName)], near: usize, entry: &(RowName, Versi
     }
 }
 
-/// The same of an entry that doesn't stand at the place.
-// Not inlined, so that entries that stand there pay nothing for it.
+/// The place at which the next row is looked for among what is known, where an entry of a view is found to be one that an
+/// operation of a transaction may see.
+// Not inlined, so that entries that stand where they are looked for pay nothing for it.
 #[inline(never)]
-fn place_past_other(
+fn place_past(
     history: &History,
     txn: TxnNo,
     number: u32,
@@ -110,19 +92,11 @@ pub fn is_same(found: Option<VersionName>, version: VersionName) -> bool
 }
 
 /// Whether two versions are one.
+#[inline(always)]
 fn is_one(version: VersionName, other: VersionName) -> bool
-    ensures { result ≡ true → version ≡ other }
+    ensures { IsTrue result ↔ (version ≡ other) }
 {
-    match version {
-        VersionName::Initial => match other {
-            VersionName::Initial => true,
-            VersionName::Of { .. } => false,
-        },
-        VersionName::Of { txn, op } => match other {
-            VersionName::Initial => false,
-            VersionName::Of { txn: m, op: j } => txn == m && op == j,
-        },
-    }
+    version == other
 }
 
 /// Whether a version is found to be one that an operation of a transaction may see.

@@ -13,4 +13,4 @@ returns-then-eq c = λ t.
     let other = c.in-Some.other.now in
     ap (λ r. find row_cmp r known) (sym (tested_same other.0 c.args.entry.now.0 (sym c.eq.ensures ∙ c.if-eq.true)))
     ∙ at_entry known c.args.near other c.requires (slice_get_read known (length known) c.args.near other refl (ltb-true _ _ (sym c.in-Some.ensures.lookup.0)) c.in-Some.ensures.lookup.1)
-    ∙ ap Some (c.is_one.ensures t)
+    ∙ ap Some (c.is_one.ensures.0 t)
