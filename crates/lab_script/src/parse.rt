@@ -9,7 +9,7 @@ ghost use Rattle.lab_script.specs.Tables.{script_tables, tables_so_far};
 
 use crate::command::read_commands;
 use crate::limits::{MAX_COMMANDS, MAX_LINES};
-use crate::line::{is_blank_code, session_of};
+use crate::line::session_of;
 use crate::script::{Lines, Script};
 use crate::setup::read_setup;
 use bstr::ByteSlice;
@@ -67,10 +67,11 @@ fn read_line(
     if !is_ascii_code(code) {
         return Err(at(number, ScriptFaultKind::NotAscii));
     }
-    if is_blank_code(code) {
+    tokens_into(tokens, code)?;
+    let tokens = tokens.as_slice();
+    if tokens.is_empty() {
         return Ok(());
     }
-    tokens_into(tokens, code)?;
     read_tokens(alloc, script, tables, number, tokens, remark)
 }
 
