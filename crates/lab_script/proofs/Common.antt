@@ -1,6 +1,6 @@
 -- The names that most proofs cite, passed on from one place.
 unfoldable pub use Rattle.lab_statement.proofs.Common.{end_read}
-pub use Rattle.lab_statement.proofs.Common.{Bool, Each, Err, IsEnd, IsId, IsRow, IsStatement, List, None, Ok, Option, Reading, Reads, Result, Some, Statement, Stops, StopsAt, [], after, and_from, and_parts, ap, append-nil, append_assoc, arith, cases_Bool, cases_lt, code_of, codes, common_steps, cond, decimal, drop, drop_all, drop_more, eq-eqb, err_from_is_err_and, false, false≢true, fifth_table, get_or, if_found, if◌then◌else◌, inl, inr, is_ascii_digit, is_blank, is_code_byte, is_letter, is_some, joined, le-leb, leb-false, leb-true, length, length-append, length-drop, length-map, letters, list_all, map, mark, min, nat_le, nat_tests, nil_from_length, none-some, not, option_map, placed_kind, prefix_len, printed_row, printed_statement, refl, remark_of, row_read, rows_or, rules, same_Some, statement_depth, subst, suc, sym, take, take-append-drop, take_all, to_ascii_lowercase, tokens, tokens_from, true, whole, zero, ℕ, ℤ, ⊎_elim, ◌&&◌, ◌*◌, ◌++◌, ◌+◌, ◌-◌, ◌<◌, ◌==◌, ◌>>=◌, ◌↔◌, ◌∙◌, ◌∷◌, ◌≡◌, ◌≢◌, ◌≤◌, ◌⊎◌}
+pub use Rattle.lab_statement.proofs.Common.{Bool, Each, Err, IsEnd, IsId, IsRow, IsStatement, List, None, Ok, Option, Reading, Reads, Result, Some, Statement, Stops, StopsAt, [], after, and_from, and_parts, ap, append-nil, append_assoc, arith, cases_Bool, cases_lt, code_of, codes, common_steps, cond, decimal, drop, drop_all, drop_more, eq-eqb, err_from_is_err_and, false, false≢true, fifth_table, get_or, if_found, if◌then◌else◌, inl, inr, is_ascii_digit, is_blank, is_code_byte, is_letter, is_some, joined, le-leb, leb-false, leb-true, length, length-append, length-drop, length-map, letters, list_all, map, mark, min, nat_le, nat_tests, nil_from_length, none-some, not, option_map, placed_kind, prefix_len, printed_row, printed_statement, refl, remark_of, row_read, rows_or, rules, same_Some, statement_depth, subst, suc, sym, take, take-append-drop, take_all, to_ascii_lowercase, tokens, tokens_from, true, whole, zero, ℕ, ℤ, ⊎_elim, ◌&&◌, ◌*◌, ◌++◌, ◌+◌, ◌-◌, ◌<◌, ◌==◌, ◌>>=◌, ◌↔◌, ◌∙◌, ◌∷◌, ◌≡◌, ◌≢◌, ◌≤◌, ◌⊎◌, eqb-true}
 pub use Rattle.lab_statement.specs.declared.token.Token.{Token}
 pub use Rattle.lab_statement.specs.declared.fault.Refusal.{Refusal}
 pub use Rattle.lab_statement.specs.declared.fault.ScriptFaultKind.{ScriptFaultKind}

@@ -1,27 +1,22 @@
 -- What lines spell: a line makes one thing at most of what stands before it, and so do lines; what is made prints.
-use Rattle.lab_script.proofs.Common.{◌≡◌, ℕ, ◌+◌, ◌≤◌, Bool, true, cond, List, [], ◌∷◌, ◌++◌, length, map, Option, Some, refl, sym, ap, subst, ◌∙◌, arith, length-append, false, None, ◌-◌, IfSome, nat_lt, list_all, to_ascii_lowercase, is_ascii_digit, length-map, and_parts, false≢true, ltb-false, or_parts, same_Some, Command, Line, Script, Token, gap, letters, whole, is_letter, is_blank, mark, tokens, tokens_from, IsCommands, IsSetup, IsCommand, code_of, remark_of, is_code_byte, is_passed, IsFit, begins_setup, extended, LineSpells, LinesSpell, session_of, TokensSpell, Spells, is_over, Each, CommandPrints, AllPrint, ScriptPrints}
+use Rattle.lab_script.proofs.Common.{◌≡◌, ℕ, ◌+◌, ◌≤◌, true, List, [], ◌∷◌, ◌++◌, length, map, Option, Some, refl, sym, ap, subst, ◌∙◌, arith, length-append, false, None, IfSome, nat_lt, list_all, length-map, false≢true, nil_from_length, eqb-true, ◌==◌, ltb-false, or_parts, same_Some, Command, Line, Script, Token, tokens, IsCommands, IsSetup, IsCommand, code_of, remark_of, is_code_byte, is_passed, IsFit, begins_setup, extended, LineSpells, LinesSpell, session_of, TokensSpell, Spells, is_over, Each, CommandPrints, AllPrint, ScriptPrints}
 use Rattle.lab_script.proofs.ReadCommands.{commands_once, not_empty}
 use Rattle.lab_script.proofs.ReadSetup.{setup_once, setup_begins, setup_short}
 use Rattle.lab_statement.proofs.ShallowStatements.{statement_shallow}
 use Rattle.lab_script.proofs.FewTables.{tables_extended}
-use Rattle.lab_statement.specs.declared.token.Token.TheVariants as token
 use Rattle.lab_script.specs.Script as script
 use Rattle.lab_script.specs.Grammar as line_grammar
 
--- blanks have no tokens
-pub no_tokens : (code : List ℕ) → list_all is_blank code ≡ true → tokens code ≡ []
-no_tokens [] blank = refl
-no_tokens (b ∷ bytes) blank =
-    let both = and_parts (is_blank b) (list_all is_blank bytes) blank in
-    ap (λ (v : Bool). tokens_from (cond v gap (cond (is_letter b) (letters (to_ascii_lowercase b ∷ [])) (cond (is_ascii_digit b) (whole (token.Digits (b - 48))) (whole (mark b))))) bytes) both.0
-    ∙ no_tokens bytes both.1
+-- a line that is passed over has no tokens
+no_tokens : (line : List ℕ) → is_passed line ≡ true → tokens (code_of line) ≡ []
+no_tokens line passed = nil_from_length (tokens (code_of line)) (eqb-true _ 0 passed)
 
 -- a line that is passed over spells no setup and no commands
 passed_no_setup : (line : List ℕ) {A : Type 0} → is_passed line ≡ true → begins_setup (tokens (code_of line)) ≡ true → A
-passed_no_setup line passed begins = absurd (false≢true (ap begins_setup (sym (no_tokens (code_of line) passed)) ∙ begins))
+passed_no_setup line passed begins = absurd (false≢true (ap begins_setup (sym (no_tokens line passed)) ∙ begins))
 
 passed_no_commands : (line : List ℕ) {cs : List Command} {A : Type 0} → is_passed line ≡ true → IsCommands (tokens (code_of line)) cs → A
-passed_no_commands line {cs} passed commands = absurd (not_empty (subst (λ (ts : List Token). IsCommands ts cs) (no_tokens (code_of line) passed) commands))
+passed_no_commands line {cs} passed commands = absurd (not_empty (subst (λ (ts : List Token). IsCommands ts cs) (no_tokens line passed) commands))
 
 -- a line that spells something may have its number
 pub fit_of : {number : ℕ} {line : List ℕ} {before after : Option Script} → LineSpells number line before after → IsFit number line
@@ -89,12 +84,12 @@ module _ (number : ℕ) (line : List ℕ) {code remark : List ℕ} (within : is_
         let both = or_parts (nat_lt 2000 number) (nat_lt 4000 (length line)) within in
         record { lines = ltb-false 2000 number both.0; bytes = ltb-false 4000 (length line) both.1; ascii = ap (list_all is_code_byte) (sym code_is) ∙ ascii }
 
-    pub blank_line : (before : Option Script) → list_all is_blank code ≡ true → LineSpells number line before before
-    blank_line before blank = script.passed before fit (ap (list_all is_blank) (sym code_is) ∙ blank)
-
     module _ {ts : List Token} (of_code : ts ≡ tokens code) where
       of_line : ts ≡ tokens (code_of line)
       of_line = of_code ∙ ap tokens code_is
+
+      pub tokenless_line : (before : Option Script) → (length ts == 0) ≡ true → LineSpells number line before before
+      tokenless_line before none = script.passed before fit (ap (λ us. length us == 0) (sym of_line) ∙ none)
 
       -- a line spells what its tokens spell
       pub tokens_line : (before after : Option Script) → TokensSpell number ts remark before after → LineSpells number line before after

@@ -36,9 +36,9 @@ abbrev pub session_of : List ℕ → Option ℕ
 session_of [] = None
 session_of (b ∷ bytes) = if is_blank b then session_of bytes else if to_ascii_lowercase b == 116 then session_digit bytes else None
 
--- whether a line is passed over
+-- whether a line is passed over: its code has no token
 abbrev pub is_passed : List ℕ → Bool
-is_passed line = list_all is_blank (code_of line)
+is_passed line = length (tokens (code_of line)) == 0
 
 -- whether a line's code has only tabs and printed bytes
 abbrev pub is_ascii_code : List ℕ → Bool

@@ -1,19 +1,10 @@
-//! A line of a script's text: whether it is blank, and the session that its remark names.
+//! The session that the remark of a script's line names.
 
 ghost use Rattle.std.specs.Prelude.{◌≡◌};
-ghost use Rattle.std.specs.List.{list_all};
-ghost use Rattle.lab_statement.specs.Token.{is_blank};
 ghost use Rattle.lab_script.specs.Script.{ends_word, session_digit, session_of};
 
-use lab_statement::{blanks_len, is_blank};
+use lab_statement::blanks_len;
 use lab_table::Session;
-
-/// Whether all bytes are spaces and tabs.
-pub fn is_blank_code(code: &[u8]) -> bool
-    ensures { result ≡ list_all is_blank code.now }
-{
-    code.iter().all(|byte| is_blank(*byte))
-}
 
 /// Whether a word ends here.
 fn ends_word(bytes: &[u8]) -> bool

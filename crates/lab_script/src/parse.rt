@@ -9,7 +9,7 @@ ghost use Rattle.lab_script.specs.Tables.{script_tables, tables_so_far};
 
 use crate::command::read_commands;
 use crate::limits::{MAX_COMMANDS, MAX_LINES};
-use crate::line::{is_blank_code, session_of};
+use crate::line::session_of;
 use crate::script::{Lines, Script};
 use crate::setup::read_setup;
 use bstr::ByteSlice;
@@ -76,16 +76,17 @@ fn read_line(
     if !is_ascii_code(code) {
         return Err(at(number, ScriptFaultKind::NotAscii));
     }
-    if is_blank_code(code) {
+    tokens_into(&mut room.tokens, code)?;
+    let tokens = room.tokens.as_slice();
+    if tokens.is_empty() {
         return Ok(());
     }
-    tokens_into(&mut room.tokens, code)?;
     read_tokens(
         alloc,
         script,
         tables,
         number,
-        &room.tokens,
+        tokens,
         remark,
         &mut room.commands,
     )

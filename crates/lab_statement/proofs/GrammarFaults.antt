@@ -1,5 +1,5 @@
 -- The first fault of tokens: where reading stops, and none exactly where they are in the grammar.
-use Rattle.lab_statement.proofs.Common.{◌≡◌, ℕ, ◌<◌, ◌≤◌, Bool, true, false, List, length, Option, Some, None, refl, subst, ap, ◌↔◌, if◌then◌else◌, le-leb, leb-true, lt-leb, Statement, ScriptFaultKind, TooManyTables, Token, IsWholeStatement, Reading, Reads, Stops, StopsAt, whole_statement_read, placed_kind, fault_of, fifth_table, statement_fault, refusal_as, StopsFirst, same_Some, Refusal, refusal_at, IsFirstInText, AreStatementTokens}
+use Rattle.lab_statement.proofs.Common.{◌≡◌, ℕ, ◌≤◌, Bool, true, false, List, length, Option, Some, None, refl, subst, ap, ◌↔◌, if◌then◌else◌, le-leb, leb-true, Statement, ScriptFaultKind, TooManyTables, Token, IsWholeStatement, Reading, Reads, Stops, StopsAt, whole_statement_read, placed_kind, fault_of, fifth_table, statement_fault, refusal_as, StopsFirst, same_Some, Refusal, refusal_at, IsFirstInText, AreStatementTokens}
 use Rattle.lab_table.specs.TableSet.{are_few}
 use Rattle.lab_statement.proofs.ReadStatements.{whole_takes, whole_again}
 use Rattle.lab_statement.specs.declared.fault.Refusal.TheVariants as refusal
@@ -30,9 +30,6 @@ are_four names none = leb-true (length names) 4 (none_of (are_few names) none)
 pub no_fifth : (names : List (List ℕ)) → length names ≤ 4 → fifth_table names ≡ None
 no_fifth names few = rw (le-leb (length names) 4 few) refl
 
-pub a_fifth : (names : List (List ℕ)) → 4 < length names → fifth_table names ≡ Some TooManyTables
-a_fifth names many = rw (lt-leb (length names) 4 many) refl
-
 -- statements without a fault
 pub no_statement_fault : (ts : List Token) → (statement_fault ts ≡ None) ↔ ((s : Statement) × IsWholeStatement ts s)
 no_statement_fault ts = (
@@ -45,11 +42,6 @@ pub stops_first : {X : Type 0} (of : X → Option ScriptFaultKind) (placed : Scr
     → StopsFirst (fault_of of placed read) (refusal_as (λ kind. placed kind (length left)) e)
 stops_first of placed left read refusal.NoMemory stops = tt
 stops_first of placed left read (refusal.Fault kind) stops = ap (fault_of of placed) stops
-
--- a kind that is made another twice
-pub as_both : (f g : ScriptFaultKind → ScriptFaultKind) (e : Refusal) → refusal_as f (refusal_as g e) ≡ refusal_as (λ kind. f (g kind)) e
-as_both f g refusal.NoMemory = refl
-as_both f g (refusal.Fault kind) = refl
 
 -- what is told of the text of a statement where reading its tokens stopped
 pub first_in_text : (text : List ℕ) (ts : List Token) (e : Refusal) → AreStatementTokens text ts → StopsFirst (statement_fault ts) e → IsFirstInText text (refusal_at e 1)

@@ -74,14 +74,15 @@ statement_read ts = if_found (after (token.Word word.Select) ts) select_read
       rest ← token_read (token.Word word.Delete) ts
       delete_read rest)))
 
--- the end of a statement: nothing is left, or a semicolon
-unfoldable pub end_read : List Token → Reading (List Token)
-end_read [] = Reads []
-end_read (t ∷ ts) = if is_token token.Semicolon t then Reads ts else Stops UnknownStatement (t ∷ ts)
-
 -- nothing is left
 abbrev pub nothing_read : List Token → Reading (Unit {0})
 nothing_read ts = if length ts == 0 then Reads tt else Stops UnknownStatement ts
+
+-- the end of a statement: a semicolon, or nothing is left
+unfoldable pub end_read : List Token → Reading (List Token)
+end_read ts = if_found (after token.Semicolon ts) (λ rest. Reads rest) (do
+  none ← nothing_read ts
+  Reads ts)
 
 -- one statement and its end: one that is over its limit stops there, and what stands behind it doesn't matter
 unfoldable pub whole_statement_read : List Token → Reading Statement

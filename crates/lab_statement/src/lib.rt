@@ -48,4 +48,4 @@ pub use sink::{Room, Sink};
 pub use spelling::{put_command, put_statement};
 pub use statement::check_length;
 pub use statement_text::parse_statement;
-pub use token::{Token, blanks_len, is_blank, tokens_into};
+pub use token::{Token, blanks_len, tokens_into};

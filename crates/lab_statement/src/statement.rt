@@ -117,21 +117,15 @@ impl Parser<'_> {
         Ok(over(table, StatementKind::Delete { pred }))
     }
 
-    /// The end of a statement: nothing is left, or a semicolon.
+    /// The end of a statement: a semicolon, or nothing is left.
     #[tactic(auto, unfolding(crate::specs::FirstFaults::end_read))]
     pub fn ended(&mut self) -> Result<(), Refusal>
         ensures { Comes (λ x. self.new) result self.new (end_read self.old) }
     {
-        match self.rest.split_first() {
-            None => Ok(()),
-            Some((first, rest)) => {
-                if *first != Token::Semicolon {
-                    return Err(Refusal::Fault(ScriptFaultKind::UnknownStatement));
-                }
-                self.rest = rest;
-                Ok(())
-            }
+        if !self.took(Token::Semicolon) {
+            self.nothing_left()?;
         }
+        Ok(())
     }
 }
 

@@ -10,7 +10,7 @@ use crate::fault::{ScriptFault, ScriptFaultKind};
 use crate::limits::MAX_LINE_BYTES;
 use crate::line::{code_and_remark, is_ascii_code};
 use crate::parser::read_statement;
-use crate::token::{Token, tokens_of};
+use crate::token::{Token, tokens_into};
 use lab_table::{NoMemory, Statement};
 use std::alloc::Global;
 
@@ -52,7 +52,8 @@ fn statement_tokens(alloc: Global, text: &[u8]) -> Result<Vec<Token>, NoMemory>
     ensures { IfOk result (λ found. AreStatementTokens text.now found.items) }
 {
     let (code, _) = code_and_remark(text);
-    let mut tokens = tokens_of(alloc, code)?;
+    let mut tokens = Vec::new(alloc);
+    tokens_into(&mut tokens, code)?;
     if code.len() < text.len() {
         tokens.extend_from_slice(&[Token::Unknown])?;
     }

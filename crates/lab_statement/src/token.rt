@@ -1,13 +1,12 @@
 //! The tokens of a line's code.
 
-ghost use Rattle.std.specs.Prelude.{◌≡◌, ◌≤◌, ◌∷◌, [], length, map, IfOk, OnOk};
+ghost use Rattle.std.specs.Prelude.{◌≡◌, ◌≤◌, ◌∷◌, [], length, map, OnOk};
 ghost use Rattle.std.specs.List.{prefix_len};
 ghost use Rattle.std.specs.Char.{to_ascii_lowercase};
 ghost use Rattle.lab_statement.specs.declared.token.Token.TheVariants as token;
 ghost use Rattle.lab_statement.specs.Token.{letters, whole, is_letter, is_blank, is_word, word_token, mark, tokens, tokens_from};
 
 use lab_table::{NoMemory, TableName, Word};
-use std::alloc::Global;
 
 /// A token.
 #[derive(Clone, Copy, Debug, PartialEq, Eq)]
@@ -48,7 +47,7 @@ fn is_letter(byte: u8) -> bool
 }
 
 /// Whether a byte is a space or a tab.
-pub fn is_blank(byte: u8) -> bool
+fn is_blank(byte: u8) -> bool
     ensures { result ≡ is_blank byte }
 {
     byte == b' ' || byte == b'\t'
@@ -184,15 +183,6 @@ fn mark_at(first: u8, after: &[u8]) -> (Token, &[u8])
     } else {
         (mark_of(first), after)
     }
-}
-
-/// The tokens of a text; NoMemory where an allocation was refused.
-pub fn tokens_of(alloc: Global, text: &[u8]) -> Result<Vec<Token>, NoMemory>
-    ensures { IfOk result (λ found. found.items ≡ tokens text.now) }
-{
-    let mut found = Vec::new(alloc);
-    tokens_into(&mut found, text)?;
-    Ok(found)
 }
 
 /// Puts the tokens of a text in place of what was found before; NoMemory where an allocation was refused.
