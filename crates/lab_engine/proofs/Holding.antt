@@ -42,10 +42,6 @@ found_of_any p m any =
     let f = found_in p (entries m) (entries_sorted m) any in
     (f.0, f.1, get-entries m f.0 ∙ f.2, f.3)
 
--- a test that holds of no entry holds of no row and what the map has of it
-pub none_of_any : {A : Type 0} (p : Row × A → Bool) (m : FinMap row_cmp A) → list_any p (entries m) ≡ false → (row : Row) (v : A) → get m row ≡ Some v → p (row, v) ≡ false
-none_of_any p m any row v h = none_in p (entries m) any row v (sym (get-entries m row) ∙ h)
-
 -- operations have read what one of their statements matches
 any-read : (ops : List Op) (row : Row) (state : State) → list_any (λ s. matches s row state) (map (λ op. op.statement) ops) ≡ has_read ops row state
 any-read [] row state = refl

@@ -1,16 +1,10 @@
 -- What an active transaction sees of a situation.
-use Rattle.std.proofs.Common.{◌≡◌, ◌∙◌, ℕ, refl, ap, arith, cond, length, Option, Some, None, unwrap_or}
-use Rattle.lab_engine.proofs.Common.{option_or, Row, would_write, Statement, Level, RunningTxn, Situation, chain, last_before, chain_in, pending_in, Past, Txn, Version, active, commits, version_by, last_installed, initial_version, sight, seen, Describes, IsRunning, written_by}
+use Rattle.std.proofs.Common.{◌≡◌, ◌∙◌, ℕ, refl, ap, arith, length, Option, Some, None, unwrap_or}
+use Rattle.lab_engine.proofs.Common.{option_or, Row, would_write, Statement, Level, chain, last_before, chain_in, pending_in, Past, Txn, Version, active, commits, version_by, last_installed, initial_version, sight, seen, written_by}
 use Rattle.lab_engine.specs.declared.event.Level.TheVariants.{Snapshot}
 use Rattle.lab_engine.specs.declared.asker.Asker.{Asker}
-use Rattle.lab_engine.specs.Asker.{IsAsker, seen_in, sees_as_of_begin}
+use Rattle.lab_engine.specs.Asker.{IsAsker, seen_in}
 use Rattle.lab_engine.proofs.InstalledChains.{last_in, last_at_begin}
-
--- how many events stand before what an active transaction sees
-pub sees_is : (level : Level) (past : Past) (txn : Txn) (situation : Situation) (running : RunningTxn) → Describes past situation → IsRunning txn running
-    → cond (sees_as_of_begin level) running.before situation.events ≡ length (sight level past txn)
-sees_is Snapshot past txn situation running d is = is.before
-sees_is other past txn situation running d is = d.events
 
 -- the first of two that is there, or else a third
 either_or : {A : Type 0} (a b : Option A) (c : A) → unwrap_or (option_or a b) c ≡ unwrap_or a (unwrap_or b c)
