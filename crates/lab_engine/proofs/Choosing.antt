@@ -1,6 +1,6 @@
 -- Which sessions are chosen by a test of their active transactions.
 use Rattle.std.proofs.Common.{◌≡◌, ◌≢◌, ◌∙◌, ℕ, zero, suc, refl, sym, ap, subst, arith, Bool, true, not, ◌&&◌, inl, inr, List, [], ◌∷◌, map, ◌==◌, ◌↔◌, Option, Some, None, IsTrue, Contains}
-use Rattle.lab_engine.proofs.Common.{and_parts, and_from, or_cases, or_left, or_right, true≢false, eq-eqb, eqb-true, ne_eqb, some_is, Past, Txn, active, IsOther, has, Agree, IsRunning, Describes, DescribesSession, DescribesAll, RunningTxn, SessionState, Situation}
+use Rattle.lab_engine.proofs.Common.{and_parts, and_from, or_cases, or_left, or_right, true≢false, eq-eqb, eqb-true, ne_eqb, some_is, Level, Past, Txn, active, IsOther, has, Agree, IsRunning, Describes, DescribesSession, DescribesAll, RunningTxn, SessionState, Situation}
 use Rattle.lab_engine.specs.Chosen.{has_passing, is_passing_other, is_chosen}
 use Rattle.lab_engine.specs.Asker.{AreOthers}
 use Rattle.lab_engine.specs.declared.asker.Asker.{Asker}
@@ -15,21 +15,21 @@ to_apart : (a b : ℕ) → b ≢ a → not (a == b) ≡ true
 to_apart a b ne = ap not (ne_eqb a b (λ same. ne (sym same)))
 
 -- what is kept of an active transaction
-txn_running : (past : Past) (state : SessionState) (txn : Txn) → DescribesSession past state → active past state.session ≡ Some txn
-    → (running : RunningTxn) × (state.running ≡ Some running) × IsRunning txn running
-txn_running past state txn d is = at state.running refl (subst (λ (o : Option Txn). Agree o state.running) is d.running)
+txn_running : {level : Level} (past : Past) (state : SessionState) (txn : Txn) → DescribesSession level past state → active past state.session ≡ Some txn
+    → (running : RunningTxn) × (state.running ≡ Some running) × IsRunning level txn running
+txn_running {level} past state txn d is = at state.running refl (subst (λ (o : Option Txn). Agree level o state.running) is d.running)
   where
-    at : (o : Option RunningTxn) → state.running ≡ o → Agree (Some txn) o → (running : RunningTxn) × (state.running ≡ Some running) × IsRunning txn running
+    at : (o : Option RunningTxn) → state.running ≡ o → Agree level (Some txn) o → (running : RunningTxn) × (state.running ≡ Some running) × IsRunning level txn running
     at None none h = absurd h
     at (Some running) some h = (running, some, h)
 
 -- a test says of what is kept of each active transaction whether something holds of it
-abbrev pub Tells : Past → (ℕ → RunningTxn → Bool) → (Txn → Type 0) → Type 0
-Tells past test holds = (other : ℕ) (txn : Txn) (running : RunningTxn) → active past other ≡ Some txn → IsRunning txn running → IsTrue (test other running) ↔ holds txn
+abbrev pub Tells : Level → Past → (ℕ → RunningTxn → Bool) → (Txn → Type 0) → Type 0
+Tells level past test holds = (other : ℕ) (txn : Txn) (running : RunningTxn) → active past other ≡ Some txn → IsRunning level txn running → IsTrue (test other running) ↔ holds txn
 
-module _ (past : Past) (situation : Situation) (session : ℕ) (test : ℕ → RunningTxn → Bool) (holds : Txn → Type 0) (d : Describes past situation) (tells : Tells past test holds) where
+module _ {level : Level} (past : Past) (situation : Situation) (session : ℕ) (test : ℕ → RunningTxn → Bool) (holds : Txn → Type 0) (d : Describes level past situation) (tells : Tells level past test holds) where
   -- it says of a state whether it is another session's of whose transaction that holds
-  state_is : (state : SessionState) → DescribesSession past state → IsTrue (is_passing_other test session state) ↔ IsOther past session state.session holds
+  state_is : (state : SessionState) → DescribesSession level past state → IsTrue (is_passing_other test session state) ↔ IsOther past session state.session holds
   state_is state described = (to, from)
     where
       found : (o : Option RunningTxn) → state.running ≡ o → has_passing (test state.session) o ≡ true → (txn : Txn) × (active past state.session ≡ Some txn) × holds txn
@@ -51,7 +51,7 @@ module _ (past : Past) (situation : Situation) (session : ℕ) (test : ℕ → R
           (ap (has_passing (test state.session)) kept.1 ∙ (tells state.session holder kept.0 is kept.2).1 held)
 
   -- a session that is chosen has such a state
-  chosen_state : (states : List SessionState) (n : ℕ) → DescribesAll past states → is_chosen test session states n ≡ true → IsOther past session n holds
+  chosen_state : (states : List SessionState) (n : ℕ) → DescribesAll level past states → is_chosen test session states n ≡ true → IsOther past session n holds
   chosen_state [] n all any = absurd (true≢false (sym any))
   chosen_state (state ∷ states) n all any = elim (or_cases (n == state.session && is_passing_other test session state) (is_chosen test session states n) any) [
     | inl here ↦ let parts = and_parts (n == state.session) (is_passing_other test session state) here in
@@ -60,7 +60,7 @@ module _ (past : Past) (situation : Situation) (session : ℕ) (test : ℕ → R
   ]
 
   -- a session is chosen where it has one
-  state_chosen : (states : List SessionState) (n : ℕ) → DescribesAll past states → Contains (map (λ state. state.session) states) n → IsOther past session n holds → is_chosen test session states n ≡ true
+  state_chosen : (states : List SessionState) (n : ℕ) → DescribesAll level past states → Contains (map (λ state. state.session) states) n → IsOther past session n holds → is_chosen test session states n ≡ true
   state_chosen [] n all c other = absurd (no_member n c)
   state_chosen (state ∷ states) n all (zero, lt, is) other =
       or_left (n == state.session && is_passing_other test session state) (is_chosen test session states n)
@@ -76,7 +76,7 @@ module _ (past : Past) (situation : Situation) (session : ℕ) (test : ℕ → R
   )
 
 -- so a set of those that are chosen has them
-pub others_are : (past : Past) (asker : Asker) (test : ℕ → RunningTxn → Bool) (holds : Txn → Type 0) (set : ℕ) → Describes past asker.situation.now → Tells past test holds
+pub others_are : {level : Level} (past : Past) (asker : Asker) (test : ℕ → RunningTxn → Bool) (holds : Txn → Type 0) (set : ℕ) → Describes level past asker.situation.now → Tells level past test holds
     → ((n : ℕ) → has set n ≡ is_chosen test asker.session asker.situation.now.sessions n) → AreOthers past asker holds set
 others_are past asker test holds set d tells is n =
     subst (λ b. IsTrue b ↔ IsOther past asker.session n holds) (sym (is n)) (chosen_is past asker.situation.now asker.session test holds d tells n)

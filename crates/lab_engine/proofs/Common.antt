@@ -27,7 +27,7 @@ pub use Rattle.std.proofs.lemmas.List.{append-nil, drop_all, drop_more, get_or-r
 pub use Rattle.std.specs.FinMap.{FinMap, empty, entries, entries_sorted, find, from_sorted, get, get-empty, get-entries, get-from_sorted, get-insert, insert, is_sorted, put}
 pub use Rattle.std.specs.FinMap.Entries.{below_all, by_order, find-put, is_sorted-put}
 pub use Rattle.lab_engine.specs.Rules.{BlockedBy, Blocks, Conflicts, HoldsWrite, IsBelow, IsChain, IsCircle, IsEffect, IsFree, IsInsertOf, IsLegal, IsUpdate, MayAsk, MayCommit, Permitted, in_view}
-pub use Rattle.lab_engine.specs.Situation.{Agree, Describes, DescribesAll, DescribesRows, DescribesSession, HasPlaces, HasRoom, HoldsOutcome, IsRunning, all_sessions, grown, has_written, ran, running_of, statements_of, waiting_of, written_by}
+pub use Rattle.lab_engine.specs.Situation.{Agree, Describes, DescribesAll, DescribesRows, DescribesSession, HasPlaces, HasRoom, HoldsOutcome, IsRunning, all_sessions, grown, has_written, kept_of, keeps_statements, kept_statements, running_of, statements_of, waiting_of, written_by}
 pub use Rattle.lab_engine.specs.KeptRows.{IsReadyAt, IsSame, chain_in, chain_kept, kept_at, pending_in, pending_kept}
 pub use Rattle.lab_engine.specs.Kept.{IsReady, IsRoomy, Kept, count, pending_of}
 pub use Rattle.lab_engine.specs.Chains.{chain, chain_after, first_since, last_before, longer}

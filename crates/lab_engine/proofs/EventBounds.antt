@@ -1,6 +1,6 @@
 -- Nothing that a log tells is more than its events are.
-use Rattle.std.proofs.Common.{◌≡◌, ℕ, suc, ◌≤◌, ◌<◌, true, false, cond, [], ◌∷◌, map, length, Option, Some, None, ap, subst, ◌∙◌, arith, option_map, ◌==◌}
-use Rattle.lab_engine.proofs.Common.{length-map, length-reverse, Rows, Writes, Command, Run, View, Outcome, Begun, Listed, Waits, Refused, RunningTxn, SessionState, Past, Txn, active, active_after, ops_after, is_fatal, begun, begun_after, DescribesSession, Agree, IsRunning, HasRoom, ⊤}
+use Rattle.std.proofs.Common.{◌≡◌, ℕ, suc, ◌≤◌, ◌<◌, true, false, cond, [], ◌∷◌, length, Option, Some, None, subst, arith, option_map, ◌==◌}
+use Rattle.lab_engine.proofs.Common.{Level, Rows, Writes, Command, Run, View, Outcome, Begun, Listed, Waits, Refused, RunningTxn, SessionState, Past, Txn, active, active_after, ops_after, is_fatal, begun, begun_after, DescribesSession, Agree, HasRoom, ⊤}
 
 -- an active transaction, if any, has run at most so many operations
 abbrev AtMost : ℕ → Option Txn → Type 0
@@ -45,16 +45,11 @@ pub begun_at_most : (past : Past) → begun past ≤ length past
 begun_at_most [] = omega arith
 begun_at_most (event ∷ past) = begun_more event.outcome (begun past) (length past) (begun_at_most past)
 
--- as many statements are kept of a transaction as it ran operations
-pub statements_length : (txn : Txn) (running : RunningTxn) → IsRunning txn running → length running.statements.items ≡ length txn.ops
-statements_length txn running is =
-    ap length is.statements ∙ length-reverse (map (λ op. op.statement) txn.ops) ∙ length-map txn.ops (λ op. op.statement)
+room : (level : Level) (n : ℕ) (txn : Option Txn) (running : Option RunningTxn) → Agree level txn running → AtMost n txn → n < 100000 → HasRoom running
+room level n txn None agree most few = tt
+room level n None (Some running) agree most few = absurd agree
+room level n (Some txn) (Some running) agree most few = omega (arith, agree.operations, most, few)
 
-room : (n : ℕ) (txn : Option Txn) (running : Option RunningTxn) → Agree txn running → AtMost n txn → n < 100000 → HasRoom running
-room n txn None agree most few = tt
-room n None (Some running) agree most few = absurd agree
-room n (Some txn) (Some running) agree most few = let same = statements_length txn running agree in omega (arith, same, most, few)
-
--- what is kept of a session has room for one more statement
-pub has_room : (past : Past) (state : SessionState) → DescribesSession past state → length past < 100000 → HasRoom state.running
-has_room past state is few = room (length past) (active past state.session) state.running is.running (at_most past state.session) few
+-- what is kept of a session has room for one more operation
+pub has_room : {level : Level} (past : Past) (state : SessionState) → DescribesSession level past state → length past < 100000 → HasRoom state.running
+has_room {level} past state is few = room level (length past) (active past state.session) state.running is.running (at_most past state.session) few

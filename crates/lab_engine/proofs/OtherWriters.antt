@@ -16,7 +16,7 @@ module _ (level : Level) (setup : Table) (past : Past) (txn : Txn) (s : Statemen
   Writes row = IsTrue (would_write s row (seen level setup past txn row).state)
 
   -- a transaction holds such a write where a test of the rows that it wrote says so
-  pub written_holds : (holder : Txn) (kept : RunningTxn) (test : Row → Bool) → IsRunning holder kept → ((row : Row) → test row ≡ would_write s row (seen level setup past txn row).state)
+  pub written_holds : (holder : Txn) (kept : RunningTxn) (test : Row → Bool) → IsRunning level holder kept → ((row : Row) → test row ≡ would_write s row (seen level setup past txn row).state)
       → IsTrue (list_any test kept.written.items) ↔ HoldsWrite level setup past txn s holder
   written_holds holder kept test agrees same = (
     (λ any. let f = any_row test kept.written.items any in (f.0, sym (agrees.written f.0) ∙ f.1, sym (same f.0) ∙ f.2)),
@@ -44,7 +44,7 @@ module _ (level : Level) (setup : Table) (past : Past) (txn : Txn) (s : Statemen
     )
 
 -- a session has a version of a row pending where its active transaction has written it
-pub pending_wrote : (past : Past) (situation : Situation) (row : Row) (other : ℕ) (holder : Txn) → Describes past situation → active past other ≡ Some holder
+pub pending_wrote : {level : Level} (past : Past) (situation : Situation) (row : Row) (other : ℕ) (holder : Txn) → Describes level past situation → active past other ≡ Some holder
     → IsTrue (is_some (pending_in situation.rows row other)) ↔ IsSome (version_by holder row)
 pending_wrote past situation row other holder d is = ((λ some. sym same ∙ some), (λ wrote. same ∙ wrote))
   where

@@ -7,18 +7,18 @@ use Rattle.lab_engine.proofs.Rising.{RiseFrom, sessions_rise, is_among, among, e
 use Rattle.lab_engine.proofs.Waiting.{waiter_there}
 
 -- a state waits where its session does
-state_waits : (past : Past) (state : SessionState) → DescribesSession past state → is_some state.waits ≡ is_some (waiting past state.session)
+state_waits : {level : Level} (past : Past) (state : SessionState) → DescribesSession level past state → is_some state.waits ≡ is_some (waiting past state.session)
 state_waits past state d = ap is_some d.waits
 
 -- a state that waits and is released is that of a retryable session
-pub state_retryable : (level : Level) (setup : Table) (past : Past) (waits : List ℕ) (state : SessionState) → DescribesSession past state → AreWaits level setup past waits
+pub state_retryable : (level : Level) (setup : Table) (past : Past) (waits : List ℕ) (state : SessionState) → DescribesSession level past state → AreWaits level setup past waits
     → IsSome state.waits × IsReleased waits state.session → IsRetryable level setup past state.session
 state_retryable level setup past waits state d h (some, released) =
     let s = some_of (waiting past state.session) (sym (state_waits past state d) ∙ some) in
     released_retryable level setup past waits state.session s.0 h s.1 released
 
 -- and none other is
-pub state_released : (level : Level) (setup : Table) (past : Past) (waits : List ℕ) (state : SessionState) → DescribesSession past state → AreWaits level setup past waits
+pub state_released : (level : Level) (setup : Table) (past : Past) (waits : List ℕ) (state : SessionState) → DescribesSession level past state → AreWaits level setup past waits
     → IsRetryable level setup past state.session → IsSome state.waits × IsReleased waits state.session
 state_released level setup past waits state d h r = (state_waits past state d ∙ some_is (waiting past state.session) r.0 r.1, retryable_released level setup past waits state.session h r)
 
@@ -33,13 +33,13 @@ none_step level setup past states i state lt is none own session there r = elim 
     ]
 
 -- once all are passed, none is
-pub none_retryable : (level : Level) (setup : Table) (past : Past) (situation : Situation) (passed : ℕ) → Describes past situation → length situation.sessions ≤ passed
+pub none_retryable : (level : Level) (setup : Table) (past : Past) (situation : Situation) (passed : ℕ) → Describes level past situation → length situation.sessions ≤ passed
     → ((session : ℕ) → IsTrue (is_among session (take passed situation.sessions)) → IsRetryable level setup past session → ⊥) → NoneRetryable level setup past
 none_retryable level setup past situation passed d all none session r =
     none session (ap (is_among session) (take_all passed situation.sessions all) ∙ among situation.sessions session (waiter_there past situation session r.0 d r.1)) r
 
 -- the first that is retryable is the least
-pub least_retryable : (level : Level) (setup : Table) (past : Past) (situation : Situation) (i : ℕ) (state : SessionState) → Describes past situation → i < length situation.sessions
+pub least_retryable : (level : Level) (setup : Table) (past : Past) (situation : Situation) (i : ℕ) (state : SessionState) → Describes level past situation → i < length situation.sessions
     → state ≡ get_or situation.sessions i state → ((session : ℕ) → IsTrue (is_among session (take i situation.sessions)) → IsRetryable level setup past session → ⊥)
     → IsRetryable level setup past state.session → IsLeastRetryable level setup past state.session
 least_retryable level setup past situation i state d lt is none r =

@@ -1,20 +1,16 @@
 -- What is kept of a session and of the rows goes on by an event of the session.
-use Rattle.std.proofs.Common.{◌≡◌, ◌∙◌, ℕ, ◌+◌, ◌==◌, ◌||◌, ◌&&◌, cond, true, false, [], ◌∷◌, ◌++◌, map as each, length, Option, Some, None, refl, sym, ap, subst, inl, inr, option_map, is_some, is_none}
-use Rattle.lab_engine.proofs.Common.{none_of, both_ways, cases_eq, eq-eqb, ne_eqb, true≢false, reverse-append, same_Some, Row, State, Rows, Writes, Statement, Command, Run, View, Op, Busy, LogEvent, Outcome, Committed, Refused, RunningTxn, Past, Txn, Version, version_or, version_by, active, active_after, ops_after, waiting, waiting_after, chain_after, longer, chain_in, pending_in, DescribesRows, Agree, IsRunning, has_written, grown, written_by, asked, statements_of, RowStates}
+use Rattle.std.proofs.Common.{◌≡◌, ◌∙◌, ℕ, ◌+◌, ◌==◌, ◌||◌, ◌&&◌, Bool, cond, true, false, List, [], ◌∷◌, ◌++◌, map as each, length, reverse, Option, Some, None, refl, sym, ap, subst, arith, inl, inr, is_some, is_none, option_to_list}
+use Rattle.lab_engine.proofs.Common.{none_of, both_ways, cases_eq, eq-eqb, ne_eqb, true≢false, reverse-append, Row, State, Rows, Writes, Statement, Command, Run, View, Op, Busy, Level, LogEvent, Outcome, Listed, Committed, Refused, RunningTxn, SessionState, Past, Txn, Version, version_or, version_by, active, active_after, waiting, waiting_after, chain_after, longer, chain_in, pending_in, DescribesSession, DescribesRows, Agree, IsRunning, has_written, grown, keeps_statements, written_by, statements_of, RowStates}
 use Rattle.std.specs.FinMap as map
 use Rattle.lab_engine.specs.EventQuery.{busy}
+use Rattle.lab_engine.specs.declared.event.EngineFault.{EngineFault}
 
--- ---- the statement that waits
+-- ---- outcomes
 
--- Busy leaves it
-pub busy_keeps : (command : Command) (outcome : Outcome) (held : Option Statement) → busy outcome ≡ true → held ≡ waiting_after command outcome held
-busy_keeps command (Refused Busy) held is = refl
-busy_keeps command other held is = absurd (true≢false (sym is))
-
--- what else comes doesn't ask which one did
-pub others_renew : (command : Command) (outcome : Outcome) (held : Option Statement) → busy outcome ≡ false → waiting_after command outcome None ≡ waiting_after command outcome held
-others_renew command (Refused Busy) held is = absurd (true≢false is)
-others_renew command other held is = refl
+-- after a refusal other than Busy nothing waits
+pub none_waits : (command : Command) (fault : EngineFault) (held : Option Statement) → busy (Refused fault) ≡ false → None ≡ waiting_after command (Refused fault) held
+none_waits command Busy held is = absurd (true≢false is)
+none_waits command other held is = refl
 
 -- ---- one more operation
 
@@ -24,64 +20,69 @@ written_then number place None None = refl
 written_then number place (Some state) None = refl
 written_then number place written old = refl
 
-module _ (txn : Txn) (op : Op) (old new : RunningTxn) (running : IsRunning txn old) where
-  -- the transaction has run a statement more
-  pub runs_on : new.number ≡ old.number → new.before ≡ old.before → statements_of new ≡ statements_of old ++ op.statement ∷ [] → (pending : Row → Option Version)
-      → ((row : Row) → pending row ≡ version_by txn row)
-      → ((row : Row) → has_written new row ≡ (has_written old row || (is_some (map.get op.writes row) && is_none (pending row)))) → IsRunning (grown txn op) new
-  runs_on number before statements pending is written = record {
-    number = number ∙ running.number;
-    before = before ∙ running.before;
-    statements = statements ∙ ap (λ l. l ++ op.statement ∷ []) running.statements ∙ sym (reverse-append (op.statement ∷ []) (each (λ op. op.statement) txn.ops));
-    written = λ row.
-        written row ∙ (λ i. running.written row i || (is_some (map.get op.writes row) && is_none (is row i)))
-        ∙ written_then txn.no (length txn.ops + 1) (map.get op.writes row) (version_by txn row);
-  }
+-- the statements that are kept then
+kept_then : (keeps : Bool) (kept : Option Statement) (s : Statement) (ran : List Statement) → kept ≡ cond keeps (Some s) None
+    → cond keeps (reverse ran) [] ++ option_to_list kept ≡ cond keeps (reverse (s ∷ ran)) []
+kept_then true kept s ran is = ap (λ k. reverse ran ++ option_to_list k) is ∙ sym (reverse-append (s ∷ []) ran)
+kept_then false kept s ran is = ap option_to_list is
 
--- an operation of a statement is one more where the command runs it
-pub ops_run : (command : Command) (s : Statement) (view : View) (rows : Rows) (writes : Writes) (txn : Txn) → asked command ≡ Some s
-    → grown txn (record { statement = s; view = view; rows = rows; writes = writes }) ≡ record { no = txn.no; ops = ops_after command view rows writes txn.ops; before = txn.before }
-ops_run (Run t) s view rows writes txn h = ap (λ o. grown txn (record { statement = o; view = view; rows = rows; writes = writes })) (sym (same_Some t s h))
-ops_run other s view rows writes txn h = cc
-
--- a transaction, if any, after an operation
-abbrev pub after_op : Command → View → Rows → Writes → Option Txn → Option Txn
-after_op command view rows writes txn = option_map (λ t. record { no = t.no; ops = ops_after command view rows writes t.ops; before = t.before }) txn
+-- a transaction has run an operation more
+pub runs_on : (level : Level) (txn : Txn) (op : Op) (old new : RunningTxn) → IsRunning level txn old → new.number ≡ old.number → new.before ≡ old.before → new.operations ≡ old.operations + 1
+    → (kept : Option Statement) → kept ≡ cond (keeps_statements level) (Some op.statement) None → statements_of new ≡ statements_of old ++ option_to_list kept
+    → ((row : Row) → has_written new row ≡ (has_written old row || (is_some (map.get op.writes row) && is_none (version_by txn row)))) → IsRunning level (grown txn op) new
+runs_on level txn op old new running number before more kept is statements written = record {
+  number = number ∙ running.number;
+  before = before ∙ running.before;
+  operations = omega (arith, more, running.operations);
+  statements = statements ∙ ap (λ l. l ++ option_to_list kept) running.statements ∙ kept_then (keeps_statements level) kept op.statement (each (λ op. op.statement) txn.ops) is;
+  written = λ row.
+      written row ∙ ap (λ b. b || (is_some (map.get op.writes row) && is_none (version_by txn row))) (running.written row)
+      ∙ written_then txn.no (length txn.ops + 1) (map.get op.writes row) (version_by txn row);
+}
 
 -- ---- a session that an event is of
 
-module _ (past : Past) (event : LogEvent) (session : ℕ) (own : event.session ≡ session) where
-  is_own : (event.session == session) ≡ true
-  is_own = eq-eqb event.session session own
+module _ {level : Level} (past : Past) (event : LogEvent) (old : SessionState) (rows : RowStates) (place : ℕ) (own : event.session ≡ old.session) (at : place ≡ length past)
+    (is : DescribesSession level past old × DescribesRows past rows) where
+  is_own : (event.session == old.session) ≡ true
+  is_own = eq-eqb event.session old.session own
 
-  -- what it waits with
-  pub waits_then : (next : Option Statement) → next ≡ waiting_after event.command event.outcome (waiting past session) → next ≡ waiting (event ∷ past) session
-  waits_then next is = is ∙ sym (ap (λ b. cond b (waiting_after event.command event.outcome (waiting past session)) (waiting past session)) is_own)
+  -- the session's transaction before and after an outcome
+  abbrev was : Option Txn
+  was = active past old.session
 
-  -- its transaction
-  pub runs_then : (running : Option RunningTxn) → Agree (active_after event.command event.outcome past (active past session)) running → Agree (active (event ∷ past) session) running
-  runs_then running agree = subst (λ b. Agree (cond b (active_after event.command event.outcome past (active past session)) (active past session)) running) (sym is_own) agree
+  abbrev next : Outcome → Option Txn
+  next outcome = active_after event.command outcome past was
 
-  -- the rows
-  pub rows_then : (old new : RowStates) (before : ℕ) → before ≡ length past → DescribesRows past old
-      → ((row : Row) → chain_in new row ≡ chain_after event.outcome (active past session) before row (chain_in old row))
-      → ((row : Row) (n : ℕ) → pending_in new row n ≡ cond (n == session) (written_by (active_after event.command event.outcome past (active past session)) row) (pending_in old row n))
-      → DescribesRows (event ∷ past) new
-  rows_then old new before place is chains pending = record {
-    chains = λ row.
-        chains row ∙ (λ i. chain_after event.outcome (active past ((sym own) i)) (place i) row (is.chains row i));
-    pending = λ row n. pending row n ∙ elim (cases_eq n session) [
-      | inl same ↦
-          ap (λ b. cond b (written_by (active_after event.command event.outcome past (active past session)) row) (pending_in old row n)) (eq-eqb n session same)
-          ∙ ap (λ k. written_by (active_after event.command event.outcome past (active past k)) row) (sym same)
-          ∙ sym (ap (λ b. written_by (cond b (active_after event.command event.outcome past (active past n)) (active past n)) row) (eq-eqb event.session n (own ∙ sym same)))
-      | inr apart ↦
-          ap (λ b. cond b (written_by (active_after event.command event.outcome past (active past session)) row) (pending_in old row n)) (ne_eqb n session apart)
-          ∙ is.pending row n
-          ∙ sym (ap (λ b. written_by (cond b (active_after event.command event.outcome past (active past n)) (active past n)) row)
-          (ne_eqb event.session n (λ same. apart (sym same ∙ own))))
-    ];
-  }
+  -- what is kept of the session and the rows follows an outcome
+  abbrev Follow : Option Statement → Option RunningTxn → RowStates → Outcome → Type 0
+  Follow waits running new outcome = (waits ≡ waiting_after event.command outcome old.waits) × Agree level (next outcome) running
+      × ((row : Row) → chain_in new row ≡ chain_after outcome was place row (chain_in rows row))
+      × ((row : Row) (n : ℕ) → pending_in new row n ≡ cond (n == old.session) (written_by (next outcome) row) (pending_in rows row n))
+
+  -- where they do, they agree with the log with the event
+  pub follows : (waits : Option Statement) (running : Option RunningTxn) (new : RowStates) (outcome : Outcome) → event.outcome ≡ outcome → Follow waits running new outcome
+      → DescribesSession level (event ∷ past) (record { session = old.session; waits = waits; running = running }) × DescribesRows (event ∷ past) new
+  follows waits running new outcome same follow =
+      let f : Follow waits running new event.outcome = subst (Follow waits running new) (sym same) follow in (
+        record {
+          waits = f.0 ∙ ap (waiting_after event.command event.outcome) is.0.waits
+              ∙ sym (ap (λ b. cond b (waiting_after event.command event.outcome (waiting past old.session)) (waiting past old.session)) is_own);
+          running = subst (λ b. Agree level (cond b (next event.outcome) was) running) (sym is_own) f.1;
+        },
+        record {
+          chains = λ row. f.2 row ∙ (λ i. chain_after event.outcome (active past ((sym own) i)) (at i) row (is.1.chains row i));
+          pending = λ row n. f.3 row n ∙ elim (cases_eq n old.session) [
+            | inl same ↦ subst (λ m. cond (m == old.session) (written_by (next event.outcome) row) (pending_in rows row m) ≡ written_by (active (event ∷ past) m) row) (sym same)
+                (ap (λ b. cond b (written_by (next event.outcome) row) (pending_in rows row old.session)) (eq-eqb old.session old.session refl)
+                ∙ sym (ap (λ b. written_by (cond b (next event.outcome) was) row) is_own))
+            | inr apart ↦
+                ap (λ b. cond b (written_by (next event.outcome) row) (pending_in rows row n)) (ne_eqb n old.session apart) ∙ is.1.pending row n
+                ∙ sym (ap (λ b. written_by (cond b (active_after event.command event.outcome past (active past n)) (active past n)) row)
+                (ne_eqb event.session n (λ same. apart (sym same ∙ own))))
+          ];
+        },
+      )
 
 -- ---- a transaction that ends
 
@@ -98,47 +99,40 @@ module _ (rows : RowStates) (session : ℕ) where
   ]
 
   -- what is settled of the rows that it wrote is settled of all
-  pub all_settled : (txn : Option Txn) (running : RunningTxn) → Agree txn (Some running) → IsPending txn → (row : Row) (n : ℕ)
+  pub all_settled : (level : Level) (txn : Option Txn) (running : RunningTxn) → Agree level txn (Some running) → IsPending txn → (row : Row) (n : ℕ)
       → cond (has_written running row && n == session) None (pending_in rows row n) ≡ cond (n == session) None (pending_in rows row n)
-  all_settled None running agree was row n = absurd agree
-  all_settled (Some t) running agree was row n =
+  all_settled level None running agree had row n = absurd agree
+  all_settled level (Some t) running agree had row n =
       elim (has_written running row) as (λ b. has_written running row ≡ b → cond (b && n == session) None (pending_in rows row n) ≡ cond (n == session) None (pending_in rows row n)) [
         | true ↦ λ is. refl
-        | false ↦ λ is. nothing_there row n (was row ∙ none_of (version_by t row) (both_ways _ (sym (agree.written row) ∙ is)))
+        | false ↦ λ is. nothing_there row n (had row ∙ none_of (version_by t row) (both_ways _ (sym (agree.written row) ∙ is)))
       ] refl
 
-  pub none_settled : (txn : Option Txn) → Agree txn None → IsPending txn → (row : Row) (n : ℕ) → pending_in rows row n ≡ cond (n == session) None (pending_in rows row n)
-  none_settled None agree was row n = nothing_there row n (was row)
-  none_settled (Some t) agree was row n = absurd agree
+  pub none_settled : (level : Level) (txn : Option Txn) → Agree level txn None → IsPending txn → (row : Row) (n : ℕ) → pending_in rows row n ≡ cond (n == session) None (pending_in rows row n)
+  none_settled level None agree had row n = nothing_there row n (had row)
+  none_settled level (Some t) agree had row n = absurd agree
 
   -- a commit puts what it wrote onto the chains
-  pub installs_all : (txn : Option Txn) (running : RunningTxn) (place : ℕ) → Agree txn (Some running) → IsPending txn → (row : Row)
+  pub installs_all : (level : Level) (txn : Option Txn) (running : RunningTxn) (place : ℕ) → Agree level txn (Some running) → IsPending txn → (row : Row)
       → cond (has_written running row) (longer running.number place (pending_in rows row session) (chain_in rows row)) (chain_in rows row) ≡ chain_after Committed txn place row (chain_in rows row)
-  installs_all None running place agree was row = absurd agree
-  installs_all (Some t) running place agree was row =
-      (λ i. cond (agree.written row i) (longer (agree.number i) place (was row i) (chain_in rows row)) (chain_in rows row)) ∙ at (version_by t row)
+  installs_all level None running place agree had row = absurd agree
+  installs_all level (Some t) running place agree had row =
+      (λ i. cond (agree.written row i) (longer (agree.number i) place (had row i) (chain_in rows row)) (chain_in rows row)) ∙ at (version_by t row)
     where
       at : (o : Option Version) → cond (is_some o) (longer t.no place o (chain_in rows row)) (chain_in rows row) ≡ longer t.no place o (chain_in rows row)
       at None = refl
       at (Some v) = refl
 
-  pub installs_none : (txn : Option Txn) (place : ℕ) → Agree txn None → (row : Row) → chain_in rows row ≡ chain_after Committed txn place row (chain_in rows row)
-  installs_none None place agree row = refl
-  installs_none (Some t) place agree row = absurd agree
+  pub installs_none : (level : Level) (txn : Option Txn) (place : ℕ) → Agree level txn None → (row : Row) → chain_in rows row ≡ chain_after Committed txn place row (chain_in rows row)
+  installs_none level None place agree row = refl
+  installs_none level (Some t) place agree row = absurd agree
 
 -- ---- after an operation
 
-pub after_none : (command : Command) (view : View) (rows : Rows) (writes : Writes) (txn : Option Txn) → Agree txn None → Agree (after_op command view rows writes txn) None
-after_none command view rows writes None agree = tt
-after_none command view rows writes (Some t) agree = absurd agree
-
 -- a transaction that runs a statement
-pub runs_agree : (command : Command) (s : Statement) (view : View) (rows : Rows) (writes : Writes) (txn : Option Txn) (before : Option RunningTxn) (old new : RunningTxn) → asked command ≡ Some s
-    → before ≡ Some old → Agree txn before → (pending : Row → Option Version) → ((row : Row) → pending row ≡ written_by txn row)
-    → ((t : Txn) (op : Op) → IsRunning t old → ((row : Row) → pending row ≡ version_by t row) → op.statement ≡ s → op.writes ≡ writes → IsRunning (grown t op) new)
-    → Agree (after_op command view rows writes txn) (Some new)
-runs_agree command s view rows writes txn before old new asks is agree pending was run = at txn (subst (λ r. Agree txn r) is agree) was
-  where
-    at : (txn : Option Txn) → Agree txn (Some old) → ((row : Row) → pending row ≡ written_by txn row) → Agree (after_op command view rows writes txn) (Some new)
-    at None agree was = agree
-    at (Some t) agree was = subst (λ k. IsRunning k new) (ops_run command s view rows writes t asks) (run t (record { statement = s; view = view; rows = rows; writes = writes }) agree was refl refl)
+pub runs_agree : (level : Level) (s : Statement) (past : Past) (view : View) (rows : Rows) (writes : Writes) (txn : Option Txn) (old new : RunningTxn) → Agree level txn (Some old)
+    → (pending : Row → Option Version) → ((row : Row) → pending row ≡ written_by txn row)
+    → ((t : Txn) (op : Op) → IsRunning level t old → ((row : Row) → pending row ≡ version_by t row) → op.statement ≡ s → op.writes ≡ writes → IsRunning level (grown t op) new)
+    → Agree level (active_after (Run s) (Listed view rows writes) past txn) (Some new)
+runs_agree level s past view rows writes None old new agree pending had run = absurd agree
+runs_agree level s past view rows writes (Some t) old new agree pending had run = run t (record { statement = s; view = view; rows = rows; writes = writes }) agree had refl refl

@@ -1,16 +1,16 @@
 -- What is kept of the sessions, as a list.
 use Rattle.std.proofs.Common.{◌≡◌, ◌≢◌, ℕ, zero, suc, ◌+◌, ◌-◌, ◌≤◌, ◌<◌, false, cond, List, [], ◌∷◌, map, length, set, get_or, refl, sym, ap, subst, ◌∙◌, arith, ◌==◌, eq-eqb, ne_eqb}
-use Rattle.lab_engine.proofs.Common.{length-map, length-set, get_or-set_same, LogEvent, SessionState, Past, active, active_after, waiting, waiting_after, DescribesSession, DescribesAll, Agree, HasRoom, all_sessions, running_of, ⊤}
+use Rattle.lab_engine.proofs.Common.{length-map, length-set, get_or-set_same, Level, LogEvent, SessionState, Past, active, active_after, waiting, waiting_after, DescribesSession, DescribesAll, Agree, HasRoom, all_sessions, running_of, ⊤}
 use Rattle.std.proofs.Math.Seq.{map-set_same}
 use Rattle.lab_engine.proofs.EventBounds.{has_room}
 
 -- after an event of another session what is kept of a session still agrees
-other_session : (past : Past) (event : LogEvent) (state : SessionState) → event.session ≢ state.session → DescribesSession past state → DescribesSession (event ∷ past) state
-other_session past event state apart is =
+other_session : {level : Level} (past : Past) (event : LogEvent) (state : SessionState) → event.session ≢ state.session → DescribesSession level past state → DescribesSession level (event ∷ past) state
+other_session {level} past event state apart is =
     let other : (event.session == state.session) ≡ false = ne_eqb event.session state.session apart in
     record {
       waits = is.waits ∙ sym (ap (λ b. cond b (waiting_after event.command event.outcome (waiting past state.session)) (waiting past state.session)) other);
-      running = subst (λ b. Agree (cond b (active_after event.command event.outcome past (active past state.session)) (active past state.session)) state.running) (sym other) is.running;
+      running = subst (λ b. Agree level (cond b (active_after event.command event.outcome past (active past state.session)) (active past state.session)) state.running) (sym other) is.running;
     }
 
 -- numbers rise by one from a number on
@@ -26,23 +26,23 @@ all_rise : (states : List SessionState) → map (λ state. state.session) states
 all_rise states is = subst (λ l. NumbersRise 1 l) (sym is) (refl, (refl, (refl, (refl, (refl, (refl, (refl, (refl, (refl, tt)))))))))
 
 -- the states behind a session's
-behind : (past : Past) (event : LogEvent) (n : ℕ) (states : List SessionState) → Rise n states → event.session < n → DescribesAll past states → DescribesAll (event ∷ past) states
-behind past event n [] rise below all = tt
-behind past event n (state ∷ states) rise below all =
-    (other_session past event state (λ same. absurd (omega (arith, same, rise.0, below))) all.0, behind past event (suc n) states rise.1 (omega arith) all.1)
+behind : (level : Level) (past : Past) (event : LogEvent) (n : ℕ) (states : List SessionState) → Rise n states → event.session < n → DescribesAll level past states → DescribesAll level (event ∷ past) states
+behind level past event n [] rise below all = tt
+behind level past event n (state ∷ states) rise below all =
+    (other_session past event state (λ same. absurd (omega (arith, same, rise.0, below))) all.0, behind level past event (suc n) states rise.1 (omega arith) all.1)
 
-set_one : (past : Past) (event : LogEvent) (n k : ℕ) (states : List SessionState) (new : SessionState) → Rise n states → event.session ≡ n + k → DescribesAll past states
-    → DescribesSession (event ∷ past) new → DescribesAll (event ∷ past) (set states k new)
-set_one past event n k [] new rise at all is = tt
-set_one past event n zero (state ∷ states) new rise at all is = (is, behind past event (suc n) states rise.1 (omega arith) all.1)
-set_one past event n (suc k) (state ∷ states) new rise at all is =
-    (other_session past event state (λ same. absurd (omega (arith, same, rise.0, at))) all.0, set_one past event (suc n) k states new rise.1 (omega arith) all.1 is)
+set_one : (level : Level) (past : Past) (event : LogEvent) (n k : ℕ) (states : List SessionState) (new : SessionState) → Rise n states → event.session ≡ n + k → DescribesAll level past states
+    → DescribesSession level (event ∷ past) new → DescribesAll level (event ∷ past) (set states k new)
+set_one level past event n k [] new rise at all is = tt
+set_one level past event n zero (state ∷ states) new rise at all is = (is, behind level past event (suc n) states rise.1 (omega arith) all.1)
+set_one level past event n (suc k) (state ∷ states) new rise at all is =
+    (other_session past event state (λ same. absurd (omega (arith, same, rise.0, at))) all.0, set_one level past event (suc n) k states new rise.1 (omega arith) all.1 is)
 
 -- what is kept of the session at a place agrees with the log
-pub describes_one : (past : Past) (k : ℕ) (states : List SessionState) (d : SessionState) → k < length states → DescribesAll past states → DescribesSession past (get_or states k d)
-describes_one past k [] d few all = absurd (omega arith)
-describes_one past zero (state ∷ states) d few all = all.0
-describes_one past (suc k) (state ∷ states) d few all = describes_one past k states d (omega arith) all.1
+pub describes_one : (level : Level) (past : Past) (k : ℕ) (states : List SessionState) (d : SessionState) → k < length states → DescribesAll level past states → DescribesSession level past (get_or states k d)
+describes_one level past k [] d few all = absurd (omega arith)
+describes_one level past zero (state ∷ states) d few all = all.0
+describes_one level past (suc k) (state ∷ states) d few all = describes_one level past k states d (omega arith) all.1
 
 -- the session at a place
 session_one : (n k : ℕ) (states : List SessionState) (d : SessionState) → Rise n states → k < length states → (get_or states k d).session ≡ n + k
@@ -60,11 +60,11 @@ running_one n (suc k) session (state ∷ states) d rise at few =
     ∙ running_one (suc n) k session states d rise.1 (omega (arith, at)) (omega arith)
 
 -- one state put in the place of another that agrees with the log as well
-same_one : (past : Past) (k : ℕ) (states : List SessionState) (new d : SessionState) → k < length states → (DescribesSession past (get_or states k d) → DescribesSession past new)
-    → DescribesAll past states → DescribesAll past (set states k new)
-same_one past k [] new d few same all = tt
-same_one past zero (state ∷ states) new d few same all = (same all.0, all.1)
-same_one past (suc k) (state ∷ states) new d few same all = (all.0, same_one past k states new d (omega arith) same all.1)
+same_one : (level : Level) (past : Past) (k : ℕ) (states : List SessionState) (new d : SessionState) → k < length states → (DescribesSession level past (get_or states k d) → DescribesSession level past new)
+    → DescribesAll level past states → DescribesAll level past (set states k new)
+same_one level past k [] new d few same all = tt
+same_one level past zero (state ∷ states) new d few same all = (same all.0, all.1)
+same_one level past (suc k) (state ∷ states) new d few same all = (all.0, same_one level past k states new d (omega arith) same all.1)
 
 -- a session's state stands at its number, counted from 1
 module _ (states : List SessionState) (n k : ℕ) (state : SessionState) (sessions : map (λ state. state.session) states ≡ all_sessions) (low : 1 ≤ n) (high : n ≤ 9) (place : k ≡ n - 1)
@@ -73,40 +73,37 @@ module _ (states : List SessionState) (n k : ℕ) (state : SessionState) (sessio
   there = omega (arith, length-map states (λ state. state.session), ap length sessions, place, low, high)
 
   -- what is kept of it has room for one more statement
-  pub room_at : (past : Past) → DescribesAll past states → length past < 100000 → HasRoom state.running
-  room_at past all few = has_room past state (subst (λ s. DescribesSession past s) (sym is) (describes_one past k states state there all)) few
+  pub room_at : (level : Level) (past : Past) → DescribesAll level past states → length past < 100000 → HasRoom state.running
+  room_at level past all few = has_room past state (subst (λ s. DescribesSession level past s) (sym is) (describes_one level past k states state there all)) few
 
   -- the sessions stay
   pub sessions_stay : (new : SessionState) → new.session ≡ state.session → map (λ state. state.session) (set states k new) ≡ all_sessions
   sessions_stay new same = map-set_same (λ state. state.session) states k new state (same ∙ ap (λ s. s.session) is) ∙ sessions
 
-  -- it is described where all are
-  pub described_there : (past : Past) → DescribesAll past states → DescribesSession past state
-  described_there past all = subst (λ s. DescribesSession past s) (sym is) (describes_one past k states state there all)
-
   -- it is the session's
-  pub own_there : (session : ℕ) → n ≡ session → session ≡ state.session
+  own_there : (session : ℕ) → n ≡ session → session ≡ state.session
   own_there session own =
       let number : (get_or states k state).session ≡ 1 + k = session_one 1 k states state (all_rise states sessions) there in
       let there_is : n ≡ (get_or states k state).session = omega (arith, number, place, low) in
       sym own ∙ there_is ∙ ap (λ s. s.session) (sym is)
 
-  -- all states go on with an event where the session's own does
-  pub states_go_on : (past : Past) (event : LogEvent) (new : SessionState) → n ≡ event.session → DescribesAll past states
-      → (DescribesSession past state → event.session ≡ state.session → DescribesSession (event ∷ past) new) → DescribesAll (event ∷ past) (set states k new)
-  states_go_on past event new own all go_on =
-      set_one past event 1 k states new (all_rise states sessions) (omega (arith, own, place, low)) all (go_on (described_there past all) (own_there event.session own))
+  -- all states go on with an event where the session's own does, and something else with it
+  pub states_go_on : {A : Type 0} (level : Level) (past : Past) (event : LogEvent) (new : SessionState) → n ≡ event.session → DescribesAll level past states
+      → (DescribesSession level past state → event.session ≡ state.session → DescribesSession level (event ∷ past) new × A) → DescribesAll level (event ∷ past) (set states k new) × A
+  states_go_on level past event new own all go_on =
+      let next = go_on (subst (λ s. DescribesSession level past s) (sym is) (describes_one level past k states state there all)) (own_there event.session own) in
+      (set_one level past event 1 k states new (all_rise states sessions) (omega (arith, own, place, low)) all next.0, next.1)
 
   -- it has the session's transaction
-  pub running_there : running_of states n ≡ state.running
-  running_there = running_one 1 k n states state (all_rise states sessions) (omega (arith, place, low)) there ∙ ap (λ s. s.running) (sym is)
+  pub running_there : (session : ℕ) → n ≡ session → running_of states session ≡ state.running
+  running_there session own = running_one 1 k session states state (all_rise states sessions) (omega (arith, own, place, low)) there ∙ ap (λ s. s.running) (sym is)
 
   -- all states agree with the log still where another one in its place does
-  pub states_stay : (past : Past) (new : SessionState) → (DescribesSession past state → DescribesSession past new) → DescribesAll past states → DescribesAll past (set states k new)
-  states_stay past new same all = same_one past k states new state there (λ d. same (subst (λ s. DescribesSession past s) (sym is) d)) all
+  pub states_stay : (level : Level) (past : Past) (new : SessionState) → (DescribesSession level past state → DescribesSession level past new) → DescribesAll level past states → DescribesAll level past (set states k new)
+  states_stay level past new same all = same_one level past k states new state there (λ d. same (subst (λ s. DescribesSession level past s) (sym is) d)) all
 
   -- and has its transaction
-  pub running_put : (new : SessionState) → new.session ≡ state.session → running_of (set states k new) n ≡ new.running
-  running_put new same =
-      running_one 1 k n (set states k new) new (all_rise (set states k new) (sessions_stay new same)) (omega (arith, place, low)) (omega (arith, length-set states k new, there))
+  pub running_put : (new : SessionState) → new.session ≡ state.session → (session : ℕ) → n ≡ session → running_of (set states k new) session ≡ new.running
+  running_put new same session own =
+      running_one 1 k session (set states k new) new (all_rise (set states k new) (sessions_stay new same)) (omega (arith, own, place, low)) (omega (arith, length-set states k new, there))
       ∙ ap (λ s. s.running) (get_or-set_same states k new new there)

@@ -1,8 +1,8 @@
 -- Which sessions wait for which after a log.
-use Rattle.std.proofs.Common.{filter, ◌&&◌, ◌≡◌, ◌≢◌, ℕ, ◌+◌, ◌≤◌, ◌<◌, refl, sym, ap, subst, ◌∙◌, cond, List, inl, inr, length, take, get_or, ◌==◌, ◌↔◌, IsTrue, Some, None, Contains, take_all}
+use Rattle.std.proofs.Common.{filter, ◌&&◌, ◌≡◌, ◌≢◌, ℕ, ◌+◌, ◌≤◌, ◌<◌, refl, sym, ap, subst, ◌∙◌, cond, List, inl, inr, length, take, get_or, ◌==◌, ◌↔◌, IsTrue, Some, Contains, take_all}
 use Rattle.std.proofs.lemmas.Map.Views.{any-filter_same}
 use Rattle.lab_engine.proofs.Common.{none_some, and_parts, and_from, list_any, cases_eq, eq-eqb, ne_eqb, eqb-true, or_cases, or_right, or_left, length-map, Table, Statement, some_is, Level, RunningTxn, SessionState, Situation, Past, Txn, active, waiting, BlockedBy, MayAsk, all_sessions, Agree, IsRunning, Describes, DescribesSession, has, waits_for, AreBlockers, WaitsOn, AreWaits, same_Some, Blocks, Any-from_list_any, list_any_at}
-use Rattle.lab_engine.proofs.Describing.{kept_txn, kept_none}
+use Rattle.lab_engine.proofs.Describing.{kept_txn}
 use Rattle.lab_engine.proofs.States.{describes_one}
 use Rattle.lab_engine.specs.Asker.{AreOthers, IsAsker}
 use Rattle.lab_engine.specs.declared.asker.Asker.{Asker}
@@ -13,7 +13,7 @@ pub record StandsAt (states : List SessionState) (i : ℕ) (state : SessionState
   pub lt : i < length states
   pub is : state ≡ get_or states i state
 
-module _ (past : Past) (situation : Situation) (d : Describes past situation) where
+module _ {level : Level} (past : Past) (situation : Situation) (d : Describes level past situation) where
   -- a situation has a state of each of the nine sessions
   nine : length situation.sessions ≡ 9
   nine = sym (length-map situation.sessions (λ state. state.session)) ∙ ap length d.sessions
@@ -27,17 +27,13 @@ module _ (past : Past) (situation : Situation) (d : Describes past situation) wh
   all_passed passed le = subst (λ n. n ≤ passed) (sym nine) le
 
 -- a state of a situation is described
-pub described_at : (past : Past) (situation : Situation) (i : ℕ) (state : SessionState) → Describes past situation → StandsAt situation.sessions i state → DescribesSession past state
-described_at past situation i state d at = subst (DescribesSession past) (sym at.is) (describes_one past i situation.sessions state at.lt d.states)
+pub described_at : {level : Level} (past : Past) (situation : Situation) (i : ℕ) (state : SessionState) → Describes level past situation → StandsAt situation.sessions i state → DescribesSession level past state
+described_at {level} past situation i state d at = subst (DescribesSession level past) (sym at.is) (describes_one level past i situation.sessions state at.lt d.states)
 
 -- the active transaction that a state keeps
-pub running_txn : (past : Past) (state : SessionState) (running : RunningTxn) → DescribesSession past state → state.running ≡ Some running
-    → (txn : Txn) × (active past state.session ≡ Some txn) × IsRunning txn running
-running_txn past state running d is = kept_txn (active past state.session) running (subst (Agree (active past state.session)) is d.running)
-
--- a session whose state keeps none has none
-pub idle : (past : Past) (state : SessionState) → DescribesSession past state → state.running ≡ None → active past state.session ≡ None
-idle past state d none = kept_none (active past state.session) (subst (Agree (active past state.session)) none d.running)
+pub running_txn : {level : Level} (past : Past) (state : SessionState) (running : RunningTxn) → DescribesSession level past state → state.running ≡ Some running
+    → (txn : Txn) × (active past state.session ≡ Some txn) × IsRunning level txn running
+running_txn {level} past state running d is = kept_txn level (active past state.session) running (subst (Agree level (active past state.session)) is d.running)
 
 -- another of which it holds that it blocks the statement of the active transaction blocks it
 pub others_block : (level : Level) (past : Past) (s : Statement) (txn : Txn) (asker : Asker) (set : ℕ) → IsAsker level past txn asker
@@ -60,7 +56,7 @@ chosen_of_all : (set other : ℕ) → list_any (λ k. k == other) (filter (has s
 chosen_of_all set other = any-filter_same (λ k. k == other) (has set) (has set other) (λ k same. ap (has set) (eqb-true k other same)) all_sessions
 
 -- once all are passed, those of a set of all that block are the blockers
-pub blockers_all : (level : Level) (setup : Table) (past : Past) (situation : Situation) (session : ℕ) (s : Statement) (passed set : ℕ) (on : List ℕ) → Describes past situation
+pub blockers_all : (level : Level) (setup : Table) (past : Past) (situation : Situation) (session : ℕ) (s : Statement) (passed set : ℕ) (on : List ℕ) → Describes level past situation
     → length situation.sessions ≤ passed → ((other : ℕ) → IsTrue (has set other) ↔ BlockedBy level setup past session s other)
     → on ≡ sessions_of (filter (λ state. has set state.session) (take passed situation.sessions)) → AreBlockers level setup past session s on
 blockers_all level setup past situation session s passed set on d all blocking h = subst (AreBlockers level setup past session s) (sym is) (record {
@@ -122,12 +118,12 @@ waits_step level setup past states i state waits new set lt is h own with_one se
 ]
 
 -- a session that waits has a state
-pub waiter_there : (past : Past) (situation : Situation) (session : ℕ) (s : Statement) → Describes past situation → waiting past session ≡ Some s
+pub waiter_there : {level : Level} (past : Past) (situation : Situation) (session : ℕ) (s : Statement) → Describes level past situation → waiting past session ≡ Some s
     → Contains (sessions_of situation.sessions) session
 waiter_there past situation session s d is = subst (λ xs. Contains xs session) (sym d.sessions) (d.waiting_is session (some_is (waiting past session) s is))
 
 -- once all are passed, the graph has all
-pub waits_all : (level : Level) (setup : Table) (past : Past) (situation : Situation) (passed : ℕ) (waits : List ℕ) → Describes past situation → length situation.sessions ≤ passed
+pub waits_all : (level : Level) (setup : Table) (past : Past) (situation : Situation) (passed : ℕ) (waits : List ℕ) → Describes level past situation → length situation.sessions ≤ passed
     → AreWaitsOf level setup past (take passed situation.sessions) waits → AreWaits level setup past waits
 waits_all level setup past situation passed waits d all h session other = (
   (λ w. ((h session other).0 w).1),

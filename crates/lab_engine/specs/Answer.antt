@@ -40,5 +40,5 @@ HasPlacesOfEnds past places = length past + active_among past all_sessions ≤ p
 -- what is kept beside a log agrees with it: the session that is retryable, where the log leaves its sessions and rows, and the room for events
 pub record Keeps (level : Level) (setup : Table) (past : Past) (choice : Option ℕ) (kept : Situation) (places : ℕ) : Type 0 where
   pub retryable : IsRetryChoice level setup past choice
-  pub situation : Describes past kept
+  pub situation : Describes level past kept
   pub places_of_ends : HasPlacesOfEnds past places

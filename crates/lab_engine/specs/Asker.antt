@@ -22,9 +22,9 @@ seen_in asker row = unwrap_or (seen_over asker.situation.now.rows asker.session 
 
 -- a session asks after a log, with this active transaction at a level
 pub record IsAsker (level : Level) (past : Past) (txn : Txn) (asker : Asker) : Type 0 where
-  pub situation : Describes past asker.situation.now
+  pub situation : Describes level past asker.situation.now
   pub active : active past asker.session ≡ Some txn
-  pub running : IsRunning txn asker.running.now
+  pub running : IsRunning level txn asker.running.now
   pub sees_before : asker.sees_before ≡ length (sight level past txn)
 
 -- a set has the other sessions of whose active transaction this holds

@@ -34,8 +34,8 @@ pub fn answer_to<R: Rules>(
     session: Session,
     command: &Command,
 ) -> Result<Outcome, NoMemory>
-    requires { (past : Past) × Describes past situation.now × (length past < max_events) }
-    ensures answer { (past : Past) → Describes past situation.now → MayGive past session command.now
+    requires { (past : Past) × Describes R.kind past situation.now × (length past < max_events) }
+    ensures answer { (past : Past) → Describes R.kind past situation.now → MayGive past session command.now
         → IfOk result (Answers R.kind setup.now past session command.now) }
     ensures err { OnErr result (IsSome (asked command.now)) }
 {
@@ -59,8 +59,8 @@ pub fn answer_to<R: Rules>(
 
 /// What the rules answer to a command of a session that has no active transaction.
 fn without_transaction(situation: &Situation, session: Session, command: &Command) -> Outcome
-    requires { (past : Past) × Describes past situation.now × (length past < max_events) }
-    ensures { (level : Kind) (setup : PlainTable) (past : Past) → Describes past situation.now → active past session ≡ None
+    requires { (level : Kind) × (past : Past) × Describes level past situation.now × (length past < max_events) }
+    ensures { (level : Kind) (setup : PlainTable) (past : Past) → Describes level past situation.now → active past session ≡ None
         → Answers level setup past session command.now result }
 {
     match command {

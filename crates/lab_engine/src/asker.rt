@@ -42,7 +42,7 @@ impl<'a> Asker<'a> {
     ) -> Asker<'a>
         ensures setup { result.setup.now ≡ setup.now }
         ensures session { result.session ≡ session }
-        ensures is { (past : Past) (txn : Txn) → Describes past situation.now → active past session ≡ Some txn → IsRunning txn running.now
+        ensures is { (past : Past) (txn : Txn) → Describes R.kind past situation.now → active past session ≡ Some txn → IsRunning R.kind txn running.now
             → IsAsker R.kind past txn result }
     {
         let sees_before = if rules.sees_as_of_begin() {

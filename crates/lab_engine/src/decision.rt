@@ -4,6 +4,7 @@ ghost use Rattle.std.specs.Prelude.{◌≡◌, ◌<◌, Some, length, IsSome, If
 ghost use Rattle.lab_table.specs.declared.statement.Statement.{Statement as Asked};
 ghost use Rattle.lab_table.specs.declared.statement.Command.TheVariants.{Run};
 ghost use Rattle.lab_engine.specs.declared.event.EngineFault.TheVariants.{Busy};
+ghost use Rattle.lab_engine.specs.declared.event.Level.{Level as Kind};
 ghost use Rattle.lab_engine.specs.declared.event.Outcome.TheVariants.{Refused};
 ghost use Rattle.lab_engine.specs.Limits.{max_events};
 ghost use Rattle.lab_engine.specs.Log.{Past, asked, waiting};
@@ -28,10 +29,10 @@ pub fn step_outcome<R: Rules>(
     session: Session,
     command: &Command,
 ) -> Result<Outcome, NoMemory>
-    requires { (past : Past) × Describes past situation.now × (length past < max_events) }
-    ensures permitted { (past : Past) → Describes past situation.now → IfOk result (Permitted R.kind setup.now past session command.now) }
-    ensures least { (past : Past) → Describes past situation.now → IfOk result (NamesLeastOf R.kind setup.now past session command.now) }
-    ensures busy { (past : Past) → Describes past situation.now → IfOk result (λ outcome. IsSome (waiting past session) → outcome ≡ Refused Busy) }
+    requires { (past : Past) × Describes R.kind past situation.now × (length past < max_events) }
+    ensures permitted { (past : Past) → Describes R.kind past situation.now → IfOk result (Permitted R.kind setup.now past session command.now) }
+    ensures least { (past : Past) → Describes R.kind past situation.now → IfOk result (NamesLeastOf R.kind setup.now past session command.now) }
+    ensures busy { (past : Past) → Describes R.kind past situation.now → IfOk result (λ outcome. IsSome (waiting past session) → outcome ≡ Refused Busy) }
     ensures err { OnErr result (IsSome (asked command.now)) }
 {
     if situation.is_waiting(session) {
@@ -59,8 +60,8 @@ pub fn waiting_command(
     situation: &Situation,
     session: Session,
 ) -> Result<Command, NoMemory>
-    requires { (past : Past) × Describes past situation.now × IsSome (waiting past session) }
-    ensures { (past : Past) → Describes past situation.now
+    requires { (level : Kind) × (past : Past) × Describes level past situation.now × IsSome (waiting past session) }
+    ensures { (level : Kind) (past : Past) → Describes level past situation.now
         → IfOk result (λ command. (s : Asked) × (waiting past session ≡ Some s) × (command ≡ Run s)) }
 {
     let Some(statement) = situation.waiting(session) else {

@@ -92,8 +92,10 @@ impl<R: Rules> Journal<R> {
             outcome,
         };
         reserve_place(&mut self.log, &event)?;
-        let copies = self.situation.reserve(alloc, &event)?;
-        self.situation.take_in(alloc, &event, copies);
+        let mut kept = self
+            .situation
+            .reserve(alloc, &event, self.rules.keeps_statements())?;
+        self.situation.take_in(alloc, &event, &mut kept);
         self.retryable = retryable_after(
             &self.rules,
             &self.setup,
@@ -132,7 +134,7 @@ fn retryable_after<R: Rules>(
     before: Option<Session>,
     event: &LogEvent,
 ) -> Option<Session>
-    ensures { (past : Past) → Describes (event.now ∷ past) situation.now
+    ensures { (past : Past) → Describes R.kind (event.now ∷ past) situation.now
         → Permitted R.kind setup.now past event.now.session event.now.command event.now.outcome → IsRetryChoice R.kind setup.now past before
         → IsRetryChoice R.kind setup.now (event.now ∷ past) result }
 {

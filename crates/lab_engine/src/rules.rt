@@ -7,6 +7,7 @@ ghost use Rattle.lab_engine.specs.Asker as plain;
 ghost use Rattle.lab_engine.specs.Asker.{AreOthers, IsAsker};
 ghost use Rattle.lab_engine.specs.Rules.{Blocks, MayCommit};
 ghost use Rattle.lab_engine.specs.Sight.{IsFirstConflict};
+ghost use Rattle.lab_engine.specs.Situation as kept;
 
 use crate::asker::Asker;
 use crate::event::Level;
@@ -35,6 +36,10 @@ pub trait Rules: Default {
     /// Whether a transaction sees the commits as of its begin, and not as of now.
     fn sees_as_of_begin(&self) -> bool
         ensures { result ≡ plain.sees_as_of_begin kind };
+
+    /// Whether the statements that active transactions have run are kept, for `blockers` to ask.
+    fn keeps_statements(&self) -> bool
+        ensures { result ≡ kept.keeps_statements kind };
 
     /// The sessions that block a statement.
     fn blockers(&self, asker: &Asker, statement: &Statement) -> SessionSet

@@ -1,22 +1,23 @@
 //! What is kept of a session.
 
-ghost use Rattle.std.specs.Prelude.{◌≡◌, ◌==◌, ◌<◌, ◌+◌, ◌∷◌, ℕ, [], None, Some, Option, false, cond, length, option_map, IfOk, OnOk, OnErr};
-ghost use Rattle.std.specs.Option.{option_or};
+ghost use Rattle.std.specs.Prelude.{◌≡◌, ◌==◌, ◌<◌, ◌≤◌, ◌+◌, ◌++◌, ◌∷◌, ℕ, [], None, Some, Option, true, false, cond, is_some, length, IfOk, OnOk, OnErr};
+ghost use Rattle.std.specs.Option.{option_or, option_to_list};
+ghost use Rattle.std.specs.Vec.{vec_capacity};
 ghost use Rattle.std.specs.FinMap as map;
 ghost use Rattle.lab_table.specs.Row.{Row};
 ghost use Rattle.lab_table.specs.Table.{Rows};
-ghost use Rattle.lab_table.specs.declared.statement.Command.{Command as Asked};
 ghost use Rattle.lab_history.specs.VersionName.{View};
 ghost use Rattle.lab_history.specs.declared.operation.Op.{Op};
 ghost use Rattle.lab_history.specs.declared.operation.VersionName.TheVariants.{Of};
-ghost use Rattle.lab_engine.specs.declared.event.Outcome.TheVariants.{Committed};
+ghost use Rattle.lab_engine.specs.declared.event.Level.{Level as Kind};
+ghost use Rattle.lab_engine.specs.declared.event.Outcome.TheVariants.{Committed, Rows as Listed};
 ghost use Rattle.lab_engine.specs.Limits.{max_events};
-ghost use Rattle.lab_engine.specs.Log.{Past, Txn, asked, active_after, ops_after, version_by, waiting_after};
+ghost use Rattle.lab_engine.specs.Log.{Past, Txn, active_after, asked, version_by};
 ghost use Rattle.lab_engine.specs.Chains.{chain_after};
 ghost use Rattle.lab_engine.specs.EventQuery.{is_ending};
 ghost use Rattle.lab_engine.specs.KeptRows.{chain_in, pending_in, AreReady};
 ghost use Rattle.lab_engine.specs.Merging.{written_version};
-ghost use Rattle.lab_engine.specs.Situation.{DescribesSession, DescribesRows, Agree, IsRunning, HasRoom, HasPlaces, HoldsOutcome, AreCopies, grown, ran, written_by};
+ghost use Rattle.lab_engine.specs.Situation.{DescribesSession, DescribesRows, Agree, IsRunning, HasRoom, HasPlaces, HoldsOutcome, grown, keeps_statements, kept_of, written_by};
 
 use crate::event::{LogEvent, Outcome};
 use crate::event_query::{is_busy, is_fatal_fault};
@@ -32,7 +33,9 @@ pub struct RunningTxn {
     pub number: TxnNo,
     /// How many events stand before its begin.
     pub before: usize,
-    /// The statements that it ran, in order.
+    /// How many operations it has run.
+    pub operations: u32,
+    /// The statements that it ran, in order, where the level asks for them; else none.
     pub statements: Vec<Statement>,
     /// The rows that it wrote, each once.
     pub written: Vec<RowName>,
@@ -48,41 +51,36 @@ pub struct SessionState {
     pub running: Option<RunningTxn>,
 }
 
-/// Copies of the statement of an event, as they are kept after it.
-#[derive(Drop)]
-pub struct Copies {
-    /// The statement that ran, if one did.
-    pub ran: Option<Statement>,
-    /// The statement that waits, if it does.
-    pub waits: Option<Statement>,
+/// A copy of the statement of an event, where it is kept behind it: one that ran, where those are kept, or one that
+/// waits. NoMemory where an allocation was refused; a transaction's end takes no memory.
+pub(crate) fn kept_copy(
+    alloc: Global,
+    event: &LogEvent,
+    keeps: bool,
+) -> Result<Option<Statement>, NoMemory>
+    ensures copy { IfOk result (λ kept. kept ≡ kept_of keeps event.now.command event.now.outcome) }
+    ensures err { OnErr result (is_ending event.now.outcome ≡ false) }
+{
+    match &event.outcome {
+        Outcome::Rows { .. } => {
+            if keeps {
+                copy_asked(alloc, &event.command)
+            } else {
+                Ok(None)
+            }
+        }
+        Outcome::Waits { .. } => copy_asked(alloc, &event.command),
+        _ => Ok(None),
+    }
 }
 
-impl Copies {
-    /// Those of an event. NoMemory where an allocation was refused; a transaction's end takes no memory.
-    pub(crate) fn of(alloc: Global, event: &LogEvent) -> Result<Copies, NoMemory>
-        ensures copies { IfOk result (AreCopies event.now) }
-        ensures err { OnErr result (is_ending event.now.outcome ≡ false) }
-    {
-        let Command::Run(statement) = &event.command else {
-            return Ok(Copies {
-                ran: None,
-                waits: None,
-            });
-        };
-        match &event.outcome {
-            Outcome::Rows { .. } => Ok(Copies {
-                ran: Some(statement.copy(alloc)?),
-                waits: None,
-            }),
-            Outcome::Waits { .. } => Ok(Copies {
-                ran: None,
-                waits: Some(statement.copy(alloc)?),
-            }),
-            _ => Ok(Copies {
-                ran: None,
-                waits: None,
-            }),
-        }
+/// A copy of what a command asks for, if it is a statement. NoMemory where an allocation was refused.
+fn copy_asked(alloc: Global, command: &Command) -> Result<Option<Statement>, NoMemory>
+    ensures { IfOk result (λ copy. copy ≡ asked command.now) }
+{
+    match command {
+        Command::Run(statement) => Ok(Some(statement.copy(alloc)?)),
+        _ => Ok(None),
     }
 }
 
@@ -100,187 +98,181 @@ impl SessionState {
         }
     }
 
-    /// Makes room for what an event of the session keeps of its transaction. NoMemory where an allocation was refused.
-    pub(crate) fn reserve(&mut self, writes: &Writes) -> Result<(), NoMemory>
+    /// Makes room for what an event of the session keeps of its transaction: of its statement if `keeps`, and of what it
+    /// writes. NoMemory where an allocation was refused.
+    pub(crate) fn reserve(&mut self, keeps: bool, writes: &Writes) -> Result<(), NoMemory>
         ensures session { self.new.session ≡ self.old.session }
-        ensures same { (past : Past) → DescribesSession past self.old → DescribesSession past self.new }
-        ensures places { OnOk result (HasPlaces self.new.running writes.now) }
+        ensures same { (level : Kind) (past : Past) → DescribesSession level past self.old → DescribesSession level past self.new }
+        ensures places { OnOk result (HasPlaces keeps self.new.running writes.now) }
     {
         match &mut self.running {
-            Some(running) => running.reserve(writes),
+            Some(running) => running.reserve(keeps, writes),
             None => Ok(()),
         }
     }
 
-    /// Goes on by one event of the session, with so many events before it, and so do the rows. It takes no memory.
+    /// Goes on by one event of the session, with so many events before it, and so do the rows. What is kept of its
+    /// statement is taken. It takes no memory.
     pub(crate) fn take_in(
         &mut self,
         alloc: Global,
         rows: &mut RowStates,
         event: &LogEvent,
-        copies: Copies,
+        kept: &mut Option<Statement>,
         before: usize,
     )
         requires few { HasRoom self.old.running }
-        requires room { HoldsOutcome event.now.outcome self.old.running rows.old }
-        requires copies { AreCopies event.now copies }
+        requires room { HoldsOutcome (is_some kept.old) event.now.outcome self.old.running rows.old }
         ensures session { self.new.session ≡ self.old.session }
-        ensures state { (past : Past) → DescribesSession past self.old → event.now.session ≡ self.old.session → before ≡ length past
-            → DescribesRows past rows.old → DescribesSession (event.now ∷ past) self.new }
-        ensures rows { (past : Past) → DescribesSession past self.old → event.now.session ≡ self.old.session → before ≡ length past
-            → DescribesRows past rows.old → DescribesRows (event.now ∷ past) rows.new }
+        ensures goes_on { (level : Kind) (past : Past) → kept.old ≡ kept_of (keeps_statements level) event.now.command event.now.outcome
+            → event.now.session ≡ self.old.session → before ≡ length past → DescribesSession level past self.old × DescribesRows past rows.old
+            → DescribesSession level (event.now ∷ past) self.new × DescribesRows (event.now ∷ past) rows.new }
     {
-        self.waits = waits_next(self.waits.take(), event, copies.waits);
-        let mut statement = copies.ran;
-        self.running = running_next(
-            alloc,
-            rows,
-            self.session,
-            self.running.take(),
-            event,
-            &mut statement,
-            before,
-        );
+        if is_busy(&event.outcome) {
+            return;
+        }
+        self.waits = None;
+        match &event.outcome {
+            Outcome::Begun(number) => {
+                give_up(rows, self.session, &self.running);
+                self.running = Some(RunningTxn::begin(alloc, *number, before));
+            }
+            Outcome::Rows { writes, .. } => run_in(
+                rows,
+                self.session,
+                &mut self.running,
+                &event.command,
+                kept,
+                writes,
+            ),
+            Outcome::Committed => {
+                install(rows, self.session, &self.running, before);
+                self.running = None;
+            }
+            Outcome::Aborted => {
+                give_up(rows, self.session, &self.running);
+                self.running = None;
+            }
+            Outcome::Waits { .. } => self.waits = kept.take(),
+            Outcome::Refused(fault) => {
+                if is_fatal_fault(fault) {
+                    give_up(rows, self.session, &self.running);
+                    self.running = None;
+                }
+            }
+        }
     }
 }
 
 impl RunningTxn {
     /// A transaction that begins, with so many events before; it takes no memory.
     fn begin(alloc: Global, number: TxnNo, before: usize) -> RunningTxn
-        ensures { (past : Past) → before ≡ length past → IsRunning (record { no = number; ops = []; before = past }) result }
+        ensures { (level : Kind) (past : Past) → before ≡ length past → IsRunning level (record { no = number; ops = []; before = past }) result }
     {
         RunningTxn {
             number,
             before,
+            operations: 0,
             statements: Vec::new(alloc),
             written: Vec::new(alloc),
         }
     }
 
-    /// Makes room for one more statement and the rows that it writes. NoMemory where an allocation was refused.
-    fn reserve(&mut self, writes: &Writes) -> Result<(), NoMemory>
+    /// Makes room for one more statement, if it is kept, and the rows that it writes. NoMemory where an allocation was
+    /// refused.
+    fn reserve(&mut self, keeps: bool, writes: &Writes) -> Result<(), NoMemory>
         ensures number { self.new.number ≡ self.old.number }
         ensures before { self.new.before ≡ self.old.before }
+        ensures operations { self.new.operations ≡ self.old.operations }
         ensures statements { self.new.statements.items ≡ self.old.statements.items }
         ensures written { self.new.written.items ≡ self.old.written.items }
-        ensures places { OnOk result (HasPlaces (Some self.new) writes.now) }
+        ensures places { OnOk result (HasPlaces keeps (Some self.new) writes.now) }
     {
-        self.statements.try_reserve(1)?;
+        reserve_one(&mut self.statements, keeps)?;
         self.written.try_reserve(writes.entries().len())
     }
 
-    /// Goes on by an operation of its session, and so do the rows.
-    fn run(&mut self, rows: &mut RowStates, session: Session, statement: Statement, writes: &Writes)
-        requires few { length self.old.statements.items < max_events }
-        requires places { HasPlaces (Some self.old) writes.now }
+    /// Goes on by an operation of its session, of whose statement this is kept, and so do the rows.
+    fn run(
+        &mut self,
+        rows: &mut RowStates,
+        session: Session,
+        kept: Option<Statement>,
+        writes: &Writes,
+    )
+        requires few { self.old.operations < max_events }
+        requires places { HasPlaces (is_some kept) (Some self.old) writes.now }
         requires ready { AreReady rows.old writes.now }
-        ensures txn { (txn : Txn) (op : Op) → IsRunning txn self.old → ((row : Row) → pending_in rows.old row session ≡ version_by txn row)
-            → op.statement ≡ statement → op.writes ≡ writes.now → IsRunning (grown txn op) self.new }
+        ensures txn { (level : Kind) (txn : Txn) (op : Op) → IsRunning level txn self.old → ((row : Row) → pending_in rows.old row session ≡ version_by txn row)
+            → kept ≡ cond (keeps_statements level) (Some op.statement) None → op.writes ≡ writes.now → IsRunning level (grown txn op) self.new }
         ensures chain { (row : Row) → chain_in rows.new row ≡ chain_in rows.old row }
         ensures pending { (row : Row) (n : ℕ) → pending_in rows.new row n ≡ cond (n == session)
-            (option_or (written_version (Of self.old.number (length self.old.statements.items + 1)) (map.get writes.now row)) (pending_in rows.old row n)) (pending_in rows.old row n) }
+            (option_or (written_version (Of self.old.number (self.old.operations + 1)) (map.get writes.now row)) (pending_in rows.old row n)) (pending_in rows.old row n) }
     {
+        self.operations += 1;
         let name = VersionName::Of {
             txn: self.number,
-            op: self.statements.len() as u32 + 1,
+            op: self.operations,
         };
         rows.note_new(session, writes, &mut self.written);
         rows.hold_each(session, name, writes);
-        self.statements.push_reserved(statement);
+        keep(&mut self.statements, kept);
     }
 }
 
-/// The statement that an event's session waits with after it.
-fn waits_next(
-    held: Option<Statement>,
-    event: &LogEvent,
-    waits: Option<Statement>,
-) -> Option<Statement>
-    requires { waits ≡ waiting_after event.now.command event.now.outcome None }
-    ensures { result ≡ waiting_after event.now.command event.now.outcome held }
+/// Makes room for one more statement, if it is kept. NoMemory where an allocation was refused.
+fn reserve_one(statements: &mut Vec<Statement>, keeps: bool) -> Result<(), NoMemory>
+    ensures items { statements.new.items ≡ statements.old.items }
+    ensures place { OnOk result (keeps ≡ true → length statements.new.items + 1 ≤ vec_capacity statements.new) }
 {
-    if is_busy(&event.outcome) { held } else { waits }
-}
-
-/// The active transaction of an event's session after it; the rows go on by the event.
-fn running_next(
-    alloc: Global,
-    rows: &mut RowStates,
-    session: Session,
-    running: Option<RunningTxn>,
-    event: &LogEvent,
-    statement: &mut Option<Statement>,
-    before: usize,
-) -> Option<RunningTxn>
-    requires few { HasRoom running }
-    requires room { HoldsOutcome event.now.outcome running rows.old }
-    requires statement { statement.old ≡ ran event.now.command event.now.outcome }
-    ensures txn { (past : Past) (txn : Option Txn) → Agree txn running → before ≡ length past → ((row : Row) → pending_in rows.old row session ≡ written_by txn row)
-        → Agree (active_after event.now.command event.now.outcome past txn) result }
-    ensures chain { (txn : Option Txn) → Agree txn running → ((row : Row) → pending_in rows.old row session ≡ written_by txn row)
-        → (row : Row) → chain_in rows.new row ≡ chain_after event.now.outcome txn before row (chain_in rows.old row) }
-    ensures pending { (past : Past) (txn : Option Txn) → Agree txn running → ((row : Row) → pending_in rows.old row session ≡ written_by txn row)
-        → (row : Row) (n : ℕ) → pending_in rows.new row n ≡ cond (n == session) (written_by (active_after event.now.command event.now.outcome past txn) row) (pending_in rows.old row n) }
-{
-    match &event.outcome {
-        Outcome::Begun(number) => {
-            give_up(rows, session, running);
-            Some(RunningTxn::begin(alloc, *number, before))
-        }
-        Outcome::Rows { writes, .. } => run_in(rows, session, running, statement, writes),
-        Outcome::Committed => {
-            install(rows, session, running, before);
-            None
-        }
-        Outcome::Aborted => {
-            give_up(rows, session, running);
-            None
-        }
-        Outcome::Waits { .. } => running,
-        Outcome::Refused(fault) => {
-            if is_fatal_fault(fault) {
-                give_up(rows, session, running);
-                None
-            } else {
-                running
-            }
-        }
+    if keeps {
+        statements.try_reserve(1)
+    } else {
+        Ok(())
     }
 }
 
-/// The active transaction, if any, after an operation; the rows go on by it.
+/// Puts a statement, if there is one, behind others.
+fn keep(statements: &mut Vec<Statement>, kept: Option<Statement>)
+    requires { is_some kept ≡ true → length statements.old.items + 1 ≤ vec_capacity statements.old }
+    ensures { statements.new.items ≡ statements.old.items ++ option_to_list kept }
+{
+    if let Some(statement) = kept {
+        statements.push_reserved(statement);
+    }
+}
+
+/// An active transaction, if there is one, goes on by an operation of its session, and so do the rows. What is kept of
+/// its statement is taken.
 fn run_in(
     rows: &mut RowStates,
     session: Session,
-    running: Option<RunningTxn>,
-    statement: &mut Option<Statement>,
+    running: &mut Option<RunningTxn>,
+    command: &Command,
+    kept: &mut Option<Statement>,
     writes: &Writes,
-) -> Option<RunningTxn>
-    requires few { HasRoom running }
-    requires places { HasPlaces running writes.now }
+)
+    requires few { HasRoom running.old }
+    requires places { HasPlaces (is_some kept.old) running.old writes.now }
     requires ready { AreReady rows.old writes.now }
-    ensures txn { (command : Asked) (txn : Option Txn) (view : View) (lists : Rows) → Agree txn running → ((row : Row) → pending_in rows.old row session ≡ written_by txn row)
-        → statement.old ≡ asked command
-        → Agree (option_map (λ t. record { no = t.no; ops = ops_after command view lists writes.now t.ops; before = t.before }) txn) result }
+    ensures txn { (level : Kind) (past : Past) (txn : Option Txn) (view : View) (lists : Rows) → Agree level txn running.old → ((row : Row) → pending_in rows.old row session ≡ written_by txn row)
+        → kept.old ≡ cond (keeps_statements level) (asked command.now) None → Agree level (active_after command.now (Listed view lists writes.now) past txn) running.new }
     ensures chain { (row : Row) → chain_in rows.new row ≡ chain_in rows.old row }
-    ensures pending { (command : Asked) (txn : Option Txn) (view : View) (lists : Rows) → Agree txn running → ((row : Row) → pending_in rows.old row session ≡ written_by txn row)
-        → statement.old ≡ asked command → (row : Row) (n : ℕ) → pending_in rows.new row n
-        ≡ cond (n == session) (written_by (option_map (λ t. record { no = t.no; ops = ops_after command view lists writes.now t.ops; before = t.before }) txn) row) (pending_in rows.old row n) }
+    ensures pending { (level : Kind) (past : Past) (txn : Option Txn) (view : View) (lists : Rows) → Agree level txn running.old → ((row : Row) → pending_in rows.old row session ≡ written_by txn row)
+        → (row : Row) (n : ℕ) → pending_in rows.new row n ≡ cond (n == session) (written_by (active_after command.now (Listed view lists writes.now) past txn) row) (pending_in rows.old row n) }
 {
-    let Some(mut active) = running else {
-        return None;
+    let Command::Run(_) = command else {
+        return;
     };
-    let Some(statement) = statement.take() else {
-        return Some(active);
-    };
-    active.run(rows, session, statement, writes);
-    Some(active)
+    if let Some(running) = running {
+        running.run(rows, session, kept.take(), writes);
+    }
 }
 
 /// Gives up what a session's transaction, if it has one, has pending.
-fn give_up(rows: &mut RowStates, session: Session, running: Option<RunningTxn>)
+fn give_up(rows: &mut RowStates, session: Session, running: &Option<RunningTxn>)
     ensures chain { (row : Row) → chain_in rows.new row ≡ chain_in rows.old row }
-    ensures pending { (txn : Option Txn) → Agree txn running → ((row : Row) → pending_in rows.old row session ≡ written_by txn row)
+    ensures pending { (level : Kind) (txn : Option Txn) → Agree level txn running.now → ((row : Row) → pending_in rows.old row session ≡ written_by txn row)
         → (row : Row) (n : ℕ) → pending_in rows.new row n ≡ cond (n == session) None (pending_in rows.old row n) }
 {
     if let Some(running) = running {
@@ -289,10 +281,10 @@ fn give_up(rows: &mut RowStates, session: Session, running: Option<RunningTxn>)
 }
 
 /// Installs what a session's transaction, if it has one, has pending, by a commit with so many events before it.
-fn install(rows: &mut RowStates, session: Session, running: Option<RunningTxn>, before: usize)
-    ensures chain { (txn : Option Txn) → Agree txn running → ((row : Row) → pending_in rows.old row session ≡ written_by txn row)
+fn install(rows: &mut RowStates, session: Session, running: &Option<RunningTxn>, before: usize)
+    ensures chain { (level : Kind) (txn : Option Txn) → Agree level txn running.now → ((row : Row) → pending_in rows.old row session ≡ written_by txn row)
         → (row : Row) → chain_in rows.new row ≡ chain_after Committed txn before row (chain_in rows.old row) }
-    ensures pending { (txn : Option Txn) → Agree txn running → ((row : Row) → pending_in rows.old row session ≡ written_by txn row)
+    ensures pending { (level : Kind) (txn : Option Txn) → Agree level txn running.now → ((row : Row) → pending_in rows.old row session ≡ written_by txn row)
         → (row : Row) (n : ℕ) → pending_in rows.new row n ≡ cond (n == session) None (pending_in rows.old row n) }
 {
     if let Some(running) = running {

@@ -2,15 +2,16 @@
 
 ghost use Rattle.std.specs.Prelude.{◌≡◌, ◌<◌, ◌≤◌, [], ◌∷◌, false, length, option_map, is_some, Contains, IfOk, OnOk, OnErr};
 ghost use Rattle.std.specs.Prelude as list;
+ghost use Rattle.lab_engine.specs.declared.event.Level.{Level as Kind};
 ghost use Rattle.lab_engine.specs.Limits.{max_events};
 ghost use Rattle.lab_engine.specs.Log.{Past, active, waiting, begun_after};
 ghost use Rattle.lab_engine.specs.EventQuery.{is_ending};
 ghost use Rattle.lab_engine.specs.KeptRows.{AreReady};
-ghost use Rattle.lab_engine.specs.Situation.{Describes, DescribesAll, DescribesRows, HoldsOutcome, HasPlaces, AreCopies, all_sessions, running_of, waiting_of};
+ghost use Rattle.lab_engine.specs.Situation.{Describes, DescribesAll, DescribesRows, HoldsOutcome, HasPlaces, all_sessions, keeps_statements, kept_of, running_of, waiting_of};
 
 use crate::event::{LogEvent, Outcome};
 use crate::row_states::RowStates;
-use crate::session_state::{Copies, RunningTxn, SessionState};
+use crate::session_state::{RunningTxn, SessionState, kept_copy};
 use lab_history::Writes;
 use lab_table::{NoMemory, Session, Statement};
 use std::alloc::Global;
@@ -31,7 +32,7 @@ pub struct Situation {
 impl Situation {
     /// The situation before any event; it takes no memory.
     pub(crate) fn new(alloc: Global) -> Situation
-        ensures { Describes [] result }
+        ensures { (level : Kind) → Describes level [] result }
     {
         Situation {
             sessions: idle_sessions(),
@@ -50,67 +51,73 @@ impl Situation {
 
     /// The statement that a session waits with, or None where it doesn't wait.
     pub fn waiting(&self, session: Session) -> Option<&Statement>
-        ensures { (past : Past) → Describes past self.now → option_map (λ s. s.now) result ≡ waiting past session }
+        ensures { (level : Kind) (past : Past) → Describes level past self.now → option_map (λ s. s.now) result ≡ waiting past session }
     {
         waiting_in(&self.sessions, session)
     }
 
     /// Whether a session has an active transaction.
     pub fn is_active(&self, session: Session) -> bool
-        ensures { (past : Past) → Describes past self.now → result ≡ is_some (active past session) }
+        ensures { (level : Kind) (past : Past) → Describes level past self.now → result ≡ is_some (active past session) }
     {
         self.running(session).is_some()
     }
 
     /// Whether a statement of a session waits.
     pub fn is_waiting(&self, session: Session) -> bool
-        ensures { (past : Past) → Describes past self.now → result ≡ is_some (waiting past session) }
+        ensures { (level : Kind) (past : Past) → Describes level past self.now → result ≡ is_some (waiting past session) }
     {
         self.waiting(session).is_some()
     }
 
-    /// Makes room for an event, and copies what is kept of its statement, so that `take_in` takes no memory.
-    /// NoMemory where an allocation was refused; a transaction's end takes no memory.
-    pub(crate) fn reserve(&mut self, alloc: Global, event: &LogEvent) -> Result<Copies, NoMemory>
-        requires { (past : Past) × Describes past self.old }
-        ensures same { (past : Past) → Describes past self.old → Describes past self.new }
-        ensures copies { IfOk result (AreCopies event.now) }
-        ensures room { OnOk result (HoldsOutcome event.now.outcome (running_of self.new.sessions event.now.session) self.new.rows) }
+    /// Makes room for an event, and copies its statement where that is kept: of one that ran if `keeps`. So `take_in`
+    /// takes no memory. NoMemory where an allocation was refused; a transaction's end takes no memory.
+    pub(crate) fn reserve(
+        &mut self,
+        alloc: Global,
+        event: &LogEvent,
+        keeps: bool,
+    ) -> Result<Option<Statement>, NoMemory>
+        requires { (level : Kind) × (past : Past) × Describes level past self.old }
+        ensures same { (level : Kind) (past : Past) → Describes level past self.old → Describes level past self.new }
+        ensures copy { IfOk result (λ kept. kept ≡ kept_of keeps event.now.command event.now.outcome) }
+        ensures room { IfOk result (λ kept. HoldsOutcome (is_some kept) event.now.outcome (running_of self.new.sessions event.now.session) self.new.rows) }
         ensures err { OnErr result (is_ending event.now.outcome ≡ false) }
     {
-        self.reserve_room(alloc, event)?;
-        Copies::of(alloc, event)
+        let kept = kept_copy(alloc, event, keeps)?;
+        self.reserve_room(alloc, event, kept.is_some())?;
+        Ok(kept)
     }
 
-    /// Makes room for what an event writes. NoMemory where an allocation was refused.
-    fn reserve_room(&mut self, alloc: Global, event: &LogEvent) -> Result<(), NoMemory>
-        requires { (past : Past) × Describes past self.old }
-        ensures same { (past : Past) → Describes past self.old → Describes past self.new }
-        ensures room { OnOk result (HoldsOutcome event.now.outcome (running_of self.new.sessions event.now.session) self.new.rows) }
+    /// Makes room for what an event writes, and for its statement if `keeps`. NoMemory where an allocation was refused.
+    fn reserve_room(&mut self, alloc: Global, event: &LogEvent, keeps: bool) -> Result<(), NoMemory>
+        requires { (level : Kind) × (past : Past) × Describes level past self.old }
+        ensures same { (level : Kind) (past : Past) → Describes level past self.old → Describes level past self.new }
+        ensures room { OnOk result (HoldsOutcome keeps event.now.outcome (running_of self.new.sessions event.now.session) self.new.rows) }
         ensures err { OnErr result (is_ending event.now.outcome ≡ false) }
     {
         match &event.outcome {
             Outcome::Rows { writes, .. } => {
-                reserve_places(&mut self.sessions, event.session, writes)?;
+                reserve_places(&mut self.sessions, event.session, keeps, writes)?;
                 self.rows.reserve_each(alloc, writes)
             }
             _ => Ok(()),
         }
     }
 
-    /// Goes on by one event, for which there is room; it takes no memory.
-    pub(crate) fn take_in(&mut self, alloc: Global, event: &LogEvent, copies: Copies)
-        requires few { (past : Past) × Describes past self.old × (length past < max_events) }
-        requires room { HoldsOutcome event.now.outcome (running_of self.old.sessions event.now.session) self.old.rows }
-        requires copies { AreCopies event.now copies }
-        ensures { (past : Past) → Describes past self.old → Describes (event.now ∷ past) self.new }
+    /// Goes on by one event, for which there is room, and of whose statement this is kept; it takes no memory.
+    pub(crate) fn take_in(&mut self, alloc: Global, event: &LogEvent, kept: &mut Option<Statement>)
+        requires few { (level : Kind) × (past : Past) × Describes level past self.old × (length past < max_events) }
+        requires room { HoldsOutcome (is_some kept.old) event.now.outcome (running_of self.old.sessions event.now.session) self.old.rows }
+        ensures { (level : Kind) (past : Past) → kept.old ≡ kept_of (keeps_statements level) event.now.command event.now.outcome
+            → Describes level past self.old → Describes level (event.now ∷ past) self.new }
     {
         advance_session(
             alloc,
             &mut self.sessions,
             &mut self.rows,
             event,
-            copies,
+            kept,
             self.events,
         );
         self.begun = begun_next(&event.outcome, self.begun);
@@ -130,7 +137,7 @@ fn session_of(number: u8) -> Session
 /// Every session, with no transaction.
 fn idle_sessions() -> [SessionState; 9]
     ensures sessions { list.map (λ state. state.session) result ≡ all_sessions }
-    ensures idle { DescribesAll [] result }
+    ensures idle { (level : Kind) → DescribesAll level [] result }
 {
     [
         SessionState::idle(session_of(1)),
@@ -167,19 +174,20 @@ fn waiting_in(states: &[SessionState], session: Session) -> Option<&Statement>
     None
 }
 
-/// Makes room in a session's transaction, if it has one, for one more statement and the rows that it writes.
-/// NoMemory where an allocation was refused.
+/// Makes room in a session's transaction, if it has one, for the rows that it writes, and for one more statement if
+/// `keeps`. NoMemory where an allocation was refused.
 fn reserve_places(
     states: &mut [SessionState; 9],
     session: Session,
+    keeps: bool,
     writes: &Writes,
 ) -> Result<(), NoMemory>
     requires { list.map (λ state. state.session) states.old ≡ all_sessions }
     ensures sessions { list.map (λ state. state.session) states.new ≡ all_sessions }
-    ensures same { (past : Past) → DescribesAll past states.old → DescribesAll past states.new }
-    ensures places { OnOk result (HasPlaces (running_of states.new session) writes.now) }
+    ensures same { (level : Kind) (past : Past) → DescribesAll level past states.old → DescribesAll level past states.new }
+    ensures places { OnOk result (HasPlaces keeps (running_of states.new session) writes.now) }
 {
-    states[usize::from(session.number() - 1)].reserve(writes)
+    states[usize::from(session.number() - 1)].reserve(keeps, writes)
 }
 
 /// Goes on by one event in its session and in the rows, with so many events before it.
@@ -188,19 +196,18 @@ fn advance_session(
     states: &mut [SessionState; 9],
     rows: &mut RowStates,
     event: &LogEvent,
-    copies: Copies,
+    kept: &mut Option<Statement>,
     before: usize,
 )
     requires sessions { list.map (λ state. state.session) states.old ≡ all_sessions }
-    requires few { (past : Past) × DescribesAll past states.old × (length past < max_events) }
-    requires room { HoldsOutcome event.now.outcome (running_of states.old event.now.session) rows.old }
-    requires copies { AreCopies event.now copies }
+    requires few { (level : Kind) × (past : Past) × DescribesAll level past states.old × (length past < max_events) }
+    requires room { HoldsOutcome (is_some kept.old) event.now.outcome (running_of states.old event.now.session) rows.old }
     ensures session { Contains all_sessions event.now.session }
     ensures sessions { list.map (λ state. state.session) states.new ≡ all_sessions }
-    ensures states { (past : Past) → DescribesAll past states.old → before ≡ length past → DescribesRows past rows.old → DescribesAll (event.now ∷ past) states.new }
-    ensures rows { (past : Past) → DescribesAll past states.old → before ≡ length past → DescribesRows past rows.old → DescribesRows (event.now ∷ past) rows.new }
+    ensures goes_on { (level : Kind) (past : Past) → kept.old ≡ kept_of (keeps_statements level) event.now.command event.now.outcome → before ≡ length past
+        → DescribesAll level past states.old → DescribesRows past rows.old → DescribesAll level (event.now ∷ past) states.new × DescribesRows (event.now ∷ past) rows.new }
 {
-    states[usize::from(event.session.number() - 1)].take_in(alloc, rows, event, copies, before);
+    states[usize::from(event.session.number() - 1)].take_in(alloc, rows, event, kept, before);
 }
 
 fn begun_next(outcome: &Outcome, begun: u32) -> u32

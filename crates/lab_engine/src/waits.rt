@@ -51,7 +51,7 @@ fn waits_on<R: Rules>(
     situation: &Situation,
     state: &SessionState,
 ) -> SessionSet
-    ensures { (past : Past) → Describes past situation.now → DescribesSession past state.now
+    ensures { (past : Past) → Describes R.kind past situation.now → DescribesSession R.kind past state.now
         → (other : ℕ) → IsTrue (has result other) ↔ WaitsOn R.kind setup.now past state.now.session other }
 {
     let Some(statement) = &state.waits else {
@@ -66,7 +66,7 @@ fn waits_on<R: Rules>(
 
 /// Who waits for whom: for each session whose statement waits those that block it.
 pub fn all_waits<R: Rules>(rules: &R, setup: &Table, situation: &Situation) -> WaitGraph
-    ensures { (past : Past) → Describes past situation.now → AreWaits R.kind setup.now past result }
+    ensures { (past : Past) → Describes R.kind past situation.now → AreWaits R.kind setup.now past result }
 {
     let mut waits = WaitGraph::none();
     for state in &situation.sessions {
@@ -84,7 +84,7 @@ pub fn deadlock<R: Rules>(
     asker: &Asker,
     on: &Sessions,
 ) -> Result<Option<Sessions>, NoMemory>
-    ensures { (past : Past) (s : Asked) → Describes past asker.now.situation.now → MayAsk past asker.now.session s
+    ensures { (past : Past) (s : Asked) → Describes R.kind past asker.now.situation.now → MayAsk past asker.now.session s
         → AreBlockers R.kind asker.now.setup.now past asker.now.session s on.now
         → IfOk result (λ found. MatchOption found ((circle : List ℕ) → ¬ IsCircle R.kind asker.now.setup.now past asker.now.session s circle)
         (IsLeastCircle R.kind asker.now.setup.now past asker.now.session s)) }
@@ -109,7 +109,7 @@ fn is_released(waits: &WaitGraph, state: &SessionState) -> bool
 
 /// The least session whose waiting statement has nothing in its way, or stands on a cycle.
 pub fn retryable<R: Rules>(rules: &R, setup: &Table, situation: &Situation) -> Option<Session>
-    ensures { (past : Past) → Describes past situation.now
+    ensures { (past : Past) → Describes R.kind past situation.now
         → MatchOption result (NoneRetryable R.kind setup.now past) (IsLeastRetryable R.kind setup.now past) }
 {
     let waits = all_waits(rules, setup, situation);

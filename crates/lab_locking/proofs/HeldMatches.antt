@@ -60,7 +60,7 @@ module _ (past : Past) (txn : Txn) (asker : Asker) (asks : IsAsker Locking past 
             subst (λ r. IsTrue (matches_at asker s other r)) (only_match q (committed_version asker.setup.now past q).state v.state matched) ((at_is q).1 (v, wrote, matched))
 
   -- a test of the rows that a transaction wrote says whether it holds a match
-  pub some_tells : Tells past (λ other running. list_any (matches_at asker s other) running.written.items) (HoldsMatch asker.setup.now past s)
+  pub some_tells : Tells Locking past (λ other running. list_any (matches_at asker s other) running.written.items) (HoldsMatch asker.setup.now past s)
   some_tells other holder running is agrees = (
     (λ any. let f = Any-from_list_any (matches_at asker s other) running.written.items any in let held = (at_is other holder is f.1).0 f.4 in (f.1, held.0, held.1, held.2)),
     (λ held. row_any (matches_at asker s other) running.written.items held.0 (agrees.written held.0 ∙ ap is_some held.2) ((at_is other holder is held.0).1 (held.1, held.2, held.3))),

@@ -36,7 +36,7 @@ either_any p q (x ∷ xs) = ap (λ b. (p x || q x) || b) (either_any p q xs) ∙
 abbrev pub ReadsEither : Row → State → State → Txn → Type 0
 ReadsEither row old new holder = IsTrue (has_read holder.ops row old || has_read holder.ops row new)
 
-reads_is : (row : Row) (old new : State) (holder : Txn) (running : RunningTxn) → IsRunning holder running
+reads_is : (row : Row) (old new : State) (holder : Txn) (running : RunningTxn) → IsRunning Locking holder running
     → any_reads row old new (statements_of running) ≡ (has_read holder.ops row old || has_read holder.ops row new)
 reads_is row old new holder running is =
     either_any (λ s. matches s row old) (λ s. matches s row new) (statements_of running)
@@ -44,7 +44,7 @@ reads_is row old new holder running is =
     ∙ ap (λ b. has_read holder.ops row old || b) (any_read (statements_of running) holder.ops row new is.statements)
 
 -- so a test of its statements says
-reads_tell : (past : Past) (row : Row) (old new : State) → Tells past (λ _ running. any_reads row old new (statements_of running)) (ReadsEither row old new)
+reads_tell : (past : Past) (row : Row) (old new : State) → Tells Locking past (λ _ running. any_reads row old new (statements_of running)) (ReadsEither row old new)
 reads_tell past row old new other holder running is agrees = (
   (λ any. sym (reads_is row old new holder running agrees) ∙ any),
   (λ reads. reads_is row old new holder running agrees ∙ reads),

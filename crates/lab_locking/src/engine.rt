@@ -22,6 +22,10 @@ impl Rules for LockRules {
         false
     }
 
+    fn keeps_statements(&self) -> bool {
+        true
+    }
+
     fn blockers(&self, asker: &Asker, statement: &Statement) -> SessionSet {
         match_holders(asker, statement)
             .with(asker.writers_in_way(statement))

@@ -20,6 +20,10 @@ impl Rules for CommittedRules {
         false
     }
 
+    fn keeps_statements(&self) -> bool {
+        false
+    }
+
     fn blockers(&self, asker: &Asker, statement: &Statement) -> SessionSet {
         asker.writers_in_way(statement)
     }

@@ -21,6 +21,10 @@ impl Rules for SnapshotRules {
         true
     }
 
+    fn keeps_statements(&self) -> bool {
+        false
+    }
+
     fn blockers(&self, asker: &Asker, statement: &Statement) -> SessionSet {
         SessionSet::none()
     }

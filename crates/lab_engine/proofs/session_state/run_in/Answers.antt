@@ -1,13 +1,13 @@
-use Rattle.std.proofs.Common.{sym, subst, ◌∙◌}
-use Rattle.lab_engine.proofs.Common.{pending_in, Agree}
-use Rattle.lab_engine.proofs.SessionStates.{after_none, runs_agree}
+use Rattle.std.proofs.Common.{Some, None, cond, sym, ap, subst, ◌∙◌}
+use Rattle.lab_engine.proofs.Common.{Command, Listed, active_after, pending_in, keeps_statements, Agree}
+use Rattle.lab_engine.specs.Log.{asked}
+use Rattle.lab_engine.proofs.SessionStates.{runs_agree}
 use Rattle.lab_engine.proofs.session_state.run_in.Goals as goal
 
-pub returns-in_default-clause-txn : goal.returns-in_default-clause-txn
-returns-in_default-clause-txn c command txn view lists agree was asks = after_none command view lists c.args.writes.now txn (subst (λ r. Agree txn r) c.in_default.is agree)
-
-pub returns-clause-txn : goal.returns-clause-txn
-returns-clause-txn c command txn view lists agree was asks =
-    runs_agree command c.in-Some-take.statement view lists c.args.writes.now txn c.args.running c.in-Some.active c.run.new.self
-    (sym asks ∙ sym c.take.ensures.value ∙ c.in-Some-take.is) c.in-Some.is agree (λ row. pending_in c.args.rows.now row c.args.session) was
-    (λ t op running pending statement writes. c.run.ensures.txn t op running pending statement writes)
+pub returns-in-Some-clause-txn : goal.returns-in-Some-clause-txn
+returns-in-Some-clause-txn c level past txn view lists agree had kept =
+    subst (λ (k : Command). Agree level (active_after k (Listed view lists c.args.writes.now) past txn) (Some c.run.new.self)) (sym c.in-Run.is)
+    (runs_agree level c.in-Run.field-0 past view lists c.args.writes.now txn c.in-Some.running c.run.new.self (subst (λ r. Agree level txn r) c.in-Some.is agree)
+    (λ row. pending_in c.args.rows.now row c.args.session) had
+    (λ t op running pending statement writes. c.run.ensures.txn level t op running pending
+    (c.take.ensures.value ∙ kept ∙ ap (λ (k : Command). cond (keeps_statements level) (asked k) None) c.in-Run.is ∙ ap (λ s. cond (keeps_statements level) (Some s) None) (sym statement)) writes))

@@ -1,10 +1,11 @@
-use Rattle.std.proofs.Common.{◌≡◌, List, [], ◌∷◌, sym, ap, subst, ◌∙◌, arith}
+use Rattle.std.proofs.Common.{◌≡◌, ◌<◌, length, List, [], ◌∷◌, sym, ap, subst, ◌∙◌, arith}
 use Rattle.std.specs.Vec.{vec_capacity}
-use Rattle.std.proofs.lemmas.List.{reverse-append}
+use Rattle.std.proofs.lemmas.List.{length-reverse, reverse-append}
 use Rattle.lab_engine.specs.Answer.{Keeps, HasPlacesOfEnds}
 use Rattle.lab_engine.specs.Journal.{EngineRun}
 use Rattle.lab_engine.specs.Log.{Past, past_of}
 use Rattle.lab_engine.specs.Rules.{Permitted}
+use Rattle.lab_engine.specs.Situation.{kept_of}
 use Rattle.lab_engine.specs.declared.event.LogEvent.{LogEvent}
 use Rattle.lab_engine.proofs.journal.Journal.go_on.Goals as goal
 
@@ -14,15 +15,20 @@ invariant_of-self g c =
     (sym c.reserve_place.ensures.log)
     (record { retryable = c.self.invariant.retryable; situation = c.self.invariant.situation; places_of_ends = c.reserve_place.ensures.places })
 
-pub invariant_of-self-in_err-copies : goal.invariant_of-self-in_err-copies
-invariant_of-self-in_err-copies g c =
+pub invariant_of-self-in_err-kept : goal.invariant_of-self-in_err-kept
+invariant_of-self-in_err-kept g c =
     subst (λ (log : List LogEvent). Keeps g.R.Rules.kind c.self.inside.setup (past_of log) c.self.inside.retryable c.reserve.new.self (vec_capacity c.reserve_place.new.log))
     (sym c.reserve_place.ensures.log)
     (record {
       retryable = c.self.invariant.retryable;
-      situation = c.reserve.ensures.same (past_of c.self.inside.log.items) c.self.invariant.situation;
+      situation = c.reserve.ensures.same g.R.Rules.kind (past_of c.self.inside.log.items) c.self.invariant.situation;
       places_of_ends = c.reserve_place.ensures.places;
     })
+
+pub take_in-requires-clause-few : goal.take_in-requires-clause-few
+take_in-requires-clause-few g c =
+    let few : length c.self.inside.log.items < 100000 = subst (λ (k : EngineRun). length k.log < 100000) (sym c.self.view_is) c.requires.few in
+    (_, _, c.reserve.ensures.same _ _ c.self.invariant.situation, omega (arith, length-reverse c.self.inside.log.items, few))
 
 pub invariant_of-self-2 : goal.invariant_of-self-2
 invariant_of-self-2 g c =
@@ -30,7 +36,8 @@ invariant_of-self-2 g c =
     let event : LogEvent = record { session = c.args.session; command = c.args.command; outcome = c.args.outcome } in
     let longer : past_of c.push_reserved.new.self.items ≡ event ∷ past =
     ap past_of c.push_reserved.ensures.items ∙ reverse-append c.reserve_place.new.log.items (event ∷ []) ∙ ap (λ log. event ∷ past_of log) c.reserve_place.ensures.log in
-    let describes = c.take_in.ensures past (c.reserve.ensures.same past c.self.invariant.situation) in
+    let describes = c.take_in.ensures g.R.Rules.kind past (c.in_ok-kept.ensures.copy ∙ ap (λ b. kept_of b c.args.command c.args.outcome) c.keeps_statements.ensures)
+    (c.reserve.ensures.same g.R.Rules.kind past c.self.invariant.situation) in
     let permitted = subst (λ (k : EngineRun). Permitted k.level k.setup (past_of k.log) c.args.session c.args.command c.args.outcome) (sym c.self.view_is) c.requires.permitted in
     let places : HasPlacesOfEnds (event ∷ past) (vec_capacity c.reserve_place.new.log) = c.in_ok-reserve_place.ensures.next in
     subst (λ (p : Past). Keeps g.R.Rules.kind c.self.inside.setup p c.retryable_after-self-inside.result c.take_in.new.self (vec_capacity c.push_reserved.new.self)) (sym longer)

@@ -1,23 +1,46 @@
-use Rattle.std.proofs.Common.{sym, ap, subst, ◌∙◌}
-use Rattle.lab_engine.proofs.Common.{active, waiting_after, Agree}
-use Rattle.lab_engine.proofs.SessionStates.{waits_then, runs_then, rows_then}
+use Rattle.std.proofs.Common.{◌==◌, refl, sym, subst, ap, cond, None, ◌∙◌}
+use Rattle.lab_engine.proofs.Common.{Row, Outcome, active, pending_in, keeps_statements, kept_of, written_by, Agree}
+use Rattle.lab_engine.specs.EventQuery.{busy}
+use Rattle.lab_engine.proofs.SessionStates.{none_waits, follows}
 use Rattle.lab_engine.proofs.session_state.SessionState.take_in.Goals as goal
 
-pub returns-clause-state : goal.returns-clause-state
-returns-clause-state c past is own place rows =
-    let session = c.args.self.now.session in
-    let agree = subst (λ r. Agree (active past session) r) (sym c.take-2.ensures.value) is.running in
-    record {
-      waits = waits_then past c.args.event.now session own c.waits_next.result
-          (c.waits_next.ensures ∙ ap (waiting_after c.args.event.now.command c.args.event.now.outcome) (c.take.ensures.value ∙ is.waits));
-      running = runs_then past c.args.event.now session own c.running_next.result
-          (c.running_next.ensures.txn past (active past session) agree place (λ row. rows.pending row session));
-    }
+pub returns-in-Begun-clause-goes_on : goal.returns-in-Begun-clause-goes_on
+returns-in-Begun-clause-goes_on c level past kept own at is =
+    follows past c.args.event.now c.args.self.now c.args.rows.now c.args.before own at is _ _ _ _ c.in-Begun.is
+    (refl, c.begin.ensures level past at, c.give_up.ensures.chain, c.give_up.ensures.pending level _ is.0.running (λ row. is.1.pending row c.args.self.now.session))
 
-pub returns-clause-rows : goal.returns-clause-rows
-returns-clause-rows c past is own place rows =
-    let session = c.args.self.now.session in
-    let agree = subst (λ r. Agree (active past session) r) (sym c.take-2.ensures.value) is.running in
-    rows_then past c.args.event.now session own c.args.rows.now c.running_next.new.rows c.args.before place rows
-    (c.running_next.ensures.chain (active past session) agree (λ row. rows.pending row session))
-    (c.running_next.ensures.pending past (active past session) agree (λ row. rows.pending row session))
+pub returns-in-Rows-clause-goes_on : goal.returns-in-Rows-clause-goes_on
+returns-in-Rows-clause-goes_on c level past kept own at is =
+    let had = λ (row : Row). is.1.pending row c.args.self.now.session in
+    let ran = c.run_in.ensures in
+    follows past c.args.event.now c.args.self.now c.args.rows.now c.args.before own at is _ _ _ _ c.in-Rows.is (
+      refl,
+      ran.txn level past _ c.in-Rows.view c.in-Rows.rows is.0.running had (kept ∙ ap (λ (o : Outcome). kept_of (keeps_statements level) c.args.event.now.command o) c.in-Rows.is),
+      ran.chain,
+      ran.pending level past _ c.in-Rows.view c.in-Rows.rows is.0.running had,
+    )
+
+pub returns-in-Committed-clause-goes_on : goal.returns-in-Committed-clause-goes_on
+returns-in-Committed-clause-goes_on c level past kept own at is =
+    let had = λ (row : Row). is.1.pending row c.args.self.now.session in
+    follows past c.args.event.now c.args.self.now c.args.rows.now c.args.before own at is _ _ _ _ c.in-Committed.is
+    (refl, tt, c.install.ensures.chain level _ is.0.running had, c.install.ensures.pending level _ is.0.running had)
+
+pub returns-in-Aborted-clause-goes_on : goal.returns-in-Aborted-clause-goes_on
+returns-in-Aborted-clause-goes_on c level past kept own at is =
+    follows past c.args.event.now c.args.self.now c.args.rows.now c.args.before own at is _ _ _ _ c.in-Aborted.is
+    (refl, tt, c.give_up-in-Aborted.ensures.chain, c.give_up-in-Aborted.ensures.pending level _ is.0.running (λ row. is.1.pending row c.args.self.now.session))
+
+pub returns-then-is_fatal_fault-clause-goes_on : goal.returns-then-is_fatal_fault-clause-goes_on
+returns-then-is_fatal_fault-clause-goes_on c level past kept own at is =
+    let was = active past c.args.self.now.session in
+    let gone = c.give_up-then-is_fatal_fault.ensures in
+    let waits = none_waits c.args.event.now.command c.in-Refused.fault c.args.self.now.waits (sym (c.if-is_busy.ensures ∙ ap busy c.in-Refused.is)) in
+    follows past c.args.event.now c.args.self.now c.args.rows.now c.args.before own at is _ _ _ _ c.in-Refused.is (
+      waits,
+      subst (λ b. Agree level (cond b None was) None) c.if-is_fatal_fault.ensures tt,
+      gone.chain,
+      λ row n.
+          gone.pending level was is.0.running (λ row. is.1.pending row c.args.self.now.session) row n
+          ∙ ap (λ b. cond (n == c.args.self.now.session) (written_by (cond b None was) row) (pending_in c.args.rows.now row n)) c.if-is_fatal_fault.ensures,
+    )

@@ -3,4 +3,4 @@ use Rattle.lab_engine.proofs.Describing.{active_agrees, some_made}
 use Rattle.lab_engine.proofs.situation.Situation.is_active.Goals as goal
 
 pub returns : goal.returns
-returns c = λ past is. c.is_some.ensures ∙ sym (some_made (λ r. r.now) c.running.result) ∙ ap is_some c.running.ensures ∙ active_agrees past c.args.self.now is c.args.session
+returns c = λ level past is. c.is_some.ensures ∙ sym (some_made (λ r. r.now) c.running.result) ∙ ap is_some c.running.ensures ∙ active_agrees past c.args.self.now is c.args.session

@@ -3,4 +3,4 @@ use Rattle.lab_engine.proofs.Describing.{some_made}
 use Rattle.lab_engine.proofs.situation.Situation.is_waiting.Goals as goal
 
 pub returns : goal.returns
-returns c = λ past is. c.is_some.ensures ∙ sym (some_made (λ s. s.now) c.waiting.result) ∙ ap is_some (c.waiting.ensures past is)
+returns c = λ level past is. c.is_some.ensures ∙ sym (some_made (λ s. s.now) c.waiting.result) ∙ ap is_some (c.waiting.ensures level past is)

@@ -4,15 +4,15 @@ use Rattle.lab_engine.proofs.EventBounds.{begun_at_most}
 use Rattle.lab_engine.proofs.situation.Situation.take_in.Goals as goal
 
 pub advance_session-requires-clause-sessions : goal.advance_session-requires-clause-sessions
-advance_session-requires-clause-sessions c = c.requires.few.1.sessions
+advance_session-requires-clause-sessions c = c.requires.few.2.sessions
 
 pub advance_session-requires-clause-few : goal.advance_session-requires-clause-few
-advance_session-requires-clause-few c = (c.requires.few.0, c.requires.few.1.states, c.requires.few.2)
+advance_session-requires-clause-few c = (c.requires.few.0, c.requires.few.1, c.requires.few.2.states, c.requires.few.3)
 
 pub begun_next-self-requires : goal.begun_next-self-requires
-begun_next-self-requires c = omega (arith, c.requires.few.2, begun_at_most c.requires.few.0, c.requires.few.1.begun)
+begun_next-self-requires c = omega (arith, c.requires.few.3, begun_at_most c.requires.few.1, c.requires.few.2.begun)
 
 pub returns : goal.returns
-returns c = λ past is.
-    goes_on past c.args.event.now c.args.self.now _ is c.advance_session.ensures.session c.advance_session.ensures.sessions
-    (c.advance_session.ensures.states past is.states is.events is.rows) (c.advance_session.ensures.rows past is.states is.events is.rows) c.begun_next-self.ensures refl
+returns c = λ level past kept is.
+    let next = c.advance_session.ensures.goes_on level past kept is.events is.states is.rows in
+    goes_on past c.args.event.now c.args.self.now _ is c.advance_session.ensures.session c.advance_session.ensures.sessions next.0 next.1 c.begun_next-self.ensures refl
