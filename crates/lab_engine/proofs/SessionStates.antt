@@ -44,9 +44,6 @@ runs_on level txn op old new running number before more kept is statements writt
 
 module _ {level : Level} (past : Past) (event : LogEvent) (old : SessionState) (rows : RowStates) (place : ℕ) (own : event.session ≡ old.session) (at : place ≡ length past)
     (is : DescribesSession level past old × DescribesRows past rows) where
-  is_own : (event.session == old.session) ≡ true
-  is_own = eq-eqb event.session old.session own
-
   -- the session's transaction before and after an outcome
   abbrev was : Option Txn
   was = active past old.session
@@ -67,15 +64,15 @@ module _ {level : Level} (past : Past) (event : LogEvent) (old : SessionState) (
       let f : Follow waits running new event.outcome = subst (Follow waits running new) (sym same) follow in (
         record {
           waits = f.0 ∙ ap (waiting_after event.command event.outcome) is.0.waits
-              ∙ sym (ap (λ b. cond b (waiting_after event.command event.outcome (waiting past old.session)) (waiting past old.session)) is_own);
-          running = subst (λ b. Agree level (cond b (next event.outcome) was) running) (sym is_own) f.1;
+              ∙ sym (ap (λ b. cond b (waiting_after event.command event.outcome (waiting past old.session)) (waiting past old.session)) (eq-eqb event.session old.session own));
+          running = subst (λ b. Agree level (cond b (next event.outcome) was) running) (sym (eq-eqb event.session old.session own)) f.1;
         },
         record {
           chains = λ row. f.2 row ∙ (λ i. chain_after event.outcome (active past ((sym own) i)) (at i) row (is.1.chains row i));
           pending = λ row n. f.3 row n ∙ elim (cases_eq n old.session) [
             | inl same ↦ subst (λ m. cond (m == old.session) (written_by (next event.outcome) row) (pending_in rows row m) ≡ written_by (active (event ∷ past) m) row) (sym same)
                 (ap (λ b. cond b (written_by (next event.outcome) row) (pending_in rows row old.session)) (eq-eqb old.session old.session refl)
-                ∙ sym (ap (λ b. written_by (cond b (next event.outcome) was) row) is_own))
+                ∙ sym (ap (λ b. written_by (cond b (next event.outcome) was) row) (eq-eqb event.session old.session own)))
             | inr apart ↦
                 ap (λ b. cond b (written_by (next event.outcome) row) (pending_in rows row n)) (ne_eqb n old.session apart) ∙ is.1.pending row n
                 ∙ sym (ap (λ b. written_by (cond b (active_after event.command event.outcome past (active past n)) (active past n)) row)
