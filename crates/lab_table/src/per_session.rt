@@ -1,6 +1,7 @@
 //! A value for each session.
 
-ghost use Rattle.std.specs.Prelude.{◌≡◌, ◌≤◌, ◌-◌, Some, slice_get, slice_set, replicate};
+ghost use Rattle.std.specs.Prelude.{◌≡◌, ◌==◌, ◌≤◌, ◌-◌, ℕ, Some, cond, slice_set, replicate};
+ghost use Rattle.lab_table.specs.Sessions.{of_session};
 
 use crate::number::Session;
 use std::marker::Model;
@@ -28,14 +29,15 @@ impl<V: Copy> Model for PerSession<V> {
 impl<V: Copy> PerSession<V> {
     /// The same value for each session.
     pub fn all(value: V) -> PerSession<V>
-        ensures { result ≡ replicate 9 value }
+        ensures values { result ≡ replicate 9 value }
+        ensures each { (session : ℕ) → 1 ≤ session → session ≤ 9 → of_session result session ≡ Some value }
     {
         PerSession { values: [value; 9] }
     }
 
     /// The value of a session.
     pub fn get(&self, session: Session) -> V
-        ensures value { slice_get self.now (session - 1) ≡ Some result }
+        ensures value { of_session self.now session ≡ Some result }
         ensures low { 1 ≤ session }
         ensures high { session ≤ 9 }
     {
@@ -44,7 +46,8 @@ impl<V: Copy> PerSession<V> {
 
     /// Gives a session this value in the place of the one that it has.
     pub fn set(&mut self, session: Session, value: V)
-        ensures value { self.new ≡ slice_set self.old (session - 1) value }
+        ensures values { self.new ≡ slice_set self.old (session - 1) value }
+        ensures each { (other : ℕ) → of_session self.new other ≡ cond (other == session) (Some value) (of_session self.old other) }
         ensures low { 1 ≤ session }
         ensures high { session ≤ 9 }
     {
