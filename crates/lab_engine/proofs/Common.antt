@@ -41,7 +41,7 @@ pub use Rattle.lab_engine.specs.declared.situation.Situation.{Situation}
 pub use Rattle.lab_engine.specs.Laws.{AllDone, AllKeepOff, AllNumbered, AllRan, AllRecorded, AreNumbered, AreRecorded, Began, BeginsHold, CommitsHold, FirstCommitter, IsDone, IsNumber, IsRecorded, KeepsOff, LocksHold, NoneHas, NumbersHold, RanAt, RanBy, RecordsHold, Untouched, UntouchedAt}
 unfoldable pub use Rattle.lab_engine.specs.WaitsFor.{waits_for}
 pub use Rattle.lab_engine.specs.WaitsFor.{AreBlockers, AreWaits, IsRound, IsWalk, WaitsForOne, WaitsOn, is_session}
-pub use Rattle.lab_engine.specs.Gathered.{AreActive, Gathers, IsShort, IsWithin, changed, changed_by, committed, gathered_by, groups_from, installed_over, installing, installs_by, new_txn, number_after, number_at, number_of, numbers_of, recorded, txns_after, version_told, with_ops}
+pub use Rattle.lab_engine.specs.Gathered.{AreActive, Gathers, IsShort, IsWithin, changed, changed_by, committed, gathered_by, groups_from, installed_over, installing, installs_by, new_txn, number_after, number_of, numbers_of, recorded, txns_after, version_told, with_ops}
 pub use Rattle.lab_engine.specs.EachRow.{each_row, first_failing, stored, value_rewritten, with_row}
 pub use Rattle.lab_history.specs.History.{History}
 pub use Rattle.lab_engine.specs.Others.{IsOther}

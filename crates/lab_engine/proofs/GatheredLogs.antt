@@ -1,6 +1,8 @@
 -- What a log tells, event by event.
-use Rattle.std.proofs.Common.{◌≡◌, ℕ, ◌+◌, ◌-◌, ◌≤◌, ◌<◌, ◌++◌, reverse, arith, refl, sym, ap, subst, ◌∙◌, Bool, true, false, cond, List, [], ◌∷◌, map as each, length, take, drop, get_or, set, inl, inr, Option, Some, None, is_some, option_map, slice_get}
-use Rattle.lab_engine.proofs.Common.{none_some, option_or, append-nil, length-map, length-set, length-reverse, get_or-set_same, get_or-set_other, reverse-append, Row, Table, Command, Op, Outcome, Listed, Committed, Refused, Level, LogEvent, Past, past_of, Txn, is_fatal, active, active_after, commits_after, commits, begun, last_version, version_by, writers, numbers, installers, last_installed, IsLegal, recorded_txn, recorded_txns, number_of, number_after, number_at, AreActive, recorded, IsWithin, gathered_by, installing, installed_over, installs_by, same_Some, eqb_tells, reverse_onto, reverse-reverse, take-append-drop, slice_get-map, version_told, Recorded, GatheredTxn}
+use Rattle.std.proofs.Common.{◌≡◌, ℕ, ◌+◌, ◌-◌, ◌≤◌, ◌<◌, ◌++◌, reverse, arith, refl, sym, ap, subst, ◌∙◌, Bool, true, false, cond, ◌==◌, List, [], ◌∷◌, map as each, length, take, drop, get_or, set, inl, inr, Option, Some, None, is_some, option_map, slice_get}
+use Rattle.lab_engine.proofs.Common.{none_some, option_or, append-nil, length-map, length-set, length-reverse, get_or-set_same, get_or-set_other, reverse-append, Row, Table, Command, Op, Outcome, Listed, Committed, Refused, Level, LogEvent, Past, past_of, Txn, is_fatal, active, active_after, commits_after, commits, begun, last_version, version_by, writers, numbers, installers, last_installed, IsLegal, recorded_txn, recorded_txns, number_of, number_after, AreActive, recorded, IsWithin, gathered_by, installing, installed_over, installs_by, same_Some, eqb_tells, reverse_onto, reverse-reverse, take-append-drop, slice_get-map, version_told, Recorded, GatheredTxn}
+use Rattle.lab_table.specs.Sessions.{of_session}
+use Rattle.lab_table.proofs.SessionOrder.{own_value, other_value}
 use Rattle.lab_engine.proofs.EventBounds.{ops_at_most}
 use Rattle.lab_engine.proofs.Numbers.{numbers_hold}
 use Rattle.lab_engine.proofs.Records.{records_hold}
@@ -25,32 +27,18 @@ number_goes command (Refused fault) past txn = elim (is_fatal fault) as (λ b. n
 number_goes command other past txn = refl
 
 -- they are kept by an event
-pub active_goes : (past : Past) (event : LogEvent) (numbers news : List (Option ℕ)) (place : ℕ) (next : Option ℕ) → AreActive past numbers → 1 ≤ event.session → event.session ≤ 9
-    → place ≡ event.session - 1 → next ≡ number_after event.outcome (number_at numbers place) → news ≡ set numbers place next → AreActive (event ∷ past) news
-active_goes past event numbers news place next are low high there made placed = record {
-  nine = ap length put ∙ length-set numbers (event.session - 1) next ∙ are.nine;
-  kept = λ session from to. ap (λ (l : List (Option ℕ)). get_or l (session - 1) None) put ∙ at session from to;
-} where
-  put : news ≡ set numbers (event.session - 1) next
-  put = placed ∙ ap (λ k. set numbers k next) there
-
-  is : next ≡ number_after event.outcome (number_at numbers (event.session - 1))
-  is = made ∙ ap (λ k. number_after event.outcome (number_at numbers k)) there
-
-  at : (session : ℕ) → 1 ≤ session → session ≤ 9 → get_or (set numbers (event.session - 1) next) (session - 1) None ≡ number_of (active (event ∷ past) session)
-  at session from to = elim (eqb_tells event.session session) [
-    | inl p ↦
-        ap (λ k. get_or (set numbers (event.session - 1) next) (k - 1) None) (sym p.1)
-        ∙ get_or-set_same numbers (event.session - 1) next None (omega (arith, are.nine, low, high))
-        ∙ is ∙ ap (number_after event.outcome) (are.kept event.session low high)
-        ∙ sym (number_goes event.command event.outcome past (active past event.session))
-        ∙ ap (λ s. number_of (active_after event.command event.outcome past (active past s))) p.1
-        ∙ sym (ap (λ b. number_of (cond b (active_after event.command event.outcome past (active past session)) (active past session))) p.0)
-    | inr p ↦
-        get_or-set_other numbers (event.session - 1) (session - 1) next None (λ same. absurd (p.1 (omega (arith, same, low, from))))
-        ∙ are.kept session from to
-        ∙ sym (ap (λ b. number_of (cond b (active_after event.command event.outcome past (active past session)) (active past session))) p.0)
-  ]
+pub active_goes : (past : Past) (event : LogEvent) (numbers news : List (Option ℕ)) (next : Option ℕ) → AreActive past numbers → next ≡ number_after event.outcome (number_of (active past event.session))
+    → ((s : ℕ) → of_session news s ≡ cond (s == event.session) (Some next) (of_session numbers s)) → AreActive (event ∷ past) news
+active_goes past event numbers news next are made each session low high = elim (eqb_tells event.session session) [
+  | inl p ↦
+      own_value numbers news event.session next each session (sym p.1)
+      ∙ ap Some (made ∙ sym (number_goes event.command event.outcome past (active past event.session))
+      ∙ ap (λ s. number_of (active_after event.command event.outcome past (active past s))) p.1
+      ∙ sym (ap (λ b. number_of (cond b (active_after event.command event.outcome past (active past session)) (active past session))) p.0))
+  | inr p ↦
+      other_value numbers news event.session next each session (λ same. p.1 (sym same)) ∙ are session low high
+      ∙ sym (ap (λ b. Some (number_of (cond b (active_after event.command event.outcome past (active past session)) (active past session)))) p.0)
+]
 
 -- ---- gathered transactions
 

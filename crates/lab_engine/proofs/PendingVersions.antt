@@ -1,10 +1,11 @@
 -- The pending versions of a row, one for each session.
-use Rattle.std.proofs.Common.{◌≡◌, ◌∙◌, ℕ, ◌+◌, ◌-◌, ◌≤◌, ◌<◌, ap, arith, cond, List, length, set, get_or, Option, Some, None, is_some}
-use Rattle.lab_engine.proofs.Common.{get_or_default, length-set, count, IsRoomy}
+use Rattle.std.proofs.Common.{◌≡◌, ◌∙◌, ℕ, zero, suc, ◌+◌, ◌-◌, ◌≤◌, ◌<◌, ap, arith, cond, List, length, set, get_or, Option, Some, None, is_some}
+use Rattle.std.specs.Option.{unwrap_or}
+use Rattle.std.proofs.lemmas.Option.{unwrap_or-slice_get}
+use Rattle.lab_table.specs.Sessions.{of_session}
+use Rattle.lab_engine.proofs.Common.{length-set, count, IsRoomy}
 use Rattle.std.proofs.lemmas.List.Sums.{count_by-le-length, sum_by-set}
 use Rattle.lab_engine.specs.declared.version.Version.{Version}
-use Rattle.lab_engine.specs.Sessions.{is_session}
-use Rattle.lab_engine.proofs.WaitGraphs.{is_one}
 
 -- ---- how many there are
 
@@ -14,11 +15,10 @@ one v = cond (is_some v) 1 0
 
 module _ (installed places : ℕ) (vs : List (Option Version)) (roomy : IsRoomy installed vs places) (k : ℕ) where
   -- where there is room for nine more
-  pub roomy_held : (v : Option Version) → installed + 9 ≤ places → IsRoomy installed (set vs k v) places
-  roomy_held v ready = record {
-    nine = length-set vs k v ∙ roomy.nine;
-    room = omega (arith, count_by-le-length is_some (set vs k v), length-set vs k v, roomy.nine, ready);
-  }
+  pub roomy_held : (v : Option Version) (new : List (Option Version)) → new ≡ set vs k v → installed + 9 ≤ places → IsRoomy installed new places
+  roomy_held v new is ready =
+      let nine : length new ≡ 9 = ap length is ∙ length-set vs k v ∙ roomy.nine in
+      record { nine = nine; room = omega (arith, count_by-le-length is_some new, nine, ready) }
 
   module _ (lt : k < 9) where
     -- with another one in a place
@@ -26,10 +26,10 @@ module _ (installed places : ℕ) (vs : List (Option Version)) (roomy : IsRoomy 
     moved v d = sum_by-set one vs k v d (omega (arith, roomy.nine, lt))
 
     -- where one goes
-    pub roomy_less : IsRoomy installed (set vs k None) places
-    roomy_less = record {
-      nine = length-set vs k None ∙ roomy.nine;
-      room = omega (arith, moved None None, roomy.room);
+    pub roomy_less : (new : List (Option Version)) → new ≡ set vs k None → IsRoomy installed new places
+    roomy_less new is = record {
+      nine = ap length is ∙ length-set vs k None ∙ roomy.nine;
+      room = omega (arith, ap count is, moved None None, roomy.room);
     }
 
     -- where one is there, there is a place for it
@@ -37,19 +37,16 @@ module _ (installed places : ℕ) (vs : List (Option Version)) (roomy : IsRoomy 
     place_left d v is = omega (arith, moved None d, ap one is, roomy.room)
 
     -- and it may go into that
-    pub roomy_moved : (d : Option Version) (v : Version) (now more : ℕ) → get_or vs k d ≡ Some v → now ≡ installed + 1 → places ≤ more → IsRoomy now (set vs k None) more
-    roomy_moved d v now more is longer grows = record {
-      nine = length-set vs k None ∙ roomy.nine;
-      room = omega (arith, moved None d, ap one is, roomy.room, longer, grows);
+    pub roomy_moved : (d : Option Version) (v : Version) (new : List (Option Version)) (now more : ℕ) → get_or vs k d ≡ Some v → new ≡ set vs k None → now ≡ installed + 1 → places ≤ more
+        → IsRoomy now new more
+    roomy_moved d v new now more there is longer grows = record {
+      nine = ap length is ∙ length-set vs k None ∙ roomy.nine;
+      room = omega (arith, ap count is, moved None d, ap one there, roomy.room, longer, grows);
     }
 
 -- ---- those of sessions
 
--- what a session has pending, in a list by rising number
-abbrev at_session : List (Option Version) → ℕ → Option Version
-at_session vs n = cond (is_session n) (get_or vs (n - 1) None) None
-
-module _ (vs : List (Option Version)) (nine : length vs ≡ 9) (session : ℕ) (low : 1 ≤ session) (high : session ≤ 9) where
-  -- what it has stands in its place
-  pub own_place : (d : Option Version) → at_session vs session ≡ get_or vs (session - 1) d
-  own_place d = ap (λ b. cond b (get_or vs (session - 1) None) None) (is_one session low high) ∙ get_or_default vs (session - 1) None d (omega (arith, nine, low, high))
+-- what a session has stands in its place
+pub own_place : (vs : List (Option Version)) (session : ℕ) → 1 ≤ session → (d : Option Version) → unwrap_or (of_session vs session) d ≡ get_or vs (session - 1) d
+own_place vs zero low d = absurd (omega (arith, low))
+own_place vs (suc n) low d = unwrap_or-slice_get vs n d ∙ ap (λ k. get_or vs k d) (omega arith)

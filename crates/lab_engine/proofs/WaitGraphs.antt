@@ -1,6 +1,9 @@
 -- A graph of who waits for whom, as the sets of those that each session waits for.
-use Rattle.std.proofs.Common.{◌≡◌, ◌≢◌, ℕ, ◌-◌, ◌<◌, ◌≤◌, ◌==◌, ◌&&◌, cond, true, false, refl, ap, sym, subst, ◌∙◌, inl, inr, arith, List, length, get_or, set, replicate, IsTrue, Option, Some, None, IfSome, ◌↔◌, is_some}
-use Rattle.lab_engine.proofs.Common.{cases_eq, eq-eqb, ne_eqb, both_ways, and_parts, and_from, get_or-set_same, get_or-set_other, get_or_default, has, waits_for, WaitsForOne, get_or-replicate, is_session}
+use Rattle.std.proofs.Common.{◌≡◌, ℕ, suc, ◌+◌, ◌≤◌, ◌==◌, ◌&&◌, ◌||◌, cond, true, false, refl, ap, sym, subst, ◌∙◌, inl, inr, arith, List, IsTrue, Option, Some, None, IfSome, ◌↔◌, is_some}
+use Rattle.std.specs.Option.{unwrap_or}
+use Rattle.lab_table.specs.Sessions.{of_session}
+use Rattle.lab_table.proofs.SessionOrder.{own_value, other_value}
+use Rattle.lab_engine.proofs.Common.{cases_eq, eq-eqb, ne_eqb, eqb-true, both_ways, and_parts, and_from, or_cases, or_left, or_right, has, waits_for, WaitsForOne, is_session}
 
 -- a session is from 1 to 9
 pub session_range : (s : ℕ) → is_session s ≡ true → (1 ≤ s) × (s ≤ 9)
@@ -15,45 +18,34 @@ unfolding waits_for
 waiter_range graph session other h = session_range session (and_parts _ _ h).0
 
 -- where nobody waits
-pub none_wait : (none : ℕ) → ((n : ℕ) → has none n ≡ false) → (session other : ℕ) → waits_for (replicate 9 none) session other ≡ false
+pub none_wait : (graph : List ℕ) (none : ℕ) → ((n : ℕ) → has none n ≡ false) → ((session : ℕ) → 1 ≤ session → session ≤ 9 → of_session graph session ≡ Some none)
+    → (session other : ℕ) → waits_for graph session other ≡ false
 unfolding waits_for
-none_wait none nobody session other =
-    elim (is_session session) as (λ own. is_session session ≡ own → (own && has (get_or (replicate 9 none) (session - 1) 0) other) ≡ false) [
+none_wait graph none nobody each session other =
+    elim (is_session session) as (λ own. is_session session ≡ own → (own && has (unwrap_or (of_session graph session) 0) other) ≡ false) [
       | false ↦ λ is. refl
-      | true ↦ λ is. ap (λ set. has set other) (get_or-replicate 9 (session - 1) none 0 (omega (arith, session_range session is))) ∙ nobody other
+      | true ↦ λ is. let range : (1 ≤ session) × (session ≤ 9) = session_range session is in ap (λ o. has (unwrap_or o 0) other) (each session range.0 range.1) ∙ nobody other
     ] refl
 
-module _ (graph : List ℕ) (size : length graph ≡ 9) (session : ℕ) (low : 1 ≤ session) (high : session ≤ 9) where
-  within : session - 1 < length graph
-  within = omega (arith, size, low, high)
+-- a session's own set has whom it waits for
+pub own_set : (graph : List ℕ) (session set : ℕ) → 1 ≤ session → session ≤ 9 → of_session graph session ≡ Some set → (other : ℕ) → has set other ≡ waits_for graph session other
+unfolding waits_for
+own_set graph session set low high is other =
+    sym (ap (λ o. has (unwrap_or o 0) other) is)
+    ∙ sym (ap (λ b. b && has (unwrap_or (of_session graph session) 0) other) (is_one session low high))
 
-  -- a session's own set has whom it waits for
-  pub own_set : (default other : ℕ) → has (get_or graph (session - 1) default) other ≡ waits_for graph session other
-  unfolding waits_for
-  own_set default other =
-      ap (λ set. has set other) (get_or_default graph (session - 1) default 0 within)
-      ∙ sym (ap (λ b. b && has (get_or graph (session - 1) 0) other) (is_one session low high))
-
-  -- one session's set put in
-  pub put_set : (new waiter other : ℕ) → waits_for (set graph (session - 1) new) waiter other ≡ cond (waiter == session) (has new other) (waits_for graph waiter other)
-  unfolding waits_for
-  put_set new waiter other = elim (cases_eq waiter session) [
-    | inl same ↦
-        subst (λ k. waits_for (set graph (session - 1) new) k other ≡ cond (k == session) (has new other) (waits_for graph k other)) (sym same)
-        (ap (λ b. b && has (get_or (set graph (session - 1) new) (session - 1) 0) other) (is_one session low high)
-        ∙ ap (λ s. has s other) (get_or-set_same graph (session - 1) new 0 within)
-        ∙ sym (ap (λ b. cond b (has new other) (waits_for graph session other)) (eq-eqb session session refl)))
-    | inr apart ↦ kept apart ∙ sym (ap (λ b. cond b (has new other) (waits_for graph waiter other)) (ne_eqb waiter session apart))
-  ]
-    where
-      kept : waiter ≢ session → (is_session waiter && has (get_or (set graph (session - 1) new) (waiter - 1) 0) other) ≡ (is_session waiter && has (get_or graph (waiter - 1) 0) other)
-      kept apart =
-          elim (is_session waiter) as (λ own. is_session waiter ≡ own
-          → (own && has (get_or (set graph (session - 1) new) (waiter - 1) 0) other) ≡ (own && has (get_or graph (waiter - 1) 0) other)) [
-            | false ↦ λ is. refl
-            | true ↦ λ is. ap (λ x. has x other)
-                (get_or-set_other graph (session - 1) (waiter - 1) new 0 (λ same. apart (omega (arith, same, low, (session_range waiter is).0))))
-          ] refl
+-- one session's set put in
+pub put_set : (old new : List ℕ) (session set : ℕ) → 1 ≤ session → session ≤ 9 → ((s : ℕ) → of_session new s ≡ cond (s == session) (Some set) (of_session old s))
+    → (waiter other : ℕ) → waits_for new waiter other ≡ cond (waiter == session) (has set other) (waits_for old waiter other)
+unfolding waits_for
+put_set old new session set low high each waiter other = elim (cases_eq waiter session) [
+  | inl same ↦
+      sym (own_set new waiter set (omega (arith, low, same)) (omega (arith, high, same)) (own_value old new session set each waiter same) other)
+      ∙ sym (ap (λ b. cond b (has set other) (waits_for old waiter other)) (eq-eqb waiter session same))
+  | inr apart ↦
+      ap (λ o. is_session waiter && has (unwrap_or o 0) other) (other_value old new session set each waiter apart)
+      ∙ sym (ap (λ b. cond b (has set other) (waits_for old waiter other)) (ne_eqb waiter session apart))
+]
 
 -- somebody whom a session waits for is in a set
 module _ (graph : List ℕ) (set own common session : ℕ) (on : (other : ℕ) → has own other ≡ waits_for graph session other)
@@ -70,21 +62,52 @@ module _ (graph : List ℕ) (set own common session : ℕ) (on : (other : ℕ) �
       from None none (other, waits, there) = absurd (both_ways _ (none refl other) (both other ∙ and_from _ _ (on other ∙ waits) there))
       from (Some s) none w = refl
 
--- of the sessions below a number those that wait for one in a set
-abbrev pub AreWaitersBelow : List ℕ → ℕ → ℕ → ℕ → Type 0
-AreWaitersBelow graph set number waiters = (session : ℕ) → IsTrue (has waiters session) ↔ ((session < number) × WaitsForOne graph set session)
+-- of the sessions up to a number those that wait for one in a set
+abbrev pub AreWaitersUpTo : List ℕ → ℕ → ℕ → ℕ → Type 0
+AreWaitersUpTo graph set number waiters = (session : ℕ) → IsTrue (has waiters session) ↔ ((session ≤ number) × WaitsForOne graph set session)
 
--- below 10 are all
-pub all_waiters : (graph : List ℕ) (set number waiters : ℕ) → 10 ≤ number → AreWaitersBelow graph set number waiters → (session : ℕ)
+-- up to 9 are all
+pub all_waiters : (graph : List ℕ) (set number waiters : ℕ) → 9 ≤ number → AreWaitersUpTo graph set number waiters → (session : ℕ)
     → IsTrue (has waiters session) ↔ WaitsForOne graph set session
-all_waiters graph set number waiters all h session = ((λ there. ((h session).0 there).1), (λ w. (h session).1 (below w, w)))
+all_waiters graph set number waiters all h session = ((λ there. ((h session).0 there).1), (λ w. (h session).1 (within w, w)))
   where
-    below : WaitsForOne graph set session → session < number
-    below (other, waits, there) = let range : (1 ≤ session) × (session ≤ 9) = waiter_range graph session other waits in omega (arith, range.1, all)
+    within : WaitsForOne graph set session → session ≤ number
+    within (other, waits, there) = let range : (1 ≤ session) × (session ≤ 9) = waiter_range graph session other waits in omega (arith, range.1, all)
 
--- below 1 is nobody
-pub no_waiters : (graph : List ℕ) (set none : ℕ) → ((n : ℕ) → has none n ≡ false) → AreWaitersBelow graph set 1 none
+-- up to 0 is nobody
+pub no_waiters : (graph : List ℕ) (set none : ℕ) → ((n : ℕ) → has none n ≡ false) → AreWaitersUpTo graph set 0 none
 no_waiters graph set none nobody session = ((λ there. absurd (both_ways _ (nobody session) there)), from)
   where
-    from : (session < 1) × WaitsForOne graph set session → IsTrue (has none session)
+    from : (session ≤ 0) × WaitsForOne graph set session → IsTrue (has none session)
     from (less, (other, waits, there)) = let range : (1 ≤ session) × (session ≤ 9) = waiter_range graph session other waits in absurd (omega (arith, range.0, less))
+
+-- one session more
+module _ (graph : List ℕ) (set number session old : ℕ) (are : AreWaitersUpTo graph set number old) (next : session ≡ suc number) where
+  -- which waits for one in the set
+  pub waiter_more : (new : ℕ) → ((n : ℕ) → has new n ≡ (n == session || has old n)) → WaitsForOne graph set session → AreWaitersUpTo graph set (number + 1) new
+  waiter_more new more waits s = (to, from)
+    where
+      to : IsTrue (has new s) → (s ≤ number + 1) × WaitsForOne graph set s
+      to there = elim (or_cases (s == session) (has old s) (sym (more s) ∙ there)) [
+        | inl own ↦ let same : s ≡ session = eqb-true s session own in (omega (arith, same, next), subst (WaitsForOne graph set) (sym same) waits)
+        | inr before ↦ (omega (arith, ((are s).0 before).0), ((are s).0 before).1)
+      ]
+
+      from : (s ≤ number + 1) × WaitsForOne graph set s → IsTrue (has new s)
+      from (few, w) = elim (cases_eq s session) [
+        | inl same ↦ more s ∙ or_left (s == session) (has old s) (eq-eqb s session same)
+        | inr apart ↦ more s ∙ or_right (s == session) (has old s) ((are s).1 (omega (arith, few, apart, next), w))
+      ]
+
+  -- which doesn't
+  pub waiter_passed : ¬ WaitsForOne graph set session → AreWaitersUpTo graph set (number + 1) old
+  waiter_passed none s = (to, from)
+    where
+      to : IsTrue (has old s) → (s ≤ number + 1) × WaitsForOne graph set s
+      to there = (omega (arith, ((are s).0 there).0), ((are s).0 there).1)
+
+      from : (s ≤ number + 1) × WaitsForOne graph set s → IsTrue (has old s)
+      from (few, w) = elim (cases_eq s session) [
+        | inl same ↦ absurd (none (subst (WaitsForOne graph set) same w))
+        | inr apart ↦ (are s).1 (omega (arith, few, apart, next), w)
+      ]

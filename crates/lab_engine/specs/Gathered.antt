@@ -4,6 +4,7 @@ use Rattle.std.specs.Prelude.{◌≡◌, ◌==◌, Bool, false, ℕ, zero, suc, 
 use Rattle.std.specs.Prelude as list
 use Rattle.std.specs.FinMap as map
 use Rattle.lab_table.specs.Row.{Row, row_eq, row_test}
+use Rattle.lab_table.specs.Sessions.{of_session}
 use Rattle.lab_table.specs.declared.statement.Command.{Command}
 use Rattle.lab_history.specs.declared.operation.Op.{Op}
 use Rattle.lab_history.specs.declared.transaction.Txn.{Txn as Recorded}
@@ -29,14 +30,9 @@ number_after Aborted by = None
 number_after (Waits on) by = by
 number_after (Refused fault) by = cond (is_fatal fault) None by
 
--- the number that is kept at a place
-abbrev pub number_at : List (Option ℕ) → ℕ → Option ℕ
-number_at numbers place = get_or numbers place None
-
 -- the numbers that are kept are those of the active transactions
-pub record AreActive (past : Past) (numbers : List (Option ℕ)) : Type 0 where
-  pub nine : length numbers ≡ 9
-  pub kept : (session : ℕ) → 1 ≤ session → session ≤ 9 → number_at numbers (session - 1) ≡ number_of (active past session)
+abbrev pub AreActive : Past → List (Option ℕ) → Type 0
+AreActive past numbers = (session : ℕ) → 1 ≤ session → session ≤ 9 → of_session numbers session ≡ Some (number_of (active past session))
 
 -- a gathered transaction as a recording has it
 abbrev pub recorded : GatheredTxn → Recorded
@@ -129,7 +125,7 @@ groups_from before (install ∷ installs) = cond (is_row_next install.0 installs
 
 -- what is gathered agrees with the log
 pub record Gathers (past : Past) (gathered : Gathering) : Type 0 where
-  pub active : AreActive past gathered.active.items
+  pub active : AreActive past gathered.active
   pub txns : list.map recorded gathered.txns.items ≡ recorded_txns past
   pub committed : (row : Row) → map.get gathered.committed row ≡ last_installed (commits past) row
   pub installs : (row : Row) → numbers_of row gathered.installs.items ≡ installers past row

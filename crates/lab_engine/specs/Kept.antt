@@ -1,10 +1,10 @@
 -- What is kept of a row.
-use Rattle.std.specs.Prelude.{◌≡◌, ◌≤◌, ℕ, ◌+◌, ◌-◌, cond, Option, None, is_some, List, length, get_or, count_by}
+use Rattle.std.specs.Prelude.{◌≡◌, ◌≤◌, ℕ, ◌+◌, Option, None, is_some, unwrap_or, List, length, count_by}
 use Rattle.std.specs.Coded.{Coded, coded×, coded_list, coded_ℕ, coded_option, code_by}
 use Rattle.std.proofs.Common.{refl}
+use Rattle.lab_table.specs.Sessions.{of_session}
 use Rattle.lab_engine.specs.declared.version.Version.{Version}
 use Rattle.lab_engine.specs.declared.row_state.Installed.{Installed}
-use Rattle.lab_engine.specs.Sessions.{is_session}
 
 -- the installed versions, the newest first; for each session, by rising number, the version that it has pending; and for how many versions there is room
 pub record Kept : Type 0 where
@@ -19,7 +19,7 @@ coded_kept version installed = code_by (List Installed × (List (Option Version)
 
 -- the version that a session has pending
 abbrev pub pending_of : Kept → ℕ → Option Version
-pending_of kept session = cond (is_session session) (get_or kept.pending (session - 1) None) None
+pending_of kept session = unwrap_or (of_session kept.pending session) None
 
 -- how many of some versions there are
 abbrev pub count : List (Option Version) → ℕ

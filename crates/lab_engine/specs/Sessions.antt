@@ -1,10 +1,7 @@
--- The sessions.
-use Rattle.std.specs.Prelude.{ℕ, ◌==◌, Bool, List, [], ◌∷◌}
+-- Which numbers are sessions'.
+use Rattle.std.specs.Prelude.{ℕ, ◌==◌, Bool}
 use Rattle.std.specs.List.{list_any}
-
--- all sessions, by rising number
-abbrev pub all_sessions : List ℕ
-all_sessions = 1 ∷ 2 ∷ 3 ∷ 4 ∷ 5 ∷ 6 ∷ 7 ∷ 8 ∷ 9 ∷ []
+pub use Rattle.lab_table.specs.Sessions.{all_sessions}
 
 -- whether a number is a session's
 abbrev pub is_session : ℕ → Bool

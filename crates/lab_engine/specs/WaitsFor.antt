@@ -1,6 +1,7 @@
 -- Who waits for whom, as a graph: for each session, by rising number, the set of those that it waits for.
-use Rattle.std.specs.Prelude.{◌≡◌, ◌-◌, ℕ, Bool, ◌&&◌, Some, List, [], ◌∷◌, Contains, IsTrue, ◌↔◌, get_or}
+use Rattle.std.specs.Prelude.{◌≡◌, ℕ, Bool, ◌&&◌, Some, List, [], ◌∷◌, Contains, IsTrue, ◌↔◌, unwrap_or}
 use Rattle.std.specs.List.Sorted.{IsStrictlyIncreasing}
+use Rattle.lab_table.specs.Sessions.{of_session}
 use Rattle.lab_table.specs.Table.{Table}
 use Rattle.lab_table.specs.declared.statement.Statement.{Statement}
 use Rattle.lab_history.specs.HistoryRules.{AllDistinct}
@@ -12,7 +13,7 @@ pub use Rattle.lab_engine.specs.Sessions.{is_session}
 
 -- whether one session waits for another
 unfoldable pub waits_for : List ℕ → ℕ → ℕ → Bool
-waits_for graph session other = is_session session && has (get_or graph (session - 1) 0) other
+waits_for graph session other = is_session session && has (unwrap_or (of_session graph session) 0) other
 
 -- one session waits for somebody in a set
 abbrev pub WaitsForOne : List ℕ → ℕ → ℕ → Type 0

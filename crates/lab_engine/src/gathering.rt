@@ -1,6 +1,6 @@
 //! What a log tells, gathered for its recording in one walk.
 
-ghost use Rattle.std.specs.Prelude.{◌≡◌, ◌≤◌, ◌<◌, ◌++◌, ◌∷◌, ◌-◌, [], length, IfOk, OnOk, Option, slice_get};
+ghost use Rattle.std.specs.Prelude.{◌≡◌, ◌≤◌, ◌<◌, ◌++◌, ◌∷◌, ◌-◌, [], length, IfOk, OnOk, Option};
 ghost use Rattle.std.specs.Prelude as list;
 ghost use Rattle.std.specs.FinMap as map;
 ghost use Rattle.lab_table.specs.Row.{Row};
@@ -11,14 +11,14 @@ ghost use Rattle.lab_engine.specs.Log.{Past, past_of};
 ghost use Rattle.lab_engine.specs.Rules.{IsLegal};
 ghost use Rattle.lab_engine.specs.Recording.{op_of};
 ghost use Rattle.lab_engine.specs.Gathered as plain;
-ghost use Rattle.lab_engine.specs.Gathered.{Gathers, AreActive, IsWithin};
+ghost use Rattle.lab_engine.specs.Gathered.{Gathers, IsWithin};
 
 use crate::event::{LogEvent, Outcome};
 use crate::event_query::{asked_statement, is_fatal_fault};
 use crate::installs::{install, installing};
 use crate::version::Versions;
 use lab_history::{Op, Outcome as End};
-use lab_table::{NoMemory, RowName, Session, TxnNo};
+use lab_table::{NoMemory, PerSession, RowName, TxnNo};
 use std::alloc::Global;
 
 /// A transaction, as far as the events went.
@@ -33,8 +33,8 @@ pub struct GatheredTxn {
 /// What the events so far say, and where they leave sessions and rows.
 #[derive(Drop)]
 pub struct Gathering {
-    /// For each of the sessions 1 to 9 the number of its active transaction, if any.
-    pub active: Vec<Option<TxnNo>>,
+    /// For each session the number of its active transaction, if any.
+    pub active: PerSession<Option<TxnNo>>,
     /// The transactions, by rising number.
     pub txns: Vec<GatheredTxn>,
     /// The last installed version of each row that was ever installed.
@@ -51,7 +51,7 @@ impl Gathering {
         ensures { IfOk result (Gathers (past_of log.now)) }
     {
         let mut gathered = Gathering {
-            active: none_active(alloc)?,
+            active: PerSession::all(None),
             txns: Vec::new(alloc),
             committed: Versions::new(alloc),
             installs: Vec::new(alloc),
@@ -68,57 +68,33 @@ impl Gathering {
         ensures { (level : Level) (setup : PlainTable) (past : Past) → Gathers past self.old → IsLegal level setup (event.now ∷ past)
             → IfOk result (λ _. Gathers (event.now ∷ past) self.new) }
     {
-        let place = place_of_session(event.session);
-        self.install(alloc, event, place)?;
-        self.add(alloc, event, place)?;
-        self.keep_active(event, place);
+        let by = self.active.get(event.session);
+        self.install(alloc, &event.outcome, by)?;
+        let by = self.active.get(event.session);
+        add_event(alloc, &mut self.txns, event, by)?;
+        let by = self.active.get(event.session);
+        self.active
+            .set(event.session, number_after(&event.outcome, by));
         Ok(())
     }
-}
 
-impl Gathering {
     /// Puts the versions that a commit installs over those installed before, and notes who installed them.
-    fn install(&mut self, alloc: Global, event: &LogEvent, place: usize) -> Result<(), NoMemory>
-        requires place { place < length self.old.active.items }
-        requires short { plain.IsShort (plain.installing event.now.outcome (plain.gathered_by self.old.txns.items (plain.number_at self.old.active.items place))) }
+    fn install(
+        &mut self,
+        alloc: Global,
+        outcome: &Outcome,
+        by: Option<TxnNo>,
+    ) -> Result<(), NoMemory>
+        requires { plain.IsShort (plain.installing outcome.now (plain.gathered_by self.old.txns.items by)) }
         ensures active { self.new.active ≡ self.old.active }
         ensures txns { self.new.txns ≡ self.old.txns }
         ensures committed { OnOk result ((row : Row) → map.get self.new.committed row
-            ≡ plain.installed_over (plain.installing event.now.outcome (plain.gathered_by self.old.txns.items (plain.number_at self.old.active.items place))) row (map.get self.old.committed row)) }
+            ≡ plain.installed_over (plain.installing outcome.now (plain.gathered_by self.old.txns.items by)) row (map.get self.old.committed row)) }
         ensures installs { OnOk result ((row : Row) → plain.numbers_of row self.new.installs.items
-            ≡ plain.numbers_of row self.old.installs.items ++ plain.installs_by (plain.installing event.now.outcome
-            (plain.gathered_by self.old.txns.items (plain.number_at self.old.active.items place))) row) }
+            ≡ plain.numbers_of row self.old.installs.items ++ plain.installs_by (plain.installing outcome.now (plain.gathered_by self.old.txns.items by)) row) }
     {
-        let by = self.active[place];
-        let txn = installing(&self.txns, &event.outcome, by);
+        let txn = installing(&self.txns, outcome, by);
         install(alloc, &mut self.committed, &mut self.installs, txn)
-    }
-
-    /// Adds what an event did to the transaction that its session had active.
-    fn add(&mut self, alloc: Global, event: &LogEvent, place: usize) -> Result<(), NoMemory>
-        requires place { place < length self.old.active.items }
-        requires within { IsWithin (plain.number_at self.old.active.items place) (length self.old.txns.items) }
-        ensures active { self.new.active ≡ self.old.active }
-        ensures txns { OnOk result (list.map plain.recorded self.new.txns.items
-            ≡ plain.txns_after event.now.command event.now.outcome (plain.number_at self.old.active.items place) (list.map plain.recorded self.old.txns.items)) }
-        ensures committed { self.new.committed ≡ self.old.committed }
-        ensures installs { self.new.installs ≡ self.old.installs }
-    {
-        let by = self.active[place];
-        add_event(alloc, &mut self.txns, event, by)
-    }
-
-    /// Keeps the number of the transaction that an event's session has active after it.
-    fn keep_active(&mut self, event: &LogEvent, place: usize)
-        requires { place < length self.old.active.items }
-        ensures active { (past : Past) → AreActive past self.old.active.items → place ≡ event.now.session - 1 → 1 ≤ event.now.session → event.now.session ≤ 9
-            → AreActive (event.now ∷ past) self.new.active.items }
-        ensures txns { self.new.txns ≡ self.old.txns }
-        ensures committed { self.new.committed ≡ self.old.committed }
-        ensures installs { self.new.installs ≡ self.old.installs }
-    {
-        let by = self.active[place];
-        self.active[place] = number_after(&event.outcome, by);
     }
 }
 
@@ -158,22 +134,6 @@ impl GatheredTxn {
     {
         self.outcome = End::Committed;
     }
-}
-
-/// No number for any session.
-fn none_active(alloc: Global) -> Result<Vec<Option<TxnNo>>, NoMemory>
-    ensures { IfOk result (λ numbers. AreActive [] numbers.items) }
-{
-    Vec::from_slice(alloc, &[None; 9])
-}
-
-/// The place of a session, where the first is session 1.
-fn place_of_session(session: Session) -> usize
-    ensures value { result ≡ session - 1 }
-    ensures low { 1 ≤ session }
-    ensures high { session ≤ 9 }
-{
-    usize::from(session.number() - 1)
 }
 
 /// The number of the active transaction of a session after one of its events.

@@ -7,7 +7,7 @@ ghost use Rattle.lab_engine.specs.Chains.{longer};
 ghost use Rattle.lab_engine.specs.Kept.{pending_of, IsReady};
 
 use crate::version::Version;
-use lab_table::{NoMemory, Session, TxnNo};
+use lab_table::{NoMemory, PerSession, Session, TxnNo};
 use std::alloc::Global;
 use std::marker::Model;
 
@@ -26,8 +26,7 @@ pub struct Installed {
 #[derive(Drop)]
 pub struct RowState {
     installed: Vec<Installed>,
-    /// By rising number of the session.
-    pending: [Option<Version>; 9],
+    pending: PerSession<Option<Version>>,
 }
 
 impl Model for RowState {
@@ -54,7 +53,7 @@ impl RowState {
     {
         RowState {
             installed: Vec::new(alloc),
-            pending: [None; 9],
+            pending: PerSession::all(None),
         }
     }
 
@@ -62,7 +61,7 @@ impl RowState {
     pub fn pending(&self, session: Session) -> Option<Version>
         ensures { result ≡ pending_of self.now session }
     {
-        self.pending[usize::from(session.number()) - 1]
+        self.pending.get(session)
     }
 
     /// The last version that was installed by a commit with fewer than so many events before it.
@@ -108,7 +107,7 @@ impl RowState {
         ensures pending { (other : ℕ) → pending_of self.new other ≡ cond (other == session) (Some version) (pending_of self.old other) }
         ensures ready { IsReady self.new }
     {
-        self.pending[usize::from(session.number()) - 1] = Some(version);
+        self.pending.set(session, Some(version));
     }
 
     /// From now on a session has none pending.
@@ -116,7 +115,7 @@ impl RowState {
         ensures chain { self.new.chain ≡ self.old.chain }
         ensures pending { (other : ℕ) → pending_of self.new other ≡ cond (other == session) None (pending_of self.old other) }
     {
-        self.pending[usize::from(session.number()) - 1] = None;
+        self.pending.set(session, None);
     }
 
     /// Installs what a session has pending, if anything, by its transaction's commit with so many events before it.
@@ -127,7 +126,7 @@ impl RowState {
         let Some(version) = self.pending(session) else {
             return;
         };
-        self.pending[usize::from(session.number()) - 1] = None;
+        self.pending.set(session, None);
         self.installed
             .push_reserved(Installed { version, by, place });
     }

@@ -5,24 +5,22 @@ ghost use Rattle.lab_engine.specs.SessionBits.{has};
 ghost use Rattle.lab_engine.specs.WaitsFor.{waits_for, WaitsForOne};
 
 use crate::session_set::SessionSet;
-use lab_table::Session;
+use lab_table::{PerSession, Session};
 use std::marker::Model;
 
 /// The waits-for graph of the sessions.
 #[derive(Drop)]
 pub struct WaitGraph {
-    /// For each session, by rising number, those that it waits for.
-    on: [SessionSet; 9],
+    /// For each session those that it waits for.
+    on: PerSession<SessionSet>,
 }
 
 impl Model for WaitGraph {
-    ghost use Rattle.std.specs.Prelude.{◌≡◌, ℕ, List, length};
+    ghost use Rattle.std.specs.Prelude.{ℕ, List};
 
     ghost Value = { List ℕ };
 
     ghost view = { λ g. g.on };
-
-    ghost invariant = { λ g. length g.on ≡ 9 };
 }
 
 impl WaitGraph {
@@ -31,7 +29,7 @@ impl WaitGraph {
         ensures { (session other : ℕ) → waits_for result session other ≡ false }
     {
         WaitGraph {
-            on: [SessionSet::none(); 9],
+            on: PerSession::all(SessionSet::none()),
         }
     }
 
@@ -39,14 +37,14 @@ impl WaitGraph {
     pub fn put(&mut self, session: Session, on: SessionSet)
         ensures { (waiter other : ℕ) → waits_for self.new waiter other ≡ cond (waiter == session) (has on other) (waits_for self.old waiter other) }
     {
-        self.on[usize::from(session.number()) - 1] = on;
+        self.on.set(session, on);
     }
 
     /// Those that a session waits for.
     pub fn on(&self, session: Session) -> SessionSet
         ensures { (other : ℕ) → has result other ≡ waits_for self.now session other }
     {
-        self.on[usize::from(session.number()) - 1]
+        self.on.get(session)
     }
 
     /// Whether a session waits for nobody.
@@ -68,11 +66,9 @@ impl WaitGraph {
         ensures { (session : ℕ) → IsTrue (has result session) ↔ WaitsForOne self.now set session }
     {
         let mut waiters = SessionSet::none();
-        for number in 1..10 {
-            if let Some(session) = Session::new(number) {
-                if self.is_waiter(session, set) {
-                    waiters.insert(session);
-                }
+        for session in Session::ALL {
+            if self.is_waiter(session, set) {
+                waiters.insert(session);
             }
         }
         waiters

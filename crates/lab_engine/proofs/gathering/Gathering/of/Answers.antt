@@ -20,4 +20,4 @@ loop-event-preserved c =
     (front_legal c.requires.legal.0 c.requires.legal.1 c.args.log.now c.loop-event.event-index c.event-item.result c.requires.legal.2 c.loop-event-test.true c.event-item.is))
 
 pub loop-event-init : goal.loop-event-init
-loop-event-init c = nothing_gathered _ c.in_ok-none_active.ensures c.new.ensures.items c.new-2.ensures c.new-3.ensures.items
+loop-event-init c = nothing_gathered _ c.all.ensures.each c.new.ensures.items c.new-2.ensures c.new-3.ensures.items

@@ -1,22 +1,30 @@
-use Rattle.lab_engine.proofs.Gatherings.{is_short, stay_within, gathers_by}
+use Rattle.std.proofs.Common.{◌≡◌, ◌==◌, sym, subst, ◌∙◌, ap, cond, map, length, Some}
+use Rattle.lab_table.specs.Sessions.{of_session}
+use Rattle.lab_engine.proofs.Common.{recorded, txns_after, number_after, same_Some, IsWithin}
+use Rattle.lab_engine.proofs.Gatherings.{is_short, is_within, gathers_by}
 use Rattle.lab_engine.proofs.gathering.Gathering.take_in.Goals as goal
 
-pub install-requires-clause-short : goal.install-requires-clause-short
-install-requires-clause-short c =
-    is_short c.requires.0 c.requires.1 c.requires.2 c.args.event.now c.args.self.now c.requires.3 c.requires.4 c.place_of_session-place.ensures.low c.place_of_session-place.ensures.high
-    c.place_of_session-place.result c.place_of_session-place.ensures.value c.requires.5
+pub install-requires : goal.install-requires
+install-requires c =
+    is_short c.requires.0 c.requires.1 c.requires.2 c.args.event.now c.args.self.now c.requires.3 c.requires.4 c.get-by.ensures.low c.get-by.ensures.high
+    c.get-by.result c.get-by.ensures.value c.requires.5
 
-pub add-requires-clause-within : goal.add-requires-clause-within
-add-requires-clause-within c =
-    stay_within c.requires.0 c.requires.1 c.requires.2 c.args.event.now c.args.self.now c.requires.3 c.requires.4 c.place_of_session-place.ensures.low c.place_of_session-place.ensures.high
-    c.place_of_session-place.result c.place_of_session-place.ensures.value c.install.new.self c.install.ensures.active c.install.ensures.txns
+pub add_event-requires : goal.add_event-requires
+add_event-requires c =
+    let same : c.get-by-2.result ≡ c.get-by.result =
+    same_Some _ _ (sym c.get-by-2.ensures.value ∙ ap (λ numbers. of_session numbers c.args.event.now.session) c.install.ensures.active ∙ c.get-by.ensures.value) in
+    subst (λ by. IsWithin by (length c.install.new.self.txns.items)) (sym same)
+    (is_within c.requires.0 c.requires.1 c.requires.2 c.args.event.now c.args.self.now c.requires.3 c.requires.4 c.get-by.ensures.low c.get-by.ensures.high
+    c.get-by.result c.get-by.ensures.value c.install.new.self c.install.ensures.txns)
 
 pub returns : goal.returns
 returns c = λ level setup past tells legal.
-    let low = c.place_of_session-place.ensures.low in
-    let high = c.place_of_session-place.ensures.high in
-    let there = c.place_of_session-place.ensures.value in
-    gathers_by level setup past c.args.event.now c.args.self.now tells legal low high c.place_of_session-place.result there
-    c.install.new.self c.add.new.self c.keep_active.new.self c.install.ensures.active c.install.ensures.txns c.in_ok-install.ensures.committed c.in_ok-install.ensures.installs
-    c.add.ensures.active c.in_ok-add.ensures.txns c.add.ensures.committed c.add.ensures.installs
-    (λ are. c.keep_active.ensures.active past are there low high) c.keep_active.ensures.txns c.keep_active.ensures.committed c.keep_active.ensures.installs
+    let event = c.args.event.now in
+    let before = ap (λ numbers. of_session numbers event.session) c.install.ensures.active ∙ c.get-by.ensures.value in
+    let added : c.get-by-2.result ≡ c.get-by.result = same_Some _ _ (sym c.get-by-2.ensures.value ∙ before) in
+    let left : c.get-by-3.result ≡ c.get-by.result = same_Some _ _ (sym c.get-by-3.ensures.value ∙ before) in
+    gathers_by level setup past event c.args.self.now tells legal c.get-by.ensures.low c.get-by.ensures.high c.get-by.result c.get-by.ensures.value
+    _ c.number_after.result (c.number_after.ensures ∙ ap (number_after event.outcome) left)
+    (λ s. c.set.ensures.each s ∙ ap (λ numbers. cond (s == event.session) (Some c.number_after.result) (of_session numbers s)) c.install.ensures.active)
+    (c.in_ok-add_event.ensures ∙ (λ i. txns_after event.command event.outcome (added i) (map recorded (c.install.ensures.txns i).items)))
+    c.in_ok-install.ensures.committed c.in_ok-install.ensures.installs

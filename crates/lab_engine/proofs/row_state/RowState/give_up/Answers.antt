@@ -4,5 +4,4 @@ use Rattle.lab_engine.proofs.row_state.RowState.give_up.Goals as goal
 
 pub invariant_of-self : goal.invariant_of-self
 invariant_of-self c =
-    let low = c.number.ensures.low in let high = c.number.ensures.high in let is = c.from.ensures in
-    roomy_less _ _ c.self.inside.pending c.self.invariant (c.from.result - 1) (omega (arith, is, low, high))
+    roomy_less _ _ c.self.inside.pending c.self.invariant (c.args.session - 1) (omega (arith, c.set.ensures.low, c.set.ensures.high)) _ c.set.ensures.values

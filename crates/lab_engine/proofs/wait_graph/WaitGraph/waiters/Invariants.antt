@@ -1,6 +1,6 @@
-use Rattle.lab_engine.proofs.WaitGraphs.{AreWaitersBelow}
+use Rattle.lab_engine.proofs.WaitGraphs.{AreWaitersUpTo}
 use Rattle.lab_engine.proofs.wait_graph.WaitGraph.waiters.Given as goal
 
 -- of the sessions so far those that wait for one in the set
-abbrev pub invariant-loop-number : goal.invariant-loop-number
-invariant-loop-number l = AreWaitersBelow l.self l.set l.number l.waiters
+abbrev pub invariant-loop-session : goal.invariant-loop-session
+invariant-loop-session l = AreWaitersUpTo l.self l.set l.session-index l.waiters
