@@ -1,10 +1,8 @@
 -- Lines at the front of a script that have been given.
 use Rattle.std.proofs.Common.{◌≡◌, ℕ, suc, ◌+◌, ◌≤◌, ◌<◌, refl, sym, ap, subst, ◌∙◌, arith, Bool, true, false, cond, ◌||◌, List, [], ◌∷◌, ◌++◌, inl, inr, length, drop, get_or}
-use Rattle.std.specs.Prelude.{◌==◌, Some, is_some, is_none, ◌&&◌, slice_index_or, slice_set}
+use Rattle.std.specs.Prelude.{◌==◌, Some, is_some, is_none, ◌&&◌}
 use Rattle.std.proofs.lemmas.Bool.{lt-ltb}
 use Rattle.std.proofs.lemmas.Bool.Decides.{eqb_tells}
-use Rattle.std.proofs.lemmas.List.{get_or-set_same, get_or-set_other}
-use Rattle.std.proofs.Math.ListN.{length-set}
 use Rattle.std.proofs.Math.Bool.{or-true}
 use Rattle.lab_script.specs.declared.script.Line.{Line as ScriptLine}
 use Rattle.lab_script.specs.Ranges.{SessionInRange}
@@ -13,23 +11,22 @@ use Rattle.lab_engine.specs.Log.{Past, past_of, waiting}
 use Rattle.lab_engine.specs.Recording.{Line, given, lines_by, next_line}
 use Rattle.lab_engine.proofs.Runs.{past_of-push}
 use Rattle.lab_session.specs.Play.{given_lines}
-use Rattle.lab_session.specs.UnderWay.{AreCounts, IsBehind, IsCovered}
+use Rattle.lab_session.specs.UnderWay.{count_of, HasOneMore, AreCounts, IsBehind, IsCovered}
 use Rattle.lab_session.specs.declared.scripted.Front.{Front}
-use Rattle.lab_session.proofs.Playing.{no_counts, drop_at, counts_more, counts_few, counts_same, lines_more}
+use Rattle.lab_session.proofs.Playing.{drop_at, counts_more, counts_few, counts_same, lines_more}
 
 -- none at first
-pub front_starts : (lines : List ScriptLine) → IsBehind lines (record { lines = 0; of_sessions = 0 ∷ 0 ∷ 0 ∷ 0 ∷ 0 ∷ 0 ∷ 0 ∷ 0 ∷ 0 ∷ 0 ∷ [] })
-front_starts lines = record {
+pub front_starts : (lines : List ScriptLine) (counts : List ℕ) → AreCounts (λ _. 0) counts → IsBehind lines (record { lines = 0; of_sessions = counts })
+front_starts lines counts none = record {
   passed = [];
-  counted = λ session few. no_counts session;
-  few = λ session few. omega (arith, no_counts session);
-  long = refl;
+  counted = none;
+  few = λ session own. omega (arith, none session own);
   within = omega arith;
   skips = λ past covered. refl;
 }
 
-pub nothing_covered : (past : Past) → IsCovered past (record { lines = 0; of_sessions = 0 ∷ 0 ∷ 0 ∷ 0 ∷ 0 ∷ 0 ∷ 0 ∷ 0 ∷ 0 ∷ 0 ∷ [] })
-nothing_covered past session few = omega (arith, no_counts session)
+pub nothing_covered : (past : Past) (counts : List ℕ) → AreCounts (λ _. 0) counts → IsCovered past (record { lines = 0; of_sessions = counts })
+nothing_covered past counts none session own = omega (arith, none session own)
 
 -- one line more, which is its session's
 module _ (lines : List ScriptLine) (front : Front) (line : ScriptLine) (behind : IsBehind lines front) (lt : front.lines < length lines)
@@ -59,52 +56,37 @@ module _ (lines : List ScriptLine) (front : Front) (line : ScriptLine) (behind :
       (ap (λ b. is_some (waiting past line.session) || b) (lt-ltb (lines_by line.session behind.passed) (given past line.session) (omega (arith, own_more, covered)))
       ∙ or-true (is_some (waiting past line.session)))
 
-  small : line.session < 10
-  small = omega (arith, own)
-
-  one_more : IsBehind lines (record { lines = front.lines + 1; of_sessions = slice_set front.of_sessions line.session (suc (slice_index_or front.of_sessions line.session 0)) })
-  one_more =
-      let there : line.session < length front.of_sessions = omega (arith, own, behind.long) in
-      record {
-        passed = more;
-        counted = counts_same _ _ _ (counts_more (λ session. lines_by session behind.passed) front.of_sessions line.session there small behind.counted)
-            (λ session. sym (lines_more session (line.session, line.command) behind.passed));
-        few = counts_few front.of_sessions line.session front.lines there small behind.few;
-        long = length-set front.of_sessions line.session (suc (slice_index_or front.of_sessions line.session 0)) ∙ behind.long;
-        within = omega (arith, lt);
-        skips = λ past covered. behind.skips past (λ session few. omega (arith, no_fewer session, covered session few)) ∙ step past (covered line.session small);
-      }
-
-  pub front_more : (place number : ℕ) → front.lines ≡ place → number ≡ line.session
-      → IsBehind lines (record { lines = place + 1; of_sessions = slice_set front.of_sessions number (slice_index_or front.of_sessions number 0 + 1) })
-  front_more place number p q =
-      let one : suc (slice_index_or front.of_sessions line.session 0) ≡ slice_index_or front.of_sessions line.session 0 + 1 = omega arith in
-      subst (λ (k : ℕ). IsBehind lines (record { lines = k + 1; of_sessions = slice_set front.of_sessions number (slice_index_or front.of_sessions number 0 + 1) })) p
-      (subst (λ (k : ℕ). IsBehind lines (record { lines = front.lines + 1; of_sessions = slice_set front.of_sessions k (slice_index_or front.of_sessions k 0 + 1) })) (sym q)
-      (subst (λ (k : ℕ). IsBehind lines (record { lines = front.lines + 1; of_sessions = slice_set front.of_sessions line.session k })) one one_more))
+  pub front_more : (counts : List ℕ) → HasOneMore line.session front.of_sessions counts → IsBehind lines (record { lines = front.lines + 1; of_sessions = counts })
+  front_more counts grown = record {
+    passed = more;
+    counted = counts_same _ _ _ (counts_more (λ session. lines_by session behind.passed) front.of_sessions counts line.session grown behind.counted)
+        (λ session. sym (lines_more session (line.session, line.command) behind.passed));
+    few = counts_few front.of_sessions counts line.session front.lines grown behind.few;
+    within = omega (arith, lt);
+    skips = λ past covered. behind.skips past (λ session few. omega (arith, no_fewer session, covered session few)) ∙ step past (covered line.session own);
+  }
 
 -- it is covered, where its session had given more than there were before it
-pub covered_more : (past : Past) (front : Front) (counts : List ℕ) (session lines : ℕ) → AreCounts (given past) counts → IsCovered past front → session < 10 → length front.of_sessions ≡ 10
-    → slice_index_or front.of_sessions session 0 < slice_index_or counts session 0
-    → IsCovered past (record { lines = lines; of_sessions = slice_set front.of_sessions session (slice_index_or front.of_sessions session 0 + 1) })
-covered_more past front counts session lines counted covered small long less s few = elim (eqb_tells session s) [
+pub covered_more : (past : Past) (front : Front) (counts new : List ℕ) (session lines : ℕ) → AreCounts (given past) counts → IsCovered past front → SessionInRange session
+    → HasOneMore session front.of_sessions new → count_of front.of_sessions session < count_of counts session → IsCovered past (record { lines = lines; of_sessions = new })
+covered_more past front counts new session lines counted covered own more less s few = elim (eqb_tells session s) [
   | inl p ↦ omega (
     arith,
     less,
-    counted session small,
+    counted session own,
     ap (given past) p.1,
-    ap (λ k. slice_index_or (slice_set front.of_sessions session (slice_index_or front.of_sessions session 0 + 1)) k 0) (sym p.1)
-        ∙ get_or-set_same front.of_sessions session (slice_index_or front.of_sessions session 0 + 1) 0 (omega (arith, small, long)),
+    ap (count_of front.of_sessions) p.1,
+    subst (λ b. count_of new s ≡ cond b 1 0 + count_of front.of_sessions s) p.0 (more s),
   )
-  | inr p ↦ omega (arith, covered s few, get_or-set_other front.of_sessions session s (slice_index_or front.of_sessions session 0 + 1) 0 (λ same. p.1 (sym same)))
+  | inr p ↦ omega (arith, covered s few, subst (λ b. count_of new s ≡ cond b 1 0 + count_of front.of_sessions s) p.0 (more s))
 ]
 
 -- what is covered stays so
 pub covered_later : (old new : List LogEvent) (event : LogEvent) (front : Front) → new ≡ old ++ event ∷ [] → IsCovered (past_of old) front → IsCovered (past_of new) front
 covered_later old new event front log covered session few =
-    subst (λ past. slice_index_or front.of_sessions session 0 ≤ given past session) (sym (ap past_of log ∙ past_of-push old event))
+    subst (λ past. count_of front.of_sessions session ≤ given past session) (sym (ap past_of log ∙ past_of-push old event))
     (at (event.session == session && is_none (waiting (past_of old) session)))
   where
-    at : (b : Bool) → slice_index_or front.of_sessions session 0 ≤ cond b 1 0 + given (past_of old) session
+    at : (b : Bool) → count_of front.of_sessions session ≤ cond b 1 0 + given (past_of old) session
     at true = omega (arith, covered session few)
     at false = omega (arith, covered session few)

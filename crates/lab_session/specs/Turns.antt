@@ -17,7 +17,7 @@ abbrev pub resting : Seated → Seated
 resting seat = record { session = seat.session; calls = seat.calls; holds = None }
 
 -- a command of a seat's session was stepped: the log has one event more, that of the command; answered, the seat's list has it with that event's receipt, else the seat holds it
-pub record IsAsked (old new : EngineRun) (seat after : Seated) (command : Command) (answered : Bool) : Type 0 where
+pub record IsStepped (old new : EngineRun) (seat after : Seated) (command : Command) (answered : Bool) : Type 0 where
   pub receipt : Receipt
   pub step : IsStep old.level old.setup old.log new.log seat.session command receipt.outcome
   pub place : receipt.place ≡ length new.log

@@ -1,5 +1,6 @@
 -- What a play by one thread knows after each event.
-use Rattle.std.specs.Prelude.{◌≡◌, ℕ, ◌≤◌, ◌<◌, Bool, List, [], ◌∷◌, ◌++◌, false, length, drop, slice_index_or, ⊤}
+use Rattle.std.specs.Prelude.{◌≡◌, ◌==◌, ℕ, ◌+◌, ◌≤◌, Bool, cond, List, [], ◌∷◌, ◌++◌, false, length, drop, Some, unwrap_or, ⊤}
+use Rattle.lab_table.specs.Sessions.{of_session}
 use Rattle.lab_table.specs.Table.{Table}
 use Rattle.lab_table.specs.declared.statement.Command.{Command}
 use Rattle.lab_engine.specs.declared.event.Level.{Level}
@@ -15,13 +16,25 @@ use Rattle.lab_session.specs.Bench.{IsSoundRun}
 use Rattle.lab_session.specs.Play.{given_lines}
 use Rattle.lab_session.specs.declared.scripted.Front.{Front}
 
--- the numbers kept of the sessions, each at its session's number
-abbrev pub AreCounts : (ℕ → ℕ) → List ℕ → Type 0
-AreCounts of counts = (session : ℕ) → session < 10 → slice_index_or counts session 0 ≡ of session
+-- how many are counted for a session
+abbrev pub count_of : List ℕ → ℕ → ℕ
+count_of counts session = unwrap_or (of_session counts session) 0
 
--- the tests kept of the sessions from 1 to 9, each at its session's number
+-- whether a session is marked
+abbrev pub is_marked : List Bool → ℕ → Bool
+is_marked marks session = unwrap_or (of_session marks session) false
+
+-- the numbers kept of the sessions
+abbrev pub AreCounts : (ℕ → ℕ) → List ℕ → Type 0
+AreCounts of counts = (session : ℕ) → SessionInRange session → count_of counts session ≡ of session
+
+-- one session has one more
+abbrev pub HasOneMore : ℕ → List ℕ → List ℕ → Type 0
+HasOneMore session old new = (s : ℕ) → count_of new s ≡ cond (session == s) 1 0 + count_of old s
+
+-- the tests kept of the sessions
 abbrev pub AreTests : (ℕ → Bool) → List Bool → Type 0
-AreTests of tests = (session : ℕ) → 1 ≤ session → session < 10 → slice_index_or tests session false ≡ of session
+AreTests of tests = (session : ℕ) → SessionInRange session → of_session tests session ≡ Some (of session)
 
 -- each event is a session's
 abbrev pub AllOfSessions : Past → Type 0
@@ -45,12 +58,11 @@ pub record IsUnderWay (run : EngineRun) (lines : List Line) (counts : List ℕ) 
 pub record IsBehind (lines : List ScriptLine) (front : Front) : Type 0 where
   pub passed : List Line
   pub counted : AreCounts (λ session. lines_by session passed) front.of_sessions
-  pub few : (session : ℕ) → session < 10 → slice_index_or front.of_sessions session 0 ≤ front.lines
-  pub long : length front.of_sessions ≡ 10
+  pub few : (session : ℕ) → SessionInRange session → count_of front.of_sessions session ≤ front.lines
   pub within : front.lines ≤ length lines
-  pub skips : (past : Past) → ((session : ℕ) → session < 10 → lines_by session passed ≤ given past session)
+  pub skips : (past : Past) → ((session : ℕ) → SessionInRange session → lines_by session passed ≤ given past session)
       → next_line past [] (given_lines lines) ≡ next_line past passed (given_lines (drop front.lines lines))
 
 -- each session has given as many lines as it has at the front
 abbrev pub IsCovered : Past → Front → Type 0
-IsCovered past front = (session : ℕ) → session < 10 → slice_index_or front.of_sessions session 0 ≤ given past session
+IsCovered past front = (session : ℕ) → SessionInRange session → count_of front.of_sessions session ≤ given past session

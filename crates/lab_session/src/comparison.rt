@@ -1,15 +1,18 @@
 //! The lists of all seats beside a log, compared in one walk of it.
 
-ghost use Rattle.std.specs.Prelude.{◌≡◌, ◌≤◌, ◌<◌, ℕ, List, [], ◌∷◌, ◌++◌, cond, IsTrue, ◌↔◌, MatchOption, HoldsAt};
+ghost use Rattle.std.specs.Prelude.{◌≡◌, ◌≤◌, ℕ, List, [], ◌∷◌, ◌++◌, cond, IsTrue, ◌↔◌, MatchOption};
+ghost use Rattle.std.specs.Option.{IsSomeAnd};
+ghost use Rattle.lab_table.specs.Sessions.{of_session};
 ghost use Rattle.lab_engine.specs.Recording.{is_answer};
+ghost use Rattle.lab_script.specs.Ranges.{SessionInRange};
 ghost use Rattle.lab_session.specs.declared.seat.Call.{Call as Called};
 ghost use Rattle.lab_session.specs.Seats.{Seated, call_at, placed_calls};
 ghost use Rattle.lab_session.specs.Closing.{seats_of, AgreeOf, DifferAt};
 ghost use Rattle.lab_session.specs.Compared.{Fits, Says};
 
-use crate::seat::{Call, SESSIONS, Seat, is_answered};
+use crate::seat::{Call, Seat, is_answered};
 use lab_engine::LogEvent;
-use lab_table::Session;
+use lab_table::{PerSession, Session};
 
 /// How far the list of a session's seat is its session's calls in the events of a log that were walked.
 #[derive(Clone, Copy)]
@@ -86,28 +89,25 @@ impl<'a> Comparison<'a> {
     }
 }
 
-/// The comparisons of all sessions before the first event, each at its number.
-fn unwalked<'a>(seats: &'a [Seat]) -> [Comparison<'a>; SESSIONS]
-    ensures { (session : ℕ) (all : List Called) → 1 ≤ session → session < 10 → HoldsAt (Says seats.now session all all) result session }
+/// The comparisons of all sessions before the first event.
+fn unwalked<'a>(seats: &'a [Seat]) -> PerSession<Comparison<'a>>
+    ensures { (session : ℕ) (all : List Called) → SessionInRange session → IsSomeAnd (of_session result session) (Says seats.now session all all) }
 {
-    let mut comparisons = [Comparison::Unseated; SESSIONS];
-    for number in 1..10u8 {
-        let Some(session) = Session::new(number) else {
-            unreachable!()
-        };
-        comparisons[usize::from(number)] = Comparison::new(seats, session);
+    let mut comparisons = PerSession::all(Comparison::Unseated);
+    for session in Session::ALL {
+        comparisons.set(session, Comparison::new(seats, session));
     }
     comparisons
 }
 
-/// The comparisons of all sessions behind the last event of a log, each at its number.
-pub(crate) fn compared<'a>(seats: &'a [Seat], log: &[LogEvent]) -> [Comparison<'a>; SESSIONS]
-    ensures { (session : ℕ) → 1 ≤ session → session < 10 → HoldsAt (Says seats.now session (placed_calls session log.now) []) result session }
+/// The comparisons of all sessions behind the last event of a log.
+pub(crate) fn compared<'a>(seats: &'a [Seat], log: &[LogEvent]) -> PerSession<Comparison<'a>>
+    ensures { (session : ℕ) → SessionInRange session → IsSomeAnd (of_session result session) (Says seats.now session (placed_calls session log.now) []) }
 {
     let mut comparisons = unwalked(seats);
     for (before, event) in log.iter().enumerate() {
-        let number = usize::from(event.session.number());
-        comparisons[number] = comparisons[number].after(before + 1, event);
+        let comparison = comparisons.get(event.session).after(before + 1, event);
+        comparisons.set(event.session, comparison);
     }
     comparisons
 }

@@ -15,7 +15,7 @@ ghost use Rattle.lab_session.specs.Waiting.{still_waits, handed_back, RestsOrHol
 use crate::bench::Bench;
 use crate::fault::{CloseFault, LabFault};
 use crate::seat::Seat;
-use crate::turn::{Progress, asked, ended, gone_on, retried};
+use crate::turn::{Progress, ended, gone_on, retried, stepped};
 use lab_engine::{Engine, Recording};
 use lab_table::{Command, NoMemory, Session};
 use std::alloc::Global;
@@ -67,10 +67,10 @@ fn new_seats(alloc: Global, sessions: u8) -> Result<Vec<Seat>, NoMemory>
     ensures { IfOk result (λ seats. seats.items ≡ map new_seat (numbers_from 1 sessions)) }
 {
     let mut seats = Vec::with_capacity(alloc, usize::from(sessions))?;
-    for number in 1..sessions + 1 {
-        let Some(session) = Session::new(number) else {
-            unreachable!()
-        };
+    for session in Session::ALL {
+        if session.number() > sessions {
+            return Ok(seats);
+        }
         seats.push(Seat::new(alloc, session))?;
     }
     Ok(seats)
@@ -160,7 +160,7 @@ impl<E: Engine + Drop> Lab<E> {
     {
         let mut seat = seat;
         let mut shared = self.shared.lock(rt);
-        match asked(&mut shared.bench, alloc, &mut seat, command) {
+        match stepped(&mut shared.bench, alloc, &mut seat, command) {
             Ok(progress) => {
                 let Progress { answered, change } = progress;
                 change.wake(&self.changed);

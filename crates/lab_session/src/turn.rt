@@ -11,7 +11,7 @@ ghost use Rattle.lab_engine.specs.Recording.{IsLeastRetryable};
 ghost use Rattle.lab_session.specs.Bench.{IsFull};
 ghost use Rattle.lab_session.specs.Waiting.{still_waits, lab_fault_of, TellsFull};
 ghost use Rattle.lab_session.specs.Seats.{last_outcome, IsOpen};
-ghost use Rattle.lab_session.specs.Turns.{resting, IsAsked, IsRetried};
+ghost use Rattle.lab_session.specs.Turns.{resting, IsStepped, IsRetried};
 
 use crate::bench::{Bench, BenchFault};
 use crate::change::Change;
@@ -51,13 +51,13 @@ fn reserve_call(calls: &mut Vec<Call>, ends: bool) -> Result<(), NoMemory>
 
 /// Steps a command of a seat's session. Answered, it stands in the seat's list with its receipt; else it waits, and the
 /// seat holds it. Refused, it isn't waiting, and is handed back; nothing has changed then.
-pub(crate) fn asked<E: Engine>(
+pub(crate) fn stepped<E: Engine>(
     bench: &mut Bench<E>,
     alloc: Global,
     seat: &mut Seat,
     command: Command,
 ) -> Result<Progress, (Command, LabFault)>
-    ensures asked { IfOk result (λ progress. IsAsked bench.old bench.new seat.old seat.new command progress.answered) }
+    ensures stepped { IfOk result (λ progress. IsStepped bench.old bench.new seat.old seat.new command progress.answered) }
     ensures waits { IfOk result (λ progress. progress.answered ≡ false → IsSome (waiting (past_of bench.new.log) seat.old.session)) }
     ensures asks { IfOk result (λ progress. progress.answered ≡ false → asks_for command ≢ None) }
     ensures level { bench.new.level ≡ bench.old.level }
@@ -94,7 +94,7 @@ pub(crate) fn asked<E: Engine>(
     })
 }
 
-/// Steps the command that a seat holds, as [`asked`] does; answered, the seat holds none. None where the session waits,
+/// Steps the command that a seat holds, as [`stepped`] does; answered, the seat holds none. None where the session waits,
 /// and then nothing is done.
 pub(crate) fn gone_on<E: Engine>(
     bench: &mut Bench<E>,
@@ -102,8 +102,8 @@ pub(crate) fn gone_on<E: Engine>(
     seat: &mut Seat,
 ) -> Result<Option<Progress>, LabFault>
     requires { IsSome seat.old.holds }
-    ensures asked { IfOk result (λ done. IfSome done (λ progress. (command : _) × (seat.old.holds ≡ Some command)
-        × IsAsked bench.old bench.new (resting seat.old) seat.new command progress.answered)) }
+    ensures stepped { IfOk result (λ done. IfSome done (λ progress. (command : _) × (seat.old.holds ≡ Some command)
+        × IsStepped bench.old bench.new (resting seat.old) seat.new command progress.answered)) }
     ensures rests { IfOk result (λ done. IfSome done (λ progress. waiting (past_of bench.old.log) seat.old.session ≡ None)) }
     ensures waits { IfOk result (λ done. IfNone done (IsSome (waiting (past_of bench.old.log) seat.old.session))) }
     ensures same_log { IfOk result (λ done. IfNone done (bench.new.log ≡ bench.old.log)) }
@@ -123,7 +123,7 @@ pub(crate) fn gone_on<E: Engine>(
     let Some(command) = seat.holds.take() else {
         unreachable!()
     };
-    match asked(bench, alloc, seat, command) {
+    match stepped(bench, alloc, seat, command) {
         Ok(progress) => Ok(Some(progress)),
         Err(refused) => {
             let (command, fault) = refused;

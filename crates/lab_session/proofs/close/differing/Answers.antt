@@ -1,30 +1,33 @@
-use Rattle.std.proofs.Common.{◌≡◌, [], sym, subst, ◌∙◌, arith, inl, inr}
-use Rattle.std.specs.Prelude.{slice_index_or}
-use Rattle.std.proofs.lemmas.Bool.{cases_eq}
+use Rattle.std.proofs.Common.{[], refl, arith, subst, get_or}
+use Rattle.std.specs.Option.{IsSomeAnd}
+use Rattle.lab_table.specs.Sessions.{all_sessions}
+use Rattle.lab_table.proofs.SessionOrder.{session_at, none_yet, one_more}
 use Rattle.lab_session.specs.Seats.{placed_calls}
 use Rattle.lab_session.specs.Compared.{Says}
 use Rattle.lab_session.proofs.close.differing.Goals as goal
 
-pub returns-in-Some-difference : goal.returns-in-Some-difference
-returns-in-Some-difference c =
-    let session = c.in-Some.session in
-    let found = slice_index_or c.compared-comparisons.result c.from.result c.index-comparisons-from.result in
-    let at : session ≡ c.from.result = c.in-Some.ensures.value ∙ sym c.from.ensures in
-    let says : Says c.args.seats.now session (placed_calls session c.args.log.now) [] found =
-    subst (λ k. Says c.args.seats.now session (placed_calls session c.args.log.now) [] (slice_index_or c.compared-comparisons.result k c.index-comparisons-from.result)) at
-    (c.compared-comparisons.ensures session (omega (arith, at)) (omega (arith, at)) c.index-comparisons-from.result) in record {
-      differs = c.in-Some-difference.ensures c.args.log.now c.args.seats.now session (c.requires session (omega (arith, at)) (omega (arith, at))) says;
-      least = λ other low high. c.loop-number.invariant other low (omega (arith, high, at));
+pub loop-session-init : goal.loop-session-init
+loop-session-init c = none_yet _
+
+pub returns-in-Some : goal.returns-in-Some
+returns-in-Some c =
+    let session = get_or all_sessions c.loop-session.session-index c.session-item.result in
+    let at = session_at _ c.loop-session.session-index c.session-item.result refl c.loop-session-test.true in
+    let says : Says c.args.seats.now session (placed_calls session c.args.log.now) [] c.get.result =
+    subst (λ o. IsSomeAnd o (Says c.args.seats.now session (placed_calls session c.args.log.now) [])) c.get.ensures.value
+    (c.compared-comparisons.ensures session (c.get.ensures.low, c.get.ensures.high)) in record {
+      differs = c.in-Some.ensures c.args.log.now c.args.seats.now session (c.requires session c.get.ensures.low (omega (arith, c.get.ensures.high))) says;
+      least = λ other low less. c.loop-session.invariant other low (omega (arith, at, less));
     }
 
-pub loop-number-preserved : goal.loop-number-preserved
-loop-number-preserved c = λ session low high. elim (cases_eq session c.loop-number.number) [
-  | inl same ↦
-      let found = slice_index_or c.compared-comparisons.result c.from.result c.index-comparisons-from.result in
-      let at : session ≡ c.from.result = same ∙ sym c.from.ensures in
-      let says : Says c.args.seats.now session (placed_calls session c.args.log.now) [] found =
-      subst (λ k. Says c.args.seats.now session (placed_calls session c.args.log.now) [] (slice_index_or c.compared-comparisons.result k c.index-comparisons-from.result)) at
-      (c.compared-comparisons.ensures session low (omega (arith, at)) c.index-comparisons-from.result) in
-      c.in_default-difference.ensures c.args.log.now c.args.seats.now session (c.requires session low (omega (arith, at))) says
-  | inr apart ↦ c.loop-number.invariant session low (omega (arith, apart))
-]
+pub loop-session-preserved : goal.loop-session-preserved
+loop-session-preserved c =
+    let session = get_or all_sessions c.loop-session.session-index c.session-item.result in
+    let says : Says c.args.seats.now session (placed_calls session c.args.log.now) [] c.get.result =
+    subst (λ o. IsSomeAnd o (Says c.args.seats.now session (placed_calls session c.args.log.now) [])) c.get.ensures.value
+    (c.compared-comparisons.ensures session (c.get.ensures.low, c.get.ensures.high)) in
+    one_more _ _ c.loop-session.session-index c.session-item.result refl c.loop-session-test.true c.loop-session.invariant
+    (c.in_default.ensures c.args.log.now c.args.seats.now session (c.requires session c.get.ensures.low (omega (arith, c.get.ensures.high))) says)
+
+pub returns : goal.returns
+returns c = λ session low high. c.loop-session.invariant session low (omega (arith, high, c.loop-session-test.false))

@@ -1,25 +1,25 @@
-use Rattle.std.proofs.Common.{◌≡◌, sym, subst, ap, ◌∙◌, arith, inl, inr}
-use Rattle.std.specs.Prelude.{slice_index_or, slice_set}
+use Rattle.std.proofs.Common.{refl, sym, subst, arith, inl, inr, get_or}
+use Rattle.std.specs.Option.{IsSomeAnd}
 use Rattle.std.proofs.lemmas.Bool.{cases_eq}
-use Rattle.std.proofs.Math.ListN.{length-set}
-use Rattle.std.proofs.lemmas.List.{get_or-set_same, get_or-set_other}
+use Rattle.lab_table.specs.Sessions.{all_sessions}
+use Rattle.lab_table.proofs.SessionOrder.{session_at, none_yet, own_value, other_value}
 use Rattle.lab_session.specs.Compared.{Says}
 use Rattle.lab_session.proofs.comparison.unwalked.Goals as goal
 
-pub loop-number-preserved : goal.loop-number-preserved
-loop-number-preserved c =
+pub loop-session-init : goal.loop-session-init
+loop-session-init c = none_yet _
+
+pub loop-session-preserved : goal.loop-session-preserved
+loop-session-preserved c = λ s low high all.
     let seats = c.args.seats.now in
-    let old = c.loop-number.comparisons in
-    let new = c.new-in-loop-number.result in (
-      length-set old c.from.result new ∙ c.loop-number.invariant.0,
-      λ session all low high d. elim (cases_eq session c.from.result) [
-        | inl same ↦
-            let here : slice_index_or (slice_set old c.from.result new) session d ≡ new =
-            ap (λ k. slice_index_or (slice_set old c.from.result new) k d) same ∙ get_or-set_same old c.from.result new d (omega (arith, c.loop-number.invariant.0)) in
-            subst (λ e. Says seats session all all e) (sym here) (subst (λ k. Says seats k all all new) (c.in-Some.ensures.value ∙ sym c.from.ensures ∙ sym same) (c.new-in-loop-number.ensures all))
-        | inr apart ↦ subst (λ e. Says seats session all all e) (sym (get_or-set_other old c.from.result session new d apart)) (c.loop-number.invariant.1 session all low (omega (arith, apart)) d)
-      ],
-    )
+    let new = c.new.result in
+    let at = session_at _ c.loop-session.session-index c.session-item.result refl c.loop-session-test.true in
+    elim (cases_eq s (get_or all_sessions c.loop-session.session-index c.session-item.result)) [
+      | inl same ↦ subst (λ o. IsSomeAnd o (Says seats s all all)) (sym (own_value _ _ _ new c.set.ensures.each s same))
+          (subst (λ k. Says seats k all all new) (sym same) (c.new.ensures all))
+      | inr apart ↦ subst (λ o. IsSomeAnd o (Says seats s all all)) (sym (other_value _ _ _ new c.set.ensures.each s apart))
+          (c.loop-session.invariant s low (omega (arith, apart, at, high)) all)
+    ]
 
 pub returns : goal.returns
-returns c = λ session all low high. c.loop-number.invariant.1 session all low (omega (arith, high))
+returns c = λ session all own. c.loop-session.invariant session own.0 (omega (arith, own.1, c.loop-session-test.false)) all
