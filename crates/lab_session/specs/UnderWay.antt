@@ -20,10 +20,6 @@ use Rattle.lab_session.specs.declared.scripted.Front.{Front}
 abbrev pub count_of : List ℕ → ℕ → ℕ
 count_of counts session = unwrap_or (of_session counts session) 0
 
--- whether a session is marked
-abbrev pub is_marked : List Bool → ℕ → Bool
-is_marked marks session = unwrap_or (of_session marks session) false
-
 -- the numbers kept of the sessions
 abbrev pub AreCounts : (ℕ → ℕ) → List ℕ → Type 0
 AreCounts of counts = (session : ℕ) → SessionInRange session → count_of counts session ≡ of session
@@ -31,10 +27,6 @@ AreCounts of counts = (session : ℕ) → SessionInRange session → count_of co
 -- one session has one more
 abbrev pub HasOneMore : ℕ → List ℕ → List ℕ → Type 0
 HasOneMore session old new = (s : ℕ) → count_of new s ≡ cond (session == s) 1 0 + count_of old s
-
--- the tests kept of the sessions
-abbrev pub AreTests : (ℕ → Bool) → List Bool → Type 0
-AreTests of tests = (session : ℕ) → SessionInRange session → of_session tests session ≡ Some (of session)
 
 -- each event is a session's
 abbrev pub AllOfSessions : Past → Type 0
