@@ -1,4 +1,4 @@
-use Rattle.std.proofs.Common.{◌≡◌, ◌≢◌, ◌+◌, List, sym, subst, ap, ◌∙◌, drop, inl, inr}
+use Rattle.std.proofs.Common.{◌+◌, List, sym, subst, ap, ◌∙◌, drop, inl, inr}
 use Rattle.std.specs.Option.{IsSomeAnd}
 use Rattle.std.proofs.lemmas.Bool.{cases_eq}
 use Rattle.lab_table.specs.Sessions.{of_session}
