@@ -1,6 +1,6 @@
 -- What a log tells, event by event.
-use Rattle.std.proofs.Common.{◌≡◌, ℕ, ◌+◌, ◌-◌, ◌≤◌, ◌<◌, ◌++◌, reverse, arith, refl, sym, ap, subst, ◌∙◌, Bool, true, false, cond, ◌==◌, List, [], ◌∷◌, map as each, length, take, drop, get_or, set, inl, inr, Option, Some, None, is_some, option_map, slice_get}
-use Rattle.lab_engine.proofs.Common.{none_some, option_or, append-nil, length-map, length-set, length-reverse, get_or-set_same, get_or-set_other, reverse-append, Row, Table, Command, Op, Outcome, Listed, Committed, Refused, Level, LogEvent, Past, past_of, Txn, is_fatal, active, active_after, commits_after, commits, begun, last_version, version_by, writers, numbers, installers, last_installed, IsLegal, recorded_txn, recorded_txns, number_of, number_after, AreActive, recorded, IsWithin, gathered_by, installing, installed_over, installs_by, same_Some, eqb_tells, reverse_onto, reverse-reverse, take-append-drop, slice_get-map, version_told, Recorded, GatheredTxn}
+use Rattle.std.proofs.Common.{◌≡◌, ℕ, ◌+◌, ◌-◌, ◌≤◌, ◌<◌, ◌++◌, reverse, arith, refl, sym, ap, subst, ◌∙◌, Bool, true, false, cond, ◌==◌, List, [], ◌∷◌, map as each, length, take, drop, inl, inr, Option, Some, None, is_some, option_map, slice_get}
+use Rattle.lab_engine.proofs.Common.{none_some, option_or, append-nil, length-map, length-reverse, reverse-append, Row, Table, Command, Op, Outcome, Listed, Committed, Refused, Level, LogEvent, Past, past_of, Txn, is_fatal, active, active_after, commits_after, commits, begun, last_version, version_by, writers, numbers, installers, last_installed, IsLegal, recorded_txn, recorded_txns, number_of, number_after, AreActive, recorded, IsWithin, gathered_by, installing, installed_over, installs_by, same_Some, eqb_tells, reverse_onto, reverse-reverse, take-append-drop, slice_get-map, version_told, Recorded, GatheredTxn}
 use Rattle.lab_table.specs.Sessions.{of_session}
 use Rattle.lab_table.proofs.SessionOrder.{own_value, other_value}
 use Rattle.lab_engine.proofs.EventBounds.{ops_at_most}

@@ -1,5 +1,4 @@
-use Rattle.lab_table.proofs.SessionOrder.{session_at}
-use Rattle.lab_engine.proofs.WaitGraphs.{no_waiters, all_waiters, waiter_more, waiter_passed}
+use Rattle.lab_engine.proofs.WaitGraphs.{no_waiters, all_waiters}
 use Rattle.lab_engine.proofs.wait_graph.WaitGraph.waiters.Goals as goal
 
 pub loop-session-init : goal.loop-session-init
