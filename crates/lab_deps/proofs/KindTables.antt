@@ -1,13 +1,12 @@
 -- The kinds between the transactions of a list, read by their places.
-use Rattle.std.proofs.Common.{◌≡◌, ◌↔◌, ◌≤◌, ◌+◌, ◌*◌, ◌==◌, ℕ, Bool, true, false, cond, Some, List, [], map, length, get_or, drop, sym, refl, ap, ◌∙◌, subst, arith}
+use Rattle.std.proofs.Common.{◌≡◌, ◌↔◌, ◌+◌, ◌*◌, ◌==◌, ℕ, Bool, true, false, cond, Some, List, [], map, length, get_or, drop, sym, ap, ◌∙◌, subst, arith}
 use Rattle.std.specs.Prelude.{Contains, slice_get, option_map}
 use Rattle.std.proofs.lemmas.List.{length-map, get_or-drop, get_or_past}
 use Rattle.std.proofs.lemmas.Option.{same_Some, slice_get-map}
 use Rattle.lab_table.specs.Row.{Row}
-use Rattle.lab_deps.specs.KindBits.{has_bit, place, bits_at, bits_of, cells_from, column_of, edge_of}
+use Rattle.lab_deps.specs.KindBits.{has_bit, place, bits_at, cells_from, column_of, edge_of}
 use Rattle.lab_deps.specs.KindsBetween.{AreKindsTo, IsTold}
 use Rattle.lab_deps.specs.declared.edge.Edge.{Edge}
-use Rattle.lab_deps.specs.declared.edge.Kind.{Kind}
 use Rattle.lab_deps.specs.declared.kinds.Kinds.{Kinds}
 
 -- what is made of a list has at each place what is made of what stands there

@@ -1,7 +1,6 @@
-use Rattle.std.proofs.Common.{◌≡◌, ◌≤◌, refl, sym, ap, ◌∙◌, subst, length, arith}
+use Rattle.std.proofs.Common.{arith}
 use Rattle.std.proofs.lemmas.Option.{slice_get-get_or}
-use Rattle.lab_deps.specs.FrontSets.{IsFront, AreFronts}
-use Rattle.lab_deps.proofs.Fronts.{front_none, front_next, no_fronts}
+use Rattle.lab_deps.proofs.Fronts.{front_next}
 use Rattle.lab_deps.proofs.front_sets.fronts_of.Goals as goal
 
 pub loop-place-preserved : goal.loop-place-preserved

@@ -1,4 +1,4 @@
-use Rattle.std.proofs.Common.{◌≡◌, ◌≤◌, ◌+◌, ◌*◌, length}
+use Rattle.std.proofs.Common.{◌≡◌, ◌≤◌, ◌*◌, length}
 use Rattle.lab_deps.specs.FrontSets.{IsFront, AreFronts}
 use Rattle.lab_deps.proofs.front_sets.fronts_of.Given as goal
 

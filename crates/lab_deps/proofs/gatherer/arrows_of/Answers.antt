@@ -1,4 +1,4 @@
-use Rattle.std.proofs.Common.{[], ◌<◌, sym, ap, ◌∙◌, subst}
+use Rattle.std.proofs.Common.{[], ◌<◌, sym, ◌∙◌, subst}
 use Rattle.lab_deps.specs.KindBits.{Tells}
 use Rattle.lab_deps.specs.Scopes.{edges_in}
 use Rattle.lab_deps.proofs.ExactArrows.{exact_of}

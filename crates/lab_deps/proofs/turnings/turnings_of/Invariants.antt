@@ -1,4 +1,3 @@
-use Rattle.std.proofs.Common.{◌≡◌, length}
 use Rattle.lab_deps.specs.KeptTurnings.{AreTurnings}
 use Rattle.lab_deps.proofs.turnings.turnings_of.Given as goal
 

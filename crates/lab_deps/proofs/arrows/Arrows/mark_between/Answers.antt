@@ -1,4 +1,4 @@
-use Rattle.std.proofs.Common.{true, false, cond, sym, ap}
+use Rattle.std.proofs.Common.{cond, sym, ap}
 use Rattle.lab_deps.proofs.CellsGained.{marked_between}
 use Rattle.lab_deps.proofs.arrows.Arrows.mark_between.Goals as goal
 

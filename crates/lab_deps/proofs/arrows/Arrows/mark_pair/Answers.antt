@@ -1,4 +1,4 @@
-use Rattle.std.proofs.Common.{◌≡◌, ◌+◌, ◌*◌, get_or, set, sym, ap, ◌∙◌, subst}
+use Rattle.std.proofs.Common.{◌≡◌, get_or, set, sym, ap, ◌∙◌, subst}
 use Rattle.std.specs.Prelude.{bit_or}
 use Rattle.lab_deps.specs.CellGains.{CellsGain}
 use Rattle.lab_deps.specs.KindBits.{bit}

@@ -1,4 +1,4 @@
-use Rattle.std.proofs.Common.{◌≡◌, ◌⊎◌, true, false, sym, ◌∙◌, subst, inl, inr}
+use Rattle.std.proofs.Common.{◌⊎◌, true, false, subst, inl, inr}
 use Rattle.lab_deps.specs.CellGains.{CellsGain, IsOfTable}
 use Rattle.lab_deps.specs.declared.edge.Kind.TheVariants.{PredicateRead, PredicateAnti}
 use Rattle.lab_deps.proofs.CellsGained.{cells_then}
