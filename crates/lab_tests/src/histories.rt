@@ -244,7 +244,7 @@ fn tried(
     growth: u16,
     shape: Shape,
     given: &Parts,
-    due: Option<FileFault>,
+    due: &Option<FileFault>,
 ) -> Option<(bool, bool)> {
     let parts = parts(alloc, shape)?;
     refuse(alloc, growth);
@@ -252,7 +252,7 @@ fn tried(
     let refused = was_refused(alloc);
     let (came_back, fault) = came_back(alloc, &made, given);
     drop(made);
-    let right = came_back && (fault == due || refused && fault == Some(FileFault::NoMemory));
+    let right = came_back && (fault == *due || refused && fault == Some(FileFault::NoMemory));
     Some((right, refused))
 }
 
@@ -262,7 +262,7 @@ fn shows_tried(
     alloc: Global,
     shape: Shape,
     given: &Parts,
-    due: Option<FileFault>,
+    due: &Option<FileFault>,
 ) -> Result<(), &'static str> {
     for growth in 1..1_000u16 {
         let (right, refused) = tried(alloc, growth, shape, given, due).ok_or("parts")?;
@@ -283,7 +283,7 @@ fn parts_that_are_refused_memory_come_back(rt: HostRuntime) -> Result<(), Fail> 
     };
     for (shape, due) in [(USUAL, None), (many, over(Limit::Ids))] {
         let given = parts(rt.alloc(), shape).ok_or("parts")?;
-        let shown = shows_tried(&rt, rt.alloc(), shape, &given, due);
+        let shown = shows_tried(&rt, rt.alloc(), shape, &given, &due);
         drop(given);
         shown?;
     }
