@@ -156,3 +156,18 @@ impl Outcome {
         }
     }
 }
+
+/// A copy of a log; NoMemory where an allocation was refused.
+pub(crate) fn copy_of_log(alloc: Global, log: &[LogEvent]) -> Result<Vec<LogEvent>, NoMemory>
+    ensures { IfOk result (λ copy. copy.items ≡ log.now) }
+{
+    let mut events = Vec::with_capacity(alloc, log.len())?;
+    for event in log {
+        events.push(LogEvent {
+            session: event.session,
+            command: event.command.copy(alloc)?,
+            outcome: event.outcome.copy(alloc)?,
+        })?;
+    }
+    Ok(events)
+}

@@ -1,11 +1,17 @@
 //! What each engine keeps, and the calls that all engines share.
 
-ghost use Rattle.std.specs.Prelude.{◌≡◌, ◌<◌, ◌∷◌, ◌++◌, [], true, false, length, Contains, IsSome, IfOk, OnOk, OnErr};
+ghost use Rattle.std.specs.Prelude.{◌≡◌, ◌≢◌, ◌<◌, ◌∷◌, ◌++◌, [], Some, true, false, length, Contains, IsSome, IfOk, OnOk, OnErr};
 ghost use Rattle.std.specs.Vec.{vec_capacity};
+ghost use Rattle.lab_table.specs.declared.statement.Statement.{Statement as Asked};
+ghost use Rattle.lab_table.specs.declared.statement.Command.TheVariants.{Run};
+ghost use Rattle.lab_engine.specs.declared.event.EngineFault.TheVariants.{Busy};
+ghost use Rattle.lab_engine.specs.declared.event.Outcome.TheVariants.{Refused};
 ghost use Rattle.lab_engine.specs.Answer.{HasPlacesOfEnds, IsRetryChoice};
+ghost use Rattle.lab_engine.specs.Engine.{Ends};
 ghost use Rattle.lab_engine.specs.EventQuery.{is_ending};
+ghost use Rattle.lab_engine.specs.LeastCircle.{NamesLeastOf, NamesLeastOfWaiting};
 ghost use Rattle.lab_engine.specs.Limits.{max_events};
-ghost use Rattle.lab_engine.specs.Log.{Past, past_of, active};
+ghost use Rattle.lab_engine.specs.Log.{Past, past_of, active, asked, waiting};
 ghost use Rattle.lab_engine.specs.Rules.{Permitted};
 ghost use Rattle.lab_engine.specs.Sessions.{all_sessions};
 ghost use Rattle.lab_engine.specs.Situation.{Describes};
@@ -68,29 +74,74 @@ impl<R: Rules> Journal<R> {
         }
     }
 
-    /// Goes on by what was decided on a command, and answers it. NoMemory where an allocation was refused, and then
-    /// nothing has changed; a transaction's end takes no memory.
-    fn go_on(
-        &mut self,
+    /// The event of a command of a session. NoMemory where an allocation was refused; a command without a statement takes
+    /// no memory.
+    fn stepped(
+        &self,
         alloc: Global,
         session: Session,
-        command: Command,
-        outcome: Outcome,
-    ) -> Result<Outcome, NoMemory>
-        requires few { length self.old.log < max_events }
-        requires permitted { Permitted self.old.level self.old.setup (past_of self.old.log) session command outcome }
-        ensures ok { IfOk result (λ answer. (self.new.log ≡ self.old.log ++ record { session = session; command = command; outcome = outcome } ∷ []) × (answer ≡ outcome)) }
-        ensures err { OnErr result (self.new.log ≡ self.old.log) }
-        ensures end { OnErr result (is_ending outcome ≡ false) }
-        ensures setup { self.new.setup ≡ self.old.setup }
-        ensures level { self.new.level ≡ self.old.level }
+        command: &Command,
+    ) -> Result<LogEvent, NoMemory>
+        requires { length self.now.log < max_events }
+        ensures of { IfOk result (λ event. event ≡ record { session = session; command = command.now; outcome = event.outcome }) }
+        ensures permitted { IfOk result (λ event. Permitted R.kind self.now.setup (past_of self.now.log) session command.now event.outcome) }
+        ensures end { IfOk result (λ event. Ends (past_of self.now.log) session command.now → is_ending event.outcome ≡ true) }
+        ensures busy { IfOk result (λ event. IsSome (waiting (past_of self.now.log) session) → event.outcome ≡ Refused Busy) }
+        ensures least { IfOk result (λ event. NamesLeastOf R.kind self.now.setup (past_of self.now.log) session command.now event.outcome) }
+        ensures err { OnErr result (IsSome (asked command.now)) }
     {
-        let answer = outcome.copy(alloc)?;
-        let event = LogEvent {
+        let outcome = step_outcome(
+            alloc,
+            &self.rules,
+            &self.setup,
+            &self.situation,
+            session,
+            command,
+        )?;
+        let command = copy_of(alloc, command)?;
+        Ok(LogEvent {
             session,
             command,
             outcome,
-        };
+        })
+    }
+
+    /// The event of the command that a session waits with, tried anew. NoMemory where an allocation was refused.
+    fn retried(&self, alloc: Global, session: Session) -> Result<LogEvent, NoMemory>
+        requires room { length self.now.log < max_events }
+        requires waits { IsSome (waiting (past_of self.now.log) session) }
+        ensures of { IfOk result (λ event. (s : Asked) × (waiting (past_of self.now.log) session ≡ Some s) × (event ≡ record { session = session; command = Run s; outcome = event.outcome })
+            × Permitted R.kind self.now.setup (past_of self.now.log) session (Run s) event.outcome) }
+        ensures answered { IfOk result (λ event. event.outcome ≢ Refused Busy) }
+        ensures least { IfOk result (λ event. NamesLeastOfWaiting R.kind self.now.setup (past_of self.now.log) session event.outcome) }
+    {
+        let command = waiting_command(alloc, &self.situation, session)?;
+        let outcome = answer_to(
+            alloc,
+            &self.rules,
+            &self.setup,
+            &self.situation,
+            session,
+            &command,
+        )?;
+        Ok(LogEvent {
+            session,
+            command,
+            outcome,
+        })
+    }
+
+    /// Goes on by an event. NoMemory where an allocation was refused, and then nothing has changed; a transaction's end
+    /// takes no memory.
+    fn go_on(&mut self, alloc: Global, event: LogEvent) -> Result<(), NoMemory>
+        requires few { length self.old.log < max_events }
+        requires permitted { Permitted R.kind self.old.setup (past_of self.old.log) event.session event.command event.outcome }
+        ensures ok { OnOk result (self.new.log ≡ self.old.log ++ event ∷ []) }
+        ensures err { OnErr result (self.new.log ≡ self.old.log) }
+        ensures end { OnErr result (is_ending event.outcome ≡ false) }
+        ensures setup { self.new.setup ≡ self.old.setup }
+        ensures level { self.new.level ≡ self.old.level }
+    {
         reserve_place(&mut self.log, &event)?;
         let mut kept = self
             .situation
@@ -104,7 +155,7 @@ impl<R: Rules> Journal<R> {
             &event,
         );
         self.log.push_reserved(event);
-        Ok(answer)
+        Ok(())
     }
 }
 
@@ -144,7 +195,7 @@ fn retryable_after<R: Rules>(
     retryable(rules, setup, situation)
 }
 
-impl<R: Rules> Engine for Journal<R> {
+impl<R: Rules + Drop> Engine for Journal<R> {
     ghost events = { λ j. j.log };
 
     ghost opening = { λ j. j.setup };
@@ -177,29 +228,36 @@ impl<R: Rules> Engine for Journal<R> {
         session: Session,
         command: &Command,
     ) -> Result<Outcome, NoMemory> {
-        let outcome = step_outcome(
-            alloc,
-            &self.rules,
-            &self.setup,
-            &self.situation,
-            session,
-            command,
-        )?;
-        let command = copy_of(alloc, command)?;
-        self.go_on(alloc, session, command, outcome)
+        let event = self.stepped(alloc, session, command)?;
+        let answer = event.outcome.copy(alloc)?;
+        self.go_on(alloc, event)?;
+        Ok(answer)
     }
 
     fn retry(&mut self, alloc: Global, session: Session) -> Result<Outcome, NoMemory> {
-        let command = waiting_command(alloc, &self.situation, session)?;
-        let outcome = answer_to(
-            alloc,
-            &self.rules,
-            &self.setup,
-            &self.situation,
-            session,
-            &command,
-        )?;
-        self.go_on(alloc, session, command, outcome)
+        let event = self.retried(alloc, session)?;
+        let answer = event.outcome.copy(alloc)?;
+        self.go_on(alloc, event)?;
+        Ok(answer)
+    }
+
+    fn log_step(
+        &mut self,
+        alloc: Global,
+        session: Session,
+        command: &Command,
+    ) -> Result<(), NoMemory> {
+        let event = self.stepped(alloc, session, command)?;
+        self.go_on(alloc, event)
+    }
+
+    fn log_retry(&mut self, alloc: Global, session: Session) -> Result<(), NoMemory> {
+        let event = self.retried(alloc, session)?;
+        self.go_on(alloc, event)
+    }
+
+    fn into_log(self, _: Global) -> Result<Vec<LogEvent>, NoMemory> {
+        Ok(self.log)
     }
 
     fn retryable(&self) -> Option<Session> {

@@ -28,7 +28,9 @@ pub fn view_seen(alloc: Global, asker: &Asker) -> Result<View, NoMemory>
     Ok(View::new(names))
 }
 
-/// The names of a view, by rising row, in as much room as they fill: a log keeps its views.
+/// The names of a view, by rising row, in as much room as they fill: a log keeps its views. Not inlined: within what answers
+/// a statement, the walk has too few registers.
+#[inline(never)]
 fn names_seen(
     alloc: Global,
     rows: &BTreeMap<RowName, RowState>,

@@ -20,7 +20,7 @@ ghost use Rattle.lab_engine.specs.Merging.{written_version};
 ghost use Rattle.lab_engine.specs.Situation.{DescribesSession, DescribesRows, Agree, IsRunning, HasRoom, HasPlaces, HoldsOutcome, grown, keeps_statements, kept_of, written_by};
 
 use crate::event::{LogEvent, Outcome};
-use crate::event_query::{is_busy, is_fatal_fault};
+use crate::event_query::{asked_statement, is_busy, is_fatal_fault};
 use crate::row_states::RowStates;
 use lab_history::{VersionName, Writes};
 use lab_table::{Command, NoMemory, RowName, Session, Statement, TxnNo};
@@ -78,9 +78,9 @@ pub(crate) fn kept_copy(
 fn copy_asked(alloc: Global, command: &Command) -> Result<Option<Statement>, NoMemory>
     ensures { IfOk result (λ copy. copy ≡ asked command.now) }
 {
-    match command {
-        Command::Run(statement) => Ok(Some(statement.copy(alloc)?)),
-        _ => Ok(None),
+    match asked_statement(command) {
+        Some(statement) => Ok(Some(statement.copy(alloc)?)),
+        None => Ok(None),
     }
 }
 

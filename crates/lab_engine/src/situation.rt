@@ -187,7 +187,7 @@ fn reserve_places(
     ensures same { (level : Kind) (past : Past) → DescribesAll level past states.old → DescribesAll level past states.new }
     ensures places { OnOk result (HasPlaces keeps (running_of states.new session) writes.now) }
 {
-    states[usize::from(session.number() - 1)].reserve(keeps, writes)
+    states[session.place()].reserve(keeps, writes)
 }
 
 /// Goes on by one event in its session and in the rows, with so many events before it.
@@ -207,7 +207,7 @@ fn advance_session(
     ensures goes_on { (level : Kind) (past : Past) → kept.old ≡ kept_of (keeps_statements level) event.now.command event.now.outcome → before ≡ length past
         → DescribesAll level past states.old → DescribesRows past rows.old → DescribesAll level (event.now ∷ past) states.new × DescribesRows (event.now ∷ past) rows.new }
 {
-    states[usize::from(event.session.number() - 1)].take_in(alloc, rows, event, kept, before);
+    states[event.session.place()].take_in(alloc, rows, event, kept, before);
 }
 
 fn begun_next(outcome: &Outcome, begun: u32) -> u32

@@ -2,6 +2,7 @@
 use Rattle.std.proofs.Common.{◌≡◌, ℕ, arith, subst, List, []}
 use Rattle.lab_table.specs.Table.{Table}
 use Rattle.lab_engine.specs.declared.event.Level.{Level}
+use Rattle.lab_engine.specs.declared.event.LogEvent.{LogEvent}
 use Rattle.lab_engine.specs.declared.recording.RecordFault.{RecordFault}
 use Rattle.lab_engine.specs.declared.recording.RecordFault.TheVariants as record_fault
 use Rattle.lab_engine.specs.Log.{past_of}
@@ -20,11 +21,8 @@ pub unrecorded_is : (sessions : ℕ) (run : EngineRun) (seats : List Seated) (fa
 unrecorded_is sessions run seats record_fault.NoMemory closed h = tt
 unrecorded_is sessions run seats (record_fault.OverLimit which) closed h = (closed, h)
 
--- a play without seats isn't closed where its log breaks a limit
-pub unclosed_is : (level : Level) (setup : Table) (lines : List Line) (run : EngineRun) → run.setup ≡ setup → IsLegalPlay level setup lines run.log
-    → (fault : CloseFault) → IsCloseFault 0 run [] fault → IsScriptedFault level setup lines (unclosed_fault fault)
-unclosed_is level setup lines run same play NoMemory h = tt
-unclosed_is level setup lines run same play (SeatMissing session) h = absurd (omega (arith, h.1.from, h.1.within))
-unclosed_is level setup lines run same play (ReceiptDiffers session place) h = absurd (omega (arith, h.2.differs.1))
-unclosed_is level setup lines run same play (OverLimit which) h = (run.log, play, subst (λ s. BreaksLimit s (past_of run.log) which) same h.1)
-unclosed_is level setup lines run same play (SeatRepeated session) h = absurd (omega (arith, h.twice))
+-- a play by one thread has no recording where its log breaks a limit
+pub unrecorded_play_is : (level : Level) (setup : Table) (lines : List Line) (log : List LogEvent) → IsLegalPlay level setup lines log
+    → (fault : RecordFault) → IsRecordFault setup (past_of log) fault → IsScriptedFault level setup lines (unclosed_fault (close_fault_of fault))
+unrecorded_play_is level setup lines log play record_fault.NoMemory h = tt
+unrecorded_play_is level setup lines log play (record_fault.OverLimit which) h = (log, play, h)

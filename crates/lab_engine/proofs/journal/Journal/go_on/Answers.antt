@@ -33,12 +33,12 @@ take_in-requires-clause-few g c =
 pub invariant_of-self-2 : goal.invariant_of-self-2
 invariant_of-self-2 g c =
     let past : Past = past_of c.self.inside.log.items in
-    let event : LogEvent = record { session = c.args.session; command = c.args.command; outcome = c.args.outcome } in
+    let event : LogEvent = c.args.event in
     let longer : past_of c.push_reserved.new.self.items ≡ event ∷ past =
     ap past_of c.push_reserved.ensures.items ∙ reverse-append c.reserve_place.new.log.items (event ∷ []) ∙ ap (λ log. event ∷ past_of log) c.reserve_place.ensures.log in
-    let describes = c.take_in.ensures g.R.Rules.kind past (c.in_ok-kept.ensures.copy ∙ ap (λ b. kept_of b c.args.command c.args.outcome) c.keeps_statements.ensures)
+    let describes = c.take_in.ensures g.R.Rules.kind past (c.in_ok-kept.ensures.copy ∙ ap (λ b. kept_of b event.command event.outcome) c.keeps_statements.ensures)
     (c.reserve.ensures.same g.R.Rules.kind past c.self.invariant.situation) in
-    let permitted = subst (λ (k : EngineRun). Permitted k.level k.setup (past_of k.log) c.args.session c.args.command c.args.outcome) (sym c.self.view_is) c.requires.permitted in
+    let permitted = subst (λ (k : EngineRun). Permitted g.R.Rules.kind k.setup (past_of k.log) event.session event.command event.outcome) (sym c.self.view_is) c.requires.permitted in
     let places : HasPlacesOfEnds (event ∷ past) (vec_capacity c.reserve_place.new.log) = c.in_ok-reserve_place.ensures.next in
     subst (λ (p : Past). Keeps g.R.Rules.kind c.self.inside.setup p c.retryable_after-self-inside.result c.take_in.new.self (vec_capacity c.push_reserved.new.self)) (sym longer)
     (record {
