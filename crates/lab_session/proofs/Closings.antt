@@ -1,5 +1,5 @@
 -- What the refusals of a run's end say.
-use Rattle.std.proofs.Common.{◌≡◌, ℕ, arith, subst, List, []}
+use Rattle.std.proofs.Common.{ℕ, List}
 use Rattle.lab_table.specs.Table.{Table}
 use Rattle.lab_engine.specs.declared.event.Level.{Level}
 use Rattle.lab_engine.specs.declared.event.LogEvent.{LogEvent}
@@ -8,9 +8,7 @@ use Rattle.lab_engine.specs.declared.recording.RecordFault.TheVariants as record
 use Rattle.lab_engine.specs.Log.{past_of}
 use Rattle.lab_engine.specs.Journal.{EngineRun}
 use Rattle.lab_engine.specs.Recording.{Line}
-use Rattle.lab_engine.specs.OverLimit.{IsRecordFault, BreaksLimit}
-use Rattle.lab_session.specs.declared.fault.CloseFault.{CloseFault}
-use Rattle.lab_session.specs.declared.fault.CloseFault.TheVariants.{NoMemory, SeatMissing, ReceiptDiffers, OverLimit, SeatRepeated}
+use Rattle.lab_engine.specs.OverLimit.{IsRecordFault}
 use Rattle.lab_session.specs.Play.{IsLegalPlay, IsScriptedFault, unclosed_fault}
 use Rattle.lab_session.specs.Seats.{Seated}
 use Rattle.lab_session.specs.Closing.{AreClosed, IsCloseFault, close_fault_of}

@@ -6,8 +6,8 @@ use Rattle.lab_session.specs.Play.{given_lines, unclosed_fault, IsLegalPlay, IsS
 use Rattle.lab_session.proofs.Closings.{unrecorded_play_is}
 use Rattle.lab_session.proofs.scripted.play_script.Goals as goal
 
-pub returns-clause-fault : goal.returns-clause-fault
-returns-clause-fault g c =
+pub returns-in-Err-into_recording-clause-fault : goal.returns-in-Err-into_recording-clause-fault
+returns-in-Err-into_recording-clause-fault g c =
     let level = g.E.Engine.kind c.args.engine in
     let setup = g.E.Engine.opening c.args.engine in
     let lines = given_lines c.args.script.now.lines in

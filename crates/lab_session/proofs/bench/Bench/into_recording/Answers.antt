@@ -4,3 +4,10 @@ use Rattle.lab_engine.specs.Log.{past_of}
 use Rattle.lab_engine.specs.Journal.{EngineRun}
 use Rattle.lab_engine.specs.OverLimit.{IsRecordFault}
 use Rattle.lab_session.proofs.bench.Bench.into_recording.Goals as goal
+
+pub returns-clause-fault : goal.returns-clause-fault
+returns-clause-fault g c =
+    let setup : c.in_ok-setup.setup ≡ c.args.self.setup = c.in_ok-setup.ensures ∙ c.setup.ensures ∙ ap (λ (run : EngineRun). run.setup) c.self.view_is in
+    let log : c.in_ok-log.log.items ≡ c.args.self.log = c.in_ok-log.ensures ∙ ap (λ (run : EngineRun). run.log) c.self.view_is in
+    subst (λ s. IfErr c.of_own.result (IsRecordFault s (past_of c.args.self.log))) setup
+    (subst (λ l. IfErr c.of_own.result (IsRecordFault c.in_ok-setup.setup (past_of l))) log c.of_own.ensures.fault)
