@@ -4,8 +4,7 @@ use Rattle.lab_statement.specs.declared.fault.Refusal.TheVariants as refusal
 use Rattle.lab_statement.specs.declared.token.Token.TheVariants as token
 use Rattle.lab_statement.proofs.GrammarFaults.{no_statement_fault}
 use Rattle.lab_statement.proofs.FaultKinds.{statement_kinds}
-use Rattle.lab_statement.proofs.KnownTokens.{closed_known, long_before_last}
-use Rattle.lab_statement.proofs.Wheres.{where_before_last}
+use Rattle.lab_statement.proofs.KnownTokens.{closed_known, long_before_last, where_before_last}
 
 -- code that is as long as the text is the text
 pub all_code : (text : List ℕ) → length text ≤ length (code_of text) → code_of text ≡ text

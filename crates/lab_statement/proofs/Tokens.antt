@@ -84,20 +84,8 @@ isnt_eq a b h = false_from_ne_true (a == b) (λ e. h (eqb-true a b e))
 pub other_mark : (b : ℕ) (bs : List ℕ) (t : Token) → t ≡ mark b → (b ≡ 60 → ⊥) → (b ≡ 62 → ⊥) → tokens_from (whole (mark b)) bs ≡ t ∷ tokens bs
 other_mark b bs t e p q = whole_run (mark b) bs (λ n. others b n (isnt_eq b 60 p) (isnt_eq b 62 q)) ∙ ap (λ (u : Token). u ∷ tokens bs) (sym e)
 
-pub whole_word : (bs text rest : List ℕ) (len : ℕ) (word : Token) → len ≡ prefix_len is_letter bs → text ≡ take len bs → rest ≡ drop len bs
-    → word ≡ word_token (map to_ascii_lowercase text) → tokens_from (letters []) bs ≡ word ∷ tokens rest
-whole_word bs text rest len word p q r e = rw (e, q, r, p) (letters_run bs [])
-
 -- a token put behind those found, which begins what is left
 pub placed : (now found : List Token) (t : Token) (rest text after : List ℕ) → now ≡ found ++ t ∷ [] → found ++ tokens rest ≡ tokens text → tokens rest ≡ t ∷ tokens after
     → now ++ tokens after ≡ tokens text
 placed now found t rest text after p q r =
     ap (λ (ts : List Token). ts ++ tokens after) p ∙ append_assoc found (t ∷ []) (tokens after) ∙ ap (λ (ts : List Token). found ++ ts) (sym r) ∙ q
-
--- one more digit of a number
-pub digit_on : (n digit next i : ℕ) (bs : List ℕ) → i < length bs → is_ascii_digit (get_or bs i 0) ≡ true → digit ≡ get_or bs i 0 - 48 → next ≡ min (10 * n + digit) 1000000001
-    → tokens_from (whole (token.Digits next)) (drop (i + 1) bs) ≡ tokens_from (whole (token.Digits n)) (drop i bs)
-digit_on n digit next i bs lt q d is =
-    ap (λ (k : ℕ). tokens_from (whole (token.Digits k)) (drop (i + 1) bs)) (is ∙ ap (λ (e : ℕ). min (10 * n + e) 1000000001) d)
-    ∙ sym (digit_goes_on n (get_or bs i 0) (drop (i + 1) bs) q)
-    ∙ ap (tokens_from (whole (token.Digits n))) (sym (drop-cons bs i 0 lt ∙ ap (λ (k : ℕ). get_or bs i 0 ∷ drop k bs) (sym (add-one i))))

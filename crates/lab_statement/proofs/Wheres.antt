@@ -34,13 +34,3 @@ where_in_front n ts e = elim (where_stands false (take n ts) e) [
     sym (take-append-drop n ts) ∙ ap (λ (us : List Token). us ++ drop n ts) has.2 ∙ append_assoc has.0 (token.Word word.Where ∷ has.1) (drop n ts),
   )
 ]
-
--- a last token that is no where isn't the one
-pub where_before_last : (ts front rest : List Token) → ts ++ token.Unknown ∷ [] ≡ front ++ token.Word word.Where ∷ rest → HasWhere ts
-where_before_last [] [] rest e = absurd cc
-where_before_last [] (u ∷ []) rest e = absurd cc
-where_before_last [] (u ∷ v ∷ us) rest e = absurd cc
-where_before_last (t ∷ ts) [] rest e = let first : t ≡ token.Word word.Where = cc in ([], ts, ap (λ (u : Token). u ∷ ts) first)
-where_before_last (t ∷ ts) (u ∷ us) rest e =
-    let behind : ts ++ token.Unknown ∷ [] ≡ us ++ token.Word word.Where ∷ rest = cc in
-    where_further t ts (where_before_last ts us rest behind)

@@ -17,6 +17,7 @@ pub fn statement_is_read_from_its_text()
 {}
 
 /// A text in lower case is a word of the grammar exactly where it is reserved, and a name where it is a table's.
+#[tactic(auto, using(crate::proofs::ReservedWords::spells_word, crate::proofs::ReservedWords::spells_name))]
 pub fn words_are_reserved()
     ensures word { (text : List ℕ) → IsTrue (is_reserved text) ↔ ((word : Word) × (word_token text ≡ token.Word word)) }
     ensures name { (text name : List ℕ) → (word_token text ≡ token.Name name) ↔ ((name ≡ text) × (is_table_name text ≡ true)) }
