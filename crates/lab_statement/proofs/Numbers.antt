@@ -1,7 +1,6 @@
 -- A printed number is one token.
-use Rattle.lab_statement.proofs.Common.{◌≡◌, ℕ, ◌+◌, ◌-◌, ◌*◌, ◌/◌, ◌%◌, ◌≤◌, ◌<◌, true, false, List, [], ◌∷◌, ◌++◌, ap, append_assoc, ◌∙◌, arith, nat_tests, decimal_by_steps, decimal, is_ascii_digit, whole, is_letter, is_blank, with_digit, tokens, tokens_from}
+use Rattle.lab_statement.proofs.Common.{◌≡◌, ℕ, ◌+◌, ◌-◌, ◌*◌, ◌/◌, ◌%◌, ◌≤◌, ◌<◌, true, false, List, [], ◌∷◌, ◌++◌, refl, ap, append_assoc, ◌∙◌, arith, nat_tests, decimal_by_steps, decimal, is_ascii_digit, whole, is_letter, is_blank, with_digit, tokens, tokens_from}
 use Rattle.lab_statement.specs.declared.token.Token.TheVariants as token
-use Rattle.lab_statement.proofs.Tokens.{digit_begins, digit_goes_on}
 
 one_digit : (d : ℕ) → d < 10 → is_ascii_digit (48 + d) ≡ true
 one_digit d lt = grind (arith, nat_tests)
@@ -16,14 +15,14 @@ no_blank d lt = grind (arith, nat_tests)
 longer_number : (m d n : ℕ) (bs : List ℕ) → d < 10 → n ≡ 10 * m + d → n ≤ 1000000000 → tokens_from (whole (token.Digits m)) ((48 + d) ∷ bs) ≡ tokens_from (whole (token.Digits n)) bs
 longer_number m d n bs lt is le =
     let value : with_digit m (48 + d) ≡ n = omega arith in
-    digit_goes_on m (48 + d) bs (one_digit d lt) ∙ ap (λ (k : ℕ). tokens_from (whole (token.Digits k)) bs) value
+    rw (one_digit d lt, value) refl
 
 -- a printed number goes on as a number that has been read
 pub decimal_are : (n : ℕ) (bs : List ℕ) → n ≤ 1000000000 → tokens (decimal n ++ bs) ≡ tokens_from (whole (token.Digits n)) bs
 decimal_are n bs le = decimal_by_steps (λ m ds. m ≤ 1000000000 → (rest : List ℕ) → tokens (ds ++ rest) ≡ tokens_from (whole (token.Digits m)) rest)
     (λ d lt small rest.
     let value : (48 + d) - 48 ≡ d = omega arith in
-    digit_begins (48 + d) rest (no_blank d lt) (no_letter d lt) (one_digit d lt) ∙ ap (λ (k : ℕ). tokens_from (whole (token.Digits k)) rest) value)
+    rw (no_blank d lt, no_letter d lt, one_digit d lt, value) refl)
     (λ m ds ten so_far small rest.
     ap tokens (append_assoc ds ((48 + m % 10) ∷ []) rest) ∙ so_far (omega arith) ((48 + m % 10) ∷ rest) ∙ longer_number (m / 10) (m % 10) m rest (omega arith) (omega arith) small)
     n (omega arith) le bs

@@ -52,17 +52,13 @@ minus_plain (b ∷ text) long h = dash_plain b text (plain_no_dash b (list_all i
 pub decimal_reads : (n : ℕ) → n ≤ 1000000000 → Reads (decimal n) (token.Digits n ∷ [])
 decimal_reads n le = record { is = λ rest h. decimal_are n rest le ∙ number_ends n rest h; plain = decimal_plain n }
 
--- a dash and a printed number have their tokens
-minus_reads : (n : ℕ) → n ≤ 1000000000 → Reads (45 ∷ decimal n) (token.Minus ∷ token.Digits n ∷ [])
-minus_reads n le = record {
-  is = λ rest h. whole_run token.Minus (decimal n ++ rest) (λ b. refl) ∙ ap (λ (ts : List Token). token.Minus ∷ ts) ((decimal_reads n le).is rest h);
-  plain = minus_plain (decimal n) (decimal_nonempty n (omega arith)) (digits_plain n);
-}
-
 -- a printed number has its tokens
 pub number_reads : (z : ℤ) → ValueInRange z → Reads (signed_decimal z) (number_tokens z)
 number_reads (pos n) r = decimal_reads n (omega (arith, ints))
-number_reads (negsuc n) r = minus_reads (suc n) (omega (arith, ints))
+number_reads (negsuc n) r = record {
+  is = λ rest h. whole_run token.Minus (decimal (suc n) ++ rest) (λ b. refl) ∙ ap (λ (ts : List Token). token.Minus ∷ ts) ((decimal_reads (suc n) (omega (arith, ints))).is rest h);
+  plain = minus_plain (decimal (suc n)) (decimal_nonempty (suc n) (omega (arith, ints))) (digits_plain (suc n));
+}
 
 -- the tokens of numbers with commas between them
 abbrev pub list_tokens : List ℤ → List Token

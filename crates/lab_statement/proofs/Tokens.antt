@@ -46,18 +46,6 @@ front_stops p (x ∷ xs) b after e =
           subst (λ (y : ℕ). p y ≡ false) head isnt
     ]
 
-pub word_begins : (b : ℕ) (bs : List ℕ) → is_blank b ≡ false → is_letter b ≡ true → tokens (b ∷ bs) ≡ tokens_from (letters []) (b ∷ bs)
-word_begins b bs p q = rw (p, q) refl
-
-pub digit_begins : (b : ℕ) (bs : List ℕ) → is_blank b ≡ false → is_letter b ≡ false → is_ascii_digit b ≡ true → tokens (b ∷ bs) ≡ tokens_from (whole (token.Digits (b - 48))) bs
-digit_begins b bs p q r = rw (p, q, r) refl
-
-pub digit_goes_on : (n b : ℕ) (bs : List ℕ) → is_ascii_digit b ≡ true → tokens_from (whole (token.Digits n)) (b ∷ bs) ≡ tokens_from (whole (token.Digits (with_digit n b))) bs
-digit_goes_on n b bs q = rw q refl
-
-pub digit_ends : (n b : ℕ) (bs : List ℕ) → is_ascii_digit b ≡ false → tokens_from (whole (token.Digits n)) (b ∷ bs) ≡ token.Digits n ∷ tokens (b ∷ bs)
-digit_ends n b bs q = rw q refl
-
 -- a token that no byte makes longer is whole
 pub whole_run : (t : Token) (bs : List ℕ) → ((b : ℕ) → longer_token t b ≡ None) → tokens_from (whole t) bs ≡ t ∷ tokens bs
 whole_run t [] h = refl
