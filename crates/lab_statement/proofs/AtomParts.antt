@@ -7,7 +7,7 @@ use Rattle.lab_statement.specs.declared.token.Token.TheVariants as token
 use Rattle.lab_statement.specs.Grammar as grammar
 use Rattle.lab_statement.proofs.Readings.{reads}
 use Rattle.lab_statement.proofs.ReadNumbers.{number_again, positive_again}
-use Rattle.lab_statement.proofs.StoppedLoops.{ReadsOn, within, goes_on, ends, ended}
+use Rattle.lab_statement.proofs.StoppedLoops.{ReadsOn, starts, goes_on, ends}
 use Rattle.lab_table.specs.declared.word.Word.TheVariants as word
 
 -- a column
@@ -44,10 +44,9 @@ numbers_on (grammar.more {ts} {rest = others} {z} {zs} h hs) rest none before so
 -- numbers of the grammar are read
 pub numbers_again : {ts : List Token} {zs : List ℤ} → IsNumbers ts zs → (rest : List Token) → after token.Comma rest ≡ None → numbers_read (ts ++ rest) ≡ Reads (zs, rest)
 unfolding numbers_read
-numbers_again (grammar.last {ts} {z} h) rest none = rw (number_again h rest) (ended number_read token.Comma one_more (length rest) (z ∷ []) rest none)
-numbers_again (grammar.more {ts} {rest = others} {z} {zs} h hs) rest none =
-    rw (append_assoc ts (token.Comma ∷ others) rest, number_again h (token.Comma ∷ others ++ rest))
-    (numbers_on hs rest none (z ∷ []) (within (length (token.Comma ∷ others ++ rest)) (omega arith) refl))
+numbers_again (grammar.last h) rest none = ends (starts (λ z. z ∷ []) number_read token.Comma one_more (number_again h rest)) none
+numbers_again (grammar.more {ts} {rest = others} {z} h hs) rest none =
+    rw (append_assoc ts (token.Comma ∷ others) rest) (numbers_on hs rest none (z ∷ []) (starts (λ y. y ∷ []) number_read token.Comma one_more (number_again h (token.Comma ∷ others ++ rest))))
 
 -- a list of numbers
 

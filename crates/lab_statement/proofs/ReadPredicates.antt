@@ -34,10 +34,10 @@ again (grammar.negation h) = λ rest. rw (again h rest) refl
 again (grammar.parenthesized {d} {ts} {p} h) = λ rest.
     ap (term_read (suc d)) (ap (λ (x : List Token). token.Open ∷ x) (append_assoc ts (token.Close ∷ []) rest))
     ∙ rw (ends (again h (token.Close ∷ rest) refl) refl) refl
-again (grammar.one_factor {d} {ts} {p} h) = λ rest. starts (term_read d) (token.Word word.And) predicate.And (again h rest)
+again (grammar.one_factor {d} {ts} {p} h) = λ rest. starts (λ p. p) (term_read d) (token.Word word.And) predicate.And (again h rest)
 again (grammar.conjunction {d} {ts} {rest = others} {p} {q} hp hq) = λ rest.
     rw (append_assoc ts (token.Word word.And ∷ others) rest) (goes_on (again hp (token.Word word.And ∷ others ++ rest)) refl (omega arith) (again hq rest) (shorter others rest) refl)
-again (grammar.one_member {d} {ts} {p} h) = λ rest none. starts (conj_read d) (token.Word word.Or) predicate.Or (ends (again h rest) none)
+again (grammar.one_member {d} {ts} {p} h) = λ rest none. starts (λ p. p) (conj_read d) (token.Word word.Or) predicate.Or (ends (again h rest) none)
 again (grammar.disjunction {d} {ts} {rest = others} {p} {q} hp hq) = λ rest none.
     rw (append_assoc ts (token.Word word.Or ∷ others) rest)
     (goes_on (again hp (token.Word word.Or ∷ others ++ rest) refl) refl (omega arith) (ends (again hq rest) none) (shorter others rest) refl)

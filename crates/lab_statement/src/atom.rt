@@ -142,7 +142,7 @@ impl Parser<'_> {
     }
 
     /// Numbers with a comma between two of them.
-    #[tactic(auto, unfolding(crate::specs::Stopping::numbers_read))]
+    #[tactic(auto, unfolding(crate::specs::Stopping::numbers_read, crate::specs::Stopping::joined_read))]
     fn numbers(&mut self, alloc: Global) -> Result<Vec<Value>, Refusal>
         ensures reads { Comes (λ x. (x.items, self.new)) result self.new (numbers_read self.old) }
         ensures shorter { length self.new ≤ length self.old }

@@ -9,11 +9,11 @@ pub conj-returns-in_err-pred-clause-reads : goal.conj-returns-in_err-pred-clause
 unfolding conj_read
 conj-returns-in_err-pred-clause-reads t c =
     let p = err_from_is_err_and c.from_residual.result c.from_residual.ensures.1 in
-    rw (p.1, p.2) (first_stops (term_read c.args.depth) (token.Word word.And) predicate.And c.in_err-pred.field-0.0 c.args.self.now c.term.new.self c.in_err-pred.ensures.reads)
+    rw (p.1, p.2) (first_stops (λ p. p) (term_read c.args.depth) (token.Word word.And) predicate.And c.in_err-pred.field-0.0 c.args.self.now c.term.new.self c.in_err-pred.ensures.reads)
 
 pub conj-loop-alloc-init : goal.conj-loop-alloc-init
 unfolding conj_read
-conj-loop-alloc-init t c = record { shorter = c.in_ok-pred.ensures.shorter; so_far = starts (term_read c.args.depth) (token.Word word.And) predicate.And c.in_ok-pred.ensures.reads }
+conj-loop-alloc-init t c = record { shorter = c.in_ok-pred.ensures.shorter; so_far = starts (λ p. p) (term_read c.args.depth) (token.Word word.And) predicate.And c.in_ok-pred.ensures.reads }
 
 pub conj-loop-alloc-preserved : goal.conj-loop-alloc-preserved
 conj-loop-alloc-preserved t c = record {
@@ -33,11 +33,11 @@ pub pred-returns-in_err-pred-clause-reads : goal.pred-returns-in_err-pred-clause
 unfolding pred_read
 pred-returns-in_err-pred-clause-reads t c =
     let p = err_from_is_err_and c.from_residual.result c.from_residual.ensures.1 in
-    rw (p.1, p.2) (first_stops (conj_read c.args.depth) (token.Word word.Or) predicate.Or c.in_err-pred.field-0.0 c.args.self.now c.conj.new.self c.in_err-pred.ensures.reads)
+    rw (p.1, p.2) (first_stops (λ p. p) (conj_read c.args.depth) (token.Word word.Or) predicate.Or c.in_err-pred.field-0.0 c.args.self.now c.conj.new.self c.in_err-pred.ensures.reads)
 
 pub pred-loop-alloc-init : goal.pred-loop-alloc-init
 unfolding pred_read
-pred-loop-alloc-init t c = record { shorter = c.in_ok-pred.ensures.shorter; so_far = starts (conj_read c.args.depth) (token.Word word.Or) predicate.Or c.in_ok-pred.ensures.reads }
+pred-loop-alloc-init t c = record { shorter = c.in_ok-pred.ensures.shorter; so_far = starts (λ p. p) (conj_read c.args.depth) (token.Word word.Or) predicate.Or c.in_ok-pred.ensures.reads }
 
 pub pred-loop-alloc-preserved : goal.pred-loop-alloc-preserved
 pred-loop-alloc-preserved t c = record {
