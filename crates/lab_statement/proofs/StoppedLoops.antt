@@ -39,7 +39,3 @@ module _ {A X : Type 0} (first : X → A) (member : Reader X) (connective : Toke
   pub starts : {ts rest : List Token} {x : X} → member ts ≡ Reads (x, rest) → ReadsOn member connective join (first x) rest (joined_read first member connective join ts)
   unfolding joined_read
   starts {rest = rest} h = within (length rest) (omega arith) (rw h refl)
-
-  pub first_stops : (e : Refusal) (ts left : List Token) → StopsAt e left (member ts) → StopsAt e left (joined_read first member connective join ts)
-  unfolding joined_read
-  first_stops e ts left h = stops_as e left (member ts) h _ (λ kind n. rw n refl)
