@@ -21,20 +21,6 @@ all_code (b ∷ bytes) within =
           on ∙ ap (λ (bs : List ℕ). b ∷ bs) (all_code bytes (omega arith))
     ]
 
--- the tokens of a text that is all code, and of one that isn't
-pub code_tokens : (text code : List ℕ) {ts found : List Token} → code ≡ code_of text → length text ≤ length code → ts ≡ found → found ≡ tokens code → AreStatementTokens text ts
-code_tokens text code is within same found =
-    let all : code_of text ≡ text = all_code text (subst (λ (c : List ℕ). length text ≤ length c) is within) in
-    inl (all, same ∙ found ∙ ap tokens (is ∙ all))
-
-pub remark_tokens : (text code : List ℕ) {ts found : List Token} → code ≡ code_of text → length code < length text → ts ≡ found ++ token.Unknown ∷ [] → found ≡ tokens code
-    → AreStatementTokens text ts
-remark_tokens text code is shorter same found =
-    inr (
-      λ all. let len : length code ≡ length text = ap length (is ∙ all) in absurd (omega arith),
-      same ∙ ap (λ (t : List Token). t ++ token.Unknown ∷ []) (found ∙ ap tokens is),
-    )
-
 module _ (text : List ℕ) (ts : List Token) (are : AreStatementTokens text ts) (short : length text ≤ 4000) (ascii : list_all is_code_byte text ≡ true) where
   -- what these tokens spell, the text spells
   pub text_spells : (s : Statement) → IsWholeStatement ts s → SpellsStatement text s

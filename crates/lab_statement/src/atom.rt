@@ -74,16 +74,13 @@ impl Parser<'_> {
         ensures reads { Comes (λ x. (x, self.new)) result self.new (cmp_read self.old) }
         ensures shorter { length self.new ≤ length self.old }
     {
-        match self.rest.split_first() {
-            None => Err(Refusal::Fault(ScriptFaultKind::UnknownStatement)),
-            Some((first, rest)) => match cmp_of(*first) {
-                None => Err(Refusal::Fault(ScriptFaultKind::UnknownStatement)),
-                Some(cmp) => {
-                    self.rest = rest;
-                    Ok(cmp)
-                }
-            },
+        if let [first, rest @ ..] = self.rest
+            && let Some(cmp) = cmp_of(*first)
+        {
+            self.rest = rest;
+            return Ok(cmp);
         }
+        Err(Refusal::Fault(ScriptFaultKind::UnknownStatement))
     }
 
     /// What stands behind the percent sign of a remainder.

@@ -188,13 +188,9 @@ pub fn placed(refusal: Refusal, tokens: &[Token], left: usize) -> Refusal
     ensures { result ≡ refusal_as (λ kind. placed_kind tokens.now kind left) refusal }
 {
     match refusal {
-        Refusal::Fault(ScriptFaultKind::UnknownStatement) => {
-            let read = tokens.len().saturating_sub(left);
-            if ends_in_predicate(&tokens[..read]) {
-                Refusal::Fault(ScriptFaultKind::BadPredicate)
-            } else {
-                Refusal::Fault(ScriptFaultKind::UnknownStatement)
-            }
+        Refusal::Fault(ScriptFaultKind::UnknownStatement)
+            if ends_in_predicate(&tokens[..tokens.len().saturating_sub(left)]) => {
+            Refusal::Fault(ScriptFaultKind::BadPredicate)
         }
         other => other,
     }

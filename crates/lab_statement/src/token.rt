@@ -127,16 +127,9 @@ fn less_at(after: &[u8]) -> (Token, &[u8])
     ensures within { length result.1.now ≤ length after.now }
 {
     match after {
-        [] => (Token::Less, after),
-        [next, rest @ ..] => {
-            if *next == b'>' {
-                (Token::Unequal, rest)
-            } else if *next == b'=' {
-                (Token::AtMost, rest)
-            } else {
-                (Token::Less, after)
-            }
-        }
+        [b'>', rest @ ..] => (Token::Unequal, rest),
+        [b'=', rest @ ..] => (Token::AtMost, rest),
+        _ => (Token::Less, after),
     }
 }
 
