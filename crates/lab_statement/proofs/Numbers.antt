@@ -1,5 +1,5 @@
 -- A printed number is one token.
-use Rattle.lab_statement.proofs.Common.{◌≡◌, ℕ, ◌+◌, ◌-◌, ◌*◌, ◌/◌, ◌%◌, ◌≤◌, ◌<◌, true, false, List, [], ◌∷◌, ◌++◌, refl, ap, append_assoc, ◌∙◌, arith, nat_tests, decimal_by_steps, decimal, is_ascii_digit, whole, is_letter, is_blank, with_digit, tokens, tokens_from}
+use Rattle.lab_statement.proofs.Common.{◌≡◌, ℕ, ◌+◌, ◌-◌, ◌*◌, ◌/◌, ◌%◌, ◌≤◌, ◌<◌, true, false, List, [], ◌∷◌, ◌++◌, refl, ap, append_assoc, ◌∙◌, arith, nat_tests, decimal_by_steps, decimal, length, length-decimal-le, is_ascii_digit, whole, is_letter, is_blank, with_digit, tokens, tokens_from}
 use Rattle.lab_statement.specs.declared.token.Token.TheVariants as token
 
 one_digit : (d : ℕ) → d < 10 → is_ascii_digit (48 + d) ≡ true
@@ -26,3 +26,7 @@ decimal_are n bs le = decimal_by_steps (λ m ds. m ≤ 1000000000 → (rest : Li
     (λ m ds ten so_far small rest.
     ap tokens (append_assoc ds ((48 + m % 10) ∷ []) rest) ∙ so_far (omega arith) ((48 + m % 10) ∷ rest) ∙ longer_number (m / 10) (m % 10) m rest (omega arith) (omega arith) small)
     n (omega arith) le bs
+
+-- a printed number of 64 bits has at most 20 digits
+pub decimal_short : (n : ℕ) → n < 18446744073709551616 → length (decimal n) ≤ 20
+decimal_short n lt = length-decimal-le 20 n (omega arith) (omega (arith, lt)) lt

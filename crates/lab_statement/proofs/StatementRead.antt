@@ -13,17 +13,12 @@ nothing_found : {A : Type 0} (r : Option A) → ((y : A) → r ≡ Some y → �
 nothing_found None none = refl
 nothing_found (Some y) none = absurd (none y refl)
 
--- a text that spells a statement is code alone
-spelled_alone : (text : List ℕ) (s : Statement) → SpellsStatement text s → is_code_alone text ≡ true
-spelled_alone text s h =
-    and_from _ _ (le-leb (length text) 4000 h.bytes) (and_from _ _ h.ascii (eq-eqb (length (code_of text)) (length text) (ap length h.no_remark)))
-
 -- what a text spells is read from it
 pub spells_in : (text : List ℕ) (s : Statement) → SpellsStatement text s → statement_in text ≡ Some s
 unfolding statement_in
 spells_in text s h =
-    ap (λ (b : Bool). cond b (read_value (whole_statement_read (tokens text))) None) (spelled_alone text s h)
-    ∙ ap read_value (whole_again (record { parts = h.parts; printed = h.printed }))
+    let alone : is_code_alone text ≡ true = and_from _ _ (le-leb (length text) 4000 h.bytes) (and_from _ _ h.ascii (eq-eqb (length (code_of text)) (length text) (ap length h.no_remark))) in
+    rw (alone, whole_again (record { parts = h.parts; printed = h.printed })) refl
 
 -- what is read from a text it spells
 pub in_spells : (text : List ℕ) (s : Statement) → statement_in text ≡ Some s → SpellsStatement text s
@@ -34,13 +29,7 @@ in_spells text s read =
     let code = and_parts (list_all is_code_byte text) _ short.1 in
     let len : length (code_of text) ≡ length text = eqb-true _ _ code.1 in
     let whole = whole_takes (tokens text) s (valued (whole_statement_read (tokens text)) s found.1) in
-    record {
-      bytes = leb-true _ _ short.0;
-      ascii = code.0;
-      no_remark = all_code text (omega arith);
-      parts = whole.parts;
-      printed = whole.printed;
-    }
+    record { bytes = leb-true _ _ short.0; ascii = code.0; no_remark = all_code text (omega arith); parts = whole.parts; printed = whole.printed }
 
 -- from a text that spells nothing nothing is read
 pub none_in : (text : List ℕ) → ((s : Statement) → SpellsStatement text s → ⊥) → statement_in text ≡ None

@@ -9,14 +9,6 @@ use Rattle.lab_statement.specs.declared.fault.ScriptFaultKind.TheVariants as kin
 use Rattle.lab_statement.specs.Grammar as grammar
 use Rattle.lab_statement.proofs.Takes.{Gives, gives, stops, Takes, then_gives, each_gives, if_gives, found_gives, taken, each_taken, behind, behind_spelled, made, found, behind_token, behind_tokens, token_gives}
 
--- a number from 1 to this most
-abbrev IsPositive : ℕ → List Token → ℕ → Type 0
-IsPositive most ts n = IsNumber ts (pos n) × (1 ≤ n) × (n ≤ most)
-
--- a statement behind its first word
-abbrev Behind : Token → List Token → Statement → Type 0
-Behind first ts s = IsStatement (first ∷ ts) s
-
 -- an end behind which nothing is left
 end_is : (ts rest : List Token) → ((ts ≡ []) × (rest ≡ [])) ⊎ (ts ≡ token.Semicolon ∷ rest) → rest ≡ [] → IsEnd ts
 end_is ts rest (inl both) none = subst IsEnd (sym both.0) grammar.open_end
@@ -63,7 +55,7 @@ module _ {Fault : ScriptFaultKind → Type 0} (unknown : Fault kinds.UnknownStat
       (λ rest. then_gives _ (magnitude_gives rest) (λ n is. taken (token.Digits n.0 ∷ []) is.0 (grammar.negative n.0 is.1)))
       (then_gives _ (magnitude_gives ts) (λ n is. taken (token.Digits n.0 ∷ []) is.0 (grammar.positive n.0 is.1)))
 
-  positive_taken : (most : ℕ) → most ≤ 1000000000 → (ts : List Token) → Takes Fault (IsPositive most) ts (positive_read most ts)
+  positive_taken : (most : ℕ) → most ≤ 1000000000 → (ts : List Token) → Takes Fault (λ front n. IsNumber front (pos n) × (1 ≤ n) × (n ≤ most)) ts (positive_read most ts)
   unfolding positive_read
   positive_taken most le ts = found token.Minus ts _ _
       (λ rest. then_gives _ (digits_give rest) (λ n is. stops range))
@@ -106,19 +98,16 @@ module _ {Fault : ScriptFaultKind → Type 0} (unknown : Fault kinds.UnknownStat
     unfolding col_read
     col_gives ts = found_gives (token.Word word.Id) ts _ _ (λ rest is. gives is) (then_gives _ (token_gives unknown (token.Word word.Value) ts) (λ rest is. gives is))
 
-    cmp_in_gives : (t : Token) (ts : List Token) → Gives Fault (λ x. t ∷ ts ≡ cmp_token x.0 ∷ x.1) (cmp_in (cmp_of t) t ts)
-    cmp_in_gives token.Equal ts = gives refl
-    cmp_in_gives token.Unequal ts = gives refl
-    cmp_in_gives token.Less ts = gives refl
-    cmp_in_gives token.AtMost ts = gives refl
-    cmp_in_gives token.Greater ts = gives refl
-    cmp_in_gives token.AtLeast ts = gives refl
-    cmp_in_gives t ts = stops unknown
-
     cmp_gives : (ts : List Token) → Gives Fault (λ x. ts ≡ cmp_token x.0 ∷ x.1) (cmp_read ts)
     unfolding cmp_read
+    cmp_gives (token.Equal ∷ ts) = gives refl
+    cmp_gives (token.Unequal ∷ ts) = gives refl
+    cmp_gives (token.Less ∷ ts) = gives refl
+    cmp_gives (token.AtMost ∷ ts) = gives refl
+    cmp_gives (token.Greater ∷ ts) = gives refl
+    cmp_gives (token.AtLeast ∷ ts) = gives refl
     cmp_gives [] = stops unknown
-    cmp_gives (t ∷ ts) = cmp_in_gives t ts
+    cmp_gives (t ∷ ts) = stops unknown
 
     numbers_taken : (ts : List Token) → Takes Fault IsNumbers ts (numbers_read ts)
     unfolding numbers_read
@@ -155,15 +144,12 @@ module _ {Fault : ScriptFaultKind → Type 0} (unknown : Fault kinds.UnknownStat
     unfolding pred_read
     pred_taken d terms ts = joined_taken (λ p. p) (conj_read d) (token.Word word.Or) predicate.Or (IsPred d A) (IsPred d P) (conj_taken d terms) (λ us p i. grammar.one_member i) (λ us rest p q i j. grammar.disjunction i j) ts
 
-    term_atom : (d : ℕ) (ts : List Token) → Takes Fault (IsPred d N) ts (atom_read ts)
-    term_atom d ts = each_taken (atom_taken ts) (λ front p is. grammar.atom is)
-
     term_taken : (d : ℕ) (ts : List Token) → Takes Fault (IsPred d N) ts (term_read d ts)
     unfolding term_read pred_read conj_read
-    term_taken zero ts = found (token.Word word.Not) ts _ _ (λ rest. stops deep) (found token.Open ts _ _ (λ rest. stops deep) (term_atom zero ts))
+    term_taken zero ts = found (token.Word word.Not) ts _ _ (λ rest. stops deep) (found token.Open ts _ _ (λ rest. stops deep) (each_taken (atom_taken ts) (λ front p is. grammar.atom is)))
     term_taken (suc d) ts = found (token.Word word.Not) ts _ _ (λ rest. made predicate.Not (term_taken d rest) (λ p us is. grammar.negation is))
         (found token.Open ts _ _ (λ rest. behind _ (pred_taken d (term_taken d) rest) (λ p us is left. behind_token unknown token.Close _ (λ end. taken [] refl (grammar.parenthesized is))))
-        (term_atom (suc d) ts))
+        (each_taken (atom_taken ts) (λ front p is. grammar.atom is)))
 
     where_taken : (ts : List Token) → Takes Fault IsWhere ts (where_read ts)
     unfolding where_read
@@ -178,27 +164,27 @@ module _ {Fault : ScriptFaultKind → Type 0} (unknown : Fault kinds.UnknownStat
         (behind_token unknown token.Minus _ (λ behind. made expr.Minus (number_taken behind) (λ z ns n. grammar.minus n))))
         (made expr.Set (number_taken ts) (λ z ns n. grammar.set n))
 
-    select_taken : (ts : List Token) → Takes Fault (Behind (token.Word word.Select)) ts (select_read ts)
+    select_taken : (ts : List Token) → Takes Fault (λ back. IsStatement (token.Word word.Select ∷ back)) ts (select_read ts)
     unfolding select_read
     select_taken ts = behind_tokens unknown (token.Star ∷ token.Word word.From ∷ []) _ (λ a.
         behind_spelled (λ table. token.Name table ∷ []) _ (name_gives a) (λ table b.
         made (λ p. over table (kind.Select p)) (where_taken b) (λ p ws w. grammar.select table w)))
 
-    update_taken : (ts : List Token) → Takes Fault (Behind (token.Word word.Update)) ts (update_read ts)
+    update_taken : (ts : List Token) → Takes Fault (λ back. IsStatement (token.Word word.Update ∷ back)) ts (update_read ts)
     unfolding update_read
     update_taken ts = behind_spelled (λ table. token.Name table ∷ []) _ (name_gives ts) (λ table a.
         behind_tokens unknown (token.Word word.Set ∷ token.Word word.Value ∷ token.Equal ∷ []) _ (λ b.
         behind _ (expr_taken b) (λ e es i c.
         made (λ p. over table (kind.Update e p)) (where_taken c) (λ p ws w. grammar.update table i w))))
 
-    insert_taken : (ts : List Token) → Takes Fault (Behind (token.Word word.Insert)) ts (insert_read ts)
+    insert_taken : (ts : List Token) → Takes Fault (λ back. IsStatement (token.Word word.Insert ∷ back)) ts (insert_read ts)
     unfolding insert_read
     insert_taken ts = behind_token unknown (token.Word word.Into) _ (λ a.
         behind_spelled (λ table. token.Name table ∷ []) _ (name_gives a) (λ table b.
         behind_tokens unknown (token.Open ∷ token.Word word.Id ∷ token.Comma ∷ token.Word word.Value ∷ token.Close ∷ token.Word word.Values ∷ []) _ (λ c.
         made (λ row. over table (kind.Insert row.0 row.1)) (row_taken c) (λ row rs r. grammar.insert table r))))
 
-    delete_taken : (ts : List Token) → Takes Fault (Behind (token.Word word.Delete)) ts (delete_read ts)
+    delete_taken : (ts : List Token) → Takes Fault (λ back. IsStatement (token.Word word.Delete ∷ back)) ts (delete_read ts)
     unfolding delete_read
     delete_taken ts = behind_token unknown (token.Word word.From) _ (λ a.
         behind_spelled (λ table. token.Name table ∷ []) _ (name_gives a) (λ table b.
