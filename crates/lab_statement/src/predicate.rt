@@ -18,8 +18,7 @@ impl Parser<'_> {
         ensures { Comes (λ x. (x, self.new)) result self.new (where_read self.old) }
     {
         if self.took(Token::Word(Word::Where)) {
-            let pred = self.pred(alloc, MAX_DEPTH)?;
-            Ok(Some(pred))
+            self.pred(alloc, MAX_DEPTH).map(Some)
         } else {
             Ok(None)
         }

@@ -78,12 +78,12 @@ impl Parser<'_> {
         ensures { Comes (λ x. (x, self.new)) result self.new (expr_read self.old) }
     {
         if !self.took(Token::Word(Word::Value)) {
-            Ok(Expr::Set(self.number()?))
+            self.number().map(Expr::Set)
         } else if self.took(Token::Plus) {
-            Ok(Expr::Plus(self.number()?))
+            self.number().map(Expr::Plus)
         } else {
             self.expect(Token::Minus)?;
-            Ok(Expr::Minus(self.number()?))
+            self.number().map(Expr::Minus)
         }
     }
 
