@@ -1,5 +1,5 @@
 -- The first fault of tokens: where reading stops, and none exactly where they are in the grammar.
-use Rattle.lab_statement.proofs.Common.{◌≡◌, ℕ, ◌≤◌, Bool, true, false, List, length, Option, Some, None, refl, subst, ap, ◌↔◌, if◌then◌else◌, le-leb, leb-true, Statement, ScriptFaultKind, TooManyTables, Token, IsWholeStatement, Reading, Reads, Stops, whole_statement_read, placed_kind, fault_of, fifth_table, statement_fault, same_Some}
+use Rattle.lab_statement.proofs.Common.{◌≡◌, ℕ, ◌≤◌, Bool, true, false, List, length, Option, Some, None, refl, subst, ◌↔◌, if◌then◌else◌, le-leb, leb-true, Statement, ScriptFaultKind, TooManyTables, Token, IsWholeStatement, Reading, Reads, Stops, whole_statement_read, placed_kind, fault_of, fifth_table, statement_fault, same_Some}
 use Rattle.lab_table.specs.TableSet.{are_few}
 use Rattle.lab_statement.proofs.ReadStatements.{whole_takes, whole_again}
 

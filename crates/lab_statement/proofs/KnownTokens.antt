@@ -1,5 +1,5 @@
 -- No statement ends in a byte that begins no token.
-use Rattle.lab_statement.proofs.Common.{◌≡◌, ℕ, Bool, true, false, List, [], ◌∷◌, ◌++◌, refl, sym, ap, ◌∙◌, append_assoc, ℤ, Option, false≢true, Predicate, Statement, Expr, Token, Kind, cmp_token, IsNumber, IsNumbers, IsAtom, IsPred, IsWhere, IsExpr, IsStatement, IsEnd, IsWholeStatement, HasWhere, BeginsLongStatement}
+use Rattle.lab_statement.proofs.Common.{◌≡◌, ℕ, Bool, true, false, List, [], ◌∷◌, ◌++◌, refl, sym, ap, ◌∙◌, append_assoc, ℤ, Option, false≢true, Predicate, Statement, Expr, Token, Kind, IsNumber, IsAtom, IsPred, IsWhere, IsExpr, IsStatement, IsEnd, IsWholeStatement, HasWhere, BeginsLongStatement}
 use Rattle.lab_table.specs.declared.word.Word.TheVariants as word
 use Rattle.lab_statement.specs.declared.token.Token.TheVariants as token
 use Rattle.lab_statement.specs.Grammar as grammar

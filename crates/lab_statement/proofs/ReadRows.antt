@@ -1,5 +1,5 @@
 -- A row of the grammar is read.
-use Rattle.lab_statement.proofs.Common.{◌≡◌, ℕ, List, [], ◌∷◌, ◌++◌, refl, ◌∙◌, append_assoc, ℤ, Token, IsId, IsRow, Reads, positive_read, row_read}
+use Rattle.lab_statement.proofs.Common.{◌≡◌, ℕ, List, [], ◌∷◌, ◌++◌, refl, ◌∙◌, append_assoc, ℤ, Token, IsRow, Reads, row_read}
 use Rattle.lab_statement.specs.declared.token.Token.TheVariants as token
 use Rattle.lab_statement.specs.Grammar as grammar
 use Rattle.lab_statement.proofs.ReadNumbers.{number_again, positive_again}

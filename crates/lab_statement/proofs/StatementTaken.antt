@@ -1,5 +1,5 @@
 -- What is read as a statement, or as a part of one, is one of the grammar, and reading stops with few kinds of faults.
-use Rattle.lab_statement.proofs.Common.{◌≡◌, ℕ, zero, suc, ◌≤◌, Some, List, [], ◌∷◌, ◌++◌, length, refl, subst, sym, ap, ◌∙◌, append_assoc, append-nil, arith, inl, inr, ℤ, pos, ◌⊎◌, ◌==◌, ◌&&◌, nat_le, leb-true, leb-false, eqb-true, and_parts, nil_from_length, Predicate, Statement, Col, Token, ScriptFaultKind, over, P, A, N, col_token, cmp_token, IsNumber, IsNumbers, IsAtom, IsPred, IsWhere, IsExpr, IsRow, IsStatement, IsEnd, IsWholeStatement, max_statement_bytes, printed_statement, Reading, digits_read, magnitude_read, number_read, more_read, positive_read, row_read, name_of, name_read, col_read, cmp_of, cmp_in, cmp_read, one_more, numbers_read, number_list_read, compare_read, remainder_read, one_of_read, atom_read, joined_read, term_read, conj_read, pred_read, where_read, expr_read, select_read, update_read, insert_read, delete_read, statement_read, end_read, nothing_read, whole_statement_read, BeginsLongStatement}
+use Rattle.lab_statement.proofs.Common.{◌≡◌, ℕ, zero, suc, ◌≤◌, Some, List, [], ◌∷◌, ◌++◌, length, refl, subst, sym, ap, ◌∙◌, append_assoc, append-nil, arith, inl, inr, ℤ, pos, ◌⊎◌, ◌==◌, ◌&&◌, nat_le, leb-true, leb-false, eqb-true, and_parts, nil_from_length, Col, Token, ScriptFaultKind, over, P, A, N, col_token, cmp_token, IsNumber, IsNumbers, IsAtom, IsPred, IsWhere, IsExpr, IsRow, IsStatement, IsEnd, IsWholeStatement, max_statement_bytes, printed_statement, Reading, digits_read, magnitude_read, number_read, more_read, positive_read, row_read, name_of, name_read, col_read, cmp_read, one_more, numbers_read, number_list_read, compare_read, remainder_read, one_of_read, atom_read, joined_read, term_read, conj_read, pred_read, where_read, expr_read, select_read, update_read, insert_read, delete_read, statement_read, end_read, nothing_read, whole_statement_read, BeginsLongStatement}
 use Rattle.lab_table.specs.Predicate as predicate
 use Rattle.lab_table.specs.declared.statement.StatementKind.TheVariants as kind
 use Rattle.lab_table.specs.declared.statement.Expr.TheVariants as expr
@@ -7,7 +7,7 @@ use Rattle.lab_table.specs.declared.word.Word.TheVariants as word
 use Rattle.lab_statement.specs.declared.token.Token.TheVariants as token
 use Rattle.lab_statement.specs.declared.fault.ScriptFaultKind.TheVariants as kinds
 use Rattle.lab_statement.specs.Grammar as grammar
-use Rattle.lab_statement.proofs.Takes.{Gives, gives, stops, Takes, then_gives, each_gives, if_gives, found_gives, taken, each_taken, behind, behind_spelled, made, found, behind_token, behind_tokens, token_gives}
+use Rattle.lab_statement.proofs.Takes.{Gives, gives, stops, Takes, then_gives, if_gives, found_gives, taken, each_taken, behind, behind_spelled, made, found, behind_token, behind_tokens, token_gives}
 
 -- an end behind which nothing is left
 end_is : (ts rest : List Token) → ((ts ≡ []) × (rest ≡ [])) ⊎ (ts ≡ token.Semicolon ∷ rest) → rest ≡ [] → IsEnd ts

@@ -1,7 +1,6 @@
 -- The tokens of the text of one statement.
-use Rattle.lab_statement.proofs.Common.{◌≡◌, ℕ, ◌<◌, ◌≤◌, Bool, true, cond, List, [], ◌∷◌, ◌++◌, length, Option, Some, None, refl, sym, ap, subst, ◌∙◌, inl, inr, arith, list_all, cases_Bool, Statement, ScriptFaultKind, Refusal, Token, tokens, SaysOfStatement, IsStatementFault, refusal_at, IsWholeStatement, AreStatementTokens, begins_remark, code_of, is_code_byte, HasWhere, BeginsLongStatement, SpellsStatement, statement_fault, StopsFirst}
+use Rattle.lab_statement.proofs.Common.{◌≡◌, ℕ, ◌≤◌, Bool, true, cond, List, [], ◌∷◌, length, Option, Some, None, refl, sym, ap, subst, ◌∙◌, inl, inr, arith, list_all, cases_Bool, Statement, ScriptFaultKind, Refusal, Token, tokens, SaysOfStatement, IsStatementFault, refusal_at, IsWholeStatement, AreStatementTokens, begins_remark, code_of, is_code_byte, HasWhere, BeginsLongStatement, SpellsStatement, statement_fault, StopsFirst}
 use Rattle.lab_statement.specs.declared.fault.Refusal.TheVariants as refusal
-use Rattle.lab_statement.specs.declared.token.Token.TheVariants as token
 use Rattle.lab_statement.proofs.GrammarFaults.{no_statement_fault}
 use Rattle.lab_statement.proofs.FaultKinds.{statement_kinds}
 use Rattle.lab_statement.proofs.KnownTokens.{closed_known, long_before_last, where_before_last}

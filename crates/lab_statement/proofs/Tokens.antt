@@ -1,5 +1,5 @@
 -- How tokens go on.
-use Rattle.lab_statement.proofs.Common.{◌≡◌, ℕ, ◌+◌, ◌-◌, ◌*◌, ◌<◌, Bool, true, false, cond, ◌==◌, List, [], ◌∷◌, ◌++◌, length, take, drop, map, Option, Some, None, refl, sym, ap, ◌∙◌, append_assoc, suc, subst, get_or, drop-cons, add-one, inl, inr, min, is_some, unwrap_or, prefix_len, to_ascii_lowercase, is_ascii_digit, append-nil, cases_Bool, false_from_ne_true, eqb-true, Token, Part, letters, whole, is_letter, is_blank, word_token, mark, with_digit, begun, longer, ended, longer_token, tokens, tokens_from}
+use Rattle.lab_statement.proofs.Common.{◌≡◌, ℕ, Bool, true, false, cond, ◌==◌, List, [], ◌∷◌, ◌++◌, take, drop, map, Option, Some, None, refl, sym, ap, ◌∙◌, append_assoc, suc, subst, inl, inr, is_some, unwrap_or, prefix_len, to_ascii_lowercase, append-nil, cases_Bool, false_from_ne_true, eqb-true, Token, Part, letters, whole, is_letter, word_token, mark, begun, longer, ended, longer_token, tokens, tokens_from}
 use Rattle.std.proofs.Math.Numerals.{one-add}
 use Rattle.lab_statement.specs.declared.token.Token.TheVariants as token
 

@@ -1,4 +1,4 @@
-use Rattle.lab_statement.proofs.Common.{◌≡◌, ℕ, ◌++◌, replicate, length, refl, ap, sym, ◌∙◌, replicate-append-replicate}
+use Rattle.lab_statement.proofs.Common.{ℕ, ◌++◌, replicate, length, refl, ap, sym, ◌∙◌, replicate-append-replicate}
 use Rattle.std.proofs.lemmas.Simd.{splat_is_map}
 use Rattle.lab_statement.proofs.sink.RoomSink.put.Goals as goal
 
