@@ -2,6 +2,7 @@ pub mod Common
 pub mod Tokens
 pub mod SameTokens
 pub mod Numbers
+pub mod BlankTexts
 pub mod Takes
 pub mod StatementTaken
 pub mod ReadNumbers
