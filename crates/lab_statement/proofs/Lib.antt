@@ -1,7 +1,6 @@
 pub mod Common
 pub mod Tokens
 pub mod SameTokens
-pub mod Numbers
 pub mod BlankTexts
 pub mod Takes
 pub mod StatementTaken

@@ -8,11 +8,6 @@ use Rattle.lab_statement.proofs.ReadStatements.{whole_again, whole_takes}
 use Rattle.lab_statement.proofs.StatementText.{all_code}
 use Rattle.lab_table.proofs.Tests.{under_condition}
 
--- where nothing can be found, nothing is
-nothing_found : {A : Type 0} (r : Option A) → ((y : A) → r ≡ Some y → ⊥) → r ≡ None
-nothing_found None none = refl
-nothing_found (Some y) none = absurd (none y refl)
-
 -- what a text spells is read from it
 pub spells_in : (text : List ℕ) (s : Statement) → SpellsStatement text s → statement_in text ≡ Some s
 unfolding statement_in
@@ -33,7 +28,8 @@ in_spells text s read =
 
 -- from a text that spells nothing nothing is read
 pub none_in : (text : List ℕ) → ((s : Statement) → SpellsStatement text s → ⊥) → statement_in text ≡ None
-none_in text none = nothing_found (statement_in text) (λ s read. none s (in_spells text s read))
+none_in text none =
+    elim (statement_in text) as (λ r. ((s : Statement) → r ≡ Some s → ⊥) → r ≡ None) [ None ↦ λ never. refl | Some s ↦ λ never. absurd (never s refl) ] (λ s read. none s (in_spells text s read))
 
 -- a text spells one statement at most
 pub spells_once : (text : List ℕ) (s t : Statement) → SpellsStatement text s → SpellsStatement text t → s ≡ t

@@ -9,12 +9,6 @@ Reader X = List Token → Reading (X × List Token)
 pub data ReadsOn {A X : Type 0} (member : Reader X) (connective : Token) (join : A → X → A) (a : A) (ts : List Token) (whole : Reading (A × List Token)) : Type 0 where
   within : (most : ℕ) → length ts ≤ most → more_read most member connective join a ts ≡ whole → ReadsOn member connective join a ts whole
 
--- no connective is left
-pub ended : {A X : Type 0} (member : Reader X) (connective : Token) (join : A → X → A) (k : ℕ) (a : A) (ts : List Token) → after connective ts ≡ None → more_read k member connective join a ts ≡ Reads (a, ts)
-unfolding more_read
-ended member connective join zero a ts none = refl
-ended member connective join (suc k) a ts none = rw none refl
-
 module _ {A X : Type 0} {member : Reader X} {connective : Token} {join : A → X → A} where
   -- one member more
   pub goes_on : {a b : A} {x : X} {ts rest behind : List Token} {whole : Reading (A × List Token)} → ReadsOn member connective join a ts whole → after connective ts ≡ Some rest → length rest < length ts
@@ -31,8 +25,11 @@ module _ {A X : Type 0} {member : Reader X} {connective : Token} {join : A → X
   next_stops e left (within zero le so_far) took lt stops = absurd (omega arith)
   next_stops {rest = rest} {whole = whole} e left (within (suc k) le so_far) took lt stops = stops_as e left (member rest) stops whole (λ kind n. sym so_far ∙ rw (more_read, took, n) refl)
 
+  -- no connective is left
   pub ends : {a : A} {ts : List Token} {whole : Reading (A × List Token)} → ReadsOn member connective join a ts whole → after connective ts ≡ None → whole ≡ Reads (a, ts)
-  ends {a = a} {ts = ts} (within k le so_far) none = sym so_far ∙ ended member connective join k a ts none
+  unfolding more_read
+  ends (within zero le so_far) none = sym so_far
+  ends (within (suc k) le so_far) none = sym so_far ∙ rw none refl
 
 module _ {A X : Type 0} (first : X → A) (member : Reader X) (connective : Token) (join : A → X → A) where
   -- the first member
