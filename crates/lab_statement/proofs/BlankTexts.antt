@@ -1,5 +1,5 @@
 -- A text without a token has nothing but blanks.
-use Rattle.lab_statement.proofs.Common.{◌≡◌, ℕ, Bool, true, false, cond, List, [], ◌∷◌, ◌++◌, Option, Some, None, refl, sym, ap, ◌∙◌, inl, inr, ◌↔◌, list_all, is_some, option_map, unwrap_or, and_from, and_parts, cases_Bool, to_ascii_lowercase, is_ascii_digit, Token, Part, letters, whole, is_letter, is_blank, mark, begun, ended, longer, longer_token, tokens, tokens_from}
+use Rattle.lab_statement.proofs.Common.{◌≡◌, ℕ, Bool, true, false, cond, List, [], ◌∷◌, ◌++◌, Option, Some, None, refl, sym, ap, ◌∙◌, inl, inr, ◌↔◌, list_all, is_some, option_map, unwrap_or, and_from, and_parts, cases_Bool, to_ascii_lowercase, is_ascii_digit, Token, Part, letters, whole, is_letter, is_blank, begun, ended, longer, longer_token, tokens, tokens_from}
 use Rattle.lab_statement.specs.Token.{gap}
 
 -- a byte makes no token of one into what stands between tokens
