@@ -1,12 +1,13 @@
 -- Atoms of the grammar are read, part after part.
-use Rattle.lab_statement.proofs.Common.{◌≡◌, ◌≤◌, List, [], ◌∷◌, ◌++◌, length, None, refl, ap, ◌∙◌, append_assoc, length-append, arith, ℤ, Col, Cmp, Token, IsNumber, IsNumbers, IsNumberList, col_token, cmp_token, IsAtom, after, Reading, Reads, number_read, col_read, cmp_read, one_more, numbers_read, number_list_read, compare_read, remainder_read, one_of_read, atom_read, Predicate}
+use Rattle.lab_statement.proofs.Common.{◌≡◌, ◌≤◌, List, [], ◌∷◌, ◌++◌, length, None, refl, ap, ◌∙◌, append_assoc, length-append, arith, ℤ, Col, Cmp, Token, IsNumber, IsNumbers, IsNumberList, col_token, cmp_token, IsAtom, ◌>>=◌, after, Reading, Reads, number_read, col_read, cmp_read, one_more, numbers_read, number_list_read, compare_read, remainder_read, one_of_read, atom_read, Predicate}
+use Rattle.lab_table.specs.Predicate as predicate
 use Rattle.lab_table.specs.declared.predicate.Col.TheVariants as col
 use Rattle.lab_table.specs.declared.predicate.Cmp.TheVariants as cmp
 use Rattle.lab_statement.specs.declared.token.Token.TheVariants as token
 use Rattle.lab_statement.specs.Grammar as grammar
 use Rattle.lab_statement.proofs.Readings.{reads}
 use Rattle.lab_statement.proofs.ReadNumbers.{number_again, positive_again}
-use Rattle.lab_statement.proofs.StoppedLoops.{ReadsOn, within, goes_on, ends, ended}
+use Rattle.lab_statement.proofs.StoppedLoops.{ReadsOn, starts, goes_on, ends}
 use Rattle.lab_table.specs.declared.word.Word.TheVariants as word
 
 -- a column
@@ -16,12 +17,14 @@ unfolding col_read
 col_again col.Id rest = refl
 col_again col.Value rest = refl
 
--- a sign that compares
+-- a comparison
 
-pub cmp_again : (m : Cmp) (rest : List Token) → cmp_read (cmp_token m ∷ rest) ≡ Reads (m, rest)
-unfolding cmp_read
-cmp_again cmp.Eq rest = refl
-cmp_again m rest = refl
+compare_again : (c : Col) (m : Cmp) (rest : List Token) → atom_read (col_token c ∷ cmp_token m ∷ rest) ≡ (number_read rest >>= λ n. Reads (predicate.Compare c m n.0, n.1))
+unfolding atom_read compare_read cmp_read col_read
+compare_again col.Id cmp.Eq rest = refl
+compare_again col.Id m rest = refl
+compare_again col.Value cmp.Eq rest = refl
+compare_again col.Value m rest = refl
 
 -- numbers
 
@@ -41,10 +44,9 @@ numbers_on (grammar.more {ts} {rest = others} {z} {zs} h hs) rest none before so
 -- numbers of the grammar are read
 pub numbers_again : {ts : List Token} {zs : List ℤ} → IsNumbers ts zs → (rest : List Token) → after token.Comma rest ≡ None → numbers_read (ts ++ rest) ≡ Reads (zs, rest)
 unfolding numbers_read
-numbers_again (grammar.last {ts} {z} h) rest none = rw (number_again h rest) (ended number_read token.Comma one_more (length rest) (z ∷ []) rest none)
-numbers_again (grammar.more {ts} {rest = others} {z} {zs} h hs) rest none =
-    rw (append_assoc ts (token.Comma ∷ others) rest, number_again h (token.Comma ∷ others ++ rest))
-    (numbers_on hs rest none (z ∷ []) (within (length (token.Comma ∷ others ++ rest)) (omega arith) refl))
+numbers_again (grammar.last h) rest none = ends (starts (λ z. z ∷ []) number_read token.Comma one_more (number_again h rest)) none
+numbers_again (grammar.more {ts} {rest = others} {z} h hs) rest none =
+    rw (append_assoc ts (token.Comma ∷ others) rest) (numbers_on hs rest none (z ∷ []) (starts (λ y. y ∷ []) number_read token.Comma one_more (number_again h (token.Comma ∷ others ++ rest))))
 
 -- a list of numbers
 
@@ -64,19 +66,10 @@ number_list_again (grammar.some h) rest = rw (unclosed h (token.Close ∷ rest),
 
 -- a whole atom
 
-no_word : (m : Cmp) (rest : List Token) → after (token.Word word.In) (cmp_token m ∷ rest) ≡ None
-no_word cmp.Eq rest = refl
-no_word m rest = refl
-
-no_percent : (m : Cmp) (rest : List Token) → after token.Percent (cmp_token m ∷ rest) ≡ None
-no_percent cmp.Eq rest = refl
-no_percent m rest = refl
-
 -- an atom of the grammar is read, whatever follows it
 pub atom_again : {ts : List Token} {p : Predicate} → IsAtom ts p → (rest : List Token) → atom_read (ts ++ rest) ≡ Reads (p, rest)
 unfolding atom_read compare_read remainder_read one_of_read
-atom_again (grammar.compare {ts} c m h) rest =
-    rw (col_again c (cmp_token m ∷ ts ++ rest), no_word m (ts ++ rest), no_percent m (ts ++ rest), cmp_again m (ts ++ rest), number_again h rest) refl
+atom_again (grammar.compare {ts} c m h) rest = rw (compare_again c m (ts ++ rest), number_again h rest) refl
 atom_again (grammar.one_of {ts} c h) rest =
     rw (append_assoc ts (token.Close ∷ []) rest, col_again c (token.Word word.In ∷ token.Open ∷ (ts ++ token.Close ∷ rest)), number_list_again h rest) refl
 atom_again (grammar.remainder {ms} {rs} c hm low high hr) rest =

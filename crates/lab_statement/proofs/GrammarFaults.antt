@@ -1,8 +1,7 @@
 -- The first fault of tokens: where reading stops, and none exactly where they are in the grammar.
-use Rattle.lab_statement.proofs.Common.{◌≡◌, ℕ, ◌≤◌, Bool, true, false, List, length, Option, Some, None, refl, subst, ap, ◌↔◌, if◌then◌else◌, le-leb, leb-true, Statement, ScriptFaultKind, TooManyTables, Token, IsWholeStatement, Reading, Reads, Stops, StopsAt, whole_statement_read, placed_kind, fault_of, fifth_table, statement_fault, refusal_as, StopsFirst, same_Some, Refusal, refusal_at, IsFirstInText, AreStatementTokens}
+use Rattle.lab_statement.proofs.Common.{◌≡◌, ℕ, ◌≤◌, Bool, true, false, List, length, Option, Some, None, refl, subst, ◌↔◌, if◌then◌else◌, le-leb, leb-true, Statement, ScriptFaultKind, TooManyTables, Token, IsWholeStatement, Reading, Reads, Stops, whole_statement_read, placed_kind, fault_of, fifth_table, statement_fault, same_Some}
 use Rattle.lab_table.specs.TableSet.{are_few}
 use Rattle.lab_statement.proofs.ReadStatements.{whole_takes, whole_again}
-use Rattle.lab_statement.specs.declared.fault.Refusal.TheVariants as refusal
 
 -- a reading has no fault exactly where it has a value that has none
 module _ {X : Type 0} (of : X → Option ScriptFaultKind) (placed : ScriptFaultKind → ℕ → ScriptFaultKind) where
@@ -36,14 +35,3 @@ no_statement_fault ts = (
   λ none. let v = valued (λ s. None) (placed_kind ts) (whole_statement_read ts) none in (v.0, whole_takes ts v.0 v.1),
   λ s. faultless (λ s. None) (placed_kind ts) (whole_statement_read ts) s.0 (whole_again s.1) refl,
 )
-
--- where reading stops is the first fault
-pub stops_first : {X : Type 0} (of : X → Option ScriptFaultKind) (placed : ScriptFaultKind → ℕ → ScriptFaultKind) (left : List Token) (read : Reading X) (e : Refusal) → StopsAt e left read
-    → StopsFirst (fault_of of placed read) (refusal_as (λ kind. placed kind (length left)) e)
-stops_first of placed left read refusal.NoMemory stops = tt
-stops_first of placed left read (refusal.Fault kind) stops = ap (fault_of of placed) stops
-
--- what is told of the text of a statement where reading its tokens stopped
-pub first_in_text : (text : List ℕ) (ts : List Token) (e : Refusal) → AreStatementTokens text ts → StopsFirst (statement_fault ts) e → IsFirstInText text (refusal_at e 1)
-first_in_text text ts refusal.NoMemory are stops = tt
-first_in_text text ts (refusal.Fault kind) are stops = λ short code. (ts, are, stops)

@@ -1,8 +1,7 @@
 pub mod Common
 pub mod Tokens
 pub mod SameTokens
-pub mod Tests
-pub mod Numbers
+pub mod BlankTexts
 pub mod Takes
 pub mod StatementTaken
 pub mod ReadNumbers
@@ -25,7 +24,6 @@ pub mod PrintedNames
 pub mod PrintedStatements
 pub mod StatementRead
 pub mod ShallowStatements
-pub mod Wheres
 pub mod Readings
 pub mod FaultKinds
 mod StoppedLoops

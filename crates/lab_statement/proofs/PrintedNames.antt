@@ -1,7 +1,7 @@
 -- Printed names of tables: each is one word, and code.
 use Rattle.lab_statement.proofs.Common.{◌≡◌, ℕ, ◌≤◌, Bool, true, false, ◌&&◌, not, cond, List, [], ◌∷◌, ◌++◌, length, Some, None, refl, sym, ap, ◌∙◌, append_assoc, arith, nat_le, list_all, to_ascii_lowercase, and_parts, and_from, leb-true, nat_tests, append-nil, is_reserved, has_name_form, is_name_letter, is_table_name, Token, letters, is_letter, is_blank, tokens, tokens_from}
 use Rattle.lab_statement.specs.declared.token.Token.TheVariants as token
-use Rattle.lab_statement.proofs.Tokens.{goes_on, word_begins}
+use Rattle.lab_statement.proofs.Tokens.{goes_on}
 use Rattle.lab_statement.proofs.PrintedText.{is_plain, all_plain, Reads, word_ends}
 use Rattle.lab_statement.proofs.ReservedWords.{name_named}
 
@@ -41,7 +41,7 @@ letters_on (b ∷ text) word rest h =
 name_begins : (text rest : List ℕ) → 1 ≤ length text → list_all is_name_letter text ≡ true → tokens (text ++ rest) ≡ tokens_from (letters []) (text ++ rest)
 name_begins [] rest long h = absurd (omega arith)
 name_begins (b ∷ text) rest long h =
-    let parts = and_parts (is_name_letter b) (list_all is_name_letter text) h in word_begins b (text ++ rest) (name_unblank b parts.0) (name_letter b parts.0)
+    let parts = and_parts (is_name_letter b) (list_all is_name_letter text) h in rw (name_unblank b parts.0, name_letter b parts.0) refl
 
 -- and are code
 letters_plain : (text : List ℕ) → list_all is_name_letter text ≡ true → list_all is_plain text ≡ true

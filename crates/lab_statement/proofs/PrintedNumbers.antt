@@ -1,11 +1,40 @@
 -- Printed numbers: their tokens, and that all of them is code.
-use Rattle.lab_statement.proofs.Common.{◌≡◌, ℕ, zero, suc, ◌/◌, ◌%◌, ◌≤◌, ◌<◌, Bool, true, false, cond, List, [], ◌∷◌, ◌++◌, length, refl, ap, ◌∙◌, arith, subst, ◌&&◌, ◌==◌, ℤ, pos, negsuc, ◌-ℤ◌, codes, list_all, digits, digits_onto, digit_glyph, decimal, signed_decimal, nat_tests, decimal_nonempty, Token, IsNumber, IsNumbers, IsNumberList, joined, printed_numbers, Each, ValueInRange}
+use Rattle.lab_statement.proofs.Common.{◌≡◌, ℕ, zero, suc, ◌/◌, ◌%◌, ◌≤◌, ◌<◌, Bool, true, false, cond, List, [], ◌∷◌, ◌++◌, length, refl, ap, ◌∙◌, arith, subst, ◌&&◌, ◌==◌, ℤ, pos, negsuc, ◌-ℤ◌, codes, list_all, digits, digits_onto, digit_glyph, decimal, signed_decimal, nat_tests, decimal_nonempty, Token, IsNumber, IsNumbers, IsNumberList, joined, printed_numbers, Each, ValueInRange, ◌+◌, ◌-◌, ◌*◌, append_assoc, decimal_by_steps, length-decimal-le, is_ascii_digit, whole, is_letter, is_blank, with_digit, tokens, tokens_from}
 use Rattle.std.proofs.lemmas.Int.{ints}
 use Rattle.lab_statement.specs.declared.token.Token.TheVariants as token
 use Rattle.lab_statement.specs.Grammar as grammar
-use Rattle.lab_statement.proofs.Numbers.{decimal_are}
 use Rattle.lab_statement.proofs.Tokens.{whole_run}
 use Rattle.lab_statement.proofs.PrintedText.{is_plain, Plain, all_plain, dash_plain, plain_no_dash, Reads, Leads, literal, empty_reads, reads_between, number_ends}
+
+-- a digit is one, and neither a letter nor a blank
+one_digit : (d : ℕ) → d < 10 → is_ascii_digit (48 + d) ≡ true
+one_digit d lt = grind (arith, nat_tests)
+
+no_letter : (d : ℕ) → d < 10 → is_letter (48 + d) ≡ false
+no_letter d lt = grind (arith, nat_tests)
+
+no_blank : (d : ℕ) → d < 10 → is_blank (48 + d) ≡ false
+no_blank d lt = grind (arith, nat_tests)
+
+-- a digit behind a number
+longer_number : (m d n : ℕ) (bs : List ℕ) → d < 10 → n ≡ 10 * m + d → n ≤ 1000000000 → tokens_from (whole (token.Digits m)) ((48 + d) ∷ bs) ≡ tokens_from (whole (token.Digits n)) bs
+longer_number m d n bs lt is le =
+    let value : with_digit m (48 + d) ≡ n = omega arith in
+    rw (one_digit d lt, value) refl
+
+-- a printed number goes on as a number that has been read
+decimal_are : (n : ℕ) (bs : List ℕ) → n ≤ 1000000000 → tokens (decimal n ++ bs) ≡ tokens_from (whole (token.Digits n)) bs
+decimal_are n bs le = decimal_by_steps (λ m ds. m ≤ 1000000000 → (rest : List ℕ) → tokens (ds ++ rest) ≡ tokens_from (whole (token.Digits m)) rest)
+    (λ d lt small rest.
+    let value : (48 + d) - 48 ≡ d = omega arith in
+    rw (no_blank d lt, no_letter d lt, one_digit d lt, value) refl)
+    (λ m ds ten so_far small rest.
+    ap tokens (append_assoc ds ((48 + m % 10) ∷ []) rest) ∙ so_far (omega arith) ((48 + m % 10) ∷ rest) ∙ longer_number (m / 10) (m % 10) m rest (omega arith) (omega arith) small)
+    n (omega arith) le bs
+
+-- a printed number of 64 bits has at most 20 digits
+pub decimal_short : (n : ℕ) → n < 18446744073709551616 → length (decimal n) ≤ 20
+decimal_short n lt = length-decimal-le 20 n (omega arith) (omega (arith, lt)) lt
 
 -- the tokens of a printed number
 abbrev pub number_tokens : ℤ → List Token
@@ -52,17 +81,13 @@ minus_plain (b ∷ text) long h = dash_plain b text (plain_no_dash b (list_all i
 pub decimal_reads : (n : ℕ) → n ≤ 1000000000 → Reads (decimal n) (token.Digits n ∷ [])
 decimal_reads n le = record { is = λ rest h. decimal_are n rest le ∙ number_ends n rest h; plain = decimal_plain n }
 
--- a dash and a printed number have their tokens
-minus_reads : (n : ℕ) → n ≤ 1000000000 → Reads (45 ∷ decimal n) (token.Minus ∷ token.Digits n ∷ [])
-minus_reads n le = record {
-  is = λ rest h. whole_run token.Minus (decimal n ++ rest) (λ b. refl) ∙ ap (λ (ts : List Token). token.Minus ∷ ts) ((decimal_reads n le).is rest h);
-  plain = minus_plain (decimal n) (decimal_nonempty n (omega arith)) (digits_plain n);
-}
-
 -- a printed number has its tokens
 pub number_reads : (z : ℤ) → ValueInRange z → Reads (signed_decimal z) (number_tokens z)
 number_reads (pos n) r = decimal_reads n (omega (arith, ints))
-number_reads (negsuc n) r = minus_reads (suc n) (omega (arith, ints))
+number_reads (negsuc n) r = record {
+  is = λ rest h. whole_run token.Minus (decimal (suc n) ++ rest) (λ b. refl) ∙ ap (λ (ts : List Token). token.Minus ∷ ts) ((decimal_reads (suc n) (omega (arith, ints))).is rest h);
+  plain = minus_plain (decimal (suc n)) (decimal_nonempty (suc n) (omega (arith, ints))) (digits_plain (suc n));
+}
 
 -- the tokens of numbers with commas between them
 abbrev pub list_tokens : List ℤ → List Token

@@ -17,20 +17,12 @@ col_reads col.Value = record { is = λ rest h. word_ends (codes "value") rest h;
 -- a printed comparison breaks the column before it
 cmp_cuts : (m : Cmp) → Cuts (printed_cmp m)
 cmp_cuts cmp.Eq rest = refl
-cmp_cuts cmp.Ne rest = refl
-cmp_cuts cmp.Lt rest = refl
-cmp_cuts cmp.Le rest = refl
-cmp_cuts cmp.Gt rest = refl
-cmp_cuts cmp.Ge rest = refl
+cmp_cuts m rest = refl
 
 -- a printed comparison has its token
 cmp_leads : (m : Cmp) → Leads (printed_cmp m) (cmp_token m ∷ [])
 cmp_leads cmp.Eq = literal (λ rest. refl) refl
-cmp_leads cmp.Ne = literal (λ rest. refl) refl
-cmp_leads cmp.Lt = literal (λ rest. refl) refl
-cmp_leads cmp.Le = literal (λ rest. refl) refl
-cmp_leads cmp.Gt = literal (λ rest. refl) refl
-cmp_leads cmp.Ge = literal (λ rest. refl) refl
+cmp_leads m = literal (λ rest. refl) refl
 
 -- the marks and words of a predicate have their tokens
 pub open_leads : Leads (codes "(") (token.Open ∷ [])

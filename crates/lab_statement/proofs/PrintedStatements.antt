@@ -46,10 +46,7 @@ minus_plain = append_plain (codes "value ") (codes "- ") (all_plain (codes "valu
 expr_reads : (e : Expr) → ExprInRange e → Reads (printed_expr e) (expr_tokens e)
 expr_reads (expr.Set z) h = number_reads z h
 expr_reads (expr.Plus z) h = leads_then (literal {text = codes "value + "} {ts = token.Word word.Value ∷ token.Plus ∷ []} (λ rest. refl) refl) (number_reads z h)
-expr_reads (expr.Minus z) h = leads_then minus_leads (number_reads z h)
-  where
-    minus_leads : Leads (codes "value - ") (token.Word word.Value ∷ token.Minus ∷ [])
-    minus_leads = record { is = λ rest. refl; plain = minus_plain }
+expr_reads (expr.Minus z) h = leads_then {ts = token.Word word.Value ∷ token.Minus ∷ []} (record { is = λ rest. refl; plain = minus_plain }) (number_reads z h)
 
 -- the tokens of a printed new value are in the grammar
 expr_fits : (e : Expr) → ExprInRange e → IsExpr (expr_tokens e) e

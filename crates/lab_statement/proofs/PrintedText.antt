@@ -1,7 +1,7 @@
 -- Printed text, read from the left: its tokens, and that all of it is code.
-use Rattle.lab_statement.proofs.Common.{◌≡◌, ℕ, Bool, true, false, cond, List, [], ◌∷◌, ◌++◌, Some, None, refl, sym, ap, ◌∙◌, append_assoc, subst, drop, not, ◌&&◌, ◌==◌, list_all, to_ascii_lowercase, is_ascii_digit, append-nil, list_all-append, not-true, and_from, and_parts, and-false, Token, letters, whole, is_letter, word_token, tokens, tokens_from, longer_token, begins_remark, code_of, remark_of, is_code_byte}
+use Rattle.lab_statement.proofs.Common.{◌≡◌, ℕ, Bool, true, false, cond, List, [], ◌∷◌, ◌++◌, Some, None, refl, sym, ap, ◌∙◌, append_assoc, subst, drop, not, ◌&&◌, ◌==◌, list_all, to_ascii_lowercase, is_ascii_digit, append-nil, list_all-append, not-true, and_from, and_parts, Token, letters, whole, is_letter, word_token, tokens, tokens_from, longer_token, begins_remark, code_of, remark_of, is_code_byte}
 use Rattle.lab_statement.specs.declared.token.Token.TheVariants as token
-use Rattle.lab_statement.proofs.Tokens.{breaks, digit_ends, whole_run}
+use Rattle.lab_statement.proofs.Tokens.{breaks, whole_run}
 
 -- no letter and no digit stands here, so that a word or a number before it ends
 abbrev pub breaks_here : List ℕ → Bool
@@ -23,7 +23,7 @@ word_ends word (b ∷ bs) h =
 -- a number ends before what breaks it
 pub number_ends : (n : ℕ) (rest : List ℕ) → breaks_here rest ≡ true → tokens_from (whole (token.Digits n)) rest ≡ token.Digits n ∷ tokens rest
 number_ends n [] h = refl
-number_ends n (b ∷ bs) h = digit_ends n b bs (both (is_letter b) (is_ascii_digit b) h).1
+number_ends n (b ∷ bs) h = rw (both (is_letter b) (is_ascii_digit b) h).1 refl
 
 -- a byte that is printed in a line's code and is no dash
 abbrev pub is_plain : ℕ → Bool
@@ -43,10 +43,6 @@ plain_no_dash b more h = not-true (b == 45) (and_parts (is_code_byte b) (not (b 
 no_remark : (b : ℕ) (rest : List ℕ) → (b == 45) ≡ false → begins_remark (b ∷ rest) ≡ false
 no_remark b [] h = refl
 no_remark b (c ∷ rest) h = rw h refl
-
--- no remark begins before a byte that is no dash
-no_remark_behind : (b c : ℕ) (rest : List ℕ) → (c == 45) ≡ false → begins_remark (b ∷ c ∷ rest) ≡ false
-no_remark_behind b c rest h = rw h (and-false (b == 45))
 
 -- no text is code
 pub empty_plain : Plain []
@@ -70,7 +66,7 @@ all_plain (b ∷ text) h =
 
 -- a dash before a byte that is none
 pub dash_plain : (b : ℕ) (text : List ℕ) → (b == 45) ≡ false → Plain (b ∷ text) → Plain (45 ∷ b ∷ text)
-dash_plain b text h p = front_plain 45 (b ∷ text) refl (λ rest. no_remark_behind 45 b (text ++ rest) h) p
+dash_plain b text h p = front_plain 45 (b ∷ text) refl (λ rest. h) p
 
 -- two texts of code bytes
 pub append_ascii : (a b : List ℕ) → list_all is_code_byte a ≡ true → list_all is_code_byte b ≡ true → list_all is_code_byte (a ++ b) ≡ true

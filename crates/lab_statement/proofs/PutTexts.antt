@@ -1,5 +1,5 @@
 -- Texts that a sink was handed, one behind the other.
-use Rattle.lab_statement.proofs.Common.{rules, ◌≡◌, ◌≤◌, ◌+◌, ℕ, suc, Bool, List, ◌∷◌, ◌++◌, Result, Ok, Err, length, map, replicate, refl, sym, ap, ◌∙◌, append_assoc, arith, length-append, ◌↔◌, IsTrue, is_ok, map-append, length-map, length-replicate, joined}
+use Rattle.lab_statement.proofs.Common.{rules, ◌≡◌, ◌≤◌, ◌+◌, ℕ, suc, Bool, true, false, inl, inr, nat_le, cases_Bool, le-leb, leb-true, false≢true, List, ◌∷◌, ◌++◌, Result, Ok, Err, length, map, replicate, refl, sym, ap, ◌∙◌, append_assoc, arith, length-append, ◌↔◌, IsTrue, is_ok, map-append, length-map, length-replicate, joined}
 use Rattle.lab_statement.specs.Sink.{Puts}
 use Rattle.lab_statement.proofs.Joined.{followed, joined_is}
 
@@ -31,3 +31,11 @@ room_tells (Ok x) limit start used text fits put none within is =
     ((λ _. omega arith), (λ _. search rules))
 room_tells (Err e) limit start used text fits put none within is =
     let over : suc limit ≤ start + length text = omega (arith, put, length-replicate {A = ℕ}) in ((λ ok. absurd cc), (λ short. absurd (omega arith)))
+
+-- two tests of one bound
+pub same_test : (b : Bool) (m n : ℕ) → (b ≡ true → m ≤ n) → (m ≤ n → b ≡ true) → nat_le m n ≡ b
+same_test true m n there back = le-leb m n (there refl)
+same_test false m n there back = elim (cases_Bool (nat_le m n)) [
+  | inl is ↦ absurd (false≢true (back (leb-true m n is)))
+  | inr isnt ↦ isnt
+]

@@ -34,18 +34,13 @@ again (grammar.negation h) = λ rest. rw (again h rest) refl
 again (grammar.parenthesized {d} {ts} {p} h) = λ rest.
     ap (term_read (suc d)) (ap (λ (x : List Token). token.Open ∷ x) (append_assoc ts (token.Close ∷ []) rest))
     ∙ rw (ends (again h (token.Close ∷ rest) refl) refl) refl
-again (grammar.one_factor {d} {ts} {p} h) = λ rest. starts (term_read d) (token.Word word.And) predicate.And (again h rest)
+again (grammar.one_factor {d} {ts} {p} h) = λ rest. starts (λ p. p) (term_read d) (token.Word word.And) predicate.And (again h rest)
 again (grammar.conjunction {d} {ts} {rest = others} {p} {q} hp hq) = λ rest.
     rw (append_assoc ts (token.Word word.And ∷ others) rest) (goes_on (again hp (token.Word word.And ∷ others ++ rest)) refl (omega arith) (again hq rest) (shorter others rest) refl)
-again (grammar.one_member {d} {ts} {p} h) = λ rest none. starts (conj_read d) (token.Word word.Or) predicate.Or (ends (again h rest) none)
+again (grammar.one_member {d} {ts} {p} h) = λ rest none. starts (λ p. p) (conj_read d) (token.Word word.Or) predicate.Or (ends (again h rest) none)
 again (grammar.disjunction {d} {ts} {rest = others} {p} {q} hp hq) = λ rest none.
     rw (append_assoc ts (token.Word word.Or ∷ others) rest)
     (goes_on (again hp (token.Word word.Or ∷ others ++ rest) refl) refl (omega arith) (ends (again hq rest) none) (shorter others rest) refl)
-
--- a predicate of the grammar is read as itself
-pub pred_again : {ts : List Token} {p : Predicate} (d : ℕ) → IsPred d P ts p → (rest : List Token) → after (token.Word word.And) rest ≡ None
-    → after (token.Word word.Or) rest ≡ None → pred_read d (ts ++ rest) ≡ Reads (p, rest)
-pred_again {ts} {p} d h rest none none' = ends (again h rest none) none'
 
 -- what may stand behind a statement
 abbrev pub IsUnjoined : List Token → Type 0
@@ -55,4 +50,4 @@ IsUnjoined rest = (after (token.Word word.And) rest ≡ None) × (after (token.W
 pub where_again : {ts : List Token} {p : Option Predicate} → IsWhere ts p → (rest : List Token) → IsUnjoined rest → where_read (ts ++ rest) ≡ Reads (p, rest)
 unfolding where_read
 where_again grammar.without rest none = rw (where_read, none.2) refl
-where_again (grammar.where_pred h) rest none = rw (pred_again 16 h rest none.0 none.1) refl
+where_again (grammar.where_pred h) rest none = rw (ends (again h rest none.0) none.1) refl

@@ -1,12 +1,8 @@
 -- A row of the grammar is read.
-use Rattle.lab_statement.proofs.Common.{◌≡◌, ℕ, List, [], ◌∷◌, ◌++◌, refl, ◌∙◌, append_assoc, ℤ, Token, IsId, IsRow, Reads, positive_read, row_read}
+use Rattle.lab_statement.proofs.Common.{◌≡◌, ℕ, List, [], ◌∷◌, ◌++◌, refl, ◌∙◌, append_assoc, ℤ, Token, IsRow, Reads, row_read}
 use Rattle.lab_statement.specs.declared.token.Token.TheVariants as token
 use Rattle.lab_statement.specs.Grammar as grammar
 use Rattle.lab_statement.proofs.ReadNumbers.{number_again, positive_again}
-
--- an id of the grammar is read, whatever follows it
-id_again : {ts : List Token} {id : ℕ} → IsId ts id → (rest : List Token) → positive_read 999999 (ts ++ rest) ≡ Reads (id, rest)
-id_again (grammar.named id number low high) rest = positive_again 999999 id number low high rest
 
 -- the parts of a row, and what follows it
 pub parts_of : (is vs rest : List Token) → is ++ token.Comma ∷ vs ++ token.Close ∷ [] ++ rest ≡ is ++ (token.Comma ∷ (vs ++ token.Close ∷ rest))
@@ -15,4 +11,5 @@ parts_of is vs rest = append_assoc (is ++ token.Comma ∷ vs) (token.Close ∷ [
 -- a row of the grammar is read, whatever follows it
 pub row_again : {ts : List Token} {id : ℕ} {value : ℤ} → IsRow ts id value → (rest : List Token) → row_read (ts ++ rest) ≡ Reads ((id, value), rest)
 unfolding row_read
-row_again (grammar.row {is} {vs} i v) rest = rw (parts_of is vs rest, id_again i (token.Comma ∷ (vs ++ token.Close ∷ rest)), number_again v (token.Close ∷ rest)) refl
+row_again (grammar.row {is} {vs} (grammar.named id i low high) v) rest =
+    rw (parts_of is vs rest, positive_again 999999 id i low high (token.Comma ∷ (vs ++ token.Close ∷ rest)), number_again v (token.Close ∷ rest)) refl

@@ -42,20 +42,12 @@ pub unjoined : {rest : List Token} → Closes rest → IsUnjoined rest
 unjoined nothing = (refl, refl, refl)
 unjoined (semicolon rest) = (refl, refl, refl)
 
-pub end_closes : {end : List Token} → IsEnd end → Closes end
-end_closes grammar.open_end = nothing
-end_closes grammar.semicolon = semicolon []
-
-pub ended_again : {end : List Token} → IsEnd end → end_read end ≡ Reads []
-unfolding end_read
-ended_again grammar.open_end = refl
-ended_again grammar.semicolon = refl
-
 -- one statement, and nothing else
 
 parts_again : (ts front end : List Token) (s : Statement) → ts ≡ front ++ end → IsStatement front s → IsEnd end → length (printed_statement s) ≤ 1000 → whole_statement_read ts ≡ Reads s
-unfolding whole_statement_read
-parts_again ts front end s is h e le = rw (is, statement_again h end (unjoined (end_closes e)), ended_again e, le-leb (length (printed_statement s)) 1000 le) refl
+unfolding whole_statement_read end_read
+parts_again ts front _ s is h grammar.open_end le = rw (is, statement_again h [] (unjoined nothing), le-leb (length (printed_statement s)) 1000 le) refl
+parts_again ts front end s is h grammar.semicolon le = rw (is, statement_again h end (unjoined (semicolon [])), le-leb (length (printed_statement s)) 1000 le) refl
 
 -- one statement of the grammar is read
 pub whole_again : {ts : List Token} {s : Statement} → IsWholeStatement ts s → whole_statement_read ts ≡ Reads s

@@ -1,5 +1,5 @@
 -- The statement that a text spells is what reading the text gives.
-use Rattle.lab_statement.proofs.Common.{◌≡◌, ℕ, Bool, true, cond, List, length, Option, Some, None, ◌≢◌, refl, sym, ap, ◌∙◌, arith, nat_le, list_all, eqb-true, eq-eqb, le-leb, leb-true, and_from, and_parts, same_Some, Statement, IsStatementFault, tokens, read_value, whole_statement_read, code_of, is_code_byte, SpellsStatement}
+use Rattle.lab_statement.proofs.Common.{◌≡◌, ℕ, true, List, length, Some, None, ◌≢◌, refl, sym, ap, ◌∙◌, arith, nat_le, list_all, eqb-true, eq-eqb, le-leb, leb-true, and_from, and_parts, same_Some, Statement, IsStatementFault, tokens, read_value, whole_statement_read, code_of, is_code_byte, SpellsStatement}
 use Rattle.lab_statement.specs.declared.fault.ScriptFault.{ScriptFault}
 use Rattle.lab_statement.specs.declared.fault.ScriptFault.TheVariants as fault
 use Rattle.lab_statement.specs.StatementText.{is_code_alone, statement_in}
@@ -8,22 +8,12 @@ use Rattle.lab_statement.proofs.ReadStatements.{whole_again, whole_takes}
 use Rattle.lab_statement.proofs.StatementText.{all_code}
 use Rattle.lab_table.proofs.Tests.{under_condition}
 
--- where nothing can be found, nothing is
-nothing_found : {A : Type 0} (r : Option A) → ((y : A) → r ≡ Some y → ⊥) → r ≡ None
-nothing_found None none = refl
-nothing_found (Some y) none = absurd (none y refl)
-
--- a text that spells a statement is code alone
-spelled_alone : (text : List ℕ) (s : Statement) → SpellsStatement text s → is_code_alone text ≡ true
-spelled_alone text s h =
-    and_from _ _ (le-leb (length text) 4000 h.bytes) (and_from _ _ h.ascii (eq-eqb (length (code_of text)) (length text) (ap length h.no_remark)))
-
 -- what a text spells is read from it
 pub spells_in : (text : List ℕ) (s : Statement) → SpellsStatement text s → statement_in text ≡ Some s
 unfolding statement_in
 spells_in text s h =
-    ap (λ (b : Bool). cond b (read_value (whole_statement_read (tokens text))) None) (spelled_alone text s h)
-    ∙ ap read_value (whole_again (record { parts = h.parts; printed = h.printed }))
+    let alone : is_code_alone text ≡ true = and_from _ _ (le-leb (length text) 4000 h.bytes) (and_from _ _ h.ascii (eq-eqb (length (code_of text)) (length text) (ap length h.no_remark))) in
+    rw (alone, whole_again (record { parts = h.parts; printed = h.printed })) refl
 
 -- what is read from a text it spells
 pub in_spells : (text : List ℕ) (s : Statement) → statement_in text ≡ Some s → SpellsStatement text s
@@ -34,17 +24,12 @@ in_spells text s read =
     let code = and_parts (list_all is_code_byte text) _ short.1 in
     let len : length (code_of text) ≡ length text = eqb-true _ _ code.1 in
     let whole = whole_takes (tokens text) s (valued (whole_statement_read (tokens text)) s found.1) in
-    record {
-      bytes = leb-true _ _ short.0;
-      ascii = code.0;
-      no_remark = all_code text (omega arith);
-      parts = whole.parts;
-      printed = whole.printed;
-    }
+    record { bytes = leb-true _ _ short.0; ascii = code.0; no_remark = all_code text (omega arith); parts = whole.parts; printed = whole.printed }
 
 -- from a text that spells nothing nothing is read
 pub none_in : (text : List ℕ) → ((s : Statement) → SpellsStatement text s → ⊥) → statement_in text ≡ None
-none_in text none = nothing_found (statement_in text) (λ s read. none s (in_spells text s read))
+none_in text none =
+    elim (statement_in text) as (λ r. ((s : Statement) → r ≡ Some s → ⊥) → r ≡ None) [ None ↦ λ never. refl | Some s ↦ λ never. absurd (never s refl) ] (λ s read. none s (in_spells text s read))
 
 -- a text spells one statement at most
 pub spells_once : (text : List ℕ) (s t : Statement) → SpellsStatement text s → SpellsStatement text t → s ≡ t

@@ -1,5 +1,5 @@
 -- What is read as a statement, or as a part of one, is one of the grammar, and reading stops with few kinds of faults.
-use Rattle.lab_statement.proofs.Common.{◌≡◌, ℕ, zero, suc, ◌≤◌, Some, List, [], ◌∷◌, ◌++◌, length, refl, subst, sym, ap, ◌∙◌, append_assoc, append-nil, arith, inl, inr, ℤ, pos, ◌⊎◌, ◌==◌, ◌&&◌, nat_le, leb-true, leb-false, eqb-true, and_parts, nil_from_length, Predicate, Statement, Col, Token, ScriptFaultKind, over, P, A, N, col_token, cmp_token, IsNumber, IsNumbers, IsAtom, IsPred, IsWhere, IsExpr, IsRow, IsStatement, IsEnd, IsWholeStatement, max_statement_bytes, printed_statement, Reading, digits_read, magnitude_read, number_read, more_read, positive_read, row_read, name_of, name_read, col_read, cmp_of, cmp_in, cmp_read, one_more, numbers_read, number_list_read, compare_read, remainder_read, one_of_read, atom_read, joined_read, term_read, conj_read, pred_read, where_read, expr_read, select_read, update_read, insert_read, delete_read, statement_read, end_read, nothing_read, whole_statement_read, BeginsLongStatement}
+use Rattle.lab_statement.proofs.Common.{◌≡◌, ℕ, zero, suc, ◌≤◌, Some, List, [], ◌∷◌, ◌++◌, length, refl, subst, sym, ap, ◌∙◌, append_assoc, append-nil, arith, inl, inr, ℤ, pos, ◌⊎◌, ◌==◌, ◌&&◌, nat_le, leb-true, leb-false, eqb-true, and_parts, nil_from_length, Col, Token, ScriptFaultKind, over, P, A, N, col_token, cmp_token, IsNumber, IsNumbers, IsAtom, IsPred, IsWhere, IsExpr, IsRow, IsStatement, IsEnd, IsWholeStatement, max_statement_bytes, printed_statement, Reading, digits_read, magnitude_read, number_read, more_read, positive_read, row_read, name_of, name_read, col_read, cmp_read, one_more, numbers_read, number_list_read, compare_read, remainder_read, one_of_read, atom_read, joined_read, term_read, conj_read, pred_read, where_read, expr_read, select_read, update_read, insert_read, delete_read, statement_read, end_read, nothing_read, whole_statement_read, BeginsLongStatement}
 use Rattle.lab_table.specs.Predicate as predicate
 use Rattle.lab_table.specs.declared.statement.StatementKind.TheVariants as kind
 use Rattle.lab_table.specs.declared.statement.Expr.TheVariants as expr
@@ -7,20 +7,34 @@ use Rattle.lab_table.specs.declared.word.Word.TheVariants as word
 use Rattle.lab_statement.specs.declared.token.Token.TheVariants as token
 use Rattle.lab_statement.specs.declared.fault.ScriptFaultKind.TheVariants as kinds
 use Rattle.lab_statement.specs.Grammar as grammar
-use Rattle.lab_statement.proofs.Takes.{Gives, gives, stops, Takes, then_gives, each_gives, if_gives, found_gives, taken, each_taken, behind, behind_spelled, made, found, behind_token, behind_tokens}
-
--- a number from 1 to this most
-abbrev IsPositive : ℕ → List Token → ℕ → Type 0
-IsPositive most ts n = IsNumber ts (pos n) × (1 ≤ n) × (n ≤ most)
-
--- a statement behind its first word
-abbrev Behind : Token → List Token → Statement → Type 0
-Behind first ts s = IsStatement (first ∷ ts) s
+use Rattle.lab_statement.proofs.Takes.{Gives, gives, stops, Takes, then_gives, if_gives, found_gives, taken, each_taken, behind, behind_spelled, made, found, behind_token, behind_tokens, token_gives}
 
 -- an end behind which nothing is left
 end_is : (ts rest : List Token) → ((ts ≡ []) × (rest ≡ [])) ⊎ (ts ≡ token.Semicolon ∷ rest) → rest ≡ [] → IsEnd ts
 end_is ts rest (inl both) none = subst IsEnd (sym both.0) grammar.open_end
 end_is ts rest (inr is) none = subst IsEnd (sym (is ∙ ap (λ (us : List Token). token.Semicolon ∷ us) none)) grammar.semicolon
+
+-- one number behind others
+one_behind : {ts rest : List Token} {zs : List ℤ} {z : ℤ} → IsNumbers ts zs → IsNumber rest z → IsNumbers (ts ++ token.Comma ∷ rest) (zs ++ z ∷ [])
+one_behind (grammar.last n) m = grammar.more n (grammar.last m)
+one_behind {rest} (grammar.more {ts} {rest = others} n ns) m = rw (append_assoc ts (token.Comma ∷ others) (token.Comma ∷ rest)) (grammar.more n (one_behind ns m))
+
+-- members with a connective between two of them
+module _ {Fault : ScriptFaultKind → Type 0} {A X : Type 0} (first : X → A) (member : List Token → Reading (X × List Token)) (connective : Token) (join : A → X → A)
+    (IsMember : List Token → X → Type 0) (IsJoined : List Token → A → Type 0) (member_taken : (ts : List Token) → Takes Fault IsMember ts (member ts))
+    (one_is : (ts : List Token) (x : X) → IsMember ts x → IsJoined ts (first x))
+    (more_is : (ts rest : List Token) (a : A) (x : X) → IsJoined ts a → IsMember rest x → IsJoined (ts ++ connective ∷ rest) (join a x)) where
+  more_taken : (k : ℕ) (a : A) (front ts : List Token) → IsJoined front a → Takes Fault (λ back. IsJoined (front ++ back)) ts (more_read k member connective join a ts)
+  unfolding more_read
+  more_taken zero a front ts is = taken [] refl (rw append-nil is)
+  more_taken (suc k) a front ts is = found connective ts _ _
+      (λ rest. behind _ (member_taken rest) (λ x back one left. each_taken (more_taken k (join a x) (front ++ connective ∷ back) left (more_is front back a x is one))
+      (λ further all h. subst (λ (us : List Token). IsJoined us all) (append_assoc front (connective ∷ back) further) h)))
+      (taken [] refl (rw append-nil is))
+
+  joined_taken : (ts : List Token) → Takes Fault IsJoined ts (joined_read first member connective join ts)
+  unfolding joined_read
+  joined_taken ts = behind _ (member_taken ts) (λ x front one rest. more_taken (length rest) (first x) front rest (one_is front x one))
 
 module _ {Fault : ScriptFaultKind → Type 0} (unknown : Fault kinds.UnknownStatement) (name : Fault kinds.BadTableName) (range : Fault kinds.NumberOutOfRange) where
   -- numbers
@@ -41,7 +55,7 @@ module _ {Fault : ScriptFaultKind → Type 0} (unknown : Fault kinds.UnknownStat
       (λ rest. then_gives _ (magnitude_gives rest) (λ n is. taken (token.Digits n.0 ∷ []) is.0 (grammar.negative n.0 is.1)))
       (then_gives _ (magnitude_gives ts) (λ n is. taken (token.Digits n.0 ∷ []) is.0 (grammar.positive n.0 is.1)))
 
-  positive_taken : (most : ℕ) → most ≤ 1000000000 → (ts : List Token) → Takes Fault (IsPositive most) ts (positive_read most ts)
+  positive_taken : (most : ℕ) → most ≤ 1000000000 → (ts : List Token) → Takes Fault (λ front n. IsNumber front (pos n) × (1 ≤ n) × (n ≤ most)) ts (positive_read most ts)
   unfolding positive_read
   positive_taken most le ts = found token.Minus ts _ _
       (λ rest. then_gives _ (digits_give rest) (λ n is. stops range))
@@ -80,40 +94,24 @@ module _ {Fault : ScriptFaultKind → Type 0} (unknown : Fault kinds.UnknownStat
   module _ (deep : Fault kinds.TooDeep) where
     -- comparisons, remainders and lists
 
-    col_taken : (ts : List Token) → Takes Fault (λ front c. front ≡ col_token c ∷ []) ts (col_read ts)
-    unfolding col_read
-    col_taken ts = found (token.Word word.Id) ts _ _ (λ rest. taken [] refl refl) (behind_token unknown (token.Word word.Value) _ (λ rest. taken [] refl refl))
-
     col_gives : (ts : List Token) → Gives Fault (λ x. ts ≡ col_token x.0 ∷ x.1) (col_read ts)
-    col_gives ts = each_gives (col_taken ts) (λ x h. h.text ∙ ap (λ (front : List Token). front ++ x.1) h.is)
-
-    cmp_in_gives : (t : Token) (ts : List Token) → Gives Fault (λ x. t ∷ ts ≡ cmp_token x.0 ∷ x.1) (cmp_in (cmp_of t) t ts)
-    cmp_in_gives token.Equal ts = gives refl
-    cmp_in_gives token.Unequal ts = gives refl
-    cmp_in_gives token.Less ts = gives refl
-    cmp_in_gives token.AtMost ts = gives refl
-    cmp_in_gives token.Greater ts = gives refl
-    cmp_in_gives token.AtLeast ts = gives refl
-    cmp_in_gives t ts = stops unknown
+    unfolding col_read
+    col_gives ts = found_gives (token.Word word.Id) ts _ _ (λ rest is. gives is) (then_gives _ (token_gives unknown (token.Word word.Value) ts) (λ rest is. gives is))
 
     cmp_gives : (ts : List Token) → Gives Fault (λ x. ts ≡ cmp_token x.0 ∷ x.1) (cmp_read ts)
     unfolding cmp_read
+    cmp_gives (token.Equal ∷ ts) = gives refl
+    cmp_gives (token.Unequal ∷ ts) = gives refl
+    cmp_gives (token.Less ∷ ts) = gives refl
+    cmp_gives (token.AtMost ∷ ts) = gives refl
+    cmp_gives (token.Greater ∷ ts) = gives refl
+    cmp_gives (token.AtLeast ∷ ts) = gives refl
     cmp_gives [] = stops unknown
-    cmp_gives (t ∷ ts) = cmp_in_gives t ts
-
-    -- what a loop takes behind the first number: each behind a comma
-    more_numbers_taken : (k : ℕ) (before : List ℤ) (z : ℤ) (ns ts : List Token) → IsNumber ns z
-        → Takes Fault (λ back all. (zs : List ℤ) × IsNumbers (ns ++ back) zs × (before ++ zs ≡ all)) ts (more_read k number_read token.Comma one_more (one_more before z) ts)
-    unfolding more_read
-    more_numbers_taken zero before z ns ts n = taken [] refl (z ∷ [], rw append-nil (grammar.last n), refl)
-    more_numbers_taken (suc k) before z ns ts n = found token.Comma ts _ _
-        (λ rest. behind _ (number_taken rest) (λ y ms m left. each_taken (more_numbers_taken k (one_more before z) y ms left m)
-        (λ front all h. (z ∷ h.0, grammar.more n h.1, sym (append_assoc before (z ∷ []) h.0) ∙ h.2))))
-        (taken [] refl (z ∷ [], rw append-nil (grammar.last n), refl))
+    cmp_gives (t ∷ ts) = stops unknown
 
     numbers_taken : (ts : List Token) → Takes Fault IsNumbers ts (numbers_read ts)
     unfolding numbers_read
-    numbers_taken ts = behind _ (number_taken ts) (λ z ns n rest. each_taken (more_numbers_taken (length rest) [] z ns rest n) (λ front all h. subst (IsNumbers (ns ++ front)) h.2 h.1))
+    numbers_taken ts = joined_taken (λ z. z ∷ []) number_read token.Comma one_more IsNumber IsNumbers number_taken (λ us z n. grammar.last n) (λ us rest zs z ns n. one_behind ns n) ts
 
     one_of_taken : (c : Col) (ts : List Token) → Takes Fault (λ front p. IsAtom (col_token c ∷ token.Word word.In ∷ front) p) ts (one_of_read c ts)
     unfolding one_of_read number_list_read
@@ -138,39 +136,20 @@ module _ {Fault : ScriptFaultKind → Type 0} (unknown : Fault kinds.UnknownStat
 
     -- predicates
 
-    module _ (member : List Token → Reading (Predicate × List Token)) (connective : Token) (join : Predicate → Predicate → Predicate) (IsMember IsJoined : List Token → Predicate → Type 0)
-        (member_taken : (ts : List Token) → Takes Fault IsMember ts (member ts))
-        (one_is : (ts : List Token) (p : Predicate) → IsMember ts p → IsJoined ts p)
-        (more_is : (ts rest : List Token) (p q : Predicate) → IsJoined ts p → IsMember rest q → IsJoined (ts ++ connective ∷ rest) (join p q)) where
-      more_taken : (k : ℕ) (p : Predicate) (front ts : List Token) → IsJoined front p → Takes Fault (λ back. IsJoined (front ++ back)) ts (more_read k member connective join p ts)
-      unfolding more_read
-      more_taken zero p front ts is = taken [] refl (rw append-nil is)
-      more_taken (suc k) p front ts is = found connective ts _ _
-          (λ rest. behind _ (member_taken rest) (λ q back one left. each_taken (more_taken k (join p q) (front ++ connective ∷ back) left (more_is front back p q is one))
-          (λ further all h. subst (λ (us : List Token). IsJoined us all) (append_assoc front (connective ∷ back) further) h)))
-          (taken [] refl (rw append-nil is))
-
-      joined_taken : (ts : List Token) → Takes Fault IsJoined ts (joined_read member connective join ts)
-      unfolding joined_read
-      joined_taken ts = behind _ (member_taken ts) (λ p front one rest. more_taken (length rest) p front rest (one_is front p one))
-
     conj_taken : (d : ℕ) → ((ts : List Token) → Takes Fault (IsPred d N) ts (term_read d ts)) → (ts : List Token) → Takes Fault (IsPred d A) ts (conj_read d ts)
     unfolding conj_read
-    conj_taken d terms ts = joined_taken (term_read d) (token.Word word.And) predicate.And (IsPred d N) (IsPred d A) terms (λ us p i. grammar.one_factor i) (λ us rest p q i j. grammar.conjunction i j) ts
+    conj_taken d terms ts = joined_taken (λ p. p) (term_read d) (token.Word word.And) predicate.And (IsPred d N) (IsPred d A) terms (λ us p i. grammar.one_factor i) (λ us rest p q i j. grammar.conjunction i j) ts
 
     pred_taken : (d : ℕ) → ((ts : List Token) → Takes Fault (IsPred d N) ts (term_read d ts)) → (ts : List Token) → Takes Fault (IsPred d P) ts (pred_read d ts)
     unfolding pred_read
-    pred_taken d terms ts = joined_taken (conj_read d) (token.Word word.Or) predicate.Or (IsPred d A) (IsPred d P) (conj_taken d terms) (λ us p i. grammar.one_member i) (λ us rest p q i j. grammar.disjunction i j) ts
-
-    term_atom : (d : ℕ) (ts : List Token) → Takes Fault (IsPred d N) ts (atom_read ts)
-    term_atom d ts = each_taken (atom_taken ts) (λ front p is. grammar.atom is)
+    pred_taken d terms ts = joined_taken (λ p. p) (conj_read d) (token.Word word.Or) predicate.Or (IsPred d A) (IsPred d P) (conj_taken d terms) (λ us p i. grammar.one_member i) (λ us rest p q i j. grammar.disjunction i j) ts
 
     term_taken : (d : ℕ) (ts : List Token) → Takes Fault (IsPred d N) ts (term_read d ts)
     unfolding term_read pred_read conj_read
-    term_taken zero ts = found (token.Word word.Not) ts _ _ (λ rest. stops deep) (found token.Open ts _ _ (λ rest. stops deep) (term_atom zero ts))
+    term_taken zero ts = found (token.Word word.Not) ts _ _ (λ rest. stops deep) (found token.Open ts _ _ (λ rest. stops deep) (each_taken (atom_taken ts) (λ front p is. grammar.atom is)))
     term_taken (suc d) ts = found (token.Word word.Not) ts _ _ (λ rest. made predicate.Not (term_taken d rest) (λ p us is. grammar.negation is))
         (found token.Open ts _ _ (λ rest. behind _ (pred_taken d (term_taken d) rest) (λ p us is left. behind_token unknown token.Close _ (λ end. taken [] refl (grammar.parenthesized is))))
-        (term_atom (suc d) ts))
+        (each_taken (atom_taken ts) (λ front p is. grammar.atom is)))
 
     where_taken : (ts : List Token) → Takes Fault IsWhere ts (where_read ts)
     unfolding where_read
@@ -185,27 +164,27 @@ module _ {Fault : ScriptFaultKind → Type 0} (unknown : Fault kinds.UnknownStat
         (behind_token unknown token.Minus _ (λ behind. made expr.Minus (number_taken behind) (λ z ns n. grammar.minus n))))
         (made expr.Set (number_taken ts) (λ z ns n. grammar.set n))
 
-    select_taken : (ts : List Token) → Takes Fault (Behind (token.Word word.Select)) ts (select_read ts)
+    select_taken : (ts : List Token) → Takes Fault (λ back. IsStatement (token.Word word.Select ∷ back)) ts (select_read ts)
     unfolding select_read
     select_taken ts = behind_tokens unknown (token.Star ∷ token.Word word.From ∷ []) _ (λ a.
         behind_spelled (λ table. token.Name table ∷ []) _ (name_gives a) (λ table b.
         made (λ p. over table (kind.Select p)) (where_taken b) (λ p ws w. grammar.select table w)))
 
-    update_taken : (ts : List Token) → Takes Fault (Behind (token.Word word.Update)) ts (update_read ts)
+    update_taken : (ts : List Token) → Takes Fault (λ back. IsStatement (token.Word word.Update ∷ back)) ts (update_read ts)
     unfolding update_read
     update_taken ts = behind_spelled (λ table. token.Name table ∷ []) _ (name_gives ts) (λ table a.
         behind_tokens unknown (token.Word word.Set ∷ token.Word word.Value ∷ token.Equal ∷ []) _ (λ b.
         behind _ (expr_taken b) (λ e es i c.
         made (λ p. over table (kind.Update e p)) (where_taken c) (λ p ws w. grammar.update table i w))))
 
-    insert_taken : (ts : List Token) → Takes Fault (Behind (token.Word word.Insert)) ts (insert_read ts)
+    insert_taken : (ts : List Token) → Takes Fault (λ back. IsStatement (token.Word word.Insert ∷ back)) ts (insert_read ts)
     unfolding insert_read
     insert_taken ts = behind_token unknown (token.Word word.Into) _ (λ a.
         behind_spelled (λ table. token.Name table ∷ []) _ (name_gives a) (λ table b.
         behind_tokens unknown (token.Open ∷ token.Word word.Id ∷ token.Comma ∷ token.Word word.Value ∷ token.Close ∷ token.Word word.Values ∷ []) _ (λ c.
         made (λ row. over table (kind.Insert row.0 row.1)) (row_taken c) (λ row rs r. grammar.insert table r))))
 
-    delete_taken : (ts : List Token) → Takes Fault (Behind (token.Word word.Delete)) ts (delete_read ts)
+    delete_taken : (ts : List Token) → Takes Fault (λ back. IsStatement (token.Word word.Delete ∷ back)) ts (delete_read ts)
     unfolding delete_read
     delete_taken ts = behind_token unknown (token.Word word.From) _ (λ a.
         behind_spelled (λ table. token.Name table ∷ []) _ (name_gives a) (λ table b.

@@ -1,11 +1,9 @@
 -- The tokens of the text of one statement.
-use Rattle.lab_statement.proofs.Common.{◌≡◌, ℕ, ◌<◌, ◌≤◌, Bool, true, cond, List, [], ◌∷◌, ◌++◌, length, Option, Some, None, refl, sym, ap, subst, ◌∙◌, inl, inr, ⊎_elim, arith, list_all, cases_Bool, Statement, ScriptFaultKind, Refusal, Token, tokens, SaysOfStatement, IsStatementFault, refusal_at, IsWholeStatement, AreStatementTokens, begins_remark, code_of, is_code_byte, HasWhere, BeginsLongStatement, SpellsStatement, statement_fault, StopsFirst}
+use Rattle.lab_statement.proofs.Common.{◌≡◌, ℕ, ◌≤◌, Bool, true, cond, List, [], ◌∷◌, length, Option, Some, None, refl, sym, ap, subst, ◌∙◌, inl, inr, arith, list_all, cases_Bool, Statement, ScriptFaultKind, Refusal, Token, tokens, SaysOfStatement, IsStatementFault, refusal_at, IsWholeStatement, AreStatementTokens, begins_remark, code_of, is_code_byte, HasWhere, BeginsLongStatement, SpellsStatement, statement_fault, StopsFirst}
 use Rattle.lab_statement.specs.declared.fault.Refusal.TheVariants as refusal
-use Rattle.lab_statement.specs.declared.token.Token.TheVariants as token
 use Rattle.lab_statement.proofs.GrammarFaults.{no_statement_fault}
 use Rattle.lab_statement.proofs.FaultKinds.{statement_kinds}
-use Rattle.lab_statement.proofs.KnownTokens.{closed_known, long_before_last}
-use Rattle.lab_statement.proofs.Wheres.{where_before_last}
+use Rattle.lab_statement.proofs.KnownTokens.{closed_known, long_before_last, where_before_last}
 
 -- code that is as long as the text is the text
 pub all_code : (text : List ℕ) → length text ≤ length (code_of text) → code_of text ≡ text
@@ -22,64 +20,34 @@ all_code (b ∷ bytes) within =
           on ∙ ap (λ (bs : List ℕ). b ∷ bs) (all_code bytes (omega arith))
     ]
 
--- the tokens of a text that is all code, and of one that isn't
-pub code_tokens : (text code : List ℕ) {ts found : List Token} → code ≡ code_of text → length text ≤ length code → ts ≡ found → found ≡ tokens code → AreStatementTokens text ts
-code_tokens text code is within same found =
-    let all : code_of text ≡ text = all_code text (subst (λ (c : List ℕ). length text ≤ length c) is within) in
-    inl (all, same ∙ found ∙ ap tokens (is ∙ all))
-
-pub remark_tokens : (text code : List ℕ) {ts found : List Token} → code ≡ code_of text → length code < length text → ts ≡ found ++ token.Unknown ∷ [] → found ≡ tokens code
-    → AreStatementTokens text ts
-remark_tokens text code is shorter same found =
-    inr (
-      λ all. let len : length code ≡ length text = ap length (is ∙ all) in absurd (omega arith),
-      same ∙ ap (λ (t : List Token). t ++ token.Unknown ∷ []) (found ∙ ap tokens is),
-    )
-
-module _ (text : List ℕ) (ts : List Token) (are : AreStatementTokens text ts) (short : length text ≤ 4000) (ascii : list_all is_code_byte text ≡ true) where
+module _ (text : List ℕ) (short : length text ≤ 4000) (ascii : list_all is_code_byte text ≡ true) where
   -- what these tokens spell, the text spells
-  pub text_spells : (s : Statement) → IsWholeStatement ts s → SpellsStatement text s
-  text_spells s closed =
-      ⊎_elim
-      (λ (all : _). let whole = subst (λ (t : List Token). IsWholeStatement t s) all.1 closed in record {
-        bytes = short;
-        ascii = ascii;
-        no_remark = all.0;
-        parts = whole.parts;
-        printed = whole.printed;
-      })
-      (λ (cut : _). absurd (closed_known (tokens (code_of text)) s (subst (λ (t : List Token). IsWholeStatement t s) cut.1 closed)))
-      are
+  pub text_spells : (ts : List Token) → AreStatementTokens text ts → (s : Statement) → IsWholeStatement ts s → SpellsStatement text s
+  text_spells ts (inl (all, is)) s closed =
+      let whole = subst (λ (us : List Token). IsWholeStatement us s) is closed in
+      record { bytes = short; ascii = ascii; no_remark = all; parts = whole.parts; printed = whole.printed }
+  text_spells ts (inr (cut, is)) s closed = absurd (closed_known (tokens (code_of text)) s (subst (λ (us : List Token). IsWholeStatement us s) is closed))
 
   -- what the text spells, these tokens spell
-  spelled_tokens : (s : Statement) → SpellsStatement text s → IsWholeStatement ts s
-  spelled_tokens s spells =
-      ⊎_elim
-      (λ (all : _). subst (λ (t : List Token). IsWholeStatement t s) (sym all.1) (record { parts = spells.parts; printed = spells.printed }))
-      (λ (cut : _). absurd (cut.0 spells.no_remark))
-      are
+  spelled_tokens : (ts : List Token) → AreStatementTokens text ts → (s : Statement) → SpellsStatement text s → IsWholeStatement ts s
+  spelled_tokens ts (inl (all, is)) s spells = subst (λ (us : List Token). IsWholeStatement us s) (sym is) (record { parts = spells.parts; printed = spells.printed })
+  spelled_tokens ts (inr (cut, is)) s spells = absurd (cut spells.no_remark)
 
   -- a where of these tokens stands in the text
-  where_of : HasWhere ts → HasWhere (tokens (code_of text))
-  where_of has =
-      ⊎_elim
-      (λ (all : _). subst HasWhere (all.1 ∙ ap tokens (sym all.0)) has)
-      (λ (cut : _). where_before_last (tokens (code_of text)) has.0 has.1 (sym cut.1 ∙ has.2))
-      are
+  where_of : (ts : List Token) → AreStatementTokens text ts → HasWhere ts → HasWhere (tokens (code_of text))
+  where_of ts (inl (all, is)) has = subst HasWhere (is ∙ ap tokens (sym all)) has
+  where_of ts (inr (cut, is)) has = where_before_last (tokens (code_of text)) has.0 has.1 (sym is ∙ has.2)
 
   -- and a statement with which they begin
-  long_of : BeginsLongStatement ts → BeginsLongStatement (tokens (code_of text))
-  long_of long =
-      ⊎_elim
-      (λ (all : _). subst BeginsLongStatement (all.1 ∙ ap tokens (sym all.0)) long)
-      (λ (cut : _). long_before_last (tokens (code_of text)) (subst BeginsLongStatement cut.1 long))
-      are
+  long_of : (ts : List Token) → AreStatementTokens text ts → BeginsLongStatement ts → BeginsLongStatement (tokens (code_of text))
+  long_of ts (inl (all, is)) long = subst BeginsLongStatement (is ∙ ap tokens (sym all)) long
+  long_of ts (inr (cut, is)) long = long_before_last (tokens (code_of text)) (subst BeginsLongStatement is long)
 
   -- where reading these tokens stopped, the text spells nothing
-  pub stop_fault : (e : Refusal) → StopsFirst (statement_fault ts) e → IsStatementFault text (refusal_at e 1)
-  stop_fault refusal.NoMemory first = tt
-  stop_fault (refusal.Fault f) first = (
+  pub stop_fault : (ts : List Token) → AreStatementTokens text ts → (e : Refusal) → StopsFirst (statement_fault ts) e → IsStatementFault text (refusal_at e 1)
+  stop_fault ts are refusal.NoMemory first = tt
+  stop_fault ts are (refusal.Fault f) first = (
     refl,
-    λ t spells. let none : ◌≡◌ {A = Option ScriptFaultKind} None (Some f) = sym ((no_statement_fault ts).1 (t, spelled_tokens t spells)) ∙ first in absurd cc,
-    statement_kinds (λ kind. SaysOfStatement kind text) ts (short, ascii) (λ has. (short, ascii, where_of has)) (short, ascii) (short, ascii) (short, ascii) (λ long. inr (ascii, long_of long)) f first,
+    λ t spells. let none : ◌≡◌ {A = Option ScriptFaultKind} None (Some f) = sym ((no_statement_fault ts).1 (t, spelled_tokens ts are t spells)) ∙ first in absurd cc,
+    statement_kinds (λ kind. SaysOfStatement kind text) ts (short, ascii) (λ has. (short, ascii, where_of ts are has)) (short, ascii) (short, ascii) (short, ascii) (λ long. inr (ascii, long_of ts are long)) f first,
   )

@@ -1,5 +1,5 @@
 -- Members with a connective between two of them, read by a loop that may stop at a fault.
-use Rattle.lab_statement.proofs.Common.{◌≡◌, ℕ, zero, suc, ◌≤◌, ◌<◌, List, length, Some, None, refl, sym, ap, ◌∙◌, arith, Predicate, Token, Refusal, after, Reading, Reads, StopsAt, more_read, joined_read}
+use Rattle.lab_statement.proofs.Common.{◌≡◌, ℕ, zero, suc, ◌≤◌, ◌<◌, List, length, Some, None, refl, sym, ap, ◌∙◌, arith, Token, Refusal, after, Reading, Reads, StopsAt, more_read, joined_read}
 use Rattle.lab_statement.proofs.Readings.{stops_as}
 
 abbrev pub Reader : Type 0 → Type 0
@@ -8,12 +8,6 @@ Reader X = List Token → Reading (X × List Token)
 -- with this joined and these tokens left, reading on comes to the whole
 pub data ReadsOn {A X : Type 0} (member : Reader X) (connective : Token) (join : A → X → A) (a : A) (ts : List Token) (whole : Reading (A × List Token)) : Type 0 where
   within : (most : ℕ) → length ts ≤ most → more_read most member connective join a ts ≡ whole → ReadsOn member connective join a ts whole
-
--- no connective is left
-pub ended : {A X : Type 0} (member : Reader X) (connective : Token) (join : A → X → A) (k : ℕ) (a : A) (ts : List Token) → after connective ts ≡ None → more_read k member connective join a ts ≡ Reads (a, ts)
-unfolding more_read
-ended member connective join zero a ts none = refl
-ended member connective join (suc k) a ts none = rw none refl
 
 module _ {A X : Type 0} {member : Reader X} {connective : Token} {join : A → X → A} where
   -- one member more
@@ -31,15 +25,14 @@ module _ {A X : Type 0} {member : Reader X} {connective : Token} {join : A → X
   next_stops e left (within zero le so_far) took lt stops = absurd (omega arith)
   next_stops {rest = rest} {whole = whole} e left (within (suc k) le so_far) took lt stops = stops_as e left (member rest) stops whole (λ kind n. sym so_far ∙ rw (more_read, took, n) refl)
 
+  -- no connective is left
   pub ends : {a : A} {ts : List Token} {whole : Reading (A × List Token)} → ReadsOn member connective join a ts whole → after connective ts ≡ None → whole ≡ Reads (a, ts)
-  ends {a = a} {ts = ts} (within k le so_far) none = sym so_far ∙ ended member connective join k a ts none
+  unfolding more_read
+  ends (within zero le so_far) none = sym so_far
+  ends (within (suc k) le so_far) none = sym so_far ∙ rw none refl
 
-module _ (member : Reader Predicate) (connective : Token) (join : Predicate → Predicate → Predicate) where
+module _ {A X : Type 0} (first : X → A) (member : Reader X) (connective : Token) (join : A → X → A) where
   -- the first member
-  pub starts : {ts rest : List Token} {p : Predicate} → member ts ≡ Reads (p, rest) → ReadsOn member connective join p rest (joined_read member connective join ts)
+  pub starts : {ts rest : List Token} {x : X} → member ts ≡ Reads (x, rest) → ReadsOn member connective join (first x) rest (joined_read first member connective join ts)
   unfolding joined_read
   starts {rest = rest} h = within (length rest) (omega arith) (rw h refl)
-
-  pub first_stops : (e : Refusal) (ts left : List Token) → StopsAt e left (member ts) → StopsAt e left (joined_read member connective join ts)
-  unfolding joined_read
-  first_stops e ts left h = stops_as e left (member ts) h _ (λ kind n. rw n refl)

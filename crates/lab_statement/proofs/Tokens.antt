@@ -1,5 +1,5 @@
 -- How tokens go on.
-use Rattle.lab_statement.proofs.Common.{◌≡◌, ℕ, ◌+◌, ◌-◌, ◌*◌, ◌<◌, Bool, true, false, cond, ◌==◌, List, [], ◌∷◌, ◌++◌, length, take, drop, map, Option, Some, None, refl, sym, ap, ◌∙◌, append_assoc, suc, subst, get_or, drop-cons, add-one, inl, inr, min, is_some, unwrap_or, prefix_len, to_ascii_lowercase, is_ascii_digit, append-nil, cases_Bool, false_from_ne_true, eqb-true, Token, Part, letters, whole, is_letter, is_blank, word_token, mark, with_digit, begun, longer, ended, longer_token, tokens, tokens_from}
+use Rattle.lab_statement.proofs.Common.{◌≡◌, ℕ, Bool, true, false, cond, ◌==◌, List, [], ◌∷◌, ◌++◌, take, drop, map, Option, Some, None, refl, sym, ap, ◌∙◌, append_assoc, suc, subst, inl, inr, is_some, unwrap_or, prefix_len, to_ascii_lowercase, append-nil, cases_Bool, false_from_ne_true, eqb-true, Token, Part, letters, whole, is_letter, word_token, mark, begun, longer, ended, longer_token, tokens, tokens_from}
 use Rattle.std.proofs.Math.Numerals.{one-add}
 use Rattle.lab_statement.specs.declared.token.Token.TheVariants as token
 
@@ -46,18 +46,6 @@ front_stops p (x ∷ xs) b after e =
           subst (λ (y : ℕ). p y ≡ false) head isnt
     ]
 
-pub word_begins : (b : ℕ) (bs : List ℕ) → is_blank b ≡ false → is_letter b ≡ true → tokens (b ∷ bs) ≡ tokens_from (letters []) (b ∷ bs)
-word_begins b bs p q = rw (p, q) refl
-
-pub digit_begins : (b : ℕ) (bs : List ℕ) → is_blank b ≡ false → is_letter b ≡ false → is_ascii_digit b ≡ true → tokens (b ∷ bs) ≡ tokens_from (whole (token.Digits (b - 48))) bs
-digit_begins b bs p q r = rw (p, q, r) refl
-
-pub digit_goes_on : (n b : ℕ) (bs : List ℕ) → is_ascii_digit b ≡ true → tokens_from (whole (token.Digits n)) (b ∷ bs) ≡ tokens_from (whole (token.Digits (with_digit n b))) bs
-digit_goes_on n b bs q = rw q refl
-
-pub digit_ends : (n b : ℕ) (bs : List ℕ) → is_ascii_digit b ≡ false → tokens_from (whole (token.Digits n)) (b ∷ bs) ≡ token.Digits n ∷ tokens (b ∷ bs)
-digit_ends n b bs q = rw q refl
-
 -- a token that no byte makes longer is whole
 pub whole_run : (t : Token) (bs : List ℕ) → ((b : ℕ) → longer_token t b ≡ None) → tokens_from (whole t) bs ≡ t ∷ tokens bs
 whole_run t [] h = refl
@@ -84,20 +72,8 @@ isnt_eq a b h = false_from_ne_true (a == b) (λ e. h (eqb-true a b e))
 pub other_mark : (b : ℕ) (bs : List ℕ) (t : Token) → t ≡ mark b → (b ≡ 60 → ⊥) → (b ≡ 62 → ⊥) → tokens_from (whole (mark b)) bs ≡ t ∷ tokens bs
 other_mark b bs t e p q = whole_run (mark b) bs (λ n. others b n (isnt_eq b 60 p) (isnt_eq b 62 q)) ∙ ap (λ (u : Token). u ∷ tokens bs) (sym e)
 
-pub whole_word : (bs text rest : List ℕ) (len : ℕ) (word : Token) → len ≡ prefix_len is_letter bs → text ≡ take len bs → rest ≡ drop len bs
-    → word ≡ word_token (map to_ascii_lowercase text) → tokens_from (letters []) bs ≡ word ∷ tokens rest
-whole_word bs text rest len word p q r e = rw (e, q, r, p) (letters_run bs [])
-
 -- a token put behind those found, which begins what is left
 pub placed : (now found : List Token) (t : Token) (rest text after : List ℕ) → now ≡ found ++ t ∷ [] → found ++ tokens rest ≡ tokens text → tokens rest ≡ t ∷ tokens after
     → now ++ tokens after ≡ tokens text
 placed now found t rest text after p q r =
     ap (λ (ts : List Token). ts ++ tokens after) p ∙ append_assoc found (t ∷ []) (tokens after) ∙ ap (λ (ts : List Token). found ++ ts) (sym r) ∙ q
-
--- one more digit of a number
-pub digit_on : (n digit next i : ℕ) (bs : List ℕ) → i < length bs → is_ascii_digit (get_or bs i 0) ≡ true → digit ≡ get_or bs i 0 - 48 → next ≡ min (10 * n + digit) 1000000001
-    → tokens_from (whole (token.Digits next)) (drop (i + 1) bs) ≡ tokens_from (whole (token.Digits n)) (drop i bs)
-digit_on n digit next i bs lt q d is =
-    ap (λ (k : ℕ). tokens_from (whole (token.Digits k)) (drop (i + 1) bs)) (is ∙ ap (λ (e : ℕ). min (10 * n + e) 1000000001) d)
-    ∙ sym (digit_goes_on n (get_or bs i 0) (drop (i + 1) bs) q)
-    ∙ ap (tokens_from (whole (token.Digits n))) (sym (drop-cons bs i 0 lt ∙ ap (λ (k : ℕ). get_or bs i 0 ∷ drop k bs) (sym (add-one i))))

@@ -59,15 +59,10 @@ tokens_read (u ∷ us) ts = do
   rest ← token_read u ts
   tokens_read us rest
 
--- the token at the front is digits
-abbrev pub digits_in : Token → List Token → Reading (ℕ × List Token)
-digits_in (token.Digits n) ts = Reads (n, ts)
-digits_in t ts = Stops UnknownStatement (t ∷ ts)
-
 -- digits
 unfoldable pub digits_read : List Token → Reading (ℕ × List Token)
-digits_read [] = Stops UnknownStatement []
-digits_read (t ∷ ts) = digits_in t ts
+digits_read (token.Digits n ∷ ts) = Reads (n, ts)
+digits_read ts = Stops UnknownStatement ts
 
 -- a number without a sign
 unfoldable pub magnitude_read : List Token → Reading (ℕ × List Token)
@@ -89,6 +84,12 @@ more_read zero member connective join a ts = Reads (a, ts)
 more_read (suc k) member connective join a ts = if_found (after connective ts) (λ rest. do
   x ← member rest
   more_read k member connective join (join a x.0) x.1) (Reads (a, ts))
+
+-- members with a connective between two of them, of which the first stands for itself and each other one is joined to those before it
+unfoldable pub joined_read : {A X : Type 0} → (X → A) → (List Token → Reading (X × List Token)) → Token → (A → X → A) → List Token → Reading (A × List Token)
+joined_read first member connective join ts = do
+  x ← member ts
+  more_read (length x.1) member connective join (first x.0) x.1
 
 -- a number from 1 to this most, which has no sign
 unfoldable pub positive_read : ℕ → List Token → Reading (ℕ × List Token)
@@ -150,9 +151,7 @@ one_more zs z = zs ++ z ∷ []
 
 -- numbers with a comma between two of them
 unfoldable pub numbers_read : List Token → Reading (List ℤ × List Token)
-numbers_read ts = do
-  z ← number_read ts
-  more_read (length z.1) number_read token.Comma one_more (z.0 ∷ []) z.1
+numbers_read ts = joined_read (λ z. z ∷ []) number_read token.Comma one_more ts
 
 -- a list of numbers in parentheses
 unfoldable pub number_list_read : List Token → Reading (List ℤ × List Token)
@@ -190,29 +189,23 @@ atom_read ts = do
   c ← col_read ts
   if_found (after (token.Word word.In) c.1) (one_of_read c.0) (if_found (after token.Percent c.1) (remainder_read c.0) (compare_read c.0 c.1))
 
--- members with a connective between two of them, grouped to the left
-unfoldable pub joined_read : (List Token → Reading (Predicate × List Token)) → Token → (Predicate → Predicate → Predicate) → List Token → Reading (Predicate × List Token)
-joined_read member connective join ts = do
-  p ← member ts
-  more_read (length p.1) member connective join p.0 p.1
-
 -- a predicate with neither an and nor an or at its top, under which this many parentheses and nots may still be open
 unfoldable pub term_read : ℕ → List Token → Reading (Predicate × List Token)
 term_read zero ts = if_found (after (token.Word word.Not) ts) (λ rest. Stops TooDeep rest) (if_found (after token.Open ts) (λ rest. Stops TooDeep rest) (atom_read ts))
 term_read (suc d) ts = if_found (after (token.Word word.Not) ts) (λ rest. do
   p ← term_read d rest
   Reads (predicate.Not p.0, p.1)) (if_found (after token.Open ts) (λ rest. do
-    p ← joined_read (joined_read (term_read d) (token.Word word.And) predicate.And) (token.Word word.Or) predicate.Or rest
+    p ← joined_read (λ p. p) (joined_read (λ p. p) (term_read d) (token.Word word.And) predicate.And) (token.Word word.Or) predicate.Or rest
     behind ← token_read token.Close p.1
     Reads (p.0, behind)) (atom_read ts))
 
 -- a predicate that may have an and at its top
 unfoldable pub conj_read : ℕ → List Token → Reading (Predicate × List Token)
-conj_read d ts = joined_read (term_read d) (token.Word word.And) predicate.And ts
+conj_read d ts = joined_read (λ p. p) (term_read d) (token.Word word.And) predicate.And ts
 
 -- a predicate that may have an or at its top
 unfoldable pub pred_read : ℕ → List Token → Reading (Predicate × List Token)
-pred_read d ts = joined_read (conj_read d) (token.Word word.Or) predicate.Or ts
+pred_read d ts = joined_read (λ p. p) (conj_read d) (token.Word word.Or) predicate.Or ts
 
 -- nothing, or where and a predicate
 unfoldable pub where_read : List Token → Reading (Option Predicate × List Token)

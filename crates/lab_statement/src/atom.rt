@@ -74,16 +74,13 @@ impl Parser<'_> {
         ensures reads { Comes (λ x. (x, self.new)) result self.new (cmp_read self.old) }
         ensures shorter { length self.new ≤ length self.old }
     {
-        match self.rest.split_first() {
-            None => Err(Refusal::Fault(ScriptFaultKind::UnknownStatement)),
-            Some((first, rest)) => match cmp_of(*first) {
-                None => Err(Refusal::Fault(ScriptFaultKind::UnknownStatement)),
-                Some(cmp) => {
-                    self.rest = rest;
-                    Ok(cmp)
-                }
-            },
+        if let [first, rest @ ..] = self.rest
+            && let Some(cmp) = cmp_of(*first)
+        {
+            self.rest = rest;
+            return Ok(cmp);
         }
+        Err(Refusal::Fault(ScriptFaultKind::UnknownStatement))
     }
 
     /// What stands behind the percent sign of a remainder.
@@ -142,7 +139,7 @@ impl Parser<'_> {
     }
 
     /// Numbers with a comma between two of them.
-    #[tactic(auto, unfolding(crate::specs::Stopping::numbers_read))]
+    #[tactic(auto, unfolding(crate::specs::Stopping::numbers_read, crate::specs::Stopping::joined_read))]
     fn numbers(&mut self, alloc: Global) -> Result<Vec<Value>, Refusal>
         ensures reads { Comes (λ x. (x.items, self.new)) result self.new (numbers_read self.old) }
         ensures shorter { length self.new ≤ length self.old }

@@ -1,11 +1,12 @@
 //! Laws of the text of a statement. The functions have nothing to do: their contracts are the laws.
 
-ghost use Rattle.std.specs.Prelude.{◌≡◌, ◌↔◌, ℕ, List, Some, IsTrue, true};
+ghost use Rattle.std.specs.Prelude.{◌≡◌, ◌↔◌, ℕ, List, [], Some, IsTrue, true};
+ghost use Rattle.std.specs.List.{list_all};
 ghost use Rattle.lab_table.specs.TableName.{is_table_name};
 ghost use Rattle.lab_table.specs.Words.{is_reserved};
 ghost use Rattle.lab_table.specs.declared.statement.Statement.{Statement};
 ghost use Rattle.lab_statement.specs.Text.{SpellsStatement};
-ghost use Rattle.lab_statement.specs.Token.{word_token};
+ghost use Rattle.lab_statement.specs.Token.{is_blank, tokens, word_token};
 ghost use Rattle.lab_statement.specs.declared.token.Token.TheVariants as token;
 ghost use Rattle.lab_table.specs.declared.word.Word.{Word};
 ghost use Rattle.lab_statement.specs.StatementText.{statement_in};
@@ -17,7 +18,14 @@ pub fn statement_is_read_from_its_text()
 {}
 
 /// A text in lower case is a word of the grammar exactly where it is reserved, and a name where it is a table's.
+#[tactic(auto, using(crate::proofs::ReservedWords::spells_word, crate::proofs::ReservedWords::spells_name))]
 pub fn words_are_reserved()
     ensures word { (text : List ℕ) → IsTrue (is_reserved text) ↔ ((word : Word) × (word_token text ≡ token.Word word)) }
     ensures name { (text name : List ℕ) → (word_token text ≡ token.Name name) ↔ ((name ≡ text) × (is_table_name text ≡ true)) }
+{}
+
+/// A text has no token exactly where it is nothing but spaces and tabs.
+#[tactic(auto, using(crate::proofs::BlankTexts::blank_text))]
+pub fn blank_texts_have_no_token()
+    ensures { (text : List ℕ) → (tokens text ≡ []) ↔ (list_all is_blank text ≡ true) }
 {}

@@ -38,7 +38,7 @@ mod statement_text;
 mod token;
 
 pub use fault::{Refusal, ScriptFault, ScriptFaultKind, print_script_fault};
-pub use laws::{statement_is_read_from_its_text, words_are_reserved};
+pub use laws::{blank_texts_have_no_token, statement_is_read_from_its_text, words_are_reserved};
 pub use limits::{MAX_DEPTH, MAX_LINE_BYTES, MAX_STATEMENT_BYTES};
 pub use line::{code_and_remark, is_ascii_code};
 pub use parser::{Parser, placed};

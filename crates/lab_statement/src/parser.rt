@@ -73,16 +73,12 @@ impl<'a> Parser<'a> {
         ensures gives { MatchBool result (after token self.old ≡ Some self.new) ((after token self.old ≡ None) × (self.new ≡ self.old)) }
         ensures shorter { MatchBool result (length self.new < length self.old) (length self.new ≤ length self.old) }
     {
-        match self.rest.split_first() {
-            None => false,
-            Some((first, rest)) => {
-                if token == *first {
-                    self.rest = rest;
-                    true
-                } else {
-                    false
-                }
+        match self.rest {
+            [first, rest @ ..] if token == *first => {
+                self.rest = rest;
+                true
             }
+            _ => false,
         }
     }
 
@@ -115,18 +111,15 @@ impl<'a> Parser<'a> {
         ensures reads { Comes (λ x. (x, self.new)) result self.new (name_read self.old) }
         ensures shorter { length self.new ≤ length self.old }
     {
-        match self.rest.split_first() {
-            None => Err(Refusal::Fault(ScriptFaultKind::UnknownStatement)),
-            Some((first, rest)) => match first {
-                Token::Name(name) => {
-                    self.rest = rest;
-                    Ok(*name)
-                }
-                Token::Word(_) | Token::OtherWord => {
-                    Err(Refusal::Fault(ScriptFaultKind::BadTableName))
-                }
-                _ => Err(Refusal::Fault(ScriptFaultKind::UnknownStatement)),
-            },
+        match self.rest {
+            [Token::Name(name), rest @ ..] => {
+                self.rest = rest;
+                Ok(*name)
+            }
+            [Token::Word(_) | Token::OtherWord, ..] => {
+                Err(Refusal::Fault(ScriptFaultKind::BadTableName))
+            }
+            _ => Err(Refusal::Fault(ScriptFaultKind::UnknownStatement)),
         }
     }
 
@@ -136,15 +129,12 @@ impl<'a> Parser<'a> {
         ensures reads { Comes (λ x. (x, self.new)) result self.new (digits_read self.old) }
         ensures shorter { length self.new ≤ length self.old }
     {
-        match self.rest.split_first() {
-            None => Err(Refusal::Fault(ScriptFaultKind::UnknownStatement)),
-            Some((first, rest)) => match first {
-                Token::Digits(number) => {
-                    self.rest = rest;
-                    Ok(*number)
-                }
-                _ => Err(Refusal::Fault(ScriptFaultKind::UnknownStatement)),
-            },
+        match self.rest {
+            [Token::Digits(number), rest @ ..] => {
+                self.rest = rest;
+                Ok(*number)
+            }
+            _ => Err(Refusal::Fault(ScriptFaultKind::UnknownStatement)),
         }
     }
 
@@ -198,13 +188,9 @@ pub fn placed(refusal: Refusal, tokens: &[Token], left: usize) -> Refusal
     ensures { result ≡ refusal_as (λ kind. placed_kind tokens.now kind left) refusal }
 {
     match refusal {
-        Refusal::Fault(ScriptFaultKind::UnknownStatement) => {
-            let read = tokens.len().saturating_sub(left);
-            if ends_in_predicate(&tokens[..read]) {
-                Refusal::Fault(ScriptFaultKind::BadPredicate)
-            } else {
-                Refusal::Fault(ScriptFaultKind::UnknownStatement)
-            }
+        Refusal::Fault(ScriptFaultKind::UnknownStatement)
+            if ends_in_predicate(&tokens[..tokens.len().saturating_sub(left)]) => {
+            Refusal::Fault(ScriptFaultKind::BadPredicate)
         }
         other => other,
     }

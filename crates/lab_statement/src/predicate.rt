@@ -18,8 +18,7 @@ impl Parser<'_> {
         ensures { Comes (λ x. (x, self.new)) result self.new (where_read self.old) }
     {
         if self.took(Token::Word(Word::Where)) {
-            let pred = self.pred(alloc, MAX_DEPTH)?;
-            Ok(Some(pred))
+            self.pred(alloc, MAX_DEPTH).map(Some)
         } else {
             Ok(None)
         }
@@ -27,7 +26,7 @@ impl Parser<'_> {
 
     /// A predicate that may have an `or` at its top, under which this many parentheses and `not`s may still be open.
     #[cycle(pred)]
-    #[tactic(auto, unfolding(crate::specs::Stopping::pred_read))]
+    #[tactic(auto, unfolding(crate::specs::Stopping::pred_read, crate::specs::Stopping::joined_read))]
     fn pred(&mut self, alloc: Global, depth: u8) -> Result<Pred, Refusal>
         ensures reads { Comes (λ x. (x, self.new)) result self.new (pred_read depth self.old) }
         ensures shorter { length self.new ≤ length self.old }
@@ -42,7 +41,7 @@ impl Parser<'_> {
 
     /// A predicate that may have an `and` at its top.
     #[cycle(pred)]
-    #[tactic(auto, unfolding(crate::specs::Stopping::conj_read))]
+    #[tactic(auto, unfolding(crate::specs::Stopping::conj_read, crate::specs::Stopping::joined_read))]
     fn conj(&mut self, alloc: Global, depth: u8) -> Result<Pred, Refusal>
         ensures reads { Comes (λ x. (x, self.new)) result self.new (conj_read depth self.old) }
         ensures shorter { length self.new ≤ length self.old }

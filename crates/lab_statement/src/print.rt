@@ -95,27 +95,17 @@ pub fn put_printable(out: &mut Vec<u8>, command: &Command) -> Result<(), PrintFa
 {
     match command {
         Command::Begin | Command::Commit | Command::Abort => Ok(put_command(out, command)?),
-        Command::Run(statement) => put_short(out, statement),
+        Command::Run(statement) if !depth_fits(statement) => Err(PrintFault::TooDeep),
+        Command::Run(statement) => {
+            let before = out.len();
+            put_statement(out, statement)?;
+            // The length is known once it stands there.
+            if out.len() - before > MAX_STATEMENT_BYTES {
+                return Err(PrintFault::TooLong);
+            }
+            Ok(())
+        }
     }
-}
-
-/// Appends a statement, of which the length is known once it stands there.
-fn put_short(out: &mut Vec<u8>, statement: &Statement) -> Result<(), PrintFault>
-    ensures text { OnOk result (out.new.items ≡ out.old.items ++ printed_statement statement.now) }
-    ensures prints { OnOk result (StatementPrints statement.now) }
-    ensures too_deep { result ≡ Err PrintFault.TooDeep → max_depth < statement_depth statement.now }
-    ensures too_long { result ≡ Err PrintFault.TooLong → max_statement_bytes < length (printed_statement statement.now) }
-    ensures few_tables { result ≢ Err PrintFault.TooManyTables }
-{
-    if !depth_fits(statement) {
-        return Err(PrintFault::TooDeep);
-    }
-    let before = out.len();
-    put_statement(out, statement)?;
-    if out.len() - before > MAX_STATEMENT_BYTES {
-        return Err(PrintFault::TooLong);
-    }
-    Ok(())
 }
 
 /// Whether a command's printed form keeps the limits of a text; it takes no memory.

@@ -60,6 +60,7 @@ fn write_byte(text: &mut [u8; ROW_BYTES], end: usize, byte: u8) -> usize
 }
 
 /// Writes a number in decimal in front of what stands from `end` on. Answers where it starts.
+#[tactic(auto, using(crate::proofs::PrintedNumbers::decimal_short))]
 fn write_natural(text: &mut [u8; ROW_BYTES], end: usize, n: u64) -> usize
     requires { (20 ≤ end) × (end ≤ 48) }
     ensures start { (end ≤ result + 20) × (result ≤ end) }

@@ -78,12 +78,12 @@ impl Parser<'_> {
         ensures { Comes (λ x. (x, self.new)) result self.new (expr_read self.old) }
     {
         if !self.took(Token::Word(Word::Value)) {
-            Ok(Expr::Set(self.number()?))
+            self.number().map(Expr::Set)
         } else if self.took(Token::Plus) {
-            Ok(Expr::Plus(self.number()?))
+            self.number().map(Expr::Plus)
         } else {
             self.expect(Token::Minus)?;
-            Ok(Expr::Minus(self.number()?))
+            self.number().map(Expr::Minus)
         }
     }
 
@@ -137,7 +137,7 @@ fn over(table: TableName, kind: StatementKind) -> Statement
 }
 
 /// The printed form is as short as it must be.
-#[tactic(auto, using(crate::proofs::Tests::same_test))]
+#[tactic(auto, using(crate::proofs::PutTexts::same_test))]
 pub fn check_length(statement: &Statement) -> Result<(), Refusal>
     ensures short { OnOk result (nat_le (length (printed_statement statement.now)) max_statement_bytes ≡ true) }
     ensures long { IfErr result (λ e. (e ≡ Refusal.Fault TooLong) × (nat_le (length (printed_statement statement.now)) max_statement_bytes ≡ false)) }

@@ -48,6 +48,7 @@ pub fn parse_statement(alloc: Global, text: &[u8]) -> Result<Statement, ScriptFa
 }
 
 /// The tokens of a statement's text: two dashes begin no token.
+#[tactic(auto, using(crate::proofs::StatementText::all_code))]
 fn statement_tokens(alloc: Global, text: &[u8]) -> Result<Vec<Token>, NoMemory>
     ensures { IfOk result (λ found. AreStatementTokens text.now found.items) }
 {

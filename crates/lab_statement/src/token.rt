@@ -127,16 +127,9 @@ fn less_at(after: &[u8]) -> (Token, &[u8])
     ensures within { length result.1.now ≤ length after.now }
 {
     match after {
-        [] => (Token::Less, after),
-        [next, rest @ ..] => {
-            if *next == b'>' {
-                (Token::Unequal, rest)
-            } else if *next == b'=' {
-                (Token::AtMost, rest)
-            } else {
-                (Token::Less, after)
-            }
-        }
+        [b'>', rest @ ..] => (Token::Unequal, rest),
+        [b'=', rest @ ..] => (Token::AtMost, rest),
+        _ => (Token::Less, after),
     }
 }
 
@@ -172,6 +165,7 @@ fn mark_of(byte: u8) -> Token
 }
 
 /// The mark that begins with this byte, and what follows it.
+#[tactic(auto, using(crate::proofs::Tokens::other_mark))]
 fn mark_at(first: u8, after: &[u8]) -> (Token, &[u8])
     ensures value { tokens_from (whole (mark first)) after.now ≡ result.0 ∷ tokens result.1.now }
     ensures within { length result.1.now ≤ length after.now }

@@ -1,3 +1,4 @@
+use Rattle.lab_statement.proofs.Common.{◌+◌, ◌∙◌, take_rest}
 use Rattle.lab_statement.proofs.Remarks.{no_cut, cut_there}
 use Rattle.lab_statement.proofs.line.code_and_remark.Goals as goal
 
@@ -9,4 +10,4 @@ returns-in-None c =
 pub returns-in-Some : goal.returns-in-Some
 returns-in-Some c =
     let parts = cut_there c.args.line.now c.in-Some.place c.in-Some.ensures.1 c.in-Some.ensures.0.before in
-    record { code = parts.0; remark = parts.1 }
+    record { code = parts.0; remark = take_rest c.args.line.now (c.in-Some.place + 2) ∙ parts.1 }

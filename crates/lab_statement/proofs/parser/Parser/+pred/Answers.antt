@@ -2,18 +2,12 @@ use Rattle.lab_statement.proofs.Common.{sym, arith, err_from_is_err_and, term_re
 use Rattle.lab_table.specs.Predicate as predicate
 use Rattle.lab_table.specs.declared.word.Word.TheVariants as word
 use Rattle.lab_statement.specs.declared.token.Token.TheVariants as token
-use Rattle.lab_statement.proofs.StoppedLoops.{starts, first_stops, goes_on, next_stops, ends}
+use Rattle.lab_statement.proofs.StoppedLoops.{starts, goes_on, next_stops, ends}
 use Rattle.lab_statement.proofs.parser.Parser.+pred.Goals as goal
-
-pub conj-returns-in_err-pred-clause-reads : goal.conj-returns-in_err-pred-clause-reads
-unfolding conj_read
-conj-returns-in_err-pred-clause-reads t c =
-    let p = err_from_is_err_and c.from_residual.result c.from_residual.ensures.1 in
-    rw (p.1, p.2) (first_stops (term_read c.args.depth) (token.Word word.And) predicate.And c.in_err-pred.field-0.0 c.args.self.now c.term.new.self c.in_err-pred.ensures.reads)
 
 pub conj-loop-alloc-init : goal.conj-loop-alloc-init
 unfolding conj_read
-conj-loop-alloc-init t c = record { shorter = c.in_ok-pred.ensures.shorter; so_far = starts (term_read c.args.depth) (token.Word word.And) predicate.And c.in_ok-pred.ensures.reads }
+conj-loop-alloc-init t c = record { shorter = c.in_ok-pred.ensures.shorter; so_far = starts (λ p. p) (term_read c.args.depth) (token.Word word.And) predicate.And c.in_ok-pred.ensures.reads }
 
 pub conj-loop-alloc-preserved : goal.conj-loop-alloc-preserved
 conj-loop-alloc-preserved t c = record {
@@ -29,15 +23,9 @@ conj-returns-in_err-right-clause-reads t c =
 pub conj-returns-clause-reads : goal.conj-returns-clause-reads
 conj-returns-clause-reads t c = rw c.loop-alloc-test.ensures.gives.1 (ends c.loop-alloc.invariant.so_far c.loop-alloc-test.ensures.gives.0)
 
-pub pred-returns-in_err-pred-clause-reads : goal.pred-returns-in_err-pred-clause-reads
-unfolding pred_read
-pred-returns-in_err-pred-clause-reads t c =
-    let p = err_from_is_err_and c.from_residual.result c.from_residual.ensures.1 in
-    rw (p.1, p.2) (first_stops (conj_read c.args.depth) (token.Word word.Or) predicate.Or c.in_err-pred.field-0.0 c.args.self.now c.conj.new.self c.in_err-pred.ensures.reads)
-
 pub pred-loop-alloc-init : goal.pred-loop-alloc-init
 unfolding pred_read
-pred-loop-alloc-init t c = record { shorter = c.in_ok-pred.ensures.shorter; so_far = starts (conj_read c.args.depth) (token.Word word.Or) predicate.Or c.in_ok-pred.ensures.reads }
+pred-loop-alloc-init t c = record { shorter = c.in_ok-pred.ensures.shorter; so_far = starts (λ p. p) (conj_read c.args.depth) (token.Word word.Or) predicate.Or c.in_ok-pred.ensures.reads }
 
 pub pred-loop-alloc-preserved : goal.pred-loop-alloc-preserved
 pred-loop-alloc-preserved t c = record {

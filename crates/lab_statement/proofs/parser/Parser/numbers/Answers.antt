@@ -1,10 +1,11 @@
-use Rattle.lab_statement.proofs.Common.{rules, length, sym, arith, err_from_is_err_and, numbers_read}
-use Rattle.lab_statement.proofs.StoppedLoops.{within, goes_on, next_stops, ends}
+use Rattle.lab_statement.proofs.Common.{[], ◌∷◌, sym, arith, err_from_is_err_and, number_read, numbers_read, one_more}
+use Rattle.lab_statement.specs.declared.token.Token.TheVariants as token
+use Rattle.lab_statement.proofs.StoppedLoops.{starts, goes_on, next_stops, ends}
 use Rattle.lab_statement.proofs.parser.Parser.numbers.Goals as goal
 
 pub loop-self-init : goal.loop-self-init
 unfolding numbers_read
-loop-self-init c = record { shorter = c.in_ok-first.ensures.shorter; so_far = within (length c.number.new.self) (omega arith) (search rules) }
+loop-self-init c = record { shorter = c.in_ok-first.ensures.shorter; so_far = rw (c.in_ok-push.ensures.items, c.new-numbers.ensures.items) (starts (λ z. z ∷ []) number_read token.Comma one_more c.in_ok-first.ensures.reads) }
 
 pub loop-self-preserved : goal.loop-self-preserved
 loop-self-preserved c = record {
