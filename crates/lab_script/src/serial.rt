@@ -22,8 +22,8 @@ pub fn run_serial(alloc: Global, script: &Script) -> Result<Transcript, NoMemory
     ensures printed { IfOk result (λ output. AllPrint script.now.lines → output.unprintable ≡ None) }
     ensures broken { IfOk result (λ output. IfSome output.unprintable (λ fault. SomeLine (Breaks fault) script.now)) }
 {
-    let mut output = Transcript::new(alloc);
     let mut table = script.setup.copy(alloc)?;
+    let mut output = Transcript::new(alloc);
     let mut inside = [false; SESSIONS];
     let mut number = 0;
     let mut rest = script.lines.as_slice();
@@ -36,9 +36,7 @@ pub fn run_serial(alloc: Global, script: &Script) -> Result<Transcript, NoMemory
         note(&mut inside, line);
         rest = later;
     }
-    output.put(b"end ")?;
     output.put_table(table.rows())?;
-    output.put(b"\n")?;
     Ok(output)
 }
 
@@ -81,12 +79,13 @@ fn run_transaction(
     ensures unprintable { OnOk result (output.new.unprintable ≡ first_broken output.old.unprintable (shown_of table.old (statements_of session lines.now))) }
     ensures table { OnOk result (table.new ≡ table_after table.old (transaction_of session lines.now)) }
 {
-    let before = table.copy(alloc)?;
     output.put_heading(number, session)?;
-    if !run_body(alloc, output, table, session, lines)? {
+    let before = table.copy(alloc)?;
+    let commits = run_body(alloc, output, table, session, lines)?;
+    if !commits {
         *table = before;
     }
-    Ok(())
+    output.put_end(commits)
 }
 
 /// Runs a statement and appends its line. Answers whether it ran: one that is refused leaves the table as it was.
@@ -101,30 +100,19 @@ fn run_statement(
     ensures table { IfOk result (λ ran. table_with statement.now table.old ≡ cond ran (Some table.new) None) }
 {
     output.put_statement(statement)?;
-    output.put(b" -> ")?;
-    let ran = match table.run(alloc, statement) {
+    match table.run(alloc, statement) {
         Ok(rows) => {
             output.put_rows(&rows)?;
-            true
+            Ok(true)
         }
         Err(fault) => {
             output.put_fault(&fault)?;
-            false
+            Ok(false)
         }
-    };
-    output.put(b"\n")?;
-    Ok(ran)
+    }
 }
 
-/// Appends the last line of a transaction.
-fn put_end(output: &mut Transcript, commits: bool) -> Result<(), NoMemory>
-    ensures text { OnOk result (output.new.text ≡ output.old.text ++ end_text commits) }
-    ensures unprintable { OnOk result (output.new.unprintable ≡ output.old.unprintable) }
-{
-    output.put(if commits { b"commit\n" } else { b"abort\n" })
-}
-
-/// Runs a session's statements up to its first commit or abort, and appends their lines and that of the end.
+/// Runs a session's statements up to its first commit or abort, and appends their lines.
 /// Answers whether they commit: where they don't, the table is left as the last of them made it.
 fn run_body(
     alloc: Global,
@@ -133,7 +121,7 @@ fn run_body(
     session: Session,
     lines: &[Line],
 ) -> Result<bool, NoMemory>
-    ensures text { OnOk result (output.new.text ≡ output.old.text ++ body_text table.old (statements_of session lines.now) (commits_of session lines.now)) }
+    ensures text { IfOk result (λ commits. output.new.text ++ end_text commits ≡ output.old.text ++ body_text table.old (statements_of session lines.now) (commits_of session lines.now)) }
     ensures unprintable { OnOk result (output.new.unprintable ≡ first_broken output.old.unprintable (shown_of table.old (statements_of session lines.now))) }
     ensures table { IfOk result (λ commits. committed table.old (statements_of session lines.now) (commits_of session lines.now) ≡ cond commits (Some table.new) None) }
 {
@@ -141,17 +129,10 @@ fn run_body(
         if line.session == session {
             match &line.command {
                 Command::Begin => {}
-                Command::Commit => {
-                    put_end(output, true)?;
-                    return Ok(true);
-                }
-                Command::Abort => {
-                    put_end(output, false)?;
-                    return Ok(false);
-                }
+                Command::Commit => return Ok(true),
+                Command::Abort => return Ok(false),
                 Command::Run(statement) => {
                     if !run_statement(alloc, output, table, statement)? {
-                        put_end(output, false)?;
                         return Ok(false);
                     }
                 }
@@ -159,7 +140,5 @@ fn run_body(
         }
     }
     // A transaction without an end aborts.
-    let commits = false;
-    put_end(output, commits)?;
-    Ok(commits)
+    Ok(false)
 }

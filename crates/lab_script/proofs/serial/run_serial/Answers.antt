@@ -26,11 +26,11 @@ returns-clause-printed c =
     let last : c.loop-line.output.unprintable ≡ unprintable c.args.script.now =
     no_line c.loop-line.number c.loop-line.output c.loop-line.table (sessions_in c.loop-line.inside) c.loop-line.rest.now _ c.loop-line.invariant.output
     (nil_from_length _ c.in_default.ensures.cases) in
-    printed_all c.args.script.now _ (c.in_ok-put-2.ensures.unprintable ∙ c.in_ok-put_table.ensures.unprintable ∙ c.in_ok-put.ensures.unprintable ∙ last)
+    printed_all c.args.script.now _ (c.in_ok-put_table.ensures.unprintable ∙ last)
 
 pub returns-clause-broken : goal.returns-clause-broken
 returns-clause-broken c =
     let last : c.loop-line.output.unprintable ≡ unprintable c.args.script.now =
     no_line c.loop-line.number c.loop-line.output c.loop-line.table (sessions_in c.loop-line.inside) c.loop-line.rest.now _ c.loop-line.invariant.output
     (nil_from_length _ c.in_default.ensures.cases) in
-    broken_in c.args.script.now _ (c.in_ok-put-2.ensures.unprintable ∙ c.in_ok-put_table.ensures.unprintable ∙ c.in_ok-put.ensures.unprintable ∙ last)
+    broken_in c.args.script.now _ (c.in_ok-put_table.ensures.unprintable ∙ last)
