@@ -1,8 +1,9 @@
 -- What a script does where its transactions run whole, in the order of their begins.
-use Rattle.std.specs.Prelude.{ℕ, ◌+◌, Bool, true, false, not, ◌==◌, if◌then◌else◌, List, [], ◌∷◌, ◌++◌, unwrap_or, ◌&&◌, Option, Some, None, option_map, slice_index_or, codes}
+use Rattle.std.specs.Prelude.{ℕ, ◌+◌, Bool, true, false, not, ◌==◌, if◌then◌else◌, List, [], ◌∷◌, ◌++◌, unwrap_or, ◌&&◌, Option, Some, None, option_map, codes}
 use Rattle.std.specs.Fmt.{decimal}
 use Rattle.lab_table.specs.Row.{Row, numbered}
 use Rattle.lab_table.specs.Table.{Table}
+use Rattle.lab_table.specs.Sessions.{of_session}
 use Rattle.lab_table.specs.Statement.{Ran, run, kind_matching}
 use Rattle.lab_table.specs.Running.{overflowing}
 use Rattle.lab_table.specs.declared.statement.Statement.{Statement}
@@ -62,7 +63,7 @@ inside_after inside session command s = if s == session then inside_on command (
 
 -- the sessions whose number has a mark
 abbrev pub sessions_in : List Bool → ℕ → Bool
-sessions_in marks s = slice_index_or marks s false
+sessions_in marks s = unwrap_or (of_session marks s) false
 
 -- before the first command no session is inside a transaction
 abbrev pub nobody : ℕ → Bool

@@ -7,11 +7,8 @@ ghost use Rattle.lab_script.specs.Transcript.{body_text, commits_of, committed, 
 
 use crate::script::{Line, Script};
 use crate::transcript::Transcript;
-use lab_table::{Command, NoMemory, Session, Statement, Table};
+use lab_table::{Command, NoMemory, PerSession, Session, Statement, Table};
 use std::alloc::Global;
-
-/// One more than the greatest number of a session.
-const SESSIONS: usize = 10;
 
 /// Runs a script's transactions one after another, each whole, in the order of their begins.
 /// A begin inside a transaction and any other command outside of one are left out.
@@ -24,7 +21,7 @@ pub fn run_serial(alloc: Global, script: &Script) -> Result<Transcript, NoMemory
 {
     let mut table = script.setup.copy(alloc)?;
     let mut output = Transcript::new(alloc);
-    let mut inside = [false; SESSIONS];
+    let mut inside = PerSession::all(false);
     let mut number = 0;
     let mut rest = script.lines.as_slice();
     // A session's transactions don't overlap: all of them together pass over a line once a session at most.
@@ -41,18 +38,17 @@ pub fn run_serial(alloc: Global, script: &Script) -> Result<Transcript, NoMemory
 }
 
 /// Whether a line begins a transaction.
-fn begins(inside: &[bool; SESSIONS], line: &Line) -> bool
+fn begins(inside: &PerSession<bool>, line: &Line) -> bool
     ensures { result ≡ (is_begin line.now.command && not (sessions_in inside.now line.now.session)) }
 {
-    matches!(line.command, Command::Begin) && !inside[usize::from(line.session.number())]
+    matches!(line.command, Command::Begin) && !inside.get(line.session)
 }
 
 /// Notes whether a line's session is inside a transaction after it.
-fn note(inside: &mut [bool; SESSIONS], line: &Line)
+fn note(inside: &mut PerSession<bool>, line: &Line)
     ensures { sessions_in inside.new ≡ inside_after (sessions_in inside.old) line.now.session line.now.command }
 {
-    let session = usize::from(line.session.number());
-    inside[session] = is_inside(&line.command, inside[session]);
+    inside.set(line.session, is_inside(&line.command, inside.get(line.session)));
 }
 
 fn is_inside(command: &Command, before: bool) -> bool
