@@ -26,12 +26,14 @@ pub fn run_serial(alloc: Global, script: &Script) -> Result<Transcript, NoMemory
     let mut rest = script.lines.as_slice();
     // A session's transactions don't overlap: all of them together pass over a line once a session at most.
     while let Some((line, later)) = rest.split_first() {
-        if begins(&inside, line) {
-            number += 1;
-            run_transaction(alloc, &mut output, &mut table, number, line.session, later)?;
-        }
-        note(&mut inside, line);
         rest = later;
+        let starts = begins(&inside, line);
+        note(&mut inside, line);
+        if !starts {
+            continue;
+        }
+        number += 1;
+        run_transaction(alloc, &mut output, &mut table, number, line.session, later)?;
     }
     output.put_table(table.rows())?;
     Ok(output)
@@ -48,7 +50,10 @@ fn begins(inside: &PerSession<bool>, line: &Line) -> bool
 fn note(inside: &mut PerSession<bool>, line: &Line)
     ensures { sessions_in inside.new ≡ inside_after (sessions_in inside.old) line.now.session line.now.command }
 {
-    inside.set(line.session, is_inside(&line.command, inside.get(line.session)));
+    inside.set(
+        line.session,
+        is_inside(&line.command, inside.get(line.session)),
+    );
 }
 
 fn is_inside(command: &Command, before: bool) -> bool
