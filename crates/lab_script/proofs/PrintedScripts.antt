@@ -1,5 +1,5 @@
 -- A printed script spells the script, with the lines of the printed text.
-use Rattle.lab_script.proofs.Common.{◌≡◌, ℕ, zero, suc, ◌-◌, ◌<◌, Bool, true, false, cond, List, [], ◌∷◌, ◌++◌, length, take, refl, ap, ◌∙◌, append_assoc, arith, ◌+◌, ◌≤◌, Some, None, sym, length-append, subst, decimal, map, flat_map, ◌==◌, slice_index, ◌&&◌, codes, nat_le, list_all, slice_split, onto_first, lines, lines_of_parts, strip_carriage_return, nat_tests, and_parts, le-leb, newline, printed_command, is_code_byte, code_of, remark_of, Command, Token, Line, Script, tokens, IsCommand, IsCommands, CommandPrints, session_digit, session_of, IsFit, LineSpells, extended, LinesSpell, Spells, SessionInRange, LineInRange, ScriptInRange, with_command, script_tables, with_lines, setup_tables, all_plain, append_plain, append_ascii, word_ends, statement_tokens, statement_reads, statement_fits, decimal_plain, append-nil, AllPrint, ScriptPrints, printed_setup, printed_line, printed_script, Each}
+use Rattle.lab_script.proofs.Common.{◌≡◌, ℕ, zero, suc, ◌-◌, ◌<◌, Bool, true, false, cond, List, [], ◌∷◌, ◌++◌, length, take, refl, ap, ◌∙◌, append_assoc, arith, ◌+◌, ◌≤◌, Some, None, sym, length-append, subst, decimal, map, flat_map, ◌==◌, slice_index, ◌&&◌, codes, nat_le, list_all, slice_split, onto_first, lines, lines_of_parts, strip_carriage_return, nat_tests, and_parts, le-leb, newline, printed_command, is_code_byte, code_of, remark_of, Command, Token, Line, Script, tokens, IsCommand, IsCommands, CommandPrints, session_digit, session_of, IsFit, LineSpells, extended, LinesSpell, Spells, SessionInRange, LineInRange, ScriptInRange, line_table, with_any, script_tables, with_lines, setup_tables, all_plain, append_plain, append_ascii, word_ends, statement_tokens, statement_reads, statement_fits, decimal_plain, append-nil, AllPrint, ScriptPrints, printed_setup, printed_line, printed_script, Each}
 use Rattle.std.proofs.lemmas.List.Splits.{slice_split-cons_yes, slice_split-cons_no, length-slice_split}
 use Rattle.std.proofs.lemmas.Fmt.{decimal_digit}
 use Rattle.lab_statement.specs.Ranges.{CommandInRange}
@@ -135,7 +135,7 @@ line_ascii line h =
 
 -- a printed line gives its command
 pub line_spells : (number : ℕ) (line : Line) (before : Script) → SessionInRange line.session → CommandInRange line.command → CommandPrints line.command → number ≤ 2000 → length before.lines + 1 ≤ 1999
-    → length (with_command (script_tables before) line.command) ≤ 4
+    → length (with_any (script_tables before) (line_table line)) ≤ 4
     → LineSpells number (line_text line) (Some before) (Some (extended before line.session number (line.command ∷ [])))
 line_spells number line before r h p le few small =
     script.commands before (line_fit number line r h p le) (subst (λ (ts : List Token). IsCommands ts (line.command ∷ [])) (sym (line_tokens line h))
@@ -165,7 +165,7 @@ lines_spell number before [] r p le few small = ap (λ (ls : List Line). Some (r
 lines_spell number before (line ∷ ls) r p le few small =
     let next : Script = extended before line.session number (line.command ∷ []) in
     let counted : length next.lines ≡ length before.lines + 1 = length-append before.lines _ in
-    let here = lines_longer (with_command (script_tables before) line.command) ls in (
+    let here = lines_longer (with_any (script_tables before) (line_table line)) ls in (
       Some next,
       line_spells number line before r.0.0 r.0.1 p.0 (omega arith) (omega arith) (omega (arith, small, here)),
       subst (λ (all : List Line). LinesSpell (number + 1) (Some next) (map line_text ls) (Some (record { setup = before.setup; lines = all }))) (append_assoc before.lines _ (numbered (number + 1) ls))

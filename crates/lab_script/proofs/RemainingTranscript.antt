@@ -1,5 +1,6 @@
 -- What a run holds in the end, from what it holds now and the lines that are left: each step of the run keeps it.
-use Rattle.lab_script.proofs.Common.{◌≡◌, ℕ, ◌+◌, Bool, true, cond, not, List, [], ◌∷◌, ◌++◌, Option, refl, sym, ap, ◌∙◌, append_assoc, ◌&&◌, Table, Statement, Line, PrintFault, Transaction, statements_of, commits_of, inside_after, is_begin, transaction_of, transactions, body_text, committed, table_after, transaction_text, serial_text, TranscriptView, shown_of, shown, broken_with, first_broken}
+use Rattle.lab_script.proofs.Common.{◌≡◌, ℕ, ◌+◌, Bool, true, cond, not, List, [], ◌∷◌, ◌++◌, Option, refl, sym, ap, ◌∙◌, append_assoc, ◌&&◌, Table, Statement, Line, PrintFault, Transaction, statements_of, commits_of, inside_after, is_begin, transaction_of, transactions, body_text, committed, table_after, transaction_text, serial_text, TranscriptView, shown_of, shown, first_broken, limit_broken}
+use Rattle.std.specs.Option.{option_or}
 
 -- what a transcript holds, and the table that commits, once a transaction has ended
 pub record Ended : Type 0 where
@@ -29,7 +30,7 @@ output_by n output table inside lines = output_on n output table (transactions i
 -- the first limit that two lists of statements break
 first_broken_append : (before : Option PrintFault) (a b : List Statement) → first_broken before (a ++ b) ≡ first_broken (first_broken before a) b
 first_broken_append before [] b = refl
-first_broken_append before (s ∷ a) b = first_broken_append (broken_with before s) a b
+first_broken_append before (s ∷ a) b = first_broken_append (option_or before (limit_broken s)) a b
 
 -- where a transaction has been told, the others are
 output_first : (n : ℕ) (output next : TranscriptView) (table new : Table) (txn : Transaction) (txns : List Transaction) → next.text ≡ output.text ++ transaction_text (n + 1) table txn

@@ -1,5 +1,6 @@
 -- A transcript as contracts see it, and the limits that its statements may break.
 use Rattle.std.specs.Prelude.{ℕ, nat_lt, cond, List, [], ◌∷◌, ◌++◌, length, Option, Some, None, codes}
+use Rattle.std.specs.Option.{option_or}
 use Rattle.lab_table.specs.Table.{Table}
 use Rattle.lab_table.specs.declared.table.TableFault.{TableFault}
 use Rattle.lab_table.specs.declared.table.TableFault.TheVariants as table_fault
@@ -39,15 +40,10 @@ shown table (txn ∷ txns) = shown_of table txn.statements ++ shown (table_after
 abbrev pub limit_broken : Statement → Option PrintFault
 limit_broken s = cond (nat_lt max_depth (statement_depth s)) (Some TooDeep) (cond (nat_lt max_statement_bytes (length (printed_statement s))) (Some TooLong) None)
 
--- the limit that is broken first, where one was broken before or not
-abbrev pub broken_with : Option PrintFault → Statement → Option PrintFault
-broken_with None s = limit_broken s
-broken_with (Some fault) s = Some fault
-
 -- the limit that the first statement to break one breaks, where one was broken before or not
 abbrev pub first_broken : Option PrintFault → List Statement → Option PrintFault
 first_broken before [] = before
-first_broken before (s ∷ statements) = first_broken (broken_with before s) statements
+first_broken before (s ∷ statements) = first_broken (option_or before (limit_broken s)) statements
 
 -- the limit that a script's transcript breaks
 abbrev pub unprintable : Script → Option PrintFault

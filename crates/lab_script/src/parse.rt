@@ -1,10 +1,10 @@
 //! Reading a script's text line by line.
 
-ghost use Rattle.std.specs.Prelude.{◌≡◌, ◌≤◌, length, [], IfOk, OnOk, IfErr, IfSome, MatchResult, List, ℕ, Some, None};
+ghost use Rattle.std.specs.Prelude.{◌≡◌, [], IfOk, OnOk, IfErr, IfSome, MatchResult, List, ℕ, Some, None};
 ghost use Rattle.lab_script.specs.declared.script.Script.{Script as PlainScript};
 ghost use Rattle.lab_script.specs.Script.{Spells, LineSpells, TokensSpell, begins_setup};
 ghost use Rattle.lab_script.specs.Fault.{IsFaultAt, IsFaultOf, first_fault, is_over, tokens_fault};
-ghost use Rattle.lab_script.specs.Limits.{max_commands, ScriptPrints};
+ghost use Rattle.lab_script.specs.Limits.{ScriptPrints};
 ghost use Rattle.lab_script.specs.Tables.{script_tables, tables_so_far};
 
 use crate::command::read_commands;
@@ -63,7 +63,7 @@ fn read_line(
     line: &[u8],
     room: &mut Room,
 ) -> Result<(), ScriptFault>
-    requires few { IfSome script.old (λ s. length s.lines ≤ max_commands) }
+    requires prints { IfSome script.old ScriptPrints }
     requires named { tables.old.names ≡ tables_so_far script.old }
     ensures found { OnOk result (LineSpells number line.now script.old script.new) }
     ensures named { OnOk result (tables.new.names ≡ tables_so_far script.new) }
@@ -127,7 +127,7 @@ fn read_tokens(
     remark: &[u8],
     commands: &mut Vec<Command>,
 ) -> Result<(), ScriptFault>
-    requires few { IfSome script.old (λ s. length s.lines ≤ max_commands) }
+    requires prints { IfSome script.old ScriptPrints }
     requires named { tables.old.names ≡ tables_so_far script.old }
     ensures found { OnOk result (TokensSpell number tokens.now remark.now script.old script.new) }
     ensures named { OnOk result (tables.new.names ≡ tables_so_far script.new) }
@@ -176,7 +176,7 @@ fn add_commands(
     remark: &[u8],
     commands: &mut Vec<Command>,
 ) -> Result<(), ScriptFault>
-    requires few { length script.old.lines ≤ max_commands }
+    requires prints { ScriptPrints script.old }
     requires named { tables.old.names ≡ script_tables script.old }
     ensures found { OnOk result (TokensSpell number tokens.now remark.now (Some script.old) (Some script.new)) }
     ensures named { OnOk result (tables.new.names ≡ script_tables script.new) }

@@ -6,10 +6,9 @@ ghost use Rattle.lab_script.specs.Renumbered.{renumbered};
 ghost use Rattle.lab_script.specs.Script.{Spells};
 ghost use Rattle.lab_script.specs.Limits.{ScriptPrints, BreaksDepth, BreaksLength, BreaksTables};
 
-use crate::fits::setup_fits;
 use crate::limits::MAX_COMMANDS;
 use crate::script::Script;
-use crate::spelling::{put_line, put_setup};
+use crate::spelling::{put_line, put_setup, setup_fits};
 use crate::tables::add_all;
 use lab_statement::{PrintFault, check_command};
 use lab_table::TableSet;

@@ -1,8 +1,9 @@
 //! Running a script's transactions one after another.
 
 ghost use Rattle.std.specs.Prelude.{◌≡◌, ◌++◌, ◌&&◌, not, None, Some, cond, IfOk, IfSome, OnOk};
+ghost use Rattle.std.specs.Option.{option_or};
 ghost use Rattle.lab_script.specs.Limits.{AllPrint, SomeLine};
-ghost use Rattle.lab_script.specs.TranscriptView.{Breaks, broken_with, first_broken, shown_of, unprintable};
+ghost use Rattle.lab_script.specs.TranscriptView.{Breaks, first_broken, limit_broken, shown_of, unprintable};
 ghost use Rattle.lab_script.specs.Transcript.{body_text, commits_of, committed, end_text, inside_after, inside_on, is_begin, sessions_in, statement_text, statements_of, table_after, table_with, transcript, transaction_of, transaction_text};
 
 use crate::script::{Line, Script};
@@ -97,7 +98,7 @@ fn run_statement(
     statement: &Statement,
 ) -> Result<bool, NoMemory>
     ensures text { OnOk result (output.new.text ≡ output.old.text ++ statement_text statement.now table.old) }
-    ensures unprintable { OnOk result (output.new.unprintable ≡ broken_with output.old.unprintable statement.now) }
+    ensures unprintable { OnOk result (output.new.unprintable ≡ option_or output.old.unprintable (limit_broken statement.now)) }
     ensures table { IfOk result (λ ran. table_with statement.now table.old ≡ cond ran (Some table.new) None) }
 {
     output.put_statement(statement)?;

@@ -1,12 +1,13 @@
 //! What a script does where its transactions run whole. After NoMemory, part of what was to be appended may stand there.
 
 ghost use Rattle.std.specs.Prelude.{◌≡◌, ◌++◌, [], None, codes, IfOk, IfErr, OnOk, ◌⊎◌, ◌≢◌, Some, Err};
+ghost use Rattle.std.specs.Option.{option_or};
 ghost use Rattle.lab_script.specs.Printed.{named_rows_or};
 ghost use Rattle.lab_statement.specs.Printed.{newline, printed_row_name, printed_statement, rows_or};
-ghost use Rattle.lab_script.specs.TranscriptView.{broken_with, fault_text, limit_broken};
+ghost use Rattle.lab_script.specs.TranscriptView.{fault_text, limit_broken};
 ghost use Rattle.lab_script.specs.Transcript.{end_text, heading_text};
 
-use crate::row_text::put_named_rows;
+use crate::spelling::put_named_rows;
 use itoa::Buffer;
 use lab_statement::{PrintFault, check_statement, put_list, put_row_name, put_statement};
 use lab_table::{NoMemory, RowName, Session, Statement, TableFault, Value};
@@ -60,7 +61,7 @@ impl Transcript {
     /// Appends a statement, and notes the limit that it breaks, if none was broken before.
     pub(crate) fn put_statement(&mut self, statement: &Statement) -> Result<(), NoMemory>
         ensures text { OnOk result (self.new.text ≡ self.old.text ++ (printed_statement statement.now ++ codes " -> ")) }
-        ensures unprintable { OnOk result (self.new.unprintable ≡ broken_with self.old.unprintable statement.now) }
+        ensures unprintable { OnOk result (self.new.unprintable ≡ option_or self.old.unprintable (limit_broken statement.now)) }
     {
         put_statement(&mut self.text, statement)?;
         if self.unprintable.is_none() {
