@@ -25,7 +25,7 @@ pub use Rattle.lab_script.specs.Ranges.{EntryInRange, LineInRange, ScriptInRange
 pub use Rattle.lab_script.specs.Script.{BeginsLongSetup, IsFit, LineSpells, LinesSpell, Spells, TokensSpell, begins_setup, extended, is_ascii_code, is_passed, session_digit, session_of}
 pub use Rattle.lab_script.specs.Tables.{command_table, line_table, script_tables, setup_tables, tables_so_far, with_all, with_any, with_commands, with_lines, with_rows}
 unfoldable pub use Rattle.lab_script.specs.Transcript.{statement_text, table_with}
-pub use Rattle.lab_script.specs.Transcript.{Transaction, answer_text, body_text, commits_of, committed, inside_after, is_begin, kind_refusal_text, nobody, refusal_text, row_text, serial_text, sessions_in, statements_of, statements_on, table_after, transaction_of, transaction_text, transactions, transcript}
+pub use Rattle.lab_script.specs.Transcript.{Transaction, answer_text, body_of, body_on, body_text, committed, inside_after, is_begin, kind_refusal_text, nobody, refusal_text, row_text, serial_text, sessions_in, table_after, transaction_of, transaction_text, transactions, transcript}
 pub use Rattle.lab_script.specs.TranscriptView.{Breaks, TranscriptView, fault_text, first_broken, limit_broken, shown, shown_of, unprintable}
 pub use Rattle.lab_script.specs.declared.script.Line.{Line}
 pub use Rattle.lab_script.specs.declared.script.Script.{Script}

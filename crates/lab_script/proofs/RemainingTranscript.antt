@@ -1,5 +1,5 @@
 -- What a run holds in the end, from what it holds now and the lines that are left: each step of the run keeps it.
-use Rattle.lab_script.proofs.Common.{◌≡◌, ℕ, ◌+◌, Bool, true, cond, not, List, [], ◌∷◌, ◌++◌, Option, refl, sym, ap, ◌∙◌, append_assoc, ◌&&◌, Table, Statement, Line, PrintFault, Transaction, statements_of, commits_of, inside_after, is_begin, transaction_of, transactions, body_text, committed, table_after, transaction_text, serial_text, TranscriptView, shown_of, shown, first_broken, limit_broken}
+use Rattle.lab_script.proofs.Common.{◌≡◌, ℕ, ◌+◌, Bool, true, cond, not, List, [], ◌∷◌, ◌++◌, Option, refl, sym, ap, ◌∙◌, append_assoc, ◌&&◌, Table, Statement, Line, PrintFault, Transaction, inside_after, is_begin, transaction_of, transactions, body_of, body_text, committed, table_after, transaction_text, serial_text, TranscriptView, shown_of, shown, first_broken, limit_broken}
 use Rattle.std.specs.Option.{option_or}
 
 -- what a transcript holds, and the table that commits, once a transaction has ended
@@ -11,9 +11,9 @@ pub record Ended : Type 0 where
 -- the end of a session's transaction, from the lines that are left
 abbrev pub ended_by : ℕ → TranscriptView → Table → List Line → Ended
 ended_by session output table lines = record {
-  text = output.text ++ body_text table (statements_of session lines) (commits_of session lines);
-  unprintable = first_broken output.unprintable (shown_of table (statements_of session lines));
-  table = committed table (statements_of session lines) (commits_of session lines);
+  text = output.text ++ body_text table (body_of session lines).0 (body_of session lines).1;
+  unprintable = first_broken output.unprintable (shown_of table (body_of session lines).0);
+  table = committed table (body_of session lines).0 (body_of session lines).1;
 }
 
 -- a transcript to which transactions are told from a table, after so many
@@ -50,7 +50,7 @@ output_first n output next table new txn txns text broken left =
 pub transaction_line : (n : ℕ) (output : TranscriptView) (table : Table) (inside : ℕ → Bool) (line : Line) (rest later : List Line) (total : TranscriptView) → output_by n output table inside rest ≡ total
     → rest ≡ line ∷ later → (is_begin line.command && not (inside line.session)) ≡ true → (next : TranscriptView) (new : Table)
     → next.text ≡ output.text ++ transaction_text (n + 1) table (transaction_of line.session later)
-    → next.unprintable ≡ first_broken output.unprintable (shown_of table (statements_of line.session later)) → new ≡ table_after table (transaction_of line.session later)
+    → next.unprintable ≡ first_broken output.unprintable (shown_of table (body_of line.session later).0) → new ≡ table_after table (transaction_of line.session later)
     → output_by (n + 1) next new (inside_after inside line.session line.command) later ≡ total
 transaction_line n output table inside line rest later total so_far here is next new text broken left =
     let others = transactions (inside_after inside line.session line.command) later in

@@ -4,7 +4,7 @@ ghost use Rattle.std.specs.Prelude.{◌≡◌, ◌++◌, ◌&&◌, not, None, So
 ghost use Rattle.std.specs.Option.{option_or};
 ghost use Rattle.lab_script.specs.Limits.{AllPrint, SomeLine};
 ghost use Rattle.lab_script.specs.TranscriptView.{Breaks, first_broken, limit_broken, shown_of, unprintable};
-ghost use Rattle.lab_script.specs.Transcript.{body_text, commits_of, committed, end_text, inside_after, inside_on, is_begin, sessions_in, statement_text, statements_of, table_after, table_with, transcript, transaction_of, transaction_text};
+ghost use Rattle.lab_script.specs.Transcript.{body_of, body_text, committed, end_text, inside_after, inside_on, is_begin, sessions_in, statement_text, table_after, table_with, transcript, transaction_of, transaction_text};
 
 use crate::script::{Line, Script};
 use crate::transcript::Transcript;
@@ -78,7 +78,7 @@ fn run_transaction(
     lines: &[Line],
 ) -> Result<(), NoMemory>
     ensures text { OnOk result (output.new.text ≡ output.old.text ++ transaction_text number table.old (transaction_of session lines.now)) }
-    ensures unprintable { OnOk result (output.new.unprintable ≡ first_broken output.old.unprintable (shown_of table.old (statements_of session lines.now))) }
+    ensures unprintable { OnOk result (output.new.unprintable ≡ first_broken output.old.unprintable (shown_of table.old (body_of session lines.now).0)) }
     ensures table { OnOk result (table.new ≡ table_after table.old (transaction_of session lines.now)) }
 {
     output.put_heading(number, session)?;
@@ -123,9 +123,9 @@ fn run_body(
     session: Session,
     lines: &[Line],
 ) -> Result<bool, NoMemory>
-    ensures text { IfOk result (λ commits. output.new.text ++ end_text commits ≡ output.old.text ++ body_text table.old (statements_of session lines.now) (commits_of session lines.now)) }
-    ensures unprintable { OnOk result (output.new.unprintable ≡ first_broken output.old.unprintable (shown_of table.old (statements_of session lines.now))) }
-    ensures table { IfOk result (λ commits. committed table.old (statements_of session lines.now) (commits_of session lines.now) ≡ cond commits (Some table.new) None) }
+    ensures text { IfOk result (λ commits. output.new.text ++ end_text commits ≡ output.old.text ++ body_text table.old (body_of session lines.now).0 (body_of session lines.now).1) }
+    ensures unprintable { OnOk result (output.new.unprintable ≡ first_broken output.old.unprintable (shown_of table.old (body_of session lines.now).0)) }
+    ensures table { IfOk result (λ commits. committed table.old (body_of session lines.now).0 (body_of session lines.now).1 ≡ cond commits (Some table.new) None) }
 {
     for line in lines {
         if line.session == session {
