@@ -12,7 +12,7 @@ pub use Rattle.std.proofs.lemmas.Option.{slice_get_within}
 pub use Rattle.std.proofs.lemmas.Result.{on_ok_weaker}
 pub use Rattle.std.specs.FinMap.{contains_key, empty, find, from_entries, from_entries_push, get-from_entries, insert}
 pub use Rattle.std.specs.List.{Contains, onto_first, slice_split}
-pub use Rattle.std.specs.Prelude.{IfErr, IfOk, IfSome, MatchResult, nat_lt, ok_or, option_to_list, slice_get, slice_index}
+pub use Rattle.std.specs.Prelude.{IfErr, IfOk, IfSome, MatchResult, OnOk, nat_lt, ok_or, option_to_list, slice_get, slice_index}
 pub use Rattle.std.specs.Str.Lines.{lines, lines_of_parts, strip_carriage_return}
 pub use Rattle.lab_script.specs.Fault.{IsFaultAt, IsFaultOf, IsFaultyLine, TellsOfTokens, first_fault, is_over, remark_fault, tokens_fault}
 unfoldable pub use Rattle.lab_script.specs.FirstFaults.{added_read, command_read, commands_read, level_read, named_row_read, repeated_read, row_onto_read, row_table_read, rows_read, setup_end_read, setup_read, step_read, table_read, words_read}

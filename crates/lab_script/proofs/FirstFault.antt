@@ -1,5 +1,5 @@
 -- Where a text has its first fault, read line by line.
-use Rattle.lab_script.proofs.Common.{IfSome, ◌≡◌, ℕ, ◌+◌, ◌≤◌, Bool, true, false, List, [], ◌∷◌, ◌++◌, length, take, Option, Some, None, Result, Ok, Err, refl, sym, ap, subst, ◌∙◌, inl, inr, arith, length-append, append_assoc, ◌-◌, if◌then◌else◌, slice_get, MatchResult, IfOk, IfErr, ok_or, lines, le-ltb, append-nil, take_at, none-some, same_Some, ScriptFault, ScriptFaultKind, Script, Token, tokens, code_of, remark_of, commands_fault, setup_fault, max_commands, ScriptPrints, is_passed, IsFit, LineSpells, LinesSpell, Spells, script_tables, first_fault, tokens_fault, IsFaultAt, IsFaultOf, slice_get-middle}
+use Rattle.lab_script.proofs.Common.{IfSome, ◌≡◌, ℕ, ◌+◌, ◌≤◌, Bool, true, false, List, [], ◌∷◌, ◌++◌, length, take, Option, Some, None, Result, Ok, Err, refl, sym, ap, subst, ◌∙◌, inl, inr, arith, length-append, append_assoc, ◌-◌, if◌then◌else◌, slice_get, MatchResult, IfOk, IfErr, ok_or, lines, append-nil, take_at, none-some, same_Some, ScriptFault, ScriptFaultKind, Script, Token, tokens, code_of, commands_fault, setup_fault, max_commands, ScriptPrints, is_passed, LineSpells, LinesSpell, Spells, script_tables, first_fault, IsFaultAt, IsFaultOf, slice_get-middle}
 use Rattle.lab_statement.specs.declared.fault.ScriptFault.TheVariants as fault
 use Rattle.lab_statement.specs.declared.fault.ScriptFaultKind.TheVariants as kinds
 use Rattle.lab_script.specs.Script as script
@@ -7,7 +7,7 @@ use Rattle.lab_script.proofs.LineFaults.{no_commands_fault, no_setup_fault, line
 use Rattle.lab_script.proofs.OneFault.{none_at_all}
 use Rattle.lab_script.proofs.ReadCommands.{no_setup}
 use Rattle.lab_script.proofs.ReadSetup.{setup_begins}
-use Rattle.lab_script.proofs.ScriptLines.{fit_of, lines_once, lines_join, line_prints}
+use Rattle.lab_script.proofs.ScriptLines.{fit_fault, fit_of, lines_once, lines_join, line_prints}
 
 -- the lines so far, of which there are so many, spell nothing yet or a script, and these are left
 pub record IsReadTo (text : List ℕ) (number : ℕ) (rest : List (List ℕ)) (script : Option Script) : Type 0 where
@@ -37,11 +37,6 @@ one_more_read {text} {number} {line} {rest} {before} {after} read spells = recor
 
 pub all_read : {text : List ℕ} {number : ℕ} {script : Option Script} → IsReadTo text number [] script → LinesSpell 1 None (lines text) script
 all_read {script = script} read = subst (λ (ls : List (List ℕ)). LinesSpell 1 None ls script) (sym (read.whole ∙ append-nil read.front)) read.spelled
-
--- a line that may have its number has the faults of its tokens
-fit_fault : {number : ℕ} {line : List ℕ} (before : Option Script) → IsFit number line
-    → first_fault number line before ≡ (if is_passed line then None else tokens_fault (tokens (code_of line)) (remark_of line) before)
-fit_fault {number} {line} before fit = rw (le-ltb 2000 number fit.lines, le-ltb 4000 (length line) fit.bytes, fit.ascii) refl
 
 unless_passed : (passed : Bool) (found : Option ScriptFaultKind) → found ≡ None → (if passed then None else found) ≡ None
 unless_passed true found none = refl

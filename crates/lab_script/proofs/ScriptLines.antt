@@ -1,5 +1,5 @@
 -- What lines spell: a line makes one thing at most of what stands before it, and so do lines; what is made prints.
-use Rattle.lab_script.proofs.Common.{◌≡◌, ℕ, ◌+◌, ◌≤◌, true, List, [], ◌∷◌, ◌++◌, length, map, Option, Some, refl, sym, ap, subst, ◌∙◌, arith, length-append, false, None, IfSome, nat_lt, list_all, length-map, false≢true, nil_from_length, eqb-true, ◌==◌, ltb-false, or_parts, same_Some, Command, Line, Script, Token, tokens, IsCommands, IsSetup, IsCommand, code_of, remark_of, is_code_byte, is_passed, IsFit, begins_setup, extended, LineSpells, LinesSpell, session_of, TokensSpell, is_over, Each, CommandPrints, AllPrint, ScriptPrints}
+use Rattle.lab_script.proofs.Common.{first_fault, tokens_fault, if◌then◌else◌, le-ltb, ◌≡◌, ℕ, ◌+◌, ◌≤◌, true, List, [], ◌∷◌, ◌++◌, length, map, Option, Some, refl, sym, ap, subst, ◌∙◌, arith, length-append, false, None, IfSome, nat_lt, list_all, length-map, false≢true, nil_from_length, eqb-true, ◌==◌, ltb-false, or_parts, same_Some, Command, Line, Script, Token, tokens, IsCommands, IsSetup, IsCommand, code_of, remark_of, is_code_byte, is_passed, IsFit, begins_setup, extended, LineSpells, LinesSpell, session_of, TokensSpell, is_over, Each, CommandPrints, AllPrint, ScriptPrints}
 use Rattle.lab_script.proofs.ReadCommands.{commands_once, not_empty}
 use Rattle.lab_script.proofs.ReadSetup.{setup_once, setup_begins, setup_short}
 use Rattle.lab_statement.proofs.ShallowStatements.{statement_shallow}
@@ -23,6 +23,11 @@ pub fit_of : {number : ℕ} {line : List ℕ} {before after : Option Script} →
 fit_of (script.passed s fit is) = fit
 fit_of (script.setup fit is small) = fit
 fit_of (script.commands s fit is session room small) = fit
+
+-- a line that may have its number has the faults of its tokens
+pub fit_fault : {number : ℕ} {line : List ℕ} (before : Option Script) → IsFit number line
+    → first_fault number line before ≡ (if is_passed line then None else tokens_fault (tokens (code_of line)) (remark_of line) before)
+fit_fault {number} {line} before fit = rw (le-ltb 2000 number fit.lines, le-ltb 4000 (length line) fit.bytes, fit.ascii) refl
 
 -- a line makes one thing at most of what stands before it
 pub line_once : {number : ℕ} {line : List ℕ} {before a b : Option Script} → LineSpells number line before a → LineSpells number line before b → a ≡ b
@@ -77,6 +82,11 @@ module _ (number : ℕ) (line : List ℕ) {code remark : List ℕ} (within : is_
 
       pub tokenless_line : (before : Option Script) → (length ts == 0) ≡ true → LineSpells number line before before
       tokenless_line before none = script.passed before fit (ap (λ us. length us == 0) (sym of_line) ∙ none)
+
+      -- a line with tokens has their faults
+      pub tokens_faulty : (length ts == 0) ≡ false → (before : Option Script) → first_fault number line before ≡ tokens_fault ts remark before
+      tokens_faulty some before =
+          fit_fault before fit ∙ rw (of_line, remark_is, ap (λ us. length us == 0) (sym of_line) ∙ some) refl
 
       -- a line spells what its tokens spell
       pub tokens_line : (before after : Option Script) → TokensSpell number ts remark before after → LineSpells number line before after

@@ -81,15 +81,21 @@ fn read_line(
     if tokens.is_empty() {
         return Ok(());
     }
-    read_tokens(
-        alloc,
-        script,
-        tables,
-        number,
-        tokens,
-        remark,
-        &mut room.commands,
-    )
+    match script {
+        None => {
+            *script = Some(setup_script(alloc, number, tokens, tables)?);
+            Ok(())
+        }
+        Some(script) => add_commands(
+            alloc,
+            script,
+            tables,
+            number,
+            tokens,
+            remark,
+            &mut room.commands,
+        ),
+    }
 }
 
 /// Whether a line is longer than a line may be, or comes after the last that a text may have.
@@ -113,32 +119,6 @@ fn begins_setup(tokens: &[Token]) -> bool
     match tokens.split_first() {
         None => false,
         Some((first, _)) => *first == Token::Word(Word::Setup),
-    }
-}
-
-/// Reads the tokens and the remark of a line with this number: the setup, or commands behind it. The commands are only
-/// room for those of the line.
-fn read_tokens(
-    alloc: Global,
-    script: &mut Option<Script>,
-    tables: &mut TableSet,
-    number: u32,
-    tokens: &[Token],
-    remark: &[u8],
-    commands: &mut Vec<Command>,
-) -> Result<(), ScriptFault>
-    requires prints { IfSome script.old ScriptPrints }
-    requires named { tables.old.names ≡ tables_so_far script.old }
-    ensures found { OnOk result (TokensSpell number tokens.now remark.now script.old script.new) }
-    ensures named { OnOk result (tables.new.names ≡ tables_so_far script.new) }
-    ensures fault { IfErr result (IsFaultAt number (tokens_fault tokens.now remark.now script.old)) }
-{
-    match script {
-        None => {
-            *script = Some(setup_script(alloc, number, tokens, tables)?);
-            Ok(())
-        }
-        Some(script) => add_commands(alloc, script, tables, number, tokens, remark, commands),
     }
 }
 
@@ -166,7 +146,7 @@ fn setup_script(
     }
 }
 
-/// Adds the commands of the line that has these tokens and this remark.
+/// Adds the commands of the line that has these tokens and this remark. Others that stand in `commands` are room for them.
 fn add_commands(
     alloc: Global,
     script: &mut Script,
