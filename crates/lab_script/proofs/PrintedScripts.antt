@@ -4,7 +4,7 @@ use Rattle.lab_script.proofs.TextLines.{lines_behind, lines_are}
 use Rattle.std.proofs.lemmas.Fmt.{decimal_digit}
 use Rattle.lab_statement.specs.Ranges.{CommandInRange}
 use Rattle.lab_statement.proofs.PrintedText.{Reads}
-use Rattle.lab_script.specs.Renumbered.{numbered, renumbered}
+use Rattle.lab_script.specs.Printed.{numbered, renumbered}
 use Rattle.lab_script.proofs.FewTables.{lines_longer, tables_extended}
 use Rattle.lab_script.proofs.PrintedSetups.{setup_leads, setup_spells}
 use Rattle.lab_table.specs.declared.statement.Command.TheVariants as command

@@ -1,8 +1,7 @@
 //! Scripts in printed form, where that keeps the limits of a text.
 
 ghost use Rattle.std.specs.Prelude.{◌≡◌, IfOk, OnOk, Err};
-ghost use Rattle.lab_script.specs.Printed.{printed_script};
-ghost use Rattle.lab_script.specs.Renumbered.{renumbered};
+ghost use Rattle.lab_script.specs.Printed.{printed_script, renumbered};
 ghost use Rattle.lab_script.specs.Script.{Spells};
 ghost use Rattle.lab_script.specs.Limits.{ScriptPrints, BreaksDepth, BreaksLength, BreaksTables};
 

@@ -4,7 +4,7 @@ ghost use Rattle.std.specs.Prelude.{◌≡◌, ◌++◌, ◌&&◌, not, None, So
 ghost use Rattle.std.specs.Option.{option_or};
 ghost use Rattle.lab_script.specs.Limits.{AllPrint, SomeLine};
 ghost use Rattle.lab_script.specs.TranscriptView.{Breaks, first_broken, limit_broken, shown_of, unprintable};
-ghost use Rattle.lab_script.specs.Transcript.{body_of, body_text, committed, end_text, inside_after, inside_on, is_begin, sessions_in, statement_text, table_after, table_with, transcript, transaction_of, transaction_text};
+ghost use Rattle.lab_script.specs.Transcript.{body_of, body_text, committed, end_text, inside_after, is_begin, sessions_in, statement_text, table_after, table_with, transcript, transaction_of, transaction_text};
 
 use crate::script::{Line, Script};
 use crate::transcript::Transcript;
@@ -51,19 +51,10 @@ fn begins(inside: &PerSession<bool>, line: &Line) -> bool
 fn note(inside: &mut PerSession<bool>, line: &Line)
     ensures { sessions_in inside.new ≡ inside_after (sessions_in inside.old) line.now.session line.now.command }
 {
-    inside.set(
-        line.session,
-        is_inside(&line.command, inside.get(line.session)),
-    );
-}
-
-fn is_inside(command: &Command, before: bool) -> bool
-    ensures { result ≡ inside_on command.now before }
-{
-    match command {
-        Command::Begin => true,
-        Command::Commit | Command::Abort => false,
-        Command::Run(_) => before,
+    match line.command {
+        Command::Begin => inside.set(line.session, true),
+        Command::Commit | Command::Abort => inside.set(line.session, false),
+        Command::Run(_) => {}
     }
 }
 

@@ -65,7 +65,7 @@ impl Transcript {
     {
         put_statement(&mut self.text, statement)?;
         if self.unprintable.is_none() {
-            self.unprintable = limit_broken(statement);
+            self.unprintable = check_statement(statement).err();
         }
         self.text.extend_from_slice(b" -> ")
     }
@@ -134,12 +134,6 @@ impl Transcript {
         }
         Ok(text)
     }
-}
-
-fn limit_broken(statement: &Statement) -> Option<PrintFault>
-    ensures { result ≡ limit_broken statement.now }
-{
-    check_statement(statement).err()
 }
 
 /// The text of a transcript, if each statement in it keeps the limits of a text.
