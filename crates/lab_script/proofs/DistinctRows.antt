@@ -1,5 +1,5 @@
 -- Lists of rows in which no row comes twice, and the tables that they make.
-use Rattle.lab_script.proofs.Common.{◌≡◌, ℤ, true, false, cond, T, List, [], ◌∷◌, ◌++◌, Option, Some, None, is_some, refl, sym, ap, ◌∙◌, inl, inr, find, insert, contains_key, from_entries, from_entries_push, get-from_entries, cases_Bool, true≢false, none-some, Row, row_cmp, row_eq, rows_total, rows_apart, Table, both, AllDistinct}
+use Rattle.lab_script.proofs.Common.{◌≡◌, ℤ, true, false, cond, T, List, [], ◌∷◌, ◌++◌, Option, Some, None, is_some, refl, sym, ap, ◌∙◌, inl, inr, find, contains_key, from_entries, get-from_entries, cases_Bool, true≢false, none-some, Row, row_cmp, row_eq, rows_total, Table, both, AllDistinct}
 use Rattle.std.specs.FinMap.Entries.{below_all, find-append, is_sorted}
 use Rattle.lab_table.proofs.Maps.{find_below, same_row, row_eq_self}
 
@@ -49,10 +49,6 @@ absent_from before id h = found_none (find row_cmp id before) (sym (is_here befo
 -- and the other way round
 pub is_absent : (before : List (Row × ℤ)) (id : Row) → find row_cmp id before ≡ None → contains_key (table_of before) id ≡ false
 is_absent before id none = is_here before id ∙ ap is_some none
-
--- a new row behind others is inserted into their table
-pub pushed_table : (before : List (Row × ℤ)) (row : Row × ℤ) → find row_cmp row.0 before ≡ None → table_of (before ++ row ∷ []) ≡ insert (table_of before) row.0 row.1
-pushed_table before row none = from_entries_push rows_total rows_apart before row.0 row.1 none
 
 -- distinct rows and a new one behind them are distinct
 pub pushed_distinct : (before : List (Row × ℤ)) (row : Row × ℤ) → AllDistinct before → find row_cmp row.0 before ≡ None → AllDistinct (before ++ row ∷ [])

@@ -17,9 +17,6 @@ pub all_longer : {X : Type 0} (table : X → Option (List ℕ)) (names : List (L
 all_longer table names [] = omega arith
 all_longer table names (x ∷ xs) = let one = any_longer names (table x) in let rest = all_longer table (with_any names (table x)) xs in omega (arith, one, rest)
 
-pub lines_longer : (names : List (List ℕ)) (lines : List Line) → length names ≤ length (with_lines names lines)
-lines_longer names lines = all_longer line_table names lines
-
 -- where a name too many was added among others, all of them are too many
 pub over_all : {X : Type 0} (table : X → Option (List ℕ)) (names all : List (List ℕ)) (x : X) (xs : List X) → 4 < length (with_any names (table x)) → with_all table names (x ∷ xs) ≡ all → 4 < length all
 over_all table names all x xs over is = let more = all_longer table (with_any names (table x)) xs in omega (arith, over, more, ap length is)

@@ -5,7 +5,7 @@ use Rattle.std.proofs.lemmas.Fmt.{decimal_digit}
 use Rattle.lab_statement.specs.Ranges.{CommandInRange}
 use Rattle.lab_statement.proofs.PrintedText.{Reads}
 use Rattle.lab_script.specs.Printed.{numbered, renumbered}
-use Rattle.lab_script.proofs.FewTables.{lines_longer, tables_extended}
+use Rattle.lab_script.proofs.FewTables.{all_longer, tables_extended}
 use Rattle.lab_script.proofs.PrintedSetups.{setup_leads, setup_spells}
 use Rattle.lab_table.specs.declared.statement.Command.TheVariants as command
 use Rattle.lab_table.specs.declared.word.Word.TheVariants as word
@@ -155,7 +155,7 @@ lines_spell number before [] r p le few small = ap (λ (ls : List Line). Some (r
 lines_spell number before (line ∷ ls) r p le few small =
     let next : Script = extended before line.session number (line.command ∷ []) in
     let counted : length next.lines ≡ length before.lines + 1 = length-append before.lines _ in
-    let here = lines_longer (with_any (script_tables before) (line_table line)) ls in (
+    let here = all_longer line_table (with_any (script_tables before) (line_table line)) ls in (
       Some next,
       line_spells number line before r.0.0 r.0.1 p.0 (omega arith) (omega arith) (omega (arith, small, here)),
       subst (λ (all : List Line). LinesSpell (number + 1) (Some next) (map line_text ls) (Some (record { setup = before.setup; lines = all }))) (append_assoc before.lines _ (numbered (number + 1) ls))
@@ -169,6 +169,6 @@ script_spells script r p =
     let start : Script = record { setup = script.setup; lines = [] } in
     subst (λ (ls : List (List ℕ)). LinesSpell 1 None ls (Some (renumbered script))) (sym (script_lines script r)) (
       Some start,
-      setup_spells script.setup r.setup p.setup (let all = lines_longer (setup_tables script.setup) script.lines in omega (arith, all, p.tables)),
+      setup_spells script.setup r.setup p.setup (let all = all_longer line_table (setup_tables script.setup) script.lines in omega (arith, all, p.tables)),
       lines_spell 2 start script.lines r.lines p.lines (omega (arith, p.few)) (omega (arith, p.few)) p.tables,
     )

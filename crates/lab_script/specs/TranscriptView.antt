@@ -21,10 +21,9 @@ pub record TranscriptView : Type 0 where
 
 -- a command is a statement whose printed form breaks this limit
 abbrev pub Breaks : PrintFault → Command → Type 0
-Breaks NoMemory command = ⊥
 Breaks TooDeep command = IsDeep command
 Breaks TooLong command = IsLong command
-Breaks TooManyTables command = ⊥
+Breaks fault command = ⊥
 
 -- the statements that a transaction shows: up to the first that is refused
 abbrev pub shown_of : Table → List Statement → List Statement

@@ -5,7 +5,7 @@ ghost use Rattle.std.specs.List.{prefix_len};
 ghost use Rattle.lab_statement.specs.Stopping.{Comes};
 ghost use Rattle.lab_statement.specs.Token.{is_word};
 ghost use Rattle.lab_statement.specs.FirstFaults.{is_short, HasFault};
-ghost use Rattle.lab_script.specs.FirstFaults.{added_read, command_read, commands_read, level_read, step_read, words_read, commands_fault, passed};
+ghost use Rattle.lab_script.specs.FirstFaults.{added_read, command_read, commands_read, level_read, step_read, commands_fault, passed};
 ghost use Rattle.lab_script.specs.Grammar.{IsCommands};
 ghost use Rattle.lab_script.specs.Tables.{with_commands};
 
@@ -88,8 +88,8 @@ fn command(alloc: Global, parser: &mut Parser) -> Result<Option<Command>, Refusa
     }
 }
 
-/// The words that set a level, from behind the first on.
-#[tactic(auto, unfolding(crate::specs::FirstFaults::level_read))]
+/// The words that set a level, from behind the first on: behind `level` any words, at least one.
+#[tactic(auto, unfolding(crate::specs::FirstFaults::level_read, crate::specs::FirstFaults::words_read))]
 fn level(parser: &mut Parser) -> Result<(), Refusal>
     ensures { Comes (λ x. parser.new) result parser.new (level_read parser.old) }
 {
@@ -98,24 +98,13 @@ fn level(parser: &mut Parser) -> Result<(), Refusal>
         Token::Word(Word::Isolation),
         Token::Word(Word::Level),
     ])?;
-    words(parser)
-}
-
-/// Words, at least one.
-#[tactic(auto, unfolding(crate::specs::FirstFaults::words_read))]
-fn words(parser: &mut Parser) -> Result<(), Refusal>
-    ensures { Comes (λ x. parser.new) result parser.new (words_read parser.old) }
-{
     match parser.tokens().split_first() {
-        None => Err(Refusal::Fault(ScriptFaultKind::UnknownStatement)),
-        Some((first, rest)) => {
-            if !first.is_word() {
-                return Err(Refusal::Fault(ScriptFaultKind::UnknownStatement));
-            }
+        Some((first, rest)) if first.is_word() => {
             let (_, behind) = rest.split_at(words_len(rest));
             *parser = Parser::new(behind);
             Ok(())
         }
+        _ => Err(Refusal::Fault(ScriptFaultKind::UnknownStatement)),
     }
 }
 
