@@ -147,8 +147,8 @@ module _ (text more : List ℕ) (up : IsCutUp [] text) (long : 8388608 < length 
 
       wide : 4001 < length up.tail
       wide =
-          let spelled : LinesSpell 1 None up.ended line.before
-          = subst (λ (ls : List (List ℕ)). LinesSpell 1 None ls line.before) (ap (take line.index) (lines_here up) ∙ take_at up.ended (lines_behind up.tail []) line.index (sym at_end.0)) line.spelled in
+          let spelled : LinesSpell 1 None up.ended line.before =
+          subst (λ (ls : List (List ℕ)). LinesSpell 1 None ls line.before) (ap (take line.index) (lines_here up) ∙ take_at up.ended (lines_behind up.tail []) line.index (sym at_end.0)) line.spelled in
           omega (arith, light up.ended line.before spelled, up.sized, long)
 
       -- whatever stands behind the text, a long line stands there

@@ -47,8 +47,8 @@ output_first n output next table new txn txns text broken left =
     at_new ∙ e
 
 -- a line that begins a transaction, which has been told
-pub transaction_line : (n : ℕ) (output : TranscriptView) (table : Table) (inside : ℕ → Bool) (line : Line) (rest later : List Line) (total : TranscriptView) → output_by n output table inside rest ≡ total
-    → rest ≡ line ∷ later → (is_begin line.command && not (inside line.session)) ≡ true → (next : TranscriptView) (new : Table)
+pub transaction_line : (n : ℕ) (output : TranscriptView) (table : Table) (inside : ℕ → Bool) (line : Line) (rest later : List Line) (total : TranscriptView)
+    → output_by n output table inside rest ≡ total → rest ≡ line ∷ later → (is_begin line.command && not (inside line.session)) ≡ true → (next : TranscriptView) (new : Table)
     → next.text ≡ output.text ++ transaction_text (n + 1) table (transaction_of line.session later)
     → next.unprintable ≡ first_broken output.unprintable (shown_of table (body_of line.session later).0) → new ≡ table_after table (transaction_of line.session later)
     → output_by (n + 1) next new (inside_after inside line.session line.command) later ≡ total

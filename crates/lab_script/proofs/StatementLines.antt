@@ -38,7 +38,8 @@ spread : (a p q r s : List ℕ) → (a ++ (p ++ q)) ++ (r ++ s) ≡ a ++ (((p ++
 spread a p q r s = simp append_assoc
 
 -- a statement's line, put in two pieces
-line_of : (s : Statement) (t : Table) (a b c answer : List ℕ) → b ≡ a ++ (printed_statement s ++ codes " -> ") → c ≡ b ++ (answer ++ newline) → answer ≡ answer_text s t (run s t) → c ≡ a ++ statement_text s t
+line_of : (s : Statement) (t : Table) (a b c answer : List ℕ) → b ≡ a ++ (printed_statement s ++ codes " -> ")
+    → c ≡ b ++ (answer ++ newline) → answer ≡ answer_text s t (run s t) → c ≡ a ++ statement_text s t
 unfolding statement_text
 line_of s t a b c answer p q same =
     q ∙ ap (λ x. x ++ (answer ++ newline)) p ∙ spread a (printed_statement s) (codes " -> ") answer newline

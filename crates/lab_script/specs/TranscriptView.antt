@@ -8,7 +8,7 @@ use Rattle.lab_table.specs.declared.statement.Statement.{Statement}
 use Rattle.lab_table.specs.declared.statement.Command.{Command}
 use Rattle.lab_script.specs.declared.script.Script.{Script}
 use Rattle.lab_statement.specs.declared.print.PrintFault.{PrintFault}
-use Rattle.lab_statement.specs.declared.print.PrintFault.TheVariants.{NoMemory, TooDeep, TooLong, TooManyTables}
+use Rattle.lab_statement.specs.declared.print.PrintFault.TheVariants.{TooDeep, TooLong}
 use Rattle.lab_statement.specs.Depth.{statement_depth}
 use Rattle.lab_statement.specs.Limits.{max_depth, max_statement_bytes, IsDeep, IsLong}
 use Rattle.lab_statement.specs.Printed.{printed_statement, printed_row_name}

@@ -31,5 +31,7 @@ returns-in-Some-clause-found c =
 pub returns-in-Some-clause-fault : goal.returns-in-Some-clause-fault
 returns-in-Some-clause-fault c =
     let same = tokens_faulty c.args.number c.args.line.now (sym c.is_over.ensures ∙ c.if-is_over.false) c.code_and_remark.ensures.code c.code_and_remark.ensures.remark
-    (sym c.is_ascii_code.ensures ∙ c.if-not-is_ascii_code.false) (c.as_slice-tokens.ensures.value ∙ c.in_ok-tokens_into.ensures) (sym c.is_empty.ensures ∙ c.if-is_empty.false) (Some c.in-Some.script) in
-    subst (λ (found : Option ScriptFaultKind). IfErr c.add_commands.result (IsFaultAt c.args.number found)) (sym (ap (first_fault c.args.number c.args.line.now) c.in-Some.is ∙ same)) c.add_commands.ensures.fault
+    (sym c.is_ascii_code.ensures ∙ c.if-not-is_ascii_code.false) (c.as_slice-tokens.ensures.value ∙ c.in_ok-tokens_into.ensures)
+    (sym c.is_empty.ensures ∙ c.if-is_empty.false) (Some c.in-Some.script) in
+    subst (λ (found : Option ScriptFaultKind). IfErr c.add_commands.result (IsFaultAt c.args.number found))
+    (sym (ap (first_fault c.args.number c.args.line.now) c.in-Some.is ∙ same)) c.add_commands.ensures.fault

@@ -8,8 +8,8 @@ loop-line-preserved c =
     let total : TranscriptView = record { text = transcript c.args.script.now; unprintable = unprintable c.args.script.now } in
     record {
       output = subst (λ (after : ℕ → Bool). output_by (c.loop-line.number + 1) c.run_transaction.new.output c.run_transaction.new.table after c.in-Some.later.now ≡ total) (sym c.note.ensures)
-          (transaction_line c.loop-line.number c.loop-line.output c.loop-line.table (sessions_in c.loop-line.inside) c.in-Some.line.now c.loop-line.rest.now c.in-Some.later.now total c.loop-line.invariant.output
-          c.in-Some.ensures.cases.0 (sym c.begins-starts.ensures ∙ c.if-not-starts.false) c.run_transaction.new.output c.run_transaction.new.table
+          (transaction_line c.loop-line.number c.loop-line.output c.loop-line.table (sessions_in c.loop-line.inside) c.in-Some.line.now c.loop-line.rest.now c.in-Some.later.now total
+          c.loop-line.invariant.output c.in-Some.ensures.cases.0 (sym c.begins-starts.ensures ∙ c.if-not-starts.false) c.run_transaction.new.output c.run_transaction.new.table
           c.in_ok-run_transaction.ensures.text c.in_ok-run_transaction.ensures.unprintable c.in_ok-run_transaction.ensures.table);
       few = omega (arith, c.in-Some.ensures.cases.1);
     }
@@ -17,7 +17,8 @@ loop-line-preserved c =
 pub returns-clause-unprintable : goal.returns-clause-unprintable
 returns-clause-unprintable c =
     c.in_ok-put_table.ensures.unprintable
-    ∙ ap (λ (lines : List Line). (output_by c.loop-line.number c.loop-line.output c.loop-line.table (sessions_in c.loop-line.inside) lines).unprintable) (sym (nil_from_length _ c.in_default.ensures.cases))
+    ∙ ap (λ (lines : List Line). (output_by c.loop-line.number c.loop-line.output c.loop-line.table (sessions_in c.loop-line.inside) lines).unprintable)
+    (sym (nil_from_length _ c.in_default.ensures.cases))
     ∙ ap (λ (view : TranscriptView). view.unprintable) c.loop-line.invariant.output
 
 pub returns-clause-printed : goal.returns-clause-printed

@@ -14,7 +14,8 @@ returns-in_ok-put_rows-in-Ok-clause-table c = with_rows c.args.statement.now c.a
 
 pub returns-in_ok-put_fault-in-Err-clause-text : goal.returns-in_ok-put_fault-in-Err-clause-text
 returns-in_ok-put_fault-in-Err-clause-text c =
-    line_of_fault c.args.statement.now c.args.table.now c.in-Err.fault _ _ _ c.in_ok-put_statement.ensures.text c.in_ok-put_fault-in-Err.ensures.text c.in-Err.ensures.fault c.in_ok-put_fault-in-Err.ensures.refused
+    line_of_fault c.args.statement.now c.args.table.now c.in-Err.fault _ _ _ c.in_ok-put_statement.ensures.text c.in_ok-put_fault-in-Err.ensures.text
+    c.in-Err.ensures.fault c.in_ok-put_fault-in-Err.ensures.refused
 
 pub returns-in_ok-put_fault-in-Err-clause-table : goal.returns-in_ok-put_fault-in-Err-clause-table
 returns-in_ok-put_fault-in-Err-clause-table c = with_fault c.args.statement.now c.args.table.now c.in-Err.fault c.in-Err.ensures.fault c.in_ok-put_fault-in-Err.ensures.refused
