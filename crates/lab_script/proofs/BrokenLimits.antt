@@ -1,6 +1,7 @@
 -- The limit that a transcript breaks is one that a statement of the script breaks.
-use Rattle.lab_script.proofs.Common.{◌≡◌, ℕ, zero, suc, ◌<◌, Bool, true, false, cond, ◌==◌, List, [], ◌∷◌, ◌++◌, length, get_or, Option, Some, None, refl, sym, ◌∙◌, ◌⊎◌, inl, inr, subst, arith, ◌&&◌, not, nat_lt, IfSome, Contains, ltb-true, none-some, Table, Statement, Command, Line, Script, PrintFault, statement_depth, printed_statement, CommandPrints, AllPrint, SomeLine, statements_on, statements_of, inside_after, is_begin, nobody, transaction_of, transactions, table_with, table_after, Breaks, shown_of, shown, limit_broken, first_broken, unprintable}
+use Rattle.lab_script.proofs.Common.{◌≡◌, ℕ, zero, suc, ◌<◌, Bool, true, false, cond, ◌==◌, List, [], ◌∷◌, ◌++◌, length, get_or, Option, Some, None, refl, sym, ◌∙◌, ◌⊎◌, inl, inr, subst, arith, ◌&&◌, not, nat_lt, IfSome, Contains, ltb-true, none-some, Table, Statement, Command, Line, Script, PrintFault, statement_depth, printed_statement, CommandPrints, AllPrint, SomeLine, body_on, body_of, inside_after, is_begin, nobody, transaction_of, transactions, table_with, table_after, Breaks, shown_of, shown, limit_broken, first_broken, unprintable}
 use Rattle.lab_table.specs.declared.statement.Command.TheVariants.{Begin, Commit, Abort, Run}
+use Rattle.lab_table.proofs.Members.{first_member, later_member}
 use Rattle.lab_statement.specs.declared.print.PrintFault.TheVariants.{TooDeep, TooLong}
 
 -- a command that prints breaks no limit
@@ -21,11 +22,8 @@ module _ (fault : PrintFault) where
   abbrev SomeBreaks : List Line → Type 0
   SomeBreaks lines = (line : Line) × Contains lines line × Breaks fault line.command
 
-  here : (line : Line) (lines : List Line) → Breaks fault line.command → SomeBreaks (line ∷ lines)
-  here line lines h = (line, (0, omega arith, refl), h)
-
   later : (line : Line) (lines : List Line) → SomeBreaks lines → SomeBreaks (line ∷ lines)
-  later line lines (found, (k, below, at), h) = (found, (suc k, omega arith, at), h)
+  later line lines (found, at, h) = (found, later_member line lines found at, h)
 
   too_long : (s : Statement) (b : Bool) → nat_lt 1000 (length (printed_statement s)) ≡ b → cond b (Some TooLong) None ≡ Some fault → Breaks fault (Run s)
   too_long s true is e = let same : TooLong ≡ fault = cc in subst (λ (f : PrintFault). Breaks f (Run s)) same (ltb-true 1000 (length (printed_statement s)) is)
@@ -70,17 +68,17 @@ module _ (fault : PrintFault) where
       ] h)
 
   -- a session's statements are statements of the lines
-  any_on : (c : Command) (after : List Statement) → AnyBreaks (statements_on c after) → Breaks fault c ⊎ AnyBreaks after
-  any_on Begin after h = inr h
-  any_on Commit after h = absurd h
-  any_on Abort after h = absurd h
-  any_on (Run s) after h = h
+  any_on : (c : Command) (later : List Statement × Bool) → AnyBreaks (body_on c later).0 → Breaks fault c ⊎ AnyBreaks later.0
+  any_on Begin later h = inr h
+  any_on Commit later h = absurd h
+  any_on Abort later h = absurd h
+  any_on (Run s) later h = h
 
-  any_of : (session : ℕ) (lines : List Line) → AnyBreaks (statements_of session lines) → SomeBreaks lines
+  any_of : (session : ℕ) (lines : List Line) → AnyBreaks (body_of session lines).0 → SomeBreaks lines
   any_of session [] h = absurd h
   any_of session (line ∷ lines) h =
-      elim (line.session == session) as (λ b. AnyBreaks (cond b (statements_on line.command (statements_of session lines)) (statements_of session lines)) → SomeBreaks (line ∷ lines)) [
-        | true ↦ λ own. elim (any_on line.command (statements_of session lines) own) [ inl at ↦ here line lines at | inr after ↦ later line lines (any_of session lines after) ]
+      elim (line.session == session) as (λ b. AnyBreaks (cond b (body_on line.command (body_of session lines)) (body_of session lines)).0 → SomeBreaks (line ∷ lines)) [
+        | true ↦ λ own. elim (any_on line.command (body_of session lines) own) [ inl at ↦ (line, first_member line lines, at) | inr after ↦ later line lines (any_of session lines after) ]
         | false ↦ λ other. later line lines (any_of session lines other)
       ] h
 
@@ -91,8 +89,8 @@ module _ (fault : PrintFault) where
       let after : ℕ → Bool = inside_after inside line.session line.command in
       elim (is_begin line.command && not (inside line.session)) as
       (λ b. AnyBreaks (shown table (cond b (transaction_of line.session lines ∷ []) [] ++ transactions after lines)) → SomeBreaks (line ∷ lines)) [
-        | true ↦ λ own. elim (any_append (shown_of table (statements_of line.session lines)) (shown (table_after table (transaction_of line.session lines)) (transactions after lines)) own) [
-          | inl first ↦ later line lines (any_of line.session lines (any_shown_of table (statements_of line.session lines) first))
+        | true ↦ λ own. elim (any_append (shown_of table (body_of line.session lines).0) (shown (table_after table (transaction_of line.session lines)) (transactions after lines)) own) [
+          | inl first ↦ later line lines (any_of line.session lines (any_shown_of table (body_of line.session lines).0 first))
           | inr others ↦ later line lines (any_shown after (table_after table (transaction_of line.session lines)) lines others)
         ]
         | false ↦ λ other. later line lines (any_shown after table lines other)

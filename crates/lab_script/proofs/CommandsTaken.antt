@@ -1,5 +1,5 @@
 -- What is read as the commands of a line is in the grammar, and reading stops with few kinds of faults.
-use Rattle.lab_script.proofs.Common.{◌≡◌, ◌⊎◌, ℕ, zero, suc, ◌≤◌, ◌<◌, true, List, [], ◌∷◌, ◌++◌, length, take, Option, Some, None, refl, sym, ap, subst, ◌∙◌, length-append, one-add, arith, inl, inr, append_assoc, append-nil, nat_lt, list_all, prefix_len, take-append-drop, and_from, cases_Bool, leb-true, ltb-true, Command, Token, ScriptFaultKind, Reads, if_found, is_short, is_word, words_read, level_read, command_read, terminated_read, one_added, step_read, repeated_read, some_left, commands_read, IsCommand, IsCommands, Gives, gives, stops, Takes, Any, gives_of, then_gives, each_gives, if_gives, taken, made, found, tokens_give, statement_taken, end_gives}
+use Rattle.lab_script.proofs.Common.{◌≡◌, ◌⊎◌, ℕ, zero, suc, ◌≤◌, ◌<◌, true, List, [], ◌∷◌, ◌++◌, length, take, Some, refl, sym, ap, subst, ◌∙◌, length-append, one-add, arith, inl, inr, append_assoc, append-nil, nat_le, and_parts, ◌&&◌, option_to_list, list_all, prefix_len, take-append-drop, and_from, cases_Bool, leb-true, Command, Token, ScriptFaultKind, Reads, if_found, is_short, is_word, words_read, level_read, command_read, added_read, step_read, repeated_read, some_left, commands_read, IsCommand, IsCommands, Gives, gives, stops, Takes, Any, gives_of, then_gives, each_gives, if_gives, taken, made, found, tokens_give, statement_taken, end_gives}
 use Rattle.lab_table.specs.declared.statement.Command.TheVariants as command
 use Rattle.lab_table.specs.declared.word.Word.TheVariants as word
 use Rattle.lab_statement.specs.declared.token.Token.TheVariants as token
@@ -15,11 +15,6 @@ words_all (t ∷ ts) = elim (cases_Bool (is_word t)) [
   | inr isnt ↦ rw isnt refl
 ]
 
--- the command that a statement gives, if any, as a list
-abbrev pub listed : Option Command → List Command
-listed None = []
-listed (Some c) = c ∷ []
-
 -- words behind these tokens, at least one
 abbrev Worded : List Token → List Token → List Token → Type 0
 Worded front ts rest = (w : Token) × (ws : List Token) × (ts ≡ front ++ w ∷ ws ++ rest) × (list_all is_word (w ∷ ws) ≡ true)
@@ -30,7 +25,7 @@ Closed ts cs rest = (front end : List Token) × (ts ≡ front ++ end) × IsComma
 
 -- the commands of a statement behind others, for which there is room
 abbrev Stepped : ℕ → List Command → List Token → List Command × List Token → Type 0
-Stepped room before ts x = (cs : List Command) × Closed ts cs x.1 × (before ++ cs ≡ x.0) × (length before ≤ room → length x.0 ≤ room)
+Stepped room before ts x = (cs : List Command) × Closed ts cs x.1 × (before ++ cs ≡ x.0) × (length x.0 ≤ room)
 
 -- the commands of all statements, behind others
 abbrev AllStepped : ℕ → List Command → List Token → List Command × List Token → Type 0
@@ -68,7 +63,7 @@ module _ {Fault : ScriptFaultKind → Type 0} (unknown : Fault kinds.UnknownStat
   level_gives ts = then_gives _ (tokens_give unknown (token.Word word.Transaction ∷ token.Word word.Isolation ∷ token.Word word.Level ∷ []) ts) (λ rest is.
       each_gives (words_give rest) (λ left w. (w.0, w.1, is ∙ ap (λ (us : List Token). token.Word word.Transaction ∷ token.Word word.Isolation ∷ token.Word word.Level ∷ us) w.2, w.3)))
 
-  command_taken : (ts : List Token) → Takes Fault (λ front c. is_short c ≡ true → IsCommand front (listed c)) ts (command_read ts)
+  command_taken : (ts : List Token) → Takes Fault (λ front c. is_short c ≡ true → IsCommand front (option_to_list c)) ts (command_read ts)
   unfolding command_read
   command_taken ts = found (token.Word word.Begin) ts _ _ (λ rest. taken [] refl (λ short. grammar.begin))
       (found (token.Word word.Commit) ts _ _ (λ rest. taken [] refl (λ short. grammar.commit))
@@ -78,32 +73,27 @@ module _ {Fault : ScriptFaultKind → Type 0} (unknown : Fault kinds.UnknownStat
       taken (token.Word word.Transaction ∷ token.Word word.Isolation ∷ token.Word word.Level ∷ w.0 ∷ w.1) w.2 (λ short. grammar.level w.0 w.1 w.3)))
       (made (λ s. Some (command.Run s)) (statement_taken unknown name range deep ts) (λ s front is short. grammar.run is (leb-true _ _ short)))))))
 
-  terminated_gives : (ts : List Token) → Gives Fault (λ x. Closed ts (listed x.0) x.1) (terminated_read ts)
-  unfolding terminated_read
-  terminated_gives ts = then_gives _ (command_taken ts) (λ c h. then_gives _ (end_gives unknown name range deep c.1) (λ rest end.
-      if_gives (is_short c.0) (λ short. gives (h.front, c.1, h.text, h.is short, end)) (λ not. stops long)))
-
-  added_gives : (room : ℕ) (before : List Command) (c : Option Command) (left : List Token)
-      → Gives Fault (λ ds. (before ++ listed c ≡ ds) × (length before ≤ room → length ds ≤ room)) (one_added room before c left)
-  added_gives room before None left = gives (append-nil before, λ le. le)
-  added_gives room before (Some c) left =
-      if_gives (nat_lt (length before) room)
-      (λ lt. let less : length before < room = ltb-true _ _ lt in gives (refl, λ le. omega (arith, less, length-append before (c ∷ []))))
-      (λ not. stops long)
+  added_taken : (before : List Command) (ts : List Token) → Takes Fault (λ front x. x.1 ≡ true → (cs : List Command) × IsCommand front cs × (before ++ cs ≡ x.0)) ts (added_read before ts)
+  unfolding added_read
+  added_taken before ts = made (λ c. (before ++ option_to_list c, is_short c)) (command_taken ts) (λ c front is short. (option_to_list c, is short, refl))
 
   step_gives : (room : ℕ) (before : List Command) (ts : List Token) → Gives Fault (Stepped room before ts) (step_read room before ts)
   unfolding step_read
-  step_gives room before ts = then_gives _ (terminated_gives ts) (λ c h. then_gives _ (added_gives room before c.0 c.1) (λ ds d. gives (listed c.0, h, d.0, d.1)))
+  step_gives room before ts = then_gives _ (added_taken before ts) (λ c h. then_gives _ (end_gives unknown name range deep c.1) (λ rest end.
+      if_gives (c.0.1 && nat_le (length c.0.0) room) (λ fits.
+      let both = and_parts c.0.1 _ fits in
+      let is = h.is both.0 in
+      gives (is.0, (h.front, c.1, h.text, is.1, end), is.2, leb-true _ _ both.1)) (λ not. stops long)))
 
-  all_give : (k room : ℕ) (before : List Command) (ts : List Token) → length before ≤ room → Gives Fault (AllStepped room before ts) (repeated_read k (step_read room) some_left before ts)
+  all_give : (k room : ℕ) (before : List Command) (ts : List Token) → Gives Fault (AllStepped room before ts) (repeated_read k (step_read room) some_left before ts)
   unfolding repeated_read
-  all_give zero room before ts le = stops unknown
-  all_give (suc k) room before ts le = then_gives _ (step_gives room before ts) (on (all_give k room))
+  all_give zero room before ts = stops unknown
+  all_give (suc k) room before ts = then_gives _ (step_gives room before ts) (on (all_give k room))
     where
-      on : ((all : List Command) (others : List Token) → length all ≤ room → Gives Fault (AllStepped room all others) (repeated_read k (step_read room) some_left all others))
+      on : ((all : List Command) (others : List Token) → Gives Fault (AllStepped room all others) (repeated_read k (step_read room) some_left all others))
           → (x : List Command × List Token) → Stepped room before ts x → Gives Fault (AllStepped room before ts) (if_found (some_left x.1) (λ rest. repeated_read k (step_read room) some_left x.0 rest) (Reads x))
-      on next (all, []) (cs, h, joined, few) = gives ((cs, closed_last ts cs [] refl h, joined), few le)
-      on next (all, t ∷ others) (cs, h, joined, few) = each_gives (next all (t ∷ others) (few le)) (λ y m. (
+      on next (all, []) (cs, h, joined, few) = gives ((cs, closed_last ts cs [] refl h, joined), few)
+      on next (all, t ∷ others) (cs, h, joined, few) = each_gives (next all (t ∷ others)) (λ y m. (
         (cs ++ m.0.0, closed_more ts cs m.0.0 t others h m.0.1, sym (append_assoc before cs m.0.0) ∙ ap (λ (ds : List Command). ds ++ m.0.0) joined ∙ m.0.2),
         m.1,
       ))
@@ -111,7 +101,7 @@ module _ {Fault : ScriptFaultKind → Type 0} (unknown : Fault kinds.UnknownStat
   -- what is read of a line is its commands in the grammar, and there is room for them
   pub commands_give : (room : ℕ) (ts : List Token) → Gives Fault (λ cs. IsCommands ts cs × (length cs ≤ room)) (commands_read room ts)
   unfolding commands_read
-  commands_give room ts = then_gives _ (all_give (suc (length ts)) room [] ts (omega arith)) (λ x h. gives (subst (IsCommands ts) h.0.2 h.0.1, h.1))
+  commands_give room ts = then_gives _ (all_give (suc (length ts)) room [] ts) (λ x h. gives (subst (IsCommands ts) h.0.2 h.0.1, h.1))
 
 pub step_short : (room : ℕ) (before : List Command) (ts : List Token) (x : List Command × List Token) → step_read room before ts ≡ Reads x → length x.1 < length ts
 step_short room before ts x e = let s = gives_of x (step_gives {Fault = Any} tt tt tt tt tt room before ts) e in closed_short ts s.0 x.1 s.1

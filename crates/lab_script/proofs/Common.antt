@@ -12,21 +12,21 @@ pub use Rattle.std.proofs.lemmas.Option.{slice_get_within}
 pub use Rattle.std.proofs.lemmas.Result.{on_ok_weaker}
 pub use Rattle.std.specs.FinMap.{contains_key, empty, find, from_entries, from_entries_push, get-from_entries, insert}
 pub use Rattle.std.specs.List.{Contains, onto_first, slice_split}
-pub use Rattle.std.specs.Prelude.{IfErr, IfOk, IfSome, MatchResult, nat_lt, ok_or, slice_get, slice_index}
+pub use Rattle.std.specs.Prelude.{IfErr, IfOk, IfSome, MatchResult, OnOk, nat_lt, ok_or, option_to_list, slice_get, slice_index}
 pub use Rattle.std.specs.Str.Lines.{lines, lines_of_parts, strip_carriage_return}
 pub use Rattle.lab_script.specs.Fault.{IsFaultAt, IsFaultOf, IsFaultyLine, TellsOfTokens, first_fault, is_over, remark_fault, tokens_fault}
-unfoldable pub use Rattle.lab_script.specs.FirstFaults.{command_read, commands_read, level_read, named_row_read, repeated_read, row_onto_read, row_table_read, rows_read, setup_end_read, setup_read, step_read, table_read, terminated_read, words_read}
-pub use Rattle.lab_script.specs.FirstFaults.{commands_fault, commands_placed, one_added, passed, setup_ended, setup_fault, setup_placed, some_left}
+unfoldable pub use Rattle.lab_script.specs.FirstFaults.{added_read, command_read, commands_read, level_read, named_row_read, repeated_read, row_onto_read, row_table_read, rows_read, setup_end_read, setup_read, step_read, table_read, words_read}
+pub use Rattle.lab_script.specs.FirstFaults.{commands_fault, commands_placed, passed, setup_ended, setup_fault, setup_placed, some_left}
 pub use Rattle.lab_script.specs.Grammar.{AllDistinct, IsCommand, IsCommands, IsNamedRow, IsRowList, IsRows, IsSetup}
 pub use Rattle.lab_script.specs.Limits.{AllPrint, ScriptPrints, SomeLine, max_commands}
 pub use Rattle.lab_script.specs.PassedTables.{is_behind_set, setup_table, statement_table, statement_tables, token_table, with_named, with_setup_tokens, with_tokens}
 pub use Rattle.lab_script.specs.Printed.{named_rows_or, printed_line, printed_named_row, printed_named_rows, printed_script, printed_setup}
 pub use Rattle.lab_script.specs.Ranges.{EntryInRange, LineInRange, ScriptInRange, SessionInRange}
 pub use Rattle.lab_script.specs.Script.{BeginsLongSetup, IsFit, LineSpells, LinesSpell, Spells, TokensSpell, begins_setup, extended, is_ascii_code, is_passed, session_digit, session_of}
-pub use Rattle.lab_script.specs.Tables.{line_table, script_tables, setup_tables, tables_so_far, with_all, with_any, with_command, with_commands, with_lines, with_rows}
+pub use Rattle.lab_script.specs.Tables.{command_table, line_table, script_tables, setup_tables, tables_so_far, with_all, with_any, with_commands, with_lines, with_rows}
 unfoldable pub use Rattle.lab_script.specs.Transcript.{statement_text, table_with}
-pub use Rattle.lab_script.specs.Transcript.{Transaction, answer_text, body_text, commits_of, committed, inside_after, is_begin, kind_refusal_text, nobody, refusal_text, row_text, serial_text, sessions_in, statements_of, statements_on, table_after, transaction_of, transaction_text, transactions, transcript}
-pub use Rattle.lab_script.specs.TranscriptView.{Breaks, TranscriptView, broken_with, fault_text, first_broken, limit_broken, shown, shown_of, unprintable}
+pub use Rattle.lab_script.specs.Transcript.{Transaction, answer_text, body_of, body_on, body_text, committed, inside_after, is_begin, kind_refusal_text, nobody, refusal_text, row_text, serial_text, sessions_in, table_after, transaction_of, transaction_text, transactions, transcript}
+pub use Rattle.lab_script.specs.TranscriptView.{Breaks, TranscriptView, fault_text, first_broken, limit_broken, shown, shown_of, unprintable}
 pub use Rattle.lab_script.specs.declared.script.Line.{Line}
 pub use Rattle.lab_script.specs.declared.script.Script.{Script}
 pub use Rattle.lab_statement.proofs.GrammarFaults.{are_four, fault_is, faultless, no_fifth, no_statement_fault, valued}

@@ -1,9 +1,7 @@
 -- Lists of rows in which no row comes twice, and the tables that they make.
-use Rattle.lab_script.proofs.Common.{◌≡◌, ℤ, true, false, cond, T, List, [], ◌∷◌, ◌++◌, Option, Some, None, is_some, refl, sym, ap, ◌∙◌, inl, inr, find, insert, contains_key, from_entries, from_entries_push, get-from_entries, cases_Bool, true≢false, none-some, Row, row_cmp, row_eq, rows_total, rows_apart, Table, both, AllDistinct}
+use Rattle.lab_script.proofs.Common.{◌≡◌, ℤ, true, false, cond, T, List, [], ◌∷◌, ◌++◌, Option, Some, None, is_some, refl, sym, ap, ◌∙◌, inl, inr, find, contains_key, from_entries, get-from_entries, cases_Bool, true≢false, none-some, Row, row_cmp, row_eq, rows_total, Table, both, AllDistinct}
 use Rattle.std.specs.FinMap.Entries.{below_all, find-append, is_sorted}
-use Rattle.std.specs.Ordering.{is_eq, is_lt}
-use Rattle.lab_table.proofs.Maps.{same_row, row_eq_self}
-use Rattle.lab_table.proofs.Orderings.{is_less}
+use Rattle.lab_table.proofs.Maps.{find_below, same_row, row_eq_self}
 
 -- the table that rows make
 abbrev pub table_of : List (Row × ℤ) → Table
@@ -52,10 +50,6 @@ absent_from before id h = found_none (find row_cmp id before) (sym (is_here befo
 pub is_absent : (before : List (Row × ℤ)) (id : Row) → find row_cmp id before ≡ None → contains_key (table_of before) id ≡ false
 is_absent before id none = is_here before id ∙ ap is_some none
 
--- a new row behind others is inserted into their table
-pub pushed_table : (before : List (Row × ℤ)) (row : Row × ℤ) → find row_cmp row.0 before ≡ None → table_of (before ++ row ∷ []) ≡ insert (table_of before) row.0 row.1
-pushed_table before row none = from_entries_push rows_total rows_apart before row.0 row.1 none
-
 -- distinct rows and a new one behind them are distinct
 pub pushed_distinct : (before : List (Row × ℤ)) (row : Row × ℤ) → AllDistinct before → find row_cmp row.0 before ≡ None → AllDistinct (before ++ row ∷ [])
 pushed_distinct [] row all none = (refl, tt)
@@ -66,16 +60,9 @@ pushed_distinct (first ∷ before) row all none =
       pushed_distinct before row all.1 parts.1,
     )
 
--- a row below all others isn't found among them
-below_none : (id : Row) (rows : List (Row × ℤ)) → T (below_all row_cmp id rows) → find row_cmp id rows ≡ None
-below_none id [] below = refl
-below_none id (row ∷ rows) below =
-    let parts = both (is_lt (row_cmp id row.0)) (below_all row_cmp id rows) below in
-    ap (λ o. cond (is_eq o) (Some row.1) (find row_cmp id rows)) (is_less _ parts.0) ∙ below_none id rows parts.1
-
 -- rows in order are distinct
 pub sorted_distinct : (rows : List (Row × ℤ)) → T (is_sorted row_cmp rows) → AllDistinct rows
 sorted_distinct [] sorted = tt
 sorted_distinct (row ∷ rows) sorted =
     let parts = both (below_all row_cmp row.0 rows) (is_sorted row_cmp rows) sorted in
-    (below_none row.0 rows parts.0, sorted_distinct rows parts.1)
+    (find_below row.0 rows parts.0, sorted_distinct rows parts.1)

@@ -1,5 +1,5 @@
 -- Where a text has its first fault, read line by line.
-use Rattle.lab_script.proofs.Common.{◌≡◌, ℕ, ◌+◌, ◌≤◌, Bool, true, false, List, [], ◌∷◌, ◌++◌, length, take, Option, Some, None, Result, Ok, Err, refl, sym, ap, subst, ◌∙◌, inl, inr, arith, length-append, append_assoc, ◌-◌, if◌then◌else◌, slice_get, MatchResult, IfOk, IfErr, ok_or, lines, le-ltb, append-nil, take_at, none-some, same_Some, ScriptFault, ScriptFaultKind, Script, Token, tokens, code_of, remark_of, commands_fault, setup_fault, max_commands, ScriptPrints, is_passed, IsFit, LineSpells, LinesSpell, Spells, script_tables, first_fault, tokens_fault, IsFaultAt, IsFaultOf, slice_get-middle}
+use Rattle.lab_script.proofs.Common.{IfSome, ◌≡◌, ℕ, ◌+◌, ◌≤◌, Bool, true, false, List, [], ◌∷◌, ◌++◌, length, take, Option, Some, None, Result, Ok, Err, refl, sym, ap, subst, ◌∙◌, inl, inr, arith, length-append, append_assoc, ◌-◌, if◌then◌else◌, slice_get, MatchResult, IfOk, IfErr, ok_or, lines, append-nil, take_at, none-some, same_Some, ScriptFault, ScriptFaultKind, Script, Token, tokens, code_of, commands_fault, setup_fault, max_commands, ScriptPrints, is_passed, LineSpells, LinesSpell, Spells, script_tables, first_fault, IsFaultAt, IsFaultOf, slice_get-middle}
 use Rattle.lab_statement.specs.declared.fault.ScriptFault.TheVariants as fault
 use Rattle.lab_statement.specs.declared.fault.ScriptFaultKind.TheVariants as kinds
 use Rattle.lab_script.specs.Script as script
@@ -7,7 +7,7 @@ use Rattle.lab_script.proofs.LineFaults.{no_commands_fault, no_setup_fault, line
 use Rattle.lab_script.proofs.OneFault.{none_at_all}
 use Rattle.lab_script.proofs.ReadCommands.{no_setup}
 use Rattle.lab_script.proofs.ReadSetup.{setup_begins}
-use Rattle.lab_script.proofs.ScriptLines.{fit_of, lines_once, lines_join, IsFew, line_few, spelled_prints}
+use Rattle.lab_script.proofs.ScriptLines.{fit_fault, fit_of, lines_once, lines_join, line_prints}
 
 -- the lines so far, of which there are so many, spell nothing yet or a script, and these are left
 pub record IsReadTo (text : List ℕ) (number : ℕ) (rest : List (List ℕ)) (script : Option Script) : Type 0 where
@@ -16,10 +16,10 @@ pub record IsReadTo (text : List ℕ) (number : ℕ) (rest : List (List ℕ)) (s
   pub counted : length front ≡ number
   pub spelled : LinesSpell 1 None front script
   pub within : number ≤ 2000
-  pub few : IsFew script
+  pub prints : IfSome script ScriptPrints
 
 pub none_read : (text : List ℕ) → IsReadTo text 0 (lines text) None
-none_read text = record { front = []; whole = refl; counted = refl; spelled = refl; within = omega arith; few = tt }
+none_read text = record { front = []; whole = refl; counted = refl; spelled = refl; within = omega arith; prints = tt }
 
 pub one_more_read : {text : List ℕ} {number : ℕ} {line : List ℕ} {rest : List (List ℕ)} {before after : Option Script}
     → IsReadTo text number (line ∷ rest) before → LineSpells (number + 1) line before after → IsReadTo text (number + 1) rest after
@@ -29,7 +29,7 @@ one_more_read {text} {number} {line} {rest} {before} {after} read spells = recor
   counted = length-append read.front (line ∷ []) ∙ ap (λ (n : ℕ). n + 1) read.counted;
   spelled = lines_join 1 None read.front (line ∷ []) before after read.spelled (after, subst (λ (n : ℕ). LineSpells n line before after) place spells, refl);
   within = (fit_of spells).lines;
-  few = line_few spells read.few;
+  prints = line_prints spells read.prints;
 }
   where
     place : number + 1 ≡ 1 + length read.front
@@ -37,11 +37,6 @@ one_more_read {text} {number} {line} {rest} {before} {after} read spells = recor
 
 pub all_read : {text : List ℕ} {number : ℕ} {script : Option Script} → IsReadTo text number [] script → LinesSpell 1 None (lines text) script
 all_read {script = script} read = subst (λ (ls : List (List ℕ)). LinesSpell 1 None ls script) (sym (read.whole ∙ append-nil read.front)) read.spelled
-
--- a line that may have its number has the faults of its tokens
-fit_fault : {number : ℕ} {line : List ℕ} (before : Option Script) → IsFit number line
-    → first_fault number line before ≡ (if is_passed line then None else tokens_fault (tokens (code_of line)) (remark_of line) before)
-fit_fault {number} {line} before fit = rw (le-ltb 2000 number fit.lines, le-ltb 4000 (length line) fit.bytes, fit.ascii) refl
 
 unless_passed : (passed : Bool) (found : Option ScriptFaultKind) → found ≡ None → (if passed then None else found) ≡ None
 unless_passed true found none = refl
@@ -100,15 +95,19 @@ pub line_faults : {text : List ℕ} {number : ℕ} {line : List ℕ} {rest : Lis
 line_faults read fault.NoMemory is = tt
 line_faults {text} read (fault.At n kind) is = subst (λ (m : ℕ). IsFaultOf text (fault.At m kind)) (sym is.0) (line_fault read is.1)
 
+-- a script that was read of a whole text
+abbrev pub IsRead : List ℕ → Script → Type 0
+IsRead text s = Spells text s × ScriptPrints s
+
 -- what was read of a whole text
 pub whole_read : {text : List ℕ} {number : ℕ} (script : Option Script) → IsReadTo text number [] script
-    → MatchResult (ok_or script (fault.At (number + 1) kinds.NoSetup)) (λ r. Spells text r) (IsFaultOf text)
-whole_read (Some s) read = all_read read
+    → MatchResult (ok_or script (fault.At (number + 1) kinds.NoSetup)) (IsRead text) (IsFaultOf text)
+whole_read (Some s) read = (all_read read, read.prints)
 whole_read None read = end_fault read
 
 -- what reading a text gave is the one script that it spells, which prints, or its fault
-pub all_told : (text : List ℕ) (result : Result Script ScriptFault) → MatchResult result (λ r. Spells text r) (IsFaultOf text)
+pub all_told : (text : List ℕ) (result : Result Script ScriptFault) → MatchResult result (IsRead text) (IsFaultOf text)
     → IfOk result (λ r. Spells text r) × ((s : Script) → Spells text s → MatchResult result (λ r. r ≡ s) (λ f. f ≡ fault.NoMemory)) × IfOk result ScriptPrints × IfErr result (IsFaultOf text)
-all_told text (Ok r) is = (is, λ s spells. same_Some r s (lines_once 1 None (lines text) is spells), spelled_prints text r is, tt)
+all_told text (Ok r) is = (is.0, λ s spells. same_Some r s (lines_once 1 None (lines text) is.0 spells), is.1, tt)
 all_told text (Err fault.NoMemory) is = (tt, λ s spells. refl, tt, is)
 all_told text (Err (fault.At number kind)) is = (tt, λ s spells. absurd (fault_spells_nothing text number kind s is spells), tt, is)

@@ -4,7 +4,6 @@ mod CommandsTaken
 mod SetupTaken
 pub mod ReadSetup
 pub mod ReadCommands
-pub mod Remarks
 pub mod ScriptLines
 pub mod TextLines
 pub mod FirstFault

@@ -1,6 +1,6 @@
 -- What stands behind the first 8,388,609 bytes of a text doesn't matter to what it spells: a script has at most 2,000 lines,
 -- each of at most 4,000 bytes and what ends it.
-use Rattle.lab_script.proofs.Common.{◌≡◌, ℕ, zero, suc, ◌+◌, ◌-◌, ◌<◌, ◌≤◌, ◌==◌, min, Bool, true, false, cond, List, [], ◌∷◌, ◌++◌, length, take, get_or, refl, sym, ap, ◌∙◌, inl, inr, ⊎_elim, arith, length-append, ◌*◌, drop, Option, Some, None, subst, lines, strip_carriage_return, cases_Bool, cases_lt, lt-ltb, true≢false, length-take, append-nil, take_all, take_at, take-append-le, take-append-drop, length-drop, eqb-suc-zero, nat_lt, slice_get, slice_get_within, ScriptFault, ScriptFaultKind, Script, LinesSpell, Spells, is_over, IsFaultyLine, IsFaultOf, slice_get-middle}
+use Rattle.lab_script.proofs.Common.{◌≡◌, ℕ, zero, suc, ◌+◌, ◌-◌, ◌<◌, ◌≤◌, ◌==◌, min, Bool, true, false, cond, List, [], ◌∷◌, ◌++◌, length, take, get_or, refl, sym, ap, ◌∙◌, inl, inr, ⊎_elim, arith, length-append, ◌*◌, drop, Option, Some, None, subst, lines, strip_carriage_return, cases_Bool, cases_lt, lt-ltb, true≢false, length-take, append-nil, take_all, take_at, take-append-le, take-append-drop, length-drop, eqb-suc-zero, nat_lt, slice_get, slice_get_within, ScriptFault, ScriptFaultKind, Script, LinesSpell, Spells, is_over, IsFaultyLine, IsFaultOf, slice_get-middle, same_Some, first_fault, TellsOfTokens, tokens, code_of, LineSpells}
 use Rattle.lab_script.proofs.TextLines.{lines_behind, lines_are}
 use Rattle.std.proofs.Math.Bool.{or-true}
 use Rattle.lab_script.proofs.ScriptLines.{fit_of, lines_front}
@@ -49,21 +49,15 @@ alone : (tail : List ℕ) → 0 < length tail → lines_behind tail [] ≡ tail 
 alone [] some = absurd (omega arith)
 alone (b ∷ bytes) some = ap (λ (v : Bool). cond v [] ((b ∷ bytes) ∷ [])) (eqb-suc-zero (length bytes))
 
--- the line that bytes without a newline begin, where others follow
-record IsFirst (tail more : List ℕ) : Type 0 where
-  line : List ℕ
-  others : List (List ℕ)
-  is : lines_behind tail more ≡ line ∷ others
-  size : length tail ≤ length line + 1
-
-first_of : (tail more : List ℕ) → 0 < length tail + length more → IsFirst tail more
-first_of tail [] some = record { line = tail; others = []; is = alone tail (omega arith); size = omega arith }
+-- the line that bytes without a newline begin, those behind it, and how long it is
+first_of : (tail more : List ℕ) → 0 < length tail + length more → (line : List ℕ) × (others : List (List ℕ)) × (lines_behind tail more ≡ line ∷ others) × (length tail ≤ length line + 1)
+first_of tail [] some = (tail, [], alone tail (omega arith), omega arith)
 first_of tail (b ∷ more) some = elim (cases_Bool (b == 10)) [
-  | inl is ↦ record { line = strip_carriage_return tail; others = lines_behind [] more; is = rw is refl; size = stripped tail }
+  | inl is ↦ (strip_carriage_return tail, lines_behind [] more, rw is refl, stripped tail)
   | inr isnt ↦
       let len = length-append tail (b ∷ []) in
       let first = first_of (tail ++ b ∷ []) more (omega (arith, len)) in
-      record { line = first.line; others = first.others; is = rw isnt first.is; size = omega (arith, len, first.size) }
+      (first.0, first.1, rw isnt first.2, omega (arith, len, first.3))
 ]
 
 -- lines that spell something are few and short
@@ -78,8 +72,11 @@ light : (ls : List (List ℕ)) (after : Option Script) → LinesSpell 1 None ls 
 light ls after spells = let small = few_short 1 None after ls spells (omega arith) in omega (arith, small.0, small.1)
 
 module _ {text : List ℕ} (up : IsCutUp [] text) where
+  lines_with : (more : List ℕ) → lines (text ++ more) ≡ up.ended ++ lines_behind up.tail more
+  lines_with more = lines_are (text ++ more) ∙ up.lines_are more
+
   lines_here : lines text ≡ up.ended ++ lines_behind up.tail []
-  lines_here = lines_are text ∙ ap (lines_behind []) (sym (append-nil text)) ∙ up.lines_are []
+  lines_here = ap lines (sym (append-nil text)) ∙ lines_with []
 
   -- a text whose lines spell something is short
   spelled_size : (after : Option Script) → LinesSpell 1 None (lines text) after → length text ≤ 8008000
@@ -107,106 +104,79 @@ over number line long = rw (lt-ltb 4000 (length line) long) (or-true (nat_lt 200
 
 -- text that is longer than a script is, and more behind it
 module _ (text more : List ℕ) (up : IsCutUp [] text) (long : 8388608 < length text) (some : 0 < length more) where
-  lines_there : lines (text ++ more) ≡ up.ended ++ lines_behind up.tail more
-  lines_there = lines_are (text ++ more) ∙ up.lines_are more
-
   same_front : (i : ℕ) → i ≤ length up.ended → take i (lines text) ≡ take i (lines (text ++ more))
   same_front i le =
-      ap (take i) (lines_here up) ∙ take-append-le i up.ended (lines_behind up.tail []) le ∙ sym (take-append-le i up.ended (lines_behind up.tail more) le) ∙ sym (ap (take i) lines_there)
+      ap (take i) (lines_here up) ∙ take-append-le i up.ended (lines_behind up.tail []) le ∙ sym (take-append-le i up.ended (lines_behind up.tail more) le) ∙ sym (ap (take i) (lines_with up more))
 
   same_line : (i : ℕ) → i < length up.ended → slice_get (lines text) i ≡ slice_get (lines (text ++ more)) i
   same_line i lt =
-      ap (λ (ls : List (List ℕ)). slice_get ls i) (lines_here up) ∙ got up.ended (lines_behind up.tail []) (lines_behind up.tail more) i lt ∙ sym (ap (λ (ls : List (List ℕ)). slice_get ls i) lines_there)
+      ap (λ (ls : List (List ℕ)). slice_get ls i) (lines_here up) ∙ got up.ended (lines_behind up.tail []) (lines_behind up.tail more) i lt
+      ∙ sym (ap (λ (ls : List (List ℕ)). slice_get ls i) (lines_with up more))
 
-  same_spelled : (i : ℕ) (script : Option Script) → i ≤ length up.ended → LinesSpell 1 None (take i (lines text)) script → LinesSpell 1 None (take i (lines (text ++ more))) script
-  same_spelled i script le spells = subst (λ (ls : List (List ℕ)). LinesSpell 1 None ls script) (same_front i le) spells
+  module _ {number : ℕ} {kind : ScriptFaultKind} (line : IsFaultyLine text number kind) where
+    -- where this line stands in all of the text, with the same fault, it is faulty there
+    moved : (there : List ℕ) → line.index ≤ length up.ended → slice_get (lines (text ++ more)) line.index ≡ Some there → ((after : Option Script) → LineSpells number there line.before after → ⊥)
+        → first_fault number there line.before ≡ Some kind → (is_over number there ≡ false → TellsOfTokens kind (tokens (code_of there)) line.before) → IsFaultOf (text ++ more) (fault.At number kind)
+    moved there le stands faulty first tells = inl (record {
+      index = line.index;
+      counted = line.counted;
+      line = there;
+      stands = stands;
+      before = line.before;
+      spelled = subst (λ (ls : List (List ℕ)). LinesSpell 1 None ls line.before) (same_front line.index le) line.spelled;
+      faulty = faulty;
+      first = first;
+      tells = tells;
+    })
 
-  -- a fault in a line that ends in the text
-  early : (number : ℕ) (kind : ScriptFaultKind) → number ≤ length up.ended → IsFaultyLine text number kind → IsFaultOf (text ++ more) (fault.At number kind)
-  early number kind le line =
-      let counted : number ≡ line.index + 1 = line.counted in
-      inl (record {
-        index = line.index;
-        counted = counted;
-        line = line.line;
-        stands = sym (same_line line.index (omega arith)) ∙ line.stands;
-        before = line.before;
-        spelled = same_spelled line.index line.before (omega arith) line.spelled;
-        faulty = line.faulty;
-        first = line.first;
-        tells = line.tells;
-      })
+    -- a line that ends in the text
+    early : line.index < length up.ended → IsFaultOf (text ++ more) (fault.At number kind)
+    early lt = moved line.line (omega (arith, lt)) (sym (same_line line.index lt) ∙ line.stands) line.faulty line.first line.tells
 
-  -- a fault in the line that the text's end cuts, which is too long
-  module _ (number : ℕ) (kind : ScriptFaultKind) (last : length up.ended < number) (within : number ≤ length (lines text)) (line : IsFaultyLine text number kind) where
-    first : IsFirst up.tail more
-    first = first_of up.tail more (omega arith)
+    -- the line that the text's end cuts, which is too long
+    module _ (last : length up.ended ≤ line.index) where
+      at_end : (line.index ≡ length up.ended) × (0 < length up.tail)
+      at_end = at up.tail (ap length (lines_here up))
+        where
+          inside : line.index < length (lines text)
+          inside = slice_get_within (lines text) line.index line.line line.stands
 
-    has_tail : 0 < length up.tail
-    has_tail = at up.tail (lines_here up)
-      where
-        at : (tail : List ℕ) → lines text ≡ up.ended ++ lines_behind tail [] → 0 < length tail
-        at [] here = let size : length (lines text) ≡ length up.ended = ap length (here ∙ append-nil up.ended) in absurd (omega arith)
-        at (b ∷ bytes) here = omega arith
+          at : (tail : List ℕ) → length (lines text) ≡ length (up.ended ++ lines_behind tail []) → (line.index ≡ length up.ended) × (0 < length tail)
+          at [] size = absurd (omega (arith, inside, size ∙ ap length (append-nil up.ended), last))
+          at (b ∷ bytes) size = (omega (arith, inside, size ∙ ap (λ ls. length (up.ended ++ ls)) (alone (b ∷ bytes) (omega arith)) ∙ length-append up.ended ((b ∷ bytes) ∷ []), last), omega arith)
 
-    here : lines text ≡ up.ended ++ up.tail ∷ []
-    here = lines_here up ∙ ap (λ (ls : List (List ℕ)). up.ended ++ ls) (alone up.tail has_tail)
+      wide : 4001 < length up.tail
+      wide =
+          let spelled : LinesSpell 1 None up.ended line.before =
+          subst (λ (ls : List (List ℕ)). LinesSpell 1 None ls line.before) (ap (take line.index) (lines_here up) ∙ take_at up.ended (lines_behind up.tail []) line.index (sym at_end.0)) line.spelled in
+          omega (arith, light up.ended line.before spelled, up.sized, long)
 
-    there : lines (text ++ more) ≡ up.ended ++ first.line ∷ first.others
-    there = lines_there ∙ ap (λ (ls : List (List ℕ)). up.ended ++ ls) first.is
+      -- whatever stands behind the text, a long line stands there
+      stands_there : (others : List ℕ) → (there : List ℕ) × (slice_get (lines (text ++ others)) line.index ≡ Some there) × (4000 < length there)
+      stands_there others =
+          let first = first_of up.tail others (omega (arith, at_end.1)) in (
+            first.0,
+            ap (λ (ls : List (List ℕ)). slice_get ls line.index) (lines_with up others ∙ ap (λ (ls : List (List ℕ)). up.ended ++ ls) first.2)
+                ∙ ap (slice_get (up.ended ++ first.0 ∷ first.1)) at_end.0 ∙ slice_get-middle up.ended first.0 first.1,
+            omega (arith, first.3, wide),
+          )
 
-    at_end : line.index ≡ length up.ended
-    at_end =
-        let size : length (lines text) ≡ length up.ended + length (up.tail ∷ []) = ap length here ∙ length-append up.ended (up.tail ∷ []) in
-        let counted : number ≡ line.index + 1 = line.counted in
-        omega arith
-
-    before_it : LinesSpell 1 None up.ended line.before
-    before_it =
-        subst (λ (ls : List (List ℕ)). LinesSpell 1 None ls line.before) (ap (take line.index) (lines_here up) ∙ take_at up.ended (lines_behind up.tail []) line.index (sym at_end)) line.spelled
-
-    wide : 4001 < length up.tail
-    wide = let small = light up.ended line.before before_it in let size = up.sized in omega arith
-
-    is_tail : line.line ≡ up.tail
-    is_tail =
-        let stands : slice_get (up.ended ++ up.tail ∷ []) line.index ≡ Some line.line = sym (ap (λ (ls : List (List ℕ)). slice_get ls line.index) here) ∙ line.stands in
-        let seen : slice_get (up.ended ++ up.tail ∷ []) line.index ≡ Some up.tail = ap (slice_get (up.ended ++ up.tail ∷ [])) at_end ∙ slice_get-middle up.ended up.tail [] in
-        cc
-
-    wide_here : 4000 < length line.line
-    wide_here = let same : length line.line ≡ length up.tail = ap length is_tail in let more_than = wide in omega arith
-
-    wide_there : 4000 < length first.line
-    wide_there = let size : length up.tail ≤ length first.line + 1 = first.size in let more_than = wide in omega arith
-
-    late : IsFaultOf (text ++ more) (fault.At number kind)
-    late =
-        let place = at_end in
-        inl (record {
-          index = line.index;
-          counted = line.counted;
-          line = first.line;
-          stands = ap (slice_get (lines (text ++ more))) at_end ∙ ap (λ (ls : List (List ℕ)). slice_get ls (length up.ended)) there ∙ slice_get-middle up.ended first.line first.others;
-          before = line.before;
-          spelled = same_spelled line.index line.before (omega arith) line.spelled;
-          faulty = λ after spells. let fit = fit_of spells in let short : length first.line ≤ 4000 = fit.bytes in let over = wide_there in omega arith;
-          first = rw (over number first.line wide_there) (sym (rw (over number line.line wide_here) refl) ∙ line.first);
-          tells = λ within. absurd (true≢false (sym (over number first.line wide_there) ∙ within));
-        })
+      late : IsFaultOf (text ++ more) (fault.At number kind)
+      late =
+          let here = stands_there [] in
+          let there = stands_there more in
+          let same : here.0 ≡ line.line = same_Some here.0 line.line (sym here.1 ∙ ap (λ (bytes : List ℕ). slice_get (lines bytes) line.index) (append-nil text) ∙ line.stands) in
+          let is_here : is_over number line.line ≡ true = over number line.line (subst (λ (l : List ℕ). 4000 < length l) same here.2) in
+          let is_there : is_over number there.0 ≡ true = over number there.0 there.2 in
+          moved there.0 (omega (arith, at_end.0)) there.1 (λ after spells. omega (arith, (fit_of spells).bytes, there.2)) (rw is_there (sym (rw is_here refl) ∙ line.first))
+          (λ within. absurd (true≢false (sym is_there ∙ within)))
 
   too_long : (after : Option Script) → LinesSpell 1 None (lines text) after → ⊥
   too_long after spells = let size = spelled_size up after spells in omega arith
 
   fault_stays : (f : ScriptFault) → IsFaultOf text f → IsFaultOf (text ++ more) f
   fault_stays fault.NoMemory is = tt
-  fault_stays (fault.At number kind) (inl line) =
-      let inside : line.index < length (lines text) = slice_get_within (lines text) line.index line.line line.stands in
-      let counted : number ≡ line.index + 1 = line.counted in
-      ⊎_elim
-      (λ (last : length up.ended < number). late number kind last (omega arith) line)
-      (λ (le : number ≤ length up.ended). early number kind le line)
-      (cases_lt (length up.ended) number)
+  fault_stays (fault.At number kind) (inl line) = ⊎_elim (early line) (late line) (cases_lt line.index (length up.ended))
   fault_stays (fault.At number kind) (inr without) = absurd (too_long None without.spelled)
 
 -- a text that spells a script is short
@@ -221,8 +191,8 @@ first_spell text n s many spells =
     subst (λ (bytes : List ℕ). Spells bytes s) (take_all n text (omega arith)) spells
 
 -- and their fault is the text's
-pub first_fault : (text : List ℕ) (n : ℕ) (f : ScriptFault) → 8388608 < n → IsFaultOf (take n text) f → IsFaultOf text f
-first_fault text n f many is =
+pub fault_spelled : (text : List ℕ) (n : ℕ) (f : ScriptFault) → 8388608 < n → IsFaultOf (take n text) f → IsFaultOf text f
+fault_spelled text n f many is =
     ⊎_elim
     (λ (longer : n < length text).
     let front : length (take n text) ≡ min n (length text) = length-take n text in

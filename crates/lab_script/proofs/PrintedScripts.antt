@@ -1,11 +1,11 @@
 -- A printed script spells the script, with the lines of the printed text.
-use Rattle.lab_script.proofs.Common.{◌≡◌, ℕ, zero, suc, ◌-◌, ◌<◌, Bool, true, false, cond, List, [], ◌∷◌, ◌++◌, length, take, refl, ap, ◌∙◌, append_assoc, arith, ◌+◌, ◌≤◌, Some, None, sym, length-append, subst, decimal, map, flat_map, ◌==◌, slice_index, ◌&&◌, codes, nat_le, list_all, slice_split, onto_first, lines, lines_of_parts, strip_carriage_return, nat_tests, and_parts, le-leb, newline, printed_command, is_code_byte, code_of, remark_of, Command, Token, Line, Script, tokens, IsCommand, IsCommands, CommandPrints, session_digit, session_of, IsFit, LineSpells, extended, LinesSpell, Spells, SessionInRange, LineInRange, ScriptInRange, with_command, script_tables, with_lines, setup_tables, all_plain, append_plain, append_ascii, word_ends, statement_tokens, statement_reads, statement_fits, decimal_plain, append-nil, AllPrint, ScriptPrints, printed_setup, printed_line, printed_script, Each}
-use Rattle.std.proofs.lemmas.List.Splits.{slice_split-cons_yes, slice_split-cons_no, length-slice_split}
+use Rattle.lab_script.proofs.Common.{◌≡◌, ℕ, zero, suc, ◌-◌, Bool, true, false, cond, List, [], ◌∷◌, ◌++◌, length, take, refl, ap, ◌∙◌, append_assoc, arith, ◌+◌, ◌≤◌, Some, None, sym, length-append, subst, decimal, map, flat_map, ◌==◌, slice_index, ◌&&◌, codes, nat_le, list_all, lines, strip_carriage_return, nat_tests, and_parts, le-leb, newline, printed_command, is_code_byte, code_of, remark_of, Command, Token, Line, Script, tokens, IsCommand, IsCommands, CommandPrints, session_digit, session_of, IsFit, LineSpells, extended, LinesSpell, Spells, SessionInRange, LineInRange, ScriptInRange, line_table, with_any, script_tables, with_lines, setup_tables, all_plain, append_plain, append_ascii, word_ends, statement_tokens, statement_reads, statement_fits, decimal_plain, append-nil, AllPrint, ScriptPrints, printed_setup, printed_line, printed_script, Each}
+use Rattle.lab_script.proofs.TextLines.{lines_behind, lines_are}
 use Rattle.std.proofs.lemmas.Fmt.{decimal_digit}
 use Rattle.lab_statement.specs.Ranges.{CommandInRange}
 use Rattle.lab_statement.proofs.PrintedText.{Reads}
-use Rattle.lab_script.specs.Renumbered.{numbered, renumbered}
-use Rattle.lab_script.proofs.FewTables.{lines_longer, tables_extended}
+use Rattle.lab_script.specs.Printed.{numbered, renumbered}
+use Rattle.lab_script.proofs.FewTables.{all_longer, tables_extended}
 use Rattle.lab_script.proofs.PrintedSetups.{setup_leads, setup_spells}
 use Rattle.lab_table.specs.declared.statement.Command.TheVariants as command
 use Rattle.lab_table.specs.declared.word.Word.TheVariants as word
@@ -14,21 +14,14 @@ use Rattle.lab_script.specs.Grammar as grammar
 use Rattle.lab_script.specs.Script as script
 
 -- a byte of code is no newline and no carriage return
-pub no_newline : (b : ℕ) → is_code_byte b ≡ true → (b == 10) ≡ false
+no_newline : (b : ℕ) → is_code_byte b ≡ true → (b == 10) ≡ false
 no_newline b h = grind (arith, nat_tests)
 
 no_return : (b : ℕ) → is_code_byte b ≡ true → (b == 13) ≡ false
 no_return b h = grind (arith, nat_tests)
 
--- a line of code is the first part of what it begins
-split_line : (line rest : List ℕ) → list_all is_code_byte line ≡ true → slice_split (λ b. b == 10) (line ++ 10 ∷ rest) ≡ line ∷ slice_split (λ b. b == 10) rest
-split_line [] rest h = slice_split-cons_yes (λ b. b == 10) 10 rest refl
-split_line (b ∷ line) rest h =
-    let parts = and_parts (is_code_byte b) (list_all is_code_byte line) h in
-    slice_split-cons_no (λ b. b == 10) b (line ++ 10 ∷ rest) (no_newline b parts.0) ∙ ap (onto_first b) (split_line line rest parts.1)
-
 -- no byte of a line of code is a carriage return
-pub nowhere : (line : List ℕ) (k : ℕ) → list_all is_code_byte line ≡ true → (slice_index line k == 13) ≡ false
+nowhere : (line : List ℕ) (k : ℕ) → list_all is_code_byte line ≡ true → (slice_index line k == 13) ≡ false
 nowhere [] k h = refl
 nowhere (b ∷ line) zero h = no_return b (and_parts (is_code_byte b) (list_all is_code_byte line) h).0
 nowhere (b ∷ line) (suc k) h = nowhere line k (and_parts (is_code_byte b) (list_all is_code_byte line) h).1
@@ -37,21 +30,18 @@ nowhere (b ∷ line) (suc k) h = nowhere line k (and_parts (is_code_byte b) (lis
 kept_whole : (line : List ℕ) → list_all is_code_byte line ≡ true → strip_carriage_return line ≡ line
 kept_whole line h = ap (λ (v : Bool). cond v (take (length line - 1) line) line) (nowhere line (length line - 1) h)
 
--- a part before another is a line
-first_part : (line : List ℕ) (parts : List (List ℕ)) → 0 < length parts → lines_of_parts (line ∷ parts) ≡ strip_carriage_return line ∷ lines_of_parts parts
-first_part line [] h = absurd (omega arith)
-first_part line (part ∷ parts) h = refl
-
--- no text has no line
-pub no_lines : lines [] ≡ []
-no_lines = refl
+-- a newline ends a line of code
+behind_code : (front line rest : List ℕ) → list_all is_code_byte line ≡ true → lines_behind front (line ++ 10 ∷ rest) ≡ strip_carriage_return (front ++ line) ∷ lines_behind [] rest
+behind_code front [] rest h = ap (λ l. strip_carriage_return l ∷ lines_behind [] rest) (sym (append-nil front))
+behind_code front (b ∷ line) rest h =
+    let parts = and_parts (is_code_byte b) (list_all is_code_byte line) h in
+    rw (no_newline b parts.0) (behind_code (front ++ b ∷ []) line rest parts.1 ∙ ap (λ l. strip_carriage_return l ∷ lines_behind [] rest) (append_assoc front (b ∷ []) line))
 
 -- a printed line and a newline give the line, and then the lines of what follows
-pub first_line : (line rest : List ℕ) → list_all is_code_byte line ≡ true → lines (line ++ newline ++ rest) ≡ line ∷ lines rest
+first_line : (line rest : List ℕ) → list_all is_code_byte line ≡ true → lines (line ++ newline ++ rest) ≡ line ∷ lines rest
 first_line line rest h =
-    ap lines (append_assoc line newline rest) ∙ ap lines_of_parts (split_line line rest h)
-    ∙ first_part line (slice_split (λ b. b == 10) rest) (omega (arith, length-slice_split (λ (b : ℕ). b == 10) rest))
-    ∙ ap (λ (l : List ℕ). l ∷ lines rest) (kept_whole line h)
+    lines_are (line ++ newline ++ rest) ∙ ap (lines_behind []) (append_assoc line newline rest) ∙ behind_code [] line rest h
+    ∙ ap (λ l. l ∷ lines_behind [] rest) (kept_whole line h) ∙ ap (λ ls. line ∷ ls) (sym (lines_are rest))
 
 -- the tokens of a printed command
 abbrev pub command_tokens : Command → List Token
@@ -135,7 +125,7 @@ line_ascii line h =
 
 -- a printed line gives its command
 pub line_spells : (number : ℕ) (line : Line) (before : Script) → SessionInRange line.session → CommandInRange line.command → CommandPrints line.command → number ≤ 2000 → length before.lines + 1 ≤ 1999
-    → length (with_command (script_tables before) line.command) ≤ 4
+    → length (with_any (script_tables before) (line_table line)) ≤ 4
     → LineSpells number (line_text line) (Some before) (Some (extended before line.session number (line.command ∷ [])))
 line_spells number line before r h p le few small =
     script.commands before (line_fit number line r h p le) (subst (λ (ts : List Token). IsCommands ts (line.command ∷ [])) (sym (line_tokens line h))
@@ -143,7 +133,7 @@ line_spells number line before r h p le few small =
 
 -- the lines of the printed commands
 command_lines : (ls : List Line) → Each LineInRange ls → lines (flat_map printed_line ls) ≡ map line_text ls
-command_lines [] r = no_lines
+command_lines [] r = refl
 command_lines (line ∷ ls) r =
     first_line (line_text line) (flat_map printed_line ls) (line_ascii line r.0.1)
     ∙ ap (λ (t : List (List ℕ)). line_text line ∷ t) (command_lines ls r.1)
@@ -165,7 +155,7 @@ lines_spell number before [] r p le few small = ap (λ (ls : List Line). Some (r
 lines_spell number before (line ∷ ls) r p le few small =
     let next : Script = extended before line.session number (line.command ∷ []) in
     let counted : length next.lines ≡ length before.lines + 1 = length-append before.lines _ in
-    let here = lines_longer (with_command (script_tables before) line.command) ls in (
+    let here = all_longer line_table (with_any (script_tables before) (line_table line)) ls in (
       Some next,
       line_spells number line before r.0.0 r.0.1 p.0 (omega arith) (omega arith) (omega (arith, small, here)),
       subst (λ (all : List Line). LinesSpell (number + 1) (Some next) (map line_text ls) (Some (record { setup = before.setup; lines = all }))) (append_assoc before.lines _ (numbered (number + 1) ls))
@@ -179,6 +169,6 @@ script_spells script r p =
     let start : Script = record { setup = script.setup; lines = [] } in
     subst (λ (ls : List (List ℕ)). LinesSpell 1 None ls (Some (renumbered script))) (sym (script_lines script r)) (
       Some start,
-      setup_spells script.setup r.setup p.setup (let all = lines_longer (setup_tables script.setup) script.lines in omega (arith, all, p.tables)),
+      setup_spells script.setup r.setup p.setup (let all = all_longer line_table (setup_tables script.setup) script.lines in omega (arith, all, p.tables)),
       lines_spell 2 start script.lines r.lines p.lines (omega (arith, p.few)) (omega (arith, p.few)) p.tables,
     )

@@ -1,9 +1,8 @@
 -- The commands of a line of the grammar are read.
-use Rattle.lab_script.proofs.Common.{◌≡◌, ◌≤◌, ◌<◌, true, List, [], ◌∷◌, ◌++◌, length, drop, Option, Some, None, refl, sym, ap, subst, ◌∙◌, length-append, one-add, arith, ℕ, zero, suc, ◌+◌, Bool, false, cond, append_assoc, append-nil, list_all, prefix_len, and_parts, le-leb, lt-ltb, Statement, Command, Token, IsStatement, IsCommand, IsCommands, printed_statement, Reads, Stops, end_read, is_short, is_word, words_read, level_read, command_read, terminated_read, one_added, step_read, repeated_read, some_left, commands_read, reads, reads_is, begins_setup}
+use Rattle.lab_script.proofs.Common.{◌≡◌, ◌≤◌, ◌<◌, true, List, [], ◌∷◌, ◌++◌, length, drop, Option, Some, None, refl, sym, ap, subst, ◌∙◌, length-append, one-add, arith, ℕ, zero, suc, ◌+◌, false, append_assoc, append-nil, list_all, prefix_len, and_parts, le-leb, option_to_list, Statement, Command, Token, IsStatement, IsCommand, IsCommands, printed_statement, Reads, end_read, is_short, is_word, words_read, level_read, command_read, added_read, step_read, repeated_read, some_left, commands_read, reads, reads_is, begins_setup}
 use Rattle.lab_statement.proofs.ReadStatements.{statement_again, Closes, nothing, semicolon, unjoined}
-use Rattle.lab_statement.specs.declared.fault.ScriptFaultKind.TheVariants.{TooLong}
 use Rattle.lab_script.proofs.StoppedLoops.{some_more}
-use Rattle.lab_script.proofs.CommandsTaken.{listed, command_long}
+use Rattle.lab_script.proofs.CommandsTaken.{command_long}
 use Rattle.lab_table.specs.declared.statement.Command.TheVariants as command
 use Rattle.lab_statement.specs.declared.token.Token.TheVariants as token
 use Rattle.lab_statement.specs.Grammar as grammar
@@ -29,7 +28,7 @@ words_again w ws rest all none =
 
 -- the command of a statement that is read, with what is left, and short enough
 abbrev Given : List Token → List Command → List Token → Type 0
-Given ts cs rest = (c : Option Command) × (command_read ts ≡ Reads (c, rest)) × (is_short c ≡ true) × (listed c ≡ cs)
+Given ts cs rest = (c : Option Command) × (command_read ts ≡ Reads (c, rest)) × (is_short c ≡ true) × (option_to_list c ≡ cs)
 
 run_again : {ts : List Token} {s : Statement} → IsStatement ts s → (rest : List Token) → Closes rest → command_read (ts ++ rest) ≡ Reads (Some (command.Run s), rest)
 unfolding command_read
@@ -48,33 +47,12 @@ command_again line_grammar.rollback rest closes = (Some command.Abort, refl, ref
 command_again (line_grammar.level w ws all) rest closes = (None, rw (words_again w ws rest all (wordless closes)) refl, refl, refl)
 command_again (line_grammar.run {s} h le) rest closes = (Some (command.Run s), run_again h rest closes, le-leb (length (printed_statement s)) 1000 le, refl)
 
--- a statement with its end
-
--- the command of a statement with its end that is read, with what is left
-abbrev Closed : List Token → List Command → List Token → Type 0
-Closed ts cs rest = (c : Option Command) × (terminated_read ts ≡ Reads (c, rest)) × (listed c ≡ cs)
-
-pub closed_again : {ts : List Token} {cs : List Command} → IsCommand ts cs → (end rest : List Token) → Closes end → end_read end ≡ Reads rest → Closed (ts ++ end) cs rest
-unfolding terminated_read
-closed_again h end rest closes ended =
-    let g = command_again h end closes in
-    (g.0, rw (g.1, ended, g.2) refl, g.3)
-
--- one statement more
-
--- there is room for the command of a statement
-added_again : (room : ℕ) (before : List Command) (c : Option Command) (left : List Token) → length (before ++ listed c) ≤ room → one_added room before c left ≡ Reads (before ++ listed c)
-added_again room before None left le = ap (λ (cs : List Command). reads cs) (sym (append-nil before))
-added_again room before (Some c) left le =
-    ap (λ (b : Bool). cond b (reads (before ++ c ∷ [])) (Stops TooLong left)) (lt-ltb (length before) room (omega (arith, length-append before (c ∷ []), le)))
-
+-- one statement more, with its end, if there is room for its command
 step_again : {ts : List Token} {cs : List Command} → IsCommand ts cs → (end rest : List Token) → Closes end → end_read end ≡ Reads rest → (room : ℕ) (before : List Command)
     → length (before ++ cs) ≤ room → step_read room before (ts ++ end) ≡ Reads (before ++ cs, rest)
-unfolding step_read
-step_again h end rest closes ended room before le =
-    let c = closed_again h end rest closes ended in
-    let same = λ (ds : List Command). length (before ++ ds) ≤ room in
-    rw (c.1, added_again room before c.0 rest (subst same (sym c.2) le), c.2) refl
+unfolding step_read added_read
+step_again {cs = cs} h end rest closes ended room before le =
+    let c = command_again h end closes in rw (c.1, ended, c.2, c.3, le-leb (length (before ++ cs)) room le) refl
 
 -- all statements
 

@@ -1,7 +1,7 @@
 -- A setup of the grammar is read.
-use Rattle.lab_script.proofs.Common.{◌≡◌, ℕ, zero, suc, ◌+◌, ◌<◌, ◌≤◌, true, List, [], ◌∷◌, ◌++◌, length, None, sym, ap, refl, subst, ◌∙◌, append_assoc, arith, test_name, Token, Reads, row_table_read, named_row_read, row_onto_read, repeated_read, rows_read, table_read, setup_end_read, setup_read, reads_is, ℤ, Row, row_cmp, IsRow, IsId, IsEnd, IsNamedRow, IsRows, IsRowList, IsSetup, AllDistinct, find, le-leb, length-append, Table, printed_setup, after, no_rows_at, begins_setup}
+use Rattle.lab_script.proofs.Common.{from_entries_push, rows_total, rows_apart, ◌≡◌, ℕ, zero, suc, ◌+◌, ◌<◌, ◌≤◌, true, List, [], ◌∷◌, ◌++◌, length, None, sym, ap, refl, subst, ◌∙◌, append_assoc, arith, test_name, Token, Reads, row_table_read, named_row_read, row_onto_read, repeated_read, rows_read, table_read, setup_end_read, setup_read, reads_is, ℤ, Row, row_cmp, IsRow, IsId, IsEnd, IsNamedRow, IsRows, IsRowList, IsSetup, AllDistinct, find, le-leb, length-append, Table, printed_setup, after, no_rows_at, begins_setup}
 use Rattle.lab_statement.proofs.ReadRows.{row_again, parts_of}
-use Rattle.lab_script.proofs.DistinctRows.{not_before, is_absent, pushed_table, table_of}
+use Rattle.lab_script.proofs.DistinctRows.{not_before, is_absent, table_of}
 use Rattle.lab_statement.proofs.AtomParts.{no_close}
 use Rattle.lab_statement.specs.declared.token.Token.TheVariants as token
 use Rattle.lab_statement.specs.Grammar as grammar
@@ -25,7 +25,7 @@ row_onto_again : {ts : List Token} {id : Row} {value : ℤ} → IsNamedRow ts id
     → row_onto_read (table_of before) (ts ++ rest) ≡ Reads (table_of (before ++ (id, value) ∷ []), rest)
 unfolding row_onto_read
 row_onto_again {ts} {id} {value} h before none rest =
-    rw (row_onto_read, named_row_again h rest, is_absent before id none) (ap (λ (t : Table). Reads (t, rest)) (sym (pushed_table before (id, value) none)))
+    rw (row_onto_read, named_row_again h rest, is_absent before id none) (ap (λ (t : Table). Reads (t, rest)) (sym (from_entries_push rows_total rows_apart before id value none)))
 
 -- rows of the grammar are added to those before them, where no row comes twice
 rows_again : {ts : List Token} {rows : List (Row × ℤ)} → IsRows ts rows → (before : List (Row × ℤ)) → AllDistinct (before ++ rows) → (end : List Token) → after token.Comma end ≡ None

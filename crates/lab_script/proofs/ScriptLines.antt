@@ -1,5 +1,5 @@
 -- What lines spell: a line makes one thing at most of what stands before it, and so do lines; what is made prints.
-use Rattle.lab_script.proofs.Common.{◌≡◌, ℕ, ◌+◌, ◌≤◌, true, List, [], ◌∷◌, ◌++◌, length, map, Option, Some, refl, sym, ap, subst, ◌∙◌, arith, length-append, false, None, IfSome, nat_lt, list_all, length-map, false≢true, nil_from_length, eqb-true, ◌==◌, ltb-false, or_parts, same_Some, Command, Line, Script, Token, tokens, IsCommands, IsSetup, IsCommand, code_of, remark_of, is_code_byte, is_passed, IsFit, begins_setup, extended, LineSpells, LinesSpell, session_of, TokensSpell, Spells, is_over, Each, CommandPrints, AllPrint, ScriptPrints}
+use Rattle.lab_script.proofs.Common.{first_fault, tokens_fault, if◌then◌else◌, le-ltb, ◌≡◌, ℕ, ◌+◌, ◌≤◌, true, List, [], ◌∷◌, ◌++◌, length, map, Option, Some, refl, sym, ap, subst, ◌∙◌, arith, length-append, false, None, IfSome, nat_lt, list_all, length-map, false≢true, nil_from_length, eqb-true, ◌==◌, ltb-false, or_parts, same_Some, Command, Line, Script, Token, tokens, IsCommands, IsSetup, IsCommand, code_of, remark_of, is_code_byte, is_passed, IsFit, begins_setup, extended, LineSpells, LinesSpell, session_of, TokensSpell, is_over, Each, CommandPrints, AllPrint, ScriptPrints}
 use Rattle.lab_script.proofs.ReadCommands.{commands_once, not_empty}
 use Rattle.lab_script.proofs.ReadSetup.{setup_once, setup_begins, setup_short}
 use Rattle.lab_statement.proofs.ShallowStatements.{statement_shallow}
@@ -23,6 +23,11 @@ pub fit_of : {number : ℕ} {line : List ℕ} {before after : Option Script} →
 fit_of (script.passed s fit is) = fit
 fit_of (script.setup fit is small) = fit
 fit_of (script.commands s fit is session room small) = fit
+
+-- a line that may have its number has the faults of its tokens
+pub fit_fault : {number : ℕ} {line : List ℕ} (before : Option Script) → IsFit number line
+    → first_fault number line before ≡ (if is_passed line then None else tokens_fault (tokens (code_of line)) (remark_of line) before)
+fit_fault {number} {line} before fit = rw (le-ltb 2000 number fit.lines, le-ltb 4000 (length line) fit.bytes, fit.ascii) refl
 
 -- a line makes one thing at most of what stands before it
 pub line_once : {number : ℕ} {line : List ℕ} {before a b : Option Script} → LineSpells number line before a → LineSpells number line before b → a ≡ b
@@ -64,19 +69,6 @@ lines_front number before (line ∷ ls) more after all =
     let same : (number + 1) + length ls ≡ number + length (line ∷ ls) = omega arith in
     (rest.0, (all.0, all.1, rest.1), subst (λ (n : ℕ). LinesSpell n rest.0 more after) same rest.2)
 
--- a script that has room for its lines
-abbrev pub IsFew : Option Script → Type 0
-IsFew script = IfSome script (λ s. length s.lines ≤ 1999)
-
--- a line keeps a script within its number of commands
-pub line_few : {number : ℕ} {line : List ℕ} {before after : Option Script} → LineSpells number line before after → IsFew before → IsFew after
-line_few (script.passed s fit is) few = few
-line_few (script.setup fit spelled small) few = omega arith
-line_few {number} (script.commands {cs = cs} {session = one} s fit spelled session room small) few =
-    let more : List Line = map (λ c. record { session = one; command = c; text_line = number }) cs in
-    let len : length more ≡ length cs = length-map cs _ in
-    omega (arith, length-append s.lines more)
-
 module _ (number : ℕ) (line : List ℕ) {code remark : List ℕ} (within : is_over number line ≡ false) (code_is : code ≡ code_of line) (remark_is : remark ≡ remark_of line) where
   module _ (ascii : list_all is_code_byte code ≡ true) where
     fit : IsFit number line
@@ -90,6 +82,11 @@ module _ (number : ℕ) (line : List ℕ) {code remark : List ℕ} (within : is_
 
       pub tokenless_line : (before : Option Script) → (length ts == 0) ≡ true → LineSpells number line before before
       tokenless_line before none = script.passed before fit (ap (λ us. length us == 0) (sym of_line) ∙ none)
+
+      -- a line with tokens has their faults
+      pub tokens_faulty : (length ts == 0) ≡ false → (before : Option Script) → first_fault number line before ≡ tokens_fault ts remark before
+      tokens_faulty some before =
+          fit_fault before fit ∙ rw (of_line, remark_is, ap (λ us. length us == 0) (sym of_line) ∙ some) refl
 
       -- a line spells what its tokens spell
       pub tokens_line : (before after : Option Script) → TokensSpell number ts remark before after → LineSpells number line before after
@@ -122,7 +119,7 @@ all_print [] (c ∷ cs) session number lines commands = (commands.0, all_print [
 all_print (line ∷ lines) cs session number all commands = (all.0, all_print lines cs session number all.1 commands)
 
 -- what a line makes of a script that prints prints
-line_prints : {number : ℕ} {line : List ℕ} {before after : Option Script} → LineSpells number line before after → IfSome before ScriptPrints → IfSome after ScriptPrints
+pub line_prints : {number : ℕ} {line : List ℕ} {before after : Option Script} → LineSpells number line before after → IfSome before ScriptPrints → IfSome after ScriptPrints
 line_prints (script.passed s fit is) prints = prints
 line_prints (script.setup fit spelled small) prints = record { setup = setup_short spelled; few = omega arith; lines = tt; tables = small }
 line_prints {number} (script.commands {cs = cs} {session = one} s fit spelled session room small) prints =
@@ -134,12 +131,3 @@ line_prints {number} (script.commands {cs = cs} {session = one} s fit spelled se
       lines = all_print s.lines cs one number prints.lines (commands_print spelled);
       tables = subst (λ names. length names ≤ 4) (sym (tables_extended s one number cs)) small;
     }
-
--- lines keep a script printing
-lines_print : (number : ℕ) (before : Option Script) (ls : List (List ℕ)) (after : Option Script) → LinesSpell number before ls after → IfSome before ScriptPrints → IfSome after ScriptPrints
-lines_print number before [] after spelled prints = subst (λ (s : Option Script). IfSome s ScriptPrints) (sym spelled) prints
-lines_print number before (line ∷ ls) after spelled prints = lines_print (number + 1) spelled.0 ls after spelled.2 (line_prints spelled.1 prints)
-
--- a script that a text spells prints
-pub spelled_prints : (text : List ℕ) (s : Script) → Spells text s → ScriptPrints s
-spelled_prints text s spelled = lines_print 1 None _ (Some s) spelled tt

@@ -1,12 +1,12 @@
 -- What is read as a setup is in the grammar, and reading stops with few kinds of faults.
-use Rattle.lab_script.proofs.Common.{◌≡◌, ◌⊎◌, ℕ, zero, suc, ◌<◌, ◌≤◌, List, [], ◌∷◌, ◌++◌, length, Option, Some, None, refl, sym, ap, subst, ◌∙◌, append_assoc, inl, inr, ℤ, nat_le, find, contains_key, empty, leb-true, leb-false, Row, row_cmp, numbered, Table, test_name, Token, ScriptFaultKind, IsEnd, after, Reads, ◌>>=◌, if_found, row_read, no_rows_at, is_word, Gives, gives, stops, Takes, then_gives, each_gives, if_gives, found_gives, further, made, token_gives, row_taken, name_of_gives, nothing_gives, row_table_read, named_row_read, row_onto_read, repeated_read, rows_read, table_read, setup_end_read, setup_read, setup_ended, IsNamedRow, IsRows, IsRowList, IsSetup, AllDistinct, max_line_bytes, printed_setup, BeginsLongSetup}
+use Rattle.lab_script.proofs.Common.{from_entries_push, rows_total, rows_apart, ◌≡◌, ◌⊎◌, ℕ, zero, suc, ◌<◌, ◌≤◌, List, [], ◌∷◌, ◌++◌, length, Option, Some, None, refl, sym, ap, subst, ◌∙◌, append_assoc, inl, inr, ℤ, nat_le, find, contains_key, empty, leb-true, leb-false, Row, row_cmp, numbered, Table, test_name, Token, ScriptFaultKind, IsEnd, after, Reads, ◌>>=◌, if_found, row_read, no_rows_at, is_word, Gives, gives, stops, Takes, then_gives, each_gives, if_gives, found_gives, further, made, token_gives, row_taken, name_of_gives, nothing_gives, row_table_read, named_row_read, row_onto_read, repeated_read, rows_read, table_read, setup_end_read, setup_read, setup_ended, IsNamedRow, IsRows, IsRowList, IsSetup, AllDistinct, max_line_bytes, printed_setup, BeginsLongSetup}
 use Rattle.lab_table.specs.declared.word.Word.TheVariants as word
 use Rattle.lab_statement.specs.declared.token.Token.TheVariants as token
 use Rattle.lab_statement.specs.declared.fault.ScriptFaultKind.TheVariants as kinds
 use Rattle.lab_statement.specs.Grammar as statement
 use Rattle.lab_statement.proofs.SameTokens.{after_is}
 use Rattle.lab_script.specs.Grammar as grammar
-use Rattle.lab_script.proofs.DistinctRows.{table_of, absent_from, pushed_table, pushed_distinct}
+use Rattle.lab_script.proofs.DistinctRows.{table_of, absent_from, pushed_distinct}
 
 -- a row's table is that of the word before it, or `test`
 abbrev IsRowTable : List Token → List ℕ → List Token → Type 0
@@ -84,7 +84,7 @@ module _ {Fault : ScriptFaultKind → Type 0} (unknown : Fault kinds.UnknownStat
   unfolding row_onto_read
   row_onto_gives before ts = then_gives _ (named_row_taken ts) (λ x h. if_gives (contains_key (table_of before) x.0.0) (λ is. stops twice) (λ isnt.
       let none = absent_from before x.0.0 isnt in
-      gives (record { row = x.0; front = h.front; text = h.text; spelled = h.is; absent = none; table = sym (pushed_table before x.0 none) })))
+      gives (record { row = x.0; front = h.front; text = h.text; spelled = h.is; absent = none; table = sym (from_entries_push rows_total rows_apart before x.0.0 x.0.1 none) })))
 
   -- rows, of which none comes twice
   rows_give : (k : ℕ) (before : List (Row × ℤ)) (ts : List Token) → AllDistinct before → Gives Fault (RowsAdded before ts) (repeated_read k row_onto_read (after token.Comma) (table_of before) ts)

@@ -1,5 +1,5 @@
 -- Reading the setup and the commands of a line from left to right, to the end or to the first fault.
-use Rattle.std.specs.Prelude.{ℕ, zero, suc, ℤ, nat_le, length, if◌then◌else◌, List, [], ◌∷◌, ◌++◌, Option, Some, None, ◌-◌, nat_lt, take, drop}
+use Rattle.std.specs.Prelude.{ℕ, zero, suc, ℤ, Bool, ◌&&◌, nat_le, length, if◌then◌else◌, List, [], ◌∷◌, ◌++◌, Option, Some, None, option_to_list, ◌-◌, take, drop}
 use Rattle.lab_table.specs.Row.{Row, numbered}
 use Rattle.lab_table.specs.TableName.{test_name}
 use Rattle.lab_table.specs.declared.word.Word.TheVariants as word
@@ -59,24 +59,18 @@ command_read ts = if_found (after (token.Word word.Begin) ts) (λ rest. Reads (S
         s ← statement_read ts
         Reads (Some (command.Run s.0), s.1))))))
 
--- a statement of a line with its end, at which it stops where it is over its limit
-unfoldable pub terminated_read : List Token → Reading (Option Command × List Token)
-terminated_read ts = do
+-- commands with that of a statement, if it gives one, and whether that is short
+unfoldable pub added_read : List Command → List Token → Reading ((List Command × Bool) × List Token)
+added_read cs ts = do
   c ← command_read ts
-  rest ← end_read c.1
-  if is_short c.0 then Reads (c.0, rest) else Stops TooLong rest
+  Reads ((cs ++ option_to_list c.0, is_short c.0), c.1)
 
--- commands with one more, if there is room for it
-abbrev pub one_added : ℕ → List Command → Option Command → List Token → Reading (List Command)
-one_added room cs None left = Reads cs
-one_added room cs (Some c) left = if nat_lt (length cs) room then Reads (cs ++ c ∷ []) else Stops TooLong left
-
--- commands with that of the next statement
+-- commands with that of the next statement, which stops at its end where it is over its limit, or there is no room for it
 unfoldable pub step_read : ℕ → List Command → List Token → Reading (List Command × List Token)
 step_read room cs ts = do
-  c ← terminated_read ts
-  ds ← one_added room cs c.0 c.1
-  Reads (ds, c.1)
+  c ← added_read cs ts
+  rest ← end_read c.1
+  if c.0.1 && nat_le (length c.0.0) room then Reads (c.0.0, rest) else Stops TooLong rest
 
 -- items one after another, each behind what was made of those before it, as long as another is to come, at most k of them
 unfoldable pub repeated_read : {A : Type 0} → ℕ → (A → List Token → Reading (A × List Token)) → (List Token → Option (List Token)) → A → List Token → Reading (A × List Token)

@@ -4,7 +4,6 @@ pub mod Limits
 pub mod Ranges
 pub mod Script
 pub mod Fault
-pub mod Renumbered
 pub mod TranscriptView
 pub mod Transcript
 pub mod FirstFaults

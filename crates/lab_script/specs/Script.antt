@@ -1,8 +1,8 @@
 -- Which text spells which script.
-use Rattle.std.specs.Prelude.{◌≡◌, ℕ, ℤ, ◌+◌, ◌-◌, ◌≤◌, ◌<◌, Bool, true, false, not, ◌&&◌, ◌||◌, ◌==◌, nat_le, if◌then◌else◌, List, [], ◌∷◌, ◌++◌, length, map, Option, Some, None}
+use Rattle.std.specs.Prelude.{◌≡◌, ℕ, ℤ, ◌+◌, ◌-◌, ◌≤◌, ◌<◌, Bool, true, false, not, ◌&&◌, ◌||◌, ◌==◌, nat_le, if◌then◌else◌, List, [], ◌∷◌, ◌++◌, drop, length, map, Option, Some, None}
 use Rattle.std.specs.Char.{to_ascii_lowercase, is_ascii_alphanumeric}
 use Rattle.std.specs.FinMap as finite
-use Rattle.std.specs.List.{list_all}
+use Rattle.std.specs.List.{list_all, prefix_len}
 use Rattle.std.specs.Str.Lines.{lines}
 use Rattle.lab_table.specs.declared.statement.Command.{Command}
 use Rattle.lab_table.specs.Row.{Row}
@@ -31,10 +31,14 @@ abbrev pub session_digit : List ℕ → Option ℕ
 session_digit [] = None
 session_digit (d ∷ bytes) = if (nat_le 49 d && nat_le d 57) && ends_word bytes then Some (d - 48) else None
 
--- the session that a remark begins with: blanks, a T in either case, and its digit
+-- the session that a word begins with: a T in either case, and its digit
+abbrev pub word_session : List ℕ → Option ℕ
+word_session [] = None
+word_session (b ∷ bytes) = if to_ascii_lowercase b == 116 then session_digit bytes else None
+
+-- the session that a remark begins with, behind blanks
 abbrev pub session_of : List ℕ → Option ℕ
-session_of [] = None
-session_of (b ∷ bytes) = if is_blank b then session_of bytes else if to_ascii_lowercase b == 116 then session_digit bytes else None
+session_of remark = word_session (drop (prefix_len is_blank remark) remark)
 
 -- whether a line is passed over: its code has no token
 abbrev pub is_passed : List ℕ → Bool

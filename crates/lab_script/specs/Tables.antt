@@ -26,10 +26,6 @@ command_table command.Commit = None
 command_table command.Abort = None
 command_table (command.Run s) = Some s.table
 
--- names with the table of a command
-abbrev pub with_command : List (List ℕ) → Command → List (List ℕ)
-with_command names c = with_any names (command_table c)
-
 -- names with the tables of commands
 abbrev pub with_commands : List (List ℕ) → List Command → List (List ℕ)
 with_commands names cs = with_all command_table names cs
@@ -42,13 +38,9 @@ row_table row = Some row.0.table
 abbrev pub with_rows : List (List ℕ) → List (Row × ℤ) → List (List ℕ)
 with_rows names rows = with_all row_table names rows
 
--- names with the tables of a setup's rows
-abbrev pub with_setup : List (List ℕ) → Table → List (List ℕ)
-with_setup names table = with_rows names (finite.entries table)
-
--- the names of a setup
+-- the names of a setup's rows
 abbrev pub setup_tables : Table → List (List ℕ)
-setup_tables table = with_setup [] table
+setup_tables table = with_rows [] (finite.entries table)
 
 -- the table of a line's command, if it is a statement
 abbrev pub line_table : Line → Option (List ℕ)

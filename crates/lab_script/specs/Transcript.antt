@@ -1,8 +1,9 @@
 -- What a script does where its transactions run whole, in the order of their begins.
-use Rattle.std.specs.Prelude.{ℕ, ◌+◌, Bool, true, false, not, ◌==◌, if◌then◌else◌, List, [], ◌∷◌, ◌++◌, unwrap_or, ◌&&◌, Option, Some, None, option_map, slice_index_or, codes}
+use Rattle.std.specs.Prelude.{ℕ, ◌+◌, Bool, true, false, not, ◌==◌, if◌then◌else◌, List, [], ◌∷◌, ◌++◌, unwrap_or, ◌&&◌, Option, Some, None, option_map, codes}
 use Rattle.std.specs.Fmt.{decimal}
 use Rattle.lab_table.specs.Row.{Row, numbered}
 use Rattle.lab_table.specs.Table.{Table}
+use Rattle.lab_table.specs.Sessions.{of_session}
 use Rattle.lab_table.specs.Statement.{Ran, run, kind_matching}
 use Rattle.lab_table.specs.Running.{overflowing}
 use Rattle.lab_table.specs.declared.statement.Statement.{Statement}
@@ -21,33 +22,21 @@ pub record Transaction : Type 0 where
   pub statements : List Statement
   pub commits : Bool
 
--- the statements of a session, from its next command and those of its later ones
-abbrev pub statements_on : Command → List Statement → List Statement
-statements_on command.Begin later = later
-statements_on command.Commit later = []
-statements_on command.Abort later = []
-statements_on (command.Run s) later = s ∷ later
+-- a session's statements up to its end and whether it commits, from its next command, and what its later ones give
+abbrev pub body_on : Command → List Statement × Bool → List Statement × Bool
+body_on command.Begin later = later
+body_on command.Commit later = ([], true)
+body_on command.Abort later = ([], false)
+body_on (command.Run s) later = (s ∷ later.0, later.1)
 
--- a session's statements up to its first commit or abort
-abbrev pub statements_of : ℕ → List Line → List Statement
-statements_of session [] = []
-statements_of session (line ∷ lines) = if line.session == session then statements_on line.command (statements_of session lines) else statements_of session lines
-
--- whether a session commits, from its next command and whether its later ones commit
-abbrev pub commits_on : Command → Bool → Bool
-commits_on command.Begin later = later
-commits_on command.Commit later = true
-commits_on command.Abort later = false
-commits_on (command.Run s) later = later
-
--- whether a session's first commit or abort is a commit
-abbrev pub commits_of : ℕ → List Line → Bool
-commits_of session [] = false
-commits_of session (line ∷ lines) = if line.session == session then commits_on line.command (commits_of session lines) else commits_of session lines
+-- a session's statements up to its first commit or abort, and whether that is a commit
+abbrev pub body_of : ℕ → List Line → List Statement × Bool
+body_of session [] = ([], false)
+body_of session (line ∷ lines) = if line.session == session then body_on line.command (body_of session lines) else body_of session lines
 
 -- the transaction of a session whose begin stands before these lines
 abbrev pub transaction_of : ℕ → List Line → Transaction
-transaction_of session lines = record { session = session; statements = statements_of session lines; commits = commits_of session lines }
+transaction_of session lines = record { session = session; statements = (body_of session lines).0; commits = (body_of session lines).1 }
 
 -- whether a session is inside a transaction, from a command of it and whether it was before
 abbrev pub inside_on : Command → Bool → Bool
@@ -62,7 +51,7 @@ inside_after inside session command s = if s == session then inside_on command (
 
 -- the sessions whose number has a mark
 abbrev pub sessions_in : List Bool → ℕ → Bool
-sessions_in marks s = slice_index_or marks s false
+sessions_in marks s = unwrap_or (of_session marks s) false
 
 -- before the first command no session is inside a transaction
 abbrev pub nobody : ℕ → Bool

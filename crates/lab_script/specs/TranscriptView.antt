@@ -1,5 +1,6 @@
 -- A transcript as contracts see it, and the limits that its statements may break.
 use Rattle.std.specs.Prelude.{ℕ, nat_lt, cond, List, [], ◌∷◌, ◌++◌, length, Option, Some, None, codes}
+use Rattle.std.specs.Option.{option_or}
 use Rattle.lab_table.specs.Table.{Table}
 use Rattle.lab_table.specs.declared.table.TableFault.{TableFault}
 use Rattle.lab_table.specs.declared.table.TableFault.TheVariants as table_fault
@@ -7,7 +8,7 @@ use Rattle.lab_table.specs.declared.statement.Statement.{Statement}
 use Rattle.lab_table.specs.declared.statement.Command.{Command}
 use Rattle.lab_script.specs.declared.script.Script.{Script}
 use Rattle.lab_statement.specs.declared.print.PrintFault.{PrintFault}
-use Rattle.lab_statement.specs.declared.print.PrintFault.TheVariants.{NoMemory, TooDeep, TooLong, TooManyTables}
+use Rattle.lab_statement.specs.declared.print.PrintFault.TheVariants.{TooDeep, TooLong}
 use Rattle.lab_statement.specs.Depth.{statement_depth}
 use Rattle.lab_statement.specs.Limits.{max_depth, max_statement_bytes, IsDeep, IsLong}
 use Rattle.lab_statement.specs.Printed.{printed_statement, printed_row_name}
@@ -20,10 +21,9 @@ pub record TranscriptView : Type 0 where
 
 -- a command is a statement whose printed form breaks this limit
 abbrev pub Breaks : PrintFault → Command → Type 0
-Breaks NoMemory command = ⊥
 Breaks TooDeep command = IsDeep command
 Breaks TooLong command = IsLong command
-Breaks TooManyTables command = ⊥
+Breaks fault command = ⊥
 
 -- the statements that a transaction shows: up to the first that is refused
 abbrev pub shown_of : Table → List Statement → List Statement
@@ -39,15 +39,10 @@ shown table (txn ∷ txns) = shown_of table txn.statements ++ shown (table_after
 abbrev pub limit_broken : Statement → Option PrintFault
 limit_broken s = cond (nat_lt max_depth (statement_depth s)) (Some TooDeep) (cond (nat_lt max_statement_bytes (length (printed_statement s))) (Some TooLong) None)
 
--- the limit that is broken first, where one was broken before or not
-abbrev pub broken_with : Option PrintFault → Statement → Option PrintFault
-broken_with None s = limit_broken s
-broken_with (Some fault) s = Some fault
-
 -- the limit that the first statement to break one breaks, where one was broken before or not
 abbrev pub first_broken : Option PrintFault → List Statement → Option PrintFault
 first_broken before [] = before
-first_broken before (s ∷ statements) = first_broken (broken_with before s) statements
+first_broken before (s ∷ statements) = first_broken (option_or before (limit_broken s)) statements
 
 -- the limit that a script's transcript breaks
 abbrev pub unprintable : Script → Option PrintFault

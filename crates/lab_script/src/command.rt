@@ -1,13 +1,11 @@
 //! The commands of a line, read from tokens.
 
-ghost use Rattle.std.specs.Prelude.{◌≡◌, ◌≤◌, true, false, List, length, OnOk, IfErr, IfOk};
+ghost use Rattle.std.specs.Prelude.{◌≡◌, ◌≤◌, Some, length, OnOk};
 ghost use Rattle.std.specs.List.{prefix_len};
-ghost use Rattle.lab_statement.specs.declared.fault.ScriptFaultKind.TheVariants.{TooLong};
-ghost use Rattle.lab_statement.specs.declared.token.Token.{Token as Shown};
 ghost use Rattle.lab_statement.specs.Stopping.{Comes};
 ghost use Rattle.lab_statement.specs.Token.{is_word};
 ghost use Rattle.lab_statement.specs.FirstFaults.{is_short, HasFault};
-ghost use Rattle.lab_script.specs.FirstFaults.{command_read, commands_read, level_read, one_added, step_read, terminated_read, words_read, commands_fault, passed};
+ghost use Rattle.lab_script.specs.FirstFaults.{added_read, command_read, commands_read, level_read, step_read, commands_fault, passed};
 ghost use Rattle.lab_script.specs.Grammar.{IsCommands};
 ghost use Rattle.lab_script.specs.Tables.{with_commands};
 
@@ -35,7 +33,7 @@ pub fn commands_into(
     }
 }
 
-/// Reads a statement with its end, and adds its command.
+/// Reads a statement with its end, and adds its command, for which there must be room.
 #[tactic(auto, unfolding(crate::specs::FirstFaults::step_read))]
 fn step(
     alloc: Global,
@@ -45,21 +43,27 @@ fn step(
 ) -> Result<(), Refusal>
     ensures { Comes (λ x. (commands.new.items, parser.new)) result parser.new (step_read room commands.old.items parser.old) }
 {
-    let command = terminated(alloc, parser)?;
-    add(commands, room, command)
+    let short = add(alloc, parser, commands)?;
+    parser.ended()?;
+    if short && commands.len() <= room {
+        Ok(())
+    } else {
+        Err(Refusal::Fault(ScriptFaultKind::TooLong))
+    }
 }
 
-/// A statement with its end, and its command if it gives one.
-#[tactic(auto, unfolding(crate::specs::FirstFaults::terminated_read))]
-fn terminated(alloc: Global, parser: &mut Parser) -> Result<Option<Command>, Refusal>
-    ensures { Comes (λ x. (x, parser.new)) result parser.new (terminated_read parser.old) }
+/// Reads a statement without its end, and adds its command, if it gives one. Answers whether its printed form is as short
+/// as it must be.
+#[tactic(auto, unfolding(crate::specs::FirstFaults::added_read))]
+fn add(alloc: Global, parser: &mut Parser, commands: &mut Vec<Command>) -> Result<bool, Refusal>
+    ensures { Comes (λ short. ((commands.new.items, short), parser.new)) result parser.new (added_read commands.old.items parser.old) }
 {
-    let command = command(alloc, parser)?;
-    parser.ended()?;
-    match check_short(&command) {
-        Ok(()) => Ok(command),
-        Err(refusal) => Err(refusal),
-    }
+    let Some(command) = command(alloc, parser)? else {
+        return Ok(true);
+    };
+    let short = is_short(&command);
+    commands.push(command)?;
+    Ok(short)
 }
 
 /// A statement, and its command if it gives one.
@@ -84,8 +88,8 @@ fn command(alloc: Global, parser: &mut Parser) -> Result<Option<Command>, Refusa
     }
 }
 
-/// The words that set a level, from behind the first on.
-#[tactic(auto, unfolding(crate::specs::FirstFaults::level_read))]
+/// The words that set a level, from behind the first on: behind `level` any words, at least one.
+#[tactic(auto, unfolding(crate::specs::FirstFaults::level_read, crate::specs::FirstFaults::words_read))]
 fn level(parser: &mut Parser) -> Result<(), Refusal>
     ensures { Comes (λ x. parser.new) result parser.new (level_read parser.old) }
 {
@@ -94,24 +98,13 @@ fn level(parser: &mut Parser) -> Result<(), Refusal>
         Token::Word(Word::Isolation),
         Token::Word(Word::Level),
     ])?;
-    words(parser)
-}
-
-/// Words, at least one.
-#[tactic(auto, unfolding(crate::specs::FirstFaults::words_read))]
-fn words(parser: &mut Parser) -> Result<(), Refusal>
-    ensures { Comes (λ x. parser.new) result parser.new (words_read parser.old) }
-{
     match parser.tokens().split_first() {
-        None => Err(Refusal::Fault(ScriptFaultKind::UnknownStatement)),
-        Some((first, rest)) => {
-            if !first.is_word() {
-                return Err(Refusal::Fault(ScriptFaultKind::UnknownStatement));
-            }
+        Some((first, rest)) if first.is_word() => {
             let (_, behind) = rest.split_at(words_len(rest));
             *parser = Parser::new(behind);
             Ok(())
         }
+        _ => Err(Refusal::Fault(ScriptFaultKind::UnknownStatement)),
     }
 }
 
@@ -123,29 +116,14 @@ fn words_len(tokens: &[Token]) -> usize
     tokens.iter().take_while(|token| token.is_word()).count()
 }
 
-/// The printed form of a command is as short as it must be.
-fn check_short(command: &Option<Command>) -> Result<(), Refusal>
-    ensures short { OnOk result (is_short command.now ≡ true) }
-    ensures long { IfErr result (λ e. (e ≡ Refusal.Fault TooLong) × (is_short command.now ≡ false)) }
+/// Whether the printed form of a command is as short as it must be.
+fn is_short(command: &Command) -> bool
+    ensures { result ≡ is_short (Some command.now) }
 {
     match command {
-        Some(Command::Run(statement)) => check_length(statement),
-        _ => Ok(()),
+        Command::Run(statement) => check_length(statement).is_ok(),
+        _ => true,
     }
-}
-
-/// Adds a command, if there is one, and room for it.
-fn add(commands: &mut Vec<Command>, room: usize, command: Option<Command>) -> Result<(), Refusal>
-    ensures { (left : List Shown) → Comes (λ x. commands.new.items) result left (one_added room commands.old.items command left) }
-{
-    let Some(command) = command else {
-        return Ok(());
-    };
-    if commands.len() >= room {
-        return Err(Refusal::Fault(ScriptFaultKind::TooLong));
-    }
-    commands.push(command)?;
-    Ok(())
 }
 
 /// Puts the commands of a line, of which there is room for so many, behind lines that name these tables, in place of

@@ -28,13 +28,11 @@
 #![tactic(auto)]
 
 mod command;
-mod fits;
 mod laws;
 mod limits;
 mod line;
 mod parse;
 mod print;
-mod row_text;
 mod script;
 mod serial;
 mod setup;

@@ -1,10 +1,10 @@
 //! Reading a script's text line by line.
 
-ghost use Rattle.std.specs.Prelude.{◌≡◌, ◌≤◌, length, [], IfOk, OnOk, IfErr, IfSome, MatchResult, List, ℕ, Some, None};
+ghost use Rattle.std.specs.Prelude.{◌≡◌, [], IfOk, OnOk, IfErr, IfSome, MatchResult, List, ℕ, Some, None};
 ghost use Rattle.lab_script.specs.declared.script.Script.{Script as PlainScript};
 ghost use Rattle.lab_script.specs.Script.{Spells, LineSpells, TokensSpell, begins_setup};
 ghost use Rattle.lab_script.specs.Fault.{IsFaultAt, IsFaultOf, first_fault, is_over, tokens_fault};
-ghost use Rattle.lab_script.specs.Limits.{max_commands, ScriptPrints};
+ghost use Rattle.lab_script.specs.Limits.{ScriptPrints};
 ghost use Rattle.lab_script.specs.Tables.{script_tables, tables_so_far};
 
 use crate::command::read_commands;
@@ -63,7 +63,7 @@ fn read_line(
     line: &[u8],
     room: &mut Room,
 ) -> Result<(), ScriptFault>
-    requires few { IfSome script.old (λ s. length s.lines ≤ max_commands) }
+    requires prints { IfSome script.old ScriptPrints }
     requires named { tables.old.names ≡ tables_so_far script.old }
     ensures found { OnOk result (LineSpells number line.now script.old script.new) }
     ensures named { OnOk result (tables.new.names ≡ tables_so_far script.new) }
@@ -81,15 +81,21 @@ fn read_line(
     if tokens.is_empty() {
         return Ok(());
     }
-    read_tokens(
-        alloc,
-        script,
-        tables,
-        number,
-        tokens,
-        remark,
-        &mut room.commands,
-    )
+    match script {
+        None => {
+            *script = Some(setup_script(alloc, number, tokens, tables)?);
+            Ok(())
+        }
+        Some(script) => add_commands(
+            alloc,
+            script,
+            tables,
+            number,
+            tokens,
+            remark,
+            &mut room.commands,
+        ),
+    }
 }
 
 /// Whether a line is longer than a line may be, or comes after the last that a text may have.
@@ -113,32 +119,6 @@ fn begins_setup(tokens: &[Token]) -> bool
     match tokens.split_first() {
         None => false,
         Some((first, _)) => *first == Token::Word(Word::Setup),
-    }
-}
-
-/// Reads the tokens and the remark of a line with this number: the setup, or commands behind it. The commands are only
-/// room for those of the line.
-fn read_tokens(
-    alloc: Global,
-    script: &mut Option<Script>,
-    tables: &mut TableSet,
-    number: u32,
-    tokens: &[Token],
-    remark: &[u8],
-    commands: &mut Vec<Command>,
-) -> Result<(), ScriptFault>
-    requires few { IfSome script.old (λ s. length s.lines ≤ max_commands) }
-    requires named { tables.old.names ≡ tables_so_far script.old }
-    ensures found { OnOk result (TokensSpell number tokens.now remark.now script.old script.new) }
-    ensures named { OnOk result (tables.new.names ≡ tables_so_far script.new) }
-    ensures fault { IfErr result (IsFaultAt number (tokens_fault tokens.now remark.now script.old)) }
-{
-    match script {
-        None => {
-            *script = Some(setup_script(alloc, number, tokens, tables)?);
-            Ok(())
-        }
-        Some(script) => add_commands(alloc, script, tables, number, tokens, remark, commands),
     }
 }
 
@@ -166,7 +146,7 @@ fn setup_script(
     }
 }
 
-/// Adds the commands of the line that has these tokens and this remark.
+/// Adds the commands of the line that has these tokens and this remark. Others that stand in `commands` are room for them.
 fn add_commands(
     alloc: Global,
     script: &mut Script,
@@ -176,7 +156,7 @@ fn add_commands(
     remark: &[u8],
     commands: &mut Vec<Command>,
 ) -> Result<(), ScriptFault>
-    requires few { length script.old.lines ≤ max_commands }
+    requires prints { ScriptPrints script.old }
     requires named { tables.old.names ≡ script_tables script.old }
     ensures found { OnOk result (TokensSpell number tokens.now remark.now (Some script.old) (Some script.new)) }
     ensures named { OnOk result (tables.new.names ≡ script_tables script.new) }

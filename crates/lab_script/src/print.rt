@@ -1,17 +1,13 @@
 //! Scripts in printed form, where that keeps the limits of a text.
 
-ghost use Rattle.std.specs.Prelude.{◌≡◌, ◌≤◌, ◌<◌, length, IfOk, OnOk, IfErr, Err};
-ghost use Rattle.lab_script.specs.Printed.{printed_script};
-ghost use Rattle.lab_script.specs.Renumbered.{renumbered};
+ghost use Rattle.std.specs.Prelude.{◌≡◌, IfOk, OnOk, Err};
+ghost use Rattle.lab_script.specs.Printed.{printed_script, renumbered};
 ghost use Rattle.lab_script.specs.Script.{Spells};
 ghost use Rattle.lab_script.specs.Limits.{ScriptPrints, BreaksDepth, BreaksLength, BreaksTables};
-ghost use Rattle.lab_table.specs.TableSet.{max_tables};
-ghost use Rattle.lab_script.specs.Tables.{script_tables};
 
-use crate::fits::setup_fits;
 use crate::limits::MAX_COMMANDS;
 use crate::script::Script;
-use crate::spelling::{put_line, put_setup};
+use crate::spelling::{put_line, put_setup, setup_fits};
 use crate::tables::add_all;
 use lab_statement::{PrintFault, check_command};
 use lab_table::TableSet;
@@ -29,32 +25,36 @@ pub fn print_script(alloc: Global, script: &Script) -> Result<Vec<u8>, PrintFaul
     ensures too_long { result ≡ Err PrintFault.TooLong → BreaksLength script.now }
     ensures too_many_tables { result ≡ Err PrintFault.TooManyTables → BreaksTables script.now }
 {
-    let lines = script.lines.as_slice();
-    if lines.len() > MAX_COMMANDS || !setup_fits(&script.setup) {
-        return Err(PrintFault::TooLong);
-    }
-    check_tables(script)?;
+    check_script(script)?;
     let mut text = Vec::new(alloc);
     put_setup(&mut text, &script.setup)?;
     text.extend_from_slice(b"\n")?;
-    for line in lines {
-        check_command(&line.command)?;
+    for line in script.lines.as_slice() {
         put_line(&mut text, line)?;
     }
     Ok(text)
 }
 
-/// Whether a script names four tables at most.
-fn check_tables(script: &Script) -> Result<(), PrintFault>
-    ensures few { OnOk result (length (script_tables script.now) ≤ max_tables) }
-    ensures many { IfErr result (λ e. (e ≡ PrintFault.TooManyTables) × (max_tables < length (script_tables script.now))) }
+/// Whether the printed form of a script keeps the limits of a text.
+fn check_script(script: &Script) -> Result<(), PrintFault>
+    ensures prints { OnOk result (ScriptPrints script.now) }
+    ensures too_deep { result ≡ Err PrintFault.TooDeep → BreaksDepth script.now }
+    ensures too_long { result ≡ Err PrintFault.TooLong → BreaksLength script.now }
+    ensures too_many_tables { result ≡ Err PrintFault.TooManyTables → BreaksTables script.now }
 {
+    let lines = script.lines.as_slice();
+    if lines.len() > MAX_COMMANDS || !setup_fits(&script.setup) {
+        return Err(PrintFault::TooLong);
+    }
     let mut tables = TableSet::new();
     if !add_all(&mut tables, script.setup.rows()) {
         return Err(PrintFault::TooManyTables);
     }
-    if !add_all(&mut tables, script.lines.as_slice()) {
+    if !add_all(&mut tables, lines) {
         return Err(PrintFault::TooManyTables);
+    }
+    for line in lines {
+        check_command(&line.command)?;
     }
     Ok(())
 }

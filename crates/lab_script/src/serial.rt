@@ -1,17 +1,15 @@
 //! Running a script's transactions one after another.
 
 ghost use Rattle.std.specs.Prelude.{◌≡◌, ◌++◌, ◌&&◌, not, None, Some, cond, IfOk, IfSome, OnOk};
+ghost use Rattle.std.specs.Option.{option_or};
 ghost use Rattle.lab_script.specs.Limits.{AllPrint, SomeLine};
-ghost use Rattle.lab_script.specs.TranscriptView.{Breaks, broken_with, first_broken, shown_of, unprintable};
-ghost use Rattle.lab_script.specs.Transcript.{body_text, commits_of, committed, end_text, inside_after, inside_on, is_begin, sessions_in, statement_text, statements_of, table_after, table_with, transcript, transaction_of, transaction_text};
+ghost use Rattle.lab_script.specs.TranscriptView.{Breaks, first_broken, limit_broken, shown_of, unprintable};
+ghost use Rattle.lab_script.specs.Transcript.{body_of, body_text, committed, end_text, inside_after, is_begin, sessions_in, statement_text, table_after, table_with, transcript, transaction_of, transaction_text};
 
 use crate::script::{Line, Script};
 use crate::transcript::Transcript;
-use lab_table::{Command, NoMemory, Session, Statement, Table};
+use lab_table::{Command, NoMemory, PerSession, Session, Statement, Table};
 use std::alloc::Global;
-
-/// One more than the greatest number of a session.
-const SESSIONS: usize = 10;
 
 /// Runs a script's transactions one after another, each whole, in the order of their begins.
 /// A begin inside a transaction and any other command outside of one are left out.
@@ -22,48 +20,41 @@ pub fn run_serial(alloc: Global, script: &Script) -> Result<Transcript, NoMemory
     ensures printed { IfOk result (λ output. AllPrint script.now.lines → output.unprintable ≡ None) }
     ensures broken { IfOk result (λ output. IfSome output.unprintable (λ fault. SomeLine (Breaks fault) script.now)) }
 {
-    let mut output = Transcript::new(alloc);
     let mut table = script.setup.copy(alloc)?;
-    let mut inside = [false; SESSIONS];
+    let mut output = Transcript::new(alloc);
+    let mut inside = PerSession::all(false);
     let mut number = 0;
     let mut rest = script.lines.as_slice();
     // A session's transactions don't overlap: all of them together pass over a line once a session at most.
     while let Some((line, later)) = rest.split_first() {
-        if begins(&inside, line) {
-            number += 1;
-            run_transaction(alloc, &mut output, &mut table, number, line.session, later)?;
-        }
-        note(&mut inside, line);
         rest = later;
+        let starts = begins(&inside, line);
+        note(&mut inside, line);
+        if !starts {
+            continue;
+        }
+        number += 1;
+        run_transaction(alloc, &mut output, &mut table, number, line.session, later)?;
     }
-    output.put(b"end ")?;
     output.put_table(table.rows())?;
-    output.put(b"\n")?;
     Ok(output)
 }
 
 /// Whether a line begins a transaction.
-fn begins(inside: &[bool; SESSIONS], line: &Line) -> bool
+fn begins(inside: &PerSession<bool>, line: &Line) -> bool
     ensures { result ≡ (is_begin line.now.command && not (sessions_in inside.now line.now.session)) }
 {
-    matches!(line.command, Command::Begin) && !inside[usize::from(line.session.number())]
+    matches!(line.command, Command::Begin) && !inside.get(line.session)
 }
 
 /// Notes whether a line's session is inside a transaction after it.
-fn note(inside: &mut [bool; SESSIONS], line: &Line)
+fn note(inside: &mut PerSession<bool>, line: &Line)
     ensures { sessions_in inside.new ≡ inside_after (sessions_in inside.old) line.now.session line.now.command }
 {
-    let session = usize::from(line.session.number());
-    inside[session] = is_inside(&line.command, inside[session]);
-}
-
-fn is_inside(command: &Command, before: bool) -> bool
-    ensures { result ≡ inside_on command.now before }
-{
-    match command {
-        Command::Begin => true,
-        Command::Commit | Command::Abort => false,
-        Command::Run(_) => before,
+    match line.command {
+        Command::Begin => inside.set(line.session, true),
+        Command::Commit | Command::Abort => inside.set(line.session, false),
+        Command::Run(_) => {}
     }
 }
 
@@ -78,15 +69,16 @@ fn run_transaction(
     lines: &[Line],
 ) -> Result<(), NoMemory>
     ensures text { OnOk result (output.new.text ≡ output.old.text ++ transaction_text number table.old (transaction_of session lines.now)) }
-    ensures unprintable { OnOk result (output.new.unprintable ≡ first_broken output.old.unprintable (shown_of table.old (statements_of session lines.now))) }
+    ensures unprintable { OnOk result (output.new.unprintable ≡ first_broken output.old.unprintable (shown_of table.old (body_of session lines.now).0)) }
     ensures table { OnOk result (table.new ≡ table_after table.old (transaction_of session lines.now)) }
 {
-    let before = table.copy(alloc)?;
     output.put_heading(number, session)?;
-    if !run_body(alloc, output, table, session, lines)? {
+    let before = table.copy(alloc)?;
+    let commits = run_body(alloc, output, table, session, lines)?;
+    if !commits {
         *table = before;
     }
-    Ok(())
+    output.put_end(commits)
 }
 
 /// Runs a statement and appends its line. Answers whether it ran: one that is refused leaves the table as it was.
@@ -97,34 +89,23 @@ fn run_statement(
     statement: &Statement,
 ) -> Result<bool, NoMemory>
     ensures text { OnOk result (output.new.text ≡ output.old.text ++ statement_text statement.now table.old) }
-    ensures unprintable { OnOk result (output.new.unprintable ≡ broken_with output.old.unprintable statement.now) }
+    ensures unprintable { OnOk result (output.new.unprintable ≡ option_or output.old.unprintable (limit_broken statement.now)) }
     ensures table { IfOk result (λ ran. table_with statement.now table.old ≡ cond ran (Some table.new) None) }
 {
     output.put_statement(statement)?;
-    output.put(b" -> ")?;
-    let ran = match table.run(alloc, statement) {
+    match table.run(alloc, statement) {
         Ok(rows) => {
             output.put_rows(&rows)?;
-            true
+            Ok(true)
         }
         Err(fault) => {
             output.put_fault(&fault)?;
-            false
+            Ok(false)
         }
-    };
-    output.put(b"\n")?;
-    Ok(ran)
+    }
 }
 
-/// Appends the last line of a transaction.
-fn put_end(output: &mut Transcript, commits: bool) -> Result<(), NoMemory>
-    ensures text { OnOk result (output.new.text ≡ output.old.text ++ end_text commits) }
-    ensures unprintable { OnOk result (output.new.unprintable ≡ output.old.unprintable) }
-{
-    output.put(if commits { b"commit\n" } else { b"abort\n" })
-}
-
-/// Runs a session's statements up to its first commit or abort, and appends their lines and that of the end.
+/// Runs a session's statements up to its first commit or abort, and appends their lines.
 /// Answers whether they commit: where they don't, the table is left as the last of them made it.
 fn run_body(
     alloc: Global,
@@ -133,25 +114,18 @@ fn run_body(
     session: Session,
     lines: &[Line],
 ) -> Result<bool, NoMemory>
-    ensures text { OnOk result (output.new.text ≡ output.old.text ++ body_text table.old (statements_of session lines.now) (commits_of session lines.now)) }
-    ensures unprintable { OnOk result (output.new.unprintable ≡ first_broken output.old.unprintable (shown_of table.old (statements_of session lines.now))) }
-    ensures table { IfOk result (λ commits. committed table.old (statements_of session lines.now) (commits_of session lines.now) ≡ cond commits (Some table.new) None) }
+    ensures text { IfOk result (λ commits. output.new.text ++ end_text commits ≡ output.old.text ++ body_text table.old (body_of session lines.now).0 (body_of session lines.now).1) }
+    ensures unprintable { OnOk result (output.new.unprintable ≡ first_broken output.old.unprintable (shown_of table.old (body_of session lines.now).0)) }
+    ensures table { IfOk result (λ commits. committed table.old (body_of session lines.now).0 (body_of session lines.now).1 ≡ cond commits (Some table.new) None) }
 {
     for line in lines {
         if line.session == session {
             match &line.command {
                 Command::Begin => {}
-                Command::Commit => {
-                    put_end(output, true)?;
-                    return Ok(true);
-                }
-                Command::Abort => {
-                    put_end(output, false)?;
-                    return Ok(false);
-                }
+                Command::Commit => return Ok(true),
+                Command::Abort => return Ok(false),
                 Command::Run(statement) => {
                     if !run_statement(alloc, output, table, statement)? {
-                        put_end(output, false)?;
                         return Ok(false);
                     }
                 }
@@ -159,7 +133,5 @@ fn run_body(
         }
     }
     // A transaction without an end aborts.
-    let commits = false;
-    put_end(output, commits)?;
-    Ok(commits)
+    Ok(false)
 }

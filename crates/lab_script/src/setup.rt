@@ -8,7 +8,7 @@ ghost use Rattle.lab_statement.specs.FirstFaults.{no_rows_at, HasFault};
 ghost use Rattle.lab_script.specs.Tables.{setup_tables};
 
 use crate::command::read_before;
-use crate::fits::setup_fits;
+use crate::spelling::setup_fits;
 use crate::tables::{add_few, add_setup_tokens, behind_tables};
 use lab_statement::{Parser, Refusal, ScriptFaultKind, Token};
 use lab_table::{RowName, Table, TableName, TableSet, Value, Word};

@@ -1,16 +1,47 @@
-//! The printed form of scripts. Each function appends a text; after NoMemory, part of it may stand there.
+//! The printed form of scripts. Each `put` appends a text; after NoMemory, part of it may stand there.
 
-ghost use Rattle.std.specs.Prelude.{◌≡◌, ◌++◌, OnOk};
+ghost use Rattle.std.specs.Prelude.{◌≡◌, ◌++◌, ◌≤◌, ◌↔◌, length, IsTrue, OnOk};
 ghost use Rattle.std.specs.FinMap as finite;
-ghost use Rattle.lab_script.specs.Printed.{printed_setup, printed_line};
+ghost use Rattle.lab_script.specs.Printed.{named_rows_or, printed_line, printed_named_row, printed_setup};
 ghost use Rattle.lab_script.specs.Ranges.{EntryInRange, LineInRange};
 ghost use Rattle.lab_statement.specs.Each.{Each};
+ghost use Rattle.lab_statement.specs.Limits.{max_line_bytes};
 ghost use Rattle.lab_statement.specs.Sink.{Puts};
 
-use crate::row_text::put_named_rows;
 use crate::script::Line;
-use lab_statement::{Sink, put_command, put_natural};
-use lab_table::{NoMemory, Table};
+use lab_statement::{
+    MAX_LINE_BYTES, Room, Sink, put_command, put_natural, put_row, put_table_name,
+};
+use lab_table::{NoMemory, RowName, Table, Value};
+
+/// Puts a row of any table.
+fn put_named_row<S: Sink>(out: &mut S, row: RowName, value: Value) -> Result<(), S::Refusal>
+    ensures in_range { OnOk result (EntryInRange (row, value)) }
+    ensures text { Puts S.kept S.limit result (S.text out.old) (printed_named_row row value) (S.text out.new) }
+{
+    put_table_name(out, row.table)?;
+    put_row(out, row.id, value)
+}
+
+/// Puts rows of any table.
+pub fn put_named_rows<S: Sink>(
+    out: &mut S,
+    none: &[u8],
+    rows: &[(RowName, Value)],
+) -> Result<(), S::Refusal>
+    ensures in_range { OnOk result (Each EntryInRange rows.now) }
+    ensures text { Puts S.kept S.limit result (S.text out.old) (named_rows_or none.now rows.now) (S.text out.new) }
+{
+    let Some((first, rest)) = rows.split_first() else {
+        return out.put(none);
+    };
+    put_named_row(out, first.0, first.1)?;
+    for (row, value) in rest {
+        out.put(b", ")?;
+        put_named_row(out, *row, *value)?;
+    }
+    Ok(())
+}
 
 /// Puts the line of a setup, without its newline.
 pub fn put_setup<S: Sink>(out: &mut S, table: &Table) -> Result<(), S::Refusal>
@@ -20,6 +51,15 @@ pub fn put_setup<S: Sink>(out: &mut S, table: &Table) -> Result<(), S::Refusal>
     out.put(b"setup ")?;
     put_named_rows(out, b"()", table.rows())?;
     out.put(b";")
+}
+
+/// Whether the line of a setup has at most [`MAX_LINE_BYTES`], without its newline: it is measured and not made, and no
+/// further than that.
+pub fn setup_fits(table: &Table) -> bool
+    ensures { IsTrue result ↔ (length (printed_setup table.now) ≤ max_line_bytes) }
+{
+    let mut room = Room::<MAX_LINE_BYTES>::new();
+    put_setup(&mut room, table).is_ok()
 }
 
 /// Appends the line of a command, with its newline.

@@ -1,12 +1,13 @@
 //! What a script does where its transactions run whole. After NoMemory, part of what was to be appended may stand there.
 
 ghost use Rattle.std.specs.Prelude.{◌≡◌, ◌++◌, [], None, codes, IfOk, IfErr, OnOk, ◌⊎◌, ◌≢◌, Some, Err};
+ghost use Rattle.std.specs.Option.{option_or};
 ghost use Rattle.lab_script.specs.Printed.{named_rows_or};
-ghost use Rattle.lab_statement.specs.Printed.{printed_row_name, printed_statement, rows_or};
-ghost use Rattle.lab_script.specs.TranscriptView.{broken_with, fault_text, limit_broken};
-ghost use Rattle.lab_script.specs.Transcript.{heading_text};
+ghost use Rattle.lab_statement.specs.Printed.{newline, printed_row_name, printed_statement, rows_or};
+ghost use Rattle.lab_script.specs.TranscriptView.{fault_text, limit_broken};
+ghost use Rattle.lab_script.specs.Transcript.{end_text, heading_text};
 
-use crate::row_text::put_named_rows;
+use crate::spelling::put_named_rows;
 use itoa::Buffer;
 use lab_statement::{PrintFault, check_statement, put_list, put_row_name, put_statement};
 use lab_table::{NoMemory, RowName, Session, Statement, TableFault, Value};
@@ -44,14 +45,6 @@ impl Transcript {
         }
     }
 
-    /// Appends bytes.
-    pub(crate) fn put(&mut self, bytes: &[u8]) -> Result<(), NoMemory>
-        ensures text { OnOk result (self.new.text ≡ self.old.text ++ bytes.now) }
-        ensures unprintable { OnOk result (self.new.unprintable ≡ self.old.unprintable) }
-    {
-        self.text.extend_from_slice(bytes)
-    }
-
     /// Appends the first line of a transaction.
     pub(crate) fn put_heading(&mut self, number: usize, session: Session) -> Result<(), NoMemory>
         ensures text { OnOk result (self.new.text ≡ self.old.text ++ heading_text number session) }
@@ -67,35 +60,28 @@ impl Transcript {
 
     /// Appends a statement, and notes the limit that it breaks, if none was broken before.
     pub(crate) fn put_statement(&mut self, statement: &Statement) -> Result<(), NoMemory>
-        ensures text { OnOk result (self.new.text ≡ self.old.text ++ printed_statement statement.now) }
-        ensures unprintable { OnOk result (self.new.unprintable ≡ broken_with self.old.unprintable statement.now) }
+        ensures text { OnOk result (self.new.text ≡ self.old.text ++ (printed_statement statement.now ++ codes " -> ")) }
+        ensures unprintable { OnOk result (self.new.unprintable ≡ option_or self.old.unprintable (limit_broken statement.now)) }
     {
         put_statement(&mut self.text, statement)?;
         if self.unprintable.is_none() {
-            self.unprintable = limit_broken(statement);
+            self.unprintable = check_statement(statement).err();
         }
-        Ok(())
+        self.text.extend_from_slice(b" -> ")
     }
 
-    /// Appends all rows of a table, with the names of tables.
-    pub(crate) fn put_table(&mut self, rows: &[(RowName, Value)]) -> Result<(), NoMemory>
-        ensures text { OnOk result (self.new.text ≡ self.old.text ++ named_rows_or (codes "none") rows.now) }
-        ensures unprintable { OnOk result (self.new.unprintable ≡ self.old.unprintable) }
-    {
-        put_named_rows(&mut self.text, b"none", rows)
-    }
-
-    /// Appends the rows that a statement lists.
+    /// Appends the rows that a statement lists, to the end of its line.
     pub(crate) fn put_rows(&mut self, rows: &[(RowName, Value)]) -> Result<(), NoMemory>
-        ensures text { OnOk result (self.new.text ≡ self.old.text ++ rows_or (codes "none") rows.now) }
+        ensures text { OnOk result (self.new.text ≡ self.old.text ++ (rows_or (codes "none") rows.now ++ newline)) }
         ensures unprintable { OnOk result (self.new.unprintable ≡ self.old.unprintable) }
     {
-        put_list(&mut self.text, rows)
+        put_list(&mut self.text, rows)?;
+        self.text.extend_from_slice(b"\n")
     }
 
-    /// Appends why a statement was refused; NoMemory also where that is the fault.
+    /// Appends why a statement was refused, to the end of its line; NoMemory also where that is the fault.
     pub(crate) fn put_fault(&mut self, fault: &TableFault) -> Result<(), NoMemory>
-        ensures text { OnOk result (self.new.text ≡ self.old.text ++ fault_text fault.now) }
+        ensures text { OnOk result (self.new.text ≡ self.old.text ++ (fault_text fault.now ++ newline)) }
         ensures unprintable { OnOk result (self.new.unprintable ≡ self.old.unprintable) }
         ensures refused { OnOk result (fault.now ≢ TableFault.NoMemory) }
     {
@@ -107,11 +93,31 @@ impl Transcript {
     }
 
     fn put_refusal(&mut self, reason: &[u8], row: RowName) -> Result<(), NoMemory>
-        ensures text { OnOk result (self.new.text ≡ self.old.text ++ (reason.now ++ printed_row_name row)) }
+        ensures text { OnOk result (self.new.text ≡ self.old.text ++ (reason.now ++ printed_row_name row ++ newline)) }
         ensures unprintable { OnOk result (self.new.unprintable ≡ self.old.unprintable) }
     {
         self.text.extend_from_slice(reason)?;
-        put_row_name(&mut self.text, row)
+        put_row_name(&mut self.text, row)?;
+        self.text.extend_from_slice(b"\n")
+    }
+
+    /// Appends the last line of a transaction.
+    pub(crate) fn put_end(&mut self, commits: bool) -> Result<(), NoMemory>
+        ensures text { OnOk result (self.new.text ≡ self.old.text ++ end_text commits) }
+        ensures unprintable { OnOk result (self.new.unprintable ≡ self.old.unprintable) }
+    {
+        let text: &[u8] = if commits { b"commit\n" } else { b"abort\n" };
+        self.text.extend_from_slice(text)
+    }
+
+    /// Appends the last line, with all rows of a table.
+    pub(crate) fn put_table(&mut self, rows: &[(RowName, Value)]) -> Result<(), NoMemory>
+        ensures text { OnOk result (self.new.text ≡ self.old.text ++ (codes "end " ++ named_rows_or (codes "none") rows.now ++ newline)) }
+        ensures unprintable { OnOk result (self.new.unprintable ≡ self.old.unprintable) }
+    {
+        self.text.extend_from_slice(b"end ")?;
+        put_named_rows(&mut self.text, b"none", rows)?;
+        self.text.extend_from_slice(b"\n")
     }
 
     /// The text that `print_transcript` copies, handed out as it is, if each statement in it keeps the limits of a text.
@@ -128,12 +134,6 @@ impl Transcript {
         }
         Ok(text)
     }
-}
-
-fn limit_broken(statement: &Statement) -> Option<PrintFault>
-    ensures { result ≡ limit_broken statement.now }
-{
-    check_statement(statement).err()
 }
 
 /// The text of a transcript, if each statement in it keeps the limits of a text.

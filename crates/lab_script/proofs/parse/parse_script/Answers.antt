@@ -1,5 +1,5 @@
-use Rattle.lab_script.proofs.Common.{sym, subst, ◌∙◌, List, ℕ, [], None, MatchResult, err_from_is_err_and, Spells, IsFaultOf}
-use Rattle.lab_script.proofs.FirstFault.{IsReadTo, none_read, one_more_read, line_faults, whole_read, all_told}
+use Rattle.lab_script.proofs.Common.{sym, subst, ◌∙◌, List, ℕ, [], None, MatchResult, err_from_is_err_and, IsFaultOf}
+use Rattle.lab_script.proofs.FirstFault.{IsRead, IsReadTo, none_read, one_more_read, line_faults, whole_read, all_told}
 use Rattle.lab_script.proofs.TextLines.{text_lines}
 use Rattle.lab_script.proofs.parse.parse_script.Goals as goal
 
@@ -26,7 +26,7 @@ returns-in_err-read_line c =
     let rest = subst (λ (ls : List (List ℕ)). IsReadTo text c.loop-line.number ls c.loop-line.script) c.in-Some.ensures.steps c.loop-line.invariant.0 in
     let fault : IsFaultOf text given = line_faults rest given c.in_err-read_line.ensures.fault in
     let p = err_from_is_err_and c.from_residual.result c.from_residual.ensures.1 in
-    let read : MatchResult c.from_residual.result (λ s. Spells text s) (IsFaultOf text) = rw (p.1, p.2) fault in
+    let read : MatchResult c.from_residual.result (IsRead text) (IsFaultOf text) = rw (p.1, p.2) fault in
     let told = all_told text c.from_residual.result read in
     record { found = told.0; only = told.1; prints = told.2; fault = told.3 }
 
@@ -35,6 +35,6 @@ returns c =
     let text = c.args.text.now in
     let rest : IsReadTo text c.loop-line.number [] c.loop-line.script =
     subst (λ (ls : List (List ℕ)). IsReadTo text c.loop-line.number ls c.loop-line.script) c.in-None.ensures.steps.0 c.loop-line.invariant.0 in
-    let read : MatchResult c.ok_or.result (λ s. Spells text s) (IsFaultOf text) = rw c.ok_or.ensures.value (whole_read c.loop-line.script rest) in
+    let read : MatchResult c.ok_or.result (IsRead text) (IsFaultOf text) = rw c.ok_or.ensures.value (whole_read c.loop-line.script rest) in
     let told = all_told text c.ok_or.result read in
     record { found = told.0; only = told.1; prints = told.2; fault = told.3 }

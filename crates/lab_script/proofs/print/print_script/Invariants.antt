@@ -1,9 +1,8 @@
-use Rattle.lab_script.proofs.Common.{◌≡◌, ◌++◌, drop, flat_map, printed_line, Each, LineInRange, AllPrint}
+use Rattle.lab_script.proofs.Common.{◌≡◌, ◌++◌, drop, flat_map, printed_line, Each, LineInRange}
 use Rattle.lab_script.proofs.print.print_script.Given as goal
 
 abbrev pub invariant-loop-line : goal.invariant-loop-line
 invariant-loop-line l = record {
-  in_range : Each LineInRange (drop l.line-index l.lines) → Each LineInRange l.lines;
-  text : l.text.items ++ flat_map printed_line (drop l.line-index l.lines) ≡ l.initial.text.items ++ flat_map printed_line l.lines;
-  prints : AllPrint (drop l.line-index l.lines) → AllPrint l.lines;
+  in_range : Each LineInRange (drop l.line-index l.line-items) → Each LineInRange l.line-items;
+  text : l.text.items ++ flat_map printed_line (drop l.line-index l.line-items) ≡ l.initial.text.items ++ flat_map printed_line l.line-items;
 }

@@ -1,5 +1,5 @@
 use Rattle.lab_script.proofs.Common.{◌≡◌, ◌∷◌, ◌++◌, map, drop, ap, sym, subst, ◌∙◌, arith, rules, common_steps, Each, EntryInRange, joined, printed_named_row, printed_named_rows, followed, first_put, same_length}
-use Rattle.lab_script.proofs.row_text.put_named_rows.Goals as goal
+use Rattle.lab_script.proofs.spelling.put_named_rows.Goals as goal
 
 pub loop-row-init : goal.loop-row-init
 loop-row-init g c =

@@ -1,5 +1,5 @@
 use Rattle.lab_script.proofs.Common.{max_line_bytes, printed_setup, room_tells}
-use Rattle.lab_script.proofs.fits.setup_fits.Goals as goal
+use Rattle.lab_script.proofs.spelling.setup_fits.Goals as goal
 
 pub returns : goal.returns
 returns c =
