@@ -13,26 +13,34 @@ use lab_table::{
     Cmp, Col, Command, Expr, NoMemory, Pred, PredKind, Statement, StatementKind, TableName, Value,
 };
 
-fn put_col<S: Sink>(out: &mut S, col: Col) -> Result<(), S::Refusal>
-    ensures { Puts S.kept S.limit result (S.text out.old) (printed_col col) (S.text out.new) }
+fn col_text(col: Col) -> &'static [u8]
+    ensures { result.now ≡ printed_col col }
 {
     match col {
-        Col::Id => out.put(b"id"),
-        Col::Value => out.put(b"value"),
+        Col::Id => b"id",
+        Col::Value => b"value",
     }
 }
 
-fn put_cmp<S: Sink>(out: &mut S, cmp: Cmp) -> Result<(), S::Refusal>
-    ensures { Puts S.kept S.limit result (S.text out.old) (printed_cmp cmp) (S.text out.new) }
+fn cmp_text(cmp: Cmp) -> &'static [u8]
+    ensures { result.now ≡ printed_cmp cmp }
 {
     match cmp {
-        Cmp::Eq => out.put(b" = "),
-        Cmp::Ne => out.put(b" <> "),
-        Cmp::Lt => out.put(b" < "),
-        Cmp::Le => out.put(b" <= "),
-        Cmp::Gt => out.put(b" > "),
-        Cmp::Ge => out.put(b" >= "),
+        Cmp::Eq => b" = ",
+        Cmp::Ne => b" <> ",
+        Cmp::Lt => b" < ",
+        Cmp::Le => b" <= ",
+        Cmp::Gt => b" > ",
+        Cmp::Ge => b" >= ",
     }
+}
+
+/// Puts two texts.
+fn put_both<S: Sink>(out: &mut S, first: &[u8], second: &[u8]) -> Result<(), S::Refusal>
+    ensures { Puts S.kept S.limit result (S.text out.old) (first.now ++ second.now) (S.text out.new) }
+{
+    out.put(first)?;
+    out.put(second)
 }
 
 fn put_numbers<S: Sink>(out: &mut S, numbers: &[Value]) -> Result<(), S::Refusal>
@@ -51,6 +59,7 @@ fn put_numbers<S: Sink>(out: &mut S, numbers: &[Value]) -> Result<(), S::Refusal
 }
 
 /// Puts a predicate, in parentheses where it stands enclosed.
+#[cycle(pred)]
 fn put_pred<S: Sink>(out: &mut S, pred: &Pred, enclosed: bool) -> Result<(), S::Refusal>
     ensures in_range { OnOk result (PredInRange pred.now) }
     ensures text { Puts S.kept S.limit result (S.text out.old) (parenthesized enclosed (printed_pred pred.now)) (S.text out.new) }
@@ -62,20 +71,17 @@ fn put_pred<S: Sink>(out: &mut S, pred: &Pred, enclosed: bool) -> Result<(), S::
     }
     match &pred.kind {
         PredKind::Compare { col, cmp, number } => {
-            put_col(out, *col)?;
-            put_cmp(out, *cmp)?;
+            put_both(out, col_text(*col), cmp_text(*cmp))?;
             put_number(out, number.number())
         }
         PredKind::Remainder { col, modulus, rest } => {
-            put_col(out, *col)?;
-            out.put(b" % ")?;
+            put_both(out, col_text(*col), b" % ")?;
             put_natural(out, modulus.number())?;
             out.put(b" = ")?;
             put_number(out, rest.number())
         }
         PredKind::OneOf { col, numbers } => {
-            put_col(out, *col)?;
-            out.put(b" in (")?;
+            put_both(out, col_text(*col), b" in (")?;
             put_numbers(out, numbers.as_slice())?;
             out.put(b")")
         }
@@ -83,17 +89,27 @@ fn put_pred<S: Sink>(out: &mut S, pred: &Pred, enclosed: bool) -> Result<(), S::
             out.put(b"not ")?;
             put_pred(out, p, is_joined(p))
         }
-        PredKind::And(p, q) => {
-            put_pred(out, p, is_or(p))?;
-            out.put(b" and ")?;
-            put_pred(out, q, is_joined(q))
-        }
-        PredKind::Or(p, q) => {
-            put_pred(out, p, false)?;
-            out.put(b" or ")?;
-            put_pred(out, q, is_or(q))
-        }
+        PredKind::And(p, q) => put_joined(out, p, is_or(p), b" and ", q, is_joined(q)),
+        PredKind::Or(p, q) => put_joined(out, p, false, b" or ", q, is_or(q)),
     }
+}
+
+/// Puts two predicates and the connective between them, each predicate in parentheses where it stands enclosed.
+#[cycle(pred)]
+fn put_joined<S: Sink>(
+    out: &mut S,
+    left: &Pred,
+    left_enclosed: bool,
+    connective: &[u8],
+    right: &Pred,
+    right_enclosed: bool,
+) -> Result<(), S::Refusal>
+    ensures in_range { OnOk result (PredInRange left.now × PredInRange right.now) }
+    ensures text { Puts S.kept S.limit result (S.text out.old) (parenthesized left_enclosed (printed_pred left.now) ++ connective.now ++ parenthesized right_enclosed (printed_pred right.now)) (S.text out.new) }
+{
+    put_pred(out, left, left_enclosed)?;
+    out.put(connective)?;
+    put_pred(out, right, right_enclosed)
 }
 
 /// Whether a predicate has an or at its top.
