@@ -161,8 +161,21 @@ fn put_words<S: Sink>(out: &mut S, words: &[u8], table: TableName) -> Result<(),
     ensures name { OnOk result (is_table_name table ≡ true) }
     ensures text { Puts S.kept S.limit result (S.text out.old) (words.now ++ table) (S.text out.new) }
 {
-    out.put(words)?;
-    out.put(table.as_bytes())
+    put_both(out, words, table.as_bytes())
+}
+
+/// Puts words, the name of a table and a `where`.
+fn put_words_where<S: Sink>(
+    out: &mut S,
+    words: &[u8],
+    table: TableName,
+    pred: &Option<Pred>,
+) -> Result<(), S::Refusal>
+    ensures in_range { OnOk result ((is_table_name table ≡ true) × WhereInRange pred.now) }
+    ensures text { Puts S.kept S.limit result (S.text out.old) (words.now ++ table ++ printed_where pred.now) (S.text out.new) }
+{
+    put_words(out, words, table)?;
+    put_where(out, pred)
 }
 
 /// Puts a statement.
@@ -173,10 +186,7 @@ pub fn put_statement<S: Sink>(out: &mut S, statement: &Statement) -> Result<(), 
 {
     let table = statement.table;
     match &statement.kind {
-        StatementKind::Select { pred } => {
-            put_words(out, b"select * from ", table)?;
-            put_where(out, pred)
-        }
+        StatementKind::Select { pred } => put_words_where(out, b"select * from ", table, pred),
         StatementKind::Update { expr, pred } => {
             put_words(out, b"update ", table)?;
             out.put(b" set value = ")?;
@@ -188,10 +198,7 @@ pub fn put_statement<S: Sink>(out: &mut S, statement: &Statement) -> Result<(), 
             out.put(b" (id, value) values ")?;
             put_row(out, *id, *value)
         }
-        StatementKind::Delete { pred } => {
-            put_words(out, b"delete from ", table)?;
-            put_where(out, pred)
-        }
+        StatementKind::Delete { pred } => put_words_where(out, b"delete from ", table, pred),
     }
 }
 
