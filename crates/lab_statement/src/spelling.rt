@@ -1,6 +1,7 @@
 //! The printed form of statements. Each function appends a text; after NoMemory, part of it may stand there.
 
-ghost use Rattle.std.specs.Prelude.{◌≡◌, ◌++◌, ◌||◌, OnOk, true};
+ghost use Rattle.std.specs.Prelude.{◌≡◌, ◌++◌, ◌||◌, OnOk, codes, true};
+ghost use Rattle.std.specs.Fmt.{signed_decimal};
 ghost use Rattle.lab_table.specs.TableName.{is_table_name};
 ghost use Rattle.lab_statement.specs.Printed.{printed_col, printed_cmp, joined, printed_numbers, parenthesized, printed_pred, printed_where, printed_expr, is_and, is_or, printed_statement, printed_command};
 ghost use Rattle.lab_statement.specs.Each.{Each};
@@ -52,10 +53,18 @@ fn put_numbers<S: Sink>(out: &mut S, numbers: &[Value]) -> Result<(), S::Refusal
     };
     put_number(out, first.number())?;
     for number in rest {
-        out.put(b", ")?;
-        put_number(out, number.number())?;
+        put_next_number(out, *number)?;
     }
     Ok(())
+}
+
+/// Puts a number behind another one.
+fn put_next_number<S: Sink>(out: &mut S, number: Value) -> Result<(), S::Refusal>
+    ensures in_range { OnOk result (ValueInRange number) }
+    ensures text { Puts S.kept S.limit result (S.text out.old) (codes ", " ++ signed_decimal number) (S.text out.new) }
+{
+    out.put(b", ")?;
+    put_number(out, number.number())
 }
 
 /// Puts a predicate, in parentheses where it stands enclosed.
