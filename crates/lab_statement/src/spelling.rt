@@ -114,7 +114,9 @@ fn put_joined<S: Sink>(
     right_enclosed: bool,
 ) -> Result<(), S::Refusal>
     ensures in_range { OnOk result (PredInRange left.now × PredInRange right.now) }
-    ensures text { Puts S.kept S.limit result (S.text out.old) (parenthesized left_enclosed (printed_pred left.now) ++ connective.now ++ parenthesized right_enclosed (printed_pred right.now)) (S.text out.new) }
+    ensures text { Puts S.kept S.limit result (S.text out.old)
+        (parenthesized left_enclosed (printed_pred left.now) ++ connective.now ++ parenthesized right_enclosed (printed_pred right.now))
+        (S.text out.new) }
 {
     put_pred(out, left, left_enclosed)?;
     out.put(connective)?;
