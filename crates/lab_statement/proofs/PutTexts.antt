@@ -1,5 +1,5 @@
 -- Texts that a sink was handed, one behind the other.
-use Rattle.lab_statement.proofs.Common.{rules, ◌≡◌, ◌≤◌, ◌+◌, ℕ, suc, Bool, true, false, inl, inr, nat_le, cases_Bool, le-leb, leb-true, false≢true, List, ◌∷◌, ◌++◌, Result, Ok, Err, length, map, replicate, refl, sym, ap, ◌∙◌, append_assoc, arith, length-append, ◌↔◌, IsTrue, is_ok, map-append, length-map, length-replicate, joined}
+use Rattle.lab_statement.proofs.Common.{rules, ◌≡◌, ◌≤◌, ◌+◌, ℕ, suc, Bool, true, false, inl, inr, nat_le, cases_Bool, le-leb, leb-true, false≢true, codes, List, ◌∷◌, ◌++◌, Result, Ok, Err, length, map, replicate, refl, sym, ap, ◌∙◌, append_assoc, arith, length-append, ◌↔◌, IsTrue, is_ok, map-append, length-map, length-replicate, joined}
 use Rattle.lab_statement.specs.Sink.{Puts}
 use Rattle.lab_statement.proofs.Joined.{followed, joined_is}
 
@@ -18,6 +18,11 @@ puts_rest kept limit (Err e) old front back middle new whole first second is = o
 pub first_put : (kept : ℕ → ℕ) (old text : List ℕ) (texts : List (List ℕ)) {middle : List ℕ} → middle ≡ old ++ map kept text
     → middle ++ map kept (followed texts) ≡ old ++ map kept (joined (text ∷ texts))
 first_put kept old text texts put = put_behind kept old text (followed texts) put refl ∙ ap (λ text. old ++ map kept text) (sym (joined_is text texts))
+
+-- where the next of texts was put behind a comma, the others are left
+pub next_put : (kept : ℕ → ℕ) (old text : List ℕ) (texts : List (List ℕ)) {new : List ℕ} → new ≡ old ++ map kept (codes ", " ++ text)
+    → new ++ map kept (followed texts) ≡ old ++ map kept (followed (text ∷ texts))
+next_put kept old text texts put = put_behind kept old (codes ", " ++ text) (followed texts) put refl
 
 -- what was put and what is left have the length of all
 pub same_length : (kept : ℕ → ℕ) (out left old whole : List ℕ) → out ++ map kept left ≡ old ++ map kept whole → length out + length left ≡ length old + length whole

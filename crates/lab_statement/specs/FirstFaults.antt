@@ -84,14 +84,19 @@ end_read ts = if_found (after token.Semicolon ts) (λ rest. Reads rest) (do
   none ← nothing_read ts
   Reads ts)
 
--- one statement and its end: one that is over its limit stops there, and what stands behind it doesn't matter
+-- the end of this statement: one that is over its limit stops there, and what stands behind it doesn't matter
+abbrev pub ended_read : Statement → List Token → Reading Statement
+ended_read s ts = do
+  rest ← end_read ts
+  if nat_le (length (printed_statement s)) max_statement_bytes then (do
+    end ← nothing_read rest
+    Reads s) else Stops TooLong rest
+
+-- one statement and its end
 unfoldable pub whole_statement_read : List Token → Reading Statement
 whole_statement_read ts = do
   s ← statement_read ts
-  rest ← end_read s.1
-  if nat_le (length (printed_statement s.0)) max_statement_bytes then (do
-    end ← nothing_read rest
-    Reads s.0) else Stops TooLong rest
+  ended_read s.0 s.1
 
 -- whether the printed form of a command is as short as it must be
 abbrev pub is_short : Option Command → Bool

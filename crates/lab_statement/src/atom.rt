@@ -134,8 +134,7 @@ impl Parser<'_> {
             return Ok(Numbers::new(Vec::new(alloc)));
         }
         let numbers = self.numbers(alloc)?;
-        self.expect(Token::Close)?;
-        Ok(Numbers::new(numbers))
+        self.expect(Token::Close).and(Ok(Numbers::new(numbers)))
     }
 
     /// Numbers with a comma between two of them.

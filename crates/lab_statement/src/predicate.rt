@@ -1,6 +1,6 @@
 //! Predicates, read from tokens.
 
-ghost use Rattle.std.specs.Prelude.{◌≡◌, ◌≤◌, length, IfOk};
+ghost use Rattle.std.specs.Prelude.{◌≡◌, ◌≤◌, length, IfOk, MatchResult};
 ghost use Rattle.lab_table.specs.Predicate as predicate;
 ghost use Rattle.lab_statement.specs.Stopping.{Comes, conj_read, pred_read, term_read, where_read};
 
@@ -66,22 +66,21 @@ impl Parser<'_> {
                 return Err(Refusal::Fault(ScriptFaultKind::TooDeep));
             }
             let pred = self.term(alloc, depth - 1)?;
-            return Ok(negation(alloc, pred)?);
+            return negation(alloc, pred);
         }
         if self.took(Token::Open) {
             if depth == 0 {
                 return Err(Refusal::Fault(ScriptFaultKind::TooDeep));
             }
             let pred = self.pred(alloc, depth - 1)?;
-            self.expect(Token::Close)?;
-            return Ok(pred);
+            return self.expect(Token::Close).and(Ok(pred));
         }
         self.atom(alloc)
     }
 }
 
-fn negation(alloc: Global, pred: Pred) -> Result<Pred, NoMemory>
-    ensures { IfOk result (λ x. x ≡ predicate.Not pred) }
+fn negation(alloc: Global, pred: Pred) -> Result<Pred, Refusal>
+    ensures { MatchResult result (λ x. x ≡ predicate.Not pred) (λ e. e ≡ Refusal.NoMemory) }
 {
     Ok(Pred {
         kind: PredKind::Not(Box::new(alloc, pred)?),

@@ -1,6 +1,7 @@
 //! The printed form of statements. Each function appends a text; after NoMemory, part of it may stand there.
 
-ghost use Rattle.std.specs.Prelude.{◌≡◌, ◌++◌, ◌||◌, OnOk, true};
+ghost use Rattle.std.specs.Prelude.{◌≡◌, ◌++◌, ◌||◌, OnOk, codes, true};
+ghost use Rattle.std.specs.Fmt.{signed_decimal};
 ghost use Rattle.lab_table.specs.TableName.{is_table_name};
 ghost use Rattle.lab_statement.specs.Printed.{printed_col, printed_cmp, joined, printed_numbers, parenthesized, printed_pred, printed_where, printed_expr, is_and, is_or, printed_statement, printed_command};
 ghost use Rattle.lab_statement.specs.Each.{Each};
@@ -13,26 +14,34 @@ use lab_table::{
     Cmp, Col, Command, Expr, NoMemory, Pred, PredKind, Statement, StatementKind, TableName, Value,
 };
 
-fn put_col<S: Sink>(out: &mut S, col: Col) -> Result<(), S::Refusal>
-    ensures { Puts S.kept S.limit result (S.text out.old) (printed_col col) (S.text out.new) }
+fn col_text(col: Col) -> &'static [u8]
+    ensures { result.now ≡ printed_col col }
 {
     match col {
-        Col::Id => out.put(b"id"),
-        Col::Value => out.put(b"value"),
+        Col::Id => b"id",
+        Col::Value => b"value",
     }
 }
 
-fn put_cmp<S: Sink>(out: &mut S, cmp: Cmp) -> Result<(), S::Refusal>
-    ensures { Puts S.kept S.limit result (S.text out.old) (printed_cmp cmp) (S.text out.new) }
+fn cmp_text(cmp: Cmp) -> &'static [u8]
+    ensures { result.now ≡ printed_cmp cmp }
 {
     match cmp {
-        Cmp::Eq => out.put(b" = "),
-        Cmp::Ne => out.put(b" <> "),
-        Cmp::Lt => out.put(b" < "),
-        Cmp::Le => out.put(b" <= "),
-        Cmp::Gt => out.put(b" > "),
-        Cmp::Ge => out.put(b" >= "),
+        Cmp::Eq => b" = ",
+        Cmp::Ne => b" <> ",
+        Cmp::Lt => b" < ",
+        Cmp::Le => b" <= ",
+        Cmp::Gt => b" > ",
+        Cmp::Ge => b" >= ",
     }
+}
+
+/// Puts two texts.
+fn put_both<S: Sink>(out: &mut S, first: &[u8], second: &[u8]) -> Result<(), S::Refusal>
+    ensures { Puts S.kept S.limit result (S.text out.old) (first.now ++ second.now) (S.text out.new) }
+{
+    out.put(first)?;
+    out.put(second)
 }
 
 fn put_numbers<S: Sink>(out: &mut S, numbers: &[Value]) -> Result<(), S::Refusal>
@@ -44,13 +53,22 @@ fn put_numbers<S: Sink>(out: &mut S, numbers: &[Value]) -> Result<(), S::Refusal
     };
     put_number(out, first.number())?;
     for number in rest {
-        out.put(b", ")?;
-        put_number(out, number.number())?;
+        put_next_number(out, *number)?;
     }
     Ok(())
 }
 
+/// Puts a number behind another one.
+fn put_next_number<S: Sink>(out: &mut S, number: Value) -> Result<(), S::Refusal>
+    ensures in_range { OnOk result (ValueInRange number) }
+    ensures text { Puts S.kept S.limit result (S.text out.old) (codes ", " ++ signed_decimal number) (S.text out.new) }
+{
+    out.put(b", ")?;
+    put_number(out, number.number())
+}
+
 /// Puts a predicate, in parentheses where it stands enclosed.
+#[cycle(pred)]
 fn put_pred<S: Sink>(out: &mut S, pred: &Pred, enclosed: bool) -> Result<(), S::Refusal>
     ensures in_range { OnOk result (PredInRange pred.now) }
     ensures text { Puts S.kept S.limit result (S.text out.old) (parenthesized enclosed (printed_pred pred.now)) (S.text out.new) }
@@ -62,20 +80,17 @@ fn put_pred<S: Sink>(out: &mut S, pred: &Pred, enclosed: bool) -> Result<(), S::
     }
     match &pred.kind {
         PredKind::Compare { col, cmp, number } => {
-            put_col(out, *col)?;
-            put_cmp(out, *cmp)?;
+            put_both(out, col_text(*col), cmp_text(*cmp))?;
             put_number(out, number.number())
         }
         PredKind::Remainder { col, modulus, rest } => {
-            put_col(out, *col)?;
-            out.put(b" % ")?;
+            put_both(out, col_text(*col), b" % ")?;
             put_natural(out, modulus.number())?;
             out.put(b" = ")?;
             put_number(out, rest.number())
         }
         PredKind::OneOf { col, numbers } => {
-            put_col(out, *col)?;
-            out.put(b" in (")?;
+            put_both(out, col_text(*col), b" in (")?;
             put_numbers(out, numbers.as_slice())?;
             out.put(b")")
         }
@@ -83,17 +98,29 @@ fn put_pred<S: Sink>(out: &mut S, pred: &Pred, enclosed: bool) -> Result<(), S::
             out.put(b"not ")?;
             put_pred(out, p, is_joined(p))
         }
-        PredKind::And(p, q) => {
-            put_pred(out, p, is_or(p))?;
-            out.put(b" and ")?;
-            put_pred(out, q, is_joined(q))
-        }
-        PredKind::Or(p, q) => {
-            put_pred(out, p, false)?;
-            out.put(b" or ")?;
-            put_pred(out, q, is_or(q))
-        }
+        PredKind::And(p, q) => put_joined(out, p, is_or(p), b" and ", q, is_joined(q)),
+        PredKind::Or(p, q) => put_joined(out, p, false, b" or ", q, is_or(q)),
     }
+}
+
+/// Puts two predicates and the connective between them, each predicate in parentheses where it stands enclosed.
+#[cycle(pred)]
+fn put_joined<S: Sink>(
+    out: &mut S,
+    left: &Pred,
+    left_enclosed: bool,
+    connective: &[u8],
+    right: &Pred,
+    right_enclosed: bool,
+) -> Result<(), S::Refusal>
+    ensures in_range { OnOk result (PredInRange left.now × PredInRange right.now) }
+    ensures text { Puts S.kept S.limit result (S.text out.old)
+        (parenthesized left_enclosed (printed_pred left.now) ++ connective.now ++ parenthesized right_enclosed (printed_pred right.now))
+        (S.text out.new) }
+{
+    put_pred(out, left, left_enclosed)?;
+    out.put(connective)?;
+    put_pred(out, right, right_enclosed)
 }
 
 /// Whether a predicate has an or at its top.
@@ -145,8 +172,21 @@ fn put_words<S: Sink>(out: &mut S, words: &[u8], table: TableName) -> Result<(),
     ensures name { OnOk result (is_table_name table ≡ true) }
     ensures text { Puts S.kept S.limit result (S.text out.old) (words.now ++ table) (S.text out.new) }
 {
-    out.put(words)?;
-    out.put(table.as_bytes())
+    put_both(out, words, table.as_bytes())
+}
+
+/// Puts words, the name of a table and a `where`.
+fn put_words_where<S: Sink>(
+    out: &mut S,
+    words: &[u8],
+    table: TableName,
+    pred: &Option<Pred>,
+) -> Result<(), S::Refusal>
+    ensures in_range { OnOk result ((is_table_name table ≡ true) × WhereInRange pred.now) }
+    ensures text { Puts S.kept S.limit result (S.text out.old) (words.now ++ table ++ printed_where pred.now) (S.text out.new) }
+{
+    put_words(out, words, table)?;
+    put_where(out, pred)
 }
 
 /// Puts a statement.
@@ -157,10 +197,7 @@ pub fn put_statement<S: Sink>(out: &mut S, statement: &Statement) -> Result<(), 
 {
     let table = statement.table;
     match &statement.kind {
-        StatementKind::Select { pred } => {
-            put_words(out, b"select * from ", table)?;
-            put_where(out, pred)
-        }
+        StatementKind::Select { pred } => put_words_where(out, b"select * from ", table, pred),
         StatementKind::Update { expr, pred } => {
             put_words(out, b"update ", table)?;
             out.put(b" set value = ")?;
@@ -172,10 +209,7 @@ pub fn put_statement<S: Sink>(out: &mut S, statement: &Statement) -> Result<(), 
             out.put(b" (id, value) values ")?;
             put_row(out, *id, *value)
         }
-        StatementKind::Delete { pred } => {
-            put_words(out, b"delete from ", table)?;
-            put_where(out, pred)
-        }
+        StatementKind::Delete { pred } => put_words_where(out, b"delete from ", table, pred),
     }
 }
 

@@ -6,7 +6,7 @@ ghost use Rattle.lab_statement.specs.Limits.{max_statement_bytes};
 ghost use Rattle.lab_statement.specs.Printed.{printed_statement};
 ghost use Rattle.lab_statement.specs.declared.fault.ScriptFaultKind.TheVariants.{TooLong};
 ghost use Rattle.lab_statement.specs.Stopping.{Comes};
-ghost use Rattle.lab_statement.specs.FirstFaults.{delete_read, end_read, expr_read, insert_read, select_read, statement_read, update_read, whole_statement_read};
+ghost use Rattle.lab_statement.specs.FirstFaults.{delete_read, end_read, ended_read, expr_read, insert_read, select_read, statement_read, update_read, whole_statement_read};
 
 use crate::fault::{Refusal, ScriptFaultKind};
 use crate::fits::statement_fits;
@@ -22,10 +22,16 @@ impl Parser<'_> {
         ensures { Comes (λ x. x) result self.new (whole_statement_read self.old) }
     {
         let statement = self.statement(alloc)?;
+        self.nothing_behind(&statement).and(Ok(statement))
+    }
+
+    /// The end of this statement, which is all that is left.
+    fn nothing_behind(&mut self, statement: &Statement) -> Result<(), Refusal>
+        ensures { Comes (λ x. statement.now) result self.new (ended_read statement.now self.old) }
+    {
         self.ended()?;
-        check_length(&statement)?;
-        self.nothing_left()?;
-        Ok(statement)
+        check_length(statement)?;
+        self.nothing_left()
     }
 
     /// One of the four kinds of statement.

@@ -1,12 +1,7 @@
-use Rattle.lab_statement.proofs.Common.{◌++◌, ap, codes, printed_kind, printed_where, printed_row}
+use Rattle.lab_statement.proofs.Common.{◌++◌, subst, sym, ap, codes, printed_kind, printed_row}
+use Rattle.lab_statement.specs.Sink.{Puts}
 use Rattle.lab_statement.proofs.PutTexts.{put_behind, puts_rest}
 use Rattle.lab_statement.proofs.spelling.put_statement.Goals as goal
-
-pub returns-in_ok-put_words-in-Select-clause-text : goal.returns-in_ok-put_words-in-Select-clause-text
-returns-in_ok-put_words-in-Select-clause-text g c =
-    let table = c.args.statement.now.table in
-    puts_rest g.S.Sink.kept g.S.Sink.limit c.put_where.result (g.S.Sink.text c.args.out.now) (codes "select * from " ++ table) (printed_where c.in-Select.pred) _ _ _ c.in_ok-put_words-in-Select.ensures.text
-    c.put_where.ensures.text (ap (printed_kind table) c.in-Select.is)
 
 pub returns-in_ok-put-in-Insert-clause-text : goal.returns-in_ok-put-in-Insert-clause-text
 returns-in_ok-put-in-Insert-clause-text g c =
@@ -17,8 +12,12 @@ returns-in_ok-put-in-Insert-clause-text g c =
     (put_behind kept old (codes "insert into " ++ table) (codes " (id, value) values ") c.in_ok-put_words-in-Insert.ensures.text c.in_ok-put-in-Insert.ensures) c.put_row.ensures.text
     (ap (printed_kind table) c.in-Insert.is)
 
-pub returns-in_ok-put_words-in-Delete-clause-text : goal.returns-in_ok-put_words-in-Delete-clause-text
-returns-in_ok-put_words-in-Delete-clause-text g c =
-    let table = c.args.statement.now.table in
-    puts_rest g.S.Sink.kept g.S.Sink.limit c.put_where-in-Delete.result (g.S.Sink.text c.args.out.now) (codes "delete from " ++ table) (printed_where c.in-Delete.pred) _ _ _ c.in_ok-put_words-in-Delete.ensures.text
-    c.put_where-in-Delete.ensures.text (ap (printed_kind table) c.in-Delete.is)
+pub returns-in-Select-clause-text : goal.returns-in-Select-clause-text
+returns-in-Select-clause-text g c =
+    let put = c.put_words_where in
+    subst (λ text. Puts g.S.Sink.kept g.S.Sink.limit put.result (g.S.Sink.text c.args.out.now) text (g.S.Sink.text put.new.out)) (sym (ap (printed_kind c.args.statement.now.table) c.in-Select.is)) put.ensures.text
+
+pub returns-in-Delete-clause-text : goal.returns-in-Delete-clause-text
+returns-in-Delete-clause-text g c =
+    let put = c.put_words_where-in-Delete in
+    subst (λ text. Puts g.S.Sink.kept g.S.Sink.limit put.result (g.S.Sink.text c.args.out.now) text (g.S.Sink.text put.new.out)) (sym (ap (printed_kind c.args.statement.now.table) c.in-Delete.is)) put.ensures.text
