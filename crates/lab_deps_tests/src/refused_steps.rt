@@ -84,6 +84,15 @@ fn has_told(log: &[LogEvent], count: usize, events: &[Told]) -> bool {
     log.len() == count
 }
 
+/// How the turns of a play are taken.
+#[derive(Clone, Copy, Debug)]
+struct Play {
+    /// Whether the second update waits for the first one's transaction.
+    waits: bool,
+    /// Whether a call answers a copy of what it logs.
+    copies: bool,
+}
+
 /// What an engine says of a session: whether it is active, whether it waits, and whether it is the retryable one.
 fn said<E: Engine>(engine: &E, session: Session) -> (bool, bool, bool) {
     (
@@ -107,18 +116,36 @@ fn logged(answer: Result<Outcome, NoMemory>) -> Result<(), NoMemory> {
 }
 
 /// Retries the retryable session.
-fn retry_turn<E: Engine>(alloc: Global, engine: &mut E) -> Result<(), NoMemory>
+fn retry_turn<E: Engine>(alloc: Global, engine: &mut E, copies: bool) -> Result<(), NoMemory>
     requires { length (E.events engine.old) < max_events }
 {
     match engine.retryable() {
         Some(session) => {
-            if engine.is_waiting(session) {
+            if !engine.is_waiting(session) {
+                Err(AllocError)
+            } else if copies {
                 logged(engine.retry(alloc, session))
             } else {
-                Err(AllocError)
+                engine.log_retry(alloc, session)
             }
         }
         None => Err(AllocError),
+    }
+}
+
+/// Steps a line.
+fn step_turn<E: Engine>(
+    alloc: Global,
+    engine: &mut E,
+    line: &Line,
+    copies: bool,
+) -> Result<(), NoMemory>
+    requires { length (E.events engine.old) < max_events }
+{
+    if copies {
+        logged(engine.step(alloc, line.session, &line.command))
+    } else {
+        engine.log_step(alloc, line.session, &line.command)
     }
 }
 
@@ -127,22 +154,22 @@ fn turn<E: Engine>(
     alloc: Global,
     engine: &mut E,
     lines: &[Line],
-    waits: bool,
+    play: Play,
     place: usize,
 ) -> Result<(), NoMemory> {
     if engine.log().len() >= MAX_EVENTS {
         return Err(AllocError);
     }
-    if waits && place == RETRY {
-        return retry_turn(alloc, engine);
+    if play.waits && place == RETRY {
+        return retry_turn(alloc, engine, play.copies);
     }
-    let line = if waits && place > RETRY {
+    let line = if play.waits && place > RETRY {
         place - 1
     } else {
         place
     };
     match lines.get(line) {
-        Some(line) => logged(engine.step(alloc, line.session, &line.command)),
+        Some(line) => step_turn(alloc, engine, line, play.copies),
         None => Err(AllocError),
     }
 }
@@ -152,11 +179,11 @@ fn turns_before<E: Engine>(
     alloc: Global,
     engine: &mut E,
     lines: &[Line],
-    waits: bool,
+    play: Play,
     place: usize,
 ) -> Result<(), NoMemory> {
     for before in 0..place {
-        turn(alloc, engine, lines, waits, before)?;
+        turn(alloc, engine, lines, play, before)?;
     }
     Ok(())
 }
@@ -167,14 +194,14 @@ fn is_turn_refused<E: Engine>(
     alloc: Global,
     engine: &mut E,
     lines: &[Line],
-    waits: bool,
+    play: Play,
     place: usize,
     growth: u16,
 ) -> Result<bool, &'static str> {
-    let events = if waits { WAITING } else { CONFLICTING };
+    let events = if play.waits { WAITING } else { CONFLICTING };
     let before = said_of_both(engine);
     refuse(alloc, growth);
-    let answer = turn(alloc, engine, lines, waits, place);
+    let answer = turn(alloc, engine, lines, play, place);
     let refused = was_refused(alloc);
     if answer.is_err() {
         if !refused {
@@ -183,7 +210,7 @@ fn is_turn_refused<E: Engine>(
         if !has_told(engine.log(), place, events) || said_of_both(engine) != before {
             return Err("all as before");
         }
-        turn(alloc, engine, lines, waits, place)
+        turn(alloc, engine, lines, play, place)
             .ok()
             .ok_or("memory")?;
     }
@@ -198,13 +225,13 @@ fn is_refused<E: Engine + Drop>(
     alloc: Global,
     engine: E,
     lines: &[Line],
-    waits: bool,
+    play: Play,
     place: usize,
     growth: u16,
 ) -> Result<bool, &'static str> {
     let mut engine = engine;
-    let refused = match turns_before(alloc, &mut engine, lines, waits, place) {
-        Ok(()) => is_turn_refused(alloc, &mut engine, lines, waits, place, growth),
+    let refused = match turns_before(alloc, &mut engine, lines, play, place) {
+        Ok(()) => is_turn_refused(alloc, &mut engine, lines, play, place, growth),
         Err(_) => Err("memory"),
     };
     drop(engine);
@@ -215,10 +242,15 @@ fn is_refused<E: Engine + Drop>(
 fn is_refused_at(
     alloc: Global,
     level: Level,
+    copies: bool,
     script: &Script,
     place: usize,
     growth: u16,
 ) -> Result<bool, &'static str> {
+    let play = Play {
+        waits: level != Level::Snapshot,
+        copies,
+    };
     let setup = script.setup.copy(alloc).ok().ok_or("memory")?;
     let lines = script.lines.as_slice();
     match level {
@@ -227,7 +259,7 @@ fn is_refused_at(
                 alloc,
                 LockEngine::new(alloc, setup),
                 lines,
-                true,
+                play,
                 place,
                 growth,
             )
@@ -237,7 +269,7 @@ fn is_refused_at(
                 alloc,
                 CommittedEngine::new(alloc, setup),
                 lines,
-                true,
+                play,
                 place,
                 growth,
             )
@@ -247,7 +279,7 @@ fn is_refused_at(
                 alloc,
                 SnapshotEngine::new(alloc, setup),
                 lines,
-                false,
+                play,
                 place,
                 growth,
             )
@@ -260,12 +292,13 @@ fn shows_turn(
     rt: &impl Abort,
     alloc: Global,
     level: Level,
+    copies: bool,
     script: &Script,
     place: usize,
 ) -> Result<(), &'static str> {
     let mut answered = false;
     for growth in 1..1_000u16 {
-        if !is_refused_at(alloc, level, script, place, growth)? {
+        if !is_refused_at(alloc, level, copies, script, place, growth)? {
             answered = true;
             break;
         }
@@ -279,28 +312,47 @@ fn shows_turns(
     rt: &impl Abort,
     alloc: Global,
     level: Level,
+    copies: bool,
     script: &Script,
     events: usize,
 ) -> Result<(), &'static str> {
     for place in 0..events {
-        shows_turn(rt, alloc, level, script, place)?;
+        shows_turn(rt, alloc, level, copies, script, place)?;
     }
     Ok(())
 }
 
 /// The same at each level.
-fn shows_levels(rt: &impl Abort, alloc: Global, script: &Script) -> Result<(), &'static str> {
-    shows_turns(rt, alloc, Level::Locking, script, 7)?;
-    shows_turns(rt, alloc, Level::Committed, script, 7)?;
-    shows_turns(rt, alloc, Level::Snapshot, script, 6)
+fn shows_levels(
+    rt: &impl Abort,
+    alloc: Global,
+    copies: bool,
+    script: &Script,
+) -> Result<(), &'static str> {
+    shows_turns(rt, alloc, Level::Locking, copies, script, 7)?;
+    shows_turns(rt, alloc, Level::Committed, copies, script, 7)?;
+    shows_turns(rt, alloc, Level::Snapshot, copies, script, 6)
+}
+
+/// The same of the script.
+fn shows_calls(rt: &impl Abort, alloc: Global, copies: bool) -> Result<(), &'static str> {
+    let script = parse_script(alloc, TWO_UPDATES);
+    let script = script.ok().ok_or("a script")?;
+    let shown = shows_levels(rt, alloc, copies, &script);
+    drop(script);
+    shown
 }
 
 #[test]
 fn a_step_that_is_refused_memory_leaves_the_engine(rt: HostRuntime) -> Result<(), Fail> {
-    let script = parse_script(rt.alloc(), TWO_UPDATES);
-    let script = script.ok().ok_or("a script")?;
-    let shown = shows_levels(&rt, rt.alloc(), &script);
-    drop(script);
-    shown?;
+    shows_calls(&rt, rt.alloc(), true)?;
+    Ok(())
+}
+
+#[test]
+fn a_step_without_an_answer_that_is_refused_memory_leaves_the_engine(
+    rt: HostRuntime,
+) -> Result<(), Fail> {
+    shows_calls(&rt, rt.alloc(), false)?;
     Ok(())
 }
