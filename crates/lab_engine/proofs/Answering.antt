@@ -1,29 +1,14 @@
 -- What a session gives, and what the rules answer to it.
-use Rattle.std.proofs.Common.{◌≡◌, ◌≢◌, ℕ, Bool, true≢false, Option, Some, None, inl, inr, List, [], ◌∷◌, length, sym, ap, subst, ◌∙◌, arith}
-use Rattle.std.proofs.Common.{refl}
+use Rattle.std.proofs.Common.{◌≡◌, ◌≢◌, ℕ, Bool, true≢false, Option, Some, None, inl, inr, List, [], ◌∷◌, length, sym, ap, subst, ◌∙◌, arith, refl}
 use Rattle.std.specs.Prelude.{MatchOption, Result, IfOk, Contains, is_some, true, false, ◌==◌}
 use Rattle.std.specs.declared.alloc.AllocError.{AllocError}
-use Rattle.lab_table.specs.Row.{Row}
-use Rattle.lab_table.specs.Table.{Table, Rows, Writes}
-use Rattle.lab_history.specs.VersionName.{View}
-use Rattle.lab_table.specs.Statement.{fails, listed, written}
-use Rattle.lab_table.specs.declared.statement.Statement.{Statement}
-use Rattle.lab_table.specs.declared.statement.Command.TheVariants.{Run}
-use Rattle.lab_engine.specs.declared.event.Level.{Level}
+use Rattle.lab_engine.proofs.Common.{Aborted, AlreadyBegun, AreBlockers, Begun, Busy, Command, Committed, Deadlock, DuplicateKey, IfOk-weaker, IsLeastCircle, Level, Listed, NoTransaction, OutOfRange, Outcome, Past, Refused, Row, Rows, Run, Statement, Table, Txn, Version, View, Waits, WriteConflict, Writes, active, asked, fails, listed, seen, waiting, written}
 use Rattle.lab_engine.specs.declared.event.EngineFault.{EngineFault}
-use Rattle.lab_engine.specs.declared.event.EngineFault.TheVariants.{DuplicateKey, OutOfRange, Deadlock, WriteConflict, NoTransaction, AlreadyBegun, Busy}
-use Rattle.lab_engine.specs.declared.event.Outcome.{Outcome}
-use Rattle.lab_engine.specs.declared.event.Outcome.TheVariants.{Begun, Rows as Listed, Committed, Aborted, Waits, Refused}
 use Rattle.lab_engine.specs.Sight.{IsFirstConflict}
 use Rattle.lab_engine.specs.declared.rules.Conflict.{Conflict}
 use Rattle.lab_engine.specs.Effect.{IsEffectOn, IsRefusalOn, IsResultOn}
-use Rattle.lab_engine.specs.WaitsFor.{AreBlockers}
-use Rattle.lab_table.specs.declared.statement.Command.{Command}
-use Rattle.lab_engine.specs.Log.{seen, Past, Txn, Version, active, waiting, asked}
 use Rattle.lab_engine.specs.Rules.{in_view, Gives, MayAsk, Asks, IsFree, IsCircle, IsEffect, MayCommit}
 use Rattle.lab_engine.specs.Answer.{MayGive, Answers}
-use Rattle.lab_engine.specs.LeastCircle.{IsLeastCircle}
-use Rattle.std.proofs.lemmas.Result.{IfOk-weaker}
 
 -- a command that runs no statement is given at rest
 at_rest : (past : Past) (session : ℕ) (command : Command) → asked command ≡ None → MayGive past session command → waiting past session ≡ None

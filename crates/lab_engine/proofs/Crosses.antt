@@ -11,6 +11,7 @@ use Rattle.lab_table.proofs.predicate.Pred.TheLaws.TheKnot as predicate
 use Rattle.lab_table.specs.contracts.statement.Statement as Statement
 use Rattle.lab_table.proofs.row_name.RowName.TheSendSync as row_name
 use Rattle.lab_engine.proofs.row_states.RowStates.TheSendSync as row_states
+use Rattle.lab_engine.proofs.wait_graph.WaitGraph.TheSendSync as wait_graph
 use Rattle.lab_engine.specs.declared.rules.Rules.{Ghosts}
 use Rattle.lab_engine.specs.contracts.journal.Journal as Journal
 use Rattle.lab_engine.specs.contracts.journal.Journal.TheInside as Inside
@@ -34,7 +35,7 @@ state = search (sendable, crosses, session.the_send, statement, running) depth 4
 pub situation : IsSend Situation.the_row
 situation = declared_send Situation.the_type (
   search (sendable, crosses, state) depth 40,
-  (search (sendable, row_states.the_send), (search sendable, (search sendable, tt))),
+  (search (sendable, row_states.the_send), (search (sendable, wait_graph.the_send), (search sendable, (search sendable, tt)))),
 )
 
 module _ (R : RattleType) (rules : Ghosts R.Denot) (default : Defaults R.Denot) where

@@ -50,8 +50,8 @@ pub mod LimitOrder
 pub mod DoneTransactions
 pub mod RecordedCommits
 pub mod RecordedViews
-mod Paths
-mod NewWaiters
-mod QuietEvents
+mod Apart
+mod AfterCommits
+mod WaitsAfter
 pub mod Overlaid
 pub mod OneRecording

@@ -1,7 +1,7 @@
 -- What an event of one session does to locks.
 pub use Rattle.lab_engine.proofs.Common.{none_some}
-use Rattle.lab_engine.proofs.Common.{option_or, Row, Table, Command, Outcome, Begun, Listed, Waits, Refused, Past, Version, Txn, is_fatal, active_after, version_by, last_installed, initial_version, KeepsOff, AllKeepOff, eqb_tells, ◌==◌, Option, Some, None, unwrap_or, true, false, ⊤}
-use Rattle.std.proofs.Common.{◌≡◌, ◌≢◌, ℕ, refl, sym, ap, subst, ◌∙◌, cond, List, [], ◌∷◌, ◌⊎◌, inl, inr}
+use Rattle.lab_engine.proofs.Common.{option_or, Row, Table, Command, Outcome, Begun, Listed, Waits, Refused, Past, Version, Txn, is_fatal, active_after, version_by, last_installed, initial_version, same_Some, KeepsOff, AllKeepOff, eqb_tells, ◌==◌, Option, Some, None, unwrap_or, true, false, ⊤}
+use Rattle.std.proofs.Common.{◌≡◌, ◌≢◌, ℕ, sym, ap, subst, ◌∙◌, cond, List, [], ◌∷◌, ◌⊎◌, inl, inr}
 
 -- an active transaction after an event: that of the event's session, or of another one, which stays
 pub split : (e s : ℕ) (x y : Option Txn) (t : Txn) → cond (e == s) x y ≡ Some t → ((e ≡ s) × (x ≡ Some t)) ⊎ ((e ≢ s) × (y ≡ Some t))
@@ -10,13 +10,17 @@ split e s x y t h = elim (eqb_tells e s) [
   | inr p ↦ inr (p.1, subst (λ b. cond b x y ≡ Some t) p.0 h)
 ]
 
+-- of any two active transactions this holds of a pending version of the one and of the other
+abbrev pub AllOff : (Row → Version → Txn → Type 0) → (ℕ → Option Txn) → Type 0
+AllOff off act = (session other : ℕ) (t u : Txn) (row : Row) (v : Version) → session ≢ other → act session ≡ Some t → act other ≡ Some u → version_by t row ≡ Some v → off row v u
+
 -- what an event of one session has to show of it and the others
-pub step : (e : ℕ) (after : Option Txn → Option Txn) (act : ℕ → Option Txn) (installed : Row → Version)
-    → ((z : ℕ) (t u : Txn) (row : Row) (v : Version) → e ≢ z → after (act e) ≡ Some t → act z ≡ Some u → version_by t row ≡ Some v → KeepsOff (installed row) v row u)
-    → ((s : ℕ) (t u : Txn) (row : Row) (v : Version) → e ≢ s → act s ≡ Some t → after (act e) ≡ Some u → version_by t row ≡ Some v → KeepsOff (installed row) v row u)
-    → ((s z : ℕ) (t u : Txn) (row : Row) (v : Version) → s ≢ z → e ≢ s → e ≢ z → act s ≡ Some t → act z ≡ Some u → version_by t row ≡ Some v → KeepsOff (installed row) v row u)
-    → AllKeepOff (λ s. cond (e == s) (after (act s)) (act s)) installed
-step e after act installed own_first own_second neither s z t u row v apart is_t is_u pending =
+pub step : (e : ℕ) (after : Option Txn → Option Txn) (act : ℕ → Option Txn) (off : Row → Version → Txn → Type 0)
+    → ((z : ℕ) (t u : Txn) (row : Row) (v : Version) → e ≢ z → after (act e) ≡ Some t → act z ≡ Some u → version_by t row ≡ Some v → off row v u)
+    → ((s : ℕ) (t u : Txn) (row : Row) (v : Version) → e ≢ s → act s ≡ Some t → after (act e) ≡ Some u → version_by t row ≡ Some v → off row v u)
+    → ((s z : ℕ) (t u : Txn) (row : Row) (v : Version) → s ≢ z → e ≢ s → e ≢ z → act s ≡ Some t → act z ≡ Some u → version_by t row ≡ Some v → off row v u)
+    → AllOff off (λ s. cond (e == s) (after (act s)) (act s))
+step e after act off own_first own_second neither s z t u row v apart is_t is_u pending =
     elim (split e s _ _ t is_t) [
       | inl p ↦ elim (split e z _ _ u is_u) [
         | inl q ↦ absurd (apart (sym p.0 ∙ q.0))
@@ -43,29 +47,30 @@ was_active command (Refused fault) past before t leaves h = elim (is_fatal fault
 was_active command other past before t leaves h = none_some _ h
 
 -- such an event
-pub left : (e : ℕ) (after : Option Txn → Option Txn) (act : ℕ → Option Txn) (installed : Row → Version) → ((before : Option Txn) (t : Txn) → after before ≡ Some t → before ≡ Some t) → AllKeepOff act installed
-    → AllKeepOff (λ s. cond (e == s) (after (act s)) (act s)) installed
-left e after act installed was all = step e after act installed
+pub left : (e : ℕ) (after : Option Txn → Option Txn) (act : ℕ → Option Txn) (off : Row → Version → Txn → Type 0) → ((before : Option Txn) (t : Txn) → after before ≡ Some t → before ≡ Some t) → AllOff off act
+    → AllOff off (λ s. cond (e == s) (after (act s)) (act s))
+left e after act off was all = step e after act off
     (λ z t u row v apart is_t is_u pending. all e z t u row v apart (was (act e) t is_t) is_u pending)
     (λ s t u row v apart is_t is_u pending. all s e t u row v (λ same. apart (sym same)) is_t (was (act e) u is_u) pending)
     (λ s z t u row v apart _ _ is_t is_u pending. all s z t u row v apart is_t is_u pending)
 
+-- a transaction that has run nothing
+abbrev pub fresh : ℕ → Past → Txn
+fresh n past = record { no = n; ops = []; before = past }
+
 -- an event that begins a transaction
-pub begins : (e n : ℕ) (past : Past) (act : ℕ → Option Txn) (installed : Row → Version) → AllKeepOff act installed
-    → AllKeepOff (λ s. cond (e == s) (Some (record { no = n; ops = []; before = past })) (act s)) installed
-begins e n past act installed all = step e (λ t. Some (record { no = n; ops = []; before = past })) act installed
-    (λ z t u row v apart is_t is_u pending. let h : version_by (record { no = n; ops = []; before = past }) row ≡ Some v = cc in none_some _ h)
-    (λ s t u row v apart is_t is_u pending.
-    let new : Txn = record { no = n; ops = []; before = past } in
-    let h : new ≡ u = cc in
-    subst (λ k. KeepsOff (installed row) v row k) h (record { unwritten = refl; unread = refl; unread_pending = refl }))
+pub begins : (e n : ℕ) (past : Past) (act : ℕ → Option Txn) (off : Row → Version → Txn → Type 0) → ((row : Row) (v : Version) → off row v (fresh n past)) → AllOff off act
+    → AllOff off (λ s. cond (e == s) (Some (fresh n past)) (act s))
+begins e n past act off new all = step e (λ t. Some (fresh n past)) act off
+    (λ z t u row v apart is_t is_u pending. let h : version_by (fresh n past) row ≡ Some v = cc in none_some _ h)
+    (λ s t u row v apart is_t is_u pending. subst (off row v) (same_Some (fresh n past) u is_u) (new row v))
     (λ s z t u row v apart _ _ is_t is_u pending. all s z t u row v apart is_t is_u pending)
 
 -- an event that commits a transaction
 pub commits_one : (setup : Table) (e : ℕ) (txns : List Txn) (act : ℕ → Option Txn) (t : Txn) → act e ≡ Some t
     → AllKeepOff act (λ row. unwrap_or (last_installed txns row) (initial_version setup row))
     → AllKeepOff (λ s. cond (e == s) None (act s)) (λ row. unwrap_or (last_installed (t ∷ txns) row) (initial_version setup row))
-commits_one setup e txns act t is_own all = step e (λ _. None) act _
+commits_one setup e txns act t is_own all = step e (λ _. None) act (λ row v u. KeepsOff (unwrap_or (last_installed (t ∷ txns) row) (initial_version setup row)) v row u)
     (λ z t' u row v apart is_t is_u pending. none_some _ is_t)
     (λ s t' u row v apart is_t is_u pending. none_some _ is_u)
     (λ s z t' u row v apart from_s from_z is_t is_u pending.

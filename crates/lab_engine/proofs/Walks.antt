@@ -1,30 +1,45 @@
 -- Walks to a goal along the graph of who waits for whom.
-use Rattle.std.proofs.Common.{◌∙◌, ap, ◌≡◌, ℕ, ◌≤◌, ◌<◌, ◌==◌, refl, sym, subst, inl, inr, arith, true, false, List, [], ◌∷◌, length, IsTrue}
-use Rattle.lab_engine.proofs.Common.{false_from_ne_true, list_any, AllByRecursion, eq-eqb, ne_eqb, eqb-true, eqb-false, both_ways, or_cases, or_parts, waits_for, IsWalk, AllDistinct, Any-from_list_any, list_any_at}
+use Rattle.std.proofs.Common.{◌∙◌, ap, ◌≡◌, ℕ, ◌≤◌, ◌<◌, ◌==◌, ◌⊎◌, Bool, refl, sym, subst, inl, inr, arith, true, false, List, [], ◌∷◌, length, IsTrue}
+use Rattle.lab_engine.proofs.Common.{false_from_ne_true, list_any, AllByRecursion, eq-eqb, ne_eqb, eqb-true, eqb-false, both_ways, or_cases, or_parts, IsWalk, AllDistinct, Any-from_list_any, list_any_at}
 use Rattle.std.specs.List.{IsDistinct}
 use Rattle.std.proofs.lemmas.Map.Steps.{length-le_from_distinct_below}
-use Rattle.lab_engine.proofs.Paths.{IsPath, from_there, once_path}
 use Rattle.lab_engine.proofs.WaitGraphs.{waiter_range}
 
--- a walk is a path along who waits for whom
-abbrev Waits : List ℕ → ℕ → ℕ → Type 0
-Waits graph session other = IsTrue (waits_for graph session other)
+-- from each session on a walk on which nobody stands twice such a walk leads to the goal, which is no longer
+from_there : (graph : List ℕ) (session there goal : ℕ) (rest : List ℕ) → IsWalk graph session rest goal → AllDistinct (session ∷ rest) → IsTrue (list_any (λ m. m == there) (session ∷ rest))
+    → (other : List ℕ) × IsWalk graph there other goal × AllDistinct (there ∷ other) × (length other ≤ length rest)
+from_there graph session there goal [] walk once on = elim (or_cases (session == there) false on) [
+  | inl p ↦ subst (λ k. (other : List ℕ) × IsWalk graph k other goal × AllDistinct (k ∷ other) × (length other ≤ 0)) (eqb-true session there p) ([], walk, once, omega arith)
+  | inr p ↦ absurd (both_ways _ refl p)
+]
+from_there graph session there goal (next ∷ rest) walk once on = at (from_there graph next there goal rest walk.1 once.1) (or_cases (session == there) (list_any (λ m. m == there) (next ∷ rest)) on)
+  where
+    at : (IsTrue (list_any (λ m. m == there) (next ∷ rest)) → (other : List ℕ) × IsWalk graph there other goal × AllDistinct (there ∷ other) × (length other ≤ length rest))
+        → (IsTrue (session == there) ⊎ IsTrue (list_any (λ m. m == there) (next ∷ rest)))
+        → (other : List ℕ) × IsWalk graph there other goal × AllDistinct (there ∷ other) × (length other ≤ length (next ∷ rest))
+    at later (inl p) = subst (λ k. (other : List ℕ) × IsWalk graph k other goal × AllDistinct (k ∷ other) × (length other ≤ length (next ∷ rest))) (eqb-true session there p)
+        (next ∷ rest, walk, once, omega arith)
+    at later (inr p) = let on : (other : List ℕ) × IsWalk graph there other goal × AllDistinct (there ∷ other) × (length other ≤ length rest) = later p in
+        (on.0, on.1, on.2, omega (arith, on.3))
 
-path_of : (graph : List ℕ) (goal session : ℕ) (rest : List ℕ) → IsWalk graph session rest goal → IsPath (Waits graph) session rest goal
-path_of graph goal session [] walk = walk
-path_of graph goal session (next ∷ rest) (first, walk) = (first, path_of graph goal next rest walk)
-
-walk_of : (graph : List ℕ) (goal session : ℕ) (rest : List ℕ) → IsPath (Waits graph) session rest goal → IsWalk graph session rest goal
-walk_of graph goal session [] path = path
-walk_of graph goal session (next ∷ rest) (first, path) = (first, walk_of graph goal next rest path)
+-- where a walk leads, one leads on which nobody stands twice
+pub once_walk : (graph : List ℕ) (session goal : ℕ) (rest : List ℕ) → IsWalk graph session rest goal → (other : List ℕ) × IsWalk graph session other goal × AllDistinct (session ∷ other)
+once_walk graph session goal [] walk = ([], walk, (refl, tt))
+once_walk graph session goal (next ∷ rest) walk = at (once_walk graph next goal rest walk.1)
+  where
+    at : (other : List ℕ) × IsWalk graph next other goal × AllDistinct (next ∷ other) → (other : List ℕ) × IsWalk graph session other goal × AllDistinct (session ∷ other)
+    at (other, on, once) = by (list_any (λ m. m == session) (next ∷ other)) refl
+      where
+        by : (b : Bool) → list_any (λ m. m == session) (next ∷ other) ≡ b → (o : List ℕ) × IsWalk graph session o goal × AllDistinct (session ∷ o)
+        by true q = let back = from_there graph next session goal other on once q in (back.0, back.1, back.2)
+        by false q = (next ∷ other, (walk.0, on), (q, once))
 
 -- a session isn't on a shortest walk behind it
 not_behind : (graph : List ℕ) (goal session next : ℕ) (rest : List ℕ) → IsWalk graph next rest goal → AllDistinct (next ∷ rest)
     → ((other : List ℕ) → IsWalk graph session other goal → length (next ∷ rest) ≤ length other) → list_any (λ m. m == session) (next ∷ rest) ≡ false
 not_behind graph goal session next rest walk once short = false_from_ne_true _ (λ there.
-    let on : (other : List ℕ) × IsPath (Waits graph) session other goal × AllDistinct (session ∷ other) × (length other ≤ length rest) =
-    from_there (Waits graph) next session goal rest (path_of graph goal next rest walk) once there in
-    let le : length (next ∷ rest) ≤ length on.0 = short on.0 (walk_of graph goal session on.0 on.1) in
+    let on : (other : List ℕ) × IsWalk graph session other goal × AllDistinct (session ∷ other) × (length other ≤ length rest) = from_there graph next session goal rest walk once there in
+    let le : length (next ∷ rest) ≤ length on.0 = short on.0 on.1 in
     omega (arith, le, on.3))
 
 -- on a walk than which none is shorter nobody stands twice
@@ -34,11 +49,6 @@ shortest_once graph goal session [] walk short = (refl, tt)
 shortest_once graph goal session (next ∷ rest) walk short =
     let behind = shortest_once graph goal next rest walk.1 (λ other w. omega (arith, short (next ∷ other) (walk.0, w))) in
     (not_behind graph goal session next rest walk.1 behind short, behind)
-
--- where a walk leads, one leads on which nobody stands twice
-pub once_walk : (graph : List ℕ) (goal session : ℕ) (rest : List ℕ) → IsWalk graph session rest goal → (other : List ℕ) × IsWalk graph session other goal × AllDistinct (session ∷ other)
-once_walk graph goal session rest walk =
-    let once = once_path (Waits graph) session goal rest (path_of graph goal session rest walk) in (once.0, walk_of graph goal session once.0 once.1, once.2)
 
 -- all on a walk wait, so they are sessions
 walkers : (graph : List ℕ) (goal session : ℕ) (rest : List ℕ) → IsWalk graph session rest goal → (n : ℕ) → IsTrue (list_any (λ m. m == n) (session ∷ rest)) → (1 ≤ n) × (n ≤ 9)

@@ -9,7 +9,8 @@ use Rattle.lab_engine.specs.declared.event.EngineFault.TheVariants.{Busy}
 use Rattle.lab_engine.specs.declared.event.Outcome.{Outcome}
 use Rattle.lab_engine.specs.declared.event.Outcome.TheVariants.{Refused}
 use Rattle.lab_engine.specs.Log.{Past, active, waiting}
-use Rattle.lab_engine.specs.Rules.{Permitted}
+use Rattle.lab_engine.specs.Rules.{Permitted, IsLegal}
+use Rattle.lab_engine.specs.WaitsFor.{AreWaits}
 use Rattle.lab_engine.specs.Recording.{NoneRetryable, IsLeastRetryable}
 use Rattle.lab_engine.specs.Sessions.{all_sessions}
 use Rattle.lab_engine.specs.Situation.{Describes}
@@ -37,8 +38,10 @@ active_among past sessions = count_by (λ session. is_some (active past session)
 abbrev pub HasPlacesOfEnds : Past → ℕ → Type 0
 HasPlacesOfEnds past places = length past + active_among past all_sessions ≤ places
 
--- what is kept beside a log agrees with it: the session that is retryable, where the log leaves its sessions and rows, and the room for events
+-- what is kept beside a legal log agrees with it: the session that is retryable, where the log leaves its sessions and rows, who waits for whom, and the room for events
 pub record Keeps (level : Level) (setup : Table) (past : Past) (choice : Option ℕ) (kept : Situation) (places : ℕ) : Type 0 where
+  pub legal : IsLegal level setup past
   pub retryable : IsRetryChoice level setup past choice
   pub situation : Describes level past kept
+  pub waits : AreWaits level setup past kept.waits
   pub places_of_ends : HasPlacesOfEnds past places

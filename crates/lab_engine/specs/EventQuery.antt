@@ -1,6 +1,5 @@
 -- What is asked of one event.
-use Rattle.std.specs.Prelude.{Bool, true, false, not, ◌==◌}
-use Rattle.std.specs.FinMap as map
+use Rattle.std.specs.Prelude.{Bool, true, false}
 use Rattle.lab_engine.specs.declared.event.Outcome.{Outcome}
 use Rattle.lab_engine.specs.declared.event.Outcome.TheVariants.{Begun, Rows as Listed, Committed, Aborted, Waits, Refused}
 use Rattle.lab_engine.specs.declared.event.EngineFault.{EngineFault}
@@ -41,11 +40,11 @@ is_ending Aborted = true
 is_ending (Waits on) = false
 is_ending (Refused fault) = is_conflict fault
 
--- whether an outcome frees no session that waits: its transaction goes on, and writes nothing
-abbrev pub frees_nobody : Outcome → Bool
-frees_nobody (Begun n) = true
-frees_nobody (Listed view rows writes) = map.len writes == 0
-frees_nobody Committed = false
-frees_nobody Aborted = false
-frees_nobody (Waits on) = true
-frees_nobody (Refused fault) = not (is_fatal fault)
+-- whether an outcome leaves its session without an active transaction: one ended, by its command or by a refusal
+abbrev pub is_over : Outcome → Bool
+is_over (Begun n) = false
+is_over (Listed view rows writes) = false
+is_over Committed = true
+is_over Aborted = true
+is_over (Waits on) = false
+is_over (Refused fault) = is_fatal fault

@@ -13,6 +13,7 @@ ghost use Rattle.lab_engine.specs.Log.{Past, Txn, active, asked};
 ghost use Rattle.lab_engine.specs.Asker.{IsAsker, seen_in};
 ghost use Rattle.lab_engine.specs.Rules.{MayAsk};
 ghost use Rattle.lab_engine.specs.Situation.{Describes};
+ghost use Rattle.lab_engine.specs.WaitsFor.{AreWaits};
 ghost use Rattle.lab_engine.specs.Answer.{MayGive, Answers};
 
 use crate::asker::Asker;
@@ -36,7 +37,7 @@ pub fn answer_to<R: Rules>(
 ) -> Result<Outcome, NoMemory>
     requires { (past : Past) × Describes R.kind past situation.now × (length past < max_events) }
     ensures answer { (past : Past) → Describes R.kind past situation.now → MayGive past session command.now
-        → IfOk result (Answers R.kind setup.now past session command.now) }
+        → AreWaits R.kind setup.now past situation.now.waits → IfOk result (Answers R.kind setup.now past session command.now) }
     ensures err { OnErr result (IsSome (asked command.now)) }
 {
     let Some(running) = situation.running(session) else {
@@ -82,14 +83,15 @@ pub fn run_statement<R: Rules>(
     asker: &Asker,
     statement: &Statement,
 ) -> Result<Outcome, NoMemory>
-    ensures { (past : Past) (txn : Txn) → IsAsker R.kind past txn asker.now → MayAsk past asker.now.session statement.now
+    ensures { (past : Past) (txn : Txn) → IsAsker R.kind past txn asker.now
+        → AreWaits R.kind asker.now.setup.now past asker.now.situation.now.waits → MayAsk past asker.now.session statement.now
         → IfOk result (Answers R.kind asker.now.setup.now past asker.now.session (Run statement.now)) }
 {
     let on = blockers(alloc, rules, asker, statement)?;
     if on.as_slice().is_empty() {
         return unblocked(alloc, asker, statement);
     }
-    match deadlock(alloc, rules, asker, &on)? {
+    match deadlock(alloc, asker, &on)? {
         Some(circle) => Ok(Outcome::Refused(EngineFault::Deadlock { circle })),
         None => Ok(Outcome::Waits { on }),
     }

@@ -41,6 +41,7 @@ impl<'a> Asker<'a> {
         running: &'a RunningTxn,
     ) -> Asker<'a>
         ensures setup { result.setup.now ≡ setup.now }
+        ensures situation { result.situation.now ≡ situation.now }
         ensures session { result.session ≡ session }
         ensures is { (past : Past) (txn : Txn) → Describes R.kind past situation.now → active past session ≡ Some txn → IsRunning R.kind txn running.now
             → IsAsker R.kind past txn result }

@@ -11,6 +11,7 @@ ghost use Rattle.lab_engine.specs.Log.{Past, asked, waiting};
 ghost use Rattle.lab_engine.specs.Rules.{Permitted};
 ghost use Rattle.lab_engine.specs.Situation.{Describes};
 ghost use Rattle.lab_engine.specs.LeastCircle.{NamesLeastOf};
+ghost use Rattle.lab_engine.specs.WaitsFor.{AreWaits};
 
 use crate::answer::answer_to;
 use crate::event::{EngineFault, Outcome};
@@ -30,9 +31,9 @@ pub fn step_outcome<R: Rules>(
     command: &Command,
 ) -> Result<Outcome, NoMemory>
     requires { (past : Past) × Describes R.kind past situation.now × (length past < max_events) }
-    ensures permitted { (past : Past) → Describes R.kind past situation.now → IfOk result (Permitted R.kind setup.now past session command.now) }
-    ensures least { (past : Past) → Describes R.kind past situation.now → IfOk result (NamesLeastOf R.kind setup.now past session command.now) }
-    ensures busy { (past : Past) → Describes R.kind past situation.now → IfOk result (λ outcome. IsSome (waiting past session) → outcome ≡ Refused Busy) }
+    ensures permitted { (past : Past) → Describes R.kind past situation.now → AreWaits R.kind setup.now past situation.now.waits → IfOk result (Permitted R.kind setup.now past session command.now) }
+    ensures least { (past : Past) → Describes R.kind past situation.now → AreWaits R.kind setup.now past situation.now.waits → IfOk result (NamesLeastOf R.kind setup.now past session command.now) }
+    ensures busy { (past : Past) → Describes R.kind past situation.now → AreWaits R.kind setup.now past situation.now.waits → IfOk result (λ outcome. IsSome (waiting past session) → outcome ≡ Refused Busy) }
     ensures err { OnErr result (IsSome (asked command.now)) }
 {
     if situation.is_waiting(session) {

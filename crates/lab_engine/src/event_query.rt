@@ -2,7 +2,7 @@
 
 ghost use Rattle.std.specs.Prelude.{◌≡◌, option_map};
 ghost use Rattle.lab_engine.specs.Log.{asked, is_fatal};
-ghost use Rattle.lab_engine.specs.EventQuery.{busy, frees_nobody, is_conflict, is_ending};
+ghost use Rattle.lab_engine.specs.EventQuery.{busy, is_conflict, is_ending, is_over};
 
 use crate::event::{EngineFault, Outcome};
 use lab_table::{Command, Statement};
@@ -73,17 +73,17 @@ pub fn ends_transaction(outcome: &Outcome) -> bool
     }
 }
 
-/// Whether an outcome frees no session that waits: its transaction goes on, and writes nothing.
-pub fn frees_nobody(outcome: &Outcome) -> bool
-    ensures { result ≡ frees_nobody outcome.now }
+/// Whether an outcome leaves its session without an active transaction: one ended, by its command or by a refusal.
+pub fn is_over(outcome: &Outcome) -> bool
+    ensures { result ≡ is_over outcome.now }
 {
     match outcome {
-        Outcome::Begun(_) => true,
-        Outcome::Rows { writes, .. } => writes.entries().is_empty(),
-        Outcome::Committed => false,
-        Outcome::Aborted => false,
-        Outcome::Waits { .. } => true,
-        Outcome::Refused(fault) => !is_fatal_fault(fault),
+        Outcome::Begun(_) => false,
+        Outcome::Rows { .. } => false,
+        Outcome::Committed => true,
+        Outcome::Aborted => true,
+        Outcome::Waits { .. } => false,
+        Outcome::Refused(fault) => is_fatal_fault(fault),
     }
 }
 

@@ -6,7 +6,7 @@ ghost use Rattle.lab_table.specs.declared.statement.Statement.{Statement as Aske
 ghost use Rattle.lab_table.specs.declared.statement.Command.TheVariants.{Run};
 ghost use Rattle.lab_engine.specs.declared.event.EngineFault.TheVariants.{Busy};
 ghost use Rattle.lab_engine.specs.declared.event.Outcome.TheVariants.{Refused};
-ghost use Rattle.lab_engine.specs.Answer.{HasPlacesOfEnds, IsRetryChoice};
+ghost use Rattle.lab_engine.specs.Answer.{HasPlacesOfEnds};
 ghost use Rattle.lab_engine.specs.Engine.{Ends};
 ghost use Rattle.lab_engine.specs.EventQuery.{is_ending};
 ghost use Rattle.lab_engine.specs.LeastCircle.{NamesLeastOf, NamesLeastOfWaiting};
@@ -20,18 +20,18 @@ use crate::answer::answer_to;
 use crate::decision::{copy_of, step_outcome, waiting_command};
 use crate::engine::Engine;
 use crate::event::{Level, LogEvent, Outcome};
-use crate::event_query::{ends_transaction, frees_nobody};
+use crate::event_query::ends_transaction;
 use crate::rules::Rules;
 use crate::situation::Situation;
-use crate::waits::retryable;
+use crate::waits::{retryable, waits_after};
 use lab_table::{Command, NoMemory, Session, Table};
 use std::alloc::Global;
 use std::marker::Model;
 
-/// An engine of some rules. Beside its setup and its log it keeps where the log leaves sessions and rows, so no call
-/// looks through the log. A call decides on its event, makes room for it, and then appends it, which takes no memory.
-/// The log keeps a place for the end of each active transaction. Which session is retryable is found anew after each
-/// event that may have freed one.
+/// An engine of some rules. Beside its setup and its log it keeps where the log leaves sessions and rows, and who waits
+/// for whom, so no call looks through the log. A call decides on its event, makes room for it, and then appends it, which
+/// takes no memory. The log keeps a place for the end of each active transaction. Whom a session waits for is asked anew
+/// only after an event that may have changed it.
 #[derive(Drop)]
 pub struct Journal<R: Rules> {
     rules: R,
@@ -84,7 +84,7 @@ impl<R: Rules> Journal<R> {
     ) -> Result<LogEvent, NoMemory>
         requires { length self.now.log < max_events }
         ensures of { IfOk result (λ event. event ≡ record { session = session; command = command.now; outcome = event.outcome }) }
-        ensures permitted { IfOk result (λ event. Permitted R.kind self.now.setup (past_of self.now.log) session command.now event.outcome) }
+        ensures permitted { IfOk result (λ event. Permitted R.kind self.now.setup (past_of self.now.log) event.session event.command event.outcome) }
         ensures end { IfOk result (λ event. Ends (past_of self.now.log) session command.now → is_ending event.outcome ≡ true) }
         ensures busy { IfOk result (λ event. IsSome (waiting (past_of self.now.log) session) → event.outcome ≡ Refused Busy) }
         ensures least { IfOk result (λ event. NamesLeastOf R.kind self.now.setup (past_of self.now.log) session command.now event.outcome) }
@@ -110,8 +110,8 @@ impl<R: Rules> Journal<R> {
     fn retried(&self, alloc: Global, session: Session) -> Result<LogEvent, NoMemory>
         requires room { length self.now.log < max_events }
         requires waits { IsSome (waiting (past_of self.now.log) session) }
-        ensures of { IfOk result (λ event. (s : Asked) × (waiting (past_of self.now.log) session ≡ Some s) × (event ≡ record { session = session; command = Run s; outcome = event.outcome })
-            × Permitted R.kind self.now.setup (past_of self.now.log) session (Run s) event.outcome) }
+        ensures of { IfOk result (λ event. (s : Asked) × (waiting (past_of self.now.log) session ≡ Some s) × (event ≡ record { session = session; command = Run s; outcome = event.outcome })) }
+        ensures permitted { IfOk result (λ event. Permitted R.kind self.now.setup (past_of self.now.log) event.session event.command event.outcome) }
         ensures answered { IfOk result (λ event. event.outcome ≢ Refused Busy) }
         ensures least { IfOk result (λ event. NamesLeastOfWaiting R.kind self.now.setup (past_of self.now.log) session event.outcome) }
     {
@@ -147,13 +147,8 @@ impl<R: Rules> Journal<R> {
             .situation
             .reserve(alloc, &event, self.rules.keeps_statements())?;
         self.situation.take_in(alloc, &event, &mut kept);
-        self.retryable = retryable_after(
-            &self.rules,
-            &self.setup,
-            &self.situation,
-            self.retryable,
-            &event,
-        );
+        self.situation.waits = waits_after(&self.rules, &self.setup, &self.situation, &event);
+        self.retryable = retryable(&self.situation);
         self.log.push_reserved(event);
         Ok(())
     }
@@ -174,25 +169,6 @@ fn reserve_place(log: &mut Vec<LogEvent>, event: &LogEvent) -> Result<(), NoMemo
         return Ok(());
     }
     log.try_reserve(10)
-}
-
-/// The session that is retryable after an event, given that before it. Who waits for whom is asked only where the event
-/// may have changed the answer.
-fn retryable_after<R: Rules>(
-    rules: &R,
-    setup: &Table,
-    situation: &Situation,
-    before: Option<Session>,
-    event: &LogEvent,
-) -> Option<Session>
-    ensures { (past : Past) → Describes R.kind (event.now ∷ past) situation.now
-        → Permitted R.kind setup.now past event.now.session event.now.command event.now.outcome → IsRetryChoice R.kind setup.now past before
-        → IsRetryChoice R.kind setup.now (event.now ∷ past) result }
-{
-    if before.is_none() && frees_nobody(&event.outcome) {
-        return None;
-    }
-    retryable(rules, setup, situation)
 }
 
 impl<R: Rules + Drop> Engine for Journal<R> {

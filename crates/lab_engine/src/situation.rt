@@ -1,17 +1,19 @@
-//! What is kept of a log: where it leaves its sessions and rows.
+//! What is kept of a log: where it leaves its sessions and rows, and who waits for whom.
 
-ghost use Rattle.std.specs.Prelude.{◌≡◌, ◌<◌, ◌≤◌, [], ◌∷◌, false, length, option_map, is_some, Contains, IfOk, OnOk, OnErr};
+ghost use Rattle.std.specs.Prelude.{◌≡◌, ◌<◌, ◌≤◌, ℕ, [], ◌∷◌, false, length, option_map, is_some, Contains, IfOk, OnOk, OnErr};
 ghost use Rattle.std.specs.Prelude as list;
 ghost use Rattle.lab_engine.specs.declared.event.Level.{Level as Kind};
 ghost use Rattle.lab_engine.specs.Limits.{max_events};
 ghost use Rattle.lab_engine.specs.Log.{Past, active, waiting, begun_after};
 ghost use Rattle.lab_engine.specs.EventQuery.{is_ending};
 ghost use Rattle.lab_engine.specs.KeptRows.{AreReady};
+ghost use Rattle.lab_engine.specs.WaitsFor.{waits_for};
 ghost use Rattle.lab_engine.specs.Situation.{Describes, DescribesAll, DescribesRows, HoldsOutcome, HasPlaces, all_sessions, keeps_statements, kept_of, running_of, waiting_of};
 
 use crate::event::{LogEvent, Outcome};
 use crate::row_states::RowStates;
 use crate::session_state::{RunningTxn, SessionState, kept_copy};
+use crate::wait_graph::WaitGraph;
 use lab_history::Writes;
 use lab_table::{NoMemory, Session, Statement};
 use std::alloc::Global;
@@ -23,6 +25,8 @@ pub struct Situation {
     pub sessions: [SessionState; 9],
     /// The versions of the rows, installed and pending.
     pub rows: RowStates,
+    /// For each session those that block the statement that it waits with.
+    pub(crate) waits: WaitGraph,
     /// How many transactions have begun.
     pub begun: u32,
     /// How many events there were.
@@ -32,11 +36,13 @@ pub struct Situation {
 impl Situation {
     /// The situation before any event; it takes no memory.
     pub(crate) fn new(alloc: Global) -> Situation
-        ensures { (level : Kind) → Describes level [] result }
+        ensures is { (level : Kind) → Describes level [] result }
+        ensures waits { (session other : ℕ) → waits_for result.waits session other ≡ false }
     {
         Situation {
             sessions: idle_sessions(),
             rows: RowStates::new(alloc),
+            waits: WaitGraph::none(),
             begun: 0,
             events: 0,
         }
@@ -80,6 +86,7 @@ impl Situation {
     ) -> Result<Option<Statement>, NoMemory>
         requires { (level : Kind) × (past : Past) × Describes level past self.old }
         ensures same { (level : Kind) (past : Past) → Describes level past self.old → Describes level past self.new }
+        ensures waits { self.new.waits ≡ self.old.waits }
         ensures copy { IfOk result (λ kept. kept ≡ kept_of keeps event.now.command event.now.outcome) }
         ensures room { IfOk result (λ kept. HoldsOutcome (is_some kept) event.now.outcome (running_of self.new.sessions event.now.session) self.new.rows) }
         ensures err { OnErr result (is_ending event.now.outcome ≡ false) }
@@ -93,6 +100,7 @@ impl Situation {
     fn reserve_room(&mut self, alloc: Global, event: &LogEvent, keeps: bool) -> Result<(), NoMemory>
         requires { (level : Kind) × (past : Past) × Describes level past self.old }
         ensures same { (level : Kind) (past : Past) → Describes level past self.old → Describes level past self.new }
+        ensures waits { self.new.waits ≡ self.old.waits }
         ensures room { OnOk result (HoldsOutcome keeps event.now.outcome (running_of self.new.sessions event.now.session) self.new.rows) }
         ensures err { OnErr result (is_ending event.now.outcome ≡ false) }
     {
@@ -105,11 +113,13 @@ impl Situation {
         }
     }
 
-    /// Goes on by one event, for which there is room, and of whose statement this is kept; it takes no memory.
+    /// Goes on by one event, for which there is room, and of whose statement this is kept, but for who waits for whom. It
+    /// takes no memory.
     pub(crate) fn take_in(&mut self, alloc: Global, event: &LogEvent, kept: &mut Option<Statement>)
         requires few { (level : Kind) × (past : Past) × Describes level past self.old × (length past < max_events) }
         requires room { HoldsOutcome (is_some kept.old) event.now.outcome (running_of self.old.sessions event.now.session) self.old.rows }
-        ensures { (level : Kind) (past : Past) → kept.old ≡ kept_of (keeps_statements level) event.now.command event.now.outcome
+        ensures waits { self.new.waits ≡ self.old.waits }
+        ensures is { (level : Kind) (past : Past) → kept.old ≡ kept_of (keeps_statements level) event.now.command event.now.outcome
             → Describes level past self.old → Describes level (event.now ∷ past) self.new }
     {
         advance_session(

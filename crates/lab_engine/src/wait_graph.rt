@@ -33,6 +33,13 @@ impl WaitGraph {
         }
     }
 
+    /// The same once more.
+    pub fn copy(&self) -> WaitGraph
+        ensures { result ≡ self.now }
+    {
+        WaitGraph { on: self.on.copy() }
+    }
+
     /// From now on a session waits for these.
     pub fn put(&mut self, session: Session, on: SessionSet)
         ensures { (waiter other : ℕ) → waits_for self.new waiter other ≡ cond (waiter == session) (has on other) (waits_for self.old waiter other) }

@@ -1,10 +1,12 @@
 //! Who waits for whom.
 
-ghost use Rattle.std.specs.Prelude.{◌↔◌, List, ℕ, IfOk, IsSome, IsTrue, MatchOption};
+ghost use Rattle.std.specs.Prelude.{◌≡◌, ◌↔◌, ◌∷◌, List, ℕ, false, IfOk, IsSome, IsTrue, MatchOption};
+ghost use Rattle.lab_table.specs.Table.{Table as PlainTable};
 ghost use Rattle.lab_table.specs.declared.statement.Statement.{Statement as Asked};
-ghost use Rattle.lab_engine.specs.Log.{Past, Txn};
+ghost use Rattle.lab_engine.specs.declared.event.Level.{Level as Kind};
+ghost use Rattle.lab_engine.specs.Log.{Past, Txn, waiting};
 ghost use Rattle.lab_engine.specs.Asker.{IsAsker};
-ghost use Rattle.lab_engine.specs.Rules.{IsCircle, MayAsk};
+ghost use Rattle.lab_engine.specs.Rules.{IsCircle, IsLegal, MayAsk};
 ghost use Rattle.lab_engine.specs.Recording.{NoneRetryable, IsLeastRetryable};
 ghost use Rattle.lab_engine.specs.Situation.{Describes, DescribesSession};
 ghost use Rattle.lab_engine.specs.WaitsFor.{AreBlockers, AreWaits, WaitsOn};
@@ -14,7 +16,8 @@ ghost use Rattle.lab_engine.specs.LeastCircle.{IsLeastCircle};
 
 use crate::asker::Asker;
 use crate::circle::{is_on_circle, shortest_circle};
-use crate::event::Sessions;
+use crate::event::{LogEvent, Outcome, Sessions};
+use crate::event_query::is_over;
 use crate::rules::Rules;
 use crate::session_set::SessionSet;
 use crate::session_state::SessionState;
@@ -64,13 +67,51 @@ fn waits_on<R: Rules>(
     rules.blockers(&asker, statement)
 }
 
-/// Who waits for whom: for each session whose statement waits those that block it.
-pub fn all_waits<R: Rules>(rules: &R, setup: &Table, situation: &Situation) -> WaitGraph
-    ensures { (past : Past) → Describes R.kind past situation.now → AreWaits R.kind setup.now past result }
+/// Whether an event may change whom a session waits for that waits after it, given who waited for whom before it: a
+/// statement that ran may block or free each that waits, the end of a transaction those that waited for it.
+fn may_change(waits: &WaitGraph, event: &LogEvent, session: Session) -> bool
+    ensures { (level : Kind) (setup : PlainTable) (past : Past) → IsLegal level setup (event.now ∷ past) → AreWaits level setup past waits.now → result ≡ false
+        → IsSome (waiting (event.now ∷ past) session) → (other : ℕ) → WaitsOn level setup (event.now ∷ past) session other ↔ WaitsOn level setup past session other }
+{
+    match &event.outcome {
+        Outcome::Rows { .. } => true,
+        Outcome::Waits { .. } => session == event.session,
+        outcome => is_over(outcome) && waits.on(session).has(event.session),
+    }
+}
+
+/// Those that a session waits for after an event, with which the situation has gone on but for who waits for whom. Only
+/// where the event may have changed them the rules are asked.
+fn on_after<R: Rules>(
+    rules: &R,
+    setup: &Table,
+    situation: &Situation,
+    event: &LogEvent,
+    state: &SessionState,
+) -> SessionSet
+    ensures { (past : Past) → Describes R.kind (event.now ∷ past) situation.now → DescribesSession R.kind (event.now ∷ past) state.now
+        → IsLegal R.kind setup.now (event.now ∷ past) → AreWaits R.kind setup.now past situation.now.waits
+        → (other : ℕ) → IsTrue (has result other) ↔ WaitsOn R.kind setup.now (event.now ∷ past) state.now.session other }
+{
+    if state.waits.is_none() || may_change(&situation.waits, event, state.session) {
+        return waits_on(rules, setup, situation, state);
+    }
+    situation.waits.on(state.session)
+}
+
+/// Who waits for whom after an event, with which the situation has gone on but for this.
+pub fn waits_after<R: Rules>(
+    rules: &R,
+    setup: &Table,
+    situation: &Situation,
+    event: &LogEvent,
+) -> WaitGraph
+    ensures { (past : Past) → Describes R.kind (event.now ∷ past) situation.now → IsLegal R.kind setup.now (event.now ∷ past)
+        → AreWaits R.kind setup.now past situation.now.waits → AreWaits R.kind setup.now (event.now ∷ past) result }
 {
     let mut waits = WaitGraph::none();
     for state in &situation.sessions {
-        let on = waits_on(rules, setup, situation, state);
+        let on = on_after(rules, setup, situation, event, state);
         waits.put(state.session, on);
     }
     waits
@@ -78,18 +119,13 @@ pub fn all_waits<R: Rules>(rules: &R, setup: &Table, situation: &Situation) -> W
 
 /// The least cycle on which a session would stand that asks for a statement which these block; or None where there is
 /// none. NoMemory where an allocation was refused.
-pub fn deadlock<R: Rules>(
-    alloc: Global,
-    rules: &R,
-    asker: &Asker,
-    on: &Sessions,
-) -> Result<Option<Sessions>, NoMemory>
-    ensures { (past : Past) (s : Asked) → Describes R.kind past asker.now.situation.now → MayAsk past asker.now.session s
-        → AreBlockers R.kind asker.now.setup.now past asker.now.session s on.now
-        → IfOk result (λ found. MatchOption found ((circle : List ℕ) → ¬ IsCircle R.kind asker.now.setup.now past asker.now.session s circle)
-        (IsLeastCircle R.kind asker.now.setup.now past asker.now.session s)) }
+pub fn deadlock(alloc: Global, asker: &Asker, on: &Sessions) -> Result<Option<Sessions>, NoMemory>
+    ensures { (level : Kind) (past : Past) (s : Asked) → AreWaits level asker.now.setup.now past asker.now.situation.now.waits → MayAsk past asker.now.session s
+        → AreBlockers level asker.now.setup.now past asker.now.session s on.now
+        → IfOk result (λ found. MatchOption found ((circle : List ℕ) → ¬ IsCircle level asker.now.setup.now past asker.now.session s circle)
+        (IsLeastCircle level asker.now.setup.now past asker.now.session s)) }
 {
-    let mut waits = all_waits(rules, asker.setup, asker.situation);
+    let mut waits = asker.situation.waits.copy();
     waits.put(asker.session, SessionSet::of(on.as_slice()));
     shortest_circle(alloc, &waits, asker.session)
 }
@@ -108,13 +144,12 @@ fn is_released(waits: &WaitGraph, state: &SessionState) -> bool
 }
 
 /// The least session whose waiting statement has nothing in its way, or stands on a cycle.
-pub fn retryable<R: Rules>(rules: &R, setup: &Table, situation: &Situation) -> Option<Session>
-    ensures { (past : Past) → Describes R.kind past situation.now
-        → MatchOption result (NoneRetryable R.kind setup.now past) (IsLeastRetryable R.kind setup.now past) }
+pub fn retryable(situation: &Situation) -> Option<Session>
+    ensures { (level : Kind) (setup : PlainTable) (past : Past) → Describes level past situation.now → AreWaits level setup past situation.now.waits
+        → MatchOption result (NoneRetryable level setup past) (IsLeastRetryable level setup past) }
 {
-    let waits = all_waits(rules, setup, situation);
     for state in &situation.sessions {
-        if is_released(&waits, state) {
+        if is_released(&situation.waits, state) {
             return Some(state.session);
         }
     }

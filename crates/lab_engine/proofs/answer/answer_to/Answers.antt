@@ -1,23 +1,23 @@
 use Rattle.std.proofs.Common.{refl, sym, ap, subst, IfOk}
-use Rattle.lab_engine.proofs.Common.{Run, MayAsk, asked}
+use Rattle.lab_engine.proofs.Common.{Run, MayAsk, AreWaits, Situation, asked}
 use Rattle.lab_engine.specs.Answer.{Answers}
 use Rattle.lab_engine.proofs.Describing.{running_txn, running_none}
 use Rattle.lab_engine.proofs.Answering.{gives, may_ask, conflict_none, conflict_some, ran}
 use Rattle.lab_engine.proofs.answer.answer_to.Goals as goal
 
 pub returns-in_default-clause-answer : goal.returns-in_default-clause-answer
-returns-in_default-clause-answer g c past d may = c.without_transaction.ensures _ _ past d (running_none past c.args.situation.now d c.args.session (sym c.in_default.ensures))
+returns-in_default-clause-answer g c past d may h = c.without_transaction.ensures _ _ past d (running_none past c.args.situation.now d c.args.session (sym c.in_default.ensures))
 
 pub returns-in-Begin-clause-answer : goal.returns-in-Begin-clause-answer
-returns-in-Begin-clause-answer g c past d may = let t = running_txn past c.args.situation.now d c.args.session c.in-Some.running.now (sym c.in-Some.ensures) in
+returns-in-Begin-clause-answer g c past d may h = let t = running_txn past c.args.situation.now d c.args.session c.in-Some.running.now (sym c.in-Some.ensures) in
     ((t.0, gives _ _ _ _ t.0 c.in-Begin.is refl may t.1), (λ eq. cc), λ s run circle eq. cc)
 
 pub returns-in-Abort-clause-answer : goal.returns-in-Abort-clause-answer
-returns-in-Abort-clause-answer g c past d may = let t = running_txn past c.args.situation.now d c.args.session c.in-Some.running.now (sym c.in-Some.ensures) in
+returns-in-Abort-clause-answer g c past d may h = let t = running_txn past c.args.situation.now d c.args.session c.in-Some.running.now (sym c.in-Some.ensures) in
     ((t.0, gives _ _ _ _ t.0 c.in-Abort.is refl may t.1), (λ eq. cc), λ s run circle eq. cc)
 
 pub returns-in-None-clause-answer : goal.returns-in-None-clause-answer
-returns-in-None-clause-answer g c past d may = let t = running_txn past c.args.situation.now d c.args.session c.in-Some.running.now (sym c.in-Some.ensures) in (
+returns-in-None-clause-answer g c past d may h = let t = running_txn past c.args.situation.now d c.args.session c.in-Some.running.now (sym c.in-Some.ensures) in (
   (
     t.0,
     gives _ _ _ _ t.0 c.in-Commit.is refl may t.1,
@@ -28,15 +28,17 @@ returns-in-None-clause-answer g c past d may = let t = running_txn past c.args.s
 )
 
 pub returns-in-Some-conflict-clause-answer : goal.returns-in-Some-conflict-clause-answer
-returns-in-Some-conflict-clause-answer g c past d may = let t = running_txn past c.args.situation.now d c.args.session c.in-Some.running.now (sym c.in-Some.ensures) in
+returns-in-Some-conflict-clause-answer g c past d may h = let t = running_txn past c.args.situation.now d c.args.session c.in-Some.running.now (sym c.in-Some.ensures) in
     let p = conflict_some _ _ t.0 _ c.in-Some-conflict.conflict c.in-Some-conflict.is (c.conflict.ensures past t.0 (c.of-asker.ensures.is past t.0 d t.1 t.2)) in
     ((t.0, gives _ _ _ _ t.0 c.in-Commit.is refl may t.1, p.0, p.1, p.2), (λ eq. cc), λ s run circle eq. cc)
 
 pub returns-in-Run-clause-answer : goal.returns-in-Run-clause-answer
-returns-in-Run-clause-answer g c past d may = let t = running_txn past c.args.situation.now d c.args.session c.in-Some.running.now (sym c.in-Some.ensures) in
+returns-in-Run-clause-answer g c past d may h = let t = running_txn past c.args.situation.now d c.args.session c.in-Some.running.now (sym c.in-Some.ensures) in
     let asker = c.of-asker.result in
     let s = c.in-Run.statement in
+    let waits = subst (λ table. AreWaits g.R.Rules.kind table past asker.situation.now.waits) (sym c.of-asker.ensures.setup)
+    (subst (λ (k : Situation). AreWaits g.R.Rules.kind c.args.setup.now past k.waits) (sym c.of-asker.ensures.situation) h) in
     ran g.R.Rules.kind c.args.setup.now past c.args.session _ _ _ c.in-Run.is
     (subst (λ session. MayAsk past session s → IfOk c.run_statement.result (Answers g.R.Rules.kind c.args.setup.now past session (Run s))) c.of-asker.ensures.session
     (subst (λ table. MayAsk past asker.session s → IfOk c.run_statement.result (Answers g.R.Rules.kind table past asker.session (Run s))) c.of-asker.ensures.setup
-    (c.run_statement.ensures past t.0 (c.of-asker.ensures.is past t.0 d t.1 t.2))) (may_ask past c.args.session _ _ (ap asked c.in-Run.is) may))
+    (c.run_statement.ensures past t.0 (c.of-asker.ensures.is past t.0 d t.1 t.2) waits)) (may_ask past c.args.session _ _ (ap asked c.in-Run.is) may))

@@ -1,7 +1,5 @@
 use Rattle.std.proofs.Common.{◌∷◌, sym, ◌∙◌, arith}
-use Rattle.std.proofs.lemmas.List.{length-reverse}
-use Rattle.std.proofs.lemmas.Result.{on_ok_weaker}
-use Rattle.lab_engine.specs.Log.{past_of}
+use Rattle.lab_engine.proofs.Common.{length-reverse, on_ok_weaker, past_of}
 use Rattle.lab_engine.specs.Sessions.{all_sessions}
 use Rattle.lab_engine.proofs.EndPlaces.{fewer_active, few_active}
 use Rattle.lab_engine.proofs.journal.reserve_place.Goals as goal

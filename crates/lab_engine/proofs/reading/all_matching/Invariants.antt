@@ -1,7 +1,6 @@
 use Rattle.std.proofs.Common.{◌≡◌, ◌++◌}
-use Rattle.lab_engine.proofs.Common.{entries}
+use Rattle.lab_engine.proofs.Common.{each_row, entries}
 use Rattle.lab_engine.specs.KeptRows.{entries_in}
-use Rattle.lab_engine.specs.EachRow.{each_row}
 use Rattle.lab_engine.specs.Overlay.{seen_of, matching_entries, laid_over}
 use Rattle.lab_engine.proofs.reading.all_matching.Given as goal
 

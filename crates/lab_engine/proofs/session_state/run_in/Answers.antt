@@ -1,6 +1,5 @@
 use Rattle.std.proofs.Common.{Some, None, cond, sym, ap, subst, ◌∙◌}
-use Rattle.lab_engine.proofs.Common.{Command, Listed, active_after, pending_in, keeps_statements, Agree}
-use Rattle.lab_engine.specs.Log.{asked}
+use Rattle.lab_engine.proofs.Common.{Agree, Command, Listed, active_after, asked, keeps_statements, pending_in}
 use Rattle.lab_engine.proofs.SessionStates.{runs_agree}
 use Rattle.lab_engine.proofs.session_state.run_in.Goals as goal
 

@@ -1,8 +1,8 @@
 use Rattle.std.proofs.Common.{ℕ, take, IsTrue, ◌==◌}
-use Rattle.lab_engine.proofs.Common.{list_any, Past, Describes, IsRetryable}
+use Rattle.lab_engine.proofs.Common.{list_any, Level, Table, Past, Describes, AreWaits, IsRetryable}
 use Rattle.lab_engine.proofs.waits.retryable.Given as goal
 
 -- none of the sessions so far is retryable
 abbrev pub invariant-loop-state : goal.invariant-loop-state
-invariant-loop-state g l = (past : Past) → Describes g.R.Rules.kind past l.situation
-    → (session : ℕ) → IsTrue (list_any (λ state. state.session == session) (take l.state-index l.situation.sessions)) → IsRetryable g.R.Rules.kind l.setup past session → ⊥
+invariant-loop-state l = (level : Level) (setup : Table) (past : Past) → Describes level past l.situation → AreWaits level setup past l.situation.waits
+    → (session : ℕ) → IsTrue (list_any (λ state. state.session == session) (take l.state-index l.situation.sessions)) → IsRetryable level setup past session → ⊥

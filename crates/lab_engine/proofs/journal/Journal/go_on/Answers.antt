@@ -1,27 +1,32 @@
-use Rattle.std.proofs.Common.{◌≡◌, ◌<◌, length, List, [], ◌∷◌, sym, ap, subst, ◌∙◌, arith}
+use Rattle.std.proofs.Common.{◌≡◌, ◌<◌, length, List, [], ◌∷◌, refl, sym, ap, subst, ◌∙◌, arith}
 use Rattle.std.specs.Vec.{vec_capacity}
-use Rattle.std.proofs.lemmas.List.{length-reverse, reverse-append}
+use Rattle.lab_engine.proofs.Common.{AreWaits, LogEvent, Past, Permitted, Situation, kept_of, length-reverse, past_of, reverse-append}
 use Rattle.lab_engine.specs.Answer.{Keeps, HasPlacesOfEnds}
 use Rattle.lab_engine.specs.Journal.{EngineRun}
-use Rattle.lab_engine.specs.Log.{Past, past_of}
-use Rattle.lab_engine.specs.Rules.{Permitted}
-use Rattle.lab_engine.specs.Situation.{kept_of}
-use Rattle.lab_engine.specs.declared.event.LogEvent.{LogEvent}
+use Rattle.lab_engine.proofs.Describing.{same_log}
 use Rattle.lab_engine.proofs.journal.Journal.go_on.Goals as goal
 
 pub invariant_of-self : goal.invariant_of-self
 invariant_of-self g c =
     subst (λ (log : List LogEvent). Keeps g.R.Rules.kind c.self.inside.setup (past_of log) c.self.inside.retryable c.self.inside.situation (vec_capacity c.reserve_place.new.log))
     (sym c.reserve_place.ensures.log)
-    (record { retryable = c.self.invariant.retryable; situation = c.self.invariant.situation; places_of_ends = c.reserve_place.ensures.places })
+    (record {
+      legal = c.self.invariant.legal;
+      retryable = c.self.invariant.retryable;
+      situation = c.self.invariant.situation;
+      waits = c.self.invariant.waits;
+      places_of_ends = c.reserve_place.ensures.places;
+    })
 
 pub invariant_of-self-in_err-kept : goal.invariant_of-self-in_err-kept
 invariant_of-self-in_err-kept g c =
     subst (λ (log : List LogEvent). Keeps g.R.Rules.kind c.self.inside.setup (past_of log) c.self.inside.retryable c.reserve.new.self (vec_capacity c.reserve_place.new.log))
     (sym c.reserve_place.ensures.log)
     (record {
+      legal = c.self.invariant.legal;
       retryable = c.self.invariant.retryable;
       situation = c.reserve.ensures.same g.R.Rules.kind (past_of c.self.inside.log.items) c.self.invariant.situation;
+      waits = subst (AreWaits g.R.Rules.kind c.self.inside.setup (past_of c.self.inside.log.items)) (sym c.reserve.ensures.waits) c.self.invariant.waits;
       places_of_ends = c.reserve_place.ensures.places;
     })
 
@@ -36,13 +41,20 @@ invariant_of-self-2 g c =
     let event : LogEvent = c.args.event in
     let longer : past_of c.push_reserved.new.self.items ≡ event ∷ past =
     ap past_of c.push_reserved.ensures.items ∙ reverse-append c.reserve_place.new.log.items (event ∷ []) ∙ ap (λ log. event ∷ past_of log) c.reserve_place.ensures.log in
-    let describes = c.take_in.ensures g.R.Rules.kind past (c.in_ok-kept.ensures.copy ∙ ap (λ b. kept_of b event.command event.outcome) c.keeps_statements.ensures)
+    let describes = c.take_in.ensures.is g.R.Rules.kind past (c.in_ok-kept.ensures.copy ∙ ap (λ b. kept_of b event.command event.outcome) c.keeps_statements.ensures)
     (c.reserve.ensures.same g.R.Rules.kind past c.self.invariant.situation) in
     let permitted = subst (λ (k : EngineRun). Permitted g.R.Rules.kind k.setup (past_of k.log) event.session event.command event.outcome) (sym c.self.view_is) c.requires.permitted in
     let places : HasPlacesOfEnds (event ∷ past) (vec_capacity c.reserve_place.new.log) = c.in_ok-reserve_place.ensures.next in
-    subst (λ (p : Past). Keeps g.R.Rules.kind c.self.inside.setup p c.retryable_after-self-inside.result c.take_in.new.self (vec_capacity c.push_reserved.new.self)) (sym longer)
+    let before = subst (AreWaits g.R.Rules.kind c.self.inside.setup past) (sym (c.take_in.ensures.waits ∙ c.reserve.ensures.waits)) c.self.invariant.waits in
+    let waits = c.waits_after-self-inside.ensures past describes (c.self.invariant.legal, permitted) before in
+    let old : Situation = c.take_in.new.self in
+    let new : Situation = record { sessions = old.sessions; rows = old.rows; waits = c.waits_after-self-inside.result; begun = old.begun; events = old.events } in
+    let goes_on = same_log (event ∷ past) old new describes describes.sessions describes.states describes.rows refl refl in
+    subst (λ (p : Past). Keeps g.R.Rules.kind c.self.inside.setup p c.retryable-self-inside.result new (vec_capacity c.push_reserved.new.self)) (sym longer)
     (record {
-      retryable = c.retryable_after-self-inside.ensures past describes permitted c.self.invariant.retryable;
-      situation = describes;
+      legal = (c.self.invariant.legal, permitted);
+      retryable = c.retryable-self-inside.ensures g.R.Rules.kind c.self.inside.setup (event ∷ past) goes_on waits;
+      situation = goes_on;
+      waits = waits;
       places_of_ends = omega (arith, places, c.push_reserved.ensures.capacity);
     })

@@ -1,24 +1,16 @@
 use Rattle.std.proofs.Common.{◌∷◌, ◌++◌, [], sym, ap, subst, ◌∙◌}
-use Rattle.lab_engine.specs.declared.event.LogEvent.{LogEvent}
-use Rattle.lab_engine.specs.declared.event.Outcome.{Outcome}
+use Rattle.lab_engine.proofs.Common.{LogEvent, Outcome, Permitted, past_of}
 use Rattle.lab_engine.specs.Engine.{IsRetry}
 use Rattle.lab_engine.specs.LeastCircle.{NamesLeastOfWaiting}
-use Rattle.lab_engine.specs.Log.{past_of}
-use Rattle.lab_engine.specs.Rules.{Permitted}
 use Rattle.lab_engine.proofs.journal.JournalEngine.retry.Goals as goal
-
-pub go_on-requires-clause-permitted : goal.go_on-requires-clause-permitted
-go_on-requires-clause-permitted g c =
-    let run = c.args.self.now in
-    let of = c.in_ok-event.ensures.of in
-    subst (λ (e : LogEvent). Permitted g.R.Rules.kind run.setup (past_of run.log) e.session e.command e.outcome) (sym of.2) of.3
 
 pub returns-clause-ok : goal.returns-clause-ok
 returns-clause-ok g c =
     let run = c.args.self.now in
     let of = c.in_ok-event.ensures.of in
+    let permitted = subst (λ (e : LogEvent). Permitted g.R.Rules.kind run.setup (past_of run.log) e.session e.command e.outcome) of.2 c.in_ok-event.ensures.permitted in
     subst (λ (o : Outcome). IsRetry g.R.Rules.kind run.setup run.log c.go_on.new.self.log c.args.session o) (sym c.in_ok-answer.ensures.copy)
-    (of.0, of.1, (c.in_ok-go_on.ensures.ok ∙ ap (λ (e : LogEvent). run.log ++ e ∷ []) of.2, of.3), c.in_ok-event.ensures.answered)
+    (of.0, of.1, (c.in_ok-go_on.ensures.ok ∙ ap (λ (e : LogEvent). run.log ++ e ∷ []) of.2, permitted), c.in_ok-event.ensures.answered)
 
 pub returns-clause-least : goal.returns-clause-least
 returns-clause-least g c =

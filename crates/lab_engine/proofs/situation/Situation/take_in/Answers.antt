@@ -12,7 +12,7 @@ advance_session-requires-clause-few c = (c.requires.few.0, c.requires.few.1, c.r
 pub begun_next-self-requires : goal.begun_next-self-requires
 begun_next-self-requires c = omega (arith, c.requires.few.3, begun_at_most c.requires.few.1, c.requires.few.2.begun)
 
-pub returns : goal.returns
-returns c = λ level past kept is.
+pub returns-clause-is : goal.returns-clause-is
+returns-clause-is c = λ level past kept is.
     let next = c.advance_session.ensures.goes_on level past kept is.events is.states is.rows in
     goes_on past c.args.event.now c.args.self.now _ is c.advance_session.ensures.session c.advance_session.ensures.sessions next.0 next.1 c.begun_next-self.ensures refl

@@ -1,0 +1,9 @@
+use Rattle.std.proofs.Common.{take, ◌∷◌}
+use Rattle.lab_engine.proofs.Common.{Past, Describes, IsLegal, AreWaits}
+use Rattle.lab_engine.proofs.Waiting.{AreWaitsOf}
+use Rattle.lab_engine.proofs.waits.waits_after.Given as goal
+
+-- what the sessions so far wait for
+abbrev pub invariant-loop-state : goal.invariant-loop-state
+invariant-loop-state g l = (past : Past) → Describes g.R.Rules.kind (l.event ∷ past) l.situation → IsLegal g.R.Rules.kind l.setup (l.event ∷ past) → AreWaits g.R.Rules.kind l.setup past l.situation.waits
+    → AreWaitsOf g.R.Rules.kind l.setup (l.event ∷ past) (take l.state-index l.situation.sessions) l.waits
