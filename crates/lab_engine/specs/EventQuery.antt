@@ -41,6 +41,15 @@ is_ending Aborted = true
 is_ending (Waits on) = false
 is_ending (Refused fault) = is_conflict fault
 
+-- whether an outcome ends the active transaction of its session: a commit, an abort or a fatal refusal
+abbrev pub is_over : Outcome → Bool
+is_over (Begun n) = false
+is_over (Listed view rows writes) = false
+is_over Committed = true
+is_over Aborted = true
+is_over (Waits on) = false
+is_over (Refused fault) = is_fatal fault
+
 -- whether an outcome frees no session that waits: its transaction goes on, and writes nothing
 abbrev pub frees_nobody : Outcome → Bool
 frees_nobody (Begun n) = true

@@ -2,7 +2,7 @@
 
 ghost use Rattle.std.specs.Prelude.{◌≡◌, option_map};
 ghost use Rattle.lab_engine.specs.Log.{asked, is_fatal};
-ghost use Rattle.lab_engine.specs.EventQuery.{busy, frees_nobody, is_conflict, is_ending};
+ghost use Rattle.lab_engine.specs.EventQuery.{busy, frees_nobody, is_conflict, is_ending, is_over};
 
 use crate::event::{EngineFault, Outcome};
 use lab_table::{Command, Statement};
@@ -70,6 +70,20 @@ pub fn ends_transaction(outcome: &Outcome) -> bool
         Outcome::Aborted => true,
         Outcome::Waits { .. } => false,
         Outcome::Refused(fault) => is_conflict_fault(fault),
+    }
+}
+
+/// Whether an outcome ends the active transaction of its session, as a commit, an abort or a fatal refusal.
+pub fn is_over(outcome: &Outcome) -> bool
+    ensures { result ≡ is_over outcome.now }
+{
+    match outcome {
+        Outcome::Begun(_) => false,
+        Outcome::Rows { .. } => false,
+        Outcome::Committed => true,
+        Outcome::Aborted => true,
+        Outcome::Waits { .. } => false,
+        Outcome::Refused(fault) => is_fatal_fault(fault),
     }
 }
 
