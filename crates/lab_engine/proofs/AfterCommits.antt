@@ -1,5 +1,5 @@
 -- Whom a commit leaves blocked as before: those whom its transaction didn't block.
-use Rattle.std.proofs.Common.{◌≡◌, ℕ, refl, sym, ap, subst, ◌∙◌, false, cond, ◌||◌, ◌↔◌, ◌⊎◌, inl, inr, List, ◌∷◌, Option, Some, None, option_map, is_some, unwrap_or, IsTrue, IsSome, ℤ}
+use Rattle.std.proofs.Common.{◌≡◌, ◌≢◌, ℕ, refl, sym, ap, subst, ◌∙◌, false, cond, ◌||◌, ◌↔◌, ◌⊎◌, inl, inr, List, ◌∷◌, Option, Some, None, option_map, is_some, unwrap_or, IsTrue, IsSome, ℤ}
 use Rattle.lab_table.specs.Statement.{kind_matches, kind_would_write, applied, new_state}
 use Rattle.lab_table.specs.declared.statement.StatementKind.{StatementKind}
 use Rattle.lab_table.specs.declared.statement.StatementKind.TheVariants.{Select, Update, Insert, Delete}
@@ -86,7 +86,7 @@ module _ (setup : Table) (past : Past) (e : ℕ) (command : Command) (t : Txn) (
     writes_over from to holder same (row, some, writes) = (row, some, subst (λ (v : Version). IsTrue (would_write s row v.state)) (same row some) writes)
 
     -- the others block the statement as before
-    pub still_blocked : (level : Level) → ¬ Blocks level setup past asker s t → (holder : Txn) → (level ≡ ReadCommitted → (row : Row) → IsSome (version_by holder row) → version_by t row ≡ None)
+    pub still_blocked : (level : Level) → ¬ Blocks level setup past asker s t → (holder : Txn) → (level ≢ Snapshot → (row : Row) → IsSome (version_by holder row) → version_by t row ≡ None)
         → Blocks level setup after asker s holder ↔ Blocks level setup past asker s holder
     still_blocked Locking free holder apart = (
       blocks_over setup after past asker s holder (λ row. sym (match_as free row (version_by t row) refl))
@@ -94,6 +94,6 @@ module _ (setup : Table) (past : Past) (e : ℕ) (command : Command) (t : Txn) (
       blocks_over setup past after asker s holder (λ row. match_as free row (version_by t row) refl) (λ row. seen_as s row _ _ (alike free row (version_by t row) refl)),
     )
     still_blocked ReadCommitted free holder apart =
-        let same = λ (row : Row) (some : IsSome (version_by holder row)). ap (unwrap_or (version_by asker row)) (committed_is row None (apart refl row some)) in
+        let same = λ (row : Row) (some : IsSome (version_by holder row)). ap (unwrap_or (version_by asker row)) (committed_is row None (apart (λ eq. cc) row some)) in
         (writes_over after past holder same, writes_over past after holder (λ row some. sym (same row some)))
     still_blocked Snapshot free holder apart = ((λ b. b), (λ b. b))

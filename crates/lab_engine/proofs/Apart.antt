@@ -1,8 +1,8 @@
--- At read committed no two active transactions have written the same row.
-use Rattle.std.proofs.Common.{◌≡◌, ◌≢◌, ℕ, refl, sym, ap, subst, ◌∙◌, [], ◌∷◌, Some, None, Option, option_map, is_some}
+-- No two active transactions have written the same row, at locking and read committed.
+use Rattle.std.proofs.Common.{◌≡◌, ◌≢◌, ℕ, refl, sym, ap, subst, ◌∙◌, [], ◌∷◌, Some, None, Option, option_map, is_some, inl, inr}
 use Rattle.std.specs.FinMap as map
-use Rattle.lab_engine.proofs.Common.{none_some, none_of, same_Some, Row, Rows, Table, State, Writes, Statement, Command, View, Outcome, Begun, Listed, Run, Op, Past, Version, Txn, active, active_after, version_or, version_by, IsFree, IsEffect, Permitted, IsLegal, grown}
-use Rattle.lab_engine.specs.declared.event.Level.TheVariants.{Committed as ReadCommitted}
+use Rattle.lab_engine.proofs.Common.{none_some, none_of, same_Some, Row, Rows, Table, State, Writes, Statement, Command, View, Outcome, Begun, Listed, Run, Op, Past, Version, Txn, active, active_after, version_or, version_by, Level, HoldsWrite, Blocks, IsFree, IsEffect, Permitted, IsLegal, grown}
+use Rattle.lab_engine.specs.declared.event.Level.TheVariants.{Locking, Snapshot, Committed as ReadCommitted}
 use Rattle.lab_engine.proofs.LockSteps.{AllOff, step, was_active, left, begins}
 
 -- another transaction hasn't written a row of which one has a pending version
@@ -12,14 +12,27 @@ unwritten row v other = version_by other row ≡ None
 abbrev pub WritesApart : Past → Type 0
 WritesApart past = AllOff unwritten (active past)
 
-module _ (setup : Table) (past : Past) (e : ℕ) (asker : Txn) (s : Statement) (view : View) (rows : Rows) (writes : Writes) (is_asker : active past e ≡ Some asker)
-    (free : IsFree ReadCommitted setup past e s) (effect : IsEffect ReadCommitted setup past asker s view rows writes) (all : WritesApart past) where
+-- there a transaction blocks each statement that would write a row that it has written
+write_blocks : (level : Level) → level ≢ Snapshot → (setup : Table) (past : Past) (asker : Txn) (s : Statement) (holder : Txn) → HoldsWrite level setup past asker s holder → Blocks level setup past asker s holder
+write_blocks Locking locks setup past asker s holder w = inr (inl w)
+write_blocks ReadCommitted locks setup past asker s holder w = w
+write_blocks Snapshot locks setup past asker s holder w = absurd (locks refl)
+
+module _ (level : Level) (locks : level ≢ Snapshot) (setup : Table) (past : Past) (e : ℕ) (asker : Txn) (s : Statement) (view : View) (rows : Rows) (writes : Writes)
+    (is_asker : active past e ≡ Some asker) (free : IsFree level setup past e s) (effect : IsEffect level setup past asker s view rows writes) (all : WritesApart past) where
   abbrev op : Op
   op = record { statement = s; view = view; rows = rows; writes = writes }
 
   -- what the statement writes nobody else has written
   free_write : (z : ℕ) (u : Txn) (row : Row) (new : State) → e ≢ z → active past z ≡ Some u → map.get writes row ≡ Some new → version_by u row ≡ None
-  free_write z u row new apart is_u wrote = none_of _ (λ some. free z (asker, u, apart, is_asker, is_u, (row, some, ap is_some (sym (effect.writes_are row) ∙ wrote))))
+  free_write z u row new apart is_u wrote = none_of _ (λ some. free z (
+    asker,
+    u,
+    apart,
+    is_asker,
+    is_u,
+    write_blocks level locks setup past asker s u (row, some, ap is_some (sym (effect.writes_are row) ∙ wrote)),
+  ))
 
   -- so it is of what its transaction has written behind it
   first : (z : ℕ) (u : Txn) (row : Row) (v : Version) (number : ℕ) (wrote : Option State) → e ≢ z → active past z ≡ Some u → map.get writes row ≡ wrote
@@ -43,15 +56,15 @@ module _ (setup : Table) (past : Past) (e : ℕ) (asker : Txn) (s : Statement) (
       subst (λ k. version_by k row ≡ None) same (second z t row v _ (map.get writes row) apart is_t refl pending))
       (λ x z t u row v apart _ _ is_t is_u pending. all x z t u row v apart is_t is_u pending)
 
-apart_step : (setup : Table) (past : Past) (e : ℕ) (command : Command) (outcome : Outcome) → Permitted ReadCommitted setup past e command outcome → WritesApart past
+apart_step : (level : Level) → level ≢ Snapshot → (setup : Table) (past : Past) (e : ℕ) (command : Command) (outcome : Outcome) → Permitted level setup past e command outcome → WritesApart past
     → WritesApart (record { session = e; command = command; outcome = outcome } ∷ past)
-apart_step setup past e command (Begun n) permitted all = begins e n past (active past) unwritten (λ row v. refl) all
-apart_step setup past e command (Listed view rows writes) (s, t, asks, free, effect) all =
+apart_step level locks setup past e command (Begun n) permitted all = begins e n past (active past) unwritten (λ row v. refl) all
+apart_step level locks setup past e command (Listed view rows writes) (s, t, asks, free, effect) all =
     subst (λ k. WritesApart (record { session = e; command = k; outcome = Listed view rows writes } ∷ past)) (sym asks.command_is)
-    (runs_apart setup past e t s view rows writes asks.active_is free effect all)
-apart_step setup past e command other permitted all = left e (active_after command other past) (active past) unwritten (λ before t. was_active command other past before t tt) all
+    (runs_apart level locks setup past e t s view rows writes asks.active_is free effect all)
+apart_step level locks setup past e command other permitted all = left e (active_after command other past) (active past) unwritten (λ before t. was_active command other past before t tt) all
 
 -- so it is of every legal log
-pub writes_apart : (setup : Table) (past : Past) → IsLegal ReadCommitted setup past → WritesApart past
-writes_apart setup [] legal = λ session other t u row v apart is_t is_u pending. none_some _ is_t
-writes_apart setup (event ∷ past) (earlier, permitted) = apart_step setup past event.session event.command event.outcome permitted (writes_apart setup past earlier)
+pub writes_apart : (level : Level) → level ≢ Snapshot → (setup : Table) (past : Past) → IsLegal level setup past → WritesApart past
+writes_apart level locks setup [] legal = λ session other t u row v apart is_t is_u pending. none_some _ is_t
+writes_apart level locks setup (event ∷ past) (earlier, permitted) = apart_step level locks setup past event.session event.command event.outcome permitted (writes_apart level locks setup past earlier)

@@ -1,6 +1,6 @@
 -- What an event of one session does to locks.
 pub use Rattle.lab_engine.proofs.Common.{none_some}
-use Rattle.lab_engine.proofs.Common.{option_or, Row, Table, Command, Outcome, Begun, Listed, Waits, Refused, Past, Version, Txn, is_fatal, active_after, version_by, last_installed, initial_version, same_Some, KeepsOff, AllKeepOff, eqb_tells, ◌==◌, Option, Some, None, unwrap_or, true, false, ⊤}
+use Rattle.lab_engine.proofs.Common.{option_or, Row, Table, Command, Outcome, Begun, Listed, Waits, Refused, Past, Version, Txn, is_fatal, active_after, version_by, last_installed, initial_version, same_Some, has_read, eqb_tells, ◌==◌, Option, Some, None, unwrap_or, true, false, ⊤}
 use Rattle.std.proofs.Common.{◌≡◌, ◌≢◌, ℕ, sym, ap, subst, ◌∙◌, cond, List, [], ◌∷◌, ◌⊎◌, inl, inr}
 
 -- an active transaction after an event: that of the event's session, or of another one, which stays
@@ -66,13 +66,17 @@ begins e n past act off new all = step e (λ t. Some (fresh n past)) act off
     (λ s t u row v apart is_t is_u pending. subst (off row v) (same_Some (fresh n past) u is_u) (new row v))
     (λ s z t u row v apart _ _ is_t is_u pending. all s z t u row v apart is_t is_u pending)
 
+-- another transaction has run no statement that matches a row's committed state, or the state of a pending version
+abbrev pub Unread : (Row → Version) → Row → Version → Txn → Type 0
+Unread installed row pending other = (has_read other.ops row (installed row).state ≡ false) × (has_read other.ops row pending.state ≡ false)
+
 -- an event that commits a transaction
-pub commits_one : (setup : Table) (e : ℕ) (txns : List Txn) (act : ℕ → Option Txn) (t : Txn) → act e ≡ Some t
-    → AllKeepOff act (λ row. unwrap_or (last_installed txns row) (initial_version setup row))
-    → AllKeepOff (λ s. cond (e == s) None (act s)) (λ row. unwrap_or (last_installed (t ∷ txns) row) (initial_version setup row))
-commits_one setup e txns act t is_own all = step e (λ _. None) act (λ row v u. KeepsOff (unwrap_or (last_installed (t ∷ txns) row) (initial_version setup row)) v row u)
+pub commits_one : (setup : Table) (e : ℕ) (txns : List Txn) (act : ℕ → Option Txn) (t : Txn) → act e ≡ Some t → AllOff (λ row v u. version_by u row ≡ None) act
+    → AllOff (Unread (λ row. unwrap_or (last_installed txns row) (initial_version setup row))) act
+    → AllOff (Unread (λ row. unwrap_or (last_installed (t ∷ txns) row) (initial_version setup row))) (λ s. cond (e == s) None (act s))
+commits_one setup e txns act t is_own off all = step e (λ _. None) act (Unread (λ row. unwrap_or (last_installed (t ∷ txns) row) (initial_version setup row)))
     (λ z t' u row v apart is_t is_u pending. none_some _ is_t)
     (λ s t' u row v apart is_t is_u pending. none_some _ is_u)
     (λ s z t' u row v apart from_s from_z is_t is_u pending.
-    let away : version_by t row ≡ None = (all s e t' t row v (λ same. from_s (sym same)) is_t is_own pending).unwritten in
-    subst (λ c. KeepsOff c v row u) (sym (ap (λ w. unwrap_or (option_or w (last_installed txns row)) (initial_version setup row)) away)) (all s z t' u row v apart is_t is_u pending))
+    let away : version_by t row ≡ None = off s e t' t row v (λ same. from_s (sym same)) is_t is_own pending in
+    subst (λ (c : Version). Unread (λ _. c) row v u) (sym (ap (λ w. unwrap_or (option_or w (last_installed txns row)) (initial_version setup row)) away)) (all s z t' u row v apart is_t is_u pending))

@@ -1,16 +1,8 @@
 -- What is kept of a session and of the rows goes on by an event of the session.
 use Rattle.std.proofs.Common.{◌≡◌, ◌∙◌, ℕ, ◌+◌, ◌==◌, ◌||◌, ◌&&◌, Bool, cond, true, false, List, [], ◌∷◌, ◌++◌, map as each, length, reverse, Option, Some, None, refl, sym, ap, subst, arith, inl, inr, is_some, is_none, option_to_list}
-use Rattle.lab_engine.proofs.Common.{none_of, both_ways, cases_eq, eq-eqb, ne_eqb, true≢false, reverse-append, Row, State, Rows, Writes, Statement, Command, Run, View, Op, Busy, Level, LogEvent, Outcome, Listed, Committed, Refused, RunningTxn, SessionState, Past, Txn, Version, version_or, version_by, active, active_after, waiting, waiting_after, chain_after, longer, chain_in, pending_in, DescribesSession, DescribesRows, Agree, IsRunning, has_written, grown, keeps_statements, written_by, statements_of, RowStates}
+use Rattle.lab_engine.proofs.Common.{none_of, both_ways, cases_eq, eq-eqb, ne_eqb, true≢false, reverse-append, Row, State, Rows, Writes, Statement, Run, View, Op, NoTransaction, AlreadyBegun, Busy, Level, LogEvent, Outcome, Listed, Committed, Aborted, Refused, RunningTxn, SessionState, Past, Txn, Version, version_or, version_by, active, active_after, waiting, waiting_after, chain_after, longer, chain_in, pending_in, DescribesSession, DescribesRows, Agree, IsRunning, has_written, grown, keeps_statements, written_by, statements_of, RowStates}
 use Rattle.std.specs.FinMap as map
-use Rattle.lab_engine.specs.EventQuery.{busy}
-use Rattle.lab_engine.specs.declared.event.EngineFault.{EngineFault}
-
--- ---- outcomes
-
--- after a refusal other than Busy nothing waits
-pub none_waits : (command : Command) (fault : EngineFault) (held : Option Statement) → busy (Refused fault) ≡ false → None ≡ waiting_after command (Refused fault) held
-none_waits command Busy held is = absurd (true≢false is)
-none_waits command other held is = refl
+use Rattle.lab_engine.specs.EventQuery.{is_over}
 
 -- ---- one more operation
 
@@ -80,6 +72,17 @@ module _ {level : Level} (past : Past) (event : LogEvent) (old : SessionState) (
           ];
         },
       )
+
+  -- what a session had pending is given up where its transaction is over by no commit
+  pub abandons : (new : RowStates) (outcome : Outcome) → is_over outcome ≡ true → (outcome ≡ Committed → ⊥) → ((row : Row) → chain_in new row ≡ chain_in rows row)
+      → ((row : Row) (n : ℕ) → pending_in new row n ≡ cond (n == old.session) None (pending_in rows row n)) → Follow None None new outcome
+  abandons new Committed over apart chains pending = absurd (apart refl)
+  abandons new Aborted over apart chains pending = (refl, tt, chains, pending)
+  abandons new (Refused NoTransaction) over apart chains pending = absurd (true≢false (sym over))
+  abandons new (Refused AlreadyBegun) over apart chains pending = absurd (true≢false (sym over))
+  abandons new (Refused Busy) over apart chains pending = absurd (true≢false (sym over))
+  abandons new (Refused fault) over apart chains pending = (refl, tt, chains, pending)
+  abandons new other over apart chains pending = absurd (true≢false (sym over))
 
 -- ---- a transaction that ends
 

@@ -131,9 +131,9 @@ module _ (level : Level) (setup : Table) (past : Past) (e : ℕ) (command : Comm
       (λ s b. none_some _ (sym (own_active level setup past e command Committed) ∙ b.4))
       (λ s asker holder other is was there held. still_blocked setup past e command t gives.active_is asker s level
       (λ b. before (s, is, (asker, t, (λ same. off (sym same)), was, gives.active_is, b))) holder
-      (λ committed row some.
+      (λ locks row some.
       let v = some_of (version_by holder row) some in
-      writes_apart setup past (subst (λ l. IsLegal l setup past) committed legal) other e holder t row v.0 (λ same. there (sym same)) held gives.active_is v.1))
+      writes_apart level locks setup past legal other e holder t row v.0 (λ same. there (sym same)) held gives.active_is v.1))
 
   -- a session that waits behind an event waits for the same: after one that ran nothing, and with which it doesn't begin to
   -- wait, where it waited for no transaction that it ended

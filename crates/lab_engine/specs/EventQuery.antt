@@ -40,7 +40,7 @@ is_ending Aborted = true
 is_ending (Waits on) = false
 is_ending (Refused fault) = is_conflict fault
 
--- whether an outcome leaves its session without an active transaction: one ended, by its command or by a refusal
+-- whether an outcome ends the active transaction of its session: a commit, an abort or a fatal refusal
 abbrev pub is_over : Outcome → Bool
 is_over (Begun n) = false
 is_over (Listed view rows writes) = false

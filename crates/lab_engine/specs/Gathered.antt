@@ -14,7 +14,8 @@ use Rattle.lab_engine.specs.declared.event.Outcome.TheVariants.{Begun, Rows as L
 use Rattle.lab_engine.specs.declared.gathering.GatheredTxn.{GatheredTxn}
 use Rattle.lab_engine.specs.declared.gathering.Gathering.{Gathering}
 use Rattle.lab_engine.specs.Limits.{max_events}
-use Rattle.lab_engine.specs.Log.{Past, Txn, Version, is_fatal, active, commits, installers, last_version, last_installed}
+use Rattle.lab_engine.specs.EventQuery.{is_over}
+use Rattle.lab_engine.specs.Log.{Past, Txn, Version, active, commits, installers, last_version, last_installed}
 use Rattle.lab_engine.specs.Recording.{op_of, recorded_txns}
 
 -- the number of a transaction
@@ -24,11 +25,7 @@ number_of txn = option_map (λ t. t.no) txn
 -- the number of a session's active transaction after one of its events
 abbrev pub number_after : Outcome → Option ℕ → Option ℕ
 number_after (Begun n) by = Some n
-number_after (Listed view rows writes) by = by
-number_after Committed by = None
-number_after Aborted by = None
-number_after (Waits on) by = by
-number_after (Refused fault) by = cond (is_fatal fault) None by
+number_after outcome by = cond (is_over outcome) None by
 
 -- the numbers that are kept are those of the active transactions
 abbrev pub AreActive : Past → List (Option ℕ) → Type 0

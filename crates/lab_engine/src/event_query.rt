@@ -73,7 +73,7 @@ pub fn ends_transaction(outcome: &Outcome) -> bool
     }
 }
 
-/// Whether an outcome leaves its session without an active transaction: one ended, by its command or by a refusal.
+/// Whether an outcome ends the active transaction of its session, as a commit, an abort or a fatal refusal.
 pub fn is_over(outcome: &Outcome) -> bool
     ensures { result ≡ is_over outcome.now }
 {

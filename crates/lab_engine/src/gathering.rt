@@ -14,7 +14,7 @@ ghost use Rattle.lab_engine.specs.Gathered as plain;
 ghost use Rattle.lab_engine.specs.Gathered.{Gathers, IsWithin};
 
 use crate::event::{LogEvent, Outcome};
-use crate::event_query::{asked_statement, is_fatal_fault};
+use crate::event_query::{asked_statement, is_over};
 use crate::installs::{install, installing};
 use crate::version::Versions;
 use lab_history::{Op, Outcome as End};
@@ -69,10 +69,8 @@ impl Gathering {
             → IfOk result (λ _. Gathers (event.now ∷ past) self.new) }
     {
         let by = self.active.get(event.session);
-        self.install(alloc, &event.outcome, by)?;
-        let by = self.active.get(event.session);
-        add_event(alloc, &mut self.txns, event, by)?;
-        let by = self.active.get(event.session);
+        self.install(alloc, &event.outcome, &by)?;
+        add_event(alloc, &mut self.txns, event, &by)?;
         self.active
             .set(event.session, number_after(&event.outcome, by));
         Ok(())
@@ -83,15 +81,15 @@ impl Gathering {
         &mut self,
         alloc: Global,
         outcome: &Outcome,
-        by: Option<TxnNo>,
+        by: &Option<TxnNo>,
     ) -> Result<(), NoMemory>
-        requires { plain.IsShort (plain.installing outcome.now (plain.gathered_by self.old.txns.items by)) }
+        requires { plain.IsShort (plain.installing outcome.now (plain.gathered_by self.old.txns.items by.now)) }
         ensures active { self.new.active ≡ self.old.active }
         ensures txns { self.new.txns ≡ self.old.txns }
         ensures committed { OnOk result ((row : Row) → map.get self.new.committed row
-            ≡ plain.installed_over (plain.installing outcome.now (plain.gathered_by self.old.txns.items by)) row (map.get self.old.committed row)) }
+            ≡ plain.installed_over (plain.installing outcome.now (plain.gathered_by self.old.txns.items by.now)) row (map.get self.old.committed row)) }
         ensures installs { OnOk result ((row : Row) → plain.numbers_of row self.new.installs.items
-            ≡ plain.numbers_of row self.old.installs.items ++ plain.installs_by (plain.installing outcome.now (plain.gathered_by self.old.txns.items by)) row) }
+            ≡ plain.numbers_of row self.old.installs.items ++ plain.installs_by (plain.installing outcome.now (plain.gathered_by self.old.txns.items by.now)) row) }
     {
         let txn = installing(&self.txns, outcome, by);
         install(alloc, &mut self.committed, &mut self.installs, txn)
@@ -142,11 +140,7 @@ fn number_after(outcome: &Outcome, by: Option<TxnNo>) -> Option<TxnNo>
 {
     match outcome {
         Outcome::Begun(number) => Some(*number),
-        Outcome::Rows { .. } => by,
-        Outcome::Committed => None,
-        Outcome::Aborted => None,
-        Outcome::Waits { .. } => by,
-        Outcome::Refused(fault) => { if is_fatal_fault(fault) { None } else { by } }
+        other => { if is_over(other) { None } else { by } }
     }
 }
 
@@ -162,10 +156,10 @@ fn add_event(
     alloc: Global,
     txns: &mut Vec<GatheredTxn>,
     event: &LogEvent,
-    by: Option<TxnNo>,
+    by: &Option<TxnNo>,
 ) -> Result<(), NoMemory>
-    requires { IsWithin by (length txns.old.items) }
-    ensures { OnOk result (list.map plain.recorded txns.new.items ≡ plain.txns_after event.now.command event.now.outcome by (list.map plain.recorded txns.old.items)) }
+    requires { IsWithin by.now (length txns.old.items) }
+    ensures { OnOk result (list.map plain.recorded txns.new.items ≡ plain.txns_after event.now.command event.now.outcome by.now (list.map plain.recorded txns.old.items)) }
 {
     match &event.outcome {
         Outcome::Begun(number) => {
@@ -186,22 +180,22 @@ fn run_by(
     alloc: Global,
     txns: &mut Vec<GatheredTxn>,
     event: &LogEvent,
-    by: Option<TxnNo>,
+    by: &Option<TxnNo>,
 ) -> Result<(), NoMemory>
-    requires { IsWithin by (length txns.old.items) }
-    ensures { OnOk result (list.map plain.recorded txns.new.items ≡ plain.changed_by by (plain.with_ops (op_of event.now.command event.now.outcome)) (list.map plain.recorded txns.old.items)) }
+    requires { IsWithin by.now (length txns.old.items) }
+    ensures { OnOk result (list.map plain.recorded txns.new.items ≡ plain.changed_by by.now (plain.with_ops (op_of event.now.command event.now.outcome)) (list.map plain.recorded txns.old.items)) }
 {
     if let Some(number) = by {
-        txns[place_of(number)].run(alloc, event)?;
+        txns[place_of(*number)].run(alloc, event)?;
     }
     Ok(())
 }
 
-fn commit_by(txns: &mut Vec<GatheredTxn>, by: Option<TxnNo>)
-    requires { IsWithin by (length txns.old.items) }
-    ensures { list.map plain.recorded txns.new.items ≡ plain.changed_by by plain.committed (list.map plain.recorded txns.old.items) }
+fn commit_by(txns: &mut Vec<GatheredTxn>, by: &Option<TxnNo>)
+    requires { IsWithin by.now (length txns.old.items) }
+    ensures { list.map plain.recorded txns.new.items ≡ plain.changed_by by.now plain.committed (list.map plain.recorded txns.old.items) }
 {
     if let Some(number) = by {
-        txns[place_of(number)].commit();
+        txns[place_of(*number)].commit();
     }
 }

@@ -73,9 +73,9 @@ pub fn install(
 pub fn installing<'t>(
     txns: &'t [GatheredTxn],
     outcome: &Outcome,
-    by: Option<TxnNo>,
+    by: &Option<TxnNo>,
 ) -> Option<&'t GatheredTxn>
-    ensures { list.option_map (λ (txn : _). txn.now) result ≡ plain.installing outcome.now (plain.gathered_by txns.now by) }
+    ensures { list.option_map (λ (txn : _). txn.now) result ≡ plain.installing outcome.now (plain.gathered_by txns.now by.now) }
 {
     match outcome {
         Outcome::Committed => gathered_by(txns, by),
@@ -84,10 +84,11 @@ pub fn installing<'t>(
 }
 
 /// The transaction with this number, of those numbered from 1.
-fn gathered_by(txns: &[GatheredTxn], by: Option<TxnNo>) -> Option<&GatheredTxn>
-    ensures { list.option_map (λ (txn : _). txn.now) result ≡ plain.gathered_by txns.now by }
+fn gathered_by<'t>(txns: &'t [GatheredTxn], by: &Option<TxnNo>) -> Option<&'t GatheredTxn>
+    ensures { list.option_map (λ (txn : _). txn.now) result ≡ plain.gathered_by txns.now by.now }
 {
-    txns.get(place_of(by?))
+    let number = by.as_ref()?;
+    txns.get(place_of(*number))
 }
 
 fn is_row_next(installs: &[(RowName, TxnNo)], row: RowName) -> bool

@@ -20,7 +20,7 @@ ghost use Rattle.lab_engine.specs.Merging.{written_version};
 ghost use Rattle.lab_engine.specs.Situation.{DescribesSession, DescribesRows, Agree, IsRunning, HasRoom, HasPlaces, HoldsOutcome, grown, keeps_statements, kept_of, written_by};
 
 use crate::event::{LogEvent, Outcome};
-use crate::event_query::{asked_statement, is_busy, is_fatal_fault};
+use crate::event_query::{asked_statement, is_busy, is_over};
 use crate::row_states::RowStates;
 use lab_history::{VersionName, Writes};
 use lab_table::{Command, NoMemory, RowName, Session, Statement, TxnNo};
@@ -145,17 +145,13 @@ impl SessionState {
                 kept,
                 writes,
             ),
+            Outcome::Waits { .. } => self.waits = kept.take(),
             Outcome::Committed => {
                 install(rows, self.session, &self.running, before);
                 self.running = None;
             }
-            Outcome::Aborted => {
-                give_up(rows, self.session, &self.running);
-                self.running = None;
-            }
-            Outcome::Waits { .. } => self.waits = kept.take(),
-            Outcome::Refused(fault) => {
-                if is_fatal_fault(fault) {
+            other => {
+                if is_over(other) {
                     give_up(rows, self.session, &self.running);
                     self.running = None;
                 }
