@@ -1,9 +1,9 @@
 -- A graph of who waits for whom, as the sets of those that each session waits for.
-use Rattle.std.proofs.Common.{◌≡◌, ℕ, suc, ◌+◌, ◌≤◌, ◌==◌, ◌&&◌, ◌||◌, cond, true, false, refl, ap, sym, subst, ◌∙◌, inl, inr, arith, List, IsTrue, Option, Some, None, IfSome, ◌↔◌, is_some}
+use Rattle.std.proofs.Common.{◌≡◌, ℕ, ◌≤◌, ◌==◌, ◌&&◌, cond, true, false, refl, ap, sym, ◌∙◌, inl, inr, arith, List, IsTrue, Option, Some, None, IfSome, ◌↔◌, is_some}
 use Rattle.std.specs.Option.{unwrap_or}
 use Rattle.lab_table.specs.Sessions.{of_session}
 use Rattle.lab_table.proofs.SessionOrder.{own_value, other_value}
-use Rattle.lab_engine.proofs.Common.{cases_eq, eq-eqb, ne_eqb, eqb-true, both_ways, and_parts, and_from, or_cases, or_left, or_right, has, waits_for, WaitsForOne, is_session}
+use Rattle.lab_engine.proofs.Common.{cases_eq, eq-eqb, ne_eqb, both_ways, and_parts, and_from, has, waits_for, WaitsForOne, is_session}
 
 -- a session is from 1 to 9
 pub session_range : (s : ℕ) → is_session s ≡ true → (1 ≤ s) × (s ≤ 9)
@@ -80,34 +80,3 @@ no_waiters graph set none nobody session = ((λ there. absurd (both_ways _ (nobo
   where
     from : (session ≤ 0) × WaitsForOne graph set session → IsTrue (has none session)
     from (less, (other, waits, there)) = let range : (1 ≤ session) × (session ≤ 9) = waiter_range graph session other waits in absurd (omega (arith, range.0, less))
-
--- one session more
-module _ (graph : List ℕ) (set number session old : ℕ) (are : AreWaitersUpTo graph set number old) (next : session ≡ suc number) where
-  -- which waits for one in the set
-  pub waiter_more : (new : ℕ) → ((n : ℕ) → has new n ≡ (n == session || has old n)) → WaitsForOne graph set session → AreWaitersUpTo graph set (number + 1) new
-  waiter_more new more waits s = (to, from)
-    where
-      to : IsTrue (has new s) → (s ≤ number + 1) × WaitsForOne graph set s
-      to there = elim (or_cases (s == session) (has old s) (sym (more s) ∙ there)) [
-        | inl own ↦ let same : s ≡ session = eqb-true s session own in (omega (arith, same, next), subst (WaitsForOne graph set) (sym same) waits)
-        | inr before ↦ (omega (arith, ((are s).0 before).0), ((are s).0 before).1)
-      ]
-
-      from : (s ≤ number + 1) × WaitsForOne graph set s → IsTrue (has new s)
-      from (few, w) = elim (cases_eq s session) [
-        | inl same ↦ more s ∙ or_left (s == session) (has old s) (eq-eqb s session same)
-        | inr apart ↦ more s ∙ or_right (s == session) (has old s) ((are s).1 (omega (arith, few, apart, next), w))
-      ]
-
-  -- which doesn't
-  pub waiter_passed : ¬ WaitsForOne graph set session → AreWaitersUpTo graph set (number + 1) old
-  waiter_passed none s = (to, from)
-    where
-      to : IsTrue (has old s) → (s ≤ number + 1) × WaitsForOne graph set s
-      to there = (omega (arith, ((are s).0 there).0), ((are s).0 there).1)
-
-      from : (s ≤ number + 1) × WaitsForOne graph set s → IsTrue (has old s)
-      from (few, w) = elim (cases_eq s session) [
-        | inl same ↦ absurd (none (subst (WaitsForOne graph set) same w))
-        | inr apart ↦ (are s).1 (omega (arith, few, apart, next), w)
-      ]
