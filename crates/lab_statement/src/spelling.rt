@@ -176,7 +176,7 @@ fn put_expr<S: Sink>(out: &mut S, expr: Expr) -> Result<(), S::Refusal>
     ensures text { Puts S.kept S.limit result (S.text out.old) (printed_expr expr) (S.text out.new) }
 {
     match expr {
-        Expr::Set(n) => put_text_number(out, b"", n),
+        Expr::Set(n) => put_number(out, n),
         Expr::Plus(n) => put_text_number(out, b"value + ", n),
         Expr::Minus(n) => put_text_number(out, b"value - ", n),
     }
