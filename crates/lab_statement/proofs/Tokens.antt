@@ -1,5 +1,5 @@
 -- How tokens go on.
-use Rattle.lab_statement.proofs.Common.{◌≡◌, ℕ, Bool, true, false, cond, ◌==◌, List, [], ◌∷◌, ◌++◌, take, drop, map, Option, Some, None, refl, sym, ap, ◌∙◌, append_assoc, suc, subst, inl, inr, is_some, unwrap_or, prefix_len, to_ascii_lowercase, append-nil, cases_Bool, false_from_ne_true, eqb-true, Token, Part, letters, whole, is_letter, word_token, mark, begun, longer, ended, longer_token, tokens, tokens_from}
+use Rattle.lab_statement.proofs.Common.{◌≡◌, ℕ, ◌-◌, arith, nat_tests, is_ascii_digit, is_blank, Bool, true, false, cond, ◌==◌, List, [], ◌∷◌, ◌++◌, take, drop, map, Option, Some, None, refl, sym, ap, ◌∙◌, append_assoc, suc, subst, inl, inr, is_some, unwrap_or, prefix_len, to_ascii_lowercase, append-nil, cases_Bool, false_from_ne_true, eqb-true, Token, Part, letters, whole, is_letter, word_token, mark, begun, longer, ended, longer_token, tokens, tokens_from}
 use Rattle.std.proofs.Math.Numerals.{one-add}
 use Rattle.lab_statement.specs.declared.token.Token.TheVariants as token
 
@@ -71,6 +71,22 @@ isnt_eq a b h = false_from_ne_true (a == b) (λ e. h (eqb-true a b e))
 -- the same of other marks, as the code meets them
 pub other_mark : (b : ℕ) (bs : List ℕ) (t : Token) → t ≡ mark b → (b ≡ 60 → ⊥) → (b ≡ 62 → ⊥) → tokens_from (whole (mark b)) bs ≡ t ∷ tokens bs
 other_mark b bs t e p q = whole_run (mark b) bs (λ n. others b n (isnt_eq b 60 p) (isnt_eq b 62 q)) ∙ ap (λ (u : Token). u ∷ tokens bs) (sym e)
+
+-- how a text goes on behind its first byte, as the code meets it
+pub blank_begins : (b : ℕ) (bs : List ℕ) → true ≡ is_blank b → tokens (b ∷ bs) ≡ tokens bs
+blank_begins b bs is = rw (← is) refl
+
+pub word_begins : (b : ℕ) (bs : List ℕ) → false ≡ is_blank b → true ≡ is_letter b → tokens (b ∷ bs) ≡ tokens_from (letters []) (b ∷ bs)
+word_begins b bs blank is = rw (← blank, ← is) refl
+
+pub digit_begins : (b n : ℕ) (bs : List ℕ) → true ≡ is_ascii_digit b → n ≡ b - 48 → tokens (b ∷ bs) ≡ tokens_from (whole (token.Digits n)) bs
+digit_begins b n bs is e =
+    let blank : false ≡ is_blank b = grind (arith, nat_tests) in
+    let letter : false ≡ is_letter b = grind (arith, nat_tests) in
+    rw (e, ← blank, ← letter, ← is) refl
+
+pub mark_begins : (b : ℕ) (bs : List ℕ) → false ≡ is_ascii_digit b → false ≡ is_blank b → false ≡ is_letter b → tokens (b ∷ bs) ≡ tokens_from (whole (mark b)) bs
+mark_begins b bs digit blank letter = rw (← blank, ← letter, ← digit) refl
 
 -- a token put behind those found, which begins what is left
 pub placed : (now found : List Token) (t : Token) (rest text after : List ℕ) → now ≡ found ++ t ∷ [] → found ++ tokens rest ≡ tokens text → tokens rest ≡ t ∷ tokens after

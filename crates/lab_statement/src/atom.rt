@@ -50,8 +50,7 @@ impl Parser<'_> {
         if self.took(Token::Word(Word::Id)) {
             Ok(Col::Id)
         } else {
-            self.expect(Token::Word(Word::Value))?;
-            Ok(Col::Value)
+            self.expect(Token::Word(Word::Value)).and(Ok(Col::Value))
         }
     }
 

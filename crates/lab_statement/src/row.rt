@@ -33,7 +33,6 @@ impl Parser<'_> {
         let id = self.id()?;
         self.expect(Token::Comma)?;
         let value = self.number()?;
-        self.expect(Token::Close)?;
-        Ok((id, value))
+        self.expect(Token::Close).and(Ok((id, value)))
     }
 }

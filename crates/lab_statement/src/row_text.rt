@@ -14,11 +14,20 @@ use lab_table::{NoMemory, RowId, RowName, TableName, Value};
 /// Room for a comma, a space and a row, whatever its numbers are: each has at most 20 digits, and one of them a sign.
 const ROW_BYTES: usize = 48;
 
-/// Puts a number in decimal.
-pub fn put_number<S: Sink>(out: &mut S, n: i64) -> Result<(), S::Refusal>
-    ensures { Puts S.kept S.limit result (S.text out.old) (signed_decimal n) (S.text out.new) }
+/// Puts two texts.
+pub fn put_both<S: Sink>(out: &mut S, first: &[u8], second: &[u8]) -> Result<(), S::Refusal>
+    ensures { Puts S.kept S.limit result (S.text out.old) (first.now ++ second.now) (S.text out.new) }
 {
-    out.put(Buffer::new().format(n).as_bytes())
+    out.put(first)?;
+    out.put(second)
+}
+
+/// Puts a number in decimal.
+pub fn put_number<S: Sink>(out: &mut S, number: Value) -> Result<(), S::Refusal>
+    ensures in_range { OnOk result (ValueInRange number) }
+    ensures text { Puts S.kept S.limit result (S.text out.old) (signed_decimal number) (S.text out.new) }
+{
+    out.put(Buffer::new().format(number.number()).as_bytes())
 }
 
 /// Appends a number without a sign in decimal.
@@ -36,8 +45,7 @@ pub fn put_table_name<S: Sink>(out: &mut S, table: TableName) -> Result<(), S::R
     if table == TableName::test() {
         return Ok(());
     }
-    out.put(table.as_bytes())?;
-    out.put(b" ")
+    put_both(out, table.as_bytes(), b" ")
 }
 
 /// Appends the name of a row: the number of a row of `test`, and the table's name and the number of another, as `stock 1`.

@@ -1,17 +1,18 @@
 //! The printed form of statements. Each function appends a text; after NoMemory, part of it may stand there.
 
 ghost use Rattle.std.specs.Prelude.{◌≡◌, ◌++◌, ◌||◌, OnOk, codes, true};
-ghost use Rattle.std.specs.Fmt.{signed_decimal};
+ghost use Rattle.std.specs.Fmt.{decimal, signed_decimal};
 ghost use Rattle.lab_table.specs.TableName.{is_table_name};
 ghost use Rattle.lab_statement.specs.Printed.{printed_col, printed_cmp, joined, printed_numbers, parenthesized, printed_pred, printed_where, printed_expr, is_and, is_or, printed_statement, printed_command};
 ghost use Rattle.lab_statement.specs.Each.{Each};
-ghost use Rattle.lab_statement.specs.Ranges.{ValueInRange, PredInRange, WhereInRange, ExprInRange, StatementInRange, CommandInRange};
+ghost use Rattle.lab_statement.specs.Ranges.{ValueInRange, ModulusInRange, PredInRange, WhereInRange, ExprInRange, StatementInRange, CommandInRange};
 ghost use Rattle.lab_statement.specs.Sink.{Puts};
 
-use crate::row_text::{put_natural, put_number, put_row};
+use crate::row_text::{put_both, put_natural, put_number, put_row};
 use crate::sink::Sink;
 use lab_table::{
-    Cmp, Col, Command, Expr, NoMemory, Pred, PredKind, Statement, StatementKind, TableName, Value,
+    Cmp, Col, Command, Expr, Modulus, NoMemory, Pred, PredKind, Statement, StatementKind,
+    TableName, Value,
 };
 
 fn col_text(col: Col) -> &'static [u8]
@@ -36,12 +37,13 @@ fn cmp_text(cmp: Cmp) -> &'static [u8]
     }
 }
 
-/// Puts two texts.
-fn put_both<S: Sink>(out: &mut S, first: &[u8], second: &[u8]) -> Result<(), S::Refusal>
-    ensures { Puts S.kept S.limit result (S.text out.old) (first.now ++ second.now) (S.text out.new) }
+/// Puts a text and a number behind it.
+fn put_text_number<S: Sink>(out: &mut S, text: &[u8], number: Value) -> Result<(), S::Refusal>
+    ensures in_range { OnOk result (ValueInRange number) }
+    ensures text { Puts S.kept S.limit result (S.text out.old) (text.now ++ signed_decimal number) (S.text out.new) }
 {
-    out.put(first)?;
-    out.put(second)
+    out.put(text)?;
+    put_number(out, number)
 }
 
 fn put_numbers<S: Sink>(out: &mut S, numbers: &[Value]) -> Result<(), S::Refusal>
@@ -51,20 +53,42 @@ fn put_numbers<S: Sink>(out: &mut S, numbers: &[Value]) -> Result<(), S::Refusal
     let Some((first, rest)) = numbers.split_first() else {
         return Ok(());
     };
-    put_number(out, first.number())?;
+    put_number(out, *first)?;
     for number in rest {
-        put_next_number(out, *number)?;
+        put_text_number(out, b", ", *number)?;
     }
     Ok(())
 }
 
-/// Puts a number behind another one.
-fn put_next_number<S: Sink>(out: &mut S, number: Value) -> Result<(), S::Refusal>
+fn put_comparison<S: Sink>(out: &mut S, col: Col, cmp: Cmp, number: Value) -> Result<(), S::Refusal>
     ensures in_range { OnOk result (ValueInRange number) }
-    ensures text { Puts S.kept S.limit result (S.text out.old) (codes ", " ++ signed_decimal number) (S.text out.new) }
+    ensures text { Puts S.kept S.limit result (S.text out.old) (printed_col col ++ printed_cmp cmp ++ signed_decimal number) (S.text out.new) }
 {
-    out.put(b", ")?;
-    put_number(out, number.number())
+    out.put(col_text(col))?;
+    put_text_number(out, cmp_text(cmp), number)
+}
+
+fn put_remainder<S: Sink>(
+    out: &mut S,
+    col: Col,
+    modulus: Modulus,
+    rest: Value,
+) -> Result<(), S::Refusal>
+    ensures in_range { OnOk result (ModulusInRange modulus × ValueInRange rest) }
+    ensures text { Puts S.kept S.limit result (S.text out.old) (printed_col col ++ codes " % " ++ decimal modulus ++ codes " = " ++ signed_decimal rest) (S.text out.new) }
+{
+    put_both(out, col_text(col), b" % ")?;
+    put_natural(out, modulus.number())?;
+    put_text_number(out, b" = ", rest)
+}
+
+fn put_one_of<S: Sink>(out: &mut S, col: Col, numbers: &[Value]) -> Result<(), S::Refusal>
+    ensures in_range { OnOk result (Each ValueInRange numbers.now) }
+    ensures text { Puts S.kept S.limit result (S.text out.old) (printed_col col ++ codes " in (" ++ joined (printed_numbers numbers.now) ++ codes ")") (S.text out.new) }
+{
+    put_both(out, col_text(col), b" in (")?;
+    put_numbers(out, numbers)?;
+    out.put(b")")
 }
 
 /// Puts a predicate, in parentheses where it stands enclosed.
@@ -73,27 +97,24 @@ fn put_pred<S: Sink>(out: &mut S, pred: &Pred, enclosed: bool) -> Result<(), S::
     ensures in_range { OnOk result (PredInRange pred.now) }
     ensures text { Puts S.kept S.limit result (S.text out.old) (parenthesized enclosed (printed_pred pred.now)) (S.text out.new) }
 {
-    if enclosed {
-        out.put(b"(")?;
-        put_pred(out, pred, false)?;
-        return out.put(b")");
+    if !enclosed {
+        return put_plain(out, pred);
     }
+    out.put(b"(")?;
+    put_plain(out, pred)?;
+    out.put(b")")
+}
+
+/// Puts a predicate without parentheses round it.
+#[cycle(pred)]
+fn put_plain<S: Sink>(out: &mut S, pred: &Pred) -> Result<(), S::Refusal>
+    ensures in_range { OnOk result (PredInRange pred.now) }
+    ensures text { Puts S.kept S.limit result (S.text out.old) (printed_pred pred.now) (S.text out.new) }
+{
     match &pred.kind {
-        PredKind::Compare { col, cmp, number } => {
-            put_both(out, col_text(*col), cmp_text(*cmp))?;
-            put_number(out, number.number())
-        }
-        PredKind::Remainder { col, modulus, rest } => {
-            put_both(out, col_text(*col), b" % ")?;
-            put_natural(out, modulus.number())?;
-            out.put(b" = ")?;
-            put_number(out, rest.number())
-        }
-        PredKind::OneOf { col, numbers } => {
-            put_both(out, col_text(*col), b" in (")?;
-            put_numbers(out, numbers.as_slice())?;
-            out.put(b")")
-        }
+        PredKind::Compare { col, cmp, number } => put_comparison(out, *col, *cmp, *number),
+        PredKind::Remainder { col, modulus, rest } => put_remainder(out, *col, *modulus, *rest),
+        PredKind::OneOf { col, numbers } => put_one_of(out, *col, numbers.as_slice()),
         PredKind::Not(p) => {
             out.put(b"not ")?;
             put_pred(out, p, is_joined(p))
@@ -145,7 +166,7 @@ fn put_where<S: Sink>(out: &mut S, pred: &Option<Pred>) -> Result<(), S::Refusal
         None => Ok(()),
         Some(p) => {
             out.put(b" where ")?;
-            put_pred(out, p, false)
+            put_plain(out, p)
         }
     }
 }
@@ -155,15 +176,9 @@ fn put_expr<S: Sink>(out: &mut S, expr: Expr) -> Result<(), S::Refusal>
     ensures text { Puts S.kept S.limit result (S.text out.old) (printed_expr expr) (S.text out.new) }
 {
     match expr {
-        Expr::Set(n) => put_number(out, n.number()),
-        Expr::Plus(n) => {
-            out.put(b"value + ")?;
-            put_number(out, n.number())
-        }
-        Expr::Minus(n) => {
-            out.put(b"value - ")?;
-            put_number(out, n.number())
-        }
+        Expr::Set(n) => put_number(out, n),
+        Expr::Plus(n) => put_text_number(out, b"value + ", n),
+        Expr::Minus(n) => put_text_number(out, b"value - ", n),
     }
 }
 
