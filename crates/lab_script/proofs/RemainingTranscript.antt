@@ -2,20 +2,6 @@
 use Rattle.lab_script.proofs.Common.{◌≡◌, ℕ, ◌+◌, Bool, true, cond, not, List, [], ◌∷◌, ◌++◌, Option, refl, sym, ap, ◌∙◌, append_assoc, ◌&&◌, Table, Statement, Line, PrintFault, Transaction, inside_after, is_begin, transaction_of, transactions, body_of, body_text, committed, table_after, transaction_text, serial_text, TranscriptView, shown_of, shown, first_broken, limit_broken}
 use Rattle.std.specs.Option.{option_or}
 
--- what a transcript holds, and the table that commits, once a transaction has ended
-pub record Ended : Type 0 where
-  pub text : List ℕ
-  pub unprintable : Option PrintFault
-  pub table : Option Table
-
--- the end of a session's transaction, from the lines that are left
-abbrev pub ended_by : ℕ → TranscriptView → Table → List Line → Ended
-ended_by session output table lines = record {
-  text = output.text ++ body_text table (body_of session lines).0 (body_of session lines).1;
-  unprintable = first_broken output.unprintable (shown_of table (body_of session lines).0);
-  table = committed table (body_of session lines).0 (body_of session lines).1;
-}
-
 -- a transcript to which transactions are told from a table, after so many
 abbrev pub output_on : ℕ → TranscriptView → Table → List Transaction → TranscriptView
 output_on n output table txns = record {

@@ -16,7 +16,7 @@ loop-line-preserved c =
 
 pub returns-clause-unprintable : goal.returns-clause-unprintable
 returns-clause-unprintable c =
-    c.in_ok-put_table.ensures.unprintable
+    ap (λ (view : TranscriptView). view.unprintable) c.output-2.view_is
     ∙ ap (λ (lines : List Line). (output_by c.loop-line.number c.loop-line.output c.loop-line.table (sessions_in c.loop-line.inside) lines).unprintable)
     (sym (nil_from_length _ c.in_default.ensures.cases))
     ∙ ap (λ (view : TranscriptView). view.unprintable) c.loop-line.invariant.output
