@@ -1,5 +1,5 @@
 -- Rows of any table, of which each but the first stands behind a comma.
-use Rattle.lab_script.proofs.Common.{◌≡◌, ℕ, ℤ, List, [], ◌∷◌, ◌++◌, flat_map, refl, ap, ◌∙◌, codes, Row, joined, printed_named_row, printed_named_rows, printed_next_row, followed}
+use Rattle.lab_script.proofs.Common.{◌≡◌, ℤ, List, [], ◌∷◌, ◌++◌, flat_map, refl, ap, ◌∙◌, codes, Row, joined, printed_named_row, printed_named_rows, printed_next_row, followed}
 use Rattle.lab_statement.proofs.Joined.{joined_is}
 
 followed_is : (rows : List (Row × ℤ)) → followed (printed_named_rows rows) ≡ flat_map printed_next_row rows

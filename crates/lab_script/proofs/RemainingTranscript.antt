@@ -1,5 +1,5 @@
 -- What a run holds in the end, from what it holds now and the lines that are left: each step of the run keeps it.
-use Rattle.lab_script.proofs.Common.{◌≡◌, ℕ, ◌+◌, Bool, true, cond, not, List, [], ◌∷◌, ◌++◌, Option, refl, sym, ap, ◌∙◌, append_assoc, ◌&&◌, Table, Statement, Line, PrintFault, Transaction, inside_after, is_begin, transaction_of, transactions, body_of, body_text, committed, table_after, transaction_text, serial_text, TranscriptView, shown_of, shown, first_broken, limit_broken}
+use Rattle.lab_script.proofs.Common.{◌≡◌, ℕ, ◌+◌, Bool, true, cond, not, List, [], ◌∷◌, ◌++◌, Option, refl, sym, ap, ◌∙◌, append_assoc, ◌&&◌, Table, Statement, Line, PrintFault, Transaction, inside_after, is_begin, transaction_of, transactions, body_of, table_after, transaction_text, serial_text, TranscriptView, shown_of, shown, first_broken, limit_broken}
 use Rattle.std.specs.Option.{option_or}
 
 -- a transcript to which transactions are told from a table, after so many
