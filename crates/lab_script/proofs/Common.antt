@@ -7,7 +7,7 @@ pub use Rattle.lab_statement.specs.declared.fault.ScriptFaultKind.{ScriptFaultKi
 pub use Rattle.std.proofs.Common.{T, flat_map, one-add}
 pub use Rattle.std.proofs.Math.Dec.{eqb-suc-zero}
 pub use Rattle.std.proofs.lemmas.Bool.{le-ltb, lt-ltb, ltb-false, ltb-true, ne_eqb, or_parts, true≢false}
-pub use Rattle.std.proofs.lemmas.List.{length-take, take-append-le, take_at}
+pub use Rattle.std.proofs.lemmas.List.{length-take, map-append, take-append-le, take_at}
 pub use Rattle.std.proofs.lemmas.Option.{slice_get_within}
 pub use Rattle.std.proofs.lemmas.Result.{on_ok_weaker}
 pub use Rattle.std.specs.FinMap.{contains_key, empty, find, from_entries, from_entries_push, get-from_entries, insert}
