@@ -11,6 +11,7 @@ pub mod LongTexts
 pub mod StatementLines
 pub mod RemainingTranscript
 pub mod BrokenLimits
+pub mod NamedRows
 pub mod PrintedSetups
 pub mod PrintedScripts
 mod LineFaults

@@ -1,20 +1,6 @@
 -- What a run holds in the end, from what it holds now and the lines that are left: each step of the run keeps it.
-use Rattle.lab_script.proofs.Common.{◌≡◌, ℕ, ◌+◌, Bool, true, cond, not, List, [], ◌∷◌, ◌++◌, Option, refl, sym, ap, ◌∙◌, append_assoc, ◌&&◌, Table, Statement, Line, PrintFault, Transaction, inside_after, is_begin, transaction_of, transactions, body_of, body_text, committed, table_after, transaction_text, serial_text, TranscriptView, shown_of, shown, first_broken, limit_broken}
+use Rattle.lab_script.proofs.Common.{◌≡◌, ℕ, ◌+◌, Bool, true, false, cond, not, List, [], ◌∷◌, ◌++◌, Option, refl, sym, ap, ◌∙◌, append_assoc, ◌&&◌, Table, Statement, Line, PrintFault, Transaction, inside_after, is_begin, transaction_of, transactions, body_of, table_after, transaction_text, serial_text, TranscriptView, shown_of, shown, first_broken, limit_broken}
 use Rattle.std.specs.Option.{option_or}
-
--- what a transcript holds, and the table that commits, once a transaction has ended
-pub record Ended : Type 0 where
-  pub text : List ℕ
-  pub unprintable : Option PrintFault
-  pub table : Option Table
-
--- the end of a session's transaction, from the lines that are left
-abbrev pub ended_by : ℕ → TranscriptView → Table → List Line → Ended
-ended_by session output table lines = record {
-  text = output.text ++ body_text table (body_of session lines).0 (body_of session lines).1;
-  unprintable = first_broken output.unprintable (shown_of table (body_of session lines).0);
-  table = committed table (body_of session lines).0 (body_of session lines).1;
-}
 
 -- a transcript to which transactions are told from a table, after so many
 abbrev pub output_on : ℕ → TranscriptView → Table → List Transaction → TranscriptView
@@ -57,3 +43,11 @@ transaction_line n output table inside line rest later total so_far here is next
     output_first n output next table new (transaction_of line.session later) others text broken left
     ∙ sym (ap (λ (b : Bool). output_on n output table ((cond b (transaction_of line.session later ∷ []) []) ++ others)) is)
     ∙ ap (output_by n output table inside) (sym here) ∙ so_far
+
+-- a line that begins none
+pub other_line : (n : ℕ) (output : TranscriptView) (table : Table) (inside : ℕ → Bool) (line : Line) (rest later : List Line) (total : TranscriptView)
+    → output_by n output table inside rest ≡ total → rest ≡ line ∷ later → (is_begin line.command && not (inside line.session)) ≡ false
+    → output_by n output table (inside_after inside line.session line.command) later ≡ total
+other_line n output table inside line rest later total so_far here is =
+    let others = transactions (inside_after inside line.session line.command) later in
+    sym (ap (λ (b : Bool). output_on n output table ((cond b (transaction_of line.session later ∷ []) []) ++ others)) is) ∙ ap (output_by n output table inside) (sym here) ∙ so_far

@@ -34,22 +34,22 @@ kind_refused table (Delete p) t (OutOfRange row) h n = absurd h
 refused : (s : Statement) (t : Table) (fault : TableFault) → IsFault s t fault → fault ≢ NoMemory → (run s t ≡ None) × (fault_text fault ≡ refusal_text s t)
 refused s t fault h n = kind_refused s.table s.kind t fault h n
 
-spread : (a p q r s : List ℕ) → (a ++ (p ++ q)) ++ (r ++ s) ≡ a ++ (((p ++ q) ++ r) ++ s)
+spread : (a p q r s : List ℕ) → ((a ++ (p ++ q)) ++ r) ++ s ≡ a ++ (((p ++ q) ++ r) ++ s)
 spread a p q r s = simp append_assoc
 
 -- a statement's line, put in two pieces
 line_of : (s : Statement) (t : Table) (a b c answer : List ℕ) → b ≡ a ++ (printed_statement s ++ codes " -> ")
-    → c ≡ b ++ (answer ++ newline) → answer ≡ answer_text s t (run s t) → c ≡ a ++ statement_text s t
+    → c ≡ b ++ answer ++ newline → answer ≡ answer_text s t (run s t) → c ≡ a ++ statement_text s t
 unfolding statement_text
 line_of s t a b c answer p q same =
-    q ∙ ap (λ x. x ++ (answer ++ newline)) p ∙ spread a (printed_statement s) (codes " -> ") answer newline
+    q ∙ ap (λ x. x ++ answer ++ newline) p ∙ spread a (printed_statement s) (codes " -> ") answer newline
     ∙ ap (λ x. a ++ (((printed_statement s ++ codes " -> ") ++ x) ++ newline)) same
 
-pub line_of_rows : (s : Statement) (t new : Table) (rows : List (Row × ℤ)) (a b c : List ℕ) → b ≡ a ++ (printed_statement s ++ codes " -> ") → c ≡ b ++ (rows_or (codes "none") rows ++ newline)
+pub line_of_rows : (s : Statement) (t new : Table) (rows : List (Row × ℤ)) (a b c : List ℕ) → b ≡ a ++ (printed_statement s ++ codes " -> ") → c ≡ b ++ rows_or (codes "none") rows ++ newline
     → Gives (run s t) rows new → c ≡ a ++ statement_text s t
 line_of_rows s t new rows a b c p q h = line_of s t a b c (rows_or (codes "none") rows) p q (gives_text s t new (run s t) rows h)
 
-pub line_of_fault : (s : Statement) (t : Table) (fault : TableFault) (a b c : List ℕ) → b ≡ a ++ (printed_statement s ++ codes " -> ") → c ≡ b ++ (fault_text fault ++ newline)
+pub line_of_fault : (s : Statement) (t : Table) (fault : TableFault) (a b c : List ℕ) → b ≡ a ++ (printed_statement s ++ codes " -> ") → c ≡ b ++ fault_text fault ++ newline
     → IsFault s t fault → fault ≢ NoMemory → c ≡ a ++ statement_text s t
 line_of_fault s t fault a b c p q h n = let why = refused s t fault h n in line_of s t a b c (fault_text fault) p q (why.1 ∙ ap (answer_text s t) (sym why.0))
 

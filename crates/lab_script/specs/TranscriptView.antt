@@ -12,7 +12,8 @@ use Rattle.lab_statement.specs.declared.print.PrintFault.TheVariants.{TooDeep, T
 use Rattle.lab_statement.specs.Depth.{statement_depth}
 use Rattle.lab_statement.specs.Limits.{max_depth, max_statement_bytes, IsDeep, IsLong}
 use Rattle.lab_statement.specs.Printed.{printed_statement, printed_row_name}
-use Rattle.lab_script.specs.Transcript.{Transaction, table_with, table_after, transactions, nobody}
+use Rattle.lab_script.specs.declared.script.Line.{Line}
+use Rattle.lab_script.specs.Transcript.{Transaction, body_of, body_text, committed, table_with, table_after, transactions, nobody}
 
 -- its text, and the limit that a statement in it breaks, if one does
 pub record TranscriptView : Type 0 where
@@ -43,6 +44,20 @@ limit_broken s = cond (nat_lt max_depth (statement_depth s)) (Some TooDeep) (con
 abbrev pub first_broken : Option PrintFault → List Statement → Option PrintFault
 first_broken before [] = before
 first_broken before (s ∷ statements) = first_broken (option_or before (limit_broken s)) statements
+
+-- what a transcript holds, and the table that commits, once a transaction has ended
+pub record Ended : Type 0 where
+  pub text : List ℕ
+  pub unprintable : Option PrintFault
+  pub table : Option Table
+
+-- the end of a session's transaction, from the lines that are left
+abbrev pub ended_by : ℕ → TranscriptView → Table → List Line → Ended
+ended_by session output table lines = record {
+  text = output.text ++ body_text table (body_of session lines).0 (body_of session lines).1;
+  unprintable = first_broken output.unprintable (shown_of table (body_of session lines).0);
+  table = committed table (body_of session lines).0 (body_of session lines).1;
+}
 
 -- the limit that a script's transcript breaks
 abbrev pub unprintable : Script → Option PrintFault

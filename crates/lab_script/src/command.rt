@@ -26,7 +26,7 @@ pub fn commands_into(
 {
     commands.clear();
     loop {
-        step(alloc, parser, room, commands)?;
+        push_ended_command(alloc, parser, room, commands)?;
         if parser.is_done() {
             return Ok(());
         }
@@ -35,7 +35,7 @@ pub fn commands_into(
 
 /// Reads a statement with its end, and adds its command, for which there must be room.
 #[tactic(auto, unfolding(crate::specs::FirstFaults::step_read))]
-fn step(
+fn push_ended_command(
     alloc: Global,
     parser: &mut Parser,
     room: usize,
@@ -43,7 +43,7 @@ fn step(
 ) -> Result<(), Refusal>
     ensures { Comes (λ x. (commands.new.items, parser.new)) result parser.new (step_read room commands.old.items parser.old) }
 {
-    let short = add(alloc, parser, commands)?;
+    let short = push_command(alloc, parser, commands)?;
     parser.ended()?;
     if short && commands.len() <= room {
         Ok(())
@@ -55,7 +55,11 @@ fn step(
 /// Reads a statement without its end, and adds its command, if it gives one. Answers whether its printed form is as short
 /// as it must be.
 #[tactic(auto, unfolding(crate::specs::FirstFaults::added_read))]
-fn add(alloc: Global, parser: &mut Parser, commands: &mut Vec<Command>) -> Result<bool, Refusal>
+fn push_command(
+    alloc: Global,
+    parser: &mut Parser,
+    commands: &mut Vec<Command>,
+) -> Result<bool, Refusal>
     ensures { Comes (λ short. ((commands.new.items, short), parser.new)) result parser.new (added_read commands.old.items parser.old) }
 {
     let Some(command) = command(alloc, parser)? else {

@@ -1,13 +1,16 @@
 //! Scripts in printed form, where that keeps the limits of a text.
 
-ghost use Rattle.std.specs.Prelude.{◌≡◌, IfOk, OnOk, Err};
+ghost use Rattle.std.specs.Prelude.{◌≡◌, ◌≢◌, ◌≤◌, IfOk, MatchBool, OnOk, Err, length};
 ghost use Rattle.lab_script.specs.Printed.{printed_script, renumbered};
 ghost use Rattle.lab_script.specs.Script.{Spells};
-ghost use Rattle.lab_script.specs.Limits.{ScriptPrints, BreaksDepth, BreaksLength, BreaksTables};
+ghost use Rattle.lab_script.specs.Limits.{AllPrint, ScriptPrints, SomeLine, BreaksDepth, BreaksLength, BreaksTables};
+ghost use Rattle.lab_script.specs.Tables.{script_tables};
+ghost use Rattle.lab_statement.specs.Limits.{IsLong};
+ghost use Rattle.lab_table.specs.TableSet.{max_tables};
 
 use crate::limits::MAX_COMMANDS;
 use crate::script::Script;
-use crate::spelling::{put_line, put_setup, setup_fits};
+use crate::spelling::{put_script, setup_fits};
 use crate::tables::add_all;
 use lab_statement::{PrintFault, check_command};
 use lab_table::TableSet;
@@ -27,11 +30,7 @@ pub fn print_script(alloc: Global, script: &Script) -> Result<Vec<u8>, PrintFaul
 {
     check_script(script)?;
     let mut text = Vec::new(alloc);
-    put_setup(&mut text, &script.setup)?;
-    text.extend_from_slice(b"\n")?;
-    for line in script.lines.as_slice() {
-        put_line(&mut text, line)?;
-    }
+    put_script(&mut text, script)?;
     Ok(text)
 }
 
@@ -42,18 +41,31 @@ fn check_script(script: &Script) -> Result<(), PrintFault>
     ensures too_long { result ≡ Err PrintFault.TooLong → BreaksLength script.now }
     ensures too_many_tables { result ≡ Err PrintFault.TooManyTables → BreaksTables script.now }
 {
-    let lines = script.lines.as_slice();
-    if lines.len() > MAX_COMMANDS || !setup_fits(&script.setup) {
-        return Err(PrintFault::TooLong);
+    if script.lines.as_slice().len() > MAX_COMMANDS || !setup_fits(&script.setup) {
+        Err(PrintFault::TooLong)
+    } else if has_few_tables(script) {
+        check_commands(script)
+    } else {
+        Err(PrintFault::TooManyTables)
     }
+}
+
+/// Whether a script has no more tables than it may name.
+fn has_few_tables(script: &Script) -> bool
+    ensures { MatchBool result (length (script_tables script.now) ≤ max_tables) (BreaksTables script.now) }
+{
     let mut tables = TableSet::new();
-    if !add_all(&mut tables, script.setup.rows()) {
-        return Err(PrintFault::TooManyTables);
-    }
-    if !add_all(&mut tables, lines) {
-        return Err(PrintFault::TooManyTables);
-    }
-    for line in lines {
+    add_all(&mut tables, script.setup.rows()) && add_all(&mut tables, script.lines.as_slice())
+}
+
+/// Whether the printed form of each command keeps the limits of a text.
+fn check_commands(script: &Script) -> Result<(), PrintFault>
+    ensures prints { OnOk result (AllPrint script.now.lines) }
+    ensures too_deep { result ≡ Err PrintFault.TooDeep → BreaksDepth script.now }
+    ensures too_long { result ≡ Err PrintFault.TooLong → SomeLine IsLong script.now }
+    ensures few_tables { result ≢ Err PrintFault.TooManyTables }
+{
+    for line in script.lines.as_slice() {
         check_command(&line.command)?;
     }
     Ok(())

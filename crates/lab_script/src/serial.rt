@@ -3,11 +3,11 @@
 ghost use Rattle.std.specs.Prelude.{◌≡◌, ◌++◌, ◌&&◌, not, None, Some, cond, IfOk, IfSome, OnOk};
 ghost use Rattle.std.specs.Option.{option_or};
 ghost use Rattle.lab_script.specs.Limits.{AllPrint, SomeLine};
-ghost use Rattle.lab_script.specs.TranscriptView.{Breaks, first_broken, limit_broken, shown_of, unprintable};
+ghost use Rattle.lab_script.specs.TranscriptView.{Breaks, ended_by, first_broken, limit_broken, shown_of, unprintable};
 ghost use Rattle.lab_script.specs.Transcript.{body_of, body_text, committed, end_text, inside_after, is_begin, sessions_in, statement_text, table_after, table_with, transcript, transaction_of, transaction_text};
 
 use crate::script::{Line, Script};
-use crate::transcript::Transcript;
+use crate::transcript::{Transcript, put_end, put_fault, put_heading, put_rows, put_table};
 use lab_table::{Command, NoMemory, PerSession, Session, Statement, Table};
 use std::alloc::Global;
 
@@ -36,7 +36,7 @@ pub fn run_serial(alloc: Global, script: &Script) -> Result<Transcript, NoMemory
         number += 1;
         run_transaction(alloc, &mut output, &mut table, number, line.session, later)?;
     }
-    output.put_table(table.rows())?;
+    put_table(&mut output.text, table.rows())?;
     Ok(output)
 }
 
@@ -72,13 +72,13 @@ fn run_transaction(
     ensures unprintable { OnOk result (output.new.unprintable ≡ first_broken output.old.unprintable (shown_of table.old (body_of session lines.now).0)) }
     ensures table { OnOk result (table.new ≡ table_after table.old (transaction_of session lines.now)) }
 {
-    output.put_heading(number, session)?;
+    put_heading(&mut output.text, number, session)?;
     let before = table.copy(alloc)?;
     let commits = run_body(alloc, output, table, session, lines)?;
     if !commits {
         *table = before;
     }
-    output.put_end(commits)
+    put_end(&mut output.text, commits)
 }
 
 /// Runs a statement and appends its line. Answers whether it ran: one that is refused leaves the table as it was.
@@ -95,11 +95,11 @@ fn run_statement(
     output.put_statement(statement)?;
     match table.run(alloc, statement) {
         Ok(rows) => {
-            output.put_rows(&rows)?;
+            put_rows(&mut output.text, &rows)?;
             Ok(true)
         }
         Err(fault) => {
-            output.put_fault(&fault)?;
+            put_fault(&mut output.text, &fault)?;
             Ok(false)
         }
     }
@@ -114,9 +114,8 @@ fn run_body(
     session: Session,
     lines: &[Line],
 ) -> Result<bool, NoMemory>
-    ensures text { IfOk result (λ commits. output.new.text ++ end_text commits ≡ output.old.text ++ body_text table.old (body_of session lines.now).0 (body_of session lines.now).1) }
-    ensures unprintable { OnOk result (output.new.unprintable ≡ first_broken output.old.unprintable (shown_of table.old (body_of session lines.now).0)) }
-    ensures table { IfOk result (λ commits. committed table.old (body_of session lines.now).0 (body_of session lines.now).1 ≡ cond commits (Some table.new) None) }
+    ensures { IfOk result (λ commits. record { text = output.new.text ++ end_text commits; unprintable = output.new.unprintable; table = cond commits (Some table.new) None }
+        ≡ ended_by session output.old table.old lines.now) }
 {
     for line in lines {
         if line.session == session {

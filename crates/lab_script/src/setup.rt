@@ -1,6 +1,6 @@
 //! The setup, read from tokens.
 
-ghost use Rattle.std.specs.Prelude.{◌≤◌, length, ◌≡◌, [], Some, None, IfOk, MatchBool};
+ghost use Rattle.std.specs.Prelude.{◌≡◌, [], Some, None, IfOk, MatchBool};
 ghost use Rattle.lab_statement.specs.Stopping.{Comes};
 ghost use Rattle.lab_script.specs.FirstFaults.{named_row_read, row_table_read, row_onto_read, rows_read, setup_end_read, setup_fault, setup_read, table_read};
 ghost use Rattle.lab_script.specs.Grammar.{IsSetup};
@@ -17,8 +17,7 @@ use std::alloc::Global;
 /// The table of a row of a setup: the name before the row, or `test` where no word stands there.
 #[tactic(auto, unfolding(crate::specs::FirstFaults::row_table_read, lab_statement::specs::Stopping::name_read))]
 fn row_table(parser: &mut Parser) -> Result<TableName, Refusal>
-    ensures reads { Comes (λ x. (x, parser.new)) result parser.new (row_table_read parser.old) }
-    ensures shorter { length parser.new ≤ length parser.old }
+    ensures { Comes (λ x. (x, parser.new)) result parser.new (row_table_read parser.old) }
 {
     match parser.tokens().split_first() {
         Some((first, _)) if first.is_word() => parser.name(),
@@ -29,8 +28,7 @@ fn row_table(parser: &mut Parser) -> Result<TableName, Refusal>
 /// A row of a setup with its value.
 #[tactic(auto, unfolding(crate::specs::FirstFaults::named_row_read))]
 pub fn named_row(parser: &mut Parser) -> Result<(RowName, Value), Refusal>
-    ensures reads { Comes (λ x. (x, parser.new)) result parser.new (named_row_read parser.old) }
-    ensures shorter { length parser.new ≤ length parser.old }
+    ensures { Comes (λ x. (x, parser.new)) result parser.new (named_row_read parser.old) }
 {
     let table = row_table(parser)?;
     let (id, value) = parser.row()?;
@@ -40,8 +38,7 @@ pub fn named_row(parser: &mut Parser) -> Result<(RowName, Value), Refusal>
 /// Adds a row to the table; DuplicateSetupRow where it is present.
 #[tactic(auto, unfolding(crate::specs::FirstFaults::row_onto_read))]
 fn row_onto(alloc: Global, parser: &mut Parser, table: &mut Table) -> Result<(), Refusal>
-    ensures reads { Comes (λ x. (table.new, parser.new)) result parser.new (row_onto_read table.old parser.old) }
-    ensures shorter { length parser.new ≤ length parser.old }
+    ensures { Comes (λ x. (table.new, parser.new)) result parser.new (row_onto_read table.old parser.old) }
 {
     let row = named_row(parser)?;
     if table.add(alloc, row.0, row.1)? {
@@ -113,8 +110,7 @@ fn setup(alloc: Global, parser: &mut Parser) -> Result<Table, Refusal>
 {
     parser.expect(Token::Word(Word::Setup))?;
     let table = table(alloc, parser)?;
-    setup_end(parser, &table)?;
-    Ok(table)
+    setup_end(parser, &table).and(Ok(table))
 }
 
 /// The table that the tokens of a setup spell; all of them must belong to it. Its rows' tables come to those that are handed
@@ -135,10 +131,7 @@ pub fn read_setup(alloc: Global, tokens: &[Token], tables: &mut TableSet) -> Res
 {
     let mut parser = Parser { rest: tokens };
     match setup(alloc, &mut parser) {
-        Ok(table) => {
-            add_few(tables, table.rows())?;
-            Ok(table)
-        }
+        Ok(table) => add_few(tables, table.rows()).and(Ok(table)),
         Err(refusal) => {
             let few = add_setup_tokens(tables, read_before(tokens, parser.left()));
             Err(behind_tables(few, refusal))

@@ -2,23 +2,30 @@
 
 ghost use Rattle.std.specs.Prelude.{◌≡◌, ◌++◌, ◌≤◌, ◌↔◌, length, IsTrue, OnOk};
 ghost use Rattle.std.specs.FinMap as finite;
-ghost use Rattle.lab_script.specs.Printed.{named_rows_or, printed_line, printed_named_row, printed_setup};
-ghost use Rattle.lab_script.specs.Ranges.{EntryInRange, LineInRange};
+ghost use Rattle.std.specs.Fmt.{decimal};
+ghost use Rattle.std.specs.List.{flat_map};
+ghost use Rattle.lab_script.specs.Printed.{named_rows_or, printed_line, printed_named_row, printed_next_row, printed_script, printed_setup};
+ghost use Rattle.lab_script.specs.Ranges.{EntryInRange, LineInRange, ScriptInRange};
 ghost use Rattle.lab_statement.specs.Each.{Each};
 ghost use Rattle.lab_statement.specs.Limits.{max_line_bytes};
 ghost use Rattle.lab_statement.specs.Sink.{Puts};
 
-use crate::script::Line;
-use lab_statement::{
-    MAX_LINE_BYTES, Room, Sink, put_command, put_natural, put_row, put_table_name,
-};
+use crate::script::{Line, Script};
+use itoa::Buffer;
+use lab_statement::{MAX_LINE_BYTES, Room, Sink, put_command, put_row, put_table_name};
 use lab_table::{NoMemory, RowName, Table, Value};
 
-/// Puts a row of any table.
-fn put_named_row<S: Sink>(out: &mut S, row: RowName, value: Value) -> Result<(), S::Refusal>
+/// Puts a row of any table behind what stands before it.
+fn put_named_row<S: Sink>(
+    out: &mut S,
+    before: &[u8],
+    row: RowName,
+    value: Value,
+) -> Result<(), S::Refusal>
     ensures in_range { OnOk result (EntryInRange (row, value)) }
-    ensures text { Puts S.kept S.limit result (S.text out.old) (printed_named_row row value) (S.text out.new) }
+    ensures text { Puts S.kept S.limit result (S.text out.old) (before.now ++ printed_named_row row value) (S.text out.new) }
 {
+    out.put(before)?;
     put_table_name(out, row.table)?;
     put_row(out, row.id, value)
 }
@@ -32,13 +39,22 @@ pub fn put_named_rows<S: Sink>(
     ensures in_range { OnOk result (Each EntryInRange rows.now) }
     ensures text { Puts S.kept S.limit result (S.text out.old) (named_rows_or none.now rows.now) (S.text out.new) }
 {
-    let Some((first, rest)) = rows.split_first() else {
-        return out.put(none);
-    };
-    put_named_row(out, first.0, first.1)?;
-    for (row, value) in rest {
-        out.put(b", ")?;
-        put_named_row(out, *row, *value)?;
+    match rows.split_first() {
+        None => out.put(none),
+        Some((first, rest)) => {
+            put_named_row(out, b"", first.0, first.1)?;
+            put_more_rows(out, rest)
+        }
+    }
+}
+
+/// Puts rows of any table behind another one.
+fn put_more_rows<S: Sink>(out: &mut S, rows: &[(RowName, Value)]) -> Result<(), S::Refusal>
+    ensures in_range { OnOk result (Each EntryInRange rows.now) }
+    ensures text { Puts S.kept S.limit result (S.text out.old) (flat_map printed_next_row rows.now) (S.text out.new) }
+{
+    for row in rows {
+        put_named_row(out, b", ", row.0, row.1)?;
     }
     Ok(())
 }
@@ -62,13 +78,33 @@ pub fn setup_fits(table: &Table) -> bool
     put_setup(&mut room, table).is_ok()
 }
 
+/// Appends a word and a number.
+pub fn put_number(text: &mut Vec<u8>, word: &[u8], number: usize) -> Result<(), NoMemory>
+    ensures { OnOk result (text.new.items ≡ text.old.items ++ word.now ++ decimal number) }
+{
+    text.extend_from_slice(word)?;
+    text.extend_from_slice(Buffer::new().format(number).as_bytes())
+}
+
 /// Appends the line of a command, with its newline.
 pub fn put_line(out: &mut Vec<u8>, line: &Line) -> Result<(), NoMemory>
     ensures in_range { OnOk result (LineInRange line.now) }
     ensures text { OnOk result (out.new.items ≡ out.old.items ++ printed_line line.now) }
 {
     put_command(out, &line.command)?;
-    out.extend_from_slice(b"; -- T")?;
-    put_natural(out, u32::from(line.session.number()))?;
+    put_number(out, b"; -- T", usize::from(line.session.number()))?;
     out.extend_from_slice(b"\n")
+}
+
+/// Appends the text of a script.
+pub fn put_script(out: &mut Vec<u8>, script: &Script) -> Result<(), NoMemory>
+    ensures in_range { OnOk result (ScriptInRange script.now) }
+    ensures text { OnOk result (out.new.items ≡ out.old.items ++ printed_script script.now) }
+{
+    put_setup(out, &script.setup)?;
+    out.extend_from_slice(b"\n")?;
+    for line in script.lines.as_slice() {
+        put_line(out, line)?;
+    }
+    Ok(())
 }

@@ -7,8 +7,7 @@ ghost use Rattle.lab_statement.specs.Printed.{newline, printed_row_name, printed
 ghost use Rattle.lab_script.specs.TranscriptView.{fault_text, limit_broken};
 ghost use Rattle.lab_script.specs.Transcript.{end_text, heading_text};
 
-use crate::spelling::put_named_rows;
-use itoa::Buffer;
+use crate::spelling::{put_named_rows, put_number};
 use lab_statement::{PrintFault, check_statement, put_list, put_row_name, put_statement};
 use lab_table::{NoMemory, RowName, Session, Statement, TableFault, Value};
 use std::alloc::{AllocError, Global};
@@ -18,7 +17,7 @@ use std::marker::Model;
 /// `into_text` hand it out.
 #[derive(Drop)]
 pub struct Transcript {
-    text: Vec<u8>,
+    pub(crate) text: Vec<u8>,
     unprintable: Option<PrintFault>,
 }
 
@@ -45,19 +44,6 @@ impl Transcript {
         }
     }
 
-    /// Appends the first line of a transaction.
-    pub(crate) fn put_heading(&mut self, number: usize, session: Session) -> Result<(), NoMemory>
-        ensures text { OnOk result (self.new.text ≡ self.old.text ++ heading_text number session) }
-        ensures unprintable { OnOk result (self.new.unprintable ≡ self.old.unprintable) }
-    {
-        let text = &mut self.text;
-        text.extend_from_slice(b"txn ")?;
-        text.extend_from_slice(Buffer::new().format(number).as_bytes())?;
-        text.extend_from_slice(b" T")?;
-        text.extend_from_slice(Buffer::new().format(session.number()).as_bytes())?;
-        text.extend_from_slice(b"\n")
-    }
-
     /// Appends a statement, and notes the limit that it breaks, if none was broken before.
     pub(crate) fn put_statement(&mut self, statement: &Statement) -> Result<(), NoMemory>
         ensures text { OnOk result (self.new.text ≡ self.old.text ++ (printed_statement statement.now ++ codes " -> ")) }
@@ -68,56 +54,6 @@ impl Transcript {
             self.unprintable = check_statement(statement).err();
         }
         self.text.extend_from_slice(b" -> ")
-    }
-
-    /// Appends the rows that a statement lists, to the end of its line.
-    pub(crate) fn put_rows(&mut self, rows: &[(RowName, Value)]) -> Result<(), NoMemory>
-        ensures text { OnOk result (self.new.text ≡ self.old.text ++ (rows_or (codes "none") rows.now ++ newline)) }
-        ensures unprintable { OnOk result (self.new.unprintable ≡ self.old.unprintable) }
-    {
-        put_list(&mut self.text, rows)?;
-        self.text.extend_from_slice(b"\n")
-    }
-
-    /// Appends why a statement was refused, to the end of its line; NoMemory also where that is the fault.
-    pub(crate) fn put_fault(&mut self, fault: &TableFault) -> Result<(), NoMemory>
-        ensures text { OnOk result (self.new.text ≡ self.old.text ++ (fault_text fault.now ++ newline)) }
-        ensures unprintable { OnOk result (self.new.unprintable ≡ self.old.unprintable) }
-        ensures refused { OnOk result (fault.now ≢ TableFault.NoMemory) }
-    {
-        match fault {
-            TableFault::NoMemory => Err(AllocError),
-            TableFault::DuplicateKey { id } => self.put_refusal(b"DuplicateKey ", *id),
-            TableFault::OutOfRange { id } => self.put_refusal(b"OutOfRange ", *id),
-        }
-    }
-
-    fn put_refusal(&mut self, reason: &[u8], row: RowName) -> Result<(), NoMemory>
-        ensures text { OnOk result (self.new.text ≡ self.old.text ++ (reason.now ++ printed_row_name row ++ newline)) }
-        ensures unprintable { OnOk result (self.new.unprintable ≡ self.old.unprintable) }
-    {
-        self.text.extend_from_slice(reason)?;
-        put_row_name(&mut self.text, row)?;
-        self.text.extend_from_slice(b"\n")
-    }
-
-    /// Appends the last line of a transaction.
-    pub(crate) fn put_end(&mut self, commits: bool) -> Result<(), NoMemory>
-        ensures text { OnOk result (self.new.text ≡ self.old.text ++ end_text commits) }
-        ensures unprintable { OnOk result (self.new.unprintable ≡ self.old.unprintable) }
-    {
-        let text: &[u8] = if commits { b"commit\n" } else { b"abort\n" };
-        self.text.extend_from_slice(text)
-    }
-
-    /// Appends the last line, with all rows of a table.
-    pub(crate) fn put_table(&mut self, rows: &[(RowName, Value)]) -> Result<(), NoMemory>
-        ensures text { OnOk result (self.new.text ≡ self.old.text ++ (codes "end " ++ named_rows_or (codes "none") rows.now ++ newline)) }
-        ensures unprintable { OnOk result (self.new.unprintable ≡ self.old.unprintable) }
-    {
-        self.text.extend_from_slice(b"end ")?;
-        put_named_rows(&mut self.text, b"none", rows)?;
-        self.text.extend_from_slice(b"\n")
     }
 
     /// The text that `print_transcript` copies, handed out as it is, if each statement in it keeps the limits of a text.
@@ -134,6 +70,60 @@ impl Transcript {
         }
         Ok(text)
     }
+}
+
+/// Appends the first line of a transaction.
+pub fn put_heading(text: &mut Vec<u8>, number: usize, session: Session) -> Result<(), NoMemory>
+    ensures { OnOk result (text.new.items ≡ text.old.items ++ heading_text number session) }
+{
+    put_number(text, b"txn ", number)?;
+    put_number(text, b" T", usize::from(session.number()))?;
+    text.extend_from_slice(b"\n")
+}
+
+/// Appends the rows that a statement lists, to the end of its line.
+pub fn put_rows(text: &mut Vec<u8>, rows: &[(RowName, Value)]) -> Result<(), NoMemory>
+    ensures { OnOk result (text.new.items ≡ text.old.items ++ rows_or (codes "none") rows.now ++ newline) }
+{
+    put_list(text, rows)?;
+    text.extend_from_slice(b"\n")
+}
+
+/// Appends why a statement was refused, to the end of its line; NoMemory also where that is the fault.
+pub fn put_fault(text: &mut Vec<u8>, fault: &TableFault) -> Result<(), NoMemory>
+    ensures text { OnOk result (text.new.items ≡ text.old.items ++ fault_text fault.now ++ newline) }
+    ensures refused { OnOk result (fault.now ≢ TableFault.NoMemory) }
+{
+    match fault {
+        TableFault::NoMemory => Err(AllocError),
+        TableFault::DuplicateKey { id } => put_refusal(text, b"DuplicateKey ", *id),
+        TableFault::OutOfRange { id } => put_refusal(text, b"OutOfRange ", *id),
+    }
+}
+
+fn put_refusal(text: &mut Vec<u8>, reason: &[u8], row: RowName) -> Result<(), NoMemory>
+    ensures { OnOk result (text.new.items ≡ text.old.items ++ (reason.now ++ printed_row_name row) ++ newline) }
+{
+    text.extend_from_slice(reason)?;
+    put_row_name(text, row)?;
+    text.extend_from_slice(b"\n")
+}
+
+/// Appends the last line of a transaction.
+pub fn put_end(text: &mut Vec<u8>, commits: bool) -> Result<(), NoMemory>
+    ensures { OnOk result (text.new.items ≡ text.old.items ++ end_text commits) }
+{
+    let end: &[u8] = if commits { b"commit\n" } else { b"abort\n" };
+    text.extend_from_slice(end)
+}
+
+/// Appends the last line, with all rows of a table.
+pub fn put_table(text: &mut Vec<u8>, rows: &[(RowName, Value)]) -> Result<(), NoMemory>
+    ensures { OnOk result (text.new.items ≡ text.old.items ++ (codes "end " ++ named_rows_or (codes "none") rows.now ++ newline)) }
+{
+    text.extend_from_slice(b"end ")?;
+    put_named_rows(text, b"none", rows)?;
+    text.extend_from_slice(b"\n")
 }
 
 /// The text of a transcript, if each statement in it keeps the limits of a text.

@@ -1,5 +1,4 @@
-use Rattle.lab_script.proofs.Common.{◌≡◌, drop}
-use Rattle.lab_script.proofs.RemainingTranscript.{ended_by}
+use Rattle.lab_script.proofs.Common.{◌≡◌, drop, ended_by}
 use Rattle.lab_script.proofs.serial.run_body.Given as goal
 
 abbrev pub invariant-loop-line : goal.invariant-loop-line

@@ -1,4 +1,4 @@
-use Rattle.lab_script.proofs.Common.{sym, subst, List, ℤ, Row}
+use Rattle.lab_script.proofs.Common.{sym, ap, ◌∙◌, subst, List, ℤ, Row, TranscriptView}
 use Rattle.lab_table.specs.Running.{Gives}
 use Rattle.lab_table.specs.Statement.{run}
 use Rattle.lab_script.proofs.StatementLines.{line_of_rows, line_of_fault, with_rows, with_fault}
@@ -6,7 +6,7 @@ use Rattle.lab_script.proofs.serial.run_statement.Goals as goal
 
 pub returns-in_ok-put_rows-in-Ok-clause-text : goal.returns-in_ok-put_rows-in-Ok-clause-text
 returns-in_ok-put_rows-in-Ok-clause-text c =
-    line_of_rows c.args.statement.now c.args.table.now c.run.new.self c.deref.result.now _ _ _ c.in_ok-put_statement.ensures.text c.in_ok-put_rows-in-Ok.ensures.text
+    line_of_rows c.args.statement.now c.args.table.now c.run.new.self c.deref.result.now _ _ _ (ap (λ (view : TranscriptView). view.text) c.output.view_is ∙ c.in_ok-put_statement.ensures.text) c.in_ok-put_rows-in-Ok.ensures
     (subst (λ (rows : List (Row × ℤ)). Gives (run c.args.statement.now c.args.table.now) rows c.run.new.self) (sym c.deref.ensures.value) c.in-Ok.ensures.ok)
 
 pub returns-in_ok-put_rows-in-Ok-clause-table : goal.returns-in_ok-put_rows-in-Ok-clause-table
@@ -14,7 +14,7 @@ returns-in_ok-put_rows-in-Ok-clause-table c = with_rows c.args.statement.now c.a
 
 pub returns-in_ok-put_fault-in-Err-clause-text : goal.returns-in_ok-put_fault-in-Err-clause-text
 returns-in_ok-put_fault-in-Err-clause-text c =
-    line_of_fault c.args.statement.now c.args.table.now c.in-Err.fault _ _ _ c.in_ok-put_statement.ensures.text c.in_ok-put_fault-in-Err.ensures.text
+    line_of_fault c.args.statement.now c.args.table.now c.in-Err.fault _ _ _ (ap (λ (view : TranscriptView). view.text) c.output.view_is ∙ c.in_ok-put_statement.ensures.text) c.in_ok-put_fault-in-Err.ensures.text
     c.in-Err.ensures.fault c.in_ok-put_fault-in-Err.ensures.refused
 
 pub returns-in_ok-put_fault-in-Err-clause-table : goal.returns-in_ok-put_fault-in-Err-clause-table
