@@ -52,6 +52,7 @@ pub mod RecordedCommits
 pub mod RecordedViews
 mod Apart
 mod AfterCommits
+mod AfterReads
 mod WaitsAfter
 pub mod Overlaid
 pub mod OneRecording

@@ -1,11 +1,13 @@
 -- Whom a session waits for after an event that leaves this as it was.
-use Rattle.std.proofs.Common.{◌≡◌, ◌≢◌, ℕ, refl, sym, ap, subst, ◌∙◌, cond, List, ◌∷◌, ◌↔◌, Some, None, inl, inr, IsTrue, IsSome, is_some}
-use Rattle.lab_engine.proofs.Common.{none_some, same_Some, some_of, cases_eq, eq-eqb, ne_eqb, both_ways, Rows, View, Writes, Table, Statement, Command, Level, Outcome, Begun, Listed, Committed, Aborted, Waits, Refused, NoTransaction, AlreadyBegun, Busy, ⊤, Past, Txn, active, active_after, waiting, waiting_after, version_by, Blocks, BlockedBy, Permitted, IsLegal, WaitsOn}
+use Rattle.std.proofs.Common.{◌≡◌, ◌≢◌, ℕ, refl, sym, ap, subst, ◌∙◌, cond, false, true, List, ◌∷◌, ◌↔◌, ◌⊎◌, ◌==◌, Some, None, option_map, inl, inr, IsTrue, IsSome, is_some}
+use Rattle.lab_engine.proofs.Common.{none_some, same_Some, some_of, cases_eq, eq-eqb, ne_eqb, both_ways, Rows, View, Writes, Table, Statement, Command, Level, Outcome, Begun, Listed, Committed, Aborted, Waits, Refused, NoTransaction, AlreadyBegun, Busy, ⊤, Past, Txn, active, active_after, waiting, waiting_after, version_by, Blocks, BlockedBy, Permitted, IsLegal, WaitsOn, Op, Run, grown, keeps_statements, is_read_only}
 use Rattle.lab_engine.specs.declared.event.Level.TheVariants.{Locking, Snapshot, Committed as ReadCommitted}
 use Rattle.lab_engine.specs.EventQuery.{is_over}
 use Rattle.lab_engine.proofs.LockSteps.{fresh}
 use Rattle.lab_engine.proofs.Apart.{writes_apart}
 use Rattle.lab_engine.proofs.AfterCommits.{still_blocked}
+use Rattle.lab_engine.proofs.AfterReads.{reads_on, reads_back}
+use Rattle.std.specs.FinMap as map
 
 -- a transaction that has run nothing blocks nobody
 fresh_blocks : (level : Level) (setup : Table) (past : Past) (asker : Txn) (s : Statement) (n : ℕ) (begun : Past) → ¬ Blocks level setup past asker s (fresh n begun)
@@ -24,11 +26,16 @@ same_blocks ReadCommitted setup past e command Committed commits asker holder s 
 same_blocks ReadCommitted setup past e command other commits asker holder s = ((λ b. b), (λ b. b))
 same_blocks Snapshot setup past e command outcome commits asker holder s = ((λ b. b), (λ b. b))
 
--- an outcome lets a session that waits wait for the same, as far as the outcome alone tells: nothing ran, and the session didn't begin to wait
-abbrev pub LeavesWaiter : Outcome → ℕ → ℕ → Type 0
-LeavesWaiter (Listed view rows writes) e k = ⊥
-LeavesWaiter (Waits on) e k = e ≢ k
-LeavesWaiter other e k = ⊤
+-- what a session reads is of no weight to a statement of another one that waits: the level doesn't ask what was read, the
+-- statement only lists rows, or it is blocked by the session already
+abbrev pub ReadsNoMore : Level → Table → Past → ℕ → ℕ → Statement → Type 0
+ReadsNoMore level setup past e k s = ((keeps_statements level ≡ false) ⊎ (is_read_only s ≡ true)) ⊎ BlockedBy level setup past k s e
+
+-- an outcome lets a session that waits wait for the same, but for a transaction that it ends
+abbrev pub LeavesWaiter : Level → Table → Past → Outcome → ℕ → ℕ → Type 0
+LeavesWaiter level setup past (Listed view rows writes) e k = IsTrue (map.len writes == 0) × ((s : Statement) → waiting past k ≡ Some s → ReadsNoMore level setup past e k s)
+LeavesWaiter level setup past (Waits on) e k = e ≢ k
+LeavesWaiter level setup past other e k = ⊤
 
 module _ (level : Level) (setup : Table) (past : Past) (e : ℕ) (command : Command) (outcome : Outcome) where
   abbrev after : Past
@@ -87,14 +94,14 @@ module _ (level : Level) (setup : Table) (past : Past) (e : ℕ) (command : Comm
     still_waits : (k : ℕ) → waiting after k ≡ waiting past k → SameWaits k
     still_waits k same = waits_alike k same (λ s is other. blocked_alike k s other)
 
-  -- where the event's session blocks another one neither before nor behind
-  module _ (k : ℕ) (off : e ≢ k) (before : ¬ WaitsOn level setup past k e) (behind : (s : Statement) → ¬ BlockedBy level setup after k s e)
+  -- where the event's session blocks another one behind it as before
+  module _ (k : ℕ) (off : e ≢ k) (own_same : (s : Statement) → waiting past k ≡ Some s → BlockedBy level setup after k s e ↔ BlockedBy level setup past k s e)
       (same : (s : Statement) (asker holder : Txn) (other : ℕ) → waiting past k ≡ Some s → active past k ≡ Some asker → e ≢ other → active past other ≡ Some holder
       → Blocks level setup after asker s holder ↔ Blocks level setup past asker s holder) where
     module _ (s : Statement) (is : waiting past k ≡ Some s) (other : ℕ) where
       was_blocked : BlockedBy level setup after k s other → BlockedBy level setup past k s other
       was_blocked (asker, holder, apart, is_asker, is_holder, b) = elim (cases_eq e other) [
-        | inl own ↦ absurd (behind s (subst (BlockedBy level setup after k s) (sym own) (asker, holder, apart, is_asker, is_holder, b)))
+        | inl own ↦ subst (BlockedBy level setup past k s) own ((own_same s is).0 (subst (BlockedBy level setup after k s) (sym own) (asker, holder, apart, is_asker, is_holder, b)))
         | inr there ↦
             let was : active past k ≡ Some asker = sym (other_active k off) ∙ is_asker in
             let held : active past other ≡ Some holder = sym (other_active other there) ∙ is_holder in
@@ -103,7 +110,7 @@ module _ (level : Level) (setup : Table) (past : Past) (e : ℕ) (command : Comm
 
       is_blocked : BlockedBy level setup past k s other → BlockedBy level setup after k s other
       is_blocked (asker, holder, apart, is_asker, is_holder, b) = elim (cases_eq e other) [
-        | inl own ↦ absurd (before (s, is, subst (BlockedBy level setup past k s) (sym own) (asker, holder, apart, is_asker, is_holder, b)))
+        | inl own ↦ subst (BlockedBy level setup after k s) own ((own_same s is).1 (subst (BlockedBy level setup past k s) (sym own) (asker, holder, apart, is_asker, is_holder, b)))
         | inr there ↦
             (asker, holder, apart, other_active k off ∙ is_asker, other_active other there ∙ is_holder, (same s asker holder other is is_asker there is_holder).1 b)
       ]
@@ -111,9 +118,14 @@ module _ (level : Level) (setup : Table) (past : Past) (e : ℕ) (command : Comm
     apart_waits : SameWaits k
     apart_waits = waits_alike k (other_waiting k off) (λ s is other. (was_blocked s is other, is_blocked s is other))
 
+  -- so it does where it does neither
+  neither : (k : ℕ) → ¬ WaitsOn level setup past k e → ((s : Statement) → ¬ BlockedBy level setup after k s e) → (s : Statement) → waiting past k ≡ Some s
+      → BlockedBy level setup after k s e ↔ BlockedBy level setup past k s e
+  neither k before behind s is = ((λ b. absurd (behind s b)), (λ b. absurd (before (s, is, b))))
+
   -- where its transaction ended, and nothing is committed
   ends_waits : outcome ≢ Committed → active_after command outcome past (active past e) ≡ None → (k : ℕ) → ¬ WaitsOn level setup past k e → e ≢ k → SameWaits k
-  ends_waits commits none k before off = apart_waits k off before (λ s b. none_some _ (sym (own_active ∙ none) ∙ b.4))
+  ends_waits commits none k before off = apart_waits k off (neither k before (λ s b. none_some _ (sym (own_active ∙ none) ∙ b.4)))
       (λ s asker holder other _ _ _ _. same_blocks level setup past e command outcome commits asker holder s)
 
 -- ---- by what the event is
@@ -121,26 +133,57 @@ module _ (level : Level) (setup : Table) (past : Past) (e : ℕ) (command : Comm
 module _ (level : Level) (setup : Table) (past : Past) (e : ℕ) (command : Command) (k : ℕ) where
   begins_waits : (n : ℕ) → Permitted level setup past e command (Begun n) → e ≢ k → SameWaits level setup past e command (Begun n) k
   begins_waits n (is, idle, number) off = apart_waits level setup past e command (Begun n) k off
-      (λ w. none_some _ (sym idle ∙ w.2.4))
+      (neither level setup past e command (Begun n) k (λ w. none_some _ (sym idle ∙ w.2.4))
       (λ s b. fresh_blocks level setup (after level setup past e command (Begun n)) b.0 s n past
-      (subst (Blocks level setup (after level setup past e command (Begun n)) b.0 s) (sym (same_Some (fresh n past) b.1 (sym (own_active level setup past e command (Begun n)) ∙ b.4))) b.5))
+      (subst (Blocks level setup (after level setup past e command (Begun n)) b.0 s) (sym (same_Some (fresh n past) b.1 (sym (own_active level setup past e command (Begun n)) ∙ b.4))) b.5)))
       (λ s asker holder other _ _ _ _. same_blocks level setup past e command (Begun n) (λ eq. cc) asker holder s)
 
   commits_waits : IsLegal level setup past → Permitted level setup past e command Committed → ¬ WaitsOn level setup past k e → e ≢ k → SameWaits level setup past e command Committed k
-  commits_waits legal (t, gives, may) before off = apart_waits level setup past e command Committed k off before
-      (λ s b. none_some _ (sym (own_active level setup past e command Committed) ∙ b.4))
+  commits_waits legal (t, gives, may) before off = apart_waits level setup past e command Committed k off
+      (neither level setup past e command Committed k before (λ s b. none_some _ (sym (own_active level setup past e command Committed) ∙ b.4)))
       (λ s asker holder other is was there held. still_blocked setup past e command t gives.active_is asker s level
       (λ b. before (s, is, (asker, t, (λ same. off (sym same)), was, gives.active_is, b))) holder
       (λ locks row some.
       let v = some_of (version_by holder row) some in
       writes_apart level locks setup past legal other e holder t row v.0 (λ same. there (sym same)) held gives.active_is v.1))
 
-  -- a session that waits behind an event waits for the same: after one that ran nothing, and with which it doesn't begin to
-  -- wait, where it waited for no transaction that it ended
+  -- a statement ran that wrote nothing, and what was read is of no weight to the one that waits, or its session waits for this one already
+  module _ (s : Statement) (view : View) (rows : Rows) (writes : Writes) (txn : Txn) (is_txn : active past e ≡ Some txn) (none : IsTrue (map.len writes == 0)) (off : e ≢ k)
+      (why : (t : Statement) → waiting past k ≡ Some t → ReadsNoMore level setup past e k t) where
+    abbrev op : Op
+    op = record { statement = s; view = view; rows = rows; writes = writes }
+
+    abbrev read : Past
+    read = after level setup past e (Run s) (Listed view rows writes)
+
+    ran : active read e ≡ Some (grown txn op)
+    ran = own_active level setup past e (Run s) (Listed view rows writes) ∙ ap (option_map (λ t. grown t op)) is_txn
+
+    read_before : (t : Statement) → ReadsNoMore level setup past e k t → BlockedBy level setup read k t e → BlockedBy level setup past k t e
+    read_before t (inr waits) b = waits
+    read_before t (inl why) (asker, holder, apart, is_asker, is_holder, b) =
+        (asker, txn, apart, sym (other_active level setup past e (Run s) (Listed view rows writes) k off) ∙ is_asker, is_txn, reads_back txn op none level setup past asker t why
+        ((same_blocks level setup past e (Run s) (Listed view rows writes) (λ eq. cc) asker (grown txn op) t).0
+        (subst (Blocks level setup read asker t) (sym (same_Some (grown txn op) holder (sym ran ∙ is_holder))) b)))
+
+    read_behind : (t : Statement) → BlockedBy level setup past k t e → BlockedBy level setup read k t e
+    read_behind t (asker, holder, apart, is_asker, is_holder, b) =
+        (asker, grown txn op, apart, other_active level setup past e (Run s) (Listed view rows writes) k off ∙ is_asker, ran,
+        (same_blocks level setup past e (Run s) (Listed view rows writes) (λ eq. cc) asker (grown txn op) t).1
+        (reads_on txn op none level setup past asker t (subst (Blocks level setup past asker t) (same_Some holder txn (sym is_holder ∙ is_txn)) b)))
+
+    reads_waits : SameWaits level setup past e (Run s) (Listed view rows writes) k
+    reads_waits = apart_waits level setup past e (Run s) (Listed view rows writes) k off (λ t is. (read_before t (why t is), read_behind t))
+        (λ t asker holder other _ _ _ _. same_blocks level setup past e (Run s) (Listed view rows writes) (λ eq. cc) asker holder t)
+
+  -- a session that waits behind an event waits for the same: after one with which it doesn't begin to wait, where it waited
+  -- for no transaction that it ended, and what it ran wrote nothing and read nothing more that is of weight
   pub same_waits : (outcome : Outcome) → IsLegal level setup past → Permitted level setup past e command outcome → (IsTrue (is_over outcome) → ¬ WaitsOn level setup past k e)
-      → LeavesWaiter outcome e k → IsSome (waiting (record { session = e; command = command; outcome = outcome } ∷ past) k) → SameWaits level setup past e command outcome k
+      → LeavesWaiter level setup past outcome e k → IsSome (waiting (record { session = e; command = command; outcome = outcome } ∷ past) k) → SameWaits level setup past e command outcome k
   same_waits (Begun n) legal permitted before leaves some = begins_waits n permitted (off_own level setup past e command (Begun n) k refl some)
-  same_waits (Listed view rows writes) legal permitted before leaves some = absurd leaves
+  same_waits (Listed view rows writes) legal (s, txn, asks, free, effect) before leaves some =
+      subst (λ c. SameWaits level setup past e c (Listed view rows writes) k) (sym asks.command_is)
+      (reads_waits s view rows writes txn asks.active_is leaves.0 (off_own level setup past e command (Listed view rows writes) k refl some) leaves.1)
   same_waits Committed legal permitted before leaves some = commits_waits legal permitted (before refl) (off_own level setup past e command Committed k refl some)
   same_waits Aborted legal permitted before leaves some = ends_waits level setup past e command Aborted (λ eq. cc) refl k (before refl) (off_own level setup past e command Aborted k refl some)
   same_waits (Waits on) legal permitted before leaves some = still_waits level setup past e command (Waits on) (λ eq. cc) refl k (other_waiting level setup past e command (Waits on) k leaves)
@@ -154,8 +197,23 @@ module _ (level : Level) (setup : Table) (past : Past) (e : ℕ) (command : Comm
       (other_waiting level setup past e command (Refused AlreadyBegun) k (off_own level setup past e command (Refused AlreadyBegun) k refl some))
   same_waits (Refused fault) legal permitted before leaves some = ends_waits level setup past e command (Refused fault) (λ eq. cc) refl k (before refl) (off_own level setup past e command (Refused fault) k refl some)
 
+-- a statement that wrote nothing
+pub reads_leave : (level : Level) (setup : Table) (past : Past) (e : ℕ) (command : Command) (outcome : Outcome) (k : ℕ) (view : View) (rows : Rows) (writes : Writes) (s : Statement)
+    → outcome ≡ Listed view rows writes → waiting (record { session = e; command = command; outcome = outcome } ∷ past) k ≡ Some s → IsTrue (map.len writes == 0)
+    → (keeps_statements level ≡ false) ⊎ (is_read_only s ≡ true) ⊎ WaitsOn level setup past k e → LeavesWaiter level setup past outcome e k
+reads_leave level setup past e command outcome k view rows writes s lists waits none why = subst (λ o. LeavesWaiter level setup past o e k) (sym lists) (none, (λ t was. weighs t was why))
+  where
+    off : e ≢ k
+    off = off_own level setup past e command outcome k (ap (λ o. waiting_after command o (waiting past k)) lists) (ap is_some waits)
+
+    weighs : (t : Statement) → waiting past k ≡ Some t → (keeps_statements level ≡ false) ⊎ (is_read_only s ≡ true) ⊎ WaitsOn level setup past k e → ReadsNoMore level setup past e k t
+    weighs t was (inl asks) = inl (inl asks)
+    weighs t was (inr (inl lists)) = inl (inr (ap is_read_only (same_Some t s (sym was ∙ sym (other_waiting level setup past e command outcome k off) ∙ waits)) ∙ lists))
+    weighs t was (inr (inr (u, is, b))) = inr (subst (λ w. BlockedBy level setup past k w e) (same_Some u t (sym is ∙ was)) b)
+
 -- any other outcome
-pub leaves_waiter : (outcome : Outcome) (e k : ℕ) → ((view : View) (rows : Rows) (writes : Writes) → outcome ≢ Listed view rows writes) → ((on : List ℕ) → outcome ≢ Waits on) → LeavesWaiter outcome e k
-leaves_waiter (Listed view rows writes) e k ran waits = ran view rows writes refl
-leaves_waiter (Waits on) e k ran waits = absurd (waits on refl)
-leaves_waiter other e k ran waits = tt
+pub leaves_waiter : (level : Level) (setup : Table) (past : Past) (outcome : Outcome) (e k : ℕ) → ((view : View) (rows : Rows) (writes : Writes) → outcome ≢ Listed view rows writes)
+    → ((on : List ℕ) → outcome ≢ Waits on) → LeavesWaiter level setup past outcome e k
+leaves_waiter level setup past (Listed view rows writes) e k lists waits = absurd (lists view rows writes refl)
+leaves_waiter level setup past (Waits on) e k lists waits = absurd (waits on refl)
+leaves_waiter level setup past other e k lists waits = tt

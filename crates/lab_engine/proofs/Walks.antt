@@ -1,6 +1,6 @@
 -- Walks to a goal along the graph of who waits for whom.
 use Rattle.std.proofs.Common.{◌∙◌, ap, ◌≡◌, ℕ, ◌≤◌, ◌<◌, ◌==◌, ◌⊎◌, Bool, refl, sym, subst, inl, inr, arith, true, false, List, [], ◌∷◌, length, IsTrue}
-use Rattle.lab_engine.proofs.Common.{false_from_ne_true, list_any, AllByRecursion, eq-eqb, ne_eqb, eqb-true, eqb-false, both_ways, or_cases, or_parts, IsWalk, AllDistinct, Any-from_list_any, list_any_at}
+use Rattle.lab_engine.proofs.Common.{IsRound, waits_for, false_from_ne_true, list_any, AllByRecursion, eq-eqb, ne_eqb, eqb-true, eqb-false, both_ways, or_cases, or_parts, IsWalk, AllDistinct, Any-from_list_any, list_any_at}
 use Rattle.std.specs.List.{IsDistinct}
 use Rattle.std.proofs.lemmas.Map.Steps.{length-le_from_distinct_below}
 use Rattle.lab_engine.proofs.WaitGraphs.{waiter_range}
@@ -89,3 +89,13 @@ once_few graph goal session rest walk once =
       | inl p ↦ omega (arith, eqb-true n 0 p)
       | inr p ↦ omega (arith, (walkers graph goal session rest walk n (found_there n (session ∷ rest) p)).1)
     ]
+
+-- somebody waits for the goal of a walk
+last_waits : (graph : List ℕ) (session goal : ℕ) (rest : List ℕ) → IsWalk graph session rest goal → (waiter : ℕ) × IsTrue (waits_for graph waiter goal)
+last_waits graph session goal [] walk = (session, walk)
+last_waits graph session goal (next ∷ rest) walk = last_waits graph next goal rest walk.1
+
+-- and for each on a cycle
+pub waited_for : (graph : List ℕ) (session : ℕ) (circle : List ℕ) → IsRound graph session circle → (waiter : ℕ) × IsTrue (waits_for graph waiter session)
+waited_for graph session [] round = absurd round
+waited_for graph session (first ∷ rest) round = last_waits graph session session rest round.1

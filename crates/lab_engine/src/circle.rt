@@ -92,5 +92,9 @@ pub fn shortest_circle(
 pub fn is_on_circle(waits: &WaitGraph, session: Session) -> bool
     ensures { IsTrue result ↔ ((circle : List ℕ) × IsRound waits.now session circle) }
 {
+    if waits.waiters(SessionSet::of(&[session])).least().is_none() {
+        // Nobody waits for the session, so no layer need be looked at.
+        return false;
+    }
     first_with(&layers_to(waits, session), session).is_some()
 }

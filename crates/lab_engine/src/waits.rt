@@ -1,6 +1,6 @@
 //! Who waits for whom.
 
-ghost use Rattle.std.specs.Prelude.{◌≡◌, ◌↔◌, ◌∷◌, List, ℕ, false, IfOk, IsSome, IsTrue, MatchOption};
+ghost use Rattle.std.specs.Prelude.{◌≡◌, ◌↔◌, ◌∷◌, ◌⊎◌, ◌==◌, List, ℕ, Some, false, true, IfOk, IsSome, IsTrue, MatchOption};
 ghost use Rattle.lab_table.specs.Table.{Table as PlainTable};
 ghost use Rattle.lab_table.specs.declared.statement.Statement.{Statement as Asked};
 ghost use Rattle.lab_engine.specs.declared.event.Level.{Level as Kind};
@@ -8,7 +8,9 @@ ghost use Rattle.lab_engine.specs.Log.{Past, Txn, waiting};
 ghost use Rattle.lab_engine.specs.Asker.{IsAsker};
 ghost use Rattle.lab_engine.specs.Rules.{IsCircle, IsLegal, MayAsk};
 ghost use Rattle.lab_engine.specs.Recording.{NoneRetryable, IsLeastRetryable};
-ghost use Rattle.lab_engine.specs.Situation.{Describes, DescribesSession};
+ghost use Rattle.lab_engine.specs.Situation.{Describes, DescribesSession, keeps_statements};
+ghost use Rattle.lab_table.specs.Statement.{is_read_only};
+ghost use Rattle.std.specs.FinMap as map;
 ghost use Rattle.lab_engine.specs.WaitsFor.{AreBlockers, AreWaits, WaitsOn};
 ghost use Rattle.lab_engine.specs.SessionBits.{has};
 ghost use Rattle.lab_engine.specs.Released.{IsReleased};
@@ -23,6 +25,7 @@ use crate::session_set::SessionSet;
 use crate::session_state::SessionState;
 use crate::situation::Situation;
 use crate::wait_graph::WaitGraph;
+use lab_history::Writes;
 use lab_table::{NoMemory, Session, Statement, Table};
 use std::alloc::Global;
 
@@ -67,14 +70,43 @@ fn waits_on<R: Rules>(
     rules.blockers(&asker, statement)
 }
 
-/// Whether an event may change whom a session waits for that waits after it, given who waited for whom before it: a
-/// statement that ran may block or free each that waits, the end of a transaction those that waited for it.
-fn may_change(waits: &WaitGraph, event: &LogEvent, session: Session) -> bool
-    ensures { (level : Kind) (setup : PlainTable) (past : Past) → IsLegal level setup (event.now ∷ past) → AreWaits level setup past waits.now → result ≡ false
-        → IsSome (waiting (event.now ∷ past) session) → (other : ℕ) → WaitsOn level setup (event.now ∷ past) session other ↔ WaitsOn level setup past session other }
+/// Whether what another session reads may block this statement, where that is asked (`keeps`): it would write, and it doesn't
+/// wait for that session yet.
+fn may_block_by_reading(keeps: bool, waits_for_it: bool, statement: &Statement) -> bool
+    ensures { result ≡ false → (keeps ≡ false) ⊎ (is_read_only statement.now ≡ true) ⊎ (waits_for_it ≡ true) }
+{
+    if waits_for_it || statement.is_read_only() {
+        return false;
+    }
+    keeps
+}
+
+/// Whether a statement that ran, and wrote this, may block or free another one that waits.
+fn may_touch(keeps: bool, waits_for_it: bool, writes: &Writes, statement: &Statement) -> bool
+    ensures { result ≡ false → IsTrue (map.len writes.now == 0) × ((keeps ≡ false) ⊎ (is_read_only statement.now ≡ true) ⊎ (waits_for_it ≡ true)) }
+{
+    if writes.entries().is_empty() {
+        return may_block_by_reading(keeps, waits_for_it, statement);
+    }
+    true
+}
+
+/// Whether an event may change whom a session waits for that waits with this statement after it, given who waited for whom
+/// before it: a statement that ran may block or free each that waits, the end of a transaction those that waited for it.
+fn may_change(
+    keeps: bool,
+    waits: &WaitGraph,
+    event: &LogEvent,
+    session: Session,
+    statement: &Statement,
+) -> bool
+    ensures { (level : Kind) (setup : PlainTable) (past : Past) → keeps ≡ keeps_statements level → IsLegal level setup (event.now ∷ past) → AreWaits level setup past waits.now
+        → result ≡ false → waiting (event.now ∷ past) session ≡ Some statement.now → (other : ℕ) → WaitsOn level setup (event.now ∷ past) session other ↔ WaitsOn level setup past session other }
 {
     match &event.outcome {
-        Outcome::Rows { .. } => true,
+        Outcome::Rows { writes, .. } => {
+            may_touch(keeps, waits.on(session).has(event.session), writes, statement)
+        }
         Outcome::Waits { .. } => session == event.session,
         outcome => is_over(outcome) && waits.on(session).has(event.session),
     }
@@ -93,7 +125,16 @@ fn on_after<R: Rules>(
         → IsLegal R.kind setup.now (event.now ∷ past) → AreWaits R.kind setup.now past situation.now.waits
         → (other : ℕ) → IsTrue (has result other) ↔ WaitsOn R.kind setup.now (event.now ∷ past) state.now.session other }
 {
-    if state.waits.is_none() || may_change(&situation.waits, event, state.session) {
+    let Some(statement) = &state.waits else {
+        return SessionSet::none();
+    };
+    if may_change(
+        rules.keeps_statements(),
+        &situation.waits,
+        event,
+        state.session,
+        statement,
+    ) {
         return waits_on(rules, setup, situation, state);
     }
     situation.waits.on(state.session)

@@ -1,9 +1,8 @@
-use Rattle.std.proofs.Common.{sym, ap, not, is_some, ◌∙◌}
+use Rattle.std.proofs.Common.{sym, ◌∙◌}
 use Rattle.lab_engine.proofs.waits.on_after.Goals as goal
 
 pub returns : goal.returns
 returns g c = λ past d described legal h other.
     let session = c.args.state.now.session in
-    let some = sym (ap is_some described.waits) ∙ c.is_none.ensures ∙ ap not c.if-is_none.false in
-    let alike = c.may_change.ensures _ _ past legal h c.if-may_change.false some other in
+    let alike = c.may_change.ensures _ _ past c.keeps_statements.ensures legal h c.if-may_change.false (sym described.waits ∙ c.in-Some.is) other in
     ((λ w. alike.1 ((h session other).0 (sym (c.on.ensures other) ∙ w))), (λ w. c.on.ensures other ∙ (h session other).1 (alike.0 w)))
