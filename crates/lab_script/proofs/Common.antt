@@ -7,7 +7,7 @@ pub use Rattle.lab_statement.specs.declared.fault.ScriptFaultKind.{ScriptFaultKi
 pub use Rattle.std.proofs.Common.{T, flat_map, one-add}
 pub use Rattle.std.proofs.Math.Dec.{eqb-suc-zero}
 pub use Rattle.std.proofs.lemmas.Bool.{le-ltb, lt-ltb, ltb-false, ltb-true, ne_eqb, or_parts, true≢false}
-pub use Rattle.std.proofs.lemmas.List.{length-take, map-append, take-append-le, take_at}
+pub use Rattle.std.proofs.lemmas.List.{length-take, take-append-le, take_at}
 pub use Rattle.std.proofs.lemmas.Option.{slice_get_within}
 pub use Rattle.std.proofs.lemmas.Result.{on_ok_weaker}
 pub use Rattle.std.specs.FinMap.{contains_key, empty, find, from_entries, from_entries_push, get-from_entries, insert}
@@ -21,7 +21,7 @@ pub use Rattle.lab_script.specs.FirstFaults.{commands_fault, commands_placed, pa
 pub use Rattle.lab_script.specs.Grammar.{AllDistinct, IsCommand, IsCommands, IsNamedRow, IsRowList, IsRows, IsSetup}
 pub use Rattle.lab_script.specs.Limits.{AllPrint, ScriptPrints, SomeLine, max_commands}
 pub use Rattle.lab_script.specs.PassedTables.{is_behind_set, setup_table, statement_table, statement_tables, token_table, with_named, with_setup_tokens, with_tokens}
-pub use Rattle.lab_script.specs.Printed.{named_rows_or, printed_line, printed_named_row, printed_named_rows, printed_next_row, printed_script, printed_setup}
+pub use Rattle.lab_script.specs.Printed.{named_rows_or, printed_line, printed_named_row, printed_named_rows, printed_script, printed_setup}
 pub use Rattle.lab_script.specs.Ranges.{EntryInRange, LineInRange, ScriptInRange, SessionInRange}
 pub use Rattle.lab_script.specs.Script.{BeginsLongSetup, IsFit, LineSpells, LinesSpell, Spells, TokensSpell, begins_setup, extended, is_ascii_code, is_passed, session_digit, session_of}
 pub use Rattle.lab_script.specs.Tables.{command_table, line_table, script_tables, setup_tables, tables_so_far, with_all, with_any, with_commands, with_lines, with_rows}
@@ -35,7 +35,7 @@ pub use Rattle.lab_statement.proofs.Joined.{followed}
 pub use Rattle.lab_statement.proofs.PrintedNumbers.{comma_leads, decimal_plain}
 pub use Rattle.lab_statement.proofs.PrintedStatements.{row_fits, row_leads, row_tokens, statement_fits, statement_reads, statement_tokens}
 pub use Rattle.lab_statement.proofs.PrintedText.{Leads, all_plain, append_ascii, append_plain, cut_leads, leads_leads, leads_reads, literal, mark_leads, plain_code, reads_all, word_ends}
-pub use Rattle.lab_statement.proofs.PutTexts.{put_behind, puts_rest, room_tells, same_length}
+pub use Rattle.lab_statement.proofs.PutTexts.{first_put, room_tells, same_length}
 pub use Rattle.lab_statement.proofs.Readings.{reads, reads_is, stops_as}
 pub use Rattle.lab_statement.proofs.StatementTaken.{end_gives, name_of_gives, nothing_gives, row_taken, statement_taken}
 pub use Rattle.lab_statement.proofs.Takes.{Any, Gives, Takes, each_gives, found, found_gives, further, gives, gives_of, if_gives, made, stop_of, stops, taken, then_gives, token_gives, tokens_give}

@@ -11,7 +11,6 @@ pub mod LongTexts
 pub mod StatementLines
 pub mod RemainingTranscript
 pub mod BrokenLimits
-pub mod NamedRows
 pub mod PrintedSetups
 pub mod PrintedScripts
 mod LineFaults

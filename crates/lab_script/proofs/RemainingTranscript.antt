@@ -1,5 +1,5 @@
 -- What a run holds in the end, from what it holds now and the lines that are left: each step of the run keeps it.
-use Rattle.lab_script.proofs.Common.{◌≡◌, ℕ, ◌+◌, Bool, true, false, cond, not, List, [], ◌∷◌, ◌++◌, Option, refl, sym, ap, ◌∙◌, append_assoc, ◌&&◌, Table, Statement, Line, PrintFault, Transaction, inside_after, is_begin, transaction_of, transactions, body_of, table_after, transaction_text, serial_text, TranscriptView, shown_of, shown, first_broken, limit_broken}
+use Rattle.lab_script.proofs.Common.{◌≡◌, ℕ, ◌+◌, Bool, true, cond, not, List, [], ◌∷◌, ◌++◌, Option, refl, sym, ap, ◌∙◌, append_assoc, ◌&&◌, Table, Statement, Line, PrintFault, Transaction, inside_after, is_begin, transaction_of, transactions, body_of, table_after, transaction_text, serial_text, TranscriptView, shown_of, shown, first_broken, limit_broken}
 use Rattle.std.specs.Option.{option_or}
 
 -- a transcript to which transactions are told from a table, after so many
@@ -43,11 +43,3 @@ transaction_line n output table inside line rest later total so_far here is next
     output_first n output next table new (transaction_of line.session later) others text broken left
     ∙ sym (ap (λ (b : Bool). output_on n output table ((cond b (transaction_of line.session later ∷ []) []) ++ others)) is)
     ∙ ap (output_by n output table inside) (sym here) ∙ so_far
-
--- a line that begins none
-pub other_line : (n : ℕ) (output : TranscriptView) (table : Table) (inside : ℕ → Bool) (line : Line) (rest later : List Line) (total : TranscriptView)
-    → output_by n output table inside rest ≡ total → rest ≡ line ∷ later → (is_begin line.command && not (inside line.session)) ≡ false
-    → output_by n output table (inside_after inside line.session line.command) later ≡ total
-other_line n output table inside line rest later total so_far here is =
-    let others = transactions (inside_after inside line.session line.command) later in
-    sym (ap (λ (b : Bool). output_on n output table ((cond b (transaction_of line.session later ∷ []) []) ++ others)) is) ∙ ap (output_by n output table inside) (sym here) ∙ so_far

@@ -1,5 +1,5 @@
 -- What is read as a setup is in the grammar, and reading stops with few kinds of faults.
-use Rattle.lab_script.proofs.Common.{from_entries_push, rows_total, rows_apart, ◌≡◌, ◌⊎◌, ℕ, zero, suc, ◌<◌, ◌≤◌, List, [], ◌∷◌, ◌++◌, length, Option, Some, None, refl, sym, ap, subst, ◌∙◌, append_assoc, inl, inr, ℤ, nat_le, find, contains_key, empty, leb-true, leb-false, Row, row_cmp, numbered, Table, test_name, Token, ScriptFaultKind, IsEnd, after, Reads, ◌>>=◌, if_found, row_read, no_rows_at, is_word, Gives, gives, stops, Takes, then_gives, each_gives, if_gives, found_gives, further, made, token_gives, row_taken, name_of_gives, nothing_gives, row_table_read, named_row_read, row_onto_read, repeated_read, rows_read, table_read, setup_end_read, setup_read, setup_ended, IsNamedRow, IsRows, IsRowList, IsSetup, AllDistinct, max_line_bytes, printed_setup, BeginsLongSetup, Any, arith, gives_of, length-append}
+use Rattle.lab_script.proofs.Common.{from_entries_push, rows_total, rows_apart, ◌≡◌, ◌⊎◌, ℕ, zero, suc, ◌<◌, ◌≤◌, List, [], ◌∷◌, ◌++◌, length, Option, Some, None, refl, sym, ap, subst, ◌∙◌, append_assoc, inl, inr, ℤ, nat_le, find, contains_key, empty, leb-true, leb-false, Row, row_cmp, numbered, Table, test_name, Token, ScriptFaultKind, IsEnd, after, Reads, ◌>>=◌, if_found, row_read, no_rows_at, is_word, Gives, gives, stops, Takes, then_gives, each_gives, if_gives, found_gives, further, made, token_gives, row_taken, name_of_gives, nothing_gives, row_table_read, named_row_read, row_onto_read, repeated_read, rows_read, table_read, setup_end_read, setup_read, setup_ended, IsNamedRow, IsRows, IsRowList, IsSetup, AllDistinct, max_line_bytes, printed_setup, BeginsLongSetup}
 use Rattle.lab_table.specs.declared.word.Word.TheVariants as word
 use Rattle.lab_statement.specs.declared.token.Token.TheVariants as token
 use Rattle.lab_statement.specs.declared.fault.ScriptFaultKind.TheVariants as kinds
@@ -136,9 +136,3 @@ module _ {Fault : ScriptFaultKind → Type 0} (unknown : Fault kinds.UnknownStat
       })) x.1) (λ end ended.
       gives (subst (λ (us : List Token). IsSetup us x.0) (sym text) (subst (IsSetup (token.Word word.Setup ∷ t.front ++ x.1)) (sym t.table)
       (grammar.setup t.spelled t.distinct ended.0 (within (λ u. length (printed_setup u) ≤ max_line_bytes) ended.1)))))))
-
--- behind a row no more is left than before it
-pub row_onto_short : (table : Table) (ts : List Token) (x : Table × List Token) → row_onto_read table ts ≡ Reads x → length x.1 ≤ length ts
-unfolding row_onto_read
-row_onto_short table ts x e = gives_of {Is = λ y. length y.1 ≤ length ts} x (then_gives {Fault = Any} _ (named_row_taken {Fault = Any} tt tt tt tt ts) (λ row h. if_gives (contains_key table row.0.0) (λ is. stops tt)
-    (λ isnt. gives (omega (arith, ap length h.text, length-append h.front row.1))))) e

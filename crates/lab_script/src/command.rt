@@ -43,7 +43,7 @@ fn push_ended_command(
 ) -> Result<(), Refusal>
     ensures { Comes (λ x. (commands.new.items, parser.new)) result parser.new (step_read room commands.old.items parser.old) }
 {
-    let short = push_command(alloc, parser, commands)?;
+    let short = push(alloc, parser, commands)?;
     parser.ended()?;
     if short && commands.len() <= room {
         Ok(())
@@ -55,11 +55,7 @@ fn push_ended_command(
 /// Reads a statement without its end, and adds its command, if it gives one. Answers whether its printed form is as short
 /// as it must be.
 #[tactic(auto, unfolding(crate::specs::FirstFaults::added_read))]
-fn push_command(
-    alloc: Global,
-    parser: &mut Parser,
-    commands: &mut Vec<Command>,
-) -> Result<bool, Refusal>
+fn push(alloc: Global, parser: &mut Parser, commands: &mut Vec<Command>) -> Result<bool, Refusal>
     ensures { Comes (λ short. ((commands.new.items, short), parser.new)) result parser.new (added_read commands.old.items parser.old) }
 {
     let Some(command) = command(alloc, parser)? else {

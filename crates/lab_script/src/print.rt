@@ -3,9 +3,8 @@
 ghost use Rattle.std.specs.Prelude.{◌≡◌, ◌≢◌, ◌≤◌, IfOk, MatchBool, OnOk, Err, length};
 ghost use Rattle.lab_script.specs.Printed.{printed_script, renumbered};
 ghost use Rattle.lab_script.specs.Script.{Spells};
-ghost use Rattle.lab_script.specs.Limits.{AllPrint, ScriptPrints, SomeLine, BreaksDepth, BreaksLength, BreaksTables};
+ghost use Rattle.lab_script.specs.Limits.{AllPrint, ScriptPrints, BreaksDepth, BreaksLength, BreaksTables};
 ghost use Rattle.lab_script.specs.Tables.{script_tables};
-ghost use Rattle.lab_statement.specs.Limits.{IsLong};
 ghost use Rattle.lab_table.specs.TableSet.{max_tables};
 
 use crate::limits::MAX_COMMANDS;
@@ -62,7 +61,7 @@ fn has_few_tables(script: &Script) -> bool
 fn check_commands(script: &Script) -> Result<(), PrintFault>
     ensures prints { OnOk result (AllPrint script.now.lines) }
     ensures too_deep { result ≡ Err PrintFault.TooDeep → BreaksDepth script.now }
-    ensures too_long { result ≡ Err PrintFault.TooLong → SomeLine IsLong script.now }
+    ensures too_long { result ≡ Err PrintFault.TooLong → BreaksLength script.now }
     ensures few_tables { result ≢ Err PrintFault.TooManyTables }
 {
     for line in script.lines.as_slice() {

@@ -1,6 +1,6 @@
 //! The setup, read from tokens.
 
-ghost use Rattle.std.specs.Prelude.{◌≡◌, [], Some, None, IfOk, MatchBool};
+ghost use Rattle.std.specs.Prelude.{◌≤◌, length, ◌≡◌, [], Some, None, IfOk, MatchBool};
 ghost use Rattle.lab_statement.specs.Stopping.{Comes};
 ghost use Rattle.lab_script.specs.FirstFaults.{named_row_read, row_table_read, row_onto_read, rows_read, setup_end_read, setup_fault, setup_read, table_read};
 ghost use Rattle.lab_script.specs.Grammar.{IsSetup};
@@ -17,7 +17,8 @@ use std::alloc::Global;
 /// The table of a row of a setup: the name before the row, or `test` where no word stands there.
 #[tactic(auto, unfolding(crate::specs::FirstFaults::row_table_read, lab_statement::specs::Stopping::name_read))]
 fn row_table(parser: &mut Parser) -> Result<TableName, Refusal>
-    ensures { Comes (λ x. (x, parser.new)) result parser.new (row_table_read parser.old) }
+    ensures reads { Comes (λ x. (x, parser.new)) result parser.new (row_table_read parser.old) }
+    ensures shorter { length parser.new ≤ length parser.old }
 {
     match parser.tokens().split_first() {
         Some((first, _)) if first.is_word() => parser.name(),
@@ -28,7 +29,8 @@ fn row_table(parser: &mut Parser) -> Result<TableName, Refusal>
 /// A row of a setup with its value.
 #[tactic(auto, unfolding(crate::specs::FirstFaults::named_row_read))]
 pub fn named_row(parser: &mut Parser) -> Result<(RowName, Value), Refusal>
-    ensures { Comes (λ x. (x, parser.new)) result parser.new (named_row_read parser.old) }
+    ensures reads { Comes (λ x. (x, parser.new)) result parser.new (named_row_read parser.old) }
+    ensures shorter { length parser.new ≤ length parser.old }
 {
     let table = row_table(parser)?;
     let (id, value) = parser.row()?;
@@ -38,7 +40,8 @@ pub fn named_row(parser: &mut Parser) -> Result<(RowName, Value), Refusal>
 /// Adds a row to the table; DuplicateSetupRow where it is present.
 #[tactic(auto, unfolding(crate::specs::FirstFaults::row_onto_read))]
 fn row_onto(alloc: Global, parser: &mut Parser, table: &mut Table) -> Result<(), Refusal>
-    ensures { Comes (λ x. (table.new, parser.new)) result parser.new (row_onto_read table.old parser.old) }
+    ensures reads { Comes (λ x. (table.new, parser.new)) result parser.new (row_onto_read table.old parser.old) }
+    ensures shorter { length parser.new ≤ length parser.old }
 {
     let row = named_row(parser)?;
     if table.add(alloc, row.0, row.1)? {

@@ -3,8 +3,7 @@
 ghost use Rattle.std.specs.Prelude.{◌≡◌, ◌++◌, ◌≤◌, ◌↔◌, length, IsTrue, OnOk};
 ghost use Rattle.std.specs.FinMap as finite;
 ghost use Rattle.std.specs.Fmt.{decimal};
-ghost use Rattle.std.specs.List.{flat_map};
-ghost use Rattle.lab_script.specs.Printed.{named_rows_or, printed_line, printed_named_row, printed_next_row, printed_script, printed_setup};
+ghost use Rattle.lab_script.specs.Printed.{named_rows_or, printed_line, printed_named_row, printed_script, printed_setup};
 ghost use Rattle.lab_script.specs.Ranges.{EntryInRange, LineInRange, ScriptInRange};
 ghost use Rattle.lab_statement.specs.Each.{Each};
 ghost use Rattle.lab_statement.specs.Limits.{max_line_bytes};
@@ -15,17 +14,11 @@ use itoa::Buffer;
 use lab_statement::{MAX_LINE_BYTES, Room, Sink, put_command, put_row, put_table_name};
 use lab_table::{NoMemory, RowName, Table, Value};
 
-/// Puts a row of any table behind what stands before it.
-fn put_named_row<S: Sink>(
-    out: &mut S,
-    before: &[u8],
-    row: RowName,
-    value: Value,
-) -> Result<(), S::Refusal>
+/// Puts a row of any table.
+fn put_named_row<S: Sink>(out: &mut S, row: RowName, value: Value) -> Result<(), S::Refusal>
     ensures in_range { OnOk result (EntryInRange (row, value)) }
-    ensures text { Puts S.kept S.limit result (S.text out.old) (before.now ++ printed_named_row row value) (S.text out.new) }
+    ensures text { Puts S.kept S.limit result (S.text out.old) (printed_named_row row value) (S.text out.new) }
 {
-    out.put(before)?;
     put_table_name(out, row.table)?;
     put_row(out, row.id, value)
 }
@@ -39,22 +32,13 @@ pub fn put_named_rows<S: Sink>(
     ensures in_range { OnOk result (Each EntryInRange rows.now) }
     ensures text { Puts S.kept S.limit result (S.text out.old) (named_rows_or none.now rows.now) (S.text out.new) }
 {
-    match rows.split_first() {
-        None => out.put(none),
-        Some((first, rest)) => {
-            put_named_row(out, b"", first.0, first.1)?;
-            put_more_rows(out, rest)
-        }
-    }
-}
-
-/// Puts rows of any table behind another one.
-fn put_more_rows<S: Sink>(out: &mut S, rows: &[(RowName, Value)]) -> Result<(), S::Refusal>
-    ensures in_range { OnOk result (Each EntryInRange rows.now) }
-    ensures text { Puts S.kept S.limit result (S.text out.old) (flat_map printed_next_row rows.now) (S.text out.new) }
-{
-    for row in rows {
-        put_named_row(out, b", ", row.0, row.1)?;
+    let Some((first, rest)) = rows.split_first() else {
+        return out.put(none);
+    };
+    put_named_row(out, first.0, first.1)?;
+    for (row, value) in rest {
+        out.put(b", ")?;
+        put_named_row(out, *row, *value)?;
     }
     Ok(())
 }

@@ -1,17 +1,7 @@
 use Rattle.lab_script.proofs.Common.{◌≡◌, sym, ap, subst, ◌∙◌, ℕ, ◌+◌, Bool, List, Line, nil_from_length, arith, TranscriptView, unprintable, transcript, sessions_in}
 use Rattle.lab_script.proofs.BrokenLimits.{broken_in, printed_all}
-use Rattle.lab_script.proofs.RemainingTranscript.{other_line, output_by, transaction_line}
+use Rattle.lab_script.proofs.RemainingTranscript.{output_by, transaction_line}
 use Rattle.lab_script.proofs.serial.run_serial.Goals as goal
-
-pub loop-line-preserved-then-not-starts : goal.loop-line-preserved-then-not-starts
-loop-line-preserved-then-not-starts c =
-    let total : TranscriptView = record { text = transcript c.args.script.now; unprintable = unprintable c.args.script.now } in
-    record {
-      output = subst (λ (after : ℕ → Bool). output_by c.loop-line.number c.loop-line.output c.loop-line.table after c.in-Some.later.now ≡ total) (sym c.note.ensures)
-          (other_line c.loop-line.number c.loop-line.output c.loop-line.table (sessions_in c.loop-line.inside) c.in-Some.line.now c.loop-line.rest.now c.in-Some.later.now total
-          c.loop-line.invariant.output c.in-Some.ensures.cases.0 (sym c.begins-starts.ensures ∙ c.if-not-starts.true));
-      few = omega (arith, c.in-Some.ensures.cases.1);
-    }
 
 pub loop-line-preserved : goal.loop-line-preserved
 loop-line-preserved c =

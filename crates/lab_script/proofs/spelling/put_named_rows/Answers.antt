@@ -1,15 +1,26 @@
-use Rattle.lab_script.proofs.Common.{ap, ◌∙◌, ℕ, length, length-append, flat_map, arith, err_from_is_err_and, named_rows_or, printed_named_row, printed_next_row, puts_rest}
-use Rattle.lab_script.proofs.NamedRows.{rows_joined}
+use Rattle.lab_script.proofs.Common.{◌≡◌, ◌∷◌, ◌++◌, map, drop, ap, sym, subst, ◌∙◌, arith, rules, common_steps, Each, EntryInRange, joined, printed_named_row, printed_named_rows, followed, first_put, same_length}
 use Rattle.lab_script.proofs.spelling.put_named_rows.Goals as goal
 
-pub returns-in_err-put_named_row-in-Some-clause-text : goal.returns-in_err-put_named_row-in-Some-clause-text
-returns-in_err-put_named_row-in-Some-clause-text g c =
-    let p = err_from_is_err_and c.from_residual.result c.from_residual.ensures.1 in
-    let is = ap (named_rows_or c.args.none.now) c.in-Some.ensures.cases.0 ∙ rows_joined c.in-Some.first.now c.in-Some.rest.now in
-    rw p.1 (omega (arith, c.in_err-put_named_row-in-Some.ensures.text, ap length is, length-append {A = ℕ}))
-
-pub returns-in_ok-put_named_row-in-Some-clause-text : goal.returns-in_ok-put_named_row-in-Some-clause-text
-returns-in_ok-put_named_row-in-Some-clause-text g c =
+pub loop-row-init : goal.loop-row-init
+loop-row-init g c =
+    let kept = g.S.Sink.kept in
+    let old = g.S.Sink.text c.args.out.now in
     let first = c.in-Some.first.now in
-    puts_rest g.S.Sink.kept g.S.Sink.limit c.put_more_rows.result _ (printed_named_row first.0 first.1) (flat_map printed_next_row c.in-Some.rest.now) _ _ _
-    c.in_ok-put_named_row-in-Some.ensures.text c.put_more_rows.ensures.text (ap (named_rows_or c.args.none.now) c.in-Some.ensures.cases.0 ∙ rows_joined first c.in-Some.rest.now)
+    let rest = c.in-Some.rest.now in
+    let whole : c.args.rows.now ≡ first ∷ rest = c.in-Some.ensures.cases.0 in
+    let put : g.S.Sink.text c.put_named_row.new.out ≡ old ++ map kept (printed_named_row first.0 first.1) = search rules in
+    let fit : EntryInRange first = search rules in
+    record {
+      in_range = λ fits. subst (Each EntryInRange) (sym whole) (fit, fits);
+      text = first_put kept old (printed_named_row first.0 first.1) (printed_named_rows rest) put ∙ ap (λ rows. old ++ map kept (joined (printed_named_rows rows))) (sym whole);
+    }
+
+pub returns-in_err-put : goal.returns-in_err-put
+returns-in_err-put g c =
+    let long = same_length g.S.Sink.kept (g.S.Sink.text c.loop-row.out) (followed (printed_named_rows (drop c.loop-row.row-index c.in-Some.rest.now))) (g.S.Sink.text c.args.out.now) (joined (printed_named_rows c.args.rows.now)) c.loop-row.invariant.text in
+    grind (arith, common_steps, long)
+
+pub returns-in_err-put_named_row-2 : goal.returns-in_err-put_named_row-2
+returns-in_err-put_named_row-2 g c =
+    let long = same_length g.S.Sink.kept (g.S.Sink.text c.loop-row.out) (followed (printed_named_rows (drop c.loop-row.row-index c.in-Some.rest.now))) (g.S.Sink.text c.args.out.now) (joined (printed_named_rows c.args.rows.now)) c.loop-row.invariant.text in
+    grind (arith, common_steps, long)

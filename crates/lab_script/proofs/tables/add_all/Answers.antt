@@ -11,12 +11,3 @@ returns-then-not-add_any g c =
     over_all g.T.NamesTable.named names _ x (drop (i + 1) xs)
     (subst (λ t. 4 < length (with_any names t)) c.table.ensures c.if-not-add_any.ensures)
     (ap (with_all g.T.NamesTable.named names) (sym (drop_more xs i x c.loop-item-test.true ∙ ap (λ y. y ∷ drop (i + 1) xs) (sym c.item-item.is))) ∙ c.loop-item.invariant)
-
-pub loop-item-preserved : goal.loop-item-preserved
-loop-item-preserved g c =
-    let xs = c.args.items.now in
-    let i = c.loop-item.item-index in
-    let x = c.item-item.result in
-    let all = with_all g.T.NamesTable.named in
-    ap (λ names. all names (drop (i + 1) xs)) (c.if-not-add_any.ensures ∙ ap (with_any c.loop-item.tables.names) c.table.ensures)
-    ∙ ap (all c.loop-item.tables.names) (sym (drop_more xs i x c.loop-item-test.true ∙ ap (λ y. y ∷ drop (i + 1) xs) (sym c.item-item.is))) ∙ c.loop-item.invariant
