@@ -6,6 +6,8 @@
 #[cfg(test)]
 mod alike;
 #[cfg(test)]
+mod bare;
+#[cfg(test)]
 mod chain;
 #[cfg(test)]
 mod inputs;
@@ -23,6 +25,8 @@ mod refused;
 mod refused_calls;
 #[cfg(test)]
 mod refused_edges;
+#[cfg(test)]
+mod refused_logs;
 #[cfg(test)]
 mod refused_statements;
 #[cfg(test)]

@@ -11,7 +11,7 @@ use std::alloc::Global;
 use std::process::Abort;
 use std::test::Fail;
 
-static CALLS: [Call; 23] = [
+static CALLS: [Call; 24] = [
     Call::ByRowCopy,
     Call::NumbersCopy,
     Call::TableCopy,
@@ -30,6 +30,7 @@ static CALLS: [Call; 23] = [
     Call::VersionsOverlay,
     Call::VersionsOverlaidWith,
     Call::RecordingOf,
+    Call::RecordingFromLog,
     Call::CheckLocal,
     Call::Edges,
     Call::DependenciesOf,

@@ -1,6 +1,8 @@
 //! Calls of the libraries up to the dependencies, with an allocation refused: each says whether it answers what it is
 //! to answer.
 
+ghost use Rattle.std.specs.Prelude.{◌≡◌, IfOk};
+
 use crate::inputs::{Inputs, Lists, Named, delete};
 use crate::refusal::refuse;
 use crate::refused_edges::is_right_of_dependencies;
@@ -32,6 +34,7 @@ pub enum Call {
     VersionsOverlay,
     VersionsOverlaidWith,
     RecordingOf,
+    RecordingFromLog,
     CheckLocal,
     Edges,
     DependenciesOf,
@@ -151,21 +154,64 @@ fn is_alike(made: &Recording, setup: &Table, history: &History) -> bool {
         && made.history().end_table().rows() == history.end_table().rows()
 }
 
-/// Makes the recording of a recording's log again.
-fn is_recorded(alloc: Global, recording: &Recording) -> Result<bool, NoMemory> {
-    let history = recording.history();
-    if recording.log().len() > MAX_EVENTS {
-        return Ok(false);
-    }
-    match Recording::of(alloc, recording.level(), recording.setup(), recording.log()) {
+/// Whether a recording of seven events was made, with this table and a history with the end table of this one.
+fn is_made(
+    made: Result<Recording, RecordFault>,
+    setup: &Table,
+    history: &History,
+) -> Result<bool, NoMemory> {
+    match made {
         Ok(made) => {
-            let alike = is_alike(&made, recording.setup(), history);
+            let alike = is_alike(&made, setup, history);
             drop(made);
             Ok(alike)
         }
         Err(RecordFault::NoMemory) => Err(AllocError),
         Err(RecordFault::OverLimit { .. }) => Ok(false),
     }
+}
+
+/// Makes the recording of a recording's log again.
+fn is_recorded(alloc: Global, recording: &Recording) -> Result<bool, NoMemory> {
+    let history = recording.history();
+    if recording.log().len() > MAX_EVENTS {
+        return Ok(false);
+    }
+    let made = Recording::of(alloc, recording.level(), recording.setup(), recording.log());
+    is_made(made, recording.setup(), history)
+}
+
+/// A copy of a log.
+fn copied(alloc: Global, log: &[LogEvent]) -> Result<Vec<LogEvent>, NoMemory>
+    ensures { IfOk result (λ copy. copy.items ≡ log.now) }
+{
+    let mut events = Vec::new(alloc);
+    for event in log {
+        events.push(LogEvent {
+            session: event.session,
+            command: event.command.copy(alloc)?,
+            outcome: event.outcome.copy(alloc)?,
+        })?;
+    }
+    Ok(events)
+}
+
+/// Makes the recording of a copy of a recording's log, with an allocation of that refused.
+fn is_recorded_from_log(
+    alloc: Global,
+    growth: u16,
+    recording: &Recording,
+) -> Result<bool, NoMemory> {
+    let history = recording.history();
+    if recording.log().len() > MAX_EVENTS {
+        return Ok(false);
+    }
+    refuse(alloc, 0);
+    let setup = recording.setup().copy(alloc)?;
+    let log = copied(alloc, recording.log())?;
+    refuse(alloc, growth);
+    let made = Recording::from_log(alloc, recording.level(), setup, log);
+    is_made(made, recording.setup(), history)
 }
 
 /// Makes a call with an allocation refused, and says whether it answers what it is to answer.
@@ -188,6 +234,7 @@ pub fn is_right(alloc: Global, growth: u16, call: Call, inputs: &Inputs) -> Resu
         Call::VersionsWritten | Call::VersionsOverlay | Call::VersionsOverlaidWith =>
             is_right_of_overlays(alloc, call, inputs),
         Call::RecordingOf => is_recorded(alloc, &inputs.run.recording),
+        Call::RecordingFromLog => is_recorded_from_log(alloc, growth, &inputs.run.recording),
         Call::CheckLocal
         | Call::Edges
         | Call::DependenciesOf

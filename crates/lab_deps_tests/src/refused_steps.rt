@@ -15,7 +15,7 @@ use std::process::Abort;
 use std::test::Fail;
 
 /// Two transactions update one row.
-const TWO_UPDATES: &[u8] =
+pub const TWO_UPDATES: &[u8] =
     b"setup (1, 10);\nbegin; -- T1\nbegin; -- T2\nupdate test set value = 11 where id = 1; -- T1\nupdate test set value = 12 where id = 1; -- T2\ncommit; -- T1\ncommit; -- T2\n";
 
 /// The place of the retry among the events where the second update waits.
@@ -23,10 +23,10 @@ const RETRY: usize = 5;
 
 /// What an engine answered, by a word and up to two numbers: those of a transaction or a session, or a row's listed and
 /// written values.
-type Told = (&'static str, i64, i64);
+pub type Told = (&'static str, i64, i64);
 
 /// The events where the second update waits for the first one's transaction.
-const WAITING: &[Told] = &[
+pub const WAITING: &[Told] = &[
     ("begun", 1, 0),
     ("begun", 2, 0),
     ("rows", 10, 11),
@@ -75,7 +75,7 @@ pub fn told(outcome: &Outcome) -> Told {
 }
 
 /// Whether a log has so many of these events.
-fn has_told(log: &[LogEvent], count: usize, events: &[Told]) -> bool {
+pub fn has_told(log: &[LogEvent], count: usize, events: &[Told]) -> bool {
     for (event, due) in log.iter().zip(events) {
         if told(&event.outcome) != *due {
             return false;
@@ -86,11 +86,11 @@ fn has_told(log: &[LogEvent], count: usize, events: &[Told]) -> bool {
 
 /// How the turns of a play are taken.
 #[derive(Clone, Copy, Debug)]
-struct Play {
+pub struct Play {
     /// Whether the second update waits for the first one's transaction.
-    waits: bool,
+    pub waits: bool,
     /// Whether a call answers a copy of what it logs.
-    copies: bool,
+    pub copies: bool,
 }
 
 /// What an engine says of a session: whether it is active, whether it waits, and whether it is the retryable one.
@@ -175,7 +175,7 @@ fn turn<E: Engine>(
 }
 
 /// Takes the turns of the events before a place.
-fn turns_before<E: Engine>(
+pub fn turns_before<E: Engine>(
     alloc: Global,
     engine: &mut E,
     lines: &[Line],
@@ -221,7 +221,7 @@ fn is_turn_refused<E: Engine>(
 }
 
 /// The same of a fresh engine, which takes the turns before that.
-fn is_refused<E: Engine + Drop>(
+pub fn is_refused<E: Engine + Drop>(
     alloc: Global,
     engine: E,
     lines: &[Line],

@@ -1,0 +1,104 @@
+//! The calls that an engine need not have of its own, on one that has none of them, and the logs that engines are given
+//! up for, with each allocation refused in turn.
+
+use crate::bare::Bare;
+use crate::refusal::{refuse, was_refused};
+use crate::refused_steps::{Play, TWO_UPDATES, WAITING, has_told, is_refused, turns_before};
+use lab_engine::Engine;
+use lab_locking::LockEngine;
+use lab_script::{Line, Script, parse_script};
+use std::alloc::Global;
+use std::process::Abort;
+use std::test::Fail;
+
+/// The second update waits, and no call answers what it logs.
+const PLAY: Play = Play {
+    waits: true,
+    copies: false,
+};
+
+/// Gives an engine up for the log of the play, with an allocation refused, and says whether one was; or else what isn't
+/// as it has to be.
+fn is_log_refused<E: Engine + Drop>(
+    alloc: Global,
+    engine: E,
+    lines: &[Line],
+    growth: u16,
+) -> Result<bool, &'static str> {
+    let mut engine = engine;
+    if turns_before(alloc, &mut engine, lines, PLAY, WAITING.len()).is_err() {
+        drop(engine);
+        return Err("memory");
+    }
+    refuse(alloc, growth);
+    let answer = engine.into_log(alloc);
+    let refused = was_refused(alloc);
+    let Ok(log) = answer else {
+        return if refused { Ok(true) } else { Err("a log") };
+    };
+    let is_told = has_told(&log, WAITING.len(), WAITING);
+    drop(log);
+    if is_told {
+        Ok(refused)
+    } else {
+        Err("the events of the play")
+    }
+}
+
+/// Has an engine that has the required calls alone take its turn at a place of the play, or behind the last give up its
+/// log.
+fn is_bare_refused(
+    alloc: Global,
+    script: &Script,
+    place: usize,
+    growth: u16,
+) -> Result<bool, &'static str> {
+    let setup = script.setup.copy(alloc).ok().ok_or("memory")?;
+    let engine = Bare::new(LockEngine::new(alloc, setup));
+    let lines = script.lines.as_slice();
+    if place < WAITING.len() {
+        is_refused(alloc, engine, lines, PLAY, place, growth)
+    } else {
+        is_log_refused(alloc, engine, lines, growth)
+    }
+}
+
+/// Fails where that isn't right with an allocation refused, or has no last allocation.
+fn shows_place(
+    rt: &impl Abort,
+    alloc: Global,
+    script: &Script,
+    place: usize,
+) -> Result<(), &'static str> {
+    let mut answered = false;
+    for growth in 1..1_000u16 {
+        if !is_bare_refused(alloc, script, place, growth)? {
+            answered = true;
+            break;
+        }
+    }
+    assert!(rt; answered, "event {place}");
+    Ok(())
+}
+
+/// Fails where it isn't so of each place, or where a journal's log takes memory.
+fn shows_logs(rt: &impl Abort, alloc: Global, script: &Script) -> Result<(), &'static str> {
+    for place in 0..=WAITING.len() {
+        shows_place(rt, alloc, script, place)?;
+    }
+    let setup = script.setup.copy(alloc).ok().ok_or("memory")?;
+    let engine = LockEngine::new(alloc, setup);
+    let refused = is_log_refused(alloc, engine, script.lines.as_slice(), 1)?;
+    assert!(rt; !refused, "a journal's log");
+    Ok(())
+}
+
+#[test]
+fn calls_of_any_engine_that_are_refused_memory_answer_so(rt: HostRuntime) -> Result<(), Fail> {
+    let script = parse_script(rt.alloc(), TWO_UPDATES);
+    let script = script.ok().ok_or("a script")?;
+    let shown = shows_logs(&rt, rt.alloc(), &script);
+    drop(script);
+    shown?;
+    Ok(())
+}
