@@ -26,7 +26,7 @@ pub use Rattle.std.proofs.lemmas.Bool.{and_from, and_parts, and_right, both_ways
 pub use Rattle.std.proofs.lemmas.List.{append-nil, drop_all, drop_more, get_or-replicate, get_or-set_other, get_or-set_same, get_or_default, length-map, length-reverse, length-set, length-take-le, map-append, reverse-append, reverse-reverse, take-append-drop, take_more}
 pub use Rattle.std.specs.FinMap.{FinMap, empty, entries, entries_sorted, find, from_sorted, get, get-empty, get-entries, get-from_sorted, get-insert, insert, is_sorted, put}
 pub use Rattle.std.specs.FinMap.Entries.{below_all, by_order, find-put, is_sorted-put}
-pub use Rattle.lab_engine.specs.Rules.{BlockedBy, Blocks, Conflicts, HoldsWrite, IsBelow, IsChain, IsCircle, IsEffect, IsFree, IsInsertOf, IsLegal, IsUpdate, MayAsk, MayCommit, Permitted, in_view}
+pub use Rattle.lab_engine.specs.Rules.{Asks, BlockedBy, Blocks, Conflicts, Gives, HoldsWrite, IsBelow, IsChain, IsCircle, IsEffect, IsFree, IsInsertOf, IsLegal, IsUpdate, MayAsk, MayCommit, Permitted, in_view}
 pub use Rattle.lab_engine.specs.Situation.{Agree, Describes, DescribesAll, DescribesRows, DescribesSession, HasPlaces, HasRoom, HoldsOutcome, IsRunning, all_sessions, grown, has_written, kept_of, keeps_statements, kept_statements, running_of, statements_of, waiting_of, written_by}
 pub use Rattle.lab_engine.specs.KeptRows.{IsReadyAt, IsSame, chain_in, chain_kept, kept_at, pending_in, pending_kept}
 pub use Rattle.lab_engine.specs.Kept.{IsReady, IsRoomy, Kept, count, pending_of}
@@ -48,7 +48,7 @@ pub use Rattle.lab_engine.specs.Others.{IsOther}
 pub use Rattle.std.proofs.lemmas.Bool.Decides.{eqb_tells, same_from_decides}
 pub use Rattle.lab_engine.specs.Merging.{initial_entry, insert_each, insert_missing, merged, without_row, written_entry, written_version}
 pub use Rattle.std.proofs.lemmas.Result.{IfOk-weaker, on_ok_weaker}
-pub use Rattle.lab_engine.specs.LeastCircle.{IsLeastCircle, NotAfter}
+pub use Rattle.lab_engine.specs.LeastCircle.{IsLeastCircle, NamesLeastOf, NamesLeastOfWaiting, NotAfter}
 pub use Rattle.std.proofs.lemmas.Grind.{get_or_default_zero, reverse_onto}
 pub use Rattle.lab_table.proofs.Orderings.{eq_reversed, is_less, turned, turned_back}
 pub use Rattle.std.specs.List.Sorted.{IsSortedByKey, IsStableByKey, IsStrictlyIncreasing}
@@ -64,6 +64,13 @@ pub use Rattle.lab_history.specs.HistoryRules.{AllDistinct, distinct_rows, disti
 pub use Rattle.lab_table.proofs.SortedRows.{lower, sorted-map}
 pub use Rattle.std.proofs.Math.Bool.{and_comm, or-false}
 pub use Rattle.std.proofs.lemmas.List.Sorted.{IsPermutation-reverse, answers_always, list_any-IsPermutation, ranks_by, sorted_far}
+pub use Rattle.lab_engine.specs.declared.event.Level.TheVariants.{Committed as ReadCommitted, Locking, Snapshot}
+pub use Rattle.lab_engine.specs.Overlay.{AreMatching, laid_over, matching_entries, matching_rows, name_over, seen_of, seen_over}
+pub use Rattle.lab_engine.specs.Asker.{AreOthers, IsAsker, seen_in}
+pub use Rattle.lab_engine.specs.Answer.{Answers, HasPlacesOfEnds, IsRetryChoice, Keeps, MayGive, active_among}
+pub use Rattle.lab_engine.specs.EventQuery.{is_ending, is_over}
+pub use Rattle.lab_engine.specs.Engine.{Appends, IsRetry, IsStep}
+pub use Rattle.lab_table.specs.Sessions.{of_session}
 
 pub none_some : {A : Type 0} {x : A} (P : Type 0) → ◌≡◌ {A = Option A} None (Some x) → P
 none_some P h = cc

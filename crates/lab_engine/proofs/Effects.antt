@@ -1,12 +1,11 @@
 -- What is made of each row that is seen, row by row, and which row keeps a statement from running.
 use Rattle.std.proofs.Common.{◌≡◌, ◌∙◌, refl, sym, ap, subst, ℕ, ℤ, true, false, cond, T, List, [], ◌∷◌, is_lt, Option, Some, None, option_map, option_and_then}
-use Rattle.lab_engine.proofs.Common.{Written, cons_option, option_or, FinMap, find, is_sorted, get, entries, entries_sorted, get-entries, from_sorted, get-from_sorted, below_all, Row, row_cmp, row_eq, State, Version, inserted, listed, written, fails, Statement, same_row, find_below, both, joined, state_value, new_states, is_read_only, with_row, each_row, stored, value_rewritten, change_is}
+use Rattle.lab_engine.proofs.Common.{AreMatching, FinMap, Row, State, Statement, Version, Written, below_all, both, change_is, cons_option, each_row, entries, entries_sorted, fails, find, find_below, from_sorted, get, get-entries, get-from_sorted, inserted, is_read_only, is_sorted, joined, listed, new_states, option_or, row_cmp, row_eq, same_row, state_value, stored, value_rewritten, with_row, written}
 use Rattle.lab_history.proofs.FirstValues.{or_none}
 use Rattle.lab_table.specs.Statement as statement
 use Rattle.lab_table.specs.Statement.{matched, kind_inserted, kind_listed, kind_matched}
 use Rattle.lab_table.specs.declared.statement.StatementKind.{StatementKind}
 use Rattle.lab_table.specs.declared.statement.StatementKind.TheVariants.{Select, Update, Insert, Delete}
-use Rattle.lab_engine.specs.Overlay.{AreMatching}
 
 -- before others a row is found with what is made of it
 pub find_made : {B : Type 0} (q row : Row) (rest : List (Row × B)) (o : Option B) → find row_cmp q (cons_option (with_row row o) rest) ≡ cond (row_eq q row) (option_or o (find row_cmp q rest)) (find row_cmp q rest)

@@ -1,9 +1,7 @@
 -- A log keeps a place for the end of each active transaction.
 use Rattle.std.proofs.Common.{◌≡◌, ◌≤◌, ℕ, zero, suc, ◌+◌, cond, Bool, true, false, List, [], ◌∷◌, length, refl, sym, ap, subst, ◌∙◌, arith, Contains, IsSome, is_some, ◌==◌}
-use Rattle.lab_engine.proofs.Common.{eq-eqb, Command, WriteConflict, LogEvent, Outcome, Refused, Past, Txn, active, active_after, Option, None}
+use Rattle.lab_engine.proofs.Common.{Command, LogEvent, None, Option, Outcome, Past, Refused, Txn, WriteConflict, active, active_after, active_among, eq-eqb, is_ending}
 use Rattle.std.proofs.lemmas.List.Sums.{count_by-le-length, sum_by-cons, sum_by-le-sum_by}
-use Rattle.lab_engine.specs.Answer.{active_among}
-use Rattle.lab_engine.specs.EventQuery.{is_ending}
 
 -- 1 where a transaction is active, else 0
 abbrev weight : Option Txn → ℕ

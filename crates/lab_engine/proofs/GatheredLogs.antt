@@ -1,7 +1,6 @@
 -- What a log tells, event by event.
 use Rattle.std.proofs.Common.{◌≡◌, ℕ, ◌+◌, ◌-◌, ◌≤◌, ◌<◌, ◌++◌, reverse, arith, refl, sym, ap, subst, ◌∙◌, Bool, true, false, cond, ◌==◌, List, [], ◌∷◌, map as each, length, take, drop, inl, inr, Option, Some, None, is_some, option_map, slice_get}
-use Rattle.lab_engine.proofs.Common.{none_some, option_or, append-nil, length-map, length-reverse, reverse-append, Row, Table, Command, Op, Outcome, Listed, Committed, Refused, Level, LogEvent, Past, past_of, Txn, is_fatal, active, active_after, commits_after, commits, begun, last_version, version_by, writers, numbers, installers, last_installed, IsLegal, recorded_txn, recorded_txns, number_of, number_after, AreActive, recorded, IsWithin, gathered_by, installing, installed_over, installs_by, same_Some, eqb_tells, reverse_onto, reverse-reverse, take-append-drop, slice_get-map, version_told, Recorded, GatheredTxn}
-use Rattle.lab_table.specs.Sessions.{of_session}
+use Rattle.lab_engine.proofs.Common.{AreActive, Command, Committed, GatheredTxn, IsLegal, IsWithin, Level, Listed, LogEvent, Op, Outcome, Past, Recorded, Refused, Row, Table, Txn, active, active_after, append-nil, begun, commits, commits_after, eqb_tells, gathered_by, installed_over, installers, installing, installs_by, is_fatal, last_installed, last_version, length-map, length-reverse, none_some, number_after, number_of, numbers, of_session, option_or, past_of, recorded, recorded_txn, recorded_txns, reverse-append, reverse-reverse, reverse_onto, same_Some, slice_get-map, take-append-drop, version_by, version_told, writers}
 use Rattle.lab_table.proofs.SessionOrder.{own_value, other_value}
 use Rattle.lab_engine.proofs.EventBounds.{ops_at_most}
 use Rattle.lab_engine.proofs.Numbers.{numbers_hold}

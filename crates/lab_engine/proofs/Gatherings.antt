@@ -1,7 +1,6 @@
 -- What is gathered goes on with the log.
 use Rattle.std.proofs.Common.{◌≡◌, ℕ, ◌+◌, ◌<◌, ◌≤◌, ◌==◌, cond, ◌++◌, arith, refl, sym, ap, subst, ◌∙◌, List, [], ◌∷◌, map as each, length, take, get_or, Option, Some, None}
-use Rattle.lab_engine.proofs.Common.{length-reverse, get, get-empty, Row, row_cmp, Table, Level, LogEvent, Outcome, Committed, Past, past_of, active, IsLegal, number_of, number_after, same_Some, AreActive, recorded, txns_after, gathered_by, installing, IsWithin, installed_over, installs_by, numbers_of, Gathers, take_more, length-take-le, empty, IsShort, GatheredTxn}
-use Rattle.lab_table.specs.Sessions.{of_session}
+use Rattle.lab_engine.proofs.Common.{AreActive, Committed, GatheredTxn, Gathers, IsLegal, IsShort, IsWithin, Level, LogEvent, Outcome, Past, Row, Table, active, empty, gathered_by, get, get-empty, installed_over, installing, installs_by, length-reverse, length-take-le, number_after, number_of, numbers_of, of_session, past_of, recorded, row_cmp, same_Some, take_more, txns_after}
 use Rattle.lab_engine.specs.declared.gathering.Gathering.{Gathering}
 use Rattle.lab_engine.proofs.Runs.{past_of-push}
 use Rattle.lab_engine.proofs.GatheredLogs.{legal_front, active_goes, within, few_ops, installed_goes, installers_go}

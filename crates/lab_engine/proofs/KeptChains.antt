@@ -1,7 +1,6 @@
 -- What is made of what is kept of rows, by rising row.
 use Rattle.std.proofs.Common.{◌≡◌, ◌∙◌, ℕ, refl, sym, ap, subst, cond, T, List, [], ◌∷◌, Option, Some, None, option_and_then, is_lt, is_eq, Less}
-use Rattle.lab_engine.proofs.Common.{option_or, AllByRecursion, find, is_sorted, below_all, Row, row_cmp, joined, last_before, Kept, Version, chain_kept, pending_kept, each_row}
-use Rattle.lab_engine.specs.Overlay.{seen_of}
+use Rattle.lab_engine.proofs.Common.{AllByRecursion, Kept, Row, Version, below_all, chain_kept, each_row, find, is_sorted, joined, last_before, option_or, pending_kept, row_cmp, seen_of}
 use Rattle.std.specs.List.Sorted.{IsStrictlySortedBy}
 use Rattle.std.specs.Map.{keys_of, lookup}
 use Rattle.std.specs.BTreeMap.{is_at}

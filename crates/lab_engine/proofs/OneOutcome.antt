@@ -1,8 +1,6 @@
 -- After a log there is one answer to a command, and one event that a step or a retry appends.
 use Rattle.std.proofs.Common.{◌≡◌, inl, inr, ℕ, ℤ, option_map, Ordering, Less, Equal, Greater, refl, sym, ap, subst, ◌∙◌, arith, List, [], ◌∷◌, IsTrue, ◌≢◌, ◌++◌, Some, None, Option, IsSome, is_some}
-use Rattle.lab_engine.proofs.Common.{none_some, row_cmp, rows_apart, IsBelow, IsInsertOf, IsUpdate, both_ways, same_Some, Row, Table, Rows, Writes, fails, Statement, Command, Commit, Run, same_rows, View, Level, DuplicateKey, OutOfRange, Deadlock, WriteConflict, Outcome, Listed, Waits, Refused, Past, Txn, writers, commits, seen, BlockedBy, IsFree, IsChain, IsCircle, IsEffect, MayCommit, Conflicts, turned, update_inserts_none, some_is, Busy, LogEvent, past_of, waiting, Permitted}
-use Rattle.lab_engine.specs.declared.event.Level.TheVariants.{Snapshot}
-use Rattle.lab_engine.specs.Answer.{Answers}
+use Rattle.lab_engine.proofs.Common.{Answers, BlockedBy, Busy, Command, Commit, Conflicts, Deadlock, DuplicateKey, IsBelow, IsChain, IsCircle, IsEffect, IsFree, IsInsertOf, IsUpdate, Level, Listed, LogEvent, MayCommit, OutOfRange, Outcome, Past, Permitted, Refused, Row, Rows, Run, Snapshot, Statement, Table, Txn, View, Waits, WriteConflict, Writes, both_ways, commits, fails, none_some, past_of, row_cmp, rows_apart, same_Some, same_rows, seen, some_is, turned, update_inserts_none, waiting, writers}
 use Rattle.lab_engine.proofs.Circles.{one_least_circle}
 use Rattle.lab_engine.proofs.RisingLists.{same_rising, before_end, none_before}
 use Rattle.lab_engine.proofs.AnswerKinds.{FreeAnswer, HeldAnswer, TxnAnswer, IdleAnswer, KnownAnswer, IsFirstFailing, IsLeastConflict, answer_known}

@@ -5,12 +5,10 @@ use Rattle.std.proofs.lemmas.List.Elements.{filter_map-append}
 use Rattle.std.specs.List.Sorted.{IsStrictlySortedBy}
 use Rattle.std.specs.Map.{keys_of, lookup}
 use Rattle.std.specs.BTreeMap.{is_at}
-use Rattle.lab_engine.proofs.Common.{cons_option, prefix_len, option_or, find, is_sorted, get, entries, entries_sorted, get-entries, get-from_sorted, Row, row_cmp, row_eq, row_test, State, may_match, Statement, false≢true, same_row, row_eq_self, find-map, Version, initially, comes_after, Kept, each_row, with_row, initial_entry, merged, without_row, no_match, kept_at, false_from_ne_true, from_sorted, VersionName, in_view}
+use Rattle.lab_engine.proofs.Common.{AreMatching, Kept, Row, State, Statement, Version, VersionName, comes_after, cons_option, each_row, entries, entries_sorted, false_from_ne_true, false≢true, find, find-map, from_sorted, get, get-entries, get-from_sorted, in_view, initial_entry, initially, is_sorted, kept_at, laid_over, matching_entries, matching_rows, may_match, merged, name_over, no_match, option_or, prefix_len, row_cmp, row_eq, row_eq_self, row_test, same_row, seen_in, seen_of, seen_over, with_row, without_row}
 use Rattle.lab_table.specs.Statement.{matched}
 use Rattle.lab_engine.specs.KeptRows.{entries_in}
 use Rattle.lab_engine.specs.declared.asker.Asker.{Asker}
-use Rattle.lab_engine.specs.Asker.{seen_in}
-use Rattle.lab_engine.specs.Overlay.{seen_of, seen_over, matching_entries, matching_rows, laid_over, name_over, AreMatching}
 use Rattle.lab_history.proofs.FirstValues.{or_none}
 use Rattle.lab_engine.proofs.Effects.{sorted_each, find_each, find_made}
 use Rattle.lab_engine.proofs.KeptChains.{each_kept, each_found, seen_kept}

@@ -1,7 +1,6 @@
 -- A legal log stays legal by a step.
 use Rattle.std.proofs.Common.{◌≡◌, ℕ, ◌<◌, ◌≤◌, ◌++◌, sym, ap, subst, ◌∙◌, arith, List, [], ◌∷◌, length, length-append}
-use Rattle.lab_engine.proofs.Common.{reverse-append, Table, Command, Level, Outcome, LogEvent, past_of, IsLegal}
-use Rattle.lab_engine.specs.Engine.{Appends}
+use Rattle.lab_engine.proofs.Common.{Appends, Command, IsLegal, Level, LogEvent, Outcome, Table, past_of, reverse-append}
 
 -- the past after one more event
 pub past_of-push : (log : List LogEvent) (event : LogEvent) → past_of (log ++ event ∷ []) ≡ event ∷ past_of log

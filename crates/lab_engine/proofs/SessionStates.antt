@@ -1,8 +1,7 @@
 -- What is kept of a session and of the rows goes on by an event of the session.
 use Rattle.std.proofs.Common.{◌≡◌, ◌∙◌, ℕ, ◌+◌, ◌==◌, ◌||◌, ◌&&◌, Bool, cond, true, false, List, [], ◌∷◌, ◌++◌, map as each, length, reverse, Option, Some, None, refl, sym, ap, subst, arith, inl, inr, is_some, is_none, option_to_list}
-use Rattle.lab_engine.proofs.Common.{none_of, both_ways, cases_eq, eq-eqb, ne_eqb, true≢false, reverse-append, Row, State, Rows, Writes, Statement, Run, View, Op, NoTransaction, AlreadyBegun, Busy, Level, LogEvent, Outcome, Listed, Committed, Aborted, Refused, RunningTxn, SessionState, Past, Txn, Version, version_or, version_by, active, active_after, waiting, waiting_after, chain_after, longer, chain_in, pending_in, DescribesSession, DescribesRows, Agree, IsRunning, has_written, grown, keeps_statements, written_by, statements_of, RowStates}
+use Rattle.lab_engine.proofs.Common.{Aborted, Agree, AlreadyBegun, Busy, Committed, DescribesRows, DescribesSession, IsRunning, Level, Listed, LogEvent, NoTransaction, Op, Outcome, Past, Refused, Row, RowStates, Rows, Run, RunningTxn, SessionState, State, Statement, Txn, Version, View, Writes, active, active_after, both_ways, cases_eq, chain_after, chain_in, eq-eqb, grown, has_written, is_over, keeps_statements, longer, ne_eqb, none_of, pending_in, reverse-append, statements_of, true≢false, version_by, version_or, waiting, waiting_after, written_by}
 use Rattle.std.specs.FinMap as map
-use Rattle.lab_engine.specs.EventQuery.{is_over}
 
 -- ---- one more operation
 

@@ -1,9 +1,8 @@
 -- A graph of who waits for whom, as the sets of those that each session waits for.
 use Rattle.std.proofs.Common.{◌≡◌, ℕ, ◌≤◌, ◌==◌, ◌&&◌, cond, true, false, refl, ap, sym, ◌∙◌, inl, inr, arith, List, IsTrue, Option, Some, None, IfSome, ◌↔◌, is_some}
 use Rattle.std.specs.Option.{unwrap_or}
-use Rattle.lab_table.specs.Sessions.{of_session}
 use Rattle.lab_table.proofs.SessionOrder.{own_value, other_value}
-use Rattle.lab_engine.proofs.Common.{cases_eq, eq-eqb, ne_eqb, both_ways, and_parts, and_from, has, waits_for, WaitsForOne, is_session}
+use Rattle.lab_engine.proofs.Common.{WaitsForOne, and_from, and_parts, both_ways, cases_eq, eq-eqb, has, is_session, ne_eqb, of_session, waits_for}
 
 -- a session is from 1 to 9
 pub session_range : (s : ℕ) → is_session s ≡ true → (1 ≤ s) × (s ≤ 9)

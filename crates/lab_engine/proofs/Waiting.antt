@@ -1,10 +1,9 @@
 -- Which sessions wait for which after a log.
 use Rattle.std.proofs.Common.{filter, ◌&&◌, ◌≡◌, ◌≢◌, ℕ, ◌+◌, ◌≤◌, ◌<◌, refl, sym, ap, subst, ◌∙◌, cond, List, inl, inr, length, take, get_or, ◌==◌, ◌↔◌, IsTrue, Some, Contains, take_all}
 use Rattle.std.proofs.lemmas.Map.Views.{any-filter_same}
-use Rattle.lab_engine.proofs.Common.{none_some, and_parts, and_from, list_any, cases_eq, eq-eqb, ne_eqb, eqb-true, or_cases, or_right, or_left, length-map, Table, Statement, some_is, Level, RunningTxn, SessionState, Situation, Past, Txn, active, waiting, BlockedBy, MayAsk, all_sessions, Agree, IsRunning, Describes, DescribesSession, has, waits_for, AreBlockers, WaitsOn, AreWaits, same_Some, Blocks, Any-from_list_any, list_any_at}
+use Rattle.lab_engine.proofs.Common.{Agree, Any-from_list_any, AreBlockers, AreOthers, AreWaits, BlockedBy, Blocks, Describes, DescribesSession, IsAsker, IsRunning, Level, MayAsk, Past, RunningTxn, SessionState, Situation, Statement, Table, Txn, WaitsOn, active, all_sessions, and_from, and_parts, cases_eq, eq-eqb, eqb-true, has, length-map, list_any, list_any_at, ne_eqb, none_some, or_cases, or_left, or_right, same_Some, some_is, waiting, waits_for}
 use Rattle.lab_engine.proofs.Describing.{kept_txn}
 use Rattle.lab_engine.proofs.States.{describes_one}
-use Rattle.lab_engine.specs.Asker.{AreOthers, IsAsker}
 use Rattle.lab_engine.specs.declared.asker.Asker.{Asker}
 use Rattle.lab_engine.proofs.Rising.{some_increase, kept_sessions, sessions_of, is_among, among, among_more}
 

@@ -1,6 +1,6 @@
 //! Who waits for whom.
 
-ghost use Rattle.std.specs.Prelude.{◌≡◌, ◌↔◌, ◌∷◌, ◌⊎◌, ◌==◌, List, ℕ, Some, false, true, IfOk, IsSome, IsTrue, MatchOption};
+ghost use Rattle.std.specs.Prelude.{◌≡◌, ◌≢◌, ◌↔◌, ◌∷◌, ◌⊎◌, ◌==◌, List, ℕ, Some, false, true, IfOk, IsSome, IsTrue, MatchOption};
 ghost use Rattle.lab_table.specs.Table.{Table as PlainTable};
 ghost use Rattle.lab_table.specs.declared.statement.Statement.{Statement as Asked};
 ghost use Rattle.lab_engine.specs.declared.event.Level.{Level as Kind};
@@ -70,28 +70,21 @@ fn waits_on<R: Rules>(
     rules.blockers(&asker, statement)
 }
 
-/// Whether what another session reads may block this statement, where that is asked (`keeps`): it would write, and it doesn't
-/// wait for that session yet.
-fn may_block_by_reading(keeps: bool, waits_for_it: bool, statement: &Statement) -> bool
-    ensures { result ≡ false → (keeps ≡ false) ⊎ (is_read_only statement.now ≡ true) ⊎ (waits_for_it ≡ true) }
+/// Whether a statement that ran, and wrote this, may block or free another session that waits with a statement. What was read
+/// blocks only a statement that would write, and only where it is asked (`keeps`).
+fn may_touch(keeps: bool, writes: &Writes, statement: &Statement) -> bool
+    ensures { result ≡ false → IsTrue (map.len writes.now == 0) × ((keeps ≡ false) ⊎ (is_read_only statement.now ≡ true)) }
 {
-    if waits_for_it || statement.is_read_only() {
+    if !writes.entries().is_empty() {
+        return true;
+    }
+    if statement.is_read_only() {
         return false;
     }
     keeps
 }
 
-/// Whether a statement that ran, and wrote this, may block or free another one that waits.
-fn may_touch(keeps: bool, waits_for_it: bool, writes: &Writes, statement: &Statement) -> bool
-    ensures { result ≡ false → IsTrue (map.len writes.now == 0) × ((keeps ≡ false) ⊎ (is_read_only statement.now ≡ true) ⊎ (waits_for_it ≡ true)) }
-{
-    if writes.entries().is_empty() {
-        return may_block_by_reading(keeps, waits_for_it, statement);
-    }
-    true
-}
-
-/// Whether an event may change whom a session waits for that waits with this statement after it, given who waited for whom
+/// Whether an event may change whom another session waits for that waits with this statement, given who waited for whom
 /// before it: a statement that ran may block or free each that waits, the end of a transaction those that waited for it.
 fn may_change(
     keeps: bool,
@@ -101,13 +94,11 @@ fn may_change(
     statement: &Statement,
 ) -> bool
     ensures { (level : Kind) (setup : PlainTable) (past : Past) → keeps ≡ keeps_statements level → IsLegal level setup (event.now ∷ past) → AreWaits level setup past waits.now
-        → result ≡ false → waiting (event.now ∷ past) session ≡ Some statement.now → (other : ℕ) → WaitsOn level setup (event.now ∷ past) session other ↔ WaitsOn level setup past session other }
+        → event.now.session ≢ session → result ≡ false → waiting (event.now ∷ past) session ≡ Some statement.now
+        → (other : ℕ) → WaitsOn level setup (event.now ∷ past) session other ↔ WaitsOn level setup past session other }
 {
     match &event.outcome {
-        Outcome::Rows { writes, .. } => {
-            may_touch(keeps, waits.on(session).has(event.session), writes, statement)
-        }
-        Outcome::Waits { .. } => session == event.session,
+        Outcome::Rows { writes, .. } => may_touch(keeps, writes, statement),
         outcome => is_over(outcome) && waits.on(session).has(event.session),
     }
 }
@@ -128,13 +119,11 @@ fn on_after<R: Rules>(
     let Some(statement) = &state.waits else {
         return SessionSet::none();
     };
-    if may_change(
-        rules.keeps_statements(),
-        &situation.waits,
-        event,
-        state.session,
-        statement,
-    ) {
+    if state.session == event.session {
+        return waits_on(rules, setup, situation, state);
+    }
+    let keeps = rules.keeps_statements();
+    if may_change(keeps, &situation.waits, event, state.session, statement) {
         return waits_on(rules, setup, situation, state);
     }
     situation.waits.on(state.session)

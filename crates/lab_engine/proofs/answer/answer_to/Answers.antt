@@ -1,6 +1,5 @@
 use Rattle.std.proofs.Common.{refl, sym, ap, subst, IfOk}
-use Rattle.lab_engine.proofs.Common.{Run, MayAsk, AreWaits, Situation, asked}
-use Rattle.lab_engine.specs.Answer.{Answers}
+use Rattle.lab_engine.proofs.Common.{Answers, AreWaits, MayAsk, Run, Situation, asked}
 use Rattle.lab_engine.proofs.Describing.{running_txn, running_none}
 use Rattle.lab_engine.proofs.Answering.{gives, may_ask, conflict_none, conflict_some, ran}
 use Rattle.lab_engine.proofs.answer.answer_to.Goals as goal

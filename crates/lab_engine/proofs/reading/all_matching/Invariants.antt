@@ -1,7 +1,6 @@
 use Rattle.std.proofs.Common.{◌≡◌, ◌++◌}
-use Rattle.lab_engine.proofs.Common.{each_row, entries}
+use Rattle.lab_engine.proofs.Common.{each_row, entries, laid_over, matching_entries, seen_of}
 use Rattle.lab_engine.specs.KeptRows.{entries_in}
-use Rattle.lab_engine.specs.Overlay.{seen_of, matching_entries, laid_over}
 use Rattle.lab_engine.proofs.reading.all_matching.Given as goal
 
 -- the rows so far and those that match of what is left of both lists are those of the whole

@@ -1,6 +1,5 @@
 use Rattle.std.proofs.Common.{◌≡◌, ◌≤◌, ◌+◌, ◌++◌, length, vec_capacity}
-use Rattle.lab_engine.specs.EachRow.{each_row}
-use Rattle.lab_engine.specs.Overlay.{seen_of, name_over}
+use Rattle.lab_engine.proofs.Common.{each_row, name_over, seen_of}
 use Rattle.lab_engine.proofs.reading.names_seen.Given as goal
 
 -- there is room for the rows that are left, and the names so far and theirs are those of all

@@ -1,7 +1,6 @@
 use Rattle.std.proofs.Common.{◌≡◌, ◌∙◌, [], true, ap, subst, IfSome}
-use Rattle.lab_engine.proofs.Common.{Row, may_match, with_row, cons_option, IfOk-weaker}
+use Rattle.lab_engine.proofs.Common.{IfOk-weaker, Row, cons_option, may_match, seen_in, with_row}
 use Rattle.lab_table.specs.Statement.{matched}
-use Rattle.lab_engine.specs.Asker.{seen_in}
 use Rattle.lab_engine.proofs.Overlaid.{named_matching}
 use Rattle.lab_engine.proofs.reading.rows_matching.Goals as goal
 

@@ -1,6 +1,5 @@
 use Rattle.std.proofs.Common.{◌==◌, ◌∙◌, ap, cond, map, Some}
-use Rattle.lab_table.specs.Sessions.{of_session}
-use Rattle.lab_engine.proofs.Common.{recorded, txns_after}
+use Rattle.lab_engine.proofs.Common.{of_session, recorded, txns_after}
 use Rattle.lab_engine.proofs.Gatherings.{is_short, is_within, gathers_by}
 use Rattle.lab_engine.proofs.gathering.Gathering.take_in.Goals as goal
 

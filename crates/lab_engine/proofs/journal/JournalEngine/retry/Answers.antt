@@ -1,7 +1,5 @@
 use Rattle.std.proofs.Common.{◌∷◌, ◌++◌, [], sym, ap, subst, ◌∙◌}
-use Rattle.lab_engine.proofs.Common.{LogEvent, Outcome, Permitted, past_of}
-use Rattle.lab_engine.specs.Engine.{IsRetry}
-use Rattle.lab_engine.specs.LeastCircle.{NamesLeastOfWaiting}
+use Rattle.lab_engine.proofs.Common.{IsRetry, LogEvent, NamesLeastOfWaiting, Outcome, Permitted, past_of}
 use Rattle.lab_engine.proofs.journal.JournalEngine.retry.Goals as goal
 
 pub returns-clause-ok : goal.returns-clause-ok

@@ -1,6 +1,5 @@
 use Rattle.std.proofs.Common.{subst}
-use Rattle.lab_engine.specs.Log.{past_of}
-use Rattle.lab_engine.specs.Answer.{IsRetryChoice}
+use Rattle.lab_engine.proofs.Common.{IsRetryChoice, past_of}
 use Rattle.lab_engine.specs.Journal.{EngineRun}
 use Rattle.lab_engine.proofs.journal.JournalEngine.retryable.Goals as goal
 

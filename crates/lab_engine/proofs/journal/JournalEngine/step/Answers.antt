@@ -1,7 +1,5 @@
 use Rattle.std.proofs.Common.{◌∷◌, ◌++◌, [], sym, ap, subst, ◌∙◌}
-use Rattle.lab_engine.proofs.Common.{LogEvent, Outcome, Permitted, past_of}
-use Rattle.lab_engine.specs.Engine.{IsStep}
-use Rattle.lab_engine.specs.LeastCircle.{NamesLeastOf}
+use Rattle.lab_engine.proofs.Common.{IsStep, LogEvent, NamesLeastOf, Outcome, Permitted, past_of}
 use Rattle.lab_engine.proofs.journal.JournalEngine.step.Goals as goal
 
 pub returns-clause-ok : goal.returns-clause-ok
