@@ -3,7 +3,8 @@ use Rattle.std.proofs.Common.{◌≡◌, ◌≢◌, ℕ, refl, sym, ap, subst, �
 use Rattle.lab_table.specs.Statement.{kind_matches, kind_would_write, applied, new_state}
 use Rattle.lab_table.specs.declared.statement.StatementKind.{StatementKind}
 use Rattle.lab_table.specs.declared.statement.StatementKind.TheVariants.{Select, Update, Insert, Delete}
-use Rattle.lab_engine.proofs.Common.{Blocks, Command, Committed, Level, Locking, Past, ReadCommitted, Row, Snapshot, State, Statement, Table, Txn, Version, active, both_ways, commits, commits_after, committed_version, false_from_ne_true, has_read, initial_version, last_installed, matches, option_or, or_parts, seen, version_by, would_write}
+use Rattle.lab_engine.proofs.Common.{Blocks, Command, Committed, Level, Past, Row, State, Statement, Table, Txn, Version, active, both_ways, commits, commits_after, committed_version, false_from_ne_true, has_read, initial_version, last_installed, matches, option_or, or_parts, seen, version_by, would_write}
+use Rattle.lab_engine.specs.declared.event.Level.TheVariants.{Locking, Snapshot, Committed as ReadCommitted}
 
 -- what a statement wouldn't write in one state it wouldn't write in one that it doesn't match either
 still_unwritten : (t : List ℕ) (kind : StatementKind) (row : Row) (old new : State) → kind_matches t kind row new ≡ false → kind_would_write t kind row old ≡ false

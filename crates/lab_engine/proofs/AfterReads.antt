@@ -2,7 +2,8 @@
 use Rattle.std.proofs.Common.{◌≡◌, ◌+◌, sym, ap, ◌∙◌, false, true, ◌==◌, ◌↔◌, ◌⊎◌, inl, inr, length, is_some, IsTrue}
 use Rattle.std.specs.FinMap as map
 use Rattle.lab_table.proofs.OneRow.{reader_writes_none}
-use Rattle.lab_engine.proofs.Common.{Blocks, Level, Locking, Op, Past, ReadCommitted, Row, Snapshot, Statement, Table, Txn, Writes, both_ways, eqb-true, grown, is_read_only, keeps_statements, row_cmp, true≢false, version_by, version_or}
+use Rattle.lab_engine.proofs.Common.{Blocks, Level, Op, Past, Row, Statement, Table, Txn, Writes, both_ways, eqb-true, grown, is_read_only, keeps_statements, row_cmp, true≢false, version_by, version_or}
+use Rattle.lab_engine.specs.declared.event.Level.TheVariants.{Locking, Snapshot, Committed as ReadCommitted}
 
 -- what is read is of no weight to a statement
 abbrev pub Unasked : Level → Statement → Type 0

@@ -1,6 +1,7 @@
 -- What an answer may be, by who gives the command, and which.
 use Rattle.std.proofs.Common.{◌≡◌, ◌≢◌, ◌⊎◌, inl, inr, ℕ, ◌+◌, refl, sym, ap, subst, false, List, [], Some, None, ◌↔◌, Contains, IsTrue}
-use Rattle.lab_engine.proofs.Common.{Abort, Aborted, AlreadyBegun, Answers, Begin, Begun, BlockedBy, Busy, Command, Commit, Committed, Conflicts, Deadlock, DuplicateKey, IsBelow, IsCircle, IsEffect, IsFree, IsInsertOf, IsLeastCircle, IsStrictlyIncreasing, IsUpdate, Level, Listed, MayCommit, NoTransaction, OutOfRange, Outcome, Past, Refused, Row, Rows, Run, Snapshot, Statement, Table, Txn, View, Waits, WriteConflict, Writes, active, begun, fails, seen}
+use Rattle.lab_engine.proofs.Common.{Abort, Aborted, AlreadyBegun, Answers, Begin, Begun, BlockedBy, Busy, Command, Commit, Committed, Conflicts, Deadlock, DuplicateKey, IsBelow, IsCircle, IsEffect, IsFree, IsInsertOf, IsLeastCircle, IsStrictlyIncreasing, IsUpdate, Level, Listed, MayCommit, NoTransaction, OutOfRange, Outcome, Past, Refused, Row, Rows, Run, Statement, Table, Txn, View, Waits, WriteConflict, Writes, active, begun, fails, seen}
+use Rattle.lab_engine.specs.declared.event.Level.TheVariants.{Snapshot}
 use Rattle.lab_engine.specs.declared.event.EngineFault.{EngineFault}
 
 -- a row is the least at which an update fails

@@ -2,11 +2,10 @@
 use Rattle.std.proofs.Common.{◌≡◌, ◌≢◌, ℕ, Bool, true≢false, Option, Some, None, inl, inr, List, [], ◌∷◌, length, sym, ap, subst, ◌∙◌, arith, refl}
 use Rattle.std.specs.Prelude.{MatchOption, Result, IfOk, Contains, is_some, true, false, ◌==◌}
 use Rattle.std.specs.declared.alloc.AllocError.{AllocError}
-use Rattle.lab_engine.proofs.Common.{Aborted, AlreadyBegun, Answers, AreBlockers, Asks, Begun, Busy, Command, Committed, Deadlock, DuplicateKey, Gives, IfOk-weaker, IsCircle, IsEffect, IsFree, IsLeastCircle, Level, Listed, MayAsk, MayCommit, MayGive, NoTransaction, OutOfRange, Outcome, Past, Refused, Row, Rows, Run, Statement, Table, Txn, Version, View, Waits, WriteConflict, Writes, active, asked, fails, in_view, listed, seen, waiting, written}
+use Rattle.lab_engine.proofs.Common.{Aborted, AlreadyBegun, Answers, AreBlockers, Asks, Begun, Busy, Command, Committed, Deadlock, DuplicateKey, Gives, IfOk-weaker, IsCircle, IsEffect, IsEffectOn, IsFree, IsLeastCircle, IsRefusalOn, IsResultOn, Level, Listed, MayAsk, MayCommit, MayGive, NoTransaction, OutOfRange, Outcome, Past, Refused, Row, Rows, Run, Statement, Table, Txn, Version, View, Waits, WriteConflict, Writes, active, asked, fails, in_view, listed, seen, waiting, written}
 use Rattle.lab_engine.specs.declared.event.EngineFault.{EngineFault}
 use Rattle.lab_engine.specs.Sight.{IsFirstConflict}
 use Rattle.lab_engine.specs.declared.rules.Conflict.{Conflict}
-use Rattle.lab_engine.specs.Effect.{IsEffectOn, IsRefusalOn, IsResultOn}
 
 -- a command that runs no statement is given at rest
 at_rest : (past : Past) (session : ℕ) (command : Command) → asked command ≡ None → MayGive past session command → waiting past session ≡ None

@@ -1,7 +1,8 @@
 -- No two active transactions have written the same row, at locking and read committed.
 use Rattle.std.proofs.Common.{◌≡◌, ◌≢◌, ℕ, refl, sym, ap, subst, ◌∙◌, [], ◌∷◌, Some, None, Option, option_map, is_some, inl, inr}
 use Rattle.std.specs.FinMap as map
-use Rattle.lab_engine.proofs.Common.{Begun, Blocks, Command, HoldsWrite, IsEffect, IsFree, IsLegal, Level, Listed, Locking, Op, Outcome, Past, Permitted, ReadCommitted, Row, Rows, Run, Snapshot, State, Statement, Table, Txn, Version, View, Writes, active, active_after, grown, none_of, none_some, same_Some, version_by, version_or}
+use Rattle.lab_engine.proofs.Common.{Begun, Blocks, Command, HoldsWrite, IsEffect, IsFree, IsLegal, Level, Listed, Op, Outcome, Past, Permitted, Row, Rows, Run, State, Statement, Table, Txn, Version, View, Writes, active, active_after, grown, none_of, none_some, same_Some, version_by, version_or}
+use Rattle.lab_engine.specs.declared.event.Level.TheVariants.{Locking, Snapshot, Committed as ReadCommitted}
 use Rattle.lab_engine.proofs.LockSteps.{AllOff, step, was_active, left, begins}
 
 -- another transaction hasn't written a row of which one has a pending version

@@ -64,13 +64,14 @@ pub use Rattle.lab_history.specs.HistoryRules.{AllDistinct, distinct_rows, disti
 pub use Rattle.lab_table.proofs.SortedRows.{lower, sorted-map}
 pub use Rattle.std.proofs.Math.Bool.{and_comm, or-false}
 pub use Rattle.std.proofs.lemmas.List.Sorted.{IsPermutation-reverse, answers_always, list_any-IsPermutation, ranks_by, sorted_far}
-pub use Rattle.lab_engine.specs.declared.event.Level.TheVariants.{Committed as ReadCommitted, Locking, Snapshot}
 pub use Rattle.lab_engine.specs.Overlay.{AreMatching, laid_over, matching_entries, matching_rows, name_over, seen_of, seen_over}
 pub use Rattle.lab_engine.specs.Asker.{AreOthers, IsAsker, seen_in}
 pub use Rattle.lab_engine.specs.Answer.{Answers, HasPlacesOfEnds, IsRetryChoice, Keeps, MayGive, active_among}
 pub use Rattle.lab_engine.specs.EventQuery.{is_ending, is_over}
 pub use Rattle.lab_engine.specs.Engine.{Appends, IsRetry, IsStep}
 pub use Rattle.lab_table.specs.Sessions.{of_session}
+pub use Rattle.lab_engine.specs.Effect.{IsEffectFault, IsEffectOn, IsRefusalOn, IsResultOn}
+pub use Rattle.lab_engine.specs.Journal.{EngineRun}
 
 pub none_some : {A : Type 0} {x : A} (P : Type 0) → ◌≡◌ {A = Option A} None (Some x) → P
 none_some P h = cc

@@ -1,6 +1,7 @@
 -- After a log there is one answer to a command, and one event that a step or a retry appends.
 use Rattle.std.proofs.Common.{◌≡◌, inl, inr, ℕ, ℤ, option_map, Ordering, Less, Equal, Greater, refl, sym, ap, subst, ◌∙◌, arith, List, [], ◌∷◌, IsTrue, ◌≢◌, ◌++◌, Some, None, Option, IsSome, is_some}
-use Rattle.lab_engine.proofs.Common.{Answers, BlockedBy, Busy, Command, Commit, Conflicts, Deadlock, DuplicateKey, IsBelow, IsChain, IsCircle, IsEffect, IsFree, IsInsertOf, IsUpdate, Level, Listed, LogEvent, MayCommit, OutOfRange, Outcome, Past, Permitted, Refused, Row, Rows, Run, Snapshot, Statement, Table, Txn, View, Waits, WriteConflict, Writes, both_ways, commits, fails, none_some, past_of, row_cmp, rows_apart, same_Some, same_rows, seen, some_is, turned, update_inserts_none, waiting, writers}
+use Rattle.lab_engine.proofs.Common.{Answers, BlockedBy, Busy, Command, Commit, Conflicts, Deadlock, DuplicateKey, IsBelow, IsChain, IsCircle, IsEffect, IsFree, IsInsertOf, IsUpdate, Level, Listed, LogEvent, MayCommit, OutOfRange, Outcome, Past, Permitted, Refused, Row, Rows, Run, Statement, Table, Txn, View, Waits, WriteConflict, Writes, both_ways, commits, fails, none_some, past_of, row_cmp, rows_apart, same_Some, same_rows, seen, some_is, turned, update_inserts_none, waiting, writers}
+use Rattle.lab_engine.specs.declared.event.Level.TheVariants.{Snapshot}
 use Rattle.lab_engine.proofs.Circles.{one_least_circle}
 use Rattle.lab_engine.proofs.RisingLists.{same_rising, before_end, none_before}
 use Rattle.lab_engine.proofs.AnswerKinds.{FreeAnswer, HeldAnswer, TxnAnswer, IdleAnswer, KnownAnswer, IsFirstFailing, IsLeastConflict, answer_known}

@@ -1,6 +1,7 @@
 -- What an active transaction sees of a situation.
 use Rattle.std.proofs.Common.{◌≡◌, ◌∙◌, ℕ, refl, ap, arith, length, Option, Some, None, unwrap_or}
-use Rattle.lab_engine.proofs.Common.{IsAsker, Level, Past, Row, Snapshot, Statement, Txn, Version, active, chain, chain_in, commits, initial_version, last_before, last_installed, option_or, seen, seen_in, sight, version_by, would_write, written_by}
+use Rattle.lab_engine.proofs.Common.{IsAsker, Level, Past, Row, Statement, Txn, Version, active, chain, chain_in, commits, initial_version, last_before, last_installed, option_or, seen, seen_in, sight, version_by, would_write, written_by}
+use Rattle.lab_engine.specs.declared.event.Level.TheVariants.{Snapshot}
 use Rattle.lab_engine.specs.declared.asker.Asker.{Asker}
 use Rattle.lab_engine.proofs.InstalledChains.{last_in, last_at_begin}
 

@@ -7,9 +7,11 @@ use Rattle.lab_engine.proofs.circle.is_on_circle.Goals as goal
 pub returns-then-is_none : goal.returns-then-is_none
 returns-then-is_none c =
     let session = c.args.session in
-    let nobody = c.least.ensures.none (none_of _ (λ some. both_ways _ (c.is_none.ensures ∙ ap not c.if-is_none.true) some)) in
-    ((λ h. absurd (both_ways _ refl h)), (λ round. let waiter = waited_for c.args.waits.now session round.0 round.1 in
-    absurd (both_ways _ (nobody waiter.0) ((c.waiters.ensures waiter.0).1 (session, waiter.1, c.of.ensures session ∙ or_left _ _ (eq-eqb session session refl))))))
+    let nobody = c.least.ensures.none (none_of _ (λ some. both_ways _ (c.is_none.ensures ∙ ap not c.if-is_none.true) some)) in (
+      (λ h. absurd (both_ways _ refl h)),
+      (λ round. let waiter = waited_for c.args.waits.now session round.0 round.1 in
+          absurd (both_ways _ (nobody waiter.0) ((c.waiters.ensures waiter.0).1 (session, waiter.1, c.of.ensures session ∙ or_left _ _ (eq-eqb session session refl))))),
+    )
 
 pub returns : goal.returns
 returns c = subst (λ b. IsTrue b ↔ ((circle : List ℕ) × IsRound c.args.waits.now c.args.session circle)) (sym c.is_some.ensures) (

@@ -1,6 +1,5 @@
 use Rattle.std.proofs.Common.{◌≡◌, false, sym, subst, MatchOption}
-use Rattle.lab_engine.proofs.Common.{AreMatching, Row, fails, seen_in}
-use Rattle.lab_engine.specs.Effect.{IsEffectFault}
+use Rattle.lab_engine.proofs.Common.{AreMatching, IsEffectFault, Row, fails, seen_in}
 use Rattle.lab_engine.proofs.effect.effect_of.Goals as goal
 
 pub returns-in-Some-clause-fault : goal.returns-in-Some-clause-fault

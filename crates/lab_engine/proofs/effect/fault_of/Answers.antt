@@ -1,6 +1,5 @@
 use Rattle.std.proofs.Common.{◌≡◌, ◌∙◌, false, sym, subst, MatchOption}
-use Rattle.lab_engine.proofs.Common.{Row, fails}
-use Rattle.lab_engine.specs.Effect.{IsEffectFault}
+use Rattle.lab_engine.proofs.Common.{IsEffectFault, Row, fails}
 use Rattle.lab_engine.proofs.FailingRows.{all_run, update_fails, insert_fails}
 use Rattle.lab_engine.proofs.effect.fault_of.Goals as goal
 

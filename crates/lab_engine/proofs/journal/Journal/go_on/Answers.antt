@@ -1,7 +1,6 @@
 use Rattle.std.proofs.Common.{◌≡◌, ◌<◌, length, List, [], ◌∷◌, refl, sym, ap, subst, ◌∙◌, arith}
 use Rattle.std.specs.Vec.{vec_capacity}
-use Rattle.lab_engine.proofs.Common.{AreWaits, HasPlacesOfEnds, Keeps, LogEvent, Past, Permitted, Situation, kept_of, length-reverse, past_of, reverse-append}
-use Rattle.lab_engine.specs.Journal.{EngineRun}
+use Rattle.lab_engine.proofs.Common.{AreWaits, EngineRun, HasPlacesOfEnds, Keeps, LogEvent, Past, Permitted, Situation, kept_of, length-reverse, past_of, reverse-append}
 use Rattle.lab_engine.proofs.Describing.{same_log}
 use Rattle.lab_engine.proofs.journal.Journal.go_on.Goals as goal
 

@@ -1,6 +1,5 @@
 use Rattle.std.proofs.Common.{◌≡◌, Some, inr, ap, subst, ◌∙◌}
-use Rattle.lab_engine.proofs.Common.{Command, NamesLeastOfWaiting, Permitted, Run, past_of, waiting}
-use Rattle.lab_engine.specs.Journal.{EngineRun}
+use Rattle.lab_engine.proofs.Common.{Command, EngineRun, NamesLeastOfWaiting, Permitted, Run, past_of, waiting}
 use Rattle.lab_engine.proofs.journal.Journal.retried.Goals as goal
 
 pub returns-clause-of : goal.returns-clause-of

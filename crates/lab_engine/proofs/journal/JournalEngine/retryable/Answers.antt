@@ -1,6 +1,5 @@
 use Rattle.std.proofs.Common.{subst}
-use Rattle.lab_engine.proofs.Common.{IsRetryChoice, past_of}
-use Rattle.lab_engine.specs.Journal.{EngineRun}
+use Rattle.lab_engine.proofs.Common.{EngineRun, IsRetryChoice, past_of}
 use Rattle.lab_engine.proofs.journal.JournalEngine.retryable.Goals as goal
 
 pub returns : goal.returns
