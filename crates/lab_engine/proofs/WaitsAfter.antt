@@ -135,27 +135,16 @@ module _ (level : Level) (setup : Table) (past : Past) (e k : ℕ) (off : e ≢ 
         let weighs : Unasked level u = subst (Unasked level) (same_Some t u (sym waits ∙ is)) why in (before u weighs, behind u weighs))
       where
         before : (u : Statement) → Unasked level u → BlockedBy level setup (after level setup past e k off (Run s) (Listed view rows writes)) k u e → BlockedBy level setup past k u e
-        before u why (asker, holder, apart, is_asker, is_holder, b) = (
-          asker,
-          txn,
-          apart,
-          sym (other_active level setup past e k off (Run s) (Listed view rows writes) k off) ∙ is_asker,
-          is_txn,
-          (reads_block level setup past asker u why txn op none).0
-              ((same_blocks level setup past e (Run s) (Listed view rows writes) (λ eq. cc) asker (grown txn op) u).0
-              (subst (Blocks level setup (after level setup past e k off (Run s) (Listed view rows writes)) asker u) (sym (same_Some (grown txn op) holder (sym ran ∙ is_holder))) b)),
-        )
+        before u why (asker, holder, apart, is_asker, is_holder, b) =
+            let now = subst (Blocks level setup (after level setup past e k off (Run s) (Listed view rows writes)) asker u) (sym (same_Some (grown txn op) holder (sym ran ∙ is_holder))) b in
+            let was = (reads_block level setup past asker u why txn op none).0 ((same_blocks level setup past e (Run s) (Listed view rows writes) (λ eq. cc) asker (grown txn op) u).0 now) in
+            (asker, txn, apart, sym (other_active level setup past e k off (Run s) (Listed view rows writes) k off) ∙ is_asker, is_txn, was)
 
         behind : (u : Statement) → Unasked level u → BlockedBy level setup past k u e → BlockedBy level setup (after level setup past e k off (Run s) (Listed view rows writes)) k u e
-        behind u why (asker, holder, apart, is_asker, is_holder, b) = (
-          asker,
-          grown txn op,
-          apart,
-          other_active level setup past e k off (Run s) (Listed view rows writes) k off ∙ is_asker,
-          ran,
-          (same_blocks level setup past e (Run s) (Listed view rows writes) (λ eq. cc) asker (grown txn op) u).1
-              ((reads_block level setup past asker u why txn op none).1 (subst (Blocks level setup past asker u) (same_Some holder txn (sym is_holder ∙ is_txn)) b)),
-        )
+        behind u why (asker, holder, apart, is_asker, is_holder, b) =
+            let was = (reads_block level setup past asker u why txn op none).1 (subst (Blocks level setup past asker u) (same_Some holder txn (sym is_holder ∙ is_txn)) b) in
+            let now = (same_blocks level setup past e (Run s) (Listed view rows writes) (λ eq. cc) asker (grown txn op) u).1 was in
+            (asker, grown txn op, apart, other_active level setup past e k off (Run s) (Listed view rows writes) k off ∙ is_asker, ran, now)
 
   -- another session that waits behind an event waits for the same, where it waited for no transaction that the event ended, and
   -- what ran wrote nothing and read nothing that is of weight
