@@ -9,7 +9,7 @@ ghost use Rattle.lab_table.specs.TableSet.{max_tables};
 
 use crate::limits::MAX_COMMANDS;
 use crate::script::Script;
-use crate::spelling::{put_script, setup_fits};
+use crate::spelling::{setup_fits, spell_script};
 use crate::tables::add_all;
 use lab_statement::{PrintFault, check_command};
 use lab_table::TableSet;
@@ -29,8 +29,11 @@ pub fn print_script(alloc: Global, script: &Script) -> Result<Vec<u8>, PrintFaul
 {
     check_script(script)?;
     let mut text = Vec::new(alloc);
-    put_script(&mut text, script)?;
-    Ok(text)
+    if spell_script(&mut text, script) {
+        Ok(text)
+    } else {
+        Err(PrintFault::NoMemory)
+    }
 }
 
 /// Whether the printed form of a script keeps the limits of a text.

@@ -7,9 +7,12 @@ ghost use Rattle.lab_script.specs.TranscriptView.{Breaks, ended_by, first_broken
 ghost use Rattle.lab_script.specs.Transcript.{body_of, body_text, committed, end_text, inside_after, is_begin, sessions_in, statement_text, table_after, table_with, transcript, transaction_of, transaction_text};
 
 use crate::script::{Line, Script};
-use crate::transcript::{Transcript, put_end, put_fault, put_heading, put_rows, put_table};
+use crate::transcript::{
+    Transcript, spell_end, spell_fault, spell_heading, spell_rows, spell_table,
+};
+use lab_statement::append_result;
 use lab_table::{Command, NoMemory, PerSession, Session, Statement, Table};
-use std::alloc::Global;
+use std::alloc::{AllocError, Global};
 
 /// Runs a script's transactions one after another, each whole, in the order of their begins.
 /// A begin inside a transaction and any other command outside of one are left out.
@@ -36,8 +39,11 @@ pub fn run_serial(alloc: Global, script: &Script) -> Result<Transcript, NoMemory
         number += 1;
         run_transaction(alloc, &mut output, &mut table, number, line.session, later)?;
     }
-    put_table(&mut output.text, table.rows())?;
-    Ok(output)
+    if spell_table(&mut output.text, table.rows()) {
+        Ok(output)
+    } else {
+        Err(AllocError)
+    }
 }
 
 /// Whether a line begins a transaction.
@@ -72,13 +78,24 @@ fn run_transaction(
     ensures unprintable { OnOk result (output.new.unprintable ≡ first_broken output.old.unprintable (shown_of table.old (body_of session lines.now).0)) }
     ensures table { OnOk result (table.new ≡ table_after table.old (transaction_of session lines.now)) }
 {
-    put_heading(&mut output.text, number, session)?;
-    let before = table.copy(alloc)?;
-    let commits = run_body(alloc, output, table, session, lines)?;
-    if !commits {
-        *table = before;
+    if !spell_heading(&mut output.text, number, session) {
+        return Err(AllocError);
     }
-    put_end(&mut output.text, commits)
+    let before = table.copy(alloc)?;
+    match run_body(alloc, output, table, session, lines) {
+        Ok(commits) => {
+            drop(if commits {
+                before
+            } else {
+                std::mem::replace(table, before)
+            });
+            append_result(spell_end(&mut output.text, commits))
+        }
+        Err(refused) => {
+            drop(before);
+            Err(refused)
+        }
+    }
 }
 
 /// Runs a statement and appends its line. Answers whether it ran: one that is refused leaves the table as it was.
@@ -92,16 +109,13 @@ fn run_statement(
     ensures unprintable { OnOk result (output.new.unprintable ≡ option_or output.old.unprintable (limit_broken statement.now)) }
     ensures table { IfOk result (λ ran. table_with statement.now table.old ≡ cond ran (Some table.new) None) }
 {
-    output.put_statement(statement)?;
+    if !output.spell_statement(statement) {
+        return Err(AllocError);
+    }
     match table.run(alloc, statement) {
-        Ok(rows) => {
-            put_rows(&mut output.text, &rows)?;
-            Ok(true)
-        }
-        Err(fault) => {
-            put_fault(&mut output.text, &fault)?;
-            Ok(false)
-        }
+        Ok(rows) if spell_rows(&mut output.text, &rows) => Ok(true),
+        Err(fault) if spell_fault(&mut output.text, &fault) => Ok(false),
+        _ => Err(AllocError),
     }
 }
 

@@ -1,16 +1,20 @@
-//! What a script does where its transactions run whole. After NoMemory, part of what was to be appended may stand there.
+//! What a script does where its transactions run whole. Each function that spells a text answers whether all of it was
+//! taken.
 
 ghost use Rattle.std.specs.Prelude.{◌≡◌, ◌++◌, [], None, codes, IfOk, IfErr, OnOk, ◌⊎◌, ◌≢◌, Some, Err};
 ghost use Rattle.std.specs.Option.{option_or};
 ghost use Rattle.lab_script.specs.Printed.{named_rows_or};
+ghost use Rattle.lab_statement.specs.Sink.{OnTaken};
 ghost use Rattle.lab_statement.specs.Printed.{newline, printed_row_name, printed_statement, rows_or};
 ghost use Rattle.lab_script.specs.TranscriptView.{fault_text, limit_broken};
 ghost use Rattle.lab_script.specs.Transcript.{end_text, heading_text};
 
-use crate::spelling::{put_named_rows, put_number};
-use lab_statement::{PrintFault, check_statement, put_list, put_row_name, put_statement};
-use lab_table::{NoMemory, RowName, Session, Statement, TableFault, Value};
-use std::alloc::{AllocError, Global};
+use crate::spelling::{spell_named_rows, spell_number};
+use lab_statement::{
+    PrintFault, Sink, check_statement, spell_list, spell_row_name, spell_statement,
+};
+use lab_table::{RowName, Session, Statement, TableFault, Value};
+use std::alloc::Global;
 use std::marker::Model;
 
 /// What a script does where its transactions run whole: the text is made as they run, and `print_transcript` and
@@ -44,16 +48,15 @@ impl Transcript {
         }
     }
 
-    /// Appends a statement, and notes the limit that it breaks, if none was broken before.
-    pub(crate) fn put_statement(&mut self, statement: &Statement) -> Result<(), NoMemory>
-        ensures text { OnOk result (self.new.text ≡ self.old.text ++ (printed_statement statement.now ++ codes " -> ")) }
-        ensures unprintable { OnOk result (self.new.unprintable ≡ option_or self.old.unprintable (limit_broken statement.now)) }
+    /// Spells a statement, and notes the limit that it breaks, if none was broken before.
+    pub(crate) fn spell_statement(&mut self, statement: &Statement) -> bool
+        ensures text { OnTaken result (self.new.text ≡ self.old.text ++ (printed_statement statement.now ++ codes " -> ")) }
+        ensures unprintable { self.new.unprintable ≡ option_or self.old.unprintable (limit_broken statement.now) }
     {
-        put_statement(&mut self.text, statement)?;
         if self.unprintable.is_none() {
             self.unprintable = check_statement(statement).err();
         }
-        self.text.extend_from_slice(b" -> ")
+        spell_statement(&mut self.text, statement) && self.text.put(b" -> ")
     }
 
     /// The text that `print_transcript` copies, handed out as it is, if each statement in it keeps the limits of a text.
@@ -72,58 +75,53 @@ impl Transcript {
     }
 }
 
-/// Appends the first line of a transaction.
-pub fn put_heading(text: &mut Vec<u8>, number: usize, session: Session) -> Result<(), NoMemory>
-    ensures { OnOk result (text.new.items ≡ text.old.items ++ heading_text number session) }
+/// Spells the first line of a transaction.
+pub fn spell_heading(text: &mut Vec<u8>, number: usize, session: Session) -> bool
+    ensures { OnTaken result (text.new.items ≡ text.old.items ++ heading_text number session) }
 {
-    put_number(text, b"txn ", number)?;
-    put_number(text, b" T", usize::from(session.number()))?;
-    text.extend_from_slice(b"\n")
+    spell_number(text, b"txn ", number)
+        && spell_number(text, b" T", usize::from(session.number()))
+        && text.put(b"\n")
 }
 
-/// Appends the rows that a statement lists, to the end of its line.
-pub fn put_rows(text: &mut Vec<u8>, rows: &[(RowName, Value)]) -> Result<(), NoMemory>
-    ensures { OnOk result (text.new.items ≡ text.old.items ++ rows_or (codes "none") rows.now ++ newline) }
+/// Spells the rows that a statement lists, to the end of its line.
+pub fn spell_rows(text: &mut Vec<u8>, rows: &[(RowName, Value)]) -> bool
+    ensures { OnTaken result (text.new.items ≡ text.old.items ++ rows_or (codes "none") rows.now ++ newline) }
 {
-    put_list(text, rows)?;
-    text.extend_from_slice(b"\n")
+    spell_list(text, rows) && text.put(b"\n")
 }
 
-/// Appends why a statement was refused, to the end of its line; NoMemory also where that is the fault.
-pub fn put_fault(text: &mut Vec<u8>, fault: &TableFault) -> Result<(), NoMemory>
-    ensures text { OnOk result (text.new.items ≡ text.old.items ++ fault_text fault.now ++ newline) }
-    ensures refused { OnOk result (fault.now ≢ TableFault.NoMemory) }
+/// Spells why a statement was refused, to the end of its line; want of memory isn't spelled.
+pub fn spell_fault(text: &mut Vec<u8>, fault: &TableFault) -> bool
+    ensures text { OnTaken result (text.new.items ≡ text.old.items ++ fault_text fault.now ++ newline) }
+    ensures refused { OnTaken result (fault.now ≢ TableFault.NoMemory) }
 {
     match fault {
-        TableFault::NoMemory => Err(AllocError),
-        TableFault::DuplicateKey { id } => put_refusal(text, b"DuplicateKey ", *id),
-        TableFault::OutOfRange { id } => put_refusal(text, b"OutOfRange ", *id),
+        TableFault::NoMemory => false,
+        TableFault::DuplicateKey { id } => spell_refusal(text, b"DuplicateKey ", *id),
+        TableFault::OutOfRange { id } => spell_refusal(text, b"OutOfRange ", *id),
     }
 }
 
-fn put_refusal(text: &mut Vec<u8>, reason: &[u8], row: RowName) -> Result<(), NoMemory>
-    ensures { OnOk result (text.new.items ≡ text.old.items ++ (reason.now ++ printed_row_name row) ++ newline) }
+fn spell_refusal(text: &mut Vec<u8>, reason: &[u8], row: RowName) -> bool
+    ensures { OnTaken result (text.new.items ≡ text.old.items ++ (reason.now ++ printed_row_name row) ++ newline) }
 {
-    text.extend_from_slice(reason)?;
-    put_row_name(text, row)?;
-    text.extend_from_slice(b"\n")
+    text.put(reason) && spell_row_name(text, row) && text.put(b"\n")
 }
 
-/// Appends the last line of a transaction.
-pub fn put_end(text: &mut Vec<u8>, commits: bool) -> Result<(), NoMemory>
-    ensures { OnOk result (text.new.items ≡ text.old.items ++ end_text commits) }
+/// Spells the last line of a transaction.
+pub fn spell_end(text: &mut Vec<u8>, commits: bool) -> bool
+    ensures { OnTaken result (text.new.items ≡ text.old.items ++ end_text commits) }
 {
     let end: &[u8] = if commits { b"commit\n" } else { b"abort\n" };
-    text.extend_from_slice(end)
+    text.put(end)
 }
 
-/// Appends the last line, with all rows of a table.
-pub fn put_table(text: &mut Vec<u8>, rows: &[(RowName, Value)]) -> Result<(), NoMemory>
-    ensures { OnOk result (text.new.items ≡ text.old.items ++ (codes "end " ++ named_rows_or (codes "none") rows.now ++ newline)) }
+/// Spells the last line, with all rows of a table.
+pub fn spell_table(text: &mut Vec<u8>, rows: &[(RowName, Value)]) -> bool
+    ensures { OnTaken result (text.new.items ≡ text.old.items ++ (codes "end " ++ named_rows_or (codes "none") rows.now ++ newline)) }
 {
-    text.extend_from_slice(b"end ")?;
-    put_named_rows(text, b"none", rows)?;
-    text.extend_from_slice(b"\n")
+    text.put(b"end ") && spell_named_rows(text, b"none", rows) && text.put(b"\n")
 }
 
 /// The text of a transcript, if each statement in it keeps the limits of a text.

@@ -1,5 +1,5 @@
 -- Texts that a sink was handed, one behind the other.
-use Rattle.lab_statement.proofs.Common.{rules, ◌≡◌, ◌≤◌, ◌+◌, ℕ, suc, Bool, true, false, inl, inr, nat_le, cases_Bool, le-leb, leb-true, false≢true, codes, List, ◌∷◌, ◌++◌, Result, Ok, Err, length, map, replicate, refl, sym, ap, ◌∙◌, append_assoc, arith, length-append, ◌↔◌, IsTrue, is_ok, map-append, length-map, length-replicate, joined}
+use Rattle.lab_statement.proofs.Common.{rules, ◌≡◌, ◌≤◌, ◌+◌, ℕ, suc, Bool, true, false, inl, inr, nat_le, cases_Bool, le-leb, leb-true, false≢true, codes, List, ◌∷◌, ◌++◌, length, map, replicate, refl, sym, ap, ◌∙◌, append_assoc, arith, length-append, ◌↔◌, IsTrue, map-append, length-map, length-replicate, joined}
 use Rattle.lab_statement.specs.Sink.{Puts}
 use Rattle.lab_statement.proofs.Joined.{followed, joined_is}
 
@@ -9,10 +9,10 @@ put_behind kept old front back first second =
     second ∙ ap (λ text. text ++ map kept back) first ∙ append_assoc old (map kept front) (map kept back) ∙ ap (λ text. old ++ text) (sym (map-append kept front back))
 
 -- a call that puts the back of a text behind its front puts the text
-pub puts_rest : {E : Type 0} (kept : ℕ → ℕ) (limit : ℕ) (r : Result Unit E) (old front back middle new whole : List ℕ) → middle ≡ old ++ map kept front → Puts kept limit r middle back new
-    → whole ≡ front ++ back → Puts kept limit r old whole new
-puts_rest kept limit (Ok x) old front back middle new whole first second is = put_behind kept old front back first second ∙ ap (λ text. old ++ map kept text) (sym is)
-puts_rest kept limit (Err e) old front back middle new whole first second is = omega (arith, ap length first, ap length is, length-append {A = ℕ}, length-map front kept)
+pub puts_rest : (kept : ℕ → ℕ) (limit : ℕ) (taken : Bool) (old front back middle new whole : List ℕ) → middle ≡ old ++ map kept front → Puts kept limit taken middle back new
+    → whole ≡ front ++ back → Puts kept limit taken old whole new
+puts_rest kept limit true old front back middle new whole first second is = put_behind kept old front back first second ∙ ap (λ text. old ++ map kept text) (sym is)
+puts_rest kept limit false old front back middle new whole first second is = omega (arith, ap length first, ap length is, length-append {A = ℕ}, length-map front kept)
 
 -- where the first of texts was put, the others are left
 pub first_put : (kept : ℕ → ℕ) (old text : List ℕ) (texts : List (List ℕ)) {middle : List ℕ} → middle ≡ old ++ map kept text
@@ -29,12 +29,12 @@ pub same_length : (kept : ℕ → ℕ) (out left old whole : List ℕ) → out +
 same_length kept out left old whole is = omega (arith, ap length is, length-append {A = ℕ}, length-map left kept, length-map whole kept)
 
 -- room that was all there takes exactly the texts that fit
-pub room_tells : {E : Type 0} (r : Result Unit E) (limit start used : ℕ) (text : List ℕ) (fits : Bool) → Puts (λ _. 0) (suc limit) r (replicate start 0) text (replicate used 0) → start ≡ 0 → used ≤ limit
-    → fits ≡ is_ok r → IsTrue fits ↔ (length text ≤ limit)
-room_tells (Ok x) limit start used text fits put none within is =
+pub room_tells : (taken : Bool) (limit start used : ℕ) (text : List ℕ) → Puts (λ _. 0) (suc limit) taken (replicate start 0) text (replicate used 0) → start ≡ 0 → used ≤ limit
+    → IsTrue taken ↔ (length text ≤ limit)
+room_tells true limit start used text put none within =
     let long : used ≡ start + length text = omega (arith, ap length put, length-append {A = ℕ}, length-replicate {A = ℕ}, length-map {B = ℕ} text (λ _. 0)) in
     ((λ _. omega arith), (λ _. search rules))
-room_tells (Err e) limit start used text fits put none within is =
+room_tells false limit start used text put none within =
     let over : suc limit ≤ start + length text = omega (arith, put, length-replicate {A = ℕ}) in ((λ ok. absurd cc), (λ short. absurd (omega arith)))
 
 -- two tests of one bound

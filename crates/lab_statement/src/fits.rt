@@ -7,7 +7,7 @@ ghost use Rattle.lab_statement.specs.Limits.{max_depth, max_statement_bytes};
 
 use crate::limits::{MAX_DEPTH, MAX_STATEMENT_BYTES};
 use crate::sink::Room;
-use crate::spelling::{is_joined, is_or, put_statement};
+use crate::spelling::{is_joined, is_or, spell_statement};
 use lab_table::{Pred, PredKind, Statement, StatementKind};
 
 /// Whether at most [`MAX_DEPTH`] parentheses and `not`s are open at one place of a statement's printed form.
@@ -46,5 +46,5 @@ pub fn statement_fits(statement: &Statement) -> bool
     ensures { IsTrue result ↔ (length (printed_statement statement.now) ≤ max_statement_bytes) }
 {
     let mut room = Room::<MAX_STATEMENT_BYTES>::new();
-    put_statement(&mut room, statement).is_ok()
+    spell_statement(&mut room, statement)
 }

@@ -42,10 +42,14 @@ pub use laws::{blank_texts_have_no_token, statement_is_read_from_its_text, words
 pub use limits::{MAX_DEPTH, MAX_LINE_BYTES, MAX_STATEMENT_BYTES};
 pub use line::{code_and_remark, is_ascii_code};
 pub use parser::{Parser, placed};
-pub use print::{PrintFault, check_command, check_statement, print_statement, put_printable};
-pub use row_text::{put_list, put_natural, put_row, put_row_name, put_table_name};
-pub use sink::{Room, Sink};
-pub use spelling::{put_command, put_statement};
+pub use print::{
+    PrintFault, check_command, check_statement, print_statement, put_printable, put_statement,
+};
+pub use row_text::{
+    put_list, put_row_name, spell_list, spell_row, spell_row_name, spell_table_name,
+};
+pub use sink::{Room, Sink, append_result};
+pub use spelling::{spell_command, spell_statement};
 pub use statement::check_length;
 pub use statement_text::parse_statement;
 pub use token::{Token, blanks_len, tokens_into};

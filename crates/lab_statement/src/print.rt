@@ -5,12 +5,14 @@ ghost use Rattle.lab_statement.specs.Printed.{printed_command, printed_statement
 ghost use Rattle.lab_statement.specs.Depth.{statement_depth};
 ghost use Rattle.lab_statement.specs.Text.{SpellsStatement};
 ghost use Rattle.lab_statement.specs.StatementText.{statement_in};
+ghost use Rattle.lab_statement.specs.Ranges.{StatementInRange};
 ghost use Rattle.lab_statement.specs.Limits.{max_depth, max_statement_bytes, StatementPrints, CommandPrints, IsDeep, IsLong};
 
 use crate::fits::{depth_fits, statement_fits};
 use crate::limits::MAX_STATEMENT_BYTES;
-use crate::spelling::{put_command, put_statement};
-use lab_table::{Command, Statement};
+use crate::sink::append_result;
+use crate::spelling::{spell_command, spell_statement};
+use lab_table::{Command, NoMemory, Statement};
 use std::alloc::{AllocError, Global};
 use thiserror::Error;
 
@@ -83,6 +85,15 @@ pub fn check_statement(statement: &Statement) -> Result<(), PrintFault>
     }
 }
 
+/// Appends a statement in printed form, whatever its length. NoMemory where an allocation was refused, and then part of it
+/// may stand there.
+pub fn put_statement(out: &mut Vec<u8>, statement: &Statement) -> Result<(), NoMemory>
+    ensures in_range { OnOk result (StatementInRange statement.now) }
+    ensures text { OnOk result (out.new.items ≡ out.old.items ++ printed_statement statement.now) }
+{
+    append_result(spell_statement(out, statement))
+}
+
 /// Appends a command in printed form, if that keeps the limits of a text.
 /// TooDeep and TooLong only where it breaks that limit; NoMemory where an allocation was refused. Where it is refused,
 /// the text or a part of it may stand there.
@@ -94,11 +105,10 @@ pub fn put_printable(out: &mut Vec<u8>, command: &Command) -> Result<(), PrintFa
     ensures few_tables { result ≢ Err PrintFault.TooManyTables }
 {
     match command {
-        Command::Begin | Command::Commit | Command::Abort => Ok(put_command(out, command)?),
         Command::Run(statement) if !depth_fits(statement) => Err(PrintFault::TooDeep),
-        Command::Run(statement) => {
+        _ => {
             let before = out.len();
-            put_statement(out, statement)?;
+            append_result(spell_command(out, command))?;
             // The length is known once it stands there.
             if out.len() - before > MAX_STATEMENT_BYTES {
                 return Err(PrintFault::TooLong);

@@ -1,60 +1,62 @@
-//! Numbers and rows in printed form, as `spelling` has the rest.
+//! Numbers and rows in printed form, as `spelling` has the rest. What spells a text answers whether all of it was taken.
 
 ghost use Rattle.std.specs.Prelude.{◌≡◌, ◌≤◌, ◌+◌, ◌∷◌, ◌++◌, drop, codes, OnOk, true};
 ghost use Rattle.std.specs.Fmt.{decimal, signed_decimal};
 ghost use Rattle.lab_table.specs.TableName.{is_table_name};
 ghost use Rattle.lab_statement.specs.Printed.{printed_table_name, printed_row_name, printed_row, rows_or};
 ghost use Rattle.lab_statement.specs.Ranges.{RowInRange, ValueInRange};
-ghost use Rattle.lab_statement.specs.Sink.{Puts};
+ghost use Rattle.lab_statement.specs.Sink.{OnTaken, Puts};
 
-use crate::sink::Sink;
+use crate::sink::{Sink, append_result};
 use itoa::{Buffer, write_digits};
 use lab_table::{NoMemory, RowId, RowName, TableName, Value};
 
 /// Room for a comma, a space and a row, whatever its numbers are: each has at most 20 digits, and one of them a sign.
 const ROW_BYTES: usize = 48;
 
-/// Puts two texts.
-pub fn put_both<S: Sink>(out: &mut S, first: &[u8], second: &[u8]) -> Result<(), S::Refusal>
+/// Spells two texts.
+pub fn spell_both<S: Sink>(out: &mut S, first: &[u8], second: &[u8]) -> bool
     ensures { Puts S.kept S.limit result (S.text out.old) (first.now ++ second.now) (S.text out.new) }
 {
-    out.put(first)?;
-    out.put(second)
+    out.put(first) && out.put(second)
 }
 
-/// Puts a number in decimal.
-pub fn put_number<S: Sink>(out: &mut S, number: Value) -> Result<(), S::Refusal>
-    ensures in_range { OnOk result (ValueInRange number) }
+/// Spells a number in decimal.
+pub fn spell_number<S: Sink>(out: &mut S, number: Value) -> bool
+    ensures in_range { ValueInRange number }
     ensures text { Puts S.kept S.limit result (S.text out.old) (signed_decimal number) (S.text out.new) }
 {
     out.put(Buffer::new().format(number.number()).as_bytes())
 }
 
-/// Appends a number without a sign in decimal.
-pub fn put_natural<S: Sink>(out: &mut S, n: u32) -> Result<(), S::Refusal>
+/// Spells a number without a sign in decimal.
+pub fn spell_natural<S: Sink>(out: &mut S, n: u32) -> bool
     ensures { Puts S.kept S.limit result (S.text out.old) (decimal n) (S.text out.new) }
 {
     out.put(Buffer::new().format(n).as_bytes())
 }
 
-/// Puts what stands before a row of a table: its name and a space, and nothing for `test`.
-pub fn put_table_name<S: Sink>(out: &mut S, table: TableName) -> Result<(), S::Refusal>
-    ensures name { OnOk result (is_table_name table ≡ true) }
+/// Spells what stands before a row of a table: its name and a space, and nothing for `test`.
+pub fn spell_table_name<S: Sink>(out: &mut S, table: TableName) -> bool
+    ensures name { is_table_name table ≡ true }
     ensures text { Puts S.kept S.limit result (S.text out.old) (printed_table_name table) (S.text out.new) }
 {
-    if table == TableName::test() {
-        return Ok(());
-    }
-    put_both(out, table.as_bytes(), b" ")
+    table == TableName::test() || spell_both(out, table.as_bytes(), b" ")
 }
 
-/// Appends the name of a row: the number of a row of `test`, and the table's name and the number of another, as `stock 1`.
+/// Spells the name of a row: the number of a row of `test`, and the table's name and the number of another, as `stock 1`.
+pub fn spell_row_name<S: Sink>(out: &mut S, row: RowName) -> bool
+    ensures { Puts S.kept S.limit result (S.text out.old) (printed_row_name row) (S.text out.new) }
+{
+    spell_table_name(out, row.table) && spell_natural(out, row.id.number())
+}
+
+/// Appends the name of a row, as `stock 1`, and `1` for a row of `test`.
 /// NoMemory where an allocation was refused, and then part of it may stand there.
 pub fn put_row_name(out: &mut Vec<u8>, row: RowName) -> Result<(), NoMemory>
     ensures { OnOk result (out.new.items ≡ out.old.items ++ printed_row_name row) }
 {
-    put_table_name(out, row.table)?;
-    put_natural(out, row.id.number())
+    append_result(spell_row_name(out, row))
 }
 
 /// Writes a byte in front of what stands from `end` on. Answers where it stands.
@@ -105,8 +107,8 @@ fn write_row(text: &mut [u8; ROW_BYTES], id: RowId, value: Value) -> usize
     write_byte(text, start, b'(')
 }
 
-/// Puts a row. Its text is built first: one allocation and one copy for it.
-pub fn put_row<S: Sink>(out: &mut S, id: RowId, value: Value) -> Result<(), S::Refusal>
+/// Spells a row. Its text is built first: one allocation and one copy for it.
+pub fn spell_row<S: Sink>(out: &mut S, id: RowId, value: Value) -> bool
     ensures in_range { RowInRange id × ValueInRange value }
     ensures text { Puts S.kept S.limit result (S.text out.old) (printed_row id value) (S.text out.new) }
 {
@@ -115,15 +117,33 @@ pub fn put_row<S: Sink>(out: &mut S, id: RowId, value: Value) -> Result<(), S::R
     out.put(&text[start..])
 }
 
-/// Appends a row behind another one.
-fn put_next_row(out: &mut Vec<u8>, id: RowId, value: Value) -> Result<(), NoMemory>
-    ensures { OnOk result (out.new.items ≡ out.old.items ++ (codes ", " ++ printed_row id value)) }
+/// Spells a row behind another one.
+fn spell_next_row(out: &mut Vec<u8>, id: RowId, value: Value) -> bool
+    ensures { OnTaken result (out.new.items ≡ out.old.items ++ (codes ", " ++ printed_row id value)) }
 {
     let mut text = [0; ROW_BYTES];
     let start = write_row(&mut text, id, value);
     let start = write_byte(&mut text, start, b' ');
     let start = write_byte(&mut text, start, b',');
-    out.extend_from_slice(&text[start..])
+    out.put(&text[start..])
+}
+
+/// Spells rows of one table as a list, without the table's name; `none` where there is no row.
+pub fn spell_list(out: &mut Vec<u8>, rows: &[(RowName, Value)]) -> bool
+    ensures { OnTaken result (out.new.items ≡ out.old.items ++ rows_or (codes "none") rows.now) }
+{
+    let Some((first, rest)) = rows.split_first() else {
+        return out.put(b"none");
+    };
+    if !spell_row(out, first.0.id, first.1) {
+        return false;
+    }
+    for (row, value) in rest {
+        if !spell_next_row(out, row.id, *value) {
+            return false;
+        }
+    }
+    true
 }
 
 /// Appends rows of one table as a list, without the table's name; `none` where there is no row.
@@ -131,12 +151,5 @@ fn put_next_row(out: &mut Vec<u8>, id: RowId, value: Value) -> Result<(), NoMemo
 pub fn put_list(out: &mut Vec<u8>, rows: &[(RowName, Value)]) -> Result<(), NoMemory>
     ensures { OnOk result (out.new.items ≡ out.old.items ++ rows_or (codes "none") rows.now) }
 {
-    let Some((first, rest)) = rows.split_first() else {
-        return out.extend_from_slice(b"none");
-    };
-    put_row(out, first.0.id, first.1)?;
-    for (row, value) in rest {
-        put_next_row(out, row.id, *value)?;
-    }
-    Ok(())
+    append_result(spell_list(out, rows))
 }

@@ -1,15 +1,13 @@
 //! Where printed text goes: behind other bytes, or nowhere, where only its length is asked for.
 
-ghost use Rattle.std.specs.Prelude.{◌≡◌, ◌≤◌, ℕ, List, suc, replicate};
+ghost use Rattle.std.specs.Prelude.{◌≡◌, ◌≤◌, ℕ, List, MatchResult, suc, replicate, true, false};
 ghost use Rattle.lab_statement.specs.Sink.{Puts};
 
 use lab_table::NoMemory;
+use std::alloc::AllocError;
 
-/// What takes a text, piece by piece.
+/// What takes a text, piece by piece, as far as it has room.
 pub trait Sink {
-    /// Why a piece isn't taken. Part of it may have been.
-    type Refusal: Drop;
-
     // What was taken so far.
     ghost text: { Self → List ℕ };
 
@@ -19,15 +17,13 @@ pub trait Sink {
     // A shorter text than this isn't refused.
     ghost limit: { ℕ };
 
-    /// Takes bytes.
-    fn put(&mut self, bytes: &[u8]) -> Result<(), Self::Refusal>
+    /// Takes bytes. Answers whether it did: where it didn't, it may have taken part of them.
+    fn put(&mut self, bytes: &[u8]) -> bool
         ensures { Puts kept limit result (text self.old) bytes.now (text self.new) };
 }
 
-// Bytes are appended.
+// Bytes are appended, and refused for want of memory alone.
 impl Sink for Vec<u8> {
-    type Refusal = NoMemory;
-
     ghost text = { λ it. it.items };
 
     ghost kept = { λ byte. byte };
@@ -35,14 +31,17 @@ impl Sink for Vec<u8> {
     ghost limit = { 0 };
 
     #[inline]
-    fn put(&mut self, bytes: &[u8]) -> Result<(), NoMemory> {
-        self.extend_from_slice(bytes)
+    fn put(&mut self, bytes: &[u8]) -> bool {
+        self.extend_from_slice(bytes).is_ok()
     }
 }
 
-/// A text has no room.
-#[derive(Drop)]
-pub struct NoRoom;
+/// How appending a text to bytes ended, of which this says whether they took it.
+pub fn append_result(taken: bool) -> Result<(), NoMemory>
+    ensures { MatchResult result (λ _. taken ≡ true) (λ _. taken ≡ false) }
+{
+    if taken { Ok(()) } else { Err(AllocError) }
+}
 
 /// Room for a text of `LIMIT` bytes, of which only the length is kept.
 #[derive(Drop)]
@@ -61,8 +60,6 @@ impl<const LIMIT: usize> Room<LIMIT> {
 }
 
 impl<const LIMIT: usize> Sink for Room<LIMIT> {
-    type Refusal = NoRoom;
-
     ghost text = { λ it. replicate it.used 0 };
 
     ghost kept = { λ _. 0 };
@@ -70,11 +67,11 @@ impl<const LIMIT: usize> Sink for Room<LIMIT> {
     ghost limit = { suc LIMIT };
 
     #[inline]
-    fn put(&mut self, bytes: &[u8]) -> Result<(), NoRoom> {
+    fn put(&mut self, bytes: &[u8]) -> bool {
         if bytes.len() > LIMIT - self.used {
-            return Err(NoRoom);
+            return false;
         }
         self.used += bytes.len();
-        Ok(())
+        true
     }
 }

@@ -2,8 +2,8 @@ use Rattle.lab_script.proofs.Common.{◌≡◌, ℕ, List, ◌++◌, ap, ◌∙�
 use Rattle.lab_script.proofs.PrintedScripts.{script_spells}
 use Rattle.lab_script.proofs.print.print_script.Goals as goal
 
-pub returns-clause-again : goal.returns-clause-again
-returns-clause-again c =
+pub returns-then-spell_script-clause-again : goal.returns-then-spell_script-clause-again
+returns-then-spell_script-clause-again c =
     let script = c.args.script.now in
-    let text : c.put_script.new.out.items ≡ printed_script script = c.in_ok-put_script.ensures.text ∙ ap (λ (front : List ℕ). front ++ printed_script script) c.new-text.ensures.items in
-    rw text (script_spells script c.in_ok-put_script.ensures.in_range c.in_ok-check_script.ensures.prints)
+    let text : c.spell_script.new.out.items ≡ printed_script script = c.if-spell_script.ensures.text ∙ ap (λ (front : List ℕ). front ++ printed_script script) c.new-text.ensures.items in
+    rw text (script_spells script c.if-spell_script.ensures.in_range c.in_ok-check_script.ensures.prints)

@@ -14,15 +14,15 @@ loop-line-preserved c =
       few = omega (arith, c.in-Some.ensures.cases.1);
     }
 
-pub returns-clause-unprintable : goal.returns-clause-unprintable
-returns-clause-unprintable c =
+pub returns-then-spell_table-clause-unprintable : goal.returns-then-spell_table-clause-unprintable
+returns-then-spell_table-clause-unprintable c =
     ap (λ (view : TranscriptView). view.unprintable) c.output-2.view_is
     ∙ ap (λ (lines : List Line). (output_by c.loop-line.number c.loop-line.output c.loop-line.table (sessions_in c.loop-line.inside) lines).unprintable)
     (sym (nil_from_length _ c.in_default.ensures.cases))
     ∙ ap (λ (view : TranscriptView). view.unprintable) c.loop-line.invariant.output
 
-pub returns-clause-printed : goal.returns-clause-printed
-returns-clause-printed c = printed_all c.args.script.now _ (returns-clause-unprintable c)
+pub returns-then-spell_table-clause-printed : goal.returns-then-spell_table-clause-printed
+returns-then-spell_table-clause-printed c = printed_all c.args.script.now _ (returns-then-spell_table-clause-unprintable c)
 
-pub returns-clause-broken : goal.returns-clause-broken
-returns-clause-broken c = broken_in c.args.script.now _ (returns-clause-unprintable c)
+pub returns-then-spell_table-clause-broken : goal.returns-then-spell_table-clause-broken
+returns-then-spell_table-clause-broken c = broken_in c.args.script.now _ (returns-then-spell_table-clause-unprintable c)

@@ -1,6 +1,6 @@
 use Rattle.lab_statement.proofs.Common.{◌≡◌, ◌++◌, drop, map, Each, ValueInRange, joined, printed_numbers}
 use Rattle.lab_statement.proofs.Joined.{followed}
-use Rattle.lab_statement.proofs.spelling.put_numbers.Given as goal
+use Rattle.lab_statement.proofs.spelling.spell_numbers.Given as goal
 
 abbrev pub invariant-loop-number : goal.invariant-loop-number
 invariant-loop-number g l = record {

@@ -1,5 +1,5 @@
 use Rattle.lab_script.proofs.Common.{◌≡◌, ◌++◌, drop, flat_map, printed_line, Each, LineInRange}
-use Rattle.lab_script.proofs.spelling.put_script.Given as goal
+use Rattle.lab_script.proofs.spelling.spell_script.Given as goal
 
 abbrev pub invariant-loop-line : goal.invariant-loop-line
 invariant-loop-line l = record {

@@ -1,5 +1,5 @@
 use Rattle.lab_script.proofs.Common.{◌≡◌, ◌++◌, drop, map, Each, EntryInRange, joined, printed_named_rows, followed}
-use Rattle.lab_script.proofs.spelling.put_named_rows.Given as goal
+use Rattle.lab_script.proofs.spelling.spell_named_rows.Given as goal
 
 abbrev pub invariant-loop-row : goal.invariant-loop-row
 invariant-loop-row g l = record {
