@@ -1,9 +1,11 @@
 //! What is wrong with a script's text.
 
-ghost use Rattle.std.specs.Prelude.{◌≡◌, IfOk};
+ghost use Rattle.std.specs.Prelude.{◌≡◌, ◌++◌, IfOk};
 ghost use Rattle.lab_statement.specs.Fault.{fault_text};
+ghost use Rattle.lab_statement.specs.Sink.{OnTaken};
 
-use itoa::Buffer;
+use crate::row_text::{spell_both, spell_natural};
+use crate::sink::{Sink, append_result};
 use lab_table::NoMemory;
 use std::alloc::{AllocError, AllocFailed, Global};
 use thiserror::Error;
@@ -130,19 +132,27 @@ impl ScriptFaultKind {
     }
 }
 
+/// Spells the line that tells a fault, and nothing for want of memory.
+fn spell_fault(out: &mut Vec<u8>, fault: &ScriptFault) -> bool
+    ensures { OnTaken result (out.new.items ≡ out.old.items ++ fault_text fault.now) }
+{
+    match fault {
+        ScriptFault::NoMemory => true,
+        ScriptFault::At { line, kind } => {
+            out.put(b"line ")
+                && spell_natural(out, *line)
+                && spell_both(out, b": ", kind.name().as_bytes())
+                && out.put(b"\n")
+        }
+    }
+}
+
 /// The line that tells a fault, as `line 3: NoSession` and a newline; nothing for want of memory.
 /// NoMemory where an allocation was refused.
 pub fn print_script_fault(alloc: Global, fault: &ScriptFault) -> Result<Vec<u8>, NoMemory>
     ensures { IfOk result (λ text. text.items ≡ fault_text fault.now) }
 {
     let mut text = Vec::new(alloc);
-    if let ScriptFault::At { line, kind } = fault {
-        let mut digits = Buffer::new();
-        text.extend_from_slice(b"line ")?;
-        text.extend_from_slice(digits.format(*line).as_bytes())?;
-        text.extend_from_slice(b": ")?;
-        text.extend_from_slice(kind.name().as_bytes())?;
-        text.push(b'\n')?;
-    }
+    append_result(spell_fault(&mut text, fault))?;
     Ok(text)
 }
