@@ -21,8 +21,9 @@ pub use Rattle.lab_script.specs.FirstFaults.{commands_fault, commands_placed, pa
 pub use Rattle.lab_script.specs.Grammar.{AllDistinct, IsCommand, IsCommands, IsNamedRow, IsRowList, IsRows, IsSetup}
 pub use Rattle.lab_script.specs.Limits.{AllPrint, ScriptPrints, SomeLine, max_commands}
 pub use Rattle.lab_script.specs.PassedTables.{is_behind_set, setup_table, statement_table, statement_tables, token_table, with_named, with_setup_tokens, with_tokens}
-pub use Rattle.lab_script.specs.Printed.{named_rows_or, printed_line, printed_named_row, printed_named_rows, printed_script, printed_setup}
-pub use Rattle.lab_script.specs.Ranges.{EntryInRange, LineInRange, ScriptInRange, SessionInRange}
+pub use Rattle.lab_script.specs.Printed.{named_rows_or, printed_line, printed_script, printed_setup}
+pub use Rattle.lab_statement.specs.Ranges.{EntryInRange}
+pub use Rattle.lab_script.specs.Ranges.{LineInRange, ScriptInRange, SessionInRange}
 pub use Rattle.lab_script.specs.Script.{BeginsLongSetup, IsFit, LineSpells, LinesSpell, Spells, TokensSpell, begins_setup, extended, is_ascii_code, is_passed, session_digit, session_of}
 pub use Rattle.lab_script.specs.Tables.{command_table, line_table, script_tables, setup_tables, tables_so_far, with_all, with_any, with_commands, with_lines, with_rows}
 unfoldable pub use Rattle.lab_script.specs.Transcript.{statement_text, table_with}
@@ -31,18 +32,17 @@ pub use Rattle.lab_script.specs.TranscriptView.{Breaks, Ended, TranscriptView, e
 pub use Rattle.lab_script.specs.declared.script.Line.{Line}
 pub use Rattle.lab_script.specs.declared.script.Script.{Script}
 pub use Rattle.lab_statement.proofs.GrammarFaults.{are_four, fault_is, faultless, no_fifth, no_statement_fault, valued}
-pub use Rattle.lab_statement.proofs.Joined.{followed}
 pub use Rattle.lab_statement.proofs.PrintedNumbers.{comma_leads, decimal_plain}
 pub use Rattle.lab_statement.proofs.PrintedStatements.{row_fits, row_leads, row_tokens, statement_fits, statement_reads, statement_tokens}
 pub use Rattle.lab_statement.proofs.PrintedText.{Leads, all_plain, append_ascii, append_plain, cut_leads, leads_leads, leads_reads, literal, mark_leads, plain_code, reads_all, word_ends}
-pub use Rattle.lab_statement.proofs.PutTexts.{first_put, room_tells, same_length}
+pub use Rattle.lab_statement.proofs.PutTexts.{room_tells}
 pub use Rattle.lab_statement.proofs.Readings.{reads, reads_is, stops_as}
 pub use Rattle.lab_statement.proofs.StatementTaken.{end_gives, name_of_gives, nothing_gives, row_taken, statement_taken}
 pub use Rattle.lab_statement.proofs.Takes.{Any, Gives, Takes, each_gives, found, found_gives, further, gives, gives_of, if_gives, made, stop_of, stops, taken, then_gives, token_gives, tokens_give}
 unfoldable pub use Rattle.lab_statement.specs.FirstFaults.{no_rows_at}
 pub use Rattle.lab_statement.specs.FirstFaults.{behind_tables, is_short}
 pub use Rattle.lab_statement.specs.Limits.{CommandPrints, max_line_bytes}
-pub use Rattle.lab_statement.specs.Printed.{newline, printed_command, printed_row_name}
+pub use Rattle.lab_statement.specs.Printed.{newline, printed_command, printed_named_row, printed_row_name}
 pub use Rattle.lab_statement.specs.Token.{gap, is_word}
 pub use Rattle.lab_statement.specs.declared.fault.ScriptFault.{ScriptFault}
 pub use Rattle.lab_statement.specs.declared.print.PrintFault.{PrintFault}

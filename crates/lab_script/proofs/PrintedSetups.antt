@@ -1,5 +1,5 @@
 -- Printed setups.
-use Rattle.lab_script.proofs.Common.{◌≡◌, ℕ, ◌≤◌, List, [], ◌∷◌, ◌++◌, length, refl, sym, ap, subst, ◌∙◌, append_assoc, arith, ℤ, Bool, true, false, if◌then◌else◌, codes, None, Some, list_all, Row, numbered, rows_total, rows_apart, table_name_eq, test_name, Table, Token, tokens, IsNamedRow, IsRows, IsRowList, IsSetup, joined, printed_row, printed_named_row, printed_named_rows, named_rows_or, printed_setup, code_of, LineSpells, Each, EntryInRange, setup_tables, plain_code, Leads, literal, leads_reads, leads_leads, cut_leads, mark_leads, reads_all, comma_leads, row_tokens, row_leads, row_fits}
+use Rattle.lab_script.proofs.Common.{◌≡◌, ℕ, ◌≤◌, List, [], ◌∷◌, ◌++◌, length, refl, sym, ap, subst, ◌∙◌, append_assoc, arith, ℤ, Bool, true, false, if◌then◌else◌, codes, None, Some, list_all, Row, numbered, rows_total, rows_apart, table_name_eq, test_name, Table, Token, tokens, IsNamedRow, IsRows, IsRowList, IsSetup, joined, map, printed_row, printed_named_row, named_rows_or, printed_setup, code_of, LineSpells, Each, EntryInRange, setup_tables, plain_code, Leads, literal, leads_reads, leads_leads, cut_leads, mark_leads, reads_all, comma_leads, row_tokens, row_leads, row_fits}
 use Rattle.std.specs.FinMap as finite
 use Rattle.std.specs.Cmp.Lexicographic.{bytes_decides}
 use Rattle.lab_table.specs.declared.word.Word.TheVariants as word
@@ -25,7 +25,7 @@ space_leads : Leads (codes " ") []
 space_leads = literal (λ rest. refl) refl
 
 -- a printed row of a setup has its tokens
-named_row_leads : (row : Row) (z : ℤ) → EntryInRange (row, z) → Leads (printed_named_row row z) (named_row_tokens row z)
+named_row_leads : (row : Row) (z : ℤ) → EntryInRange (row, z) → Leads (printed_named_row (row, z)) (named_row_tokens row z)
 named_row_leads row z h = at (table_name_eq row.table test_name)
   where
     at : (b : Bool) → Leads ((if b then [] else row.table ++ codes " ") ++ printed_row row.id z) (table_tokens b row.table ++ row_tokens row.id z)
@@ -49,12 +49,12 @@ rows_tokens (row ∷ []) = named_row_tokens row.0 row.1
 rows_tokens (row ∷ next ∷ rows) = named_row_tokens row.0 row.1 ++ token.Comma ∷ rows_tokens (next ∷ rows)
 
 -- one printed row or more have their tokens
-joined_leads : (row : Row × ℤ) (rows : List (Row × ℤ)) → Each EntryInRange (row ∷ rows) → Leads (joined (printed_named_rows (row ∷ rows))) (rows_tokens (row ∷ rows))
+joined_leads : (row : Row × ℤ) (rows : List (Row × ℤ)) → Each EntryInRange (row ∷ rows) → Leads (joined (map printed_named_row (row ∷ rows))) (rows_tokens (row ∷ rows))
 joined_leads row [] r = named_row_leads row.0 row.1 r.0
 joined_leads row (next ∷ rows) r =
-    subst (Leads (joined (printed_named_rows (row ∷ next ∷ rows)))) (append_assoc (named_row_tokens row.0 row.1) (token.Comma ∷ []) (rows_tokens (next ∷ rows)))
-    (leads_leads (printed_named_row row.0 row.1 ++ codes ", ") (joined (printed_named_rows (next ∷ rows))) (named_row_tokens row.0 row.1 ++ token.Comma ∷ []) (rows_tokens (next ∷ rows))
-    (leads_leads (printed_named_row row.0 row.1) (codes ", ") (named_row_tokens row.0 row.1) (token.Comma ∷ []) (named_row_leads row.0 row.1 r.0) comma_leads)
+    subst (Leads (joined (map printed_named_row (row ∷ next ∷ rows)))) (append_assoc (named_row_tokens row.0 row.1) (token.Comma ∷ []) (rows_tokens (next ∷ rows)))
+    (leads_leads (printed_named_row row ++ codes ", ") (joined (map printed_named_row (next ∷ rows))) (named_row_tokens row.0 row.1 ++ token.Comma ∷ []) (rows_tokens (next ∷ rows))
+    (leads_leads (printed_named_row row) (codes ", ") (named_row_tokens row.0 row.1) (token.Comma ∷ []) (named_row_leads row.0 row.1 r.0) comma_leads)
     (joined_leads next rows r.1))
 
 -- the printed rows of a setup have their tokens

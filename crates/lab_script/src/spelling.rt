@@ -1,52 +1,29 @@
 //! The printed form of scripts. Each function that spells a text answers whether all of it was taken.
 
-ghost use Rattle.std.specs.Prelude.{◌≡◌, ◌++◌, ◌≤◌, ◌↔◌, codes, length, IsTrue};
+ghost use Rattle.std.specs.Prelude.{◌≡◌, ◌++◌, ◌≤◌, ◌↔◌, length, IsTrue};
 ghost use Rattle.std.specs.FinMap as finite;
 ghost use Rattle.std.specs.Fmt.{decimal};
-ghost use Rattle.lab_script.specs.Printed.{named_rows_or, printed_line, printed_named_row, printed_script, printed_setup};
-ghost use Rattle.lab_script.specs.Ranges.{EntryInRange, LineInRange, ScriptInRange};
+ghost use Rattle.lab_script.specs.Printed.{named_rows_or, printed_line, printed_script, printed_setup};
+ghost use Rattle.lab_script.specs.Ranges.{LineInRange, ScriptInRange};
 ghost use Rattle.lab_statement.specs.Each.{Each};
 ghost use Rattle.lab_statement.specs.Limits.{max_line_bytes};
+ghost use Rattle.lab_statement.specs.Ranges.{EntryInRange};
 ghost use Rattle.lab_statement.specs.Sink.{OnTaken, Puts};
 
 use crate::script::{Line, Script};
 use itoa::Buffer;
-use lab_statement::{MAX_LINE_BYTES, Room, Sink, spell_command, spell_row, spell_table_name};
+use lab_statement::{MAX_LINE_BYTES, Room, Sink, spell_all, spell_command};
 use lab_table::{RowName, Table, Value};
-
-/// Spells a row of any table.
-fn spell_named_row<S: Sink>(out: &mut S, row: RowName, value: Value) -> bool
-    ensures in_range { OnTaken result (EntryInRange (row, value)) }
-    ensures text { Puts S.kept S.limit result (S.text out.old) (printed_named_row row value) (S.text out.new) }
-{
-    spell_table_name(out, row.table) && spell_row(out, row.id, value)
-}
-
-/// Spells a row of any table behind another one.
-fn spell_next_named_row<S: Sink>(out: &mut S, row: RowName, value: Value) -> bool
-    ensures in_range { OnTaken result (EntryInRange (row, value)) }
-    ensures text { Puts S.kept S.limit result (S.text out.old) (codes ", " ++ printed_named_row row value) (S.text out.new) }
-{
-    out.put(b", ") && spell_named_row(out, row, value)
-}
 
 /// Spells rows of any table.
 pub fn spell_named_rows<S: Sink>(out: &mut S, none: &[u8], rows: &[(RowName, Value)]) -> bool
     ensures in_range { OnTaken result (Each EntryInRange rows.now) }
     ensures text { Puts S.kept S.limit result (S.text out.old) (named_rows_or none.now rows.now) (S.text out.new) }
 {
-    let Some((first, rest)) = rows.split_first() else {
-        return out.put(none);
-    };
-    if !spell_named_row(out, first.0, first.1) {
-        return false;
+    match rows {
+        [] => out.put(none),
+        _ => spell_all(out, rows),
     }
-    for (row, value) in rest {
-        if !spell_next_named_row(out, *row, *value) {
-            return false;
-        }
-    }
-    true
 }
 
 /// Spells the line of a setup, without its newline.

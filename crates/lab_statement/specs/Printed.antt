@@ -1,7 +1,7 @@
 -- The printed form: lower case, one space between tokens, and parentheses only where a predicate needs them.
-use Rattle.std.specs.Prelude.{ℕ, ℤ, Bool, true, false, ◌||◌, if◌then◌else◌, List, [], ◌∷◌, ◌++◌, Option, Some, None, codes}
+use Rattle.std.specs.Prelude.{ℕ, ℤ, Bool, true, false, ◌||◌, if◌then◌else◌, List, [], ◌∷◌, ◌++◌, map, Option, Some, None, codes}
 use Rattle.std.specs.Fmt.{decimal, signed_decimal}
-use Rattle.std.specs.FinMap as map
+use Rattle.std.specs.FinMap as finite
 use Rattle.lab_table.specs.Predicate.{Predicate}
 use Rattle.lab_table.specs.Predicate as predicate
 use Rattle.lab_table.specs.declared.statement.Statement.{Statement}
@@ -41,8 +41,7 @@ joined (text ∷ more ∷ texts) = text ++ codes ", " ++ joined (more ∷ texts)
 
 -- each number
 abbrev pub printed_numbers : List ℤ → List (List ℕ)
-printed_numbers [] = []
-printed_numbers (n ∷ ns) = signed_decimal n ∷ printed_numbers ns
+printed_numbers ns = map signed_decimal ns
 
 -- a text, in parentheses where the test is true
 abbrev pub parenthesized : Bool → List ℕ → List ℕ
@@ -108,6 +107,10 @@ printed_command command.Commit = codes "commit"
 printed_command command.Abort = codes "abort"
 printed_command (command.Run s) = printed_statement s
 
+-- a row with its value, as a list of rows of any table has it
+abbrev pub printed_named_row : Row × ℤ → List ℕ
+printed_named_row row = printed_table_name row.0.table ++ printed_row row.0.id row.1
+
 -- each of one table's rows with its value
 abbrev pub printed_rows : List (Row × ℤ) → List (List ℕ)
 printed_rows [] = []
@@ -120,7 +123,7 @@ rows_or none (row ∷ rows) = joined (printed_rows (row ∷ rows))
 
 -- the rows that a statement lists, which are of its table, by rising id
 abbrev pub printed_list : Rows → List ℕ
-printed_list rows = rows_or (codes "none") (map.entries rows)
+printed_list rows = rows_or (codes "none") (finite.entries rows)
 
 -- the end of a line
 abbrev pub newline : List ℕ

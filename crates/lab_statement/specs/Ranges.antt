@@ -9,6 +9,7 @@ use Rattle.lab_table.specs.declared.statement.Expr.{Expr}
 use Rattle.lab_table.specs.declared.statement.Expr.TheVariants as expr
 use Rattle.lab_table.specs.declared.statement.Command.{Command}
 use Rattle.lab_table.specs.declared.statement.Command.TheVariants as command
+use Rattle.lab_table.specs.Row.{Row}
 use Rattle.lab_table.specs.TableName.{is_table_name}
 use Rattle.lab_statement.specs.Each.{Each}
 
@@ -19,6 +20,10 @@ ValueInRange z = (negsuc 999999999 ≤ℤ z) × (z ≤ℤ pos 1000000000)
 -- from 1 to 999,999
 abbrev pub RowInRange : ℕ → Type 0
 RowInRange id = (1 ≤ id) × (id ≤ 999999)
+
+-- the name of a row's table, and the numbers of the row
+abbrev pub EntryInRange : Row × ℤ → Type 0
+EntryInRange row = (is_table_name row.0.table ≡ true) × RowInRange row.0.id × ValueInRange row.1
 
 -- from 1 to 1,000,000
 abbrev pub ModulusInRange : ℕ → Type 0

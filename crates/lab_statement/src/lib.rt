@@ -32,6 +32,7 @@ mod print;
 mod row;
 mod row_text;
 mod sink;
+mod spell;
 mod spelling;
 mod statement;
 mod statement_text;
@@ -49,6 +50,7 @@ pub use row_text::{
     put_list, put_row_name, spell_list, spell_row, spell_row_name, spell_table_name,
 };
 pub use sink::{Room, Sink, append_result};
+pub use spell::{Spell, spell_all};
 pub use spelling::{spell_command, spell_statement};
 pub use statement::check_length;
 pub use statement_text::parse_statement;

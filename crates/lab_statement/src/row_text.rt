@@ -8,6 +8,7 @@ ghost use Rattle.lab_statement.specs.Ranges.{RowInRange, ValueInRange};
 ghost use Rattle.lab_statement.specs.Sink.{OnTaken, Puts};
 
 use crate::sink::{Sink, append_result};
+use crate::spell::Spell;
 use itoa::{Buffer, write_digits};
 use lab_table::{NoMemory, RowId, RowName, TableName, Value};
 
@@ -21,12 +22,31 @@ pub fn spell_both<S: Sink>(out: &mut S, first: &[u8], second: &[u8]) -> bool
     out.put(first) && out.put(second)
 }
 
-/// Spells a number in decimal.
-pub fn spell_number<S: Sink>(out: &mut S, number: Value) -> bool
-    ensures in_range { ValueInRange number }
-    ensures text { Puts S.kept S.limit result (S.text out.old) (signed_decimal number) (S.text out.new) }
-{
-    out.put(Buffer::new().format(number.number()).as_bytes())
+impl Spell for Value {
+    ghost use Rattle.std.specs.Fmt.{signed_decimal};
+    ghost use Rattle.lab_statement.specs.Ranges.{ValueInRange};
+
+    ghost printed = { signed_decimal };
+
+    ghost in_range = { ValueInRange };
+
+    fn spell<S: Sink>(&self, out: &mut S) -> bool {
+        out.put(Buffer::new().format(self.number()).as_bytes())
+    }
+}
+
+// A row of any table.
+impl Spell for (RowName, Value) {
+    ghost use Rattle.lab_statement.specs.Printed.{printed_named_row};
+    ghost use Rattle.lab_statement.specs.Ranges.{EntryInRange};
+
+    ghost printed = { printed_named_row };
+
+    ghost in_range = { EntryInRange };
+
+    fn spell<S: Sink>(&self, out: &mut S) -> bool {
+        spell_table_name(out, self.0.table) && spell_row(out, self.0.id, self.1)
+    }
 }
 
 /// Spells a number without a sign in decimal.

@@ -8,8 +8,9 @@ ghost use Rattle.lab_statement.specs.Each.{Each};
 ghost use Rattle.lab_statement.specs.Ranges.{ValueInRange, ModulusInRange, PredInRange, WhereInRange, ExprInRange, KindInRange, RowInRange, StatementInRange, CommandInRange};
 ghost use Rattle.lab_statement.specs.Sink.{OnTaken, Puts};
 
-use crate::row_text::{spell_both, spell_natural, spell_number, spell_row};
+use crate::row_text::{spell_both, spell_natural, spell_row};
 use crate::sink::Sink;
+use crate::spell::{Spell, spell_all};
 use lab_table::{
     Cmp, Col, Command, Expr, Modulus, Pred, PredKind, RowId, Statement, StatementKind, TableName,
     Value,
@@ -42,25 +43,7 @@ fn spell_text_number<S: Sink>(out: &mut S, text: &[u8], number: Value) -> bool
     ensures in_range { OnTaken result (ValueInRange number) }
     ensures text { Puts S.kept S.limit result (S.text out.old) (text.now ++ signed_decimal number) (S.text out.new) }
 {
-    out.put(text) && spell_number(out, number)
-}
-
-fn spell_numbers<S: Sink>(out: &mut S, numbers: &[Value]) -> bool
-    ensures in_range { OnTaken result (Each ValueInRange numbers.now) }
-    ensures text { Puts S.kept S.limit result (S.text out.old) (joined (printed_numbers numbers.now)) (S.text out.new) }
-{
-    let Some((first, rest)) = numbers.split_first() else {
-        return true;
-    };
-    if !spell_number(out, *first) {
-        return false;
-    }
-    for number in rest {
-        if !spell_text_number(out, b", ", *number) {
-            return false;
-        }
-    }
-    true
+    out.put(text) && number.spell(out)
 }
 
 fn spell_comparison<S: Sink>(out: &mut S, col: Col, cmp: Cmp, number: Value) -> bool
@@ -83,7 +66,7 @@ fn spell_one_of<S: Sink>(out: &mut S, col: Col, numbers: &[Value]) -> bool
     ensures in_range { OnTaken result (Each ValueInRange numbers.now) }
     ensures text { Puts S.kept S.limit result (S.text out.old) (printed_col col ++ codes " in (" ++ joined (printed_numbers numbers.now) ++ codes ")") (S.text out.new) }
 {
-    spell_both(out, col_text(col), b" in (") && spell_numbers(out, numbers) && out.put(b")")
+    spell_both(out, col_text(col), b" in (") && spell_all(out, numbers) && out.put(b")")
 }
 
 /// Spells a predicate, in parentheses where it stands enclosed.
@@ -164,7 +147,7 @@ fn spell_expr<S: Sink>(out: &mut S, expr: Expr) -> bool
     ensures text { Puts S.kept S.limit result (S.text out.old) (printed_expr expr) (S.text out.new) }
 {
     match expr {
-        Expr::Set(n) => spell_number(out, n),
+        Expr::Set(n) => n.spell(out),
         Expr::Plus(n) => spell_text_number(out, b"value + ", n),
         Expr::Minus(n) => spell_text_number(out, b"value - ", n),
     }
