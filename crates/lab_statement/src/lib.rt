@@ -14,7 +14,8 @@
 //! [`check_statement`] tells whether it would, without a text.
 //!
 //! For texts of other crates [`put_printable`], [`put_row_name`] and [`put_list`] append a command, a row's name and rows
-//! to bytes. The crate of scripts reads the tokens of its lines with the same [`Parser`], and prints with the same parts.
+//! to bytes. The crate of scripts reads the tokens of its lines with the same [`Parser`], and prints into the same
+//! [`Sink`]s: bytes take a text, and a [`Room`] tells whether it fits, without one.
 //!
 //! What takes memory is handed an allocator, or bytes that have one, and may be refused for want of memory. Only bytes
 //! that were handed in may then end in a part of what was to be appended.
@@ -46,9 +47,7 @@ pub use parser::{Parser, placed};
 pub use print::{
     PrintFault, check_command, check_statement, print_statement, put_printable, put_statement,
 };
-pub use row_text::{
-    put_list, put_row_name, spell_list, spell_row, spell_row_name, spell_table_name,
-};
+pub use row_text::{put_list, put_row_name, spell_list, spell_row_name};
 pub use sink::{Room, Sink, append_result};
 pub use spell::{Spell, spell_all};
 pub use spelling::{spell_command, spell_statement};

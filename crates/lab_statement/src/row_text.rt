@@ -57,7 +57,7 @@ pub fn spell_natural<S: Sink>(out: &mut S, n: u32) -> bool
 }
 
 /// Spells what stands before a row of a table: its name and a space, and nothing for `test`.
-pub fn spell_table_name<S: Sink>(out: &mut S, table: TableName) -> bool
+fn spell_table_name<S: Sink>(out: &mut S, table: TableName) -> bool
     ensures name { is_table_name table ≡ true }
     ensures text { Puts S.kept S.limit result (S.text out.old) (printed_table_name table) (S.text out.new) }
 {

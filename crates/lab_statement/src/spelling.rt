@@ -2,7 +2,6 @@
 
 ghost use Rattle.std.specs.Prelude.{◌≡◌, ◌++◌, ◌||◌, codes, true};
 ghost use Rattle.std.specs.Fmt.{decimal, signed_decimal};
-ghost use Rattle.lab_table.specs.TableName.{is_table_name};
 ghost use Rattle.lab_statement.specs.Printed.{printed_col, printed_cmp, joined, printed_numbers, parenthesized, printed_pred, printed_where, printed_expr, is_and, is_or, printed_kind, printed_row, printed_statement, printed_command};
 ghost use Rattle.lab_statement.specs.Each.{Each};
 ghost use Rattle.lab_statement.specs.Ranges.{ValueInRange, ModulusInRange, PredInRange, WhereInRange, ExprInRange, KindInRange, RowInRange, StatementInRange, CommandInRange};
@@ -153,43 +152,33 @@ fn spell_expr<S: Sink>(out: &mut S, expr: Expr) -> bool
     }
 }
 
-/// Spells words and the name of a table.
-fn spell_words<S: Sink>(out: &mut S, words: &[u8], table: TableName) -> bool
-    ensures name { is_table_name table ≡ true }
-    ensures text { Puts S.kept S.limit result (S.text out.old) (words.now ++ table) (S.text out.new) }
+/// Spells three texts.
+fn spell_three<S: Sink>(out: &mut S, first: &[u8], second: &[u8], third: &[u8]) -> bool
+    ensures { Puts S.kept S.limit result (S.text out.old) (first.now ++ second.now ++ third.now) (S.text out.new) }
 {
-    spell_both(out, words, table.as_bytes())
-}
-
-/// Spells words, the name of a table and more words.
-fn spell_around<S: Sink>(out: &mut S, words: &[u8], table: TableName, more: &[u8]) -> bool
-    ensures name { is_table_name table ≡ true }
-    ensures text { Puts S.kept S.limit result (S.text out.old) (words.now ++ table ++ more.now) (S.text out.new) }
-{
-    spell_words(out, words, table) && out.put(more)
+    spell_both(out, first, second) && out.put(third)
 }
 
 /// Spells what a statement does to the rows of this table.
-fn spell_kind<S: Sink>(out: &mut S, table: TableName, kind: &StatementKind) -> bool
+fn spell_kind<S: Sink>(out: &mut S, table: &[u8], kind: &StatementKind) -> bool
     ensures in_range { OnTaken result (KindInRange kind.now) }
-    ensures name { is_table_name table ≡ true }
-    ensures text { Puts S.kept S.limit result (S.text out.old) (printed_kind table kind.now) (S.text out.new) }
+    ensures text { Puts S.kept S.limit result (S.text out.old) (printed_kind table.now kind.now) (S.text out.new) }
 {
     match kind {
         StatementKind::Select { pred } => {
-            spell_words(out, b"select * from ", table) && spell_where(out, pred)
+            spell_both(out, b"select * from ", table) && spell_where(out, pred)
         }
         StatementKind::Update { expr, pred } => {
-            spell_around(out, b"update ", table, b" set value = ")
+            spell_three(out, b"update ", table, b" set value = ")
                 && spell_expr(out, *expr)
                 && spell_where(out, pred)
         }
         StatementKind::Insert { id, value } => {
-            spell_around(out, b"insert into ", table, b" (id, value) values ")
+            spell_three(out, b"insert into ", table, b" (id, value) values ")
                 && spell_row(out, *id, *value)
         }
         StatementKind::Delete { pred } => {
-            spell_words(out, b"delete from ", table) && spell_where(out, pred)
+            spell_both(out, b"delete from ", table) && spell_where(out, pred)
         }
     }
 }
@@ -200,7 +189,7 @@ pub fn spell_statement<S: Sink>(out: &mut S, statement: &Statement) -> bool
     ensures in_range { OnTaken result (StatementInRange statement.now) }
     ensures text { Puts S.kept S.limit result (S.text out.old) (printed_statement statement.now) (S.text out.new) }
 {
-    spell_kind(out, statement.table, &statement.kind)
+    spell_kind(out, statement.table.as_bytes(), &statement.kind)
 }
 
 /// Spells a command.

@@ -2,17 +2,17 @@ use Rattle.lab_statement.proofs.Common.{◌++◌, ap, codes, printed_kind, print
 use Rattle.lab_statement.proofs.PutTexts.{puts_rest}
 use Rattle.lab_statement.proofs.spelling.spell_kind.Goals as goal
 
-pub returns-then-spell_words-clause-text : goal.returns-then-spell_words-clause-text
-returns-then-spell_words-clause-text g c =
-    puts_rest g.S.Sink.kept g.S.Sink.limit c.spell_where.result _ (codes "select * from " ++ c.args.table) (printed_where c.in-Select.pred) _ _ _ c.if-spell_words.ensures.text c.spell_where.ensures.text
-    (ap (printed_kind c.args.table) c.in-Select.is)
+pub returns-then-spell_both-clause-text : goal.returns-then-spell_both-clause-text
+returns-then-spell_both-clause-text g c =
+    puts_rest g.S.Sink.kept g.S.Sink.limit c.spell_where.result _ (codes "select * from " ++ c.args.table.now) (printed_where c.in-Select.pred) _ _ _ c.if-spell_both.ensures c.spell_where.ensures.text
+    (ap (printed_kind c.args.table.now) c.in-Select.is)
 
-pub returns-then-spell_around-2-clause-text : goal.returns-then-spell_around-2-clause-text
-returns-then-spell_around-2-clause-text g c =
-    puts_rest g.S.Sink.kept g.S.Sink.limit c.spell_row.result _ (codes "insert into " ++ c.args.table ++ codes " (id, value) values ") (printed_row c.in-Insert.id c.in-Insert.value) _ _ _
-    c.if-spell_around-2.ensures.text c.spell_row.ensures.text (ap (printed_kind c.args.table) c.in-Insert.is)
+pub returns-then-spell_three-2-clause-text : goal.returns-then-spell_three-2-clause-text
+returns-then-spell_three-2-clause-text g c =
+    puts_rest g.S.Sink.kept g.S.Sink.limit c.spell_row.result _ (codes "insert into " ++ c.args.table.now ++ codes " (id, value) values ") (printed_row c.in-Insert.id c.in-Insert.value) _ _ _
+    c.if-spell_three-2.ensures c.spell_row.ensures.text (ap (printed_kind c.args.table.now) c.in-Insert.is)
 
-pub returns-then-spell_words-2-clause-text : goal.returns-then-spell_words-2-clause-text
-returns-then-spell_words-2-clause-text g c =
-    puts_rest g.S.Sink.kept g.S.Sink.limit c.spell_where-then-spell_words-2.result _ (codes "delete from " ++ c.args.table) (printed_where c.in-Delete.pred) _ _ _ c.if-spell_words-2.ensures.text
-    c.spell_where-then-spell_words-2.ensures.text (ap (printed_kind c.args.table) c.in-Delete.is)
+pub returns-then-spell_both-2-clause-text : goal.returns-then-spell_both-2-clause-text
+returns-then-spell_both-2-clause-text g c =
+    puts_rest g.S.Sink.kept g.S.Sink.limit c.spell_where-then-spell_both-2.result _ (codes "delete from " ++ c.args.table.now) (printed_where c.in-Delete.pred) _ _ _ c.if-spell_both-2.ensures
+    c.spell_where-then-spell_both-2.ensures.text (ap (printed_kind c.args.table.now) c.in-Delete.is)
