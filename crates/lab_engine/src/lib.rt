@@ -9,9 +9,10 @@
 //!
 //! A [`Journal`] is an engine of any [`Rules`], which say of each [`Asker`] which commits it sees, who blocks its
 //! statement and whether its commit conflicts. Beside its setup and its log it keeps the [`Situation`] in which the log
-//! leaves sessions and rows, and calls ask that: of each session its active transaction and the statement that it waits
-//! with, of each row the versions that commits installed and those that transactions have pending. A call decides on its event, then makes room for it, and then goes on by
-//! it, which takes no memory. The rules of each level, and the engines as journals over them, are in `lab_locking` and
+//! leaves sessions and rows, and calls ask that: of each session its active transaction, the statement that it waits
+//! with and those that block this, so who waits for whom; of each row the versions that commits installed and those
+//! that transactions have pending. A call decides on its event, then makes room for it, and then goes on by it, which
+//! takes no memory. The rules of each level, and the engines as journals over them, are in `lab_locking` and
 //! `lab_versions`.
 #![tactic(auto)]
 
