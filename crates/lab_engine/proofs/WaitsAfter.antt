@@ -1,11 +1,11 @@
 -- Whom a session waits for after an event that leaves this as it was.
-use Rattle.std.proofs.Common.{◌≡◌, ◌≢◌, ℕ, refl, sym, ap, subst, ◌∙◌, cond, ◌∷◌, ◌↔◌, ◌==◌, Some, None, option_map, inl, inr, IsTrue}
+use Rattle.std.proofs.Common.{◌≡◌, ◌≢◌, ℕ, refl, sym, ap, subst, ◌∙◌, cond, ◌∷◌, ◌↔◌, ◌==◌, ◌⊎◌, Some, None, option_map, inl, inr, IsTrue}
 use Rattle.lab_engine.proofs.Common.{Aborted, AlreadyBegun, Begun, BlockedBy, Blocks, Busy, Command, Committed, IsLegal, Level, Listed, NoTransaction, Op, Outcome, Past, Permitted, Refused, Rows, Run, Statement, Table, Txn, View, Waits, WaitsOn, Writes, active, active_after, both_ways, cases_eq, eq-eqb, grown, is_over, ne_eqb, none_some, same_Some, some_of, version_by, waiting, waiting_after, ⊤}
 use Rattle.lab_engine.specs.declared.event.Level.TheVariants.{Locking, Snapshot, Committed as ReadCommitted}
 use Rattle.lab_engine.proofs.LockSteps.{fresh}
 use Rattle.lab_engine.proofs.Apart.{writes_apart}
 use Rattle.lab_engine.proofs.AfterCommits.{still_blocked}
-use Rattle.lab_engine.proofs.AfterReads.{Unasked, reads_block}
+use Rattle.lab_engine.proofs.AfterReads.{Unasked, reads_off, reads_on}
 use Rattle.std.specs.FinMap as map
 
 -- a transaction that has run nothing blocks nobody
@@ -26,9 +26,9 @@ same_blocks ReadCommitted setup past e command other commits asker holder s = ((
 same_blocks Snapshot setup past e command outcome commits asker holder s = ((λ b. b), (λ b. b))
 
 -- an outcome lets another session that waits with a statement wait for the same, but for a transaction that it ends
-abbrev pub LeavesWaiter : Level → Outcome → Statement → Type 0
-LeavesWaiter level (Listed view rows writes) s = IsTrue (map.len writes == 0) × Unasked level s
-LeavesWaiter level other s = ⊤
+abbrev pub LeavesWaiter : Level → Table → Past → ℕ → ℕ → Outcome → Statement → Type 0
+LeavesWaiter level setup past e k (Listed view rows writes) s = IsTrue (map.len writes == 0) × (Unasked level s ⊎ WaitsOn level setup past k e)
+LeavesWaiter level setup past e k other s = ⊤
 
 module _ (level : Level) (setup : Table) (past : Past) (e k : ℕ) (off : e ≢ k) (command : Command) (outcome : Outcome) where
   abbrev after : Past
@@ -121,35 +121,36 @@ module _ (level : Level) (setup : Table) (past : Past) (e k : ℕ) (off : e ≢ 
       let v = some_of (version_by holder row) some in
       writes_apart level locks setup past legal other e holder t row v.0 (λ same. there (sym same)) held gives.active_is v.1))
 
-  -- a statement ran that wrote nothing, and what was read is of no weight
+  -- a statement ran that wrote nothing, and what was read is of no weight, or its session was waited for
   module _ (s t : Statement) (waits : waiting past k ≡ Some t) (view : View) (rows : Rows) (writes : Writes) (txn : Txn) (is_txn : active past e ≡ Some txn)
-      (none : IsTrue (map.len writes == 0)) (why : Unasked level t) where
+      (none : IsTrue (map.len writes == 0)) where
     abbrev op : Op
     op = record { statement = s; view = view; rows = rows; writes = writes }
 
     ran : active (after level setup past e k off (Run s) (Listed view rows writes)) e ≡ Some (grown txn op)
     ran = own_active level setup past e k off (Run s) (Listed view rows writes) ∙ ap (option_map (λ u. grown u op)) is_txn
 
-    reads_waits : SameWaits level setup past e k off (Run s) (Listed view rows writes)
-    reads_waits = quiet level setup past e k off (Run s) (Listed view rows writes) (λ eq. cc) (λ u is.
-        let weighs : Unasked level u = subst (Unasked level) (same_Some t u (sym waits ∙ is)) why in (before u weighs, behind u weighs))
+    reads_waits : Unasked level t ⊎ WaitsOn level setup past k e → SameWaits level setup past e k off (Run s) (Listed view rows writes)
+    reads_waits why = quiet level setup past e k off (Run s) (Listed view rows writes) (λ eq. cc) (λ u is. (before why u is, behind u))
       where
-        before : (u : Statement) → Unasked level u → BlockedBy level setup (after level setup past e k off (Run s) (Listed view rows writes)) k u e → BlockedBy level setup past k u e
-        before u why (asker, holder, apart, is_asker, is_holder, b) =
+        before : Unasked level t ⊎ WaitsOn level setup past k e → (u : Statement) → waiting past k ≡ Some u
+            → BlockedBy level setup (after level setup past e k off (Run s) (Listed view rows writes)) k u e → BlockedBy level setup past k u e
+        before (inl unasked) u is (asker, holder, apart, is_asker, is_holder, b) =
             let now = subst (Blocks level setup (after level setup past e k off (Run s) (Listed view rows writes)) asker u) (sym (same_Some (grown txn op) holder (sym ran ∙ is_holder))) b in
-            let was = (reads_block level setup past asker u why txn op none).0 ((same_blocks level setup past e (Run s) (Listed view rows writes) (λ eq. cc) asker (grown txn op) u).0 now) in
+            let was = reads_off level setup past asker u txn op none (subst (Unasked level) (same_Some t u (sym waits ∙ is)) unasked)
+            ((same_blocks level setup past e (Run s) (Listed view rows writes) (λ eq. cc) asker (grown txn op) u).0 now) in
             (asker, txn, apart, sym (other_active level setup past e k off (Run s) (Listed view rows writes) k off) ∙ is_asker, is_txn, was)
+        before (inr (held, is_held, b)) u is _ = subst (λ v. BlockedBy level setup past k v e) (same_Some held u (sym is_held ∙ is)) b
 
-        behind : (u : Statement) → Unasked level u → BlockedBy level setup past k u e → BlockedBy level setup (after level setup past e k off (Run s) (Listed view rows writes)) k u e
-        behind u why (asker, holder, apart, is_asker, is_holder, b) =
-            let was = (reads_block level setup past asker u why txn op none).1 (subst (Blocks level setup past asker u) (same_Some holder txn (sym is_holder ∙ is_txn)) b) in
+        behind : (u : Statement) → BlockedBy level setup past k u e → BlockedBy level setup (after level setup past e k off (Run s) (Listed view rows writes)) k u e
+        behind u (asker, holder, apart, is_asker, is_holder, b) =
+            let was = reads_on level setup past asker u txn op none (subst (Blocks level setup past asker u) (same_Some holder txn (sym is_holder ∙ is_txn)) b) in
             let now = (same_blocks level setup past e (Run s) (Listed view rows writes) (λ eq. cc) asker (grown txn op) u).1 was in
             (asker, grown txn op, apart, other_active level setup past e k off (Run s) (Listed view rows writes) k off ∙ is_asker, ran, now)
 
   -- another session that waits behind an event waits for the same, where it waited for no transaction that the event ended, and
-  -- what ran wrote nothing and read nothing that is of weight
   pub same_waits : (outcome : Outcome) (t : Statement) → IsLegal level setup past → Permitted level setup past e command outcome → (IsTrue (is_over outcome) → ¬ WaitsOn level setup past k e)
-      → LeavesWaiter level outcome t → waiting (record { session = e; command = command; outcome = outcome } ∷ past) k ≡ Some t → SameWaits level setup past e k off command outcome
+      → LeavesWaiter level setup past e k outcome t → waiting (record { session = e; command = command; outcome = outcome } ∷ past) k ≡ Some t → SameWaits level setup past e k off command outcome
   same_waits (Begun n) t legal permitted before leaves waits = begins_waits n permitted
   same_waits (Listed view rows writes) t legal (s, txn, asks, free, effect) before leaves waits =
       subst (λ c. SameWaits level setup past e k off c (Listed view rows writes)) (sym asks.command_is)
@@ -163,6 +164,7 @@ module _ (level : Level) (setup : Table) (past : Past) (e k : ℕ) (off : e ≢ 
   same_waits (Refused fault) t legal permitted before leaves waits = ends level setup past e k off command (Refused fault) (λ eq. cc) refl (before refl)
 
 -- any outcome but that of a statement that ran
-pub leaves_waiter : (level : Level) (outcome : Outcome) (s : Statement) → ((view : View) (rows : Rows) (writes : Writes) → outcome ≢ Listed view rows writes) → LeavesWaiter level outcome s
-leaves_waiter level (Listed view rows writes) s lists = absurd (lists view rows writes refl)
-leaves_waiter level other s lists = tt
+pub leaves_waiter : (level : Level) (setup : Table) (past : Past) (e k : ℕ) (outcome : Outcome) (s : Statement) → ((view : View) (rows : Rows) (writes : Writes) → outcome ≢ Listed view rows writes)
+    → LeavesWaiter level setup past e k outcome s
+leaves_waiter level setup past e k (Listed view rows writes) s lists = absurd (lists view rows writes refl)
+leaves_waiter level setup past e k other s lists = tt

@@ -70,18 +70,23 @@ fn waits_on<R: Rules>(
     rules.blockers(&asker, statement)
 }
 
-/// Whether a statement that ran, and wrote this, may block or free another session that waits with a statement. What was read
-/// blocks only a statement that would write, and only where it is asked (`keeps`).
-fn may_touch(keeps: bool, writes: &Writes, statement: &Statement) -> bool
-    ensures { result ≡ false → IsTrue (map.len writes.now == 0) × ((keeps ≡ false) ⊎ (is_read_only statement.now ≡ true)) }
+/// Whether a statement that ran wrote nothing.
+fn is_read(writes: &Writes) -> bool
+    ensures { result ≡ (map.len writes.now == 0) }
 {
-    if !writes.entries().is_empty() {
+    writes.entries().is_empty()
+}
+
+/// Whether a statement that ran, and wrote this, may block or free another session that waits with a statement, where
+/// that one is blocked `already` by the session that ran it or isn't. What was read blocks only a statement that would
+/// write, only where it is asked (`keeps`), and frees nobody.
+fn may_affect(keeps: bool, already: bool, writes: &Writes, statement: &Statement) -> bool
+    ensures { result ≡ false → IsTrue (map.len writes.now == 0) × ((keeps ≡ false) ⊎ (is_read_only statement.now ≡ true) ⊎ IsTrue already) }
+{
+    if !is_read(writes) {
         return true;
     }
-    if statement.is_read_only() {
-        return false;
-    }
-    keeps
+    keeps && !already && !statement.is_read_only()
 }
 
 /// Whether an event may change whom another session waits for that waits with this statement, given who waited for whom
@@ -97,9 +102,10 @@ fn may_change(
         → event.now.session ≢ session → result ≡ false → waiting (event.now ∷ past) session ≡ Some statement.now
         → (other : ℕ) → WaitsOn level setup (event.now ∷ past) session other ↔ WaitsOn level setup past session other }
 {
+    let already = waits.on(session).has(event.session);
     match &event.outcome {
-        Outcome::Rows { writes, .. } => may_touch(keeps, writes, statement),
-        outcome => is_over(outcome) && waits.on(session).has(event.session),
+        Outcome::Rows { writes, .. } => may_affect(keeps, already, writes, statement),
+        outcome => already && is_over(outcome),
     }
 }
 
@@ -167,10 +173,7 @@ fn is_released(waits: &WaitGraph, state: &SessionState) -> bool
     if state.waits.is_none() {
         return false;
     }
-    if waits.is_free(state.session) {
-        return true;
-    }
-    is_on_circle(waits, state.session)
+    waits.is_free(state.session) || is_on_circle(waits, state.session)
 }
 
 /// The least session whose waiting statement has nothing in its way, or stands on a cycle.
