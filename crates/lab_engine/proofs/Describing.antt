@@ -1,6 +1,7 @@
 -- What a situation says of sessions, rows and numbers.
-use Rattle.std.proofs.Common.{◌≡◌, ◌≢◌, ℕ, zero, suc, ◌+◌, ◌==◌, cond, List, [], ◌∷◌, map as each, Option, Some, None, refl, sym, ap, subst, ◌∙◌, arith, inl, inr, Contains, IsSome, option_map, is_some}
-use Rattle.lab_engine.proofs.Common.{none_of, LogEvent, RunningTxn, SessionState, Situation, Level, Past, Txn, active, active_after, waiting, waiting_after, begun_after, IsSame, Describes, DescribesAll, DescribesRows, Agree, IsRunning, all_sessions, running_of, waiting_of, eqb_tells, RowStates}
+use Rattle.std.proofs.Common.{◌≡◌, ◌≢◌, ℕ, zero, suc, ◌+◌, ◌==◌, cond, List, [], ◌∷◌, map as each, Option, Some, None, refl, sym, ap, subst, ◌∙◌, arith, inl, inr, Contains, IsSome, IsTrue, option_map, is_some}
+use Rattle.std.specs.Option.{is_none}
+use Rattle.lab_engine.proofs.Common.{and_parts, list_all, none_of, LogEvent, RunningTxn, SessionState, Situation, Level, Past, Txn, active, active_after, waiting, waiting_after, begun_after, IsSame, Describes, DescribesAll, DescribesRows, Agree, IsRunning, all_sessions, running_of, waiting_of, eqb_tells, RowStates}
 
 no_txn : (level : Level) (txn : Option Txn) → ¬ IsSome txn → Agree level txn None
 no_txn level None h = tt
@@ -54,6 +55,17 @@ waits_in level past (state ∷ states) session all there = elim (eqb_tells state
 pub waits_agree : {level : Level} (past : Past) (situation : Situation) → Describes level past situation → (session : ℕ) → waiting_of situation.sessions session ≡ waiting past session
 waits_agree {level} past situation is session =
     waits_in level past situation.sessions session is.states (λ some. subst (λ l. Contains l session) (sym is.sessions) (is.waiting_is session some))
+
+none_kept : (states : List SessionState) → IsTrue (list_all (λ state. is_none state.waits) states) → (session : ℕ) → waiting_of states session ≡ None
+none_kept [] all session = refl
+none_kept (state ∷ states) all session =
+    let parts = and_parts (is_none state.waits) (list_all (λ s. is_none s.waits) states) all in
+    let rest : waiting_of states session ≡ None = none_kept states parts.1 session in
+    grind (arith, parts.0, rest)
+
+-- where no state waits, no session does
+pub nobody_waits : {level : Level} (past : Past) (situation : Situation) → Describes level past situation → IsTrue (list_all (λ state. is_none state.waits) situation.sessions) → (session : ℕ) → waiting past session ≡ None
+nobody_waits past situation is all session = sym (waits_agree past situation is session) ∙ none_kept situation.sessions all session
 
 some_agree : (level : Level) (txn : Option Txn) (running : Option RunningTxn) → Agree level txn running → is_some running ≡ is_some txn
 some_agree level None None agree = refl

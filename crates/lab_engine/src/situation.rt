@@ -2,6 +2,8 @@
 
 ghost use Rattle.std.specs.Prelude.{◌≡◌, ◌<◌, ◌≤◌, ℕ, [], ◌∷◌, false, length, option_map, is_some, Contains, IfOk, OnOk, OnErr};
 ghost use Rattle.std.specs.Prelude as list;
+ghost use Rattle.std.specs.List.{list_all};
+ghost use Rattle.std.specs.Option.{is_none};
 ghost use Rattle.lab_engine.specs.declared.event.Level.{Level as Kind};
 ghost use Rattle.lab_engine.specs.Limits.{max_events};
 ghost use Rattle.lab_engine.specs.Log.{Past, active, waiting, begun_after};
@@ -74,6 +76,13 @@ impl Situation {
         ensures { (level : Kind) (past : Past) → Describes level past self.now → result ≡ is_some (waiting past session) }
     {
         self.waiting(session).is_some()
+    }
+
+    /// Whether no session waits.
+    pub(crate) fn nobody_waits(&self) -> bool
+        ensures { result ≡ list_all (λ state. is_none state.waits) self.now.sessions }
+    {
+        self.sessions.iter().all(|state| state.waits.is_none())
     }
 
     /// Makes room for an event, and copies its statement where that is kept: of one that ran if `keeps`. So `take_in`

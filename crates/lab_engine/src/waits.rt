@@ -145,6 +145,9 @@ pub fn waits_after<R: Rules>(
     ensures { (past : Past) → Describes R.kind (event.now ∷ past) situation.now → IsLegal R.kind setup.now (event.now ∷ past)
         → AreWaits R.kind setup.now past situation.now.waits → AreWaits R.kind setup.now (event.now ∷ past) result }
 {
+    if situation.nobody_waits() {
+        return WaitGraph::none();
+    }
     let mut waits = WaitGraph::none();
     for state in &situation.sessions {
         let on = on_after(rules, setup, situation, event, state);
@@ -181,6 +184,9 @@ pub fn retryable(situation: &Situation) -> Option<Session>
     ensures { (level : Kind) (setup : PlainTable) (past : Past) → Describes level past situation.now → AreWaits level setup past situation.now.waits
         → MatchOption result (NoneRetryable level setup past) (IsLeastRetryable level setup past) }
 {
+    if situation.nobody_waits() {
+        return None;
+    }
     for state in &situation.sessions {
         if is_released(&situation.waits, state) {
             return Some(state.session);

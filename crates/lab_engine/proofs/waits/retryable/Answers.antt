@@ -1,8 +1,12 @@
-use Rattle.std.proofs.Common.{get_or}
-use Rattle.lab_engine.proofs.Common.{both_ways, SessionState}
+use Rattle.std.proofs.Common.{◌∙◌, get_or, sym}
+use Rattle.lab_engine.proofs.Common.{both_ways, none_some, SessionState}
+use Rattle.lab_engine.proofs.Describing.{nobody_waits}
 use Rattle.lab_engine.proofs.Waiting.{stands_at, all_passed, described_at}
 use Rattle.lab_engine.proofs.Retrying.{state_retryable, state_released, none_step, none_retryable, least_retryable}
 use Rattle.lab_engine.proofs.waits.retryable.Goals as goal
+
+pub returns-then-nobody_waits : goal.returns-then-nobody_waits
+returns-then-nobody_waits c = λ level setup past d h session r. none_some _ (sym (nobody_waits past c.args.situation.now d (sym c.nobody_waits.ensures ∙ c.if-nobody_waits.true) session) ∙ r.1)
 
 pub returns-then-is_released : goal.returns-then-is_released
 returns-then-is_released c = λ level setup past d h.

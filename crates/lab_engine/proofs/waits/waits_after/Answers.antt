@@ -1,7 +1,12 @@
-use Rattle.std.proofs.Common.{get_or, refl, ◌∷◌}
-use Rattle.lab_engine.proofs.Common.{both_ways, SessionState}
+use Rattle.std.proofs.Common.{◌∙◌, get_or, refl, sym, ◌∷◌}
+use Rattle.lab_engine.proofs.Common.{both_ways, none_some, SessionState}
+use Rattle.lab_engine.proofs.Describing.{nobody_waits}
 use Rattle.lab_engine.proofs.Waiting.{stands_at, all_passed, described_at, waits_step, waits_all}
 use Rattle.lab_engine.proofs.waits.waits_after.Goals as goal
+
+pub returns-then-nobody_waits : goal.returns-then-nobody_waits
+returns-then-nobody_waits g c = λ past d legal h session other.
+    ((λ w. absurd (both_ways _ (c.none.ensures session other) w)), (λ w. none_some _ (sym (nobody_waits _ c.args.situation.now d (sym c.nobody_waits.ensures ∙ c.if-nobody_waits.true) session) ∙ w.1)))
 
 pub loop-state-init : goal.loop-state-init
 loop-state-init g c = λ past d legal h session other. ((λ w. absurd (both_ways _ (c.none-waits.ensures session other) w)), (λ w. absurd (both_ways _ refl w.0)))
