@@ -29,10 +29,6 @@ alike_over : (s : Statement) (row : Row) (own : Option Version) (old new : Versi
 alike_over s row (Some v) old new off h = inl refl
 alike_over s row None old new off h = inr (h, still_unwritten s.table s.kind row old.state new.state off h)
 
-turned_alike : (s : Statement) (row : Row) (old new : Version) → Alike s row old new → Alike s row new old
-turned_alike s row old new (inl same) = inl (sym same)
-turned_alike s row old new (inr (before, now)) = inr (now, before)
-
 -- a row that a statement would write is seen as before
 seen_as : (s : Statement) (row : Row) (old new : Version) → Alike s row old new → IsTrue (would_write s row old.state) → old ≡ new
 seen_as s row old new (inl same) writes = same
@@ -90,7 +86,7 @@ module _ (setup : Table) (past : Past) (e : ℕ) (command : Command) (t : Txn) (
         → Blocks level setup after asker s holder ↔ Blocks level setup past asker s holder
     still_blocked Locking free holder apart = (
       blocks_over setup after past asker s holder (λ row. sym (match_as free row (version_by t row) refl))
-          (λ row. seen_as s row _ _ (turned_alike s row _ _ (alike free row (version_by t row) refl))),
+          (λ row would. elim (alike free row (version_by t row) refl) [ inl same ↦ sym same | inr off ↦ absurd (both_ways _ off.1 would) ]),
       blocks_over setup past after asker s holder (λ row. match_as free row (version_by t row) refl) (λ row. seen_as s row _ _ (alike free row (version_by t row) refl)),
     )
     still_blocked ReadCommitted free holder apart =

@@ -10,9 +10,6 @@ use Rattle.lab_table.proofs.Members.{no_member}
 apart : (a b : ℕ) → not (a == b) ≡ true → b ≢ a
 apart a b t same = absurd (true≢false (sym t ∙ ap not (eq-eqb a b (sym same))))
 
-to_apart : (a b : ℕ) → b ≢ a → not (a == b) ≡ true
-to_apart a b ne = ap not (ne_eqb a b (λ same. ne (sym same)))
-
 -- what is kept of an active transaction
 txn_running : {level : Level} (past : Past) (state : SessionState) (txn : Txn) → DescribesSession level past state → active past state.session ≡ Some txn
     → (running : RunningTxn) × (state.running ≡ Some running) × IsRunning level txn running
@@ -46,7 +43,7 @@ module _ {level : Level} (past : Past) (situation : Situation) (session : ℕ) (
       from : IsOther past session state.session holds → IsTrue (is_passing_other test session state)
       from (holder, ne, is, held) =
           let kept = txn_running past state holder described is in
-          and_from (not (state.session == session)) (has_passing (test state.session) state.running) (to_apart state.session session ne)
+          and_from (not (state.session == session)) (has_passing (test state.session) state.running) (ap not (ne_eqb state.session session (λ same. ne (sym same))))
           (ap (has_passing (test state.session)) kept.1 ∙ (tells state.session holder kept.0 is kept.2).1 held)
 
   -- a session that is chosen has such a state

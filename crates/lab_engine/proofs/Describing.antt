@@ -60,8 +60,7 @@ none_kept : (states : List SessionState) → IsTrue (list_all (λ state. is_none
 none_kept [] all session = refl
 none_kept (state ∷ states) all session =
     let parts = and_parts (is_none state.waits) (list_all (λ s. is_none s.waits) states) all in
-    let rest : waiting_of states session ≡ None = none_kept states parts.1 session in
-    grind (arith, parts.0, rest)
+    grind (arith, parts.0, none_kept states parts.1 session)
 
 -- where no state waits, no session does
 pub nobody_waits : {level : Level} (past : Past) (situation : Situation) → Describes level past situation → IsTrue (list_all (λ state. is_none state.waits) situation.sessions) → (session : ℕ) → waiting past session ≡ None

@@ -26,9 +26,6 @@ module _ (past : Past) (event : LogEvent) (ending : is_ending event.outcome ≡ 
   fewer_one : (session : ℕ) → weight (active (event ∷ past) session) ≤ weight (active past session)
   fewer_one session = no_more (event.session == session) (active_after event.command event.outcome past (active past session)) (active past session) (gone session)
 
-  no_more_active : (sessions : List ℕ) → active_among (event ∷ past) sessions ≤ active_among past sessions
-  no_more_active sessions = sum_by-le-sum_by (λ session. weight (active (event ∷ past) session)) (λ session. weight (active past session)) sessions fewer_one
-
   -- one session and others
   also : (log : Past) (session : ℕ) (sessions : List ℕ) → active_among log (session ∷ sessions) ≡ weight (active log session) + active_among log sessions
   also log session sessions = sum_by-cons (λ s. weight (active log s)) session sessions
@@ -41,6 +38,7 @@ module _ (past : Past) (event : LogEvent) (ending : is_ending event.outcome ≡ 
       = ap weight
       (ap (λ b. cond b (active_after event.command event.outcome past (active past session)) (active past session)) (eq-eqb event.session session (sym is)) ∙ gone session) in
       let on : weight (active past session) ≡ 1 = ap (λ b. cond b 1 0) (subst (λ n. IsSome (active past n)) (sym is) some) in
-      omega (arith, also past session sessions, also (event ∷ past) session sessions, off, on, no_more_active sessions)
+      let fewer = sum_by-le-sum_by (λ s. weight (active (event ∷ past) s)) (λ s. weight (active past s)) sessions fewer_one in
+      omega (arith, also past session sessions, also (event ∷ past) session sessions, off, on, fewer)
   fewer_active (session ∷ sessions) (suc k, few, is) some =
       omega (arith, also past session sessions, also (event ∷ past) session sessions, fewer_one session, fewer_active sessions (k, omega arith, is) some)

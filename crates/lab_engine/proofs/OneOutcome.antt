@@ -2,8 +2,9 @@
 use Rattle.std.proofs.Common.{◌≡◌, inl, inr, ℕ, ℤ, option_map, Ordering, Less, Equal, Greater, refl, sym, ap, subst, ◌∙◌, arith, List, [], ◌∷◌, IsTrue, ◌≢◌, ◌++◌, Some, None, Option, IsSome, is_some}
 use Rattle.lab_engine.proofs.Common.{Answers, BlockedBy, Busy, Command, Commit, Conflicts, Deadlock, DuplicateKey, IsBelow, IsChain, IsCircle, IsEffect, IsFree, IsInsertOf, IsUpdate, Level, Listed, LogEvent, MayCommit, OutOfRange, Outcome, Past, Permitted, Refused, Row, Rows, Run, Statement, Table, Txn, View, Waits, WriteConflict, Writes, both_ways, commits, fails, none_some, past_of, row_cmp, rows_apart, same_Some, same_rows, seen, some_is, turned, update_inserts_none, waiting, writers}
 use Rattle.lab_engine.specs.declared.event.Level.TheVariants.{Snapshot}
+use Rattle.std.proofs.lemmas.List.Kept.{AllPairs-from_increasing}
 use Rattle.lab_engine.proofs.Circles.{one_least_circle}
-use Rattle.lab_engine.proofs.RisingLists.{same_rising, before_end, none_before}
+use Rattle.lab_engine.proofs.RisingLists.{same_pairs, before_end, none_before}
 use Rattle.lab_engine.proofs.AnswerKinds.{FreeAnswer, HeldAnswer, TxnAnswer, IdleAnswer, KnownAnswer, IsFirstFailing, IsLeastConflict, answer_known}
 use Rattle.lab_engine.specs.Answered.{StepsTo, RetriesTo}
 
@@ -63,7 +64,7 @@ module _ (level : Level) (setup : Table) (past : Past) (session : ℕ) (txn : Tx
 
     one_held : (one other : Outcome) → HeldAnswer level setup past session s one → HeldAnswer level setup past session s other → one ≡ other
     one_held one other (inl (on, h, is)) (inl (on', k, alike)) =
-        is ∙ ap Waits (same_rising on on' h.rising k.rising (λ n c. (k.are n).1 ((h.are n).0 c)) (λ n c. (h.are n).1 ((k.are n).0 c))) ∙ sym alike
+        is ∙ ap Waits (same_pairs on on' (AllPairs-from_increasing on h.rising) (AllPairs-from_increasing on' k.rising) (λ n c. (k.are n).1 ((h.are n).0 c)) (λ n c. (h.are n).1 ((k.are n).0 c))) ∙ sym alike
     one_held one other (inl (on, h, is)) (inr (circle, k, alike)) = absurd (h.no_circle circle k.is_circle)
     one_held one other (inr (circle, h, is)) (inl (on, k, alike)) = absurd (k.no_circle circle h.is_circle)
     one_held one other (inr (circle, h, is)) (inr (circle', k, alike)) =

@@ -4,7 +4,6 @@ use Rattle.std.specs.Prelude.{Contains}
 use Rattle.std.specs.Prelude as list
 use Rattle.lab_engine.proofs.Common.{list_any, eq-eqb, or_right, SessionState, all_sessions, IsStrictlyIncreasing, ◌==◌, ⊤, slice_index, list_any_more}
 use Rattle.lab_table.proofs.Members.{no_member}
-use Rattle.std.proofs.lemmas.List.Kept.{IsStrictlyIncreasing-filter}
 
 -- numbers that rise from above a bound
 abbrev pub RiseFrom : ℕ → List ℕ → Type 0
@@ -16,7 +15,7 @@ next : (k : ℕ) → suc (k + 1) ≡ suc k + 1
 next k = omega arith
 
 -- they increase strictly
-rising : (low : ℕ) (xs : List ℕ) → RiseFrom low xs → IsStrictlyIncreasing xs
+pub rising : (low : ℕ) (xs : List ℕ) → RiseFrom low xs → IsStrictlyIncreasing xs
 rising low (x ∷ y ∷ zs) h zero lt = h.1.0
 rising low (x ∷ y ∷ zs) h (suc k) lt = subst (λ n. slice_index (y ∷ zs) k < slice_index (x ∷ y ∷ zs) n) (next k) (rising x (y ∷ zs) h.1 k (omega arith))
 rising low xs h k lt = absurd (omega arith)
@@ -24,10 +23,6 @@ rising low xs h k lt = absurd (omega arith)
 -- the sessions rise
 pub sessions_rise : RiseFrom 0 all_sessions
 sessions_rise = (omega arith, (omega arith, (omega arith, (omega arith, (omega arith, (omega arith, (omega arith, (omega arith, (omega arith, tt)))))))))
-
--- so the sessions of a set increase strictly
-pub some_increase : (p : ℕ → Bool) → IsStrictlyIncreasing (filter p all_sessions)
-some_increase p = IsStrictlyIncreasing-filter p all_sessions (rising 0 all_sessions sessions_rise)
 
 -- each of the numbers is above the bound
 above : (low : ℕ) (xs : List ℕ) (k : ℕ) → RiseFrom low xs → Contains xs k → low < k

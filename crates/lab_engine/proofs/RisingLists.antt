@@ -1,8 +1,7 @@
 -- Lists that are alike in what they hold.
 use Rattle.std.proofs.Common.{◌≡◌, ℕ, zero, suc, ◌≤◌, ◌<◌, refl, sym, ap, subst, ◌∙◌, arith, List, [], ◌∷◌, ◌++◌, length, length-append, append_assoc, reverse}
-use Rattle.lab_engine.proofs.Common.{AllPairs, Contains, IsStrictlyIncreasing, reverse-append}
+use Rattle.lab_engine.proofs.Common.{AllPairs, Contains, reverse-append}
 use Rattle.std.proofs.lemmas.List.{append_cancel_right}
-use Rattle.std.proofs.lemmas.List.Kept.{AllPairs-from_increasing}
 use Rattle.lab_table.proofs.Members.{no_member}
 
 -- the first of a rising list is below the others
@@ -23,7 +22,8 @@ not_below : (x y : ℕ) (xs ys : List ℕ) → AllPairs (λ a b. a < b) (y ∷ y
 not_below x y xs ys rise (zero, lt, is) = omega (arith, is)
 not_below x y xs ys rise (suc i, lt, is) = omega (arith, first_below y ys x rise (i, omega (arith, lt), is))
 
-same_pairs : (xs ys : List ℕ) → AllPairs (λ a b. a < b) xs → AllPairs (λ a b. a < b) ys → ((k : ℕ) → Contains xs k → Contains ys k) → ((k : ℕ) → Contains ys k → Contains xs k) → xs ≡ ys
+-- two rising lists that hold the same numbers are one
+pub same_pairs : (xs ys : List ℕ) → AllPairs (λ a b. a < b) xs → AllPairs (λ a b. a < b) ys → ((k : ℕ) → Contains xs k → Contains ys k) → ((k : ℕ) → Contains ys k → Contains xs k) → xs ≡ ys
 same_pairs [] [] h k to from = refl
 same_pairs [] (y ∷ ys) h k to from = absurd (no_member y (from y (0, omega arith, refl)))
 same_pairs (x ∷ xs) [] h k to from = absurd (no_member x (to x (0, omega arith, refl)))
@@ -37,10 +37,6 @@ same_pairs (x ∷ xs) (y ∷ ys) h k to from = ap (λ v. v ∷ xs) same ∙ ap (
 
     back : (n : ℕ) → Contains ys n → Contains xs n
     back n c = behind x xs n (subst (λ v. v < n) (sym same) (first_below y ys n k c)) (from n (suc c.0, omega (arith, c.1), c.2))
-
--- two rising lists that hold the same numbers are one
-pub same_rising : (xs ys : List ℕ) → IsStrictlyIncreasing xs → IsStrictlyIncreasing ys → ((k : ℕ) → Contains xs k → Contains ys k) → ((k : ℕ) → Contains ys k → Contains xs k) → xs ≡ ys
-same_rising xs ys h k to from = same_pairs xs ys (AllPairs-from_increasing xs h) (AllPairs-from_increasing ys k) to from
 
 -- what stands right before the same end of one list is one
 pub before_end : {A : Type 0} (xs ys : List A) (x y : A) (end : List A) → xs ++ x ∷ end ≡ ys ++ y ∷ end → x ≡ y

@@ -2,10 +2,6 @@
 use Rattle.std.proofs.Common.{◌≡◌, ◌∙◌, refl, sym, ap, subst, Bool, true, false, cond, ◌&&◌, Option, Some, is_eq}
 use Rattle.lab_engine.proofs.Common.{Row, row_cmp, row_eq, rows_total, same_row, Kept, IsReady, IsSame, eq_reversed, RowStates}
 
--- two rows are one whichever is compared to the other
-either_way : (a b : Row) → is_eq (row_cmp a b) ≡ row_eq b a
-either_way a b = ap is_eq (rows_total.antisymm a b) ∙ eq_reversed (row_cmp b a)
-
 -- what depends on whether a row is a certain one is shown of that one and of the others
 pub by_row : (Q : Row → Bool → Type 0) (row : Row) → Q row true → ((other : Row) → Q other false) → (other : Row) → Q other (row_eq other row)
 by_row Q row own others other = at (row_eq other row) refl where
@@ -15,7 +11,7 @@ by_row Q row own others other = at (row_eq other row) refl where
 
 -- what is found after one row's changed
 found : (row : Row) (v : Kept) (old new : Row → Option Kept) → ((q : Row) → new q ≡ cond (is_eq (row_cmp row q)) (Some v) (old q)) → (other : Row) → new other ≡ cond (row_eq other row) (Some v) (old other)
-found row v old new updates other = updates other ∙ ap (λ t. cond t (Some v) (old other)) (either_way row other)
+found row v old new updates other = updates other ∙ ap (λ t. cond t (Some v) (old other)) (ap is_eq (rows_total.antisymm row other) ∙ eq_reversed (row_cmp other row))
 
 module _ {C : Type 0} (says : Option Kept → C) (row : Row) (old : Row → Option Kept) where
   -- it may as well change where it says the same

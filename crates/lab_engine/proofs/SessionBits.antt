@@ -53,16 +53,12 @@ sessions_either a b h k n there = elim (or_cases (has a n) (has b n) (sym (has_e
 pub sessions_nobody : AreSessions 0
 sessions_nobody n there = absurd (both_ways _ (has_nobody n) there)
 
--- a bit that isn't set
-not_set : (b : ℕ) → b < 2 → ((b == 1) ≡ true → ⊥) → b ≡ 0
-not_set b small none = grind (arith, small, none)
-
 -- ---- the lowest bit of a set is its least session
 
 module _ (set : ℕ) (h : AreSessions set) where
   above : (i : ℕ) → 16 ≤ i → bit_at set i ≡ 0
   unfolding has
-  above i le = not_set (bit_at set i) (bit_at-lt set i) (λ there. absurd (omega (arith, le, (h i there).1)))
+  above i le = let none : (bit_at set i == 1) ≡ true → ⊥ = λ there. omega (arith, le, (h i there).1) in grind (arith, bit_at-lt set i, none)
 
   masked : (i : ℕ) → min (bit_at set i) (bit_at (2 ^ 16 - 1) i) ≡ bit_at set i
   masked i = elim (cases_lt i 16) [

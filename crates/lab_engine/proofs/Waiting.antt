@@ -1,11 +1,12 @@
 -- Which sessions wait for which after a log.
 use Rattle.std.proofs.Common.{filter, ◌&&◌, ◌≡◌, ◌≢◌, ℕ, ◌+◌, ◌≤◌, ◌<◌, refl, sym, ap, subst, ◌∙◌, cond, List, inl, inr, length, take, get_or, ◌==◌, ◌↔◌, IsTrue, Some, Contains, take_all}
 use Rattle.std.proofs.lemmas.Map.Views.{any-filter_same}
+use Rattle.std.proofs.lemmas.List.Kept.{IsStrictlyIncreasing-filter}
 use Rattle.lab_engine.proofs.Common.{Agree, Any-from_list_any, AreBlockers, AreOthers, AreWaits, BlockedBy, Blocks, Describes, DescribesSession, IsAsker, IsRunning, Level, MayAsk, Past, RunningTxn, SessionState, Situation, Statement, Table, Txn, WaitsOn, active, all_sessions, and_from, and_parts, cases_eq, eq-eqb, eqb-true, has, length-map, list_any, list_any_at, ne_eqb, none_some, or_cases, or_left, or_right, same_Some, some_is, waiting, waits_for}
 use Rattle.lab_engine.proofs.Describing.{kept_txn}
 use Rattle.lab_engine.proofs.States.{describes_one}
 use Rattle.lab_engine.specs.declared.asker.Asker.{Asker}
-use Rattle.lab_engine.proofs.Rising.{some_increase, kept_sessions, sessions_of, is_among, among, among_more}
+use Rattle.lab_engine.proofs.Rising.{rising, sessions_rise, kept_sessions, sessions_of, is_among, among, among_more}
 
 -- a state stands at a place of a list
 pub record StandsAt (states : List SessionState) (i : ℕ) (state : SessionState) : Type 0 where
@@ -59,7 +60,7 @@ pub blockers_all : (level : Level) (setup : Table) (past : Past) (situation : Si
     → length situation.sessions ≤ passed → ((other : ℕ) → IsTrue (has set other) ↔ BlockedBy level setup past session s other)
     → on ≡ sessions_of (filter (λ state. has set state.session) (take passed situation.sessions)) → AreBlockers level setup past session s on
 blockers_all level setup past situation session s passed set on d all blocking h = subst (AreBlockers level setup past session s) (sym is) (record {
-  rising = some_increase (has set);
+  rising = IsStrictlyIncreasing-filter (has set) all_sessions (rising 0 all_sessions sessions_rise);
   are = λ other. (
     (λ c. (blocking other).0 (and_parts _ _ (sym (chosen_of_all set other) ∙ contains_any (filter (has set) all_sessions) other c)).0),
     (λ b. any_contains (filter (has set) all_sessions) other
