@@ -71,7 +71,7 @@ fn waits_on<R: Rules>(
 }
 
 /// Whether a statement that ran wrote nothing.
-fn is_read(writes: &Writes) -> bool
+fn wrote_nothing(writes: &Writes) -> bool
     ensures { result ≡ (map.len writes.now == 0) }
 {
     writes.entries().is_empty()
@@ -83,7 +83,7 @@ fn is_read(writes: &Writes) -> bool
 fn may_affect(keeps: bool, already: bool, writes: &Writes, statement: &Statement) -> bool
     ensures { result ≡ false → IsTrue (map.len writes.now == 0) × ((keeps ≡ false) ⊎ (is_read_only statement.now ≡ true) ⊎ IsTrue already) }
 {
-    if !is_read(writes) {
+    if !wrote_nothing(writes) {
         return true;
     }
     keeps && !already && !statement.is_read_only()

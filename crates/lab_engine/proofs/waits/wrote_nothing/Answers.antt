@@ -1,7 +1,7 @@
 use Rattle.std.proofs.Common.{sym, ap, ◌∙◌, length, ◌==◌}
 use Rattle.std.specs.FinMap.{len-entries}
 use Rattle.lab_history.proofs.CountedEntries.{length_new_states}
-use Rattle.lab_engine.proofs.waits.is_read.Goals as goal
+use Rattle.lab_engine.proofs.waits.wrote_nothing.Goals as goal
 
 pub returns : goal.returns
 returns c = c.is_empty.ensures ∙ sym (ap (λ n. n == 0) (len-entries c.args.writes.now ∙ sym (ap length c.entries.ensures) ∙ length_new_states c.entries.result.now))
