@@ -1,5 +1,5 @@
 -- Transactions on which nothing depends add no arrows.
-use Rattle.std.proofs.Common.{◌≡◌, ◌↔◌, ℕ, zero, suc, ◌+◌, ◌-◌, ◌<◌, ◌≤◌, ◌==◌, ◌&&◌, ◌||◌, Bool, true, false, Some, List, length, refl, sym, ap, ◌∙◌, subst, arith}
+use Rattle.std.proofs.Common.{◌≡◌, ℕ, zero, suc, ◌+◌, ◌-◌, ◌<◌, ◌≤◌, ◌==◌, ◌&&◌, ◌||◌, Bool, false, Some, List, length, sym, ap, ◌∙◌, arith}
 use Rattle.std.specs.Prelude.{slice_get, slice_index, get_or}
 use Rattle.std.specs.List.{list_any, All}
 use Rattle.std.specs.List.Sorted.{IsStrictlyIncreasing}

@@ -1,12 +1,13 @@
 -- Walks along edges: joined, cut, begun elsewhere, and counted by kind.
-use Rattle.std.proofs.Common.{◌≡◌, ℕ, ◌+◌, ◌≤◌, Bool, true, false, cond, List, [], ◌∷◌, ◌++◌, take, drop, refl, sym, ap, ◌∙◌, subst, arith}
-use Rattle.std.specs.Prelude.{⊤}
-use Rattle.std.proofs.lemmas.List.{append-nil, take-append-drop}
+use Rattle.std.proofs.Common.{◌≡◌, ℕ, ◌+◌, ◌≤◌, Bool, true, false, cond, List, [], ◌∷◌, ◌++◌, refl, sym, ap, ◌∙◌, subst, arith}
+use Rattle.std.specs.Prelude.{⊤, not}
+use Rattle.std.proofs.lemmas.List.{append-nil}
 use Rattle.std.proofs.lemmas.List.Recursion.{is_count_by}
 use Rattle.lab_history.specs.History.{History}
 use Rattle.lab_deps.specs.Edges.{IsEdge}
 use Rattle.lab_deps.specs.declared.edge.Edge.{Edge}
 use Rattle.lab_deps.specs.declared.edge.Kind.{Kind}
+use Rattle.lab_judge.specs.LeastWalks.{IsTurnToLeast}
 use Rattle.lab_judge.specs.Phenomena.{IsWalk, IsClosedWalk, count_kind}
 
 -- how many edges have a kind that passes the test, by recursion
@@ -32,6 +33,10 @@ times_turned test xs ys = omega (arith, times_append test xs ys, times_append te
 abbrev pub Through : (Kind → Bool) → List Edge → Type 0
 Through allows [] = ⊤
 Through allows (e ∷ es) = (allows e.kind ≡ true) × Through allows es
+
+pub through_none : (a : Kind → Bool) (es : List Edge) → Through a es → times (λ k. not (a k)) es ≡ 0
+through_none a [] t = refl
+through_none a (e ∷ es) (kind, t) = ap (λ b. cond (not b) (1 + times (λ k. not (a k)) es) (times (λ k. not (a k)) es)) kind ∙ through_none a es t
 
 -- where no edge has a forbidden kind, every edge has an allowed one
 pub none_forbidden : (forbids allows : Kind → Bool) → ((k : Kind) → forbids k ≡ false → allows k ≡ true) → (es : List Edge) → times forbids es ≡ 0 → Through allows es
@@ -89,9 +94,11 @@ module _ (h : History) where
   turned xs [] w = subst (IsClosedWalk h) (append-nil xs) w
   turned xs (e ∷ ys) w = let back : IsEdge h e × IsWalk h e.to (ys ++ xs) e.from = goes_back xs e ys w in closed e (ys ++ xs) back.0 back.1
 
-  pub turned_at : (n : ℕ) (es : List Edge) → IsClosedWalk h es → IsClosedWalk h (drop n es ++ take n es)
-  turned_at n es w = turned (take n es) (drop n es) (subst (IsClosedWalk h) (sym (take-append-drop n es)) w)
+  -- so is one that is turned to its least
+  pub turn_closed : (round walk : List Edge) → IsTurnToLeast round walk → IsClosedWalk h round → IsClosedWalk h walk
+  turn_closed round walk t w = subst (IsClosedWalk h) (sym t.turned) (turned t.front (t.first ∷ t.rest) (subst (IsClosedWalk h) t.split w))
 
 -- and has as many edges of each kind
-pub counts_at : (test : Kind → Bool) (n : ℕ) (es : List Edge) → count_kind test (drop n es ++ take n es) ≡ count_kind test es
-counts_at test n es = sym (times_are test (drop n es ++ take n es)) ∙ times_turned test (drop n es) (take n es) ∙ ap (times test) (take-append-drop n es) ∙ times_are test es
+pub turn_counts : (test : Kind → Bool) (round walk : List Edge) → IsTurnToLeast round walk → count_kind test walk ≡ count_kind test round
+turn_counts test round walk t =
+    sym (times_are test walk) ∙ ap (times test) t.turned ∙ times_turned test (t.first ∷ t.rest) t.front ∙ ap (times test) (sym t.split) ∙ times_are test round

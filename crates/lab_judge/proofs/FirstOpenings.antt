@@ -21,9 +21,9 @@ use Rattle.lab_judge.specs.Graphs.{HasEnds, ties}
 use Rattle.lab_judge.specs.Openings.{IsOpening}
 use Rattle.lab_judge.proofs.GraphWalks.{read_back}
 use Rattle.lab_judge.proofs.Joined.{read}
-use Rattle.lab_judge.proofs.LeastOrders.{rises}
 use Rattle.lab_judge.proofs.Numbers.{stands, position_within}
 use Rattle.lab_judge.proofs.Openings.{tied_by}
+use Rattle.lab_judge.proofs.SerialVerdicts.{rises}
 
 -- how edges compare by kind and row, and by these behind their ends
 abbrev by_kind : Edge → Edge → Ordering

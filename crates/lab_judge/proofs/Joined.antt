@@ -1,21 +1,19 @@
 -- Nodes that dependencies join, and walks along them.
-use Rattle.std.proofs.Common.{◌≡◌, ◌⊎◌, ℕ, zero, suc, ◌+◌, ◌-◌, ◌<◌, ◌≤◌, ◌==◌, Bool, true, false, cond, ◌||◌, Some, List, [], ◌∷◌, ◌++◌, length, get_or, take, drop, slice_index, refl, sym, ap, ◌∙◌, subst, arith, inl, inr}
-use Rattle.std.specs.Prelude.{slice_get, Contains, not}
+use Rattle.std.proofs.Common.{◌≡◌, ◌⊎◌, ℕ, zero, suc, ◌+◌, ◌-◌, ◌<◌, ◌≤◌, ◌==◌, Bool, true, false, ◌||◌, Some, List, [], ◌∷◌, ◌++◌, length, get_or, take, drop, slice_index, refl, sym, ap, ◌∙◌, subst, arith, inl, inr}
+use Rattle.std.specs.Prelude.{slice_get, Contains}
 use Rattle.std.specs.List.{list_any, All}
 use Rattle.std.proofs.lemmas.Bool.{eqb-true, both_ways, or_cases, and_parts}
 use Rattle.std.proofs.lemmas.List.Elements.{All-contains}
-use Rattle.std.proofs.lemmas.List.Sums.{sum_by-append}
 use Rattle.std.proofs.lemmas.Option.{get_or_from_slice_get}
-use Rattle.std.proofs.lemmas.List.{take_all, length_push}
+use Rattle.std.proofs.lemmas.List.{take_all}
 use Rattle.std.proofs.Math.Seq.{drop-cons}
 use Rattle.lab_order.specs.Arrows.{Arrows}
 use Rattle.lab_order.specs.Order.{position, IsTrail, IsCircle}
 use Rattle.lab_order.specs.Path.{Leads}
 use Rattle.lab_history.specs.History.{History}
-use Rattle.lab_deps.specs.Edges.{IsEdge}
 use Rattle.lab_deps.specs.declared.edge.Edge.{Edge}
 use Rattle.lab_deps.specs.declared.edge.Kind.{Kind}
-use Rattle.lab_judge.specs.Graphs.{HasEnds, ties, IsGraphOf, LeadsAlong, last_of, count_others}
+use Rattle.lab_judge.specs.Graphs.{HasEnds, ties, IsGraphOf, LeadsAlong, last_of}
 use Rattle.lab_judge.specs.Phenomena.{IsWalk, IsClosedWalk}
 use Rattle.lab_judge.proofs.Numbers.{stands}
 
@@ -68,30 +66,10 @@ step allowed nodes es at i way lt leads =
     let one : suc i ≡ i + 1 = omega arith in
     subst (λ rest. LeadsAlong allowed nodes es at rest) (drop-cons way i 0 lt ∙ ap (λ k. get_or way i 0 ∷ drop k way) one) leads
 
-pub last_step : (at i : ℕ) (way : List ℕ) → i < length way → last_of at (drop i way) ≡ last_of (get_or way i 0) (drop (i + 1) way)
-last_step at i way lt =
-    let one : suc i ≡ i + 1 = omega arith in
-    ap (last_of at) (drop-cons way i 0 lt ∙ ap (λ k. get_or way i 0 ∷ drop k way) one)
-
 -- the dependency that leads to the next node
 pub next_tie : (allowed : Kind → Bool) (nodes : List ℕ) (es : List Edge) → All (HasEnds nodes) es → (at i : ℕ) (way : List ℕ) → i < length way
     → LeadsAlong allowed nodes es at (drop i way) → Tie allowed nodes es at (get_or way i 0)
 next_tie allowed nodes es ends at i way lt leads = tie allowed nodes es ends at (get_or way i 0) (step allowed nodes es at i way lt leads).0
-
--- one dependency more of an allowed kind leaves none of other kinds
-pub no_others_more : (allowed : Kind → Bool) (es new : List Edge) (e : Edge) → new ≡ es ++ e ∷ [] → count_others allowed es ≡ 0 → allowed e.kind ≡ true → count_others allowed new ≡ 0
-no_others_more allowed es new e pushed none kind =
-    let one : ◌≡◌ {A = ℕ} (cond (not (allowed e.kind)) 1 0) 0 = ap (λ b. cond (not b) 1 0) kind in
-    let sum : count_others allowed (es ++ e ∷ []) ≡ count_others allowed es + (0 + cond (not (allowed e.kind)) 1 0) = sum_by-append (λ x. cond (not (allowed x.kind)) 1 0) es (e ∷ []) in
-    ap (count_others allowed) pushed ∙ sum ∙ (omega (arith, none, one))
-
--- a walk with one dependency more
-pub one_more : (h : History) (a : ℕ) (es new : List Edge) (b : ℕ) (e : Edge) (c : ℕ) → new ≡ es ++ e ∷ [] → IsWalk h a es b → IsEdge h e → e.from ≡ b → e.to ≡ c → IsWalk h a new c
-one_more h a es new b e c pushed walk edge from to = subst (λ l. IsWalk h a l c) (sym pushed) (on es a walk)
-  where
-    on : (es : List Edge) (a : ℕ) → IsWalk h a es b → IsWalk h a (es ++ e ∷ []) c
-    on [] a same = (edge, from ∙ sym same, to)
-    on (f ∷ es) a (first, begins, rest) = (first, begins, on es f.to rest)
 
 -- what stands at a place of the nodes
 pub read : (nodes : List ℕ) (a n : ℕ) → slice_get nodes a ≡ Some n → slice_index nodes a ≡ n
@@ -113,7 +91,7 @@ pub path_ends : (graph : Arrows) (from : ℕ) (ns : List ℕ) (to : ℕ) → Lea
 path_ends graph from [] to same = same
 path_ends graph from (n ∷ ns) to (arrow, rest) = path_ends graph n ns to rest
 
-last_pushed : (from : ℕ) (ns : List ℕ) (to : ℕ) → last_of from (ns ++ to ∷ []) ≡ to
+pub last_pushed : (from : ℕ) (ns : List ℕ) (to : ℕ) → last_of from (ns ++ to ∷ []) ≡ to
 last_pushed from [] to = refl
 last_pushed from (n ∷ ns) to = last_pushed n ns to
 
@@ -121,33 +99,16 @@ last_pushed from (n ∷ ns) to = last_pushed n ns to
 but_first : (n : ℕ) (ns : List ℕ) → take (length (n ∷ ns) - 1) (drop 1 (n ∷ ns)) ≡ ns
 but_first n ns = take_all (length (n ∷ ns) - 1) ns (omega arith)
 
--- a way that leads back to its first node
-pub record LeadsRound (allowed : Kind → Bool) (nodes : List ℕ) (es : List Edge) (first : ℕ) (way : List ℕ) : Type 0 where
-  pub leads : LeadsAlong allowed nodes es first way
-  pub last : last_of first way ≡ first
-  pub some : 1 ≤ length way
-
--- a cycle that is closed by its first node is such a way
+-- a cycle that is closed by its first node is a way that leads along
 pub round : (allowed : Kind → Bool) (nodes : List ℕ) (es : List Edge) (circle : List ℕ) → (graph : Arrows) × IsGraphOf allowed nodes es graph × IsCircle graph circle
-    → (first : ℕ) (shown : List ℕ) → first ≡ get_or circle 0 first → shown ≡ circle ++ first ∷ [] → LeadsRound allowed nodes es first (take (length shown - 1) (drop 1 shown))
+    → (first : ℕ) (shown : List ℕ) → first ≡ get_or circle 0 first → shown ≡ circle ++ first ∷ [] → LeadsAlong allowed nodes es first (take (length shown - 1) (drop 1 shown))
 round allowed nodes es [] (graph, is, circle) first shown at closed = absurd circle
 round allowed nodes es (n ∷ ns) (graph, is, circle) first shown at closed =
     let way : take (length shown - 1) (drop 1 shown) ≡ ns ++ first ∷ [] = ap (λ l. take (length l - 1) (drop 1 l)) closed ∙ but_first n (ns ++ first ∷ []) in
     let begins : IsTrail graph first ns first = subst (λ k. IsTrail graph k ns k) (sym at) circle in
-    subst (LeadsRound allowed nodes es first) (sym way) (record {
-      leads = along_trail allowed nodes es graph is first ns first begins;
-      last = last_pushed first ns first;
-      some = omega (arith, length_push ns first);
-    })
+    subst (LeadsAlong allowed nodes es first) (sym way) (along_trail allowed nodes es graph is first ns first begins)
 
 -- a walk that isn't empty and ends where it begins is closed
 pub closes : (h : History) (es : List Edge) (a : ℕ) → 1 ≤ length es → IsWalk h a es a → IsClosedWalk h es
 closes h [] a some walk = absurd (omega (arith, some))
 closes h (e ∷ es) a some (edge, from, rest) = (edge, refl, subst (λ n. IsWalk h e.to es n) (sym from) rest)
-
--- so a walk along a way that leads back is closed
-pub closed_round : (h : History) (allowed : Kind → Bool) (nodes : List ℕ) (es : List Edge) (first : ℕ) (way : List ℕ) → LeadsRound allowed nodes es first way
-    → (walk made : List Edge) → made ≡ walk → length walk ≡ length way → IsWalk h (slice_index nodes first) walk (slice_index nodes (last_of first way)) → IsClosedWalk h made
-closed_round h allowed nodes es first way round walk made is size along =
-    subst (IsClosedWalk h) (sym is)
-    (closes h walk (slice_index nodes first) (omega (arith, round.some, size)) (subst (λ n. IsWalk h (slice_index nodes first) walk (slice_index nodes n)) round.last along))

@@ -1,22 +1,15 @@
 -- The places of nodes in an order.
-use Rattle.std.proofs.Common.{◌≡◌, ℕ, zero, suc, ◌+◌, ◌<◌, ◌≤◌, ◌==◌, Bool, true, false, cond, Some, List, [], ◌∷◌, length, get_or, set, slice_index, nat_lt, refl, sym, ap, ◌∙◌, subst, arith, inl, inr}
+use Rattle.std.proofs.Common.{◌≡◌, ℕ, zero, suc, ◌+◌, ◌<◌, ◌≤◌, ◌==◌, Bool, true, false, cond, Some, List, [], ◌∷◌, length, get_or, set, slice_index, refl, sym, ap, ◌∙◌, subst, arith, inl, inr}
 use Rattle.std.specs.Prelude.{Contains}
 use Rattle.std.specs.List.{All, count_by}
-use Rattle.std.proofs.lemmas.Bool.{eqb-true, eq-eqb, both_ways, cases_lt, lt-ltb}
+use Rattle.std.proofs.lemmas.Bool.{eqb-true, eq-eqb, both_ways, cases_lt}
 use Rattle.std.proofs.lemmas.List.Elements.{All-head, All-tail}
 use Rattle.std.proofs.lemmas.Option.{slice_get-get_or, get_or_from_slice_get}
-use Rattle.lab_order.specs.Arrows.{Arrows, nodes_of}
-use Rattle.lab_order.specs.Order as order
 use Rattle.lab_order.proofs.Writes.{set_read}
 use Rattle.lab_order.specs.Order.{position}
 use Rattle.lab_judge.proofs.Lists.{one_place}
-use Rattle.lab_judge.proofs.Numbers.{contains_it, stands, position_within}
+use Rattle.lab_judge.proofs.Numbers.{stands, position_within}
 use Rattle.lab_deps.proofs.Places.{times, times_count}
-
--- nodes with one place are one
-pub one_node : (ns : List ℕ) (a b : ℕ) → Contains ns a → Contains ns b → position ns a ≡ position ns b → a ≡ b
-one_node ns a b ha hb same =
-    sym (get_or_from_slice_get ns (position ns a) a 0 (stands ns a ha)) ∙ ap (λ p. get_or ns p 0) same ∙ get_or_from_slice_get ns (position ns b) b 0 (stands ns b hb)
 
 -- how many of the numbers below a number stand in a list, counted as often as they do
 total : ℕ → List ℕ → ℕ
@@ -68,17 +61,6 @@ total-most (suc n) ns once = let rest : total n ns ≤ n = total-most n ns once 
 -- numbers below a number, each at most once, are no more than that
 pub no_more : (n : ℕ) (ns : List ℕ) → All (λ a. a < n) ns → ((a : ℕ) → times a ns ≤ 1) → length ns ≤ n
 no_more n ns all once = let is = total-is n ns all in let most = total-most n ns once in omega (arith, is, most)
-
--- each node comes once in an order
-pub once_in : (graph : Arrows) (ns : List ℕ) → order.HoldsEachOnce graph ns → (a : ℕ) → times a ns ≤ 1
-once_in graph ns each a =
-    elim (nat_lt a (nodes_of graph)) as (λ b. times a ns ≡ cond b 1 0 → times a ns ≤ 1) [ true ↦ λ e. omega (arith, e) | false ↦ λ e. omega (arith, e) ] (times_count a ns ∙ each a)
-
--- and is there
-pub in_order : (graph : Arrows) (ns : List ℕ) → order.HoldsEachOnce graph ns → (a : ℕ) → a < nodes_of graph → Contains ns a
-in_order graph ns each a lt =
-    let one : times a ns ≡ 1 = times_count a ns ∙ each a ∙ ap (λ b. cond b 1 0) (lt-ltb a (nodes_of graph) lt) in
-    contains_it ns a (omega (arith, one))
 
 module _ (places ns : List ℕ) (count : ℕ) (size : length places ≡ count) (all : All (λ a. a < count) ns) (once : (node : ℕ) → count_by (λ n. n == node) ns ≤ 1) where
   -- one node more has its place

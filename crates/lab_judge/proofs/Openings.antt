@@ -1,5 +1,5 @@
 -- Edges that open a walk that leads back, and those that don't.
-use Rattle.std.proofs.Common.{◌≡◌, ℕ, ◌<◌, ◌==◌, ◌&&◌, Bool, true, false, Some, List, length, refl, sym, ap, ◌∙◌, subst}
+use Rattle.std.proofs.Common.{◌≡◌, ℕ, ◌<◌, ◌==◌, ◌&&◌, Bool, true, false, Some, List, length, refl, sym, ◌∙◌, subst}
 use Rattle.std.specs.Prelude.{Contains, slice_get}
 use Rattle.std.specs.List.{All, list_any}
 use Rattle.std.proofs.lemmas.Bool.{false≢true, and_from, eq-eqb}
@@ -38,14 +38,6 @@ module _ (opening : Kind → Bool) (graph : Arrows) (nodes : List ℕ) (es : Lis
       let to = position nodes e.to in
       let back : Reaches graph to from = subst (Reaches graph to) at opened.1 in
       false≢true (sym (none to (within e there) back) ∙ tied_by e there at opened.0)
-
-  -- one to a node that leads back does
-  pub leading_opens : (to : ℕ) → Reaches graph to from → (e : Edge) (n m : ℕ) → e.from ≡ n → position nodes n ≡ from → e.to ≡ m → position nodes m ≡ to
-      → opening e.kind ≡ true → IsOpening opening graph nodes e
-  leading_opens to back e n m from_is from_at to_is to_at kind =
-      let to_same : to ≡ position nodes e.to = sym (ap (position nodes) to_is ∙ to_at) in
-      let from_same : from ≡ position nodes e.from = sym (ap (position nodes) from_is ∙ from_at) in
-      (kind, subst (λ k. Reaches graph k (position nodes e.from)) to_same (subst (Reaches graph to) from_same back))
 
 -- where two nodes are tied, there is such an edge
 pub surely : (test : Kind → Bool) (nodes : List ℕ) (es : List Edge) → All (HasEnds nodes) es → (from to n m : ℕ) → list_any (ties test nodes from to) es ≡ true

@@ -1,196 +1,147 @@
 -- What the order of the graph of starts and commits says of the history.
-use Rattle.std.proofs.Common.{◌≡◌, ◌⊎◌, ℕ, ◌+◌, ◌<◌, ◌≤◌, ◌==◌, Bool, true, false, cond, List, [], ◌∷◌, map, slice_index, refl, sym, ap, ◌∙◌, subst, arith, inl, inr}
+use Rattle.std.proofs.Common.{◌≡◌, ℕ, suc, ◌+◌, ◌<◌, ◌≤◌, ◌==◌, Bool, true, false, cond, List, [], ◌∷◌, get_or, map, slice_index, refl, sym, ap, ◌∙◌, subst, arith}
 use Rattle.std.specs.Prelude.{◌↔◌, Contains, count_by}
-use Rattle.std.proofs.lemmas.Bool.{eqb-true, cases_lt}
-use Rattle.lab_order.specs.Arrows.{Arrows}
+use Rattle.std.specs.List.{All}
+use Rattle.std.specs.List.Sorted.{IsStrictlyIncreasing}
+use Rattle.std.proofs.lemmas.Bool.{eqb-true}
+use Rattle.std.proofs.lemmas.List.{get_or-map, length-map}
+use Rattle.std.proofs.lemmas.List.Elements.{All-head, All-tail, All-map, All-contains, Contains-get_or}
+use Rattle.std.proofs.lemmas.List.Sums.{sum_by-cons}
+use Rattle.lab_order.specs.Arrows.{Arrows, nodes_of, IsGraph}
+use Rattle.lab_order.specs.Least.{IsLeast}
 use Rattle.lab_order.specs.Order as order
 use Rattle.lab_order.specs.Order.{position}
 use Rattle.lab_history.specs.History.{History}
 use Rattle.lab_history.specs.Version.{IsCommitted}
 use Rattle.lab_deps.specs.Edges.{IsEdge}
-use Rattle.lab_deps.specs.Soundness.{IsSound}
+use Rattle.lab_deps.specs.Soundness.{IsSound, has_committed}
 use Rattle.lab_deps.specs.declared.edge.Edge.{Edge}
-use Rattle.lab_deps.proofs.Places.{times, times_count, times_here, times_more}
+use Rattle.lab_deps.proofs.Places.{times, times_count}
 use Rattle.lab_judge.specs.Runs.{HoldsEachOnce, Span, all_places, IsSnapshotRun}
-use Rattle.lab_judge.specs.Places.{IsArrow, start_of, commit_of, place_of_point, IsForwardPlacing}
-use Rattle.lab_judge.specs.LeastPlaces.{txn_of}
-use Rattle.lab_judge.specs.PlaceGraphs.{start_node, commit_node, IsPlaceGraph, span_in}
+use Rattle.lab_judge.specs.Places.{start_of, commit_of, place_of_point, IsForwardPlacing}
+use Rattle.lab_judge.specs.LeastPlaces.{is_point, place_in, IsPointOrder, IsLeastPointOrder, ArePlacedAlong}
+use Rattle.lab_judge.specs.PlaceGraphs.{IsPlaceGraph, point_at, span_in}
 use Rattle.lab_judge.specs.declared.places.Point.{Point}
 use Rattle.lab_judge.specs.declared.places.Point.TheVariants.{Start, Commit}
-use Rattle.lab_judge.proofs.Numbers.{contained, contains_it, stands, position_within}
-use Rattle.lab_judge.proofs.Joined.{read}
-use Rattle.lab_judge.proofs.NodePlaces.{one_node, in_order}
-use Rattle.lab_judge.proofs.PlaceNodes.{node_of, has_it}
-use Rattle.lab_judge.proofs.SerialVerdicts.{is_node}
+use Rattle.lab_judge.proofs.GraphNodes.{in_order}
+use Rattle.lab_judge.proofs.Numbers.{contained}
+use Rattle.lab_judge.proofs.Orders.{at_most, committed_in, committed_once}
+use Rattle.lab_judge.proofs.PlaceNodes.{IsOfCommitted, ends, node_of}
+use Rattle.lab_judge.proofs.PlacesApart.{IsTold, owners, apart}
 use Rattle.lab_judge.proofs.Placings.{is_snapshot}
-use Rattle.lab_judge.proofs.Orders.{at_most}
+use Rattle.lab_judge.proofs.PointNodes.{is_same, node_within, place_is, is_order, is_least}
+
+-- a span has its places along an order
+abbrev IsPlaced : List Point → Span → Type 0
+IsPlaced points s = (s.start ≡ place_in points (Start s.txn)) × (s.commit ≡ place_in points (Commit s.txn))
+
+-- points of one place are one, where one of them is in the list
+one_point : (ps : List Point) (p q : Point) → 1 ≤ count_by (λ r. is_point r p) ps → place_in ps p ≡ place_in ps q → p ≡ q
+one_point [] p q some same = absurd (omega (arith, some))
+one_point (r ∷ ps) p q some same =
+    at (one_point ps p q) (is_point r p) (is_point r q) refl refl (subst (λ k. 1 ≤ k) (sum_by-cons (λ r. cond (is_point r p) 1 0) r ps) some) same
+  where
+    at : (1 ≤ count_by (λ r. is_point r p) ps → place_in ps p ≡ place_in ps q → p ≡ q) → (a b : Bool) → is_point r p ≡ a → is_point r q ≡ b
+        → 1 ≤ cond a 1 0 + count_by (λ r. is_point r p) ps → cond a 0 (suc (place_in ps p)) ≡ cond b 0 (suc (place_in ps q)) → p ≡ q
+    at rest true true e f some same = sym ((is_same r p).0 e) ∙ (is_same r q).0 f
+    at rest true false e f some same = absurd (omega (arith, same))
+    at rest false true e f some same = absurd (omega (arith, same))
+    at rest false false e f some same = rest (omega (arith, some)) (omega (arith, same))
+
+-- the places of a transaction among spans along an order
+places_are : (points : List Point) (ss : List Span) → All (IsPlaced points) ss → (n : ℕ) → 1 ≤ times n (owners ss)
+    → (start_of ss n ≡ place_in points (Start n)) × (commit_of ss n ≡ place_in points (Commit n))
+places_are points [] placed n some = absurd (omega arith)
+places_are points (s ∷ ss) placed n some = at (places_are points ss (All-tail (IsPlaced points) s ss placed) n) (s.txn == n) refl some
+  where
+    own : IsPlaced points s
+    own = All-head (IsPlaced points) s ss placed
+
+    at : (1 ≤ times n (owners ss) → (start_of ss n ≡ place_in points (Start n)) × (commit_of ss n ≡ place_in points (Commit n))) → (b : Bool) → (s.txn == n) ≡ b
+        → 1 ≤ cond b (1 + times n (owners ss)) (times n (owners ss))
+        → (cond b s.start (start_of ss n) ≡ place_in points (Start n)) × (cond b s.commit (commit_of ss n) ≡ place_in points (Commit n))
+    at rest true e some = let same = eqb-true s.txn n e in (own.0 ∙ ap (λ k. place_in points (Start k)) same, own.1 ∙ ap (λ k. place_in points (Commit k)) same)
+    at rest false e some = rest some
 
 -- the transactions of spans are those that they were made of
-pub numbers_are : (ns places ms : List ℕ) → map (λ s. s.txn) (map (span_in ns places) ms) ≡ ms
+numbers_are : (ns places ms : List ℕ) → owners (map (span_in ns places) ms) ≡ ms
 numbers_are ns places [] = refl
 numbers_are ns places (m ∷ ms) = ap (λ l. m ∷ l) (numbers_are ns places ms)
 
--- the start of a transaction among spans
-start_is : (ns places ms : List ℕ) (n : ℕ) → 1 ≤ times n ms → start_of (map (span_in ns places) ms) n ≡ slice_index places (start_node (position ns n))
-start_is ns places [] n h = absurd (omega arith)
-start_is ns places (m ∷ ms) n h = at (start_is ns places ms n) (m == n) refl h
-  where
-    at : (1 ≤ times n ms → start_of (map (span_in ns places) ms) n ≡ slice_index places (start_node (position ns n))) → (b : Bool) → (m == n) ≡ b → 1 ≤ cond b (1 + times n ms) (times n ms)
-        → cond b (slice_index places (start_node (position ns m))) (start_of (map (span_in ns places) ms) n) ≡ slice_index places (start_node (position ns n))
-    at rest true e h = ap (λ k. slice_index places (start_node (position ns k))) (eqb-true m n e)
-    at rest false e h = rest h
+module _ (h : History) (points : List Point) (o : IsPointOrder h points) (ss : List Span) (once : HoldsEachOnce h (owners ss)) (placed : All (IsPlaced points) ss) where
+  -- a place tells the point that has it
+  abbrev Tells : ℕ → Point → Type 0
+  Tells x p = IsOfCommitted h p × (x ≡ place_in points p)
 
--- and its commit
-commit_is : (ns places ms : List ℕ) (n : ℕ) → 1 ≤ times n ms → commit_of (map (span_in ns places) ms) n ≡ slice_index places (commit_node (position ns n))
-commit_is ns places [] n h = absurd (omega arith)
-commit_is ns places (m ∷ ms) n h = at (commit_is ns places ms n) (m == n) refl h
-  where
-    at : (1 ≤ times n ms → commit_of (map (span_in ns places) ms) n ≡ slice_index places (commit_node (position ns n))) → (b : Bool) → (m == n) ≡ b → 1 ≤ cond b (1 + times n ms) (times n ms)
-        → cond b (slice_index places (commit_node (position ns m))) (commit_of (map (span_in ns places) ms) n) ≡ slice_index places (commit_node (position ns n))
-    at rest true e h = ap (λ k. slice_index places (commit_node (position ns k))) (eqb-true m n e)
-    at rest false e h = rest h
+  one : (x : ℕ) (p q : Point) → Tells x p → Tells x q → p ≡ q
+  one x p q a b =
+      let here : count_by (λ r. is_point r p) points ≡ 1 = o.each_once p ∙ ap (λ c. cond (has_committed c) 1 0) a.0 in
+      one_point points p q (omega (arith, here)) (sym a.1 ∙ b.1)
 
--- both ends of an arrow are of committed transactions
-abbrev pub IsOfCommitted : History → Point → Type 0
-IsOfCommitted h p = IsCommitted h (txn_of p)
+  told : All (IsTold Tells) ss
+  told k d lt =
+      let s = get_or ss k d in
+      let own : Contains (owners ss) s.txn = subst (Contains (owners ss)) (get_or-map (λ s. s.txn) ss k d 0 lt) (Contains-get_or (owners ss) k 0 (subst (λ n. k < n) (sym (length-map ss (λ s. s.txn))) lt)) in
+      let c : IsCommitted h s.txn = committed_in h (owners ss) once s.txn (contained (owners ss) s.txn own) in
+      ((c, (placed k d lt).0), (c, (placed k d lt).1))
 
-pub ends : (h : History) (p q : Point) → IsArrow h p q → IsOfCommitted h p × IsOfCommitted h q
-ends h (Start m) (Commit n) (inl (c, same)) = (c, subst (IsCommitted h) same c)
-ends h (Start m) (Commit n) (inr (e, edge, from, to, kind)) = (subst (IsCommitted h) from edge.0, subst (IsCommitted h) to edge.1)
-ends h (Commit m) (Start n) (e, edge, from, to, kind) = (subst (IsCommitted h) from edge.0, subst (IsCommitted h) to edge.1)
-ends h (Start m) (Start n) arrow = absurd arrow
-ends h (Commit m) (Commit n) arrow = absurd arrow
+  distinct : (x : ℕ) → count_by (λ p. p == x) (all_places ss) ≤ 1
+  distinct x = subst (λ k. k ≤ 1) (times_count x (all_places ss)) (apart Tells one ss told (at_most h (owners ss) once) x)
 
-module _ (h : History) (ns : List ℕ) (once : HoldsEachOnce h ns) (es : List Edge) (exact : (e : Edge) → Contains es e ↔ IsEdge h e)
-    (graph : Arrows) (is : IsPlaceGraph ns es graph) (placed : List ℕ) (ordered : order.IsOrder graph placed)
-    (places : List ℕ) (are : (node : ℕ) → Contains placed node → slice_index places node ≡ position placed node) where
-  -- the start and the commit of a node are in the order
-  start_there : (n : ℕ) → Contains ns n → Contains placed (start_node (position ns n))
-  start_there n there = let lt = position_within ns n there in in_order graph placed ordered.each_once (start_node (position ns n)) (omega (arith, lt, is.size))
+  place_of : (p : Point) → IsOfCommitted h p → place_of_point ss p ≡ place_in points p
+  place_of (Start n) c = (places_are points ss placed n (omega (arith, committed_once h (owners ss) once n c))).0
+  place_of (Commit n) c = (places_are points ss placed n (omega (arith, committed_once h (owners ss) once n c))).1
 
-  commit_there : (n : ℕ) → Contains ns n → Contains placed (commit_node (position ns n))
-  commit_there n there = let lt = position_within ns n there in in_order graph placed ordered.each_once (commit_node (position ns n)) (omega (arith, lt, is.size))
-
-  -- the place of a point is that of its node
-  place_is : (p : Point) → IsOfCommitted h p → place_of_point (map (span_in ns places) ns) p ≡ position placed (node_of ns p)
-  place_is (Start n) c =
-      let there : Contains ns n = is_node h ns once n c in
-      start_is ns places ns n (contained ns n there) ∙ are (start_node (position ns n)) (start_there n there)
-  place_is (Commit n) c =
-      let there : Contains ns n = is_node h ns once n c in
-      commit_is ns places ns n (contained ns n there) ∙ are (commit_node (position ns n)) (commit_there n there)
-
-  pub forward : IsForwardPlacing h (map (span_in ns places) ns)
+  forward : IsForwardPlacing h ss
   forward p q arrow =
       let both : IsOfCommitted h p × IsOfCommitted h q = ends h p q arrow in
-      let from : place_of_point (map (span_in ns places) ns) p ≡ position placed (node_of ns p) = place_is p both.0 in
-      let to : place_of_point (map (span_in ns places) ns) q ≡ position placed (node_of ns q) = place_is q both.1 in
-      let less : position placed (node_of ns p) < position placed (node_of ns q) = ordered.forward (node_of ns p) (node_of ns q) (has_it h ns once es exact graph is p q arrow) in
+      let from = place_of p both.0 in
+      let to = place_of q both.1 in
+      let less = o.forward p q arrow in
       omega (arith, from, to, less)
 
-  pub each_once : HoldsEachOnce h (map (λ s. s.txn) (map (span_in ns places) ns))
-  each_once = subst (HoldsEachOnce h) (sym (numbers_are ns places ns)) once
+module _ (h : History) (ns : List ℕ) (up : IsStrictlyIncreasing ns) (once : HoldsEachOnce h ns) (es : List Edge) (exact : (e : Edge) → Contains es e ↔ IsEdge h e)
+    (graph : Arrows) (g : IsGraph graph) (is : IsPlaceGraph ns es graph) (nodes : List ℕ) (l : IsLeast (order.IsOrder graph) nodes)
+    (places : List ℕ) (are : (node : ℕ) → Contains nodes node → slice_index places node ≡ position nodes node) (made : List Span) (same : made ≡ map (span_in ns places) ns) where
+  abbrev points : List Point
+  points = map (point_at ns) nodes
 
-  -- where a transaction starts and commits
-  abbrev starts : ℕ → ℕ
-  starts n = slice_index places (start_node (position ns n))
+  -- a point's node has the point's place
+  own_place : (p : Point) → IsOfCommitted h p → slice_index places (node_of ns p) ≡ place_in points p
+  own_place p c =
+      let lt : node_of ns p < nodes_of graph = subst (λ k. node_of ns p < k) (sym is.size) (node_within h ns once p c) in
+      are (node_of ns p) (in_order graph nodes l.is_one.each_once (node_of ns p) lt) ∙ sym (place_is h ns up once es exact graph g is nodes l.is_one p c)
 
-  abbrev commits : ℕ → ℕ
-  commits n = slice_index places (commit_node (position ns n))
-
-  -- nodes of one place are one
-  one : (a b : ℕ) → Contains placed a → Contains placed b → slice_index places a ≡ slice_index places b → a ≡ b
-  one a b ha hb same = one_node placed a b ha hb (sym (are a ha) ∙ same ∙ are b hb)
-
-  same_number : (m n : ℕ) → Contains ns m → Contains ns n → position ns m ≡ position ns n → m ≡ n
-  same_number m n hm hn same = sym (read ns (position ns m) m (stands ns m hm)) ∙ ap (slice_index ns) same ∙ read ns (position ns n) n (stands ns n hn)
-
-  -- different transactions start and commit at different places
-  starts_apart : (m n : ℕ) → Contains ns m → Contains ns n → starts m ≡ starts n → m ≡ n
-  starts_apart m n hm hn same =
-      let e : start_node (position ns m) ≡ start_node (position ns n) = one (start_node (position ns m)) (start_node (position ns n)) (start_there m hm) (start_there n hn) same in
-      same_number m n hm hn (omega (arith, e))
-
-  commits_apart : (m n : ℕ) → Contains ns m → Contains ns n → commits m ≡ commits n → m ≡ n
-  commits_apart m n hm hn same =
-      let e : commit_node (position ns m) ≡ commit_node (position ns n) = one (commit_node (position ns m)) (commit_node (position ns n)) (commit_there m hm) (commit_there n hn) same in
-      same_number m n hm hn (omega (arith, e))
-
-  never : (m n : ℕ) → Contains ns m → Contains ns n → starts m ≡ commits n → ⊥
-  never m n hm hn same =
-      let e : start_node (position ns m) ≡ commit_node (position ns n) = one (start_node (position ns m)) (commit_node (position ns n)) (start_there m hm) (commit_there n hn) same in
-      omega (arith, e)
-
-  -- whose a place is
-  whose : (ms : List ℕ) (x : ℕ) → 1 ≤ times x (all_places (map (span_in ns places) ms)) → (n : ℕ) × (1 ≤ times n ms) × ((starts n ≡ x) ⊎ (commits n ≡ x))
-  whose [] x h = absurd (omega arith)
-  whose (m ∷ ms) x h = at (whose ms x) (starts m == x) (commits m == x) refl refl h
+  placed : All (IsPlaced points) made
+  placed = subst (All (IsPlaced points)) (sym same) (All-map (IsPlaced points) (span_in ns places) ns (λ k d lt. one (get_or ns k d) (Contains-get_or ns k d lt)))
     where
-      rest_of : List ℕ
-      rest_of = all_places (map (span_in ns places) ms)
+      one : (n : ℕ) → Contains ns n → IsPlaced points (span_in ns places n)
+      one n there = let c = committed_in h ns once n (contained ns n there) in (own_place (Start n) c, own_place (Commit n) c)
 
-      mine : 1 ≤ times m (m ∷ ms)
-      mine = omega (arith, times_here m m ms refl)
+  numbers : owners made ≡ ns
+  numbers = ap owners same ∙ numbers_are ns places ns
 
-      at : (1 ≤ times x (all_places (map (span_in ns places) ms)) → (n : ℕ) × (1 ≤ times n ms) × ((starts n ≡ x) ⊎ (commits n ≡ x)))
-          → (s c : Bool) → (starts m == x) ≡ s → (commits m == x) ≡ c
-          → 1 ≤ cond s (1 + cond c (1 + times x (all_places (map (span_in ns places) ms))) (times x (all_places (map (span_in ns places) ms))))
-          (cond c (1 + times x (all_places (map (span_in ns places) ms))) (times x (all_places (map (span_in ns places) ms))))
-          → (n : ℕ) × (1 ≤ times n (m ∷ ms)) × ((starts n ≡ x) ⊎ (commits n ≡ x))
-      at rest true c es ec h = (m, mine, inl (eqb-true (starts m) x es))
-      at rest false true es ec h = (m, mine, inr (eqb-true (commits m) x ec))
-      at rest false false es ec h =
-          let r : (n : ℕ) × (1 ≤ times n ms) × ((starts n ≡ x) ⊎ (commits n ≡ x)) = rest h in
-          (r.0, (let more : times r.0 ms ≤ times r.0 (m ∷ ms) = times_more r.0 m ms in omega (arith, r.1, more)), r.2)
+  each_once : HoldsEachOnce h (owners made)
+  each_once = subst (HoldsEachOnce h) (sym numbers) once
 
-  -- no place is of two
-  distinct : (ms : List ℕ) → ((n : ℕ) → times n ms ≤ 1) → ((n : ℕ) → 1 ≤ times n ms → Contains ns n) → (x : ℕ) → times x (all_places (map (span_in ns places) ms)) ≤ 1
-  distinct [] few there x = omega arith
-  distinct (m ∷ ms) few there x = at (distinct ms (λ n. let more : times n ms ≤ times n (m ∷ ms) = times_more n m ms in omega (arith, few n, more)) below x) (starts m == x) (commits m == x) refl refl
-    where
-      below : (n : ℕ) → 1 ≤ times n ms → Contains ns n
-      below n h = there n (let more : times n ms ≤ times n (m ∷ ms) = times_more n m ms in omega (arith, h, more))
+  ordered : IsPointOrder h points
+  ordered = is_order h ns up once es exact graph g is nodes l.is_one
 
-      hm : Contains ns m
-      hm = there m (omega (arith, times_here m m ms refl))
+  -- the spans at these places rest on their law
+  pub rests : IsSound h → IsSound h × HoldsEachOnce h (map (λ s. s.txn) made) × ((x : ℕ) → count_by (λ p. p == x) (all_places made) ≤ 1) × IsForwardPlacing h made
+  rests sound = (sound, each_once, distinct h points ordered made each_once placed, forward h points ordered made each_once placed)
 
-      -- the first isn't among the others
-      other : (n : ℕ) → 1 ≤ times n ms → n ≡ m → ⊥
-      other n h same =
-          let here : times n (m ∷ ms) ≡ 1 + times n ms = times_here n m ms (sym same) in
-          omega (arith, few n, here, h)
+  -- are a snapshot run
+  pub runs : IsSound h → IsSnapshotRun h made
+  runs sound = is_snapshot h sound made each_once (distinct h points ordered made each_once placed) (forward h points ordered made each_once placed)
 
-      no_more : ((n : ℕ) → 1 ≤ times n ms → (starts n ≡ x) ⊎ (commits n ≡ x) → ⊥) → times x (all_places (map (span_in ns places) ms)) ≡ 0
-      no_more none = elim (cases_lt 0 (times x (all_places (map (span_in ns places) ms)))) [
-        | inl some ↦ let w : (n : ℕ) × (1 ≤ times n ms) × ((starts n ≡ x) ⊎ (commits n ≡ x)) = whose ms x (omega arith) in absurd (none w.0 w.1 w.2)
-        | inr few ↦ omega arith
-      ]
-
-      of_start : starts m ≡ x → (n : ℕ) → 1 ≤ times n ms → (starts n ≡ x) ⊎ (commits n ≡ x) → ⊥
-      of_start e n h (inl s) = other n h (starts_apart n m (below n h) hm (s ∙ sym e))
-      of_start e n h (inr c) = never m n hm (below n h) (e ∙ sym c)
-
-      of_commit : commits m ≡ x → (n : ℕ) → 1 ≤ times n ms → (starts n ≡ x) ⊎ (commits n ≡ x) → ⊥
-      of_commit e n h (inl s) = never n m (below n h) hm (s ∙ sym e)
-      of_commit e n h (inr c) = other n h (commits_apart n m (below n h) hm (c ∙ sym e))
-
-      at : times x (all_places (map (span_in ns places) ms)) ≤ 1 → (s c : Bool) → (starts m == x) ≡ s → (commits m == x) ≡ c
-          → cond s (1 + cond c (1 + times x (all_places (map (span_in ns places) ms))) (times x (all_places (map (span_in ns places) ms))))
-          (cond c (1 + times x (all_places (map (span_in ns places) ms))) (times x (all_places (map (span_in ns places) ms)))) ≤ 1
-      at rest true true es ec = absurd (never m m hm hm (eqb-true (starts m) x es ∙ sym (eqb-true (commits m) x ec)))
-      at rest true false es ec = let none = no_more (of_start (eqb-true (starts m) x es)) in omega (arith, none)
-      at rest false true es ec = let none = no_more (of_commit (eqb-true (commits m) x ec)) in omega (arith, none)
-      at rest false false es ec = rest
-
-  pub apart : (x : ℕ) → count_by (λ p. p == x) (all_places (map (span_in ns places) ns)) ≤ 1
-  apart x = subst (λ k. k ≤ 1) (times_count x (all_places (map (span_in ns places) ns))) (distinct ns (at_most h ns once) (contains_it ns) x)
-
-  -- the spans rest on their law
-  pub rests : IsSound h → (made : List Span) → made ≡ map (span_in ns places) ns
-      → IsSound h × HoldsEachOnce h (map (λ s. s.txn) made) × ((x : ℕ) → count_by (λ p. p == x) (all_places made) ≤ 1) × IsForwardPlacing h made
-  rests sound made same =
-      subst (λ l. IsSound h × HoldsEachOnce h (map (λ s. s.txn) l) × ((x : ℕ) → count_by (λ p. p == x) (all_places l) ≤ 1) × IsForwardPlacing h l) (sym same) (sound, each_once, apart, forward)
-
-  -- and are a snapshot run
-  pub runs : IsSound h → (made : List Span) → made ≡ map (span_in ns places) ns → IsSnapshotRun h made
-  runs sound made same = subst (IsSnapshotRun h) (sym same) (is_snapshot h sound (map (span_in ns places) ns) each_once apart forward)
+  -- and are those of the least order of points
+  pub least_placing : (points : List Point) × IsLeastPointOrder h points × ArePlacedAlong points made
+  least_placing = (
+    points,
+    is_least h ns up once es exact graph g is nodes l,
+    record {
+      rising = subst IsStrictlyIncreasing (sym numbers) up;
+      placed = λ s there. All-contains (IsPlaced points) made s placed there;
+    },
+  )

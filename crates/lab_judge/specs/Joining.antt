@@ -1,13 +1,20 @@
 -- The arrows that are added for dependencies.
-use Rattle.std.specs.Prelude.{ℕ, zero, suc, ◌*◌, ◌==◌, ◌&&◌, ◌||◌, Bool, false, List}
-use Rattle.std.specs.List.{list_any}
+use Rattle.std.specs.Prelude.{ℕ, zero, suc, ◌*◌, ◌≤◌, ◌==◌, ◌&&◌, ◌||◌, Bool, false, List, length}
+use Rattle.std.specs.List.{All, list_any}
+use Rattle.std.specs.List.Sorted.{IsStrictlyIncreasing}
 use Rattle.lab_order.specs.Order.{position}
 use Rattle.lab_deps.specs.declared.edge.Edge.{Edge}
 use Rattle.lab_deps.specs.declared.edge.Kind.{Kind}
-use Rattle.lab_judge.specs.Graphs.{ties}
+use Rattle.lab_judge.specs.Graphs.{HasEnds, ties}
 use Rattle.lab_judge.specs.PlaceGraphs.{start_node, commit_node}
 use Rattle.lab_judge.specs.declared.joining.Joining.{Joining}
 use Rattle.lab_judge.specs.declared.joining.Joining.TheVariants.{Transactions, StartToCommit, CommitToStart}
+
+-- transactions of rising number, no more than a history has, and dependencies between them
+pub record IsJoinable (nodes : List ℕ) (es : List Edge) : Type 0 where
+  pub rising : IsStrictlyIncreasing nodes
+  pub few : length nodes ≤ 1000001
+  pub ends : All (HasEnds nodes) es
 
 -- the node from which the arrow leads, where the first transaction is at this place
 abbrev pub tail : Joining → ℕ → ℕ

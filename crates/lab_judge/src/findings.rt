@@ -2,7 +2,6 @@
 
 ghost use Rattle.std.specs.Prelude.{◌≡◌, ◌↔◌, Contains, IfOk};
 ghost use Rattle.std.specs.List.{All};
-ghost use Rattle.std.specs.List.Sorted.{IsStrictlyIncreasing};
 ghost use Rattle.lab_history.specs.History.{History as Recorded};
 ghost use Rattle.lab_deps.specs.Soundness.{Stands, IsSound};
 ghost use Rattle.lab_deps.specs.Edges.{IsEdge};
@@ -11,9 +10,8 @@ ghost use Rattle.lab_deps.specs.Refusal.{IsAnswer};
 ghost use Rattle.lab_deps.specs.declared.edge.Edge.{Edge as Spelled};
 ghost use Rattle.lab_deps.specs.declared.fault.LocalFault.TheVariants as fault;
 ghost use Rattle.lab_table.specs.Row.{Row};
-ghost use Rattle.lab_judge.specs.Graphs.{HasEnds, IsGraphOf};
+ghost use Rattle.lab_judge.specs.Graphs.{IsGraphOf, IsTableOf, IsHistoryGraph};
 ghost use Rattle.lab_judge.specs.LeastWalks.{AreCommitted, IsBackWalk, FindsDue, FindsDueWalks};
-ghost use Rattle.lab_judge.specs.Runs.{HoldsEachOnce};
 ghost use Rattle.lab_judge.specs.Phenomena.{NoWalk, IsClosedWalk, IsG0, MeetsPl2};
 ghost use Rattle.lab_judge.specs.Judgement.{FindsWalk, JudgesAll, JudgesReads, JudgesNothing, JudgesAtFault};
 
@@ -72,12 +70,9 @@ pub(crate) fn find_in_sound(
     all: &Graph,
 ) -> Result<Findings, NoMemory>
     requires sound { IsSound _history.now }
-    requires nodes { HoldsEachOnce _history.now nodes.now }
-    requires rising { IsStrictlyIncreasing nodes.now }
-    requires edges { (e : Spelled) → Contains edges.now e ↔ IsEdge _history.now e }
+    requires given { IsHistoryGraph _history.now nodes.now edges.now all.now }
     requires numbers { table.now.numbers ≡ nodes.now }
     requires table { table.now.edges ≡ edges.now }
-    requires all { IsGraphOf (among Kinds.ALL) nodes.now edges.now all.now }
     ensures found { IfOk result (λ found. JudgesAll _history.now found.phenomena found.level) }
     ensures walks { IfOk result (λ found. FindsDueWalks _history.now found.phenomena) }
 {
@@ -92,10 +87,7 @@ fn find_walks(
     table: &KindTable<'_, '_>,
     all: &Graph,
 ) -> Result<Findings, NoMemory>
-    requires ends { All (HasEnds nodes.now) edges.now }
-    requires rising { IsStrictlyIncreasing nodes.now }
-    requires numbers { table.now.numbers ≡ nodes.now }
-    requires table { table.now.edges ≡ edges.now }
+    requires table { IsTableOf nodes.now edges.now table.now.numbers table.now.edges }
     requires all { IsGraphOf (among Kinds.ALL) nodes.now edges.now all.now }
     ensures found { IfOk result (λ found. (h : Recorded) → IsSound h → ((e : Spelled) → Contains edges.now e ↔ IsEdge h e) → JudgesAll h found.phenomena found.level) }
     ensures walks { IfOk result (λ found. (h : Recorded) → AreCommitted h nodes.now → ((e : Spelled) → Contains edges.now e ↔ IsEdge h e) → FindsDueWalks h found.phenomena) }

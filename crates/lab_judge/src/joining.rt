@@ -1,12 +1,11 @@
 //! Arrows of a graph for dependencies.
 
 ghost use Rattle.std.specs.Prelude.{◌≡◌, ◌<◌, ◌≤◌, ◌||◌, ℕ, Bool, length, IfOk};
-ghost use Rattle.std.specs.List.{All, list_any};
-ghost use Rattle.std.specs.List.Sorted.{IsStrictlyIncreasing};
+ghost use Rattle.std.specs.List.{list_any};
 ghost use Rattle.lab_order.specs.Arrows.{nodes_of, has_arrow};
 ghost use Rattle.lab_deps.specs.KindSets.{among};
-ghost use Rattle.lab_judge.specs.Graphs.{HasEnds, IsGraphOf};
-ghost use Rattle.lab_judge.specs.Joining.{tail, head, nodes_for, lands, landing, any_below};
+ghost use Rattle.lab_judge.specs.Graphs.{IsGraphOf};
+ghost use Rattle.lab_judge.specs.Joining.{IsJoinable, tail, head, nodes_for, lands, landing, any_below};
 
 use lab_deps::{KindTable, Kinds};
 use lab_order::{Graph, NoMemory};
@@ -58,9 +57,7 @@ pub(crate) fn add_arrows(
     kinds: Kinds,
     joining: Joining,
 ) -> Result<(), NoMemory>
-    requires rising { IsStrictlyIncreasing table.now.numbers }
-    requires few { length table.now.numbers ≤ 1000001 }
-    requires ends { All (HasEnds table.now.numbers) table.now.edges }
+    requires table { IsJoinable table.now.numbers table.now.edges }
     requires size { nodes_of graph.old ≡ nodes_for joining (length table.now.numbers) }
     ensures nodes { nodes_of graph.new ≡ nodes_of graph.old }
     ensures arrows { IfOk result (λ _. (a b : ℕ) → has_arrow graph.new a b
@@ -81,9 +78,7 @@ fn add_arrows_from(
     joining: Joining,
     from: u32,
 ) -> Result<(), NoMemory>
-    requires rising { IsStrictlyIncreasing table.now.numbers }
-    requires few { length table.now.numbers ≤ 1000001 }
-    requires ends { All (HasEnds table.now.numbers) table.now.edges }
+    requires table { IsJoinable table.now.numbers table.now.edges }
     requires size { nodes_of graph.old ≡ nodes_for joining (length table.now.numbers) }
     requires from { from < length table.now.numbers }
     ensures nodes { nodes_of graph.new ≡ nodes_of graph.old }
@@ -116,9 +111,7 @@ fn add_arrows_between(
     first: usize,
     beyond: usize,
 ) -> Result<(), NoMemory>
-    requires rising { IsStrictlyIncreasing table.now.numbers }
-    requires few { length table.now.numbers ≤ 1000001 }
-    requires ends { All (HasEnds table.now.numbers) table.now.edges }
+    requires table { IsJoinable table.now.numbers table.now.edges }
     requires size { nodes_of graph.old ≡ nodes_for joining (length table.now.numbers) }
     requires from { from < length table.now.numbers }
     requires order { first ≤ beyond }
@@ -150,9 +143,7 @@ pub(crate) fn add_arrows_among(
     kinds: Kinds,
     joining: Joining,
 ) -> Result<(), NoMemory>
-    requires rising { IsStrictlyIncreasing table.now.numbers }
-    requires few { length table.now.numbers ≤ 1000001 }
-    requires ends { All (HasEnds table.now.numbers) table.now.edges }
+    requires table { IsJoinable table.now.numbers table.now.edges }
     requires all { IsGraphOf (among Kinds.ALL) table.now.numbers table.now.edges all.now }
     requires size { nodes_of graph.old ≡ nodes_for joining (length table.now.numbers) }
     ensures nodes { nodes_of graph.new ≡ nodes_of graph.old }
@@ -175,9 +166,7 @@ fn add_arrows_to(
     joining: Joining,
     to: u32,
 ) -> Result<(), NoMemory>
-    requires rising { IsStrictlyIncreasing table.now.numbers }
-    requires few { length table.now.numbers ≤ 1000001 }
-    requires ends { All (HasEnds table.now.numbers) table.now.edges }
+    requires table { IsJoinable table.now.numbers table.now.edges }
     requires all { IsGraphOf (among Kinds.ALL) table.now.numbers table.now.edges all.now }
     requires size { nodes_of graph.old ≡ nodes_for joining (length table.now.numbers) }
     requires to { to < length table.now.numbers }
@@ -202,9 +191,7 @@ fn add_arrow(
     from: u32,
     to: u32,
 ) -> Result<(), NoMemory>
-    requires rising { IsStrictlyIncreasing table.now.numbers }
-    requires few { length table.now.numbers ≤ 1000001 }
-    requires ends { All (HasEnds table.now.numbers) table.now.edges }
+    requires table { IsJoinable table.now.numbers table.now.edges }
     requires size { nodes_of graph.old ≡ nodes_for joining (length table.now.numbers) }
     requires from { from < length table.now.numbers }
     requires to { to < length table.now.numbers }

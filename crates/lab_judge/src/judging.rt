@@ -1,7 +1,6 @@
 //! The judgement of a history.
 
-ghost use Rattle.std.specs.Prelude.{◌≡◌, ◌≢◌, ◌⊎◌, ◌↔◌, ◌≤◌, ◌<◌, length, Contains, Ok, Err, Some, IfOk, IfErr, MatchResult, IsUtf8};
-ghost use Rattle.std.specs.List.Sorted.{IsStrictlyIncreasing};
+ghost use Rattle.std.specs.Prelude.{◌≡◌, ◌≢◌, ◌⊎◌, ◌↔◌, ◌≤◌, ◌<◌, length, Ok, Err, Some, IfOk, IfErr, IsUtf8};
 ghost use Rattle.serde_json.specs.Data.{Data};
 ghost use Rattle.serde_json.specs.Read.{read as read_text};
 ghost use Rattle.lab_history_file.specs.FaultOf.{IsTrueFault};
@@ -10,16 +9,12 @@ ghost use Rattle.lab_history_file.specs.Format.{history_in};
 ghost use Rattle.lab_history.specs.History.{History as Spells};
 ghost use Rattle.lab_history.specs.Limits.{max_file_bytes};
 ghost use Rattle.lab_history.specs.declared.fault.Limit.TheVariants.{Bytes};
-ghost use Rattle.lab_deps.specs.Edges.{IsEdge};
 ghost use Rattle.lab_deps.specs.FaultOrder.{IsFirst};
-ghost use Rattle.lab_deps.specs.KindSets.{among};
 ghost use Rattle.lab_deps.specs.Refusal.{IsAnswer};
 ghost use Rattle.lab_deps.specs.Soundness.{IsSound};
-ghost use Rattle.lab_deps.specs.declared.edge.Edge.{Edge as Spelled};
-ghost use Rattle.lab_judge.specs.Graphs.{IsGraphOf};
+ghost use Rattle.lab_judge.specs.Graphs.{IsHistoryGraph};
 ghost use Rattle.lab_judge.specs.LeastWalks.{HasDueWalk, FindsDueWalks};
 ghost use Rattle.lab_judge.specs.Phenomena.{IsClosedWalk, NoWalk};
-ghost use Rattle.lab_judge.specs.Runs.{HoldsEachOnce};
 ghost use Rattle.lab_judge.specs.BackPoints.{HasBackCircle};
 ghost use Rattle.lab_judge.specs.LeastPlaces.{IsLeastPlacing};
 ghost use Rattle.lab_judge.specs.Verdicts.{IsLeastOrder, IsYes, IsPlaced, NoCircle};
@@ -139,12 +134,9 @@ fn find_beside(
     serial: &Serial,
 ) -> Result<Findings, NoMemory>
     requires sound { IsSound history.now }
-    requires nodes { HoldsEachOnce history.now nodes.now }
-    requires rising { IsStrictlyIncreasing nodes.now }
-    requires edges { (e : Spelled) → Contains edges.now e ↔ IsEdge history.now e }
+    requires given { IsHistoryGraph history.now nodes.now edges.now all.now }
     requires numbers { table.now.numbers ≡ nodes.now }
     requires table { table.now.edges ≡ edges.now }
-    requires all { IsGraphOf (among Kinds.ALL) nodes.now edges.now all.now }
     requires rests { RestsOnOrder history.now serial.now }
     ensures walks { IfOk result (λ found. FindsDueWalks history.now found.phenomena) }
     ensures found { IfOk result (λ found. JudgesAll history.now found.phenomena found.level) }

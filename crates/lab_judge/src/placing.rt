@@ -1,16 +1,11 @@
 //! Whether a sound history is a snapshot run.
 
-ghost use Rattle.std.specs.Prelude.{◌≡◌, ◌↔◌, ◌<◌, ◌≤◌, ◌*◌, ◌^◌, ◌==◌, ℕ, length, map, slice_index, Contains, IfOk};
+ghost use Rattle.std.specs.Prelude.{◌≡◌, ◌<◌, ◌≤◌, ◌*◌, ◌^◌, ◌==◌, ℕ, length, map, slice_index, Contains, IfOk};
 ghost use Rattle.std.specs.List.{All, count_by};
-ghost use Rattle.std.specs.List.Sorted.{IsStrictlyIncreasing};
 ghost use Rattle.lab_order.specs.Order.{position};
-ghost use Rattle.lab_deps.specs.Edges.{IsEdge};
-ghost use Rattle.lab_deps.specs.KindSets.{among};
 ghost use Rattle.lab_deps.specs.Soundness.{IsSound};
-ghost use Rattle.lab_deps.specs.declared.edge.Edge.{Edge as Spelled};
-ghost use Rattle.lab_deps.specs.declared.kinds.TheConstants.Kinds.{ALL};
-ghost use Rattle.lab_judge.specs.Graphs.{IsGraphOf};
-ghost use Rattle.lab_judge.specs.Runs.{HoldsEachOnce, spans_of};
+ghost use Rattle.lab_judge.specs.Graphs.{IsHistoryGraph};
+ghost use Rattle.lab_judge.specs.Runs.{spans_of};
 ghost use Rattle.lab_judge.specs.Judgement.{IsSnapshotVerdict, RestsOnPlaces};
 ghost use Rattle.lab_judge.specs.BackPoints.{HasBackCircle};
 ghost use Rattle.lab_judge.specs.LeastPlaces.{IsLeastPlacing};
@@ -37,11 +32,8 @@ pub(crate) fn snapshot_verdict(
     all: &Graph,
 ) -> Result<Places, NoMemory>
     requires sound { IsSound _history.now }
-    requires nodes { HoldsEachOnce _history.now nodes.now }
-    requires rising { IsStrictlyIncreasing nodes.now }
+    requires given { IsHistoryGraph _history.now nodes.now table.now.edges all.now }
     requires numbers { table.now.numbers ≡ nodes.now }
-    requires exact { (e : Spelled) → Contains table.now.edges e ↔ IsEdge _history.now e }
-    requires all { IsGraphOf (among ALL) nodes.now table.now.edges all.now }
     ensures verdict { IfOk result (IsSnapshotVerdict _history.now) }
     ensures rests { IfOk result (RestsOnPlaces _history.now) }
     ensures places { IfOk result (IsLeastPlacing _history.now) }

@@ -1,17 +1,12 @@
 //! Whether a sound history is serializable.
 
-ghost use Rattle.std.specs.Prelude.{◌≡◌, ◌↔◌, ◌<◌, length, map, slice_index, Contains, IfOk};
+ghost use Rattle.std.specs.Prelude.{◌≡◌, ◌<◌, length, map, slice_index, IfOk};
 ghost use Rattle.std.specs.List.{All};
-ghost use Rattle.std.specs.List.Sorted.{IsStrictlyIncreasing};
-ghost use Rattle.lab_deps.specs.Edges.{IsEdge};
-ghost use Rattle.lab_deps.specs.KindSets.{among};
 ghost use Rattle.lab_deps.specs.Soundness.{IsSound};
-ghost use Rattle.lab_deps.specs.declared.edge.Edge.{Edge as Spelled};
-ghost use Rattle.lab_judge.specs.Runs.{HoldsEachOnce};
 ghost use Rattle.lab_judge.specs.Judgement.{IsSerialVerdict, RestsOnOrder};
 ghost use Rattle.lab_judge.specs.LeastWalks.{HasDueWalk};
 ghost use Rattle.lab_judge.specs.Verdicts.{IsLeastOrder};
-ghost use Rattle.lab_judge.specs.Graphs.{IsGraphOf};
+ghost use Rattle.lab_judge.specs.Graphs.{IsHistoryGraph};
 
 use crate::nodes::Nodes;
 use crate::serial::{Order, Serial};
@@ -33,10 +28,7 @@ pub(crate) fn serial_verdict(
     graph: &Graph,
 ) -> Result<Serial, NoMemory>
     requires sound { IsSound _history.now }
-    requires nodes { HoldsEachOnce _history.now nodes.now }
-    requires rising { IsStrictlyIncreasing nodes.now }
-    requires exact { (e : Spelled) → Contains edges.now e ↔ IsEdge _history.now e }
-    requires graph { IsGraphOf (among Kinds.ALL) nodes.now edges.now graph.now }
+    requires given { IsHistoryGraph _history.now nodes.now edges.now graph.now }
     ensures verdict { IfOk result (IsSerialVerdict _history.now) }
     ensures rests { IfOk result (RestsOnOrder _history.now) }
     ensures least { IfOk result (IsLeastOrder _history.now) }

@@ -1,17 +1,14 @@
 //! Walks along dependencies.
 
-ghost use Rattle.std.specs.Prelude.{◌≡◌, slice_index, length, Contains, IfOk};
+ghost use Rattle.std.specs.Prelude.{IfOk};
 ghost use Rattle.std.specs.List.{All};
 ghost use Rattle.lab_order.specs.Arrows.{Arrows};
 ghost use Rattle.lab_order.specs.Order.{IsCircle};
 ghost use Rattle.lab_history.specs.History.{History};
-ghost use Rattle.lab_deps.specs.Edges.{IsEdge};
 ghost use Rattle.lab_deps.specs.KindSets.{among};
-ghost use Rattle.lab_deps.specs.declared.edge.Edge.{Edge as Spelled};
-ghost use Rattle.lab_judge.specs.Graphs.{HasEnds, IsGraphOf, LeadsAlong, last_of, count_others};
+ghost use Rattle.lab_judge.specs.Graphs.{HasEnds, IsGraphOf, LeadsAlong};
 ghost use Rattle.lab_judge.specs.LeastWalks.{GoesAlong, GoesRound};
 ghost use Rattle.lab_judge.specs.Openings.{HasEdgesOf};
-ghost use Rattle.lab_judge.specs.Phenomena.{IsWalk, IsClosedWalk};
 
 use crate::nodes::Nodes;
 use crate::serial::Walk;
@@ -30,9 +27,7 @@ pub(crate) fn walk_round(
 ) -> Result<Walk, NoMemory>
     requires ends { All (HasEnds nodes.now) edges.now }
     requires circle { (graph : Arrows) × IsGraphOf (among allowed) nodes.now edges.now graph × IsCircle graph circle.items }
-    ensures closed { IfOk result (λ walk. (h : History) → ((e : Spelled) → Contains edges.now e → IsEdge h e) → IsClosedWalk h walk) }
-    ensures allowed { IfOk result (λ walk. count_others (among allowed) walk ≡ 0) }
-    ensures least { IfOk result (λ walk. (h : History) → HasEdgesOf h (among allowed) edges.now → GoesRound h (among allowed) nodes.now circle.items walk) }
+    ensures { IfOk result (λ walk. (h : History) → HasEdgesOf h (among allowed) edges.now → GoesRound h (among allowed) nodes.now circle.items walk) }
 {
     let mut circle = circle;
     let first = circle[0];
@@ -52,11 +47,7 @@ pub(crate) fn walk_along(
 ) -> Result<Vec<Edge>, NoMemory>
     requires ends { All (HasEnds nodes.now) edges.now }
     requires way { LeadsAlong (among allowed) nodes.now edges.now from way.now }
-    ensures walk { IfOk result (λ walk. (h : History) → ((e : Spelled) → Contains edges.now e → IsEdge h e)
-        → IsWalk h (slice_index nodes.now from) walk.items (slice_index nodes.now (last_of from way.now))) }
-    ensures allowed { IfOk result (λ walk. count_others (among allowed) walk.items ≡ 0) }
-    ensures length { IfOk result (λ walk. length walk.items ≡ length way.now) }
-    ensures least { IfOk result (λ walk. (h : History) → HasEdgesOf h (among allowed) edges.now → GoesAlong h (among allowed) nodes.now from way.now walk.items) }
+    ensures { IfOk result (λ walk. (h : History) → HasEdgesOf h (among allowed) edges.now → GoesAlong h (among allowed) nodes.now from way.now walk.items) }
 {
     let mut walk = Vec::with_capacity(alloc, way.len())?;
     let mut at = from;

@@ -2,7 +2,6 @@
 
 ghost use Rattle.std.specs.Prelude.{◌≡◌, ◌<◌, ◌≤◌, ℕ, true, false, Contains, None, IfOk, IfSome, length};
 ghost use Rattle.std.specs.List.{All, list_any};
-ghost use Rattle.std.specs.List.Sorted.{IsStrictlyIncreasing};
 ghost use Rattle.std.specs.Ordering.{is_lt};
 ghost use Rattle.lab_order.specs.Arrows.{nodes_of};
 ghost use Rattle.lab_order.specs.Order.{position};
@@ -10,7 +9,8 @@ ghost use Rattle.lab_order.specs.Path.{Reaches};
 ghost use Rattle.lab_deps.specs.EdgeOrder.{edge_cmp};
 ghost use Rattle.lab_deps.specs.KindSets.{among};
 ghost use Rattle.lab_deps.specs.declared.edge.Edge.{Edge as Spelled};
-ghost use Rattle.lab_judge.specs.Graphs.{HasEnds, ties};
+ghost use Rattle.lab_judge.specs.Graphs.{IsTableOf, ties};
+ghost use Rattle.lab_judge.specs.Joining.{IsJoinable};
 ghost use Rattle.lab_judge.specs.Openings.{IsOpening};
 
 use crate::nodes::Nodes;
@@ -27,10 +27,7 @@ pub(crate) fn first_opening(
     opening: Kinds,
 ) -> Result<Option<Edge>, NoMemory>
     requires nodes { nodes_of ways.now ≡ length nodes.now }
-    requires rising { IsStrictlyIncreasing nodes.now }
-    requires numbers { table.now.numbers ≡ nodes.now }
-    requires table { table.now.edges ≡ edges.now }
-    requires ends { All (HasEnds nodes.now) edges.now }
+    requires table { IsTableOf nodes.now edges.now table.now.numbers table.now.edges }
     ensures found { IfOk result (λ found. IfSome found (λ e. Contains edges.now e × IsOpening (among opening) ways.now nodes.now e)) }
     ensures first { IfOk result (λ found. IfSome found (λ e. (other : Spelled) → Contains edges.now other → IsOpening (among opening) ways.now nodes.now other → is_lt (edge_cmp other e) ≡ false)) }
     ensures none { IfOk result (λ found. found ≡ None → All (λ e. ¬ IsOpening (among opening) ways.now nodes.now e) edges.now) }
@@ -53,10 +50,7 @@ fn first_from(
     from: u32,
 ) -> Result<Option<Edge>, NoMemory>
     requires nodes { nodes_of ways.now ≡ length nodes.now }
-    requires rising { IsStrictlyIncreasing nodes.now }
-    requires numbers { table.now.numbers ≡ nodes.now }
-    requires table { table.now.edges ≡ edges.now }
-    requires ends { All (HasEnds nodes.now) edges.now }
+    requires table { IsTableOf nodes.now edges.now table.now.numbers table.now.edges }
     requires few { length nodes.now ≤ 1000001 }
     requires from { from < length nodes.now }
     ensures found { IfOk result (λ found. IfSome found (λ e. Contains edges.now e × IsOpening (among opening) ways.now nodes.now e)) }
@@ -73,9 +67,7 @@ fn first_from(
 
 /// The first node that leads back to a node, and whose transaction depends on that of it in one of these ways, or None.
 fn first_leading(table: &KindTable<'_, '_>, ways: &Ways<'_>, kinds: Kinds, from: u32) -> Option<u32>
-    requires rising { IsStrictlyIncreasing table.now.numbers }
-    requires few { length table.now.numbers ≤ 1000001 }
-    requires ends { All (HasEnds table.now.numbers) table.now.edges }
+    requires table { IsJoinable table.now.numbers table.now.edges }
     requires from { from < length table.now.numbers }
     requires nodes { nodes_of ways.now ≡ length table.now.numbers }
     ensures found { IfSome result (λ to. (to < length table.now.numbers) × Reaches ways.now to from × (list_any (ties (among kinds) table.now.numbers from to) table.now.edges ≡ true)) }

@@ -14,19 +14,19 @@ use Rattle.lab_judge.proofs.WalkKinds.{both_named, has_all, finds_g0, finds_g1c,
 use Rattle.lab_judge.proofs.findings.find_walks.Goals as goal
 
 pub graph_among-requires-clause-ends : goal.graph_among-requires-clause-ends
-graph_among-requires-clause-ends c = subst (All (HasEnds c.args.nodes.now)) (sym c.requires.table) c.requires.ends
+graph_among-requires-clause-ends c = subst (All (HasEnds c.args.nodes.now)) (sym c.requires.table.edges_are) c.requires.table.ends
 
 pub graph_among-requires-2-clause-ends : goal.graph_among-requires-2-clause-ends
-graph_among-requires-2-clause-ends c = subst (All (HasEnds c.args.nodes.now)) (sym c.requires.table) c.requires.ends
+graph_among-requires-2-clause-ends c = subst (All (HasEnds c.args.nodes.now)) (sym c.requires.table.edges_are) c.requires.table.ends
 
 pub find_circle-requires-clause-graph : goal.find_circle-requires-clause-graph
-find_circle-requires-clause-graph c = subst (λ es. IsGraphOf (among WRITES) c.args.nodes.now es c.in_ok-writes.writes) c.requires.table c.in_ok-writes.ensures
+find_circle-requires-clause-graph c = subst (λ es. IsGraphOf (among WRITES) c.args.nodes.now es c.in_ok-writes.writes) c.requires.table.edges_are c.in_ok-writes.ensures
 
 pub find_circle-requires-2-clause-graph : goal.find_circle-requires-2-clause-graph
-find_circle-requires-2-clause-graph c = subst (λ es. IsGraphOf (among FLOW) c.args.nodes.now es c.in_ok-flow.flow) c.requires.table c.in_ok-flow.ensures
+find_circle-requires-2-clause-graph c = subst (λ es. IsGraphOf (among FLOW) c.args.nodes.now es c.in_ok-flow.flow) c.requires.table.edges_are c.in_ok-flow.ensures
 
 pub find_opened-requires-clause-graph : goal.find_opened-requires-clause-graph
-find_opened-requires-clause-graph c = subst (λ es. IsGraphOf (among FLOW) c.args.nodes.now es c.in_ok-flow.flow) c.requires.table c.in_ok-flow.ensures
+find_opened-requires-clause-graph c = subst (λ es. IsGraphOf (among FLOW) c.args.nodes.now es c.in_ok-flow.flow) c.requires.table.edges_are c.in_ok-flow.ensures
 
 -- which kinds are allowed beside those that open a walk
 pub find_opened-requires-clause-allowed : goal.find_opened-requires-clause-allowed

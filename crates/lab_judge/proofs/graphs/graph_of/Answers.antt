@@ -1,22 +1,15 @@
 use Rattle.std.proofs.Common.{◌≡◌, ◌||◌, ℕ, length, sym, ap, subst, ◌∙◌, arith}
-use Rattle.std.specs.List.{All, list_any}
-use Rattle.std.specs.List.Sorted.{IsStrictlyIncreasing}
+use Rattle.std.specs.List.{list_any}
 use Rattle.lab_order.specs.Arrows.{has_arrow}
 use Rattle.lab_deps.specs.KindSets.{among}
-use Rattle.lab_judge.specs.Graphs.{HasEnds}
-use Rattle.lab_judge.specs.Joining.{lands}
+use Rattle.lab_judge.specs.Joining.{IsJoinable, lands}
 use Rattle.lab_judge.specs.declared.joining.Joining.TheVariants.{Transactions}
 use Rattle.lab_judge.proofs.JoinedGraphs.{is_graph}
 use Rattle.lab_judge.proofs.graphs.graph_of.Goals as goal
 
-pub add_arrows-requires-clause-rising : goal.add_arrows-requires-clause-rising
-add_arrows-requires-clause-rising c = subst IsStrictlyIncreasing (sym c.requires.numbers) c.requires.rising
-
-pub add_arrows-requires-clause-ends : goal.add_arrows-requires-clause-ends
-add_arrows-requires-clause-ends c = subst (λ ns. All (HasEnds ns) c.args.table.now.edges) (sym c.requires.numbers) c.requires.ends
-
-pub add_arrows-requires-clause-few : goal.add_arrows-requires-clause-few
-add_arrows-requires-clause-few c = let same = ap length c.requires.numbers in omega (arith, same, c.len.ensures.count, c.len.ensures.few)
+pub add_arrows-requires-clause-table : goal.add_arrows-requires-clause-table
+add_arrows-requires-clause-table c =
+    subst (λ ns. IsJoinable ns c.args.table.now.edges) (sym c.requires.numbers) (record { rising = c.requires.rising; few = omega (arith, c.len.ensures.count, c.len.ensures.few); ends = c.requires.ends })
 
 pub add_arrows-requires-clause-size : goal.add_arrows-requires-clause-size
 add_arrows-requires-clause-size c = c.in_ok-graph.ensures.nodes ∙ (c.len.ensures.count ∙ ap length (sym c.requires.numbers))

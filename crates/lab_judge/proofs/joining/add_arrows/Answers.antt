@@ -10,7 +10,7 @@ returns-clause-arrows c = λ a b.
     let test = among c.args.kinds in
     let nodes = c.args.table.now.numbers in
     let edges = c.args.table.now.edges in
-    let all : c.loop-from.from ≡ length nodes = omega (arith, c.len-from-end.ensures, c.requires.few) in
+    let all : c.loop-from.from ≡ length nodes = omega (arith, c.len-from-end.ensures, c.requires.table.few) in
     c.loop-from.invariant.arrows a b
     ∙ (ap (λ k. any_below (λ p. any_below (landing test c.args.joining nodes edges a b p) (length nodes)) k || has_arrow c.args.graph.now a b) all
-    ∙ ap (λ t. t || has_arrow c.args.graph.now a b) (landed test c.args.joining nodes edges c.requires.ends a b))
+    ∙ ap (λ t. t || has_arrow c.args.graph.now a b) (landed test c.args.joining nodes edges c.requires.table.ends a b))

@@ -10,7 +10,7 @@ returns-clause-arrows c = λ a b.
     let test = among c.args.kinds in
     let nodes = c.args.table.now.numbers in
     let edges = c.args.table.now.edges in
-    let all : c.loop-to.to ≡ length nodes = omega (arith, c.len-to-end.ensures, c.requires.few) in
+    let all : c.loop-to.to ≡ length nodes = omega (arith, c.len-to-end.ensures, c.requires.table.few) in
     c.loop-to.invariant.arrows a b
     ∙ (ap (λ k. any_below (λ q. any_below (λ p. landing test c.args.joining nodes edges a b p q) (length nodes)) k || has_arrow c.args.graph.now a b) all
-    ∙ ap (λ t. t || has_arrow c.args.graph.now a b) (landed_by_ends test c.args.joining nodes edges c.requires.ends a b))
+    ∙ ap (λ t. t || has_arrow c.args.graph.now a b) (landed_by_ends test c.args.joining nodes edges c.requires.table.ends a b))

@@ -21,7 +21,7 @@ loop-to-preserved c =
     let first = c.args.graph.now in
     let inside : to < length c.row-row.result = omega (arith, c.loop-to-test.true, c.requires.beyond, c.row-row.ensures.size) in
     let tied : c.meets.result ≡ list_any (ties (among kinds) ns from to) es =
-    row_tied ns c.requires.rising es c.requires.ends from to c.requires.from c.row-row.result c.row-row.ensures inside c.kinds-between.result c.kinds-between.ensures kinds c.meets.result c.meets.ensures in
+    row_tied ns c.requires.table.rising es c.requires.table.ends from to c.requires.from c.row-row.result c.row-row.ensures inside c.kinds-between.result c.kinds-between.ensures kinds c.meets.result c.meets.ensures in
     let so_far : (a b : ℕ) (rest : Bool) → has_arrow first a b ≡ (any_below (landing (among kinds) c.args.joining ns es a b from) c.args.first || rest)
     → has_arrow c.if-meets.graph a b ≡ (any_below (landing (among kinds) c.args.joining ns es a b from) (to + 1) || rest) =
     elim c.if-meets.branch [
@@ -48,5 +48,5 @@ returns-then-is_bare-clause-arrows c = λ a b rest was.
     was
     ∙ ap (λ s. s || rest)
     (sym (none_between (landing (among c.args.kinds) c.args.joining t.numbers t.edges a b c.args.from) c.args.first c.args.beyond c.requires.order
-    (λ to from_first before. none_lands c.args.joining t.numbers c.requires.rising t.edges c.requires.ends c.args.from c.requires.from c.row-row.result c.row-row.ensures c.args.kinds a b to
+    (λ to from_first before. none_lands c.args.joining t.numbers c.requires.table.rising t.edges c.requires.table.ends c.args.from c.requires.from c.row-row.result c.row-row.ensures c.args.kinds a b to
     (omega (arith, before, c.requires.beyond)) (λ told kind there. bare to told kind from_first before there))))

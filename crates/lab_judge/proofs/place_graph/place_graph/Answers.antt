@@ -1,37 +1,26 @@
 use Rattle.std.proofs.Common.{◌≡◌, ◌*◌, ◌||◌, ℕ, length, sym, ap, subst, ◌∙◌, arith}
-use Rattle.std.specs.List.{All, list_any}
-use Rattle.std.specs.List.Sorted.{IsStrictlyIncreasing}
+use Rattle.std.specs.List.{list_any}
 use Rattle.lab_order.specs.Arrows.{has_arrow}
 use Rattle.lab_deps.specs.KindSets.{among}
-use Rattle.lab_judge.specs.Graphs.{HasEnds, IsGraphOf}
+use Rattle.lab_judge.specs.Graphs.{IsGraphOf}
 use Rattle.lab_deps.specs.declared.kinds.TheConstants.Kinds.{ALL, FLOW, ANTI}
 use Rattle.lab_deps.proofs.NamedKinds.{flow_named, antis_named}
-use Rattle.lab_judge.specs.Joining.{lands}
+use Rattle.lab_judge.specs.Joining.{IsJoinable, lands}
 use Rattle.lab_judge.specs.PlaceGraphs.{spans}
 use Rattle.lab_judge.specs.declared.joining.Joining.TheVariants.{StartToCommit, CommitToStart}
 use Rattle.lab_judge.proofs.JoinedGraphs.{is_place_graph}
 use Rattle.lab_judge.proofs.place_graph.place_graph.Goals as goal
 
-pub add_arrows_among-requires-clause-rising : goal.add_arrows_among-requires-clause-rising
-add_arrows_among-requires-clause-rising c = subst IsStrictlyIncreasing (sym c.requires.numbers) c.requires.rising
-
-pub add_arrows_among-requires-clause-few : goal.add_arrows_among-requires-clause-few
-add_arrows_among-requires-clause-few c = let same = ap length c.requires.numbers in omega (arith, same, c.len.ensures.count, c.len.ensures.few)
-
-pub add_arrows_among-requires-clause-ends : goal.add_arrows_among-requires-clause-ends
-add_arrows_among-requires-clause-ends c = subst (λ ns. All (HasEnds ns) c.args.table.now.edges) (sym c.requires.numbers) c.requires.ends
+pub add_arrows_among-requires-clause-table : goal.add_arrows_among-requires-clause-table
+add_arrows_among-requires-clause-table c =
+    subst (λ ns. IsJoinable ns c.args.table.now.edges) (sym c.requires.numbers) (record { rising = c.requires.rising; few = omega (arith, c.len.ensures.count, c.len.ensures.few); ends = c.requires.ends })
 
 pub add_arrows_among-requires-clause-size : goal.add_arrows_among-requires-clause-size
 add_arrows_among-requires-clause-size c = c.in_ok-graph.ensures.size ∙ ap (λ k. 2 * k) (c.len.ensures.count ∙ ap length (sym c.requires.numbers))
 
-pub add_arrows_among-requires-2-clause-rising : goal.add_arrows_among-requires-2-clause-rising
-add_arrows_among-requires-2-clause-rising c = subst IsStrictlyIncreasing (sym c.requires.numbers) c.requires.rising
-
-pub add_arrows_among-requires-2-clause-few : goal.add_arrows_among-requires-2-clause-few
-add_arrows_among-requires-2-clause-few c = let same = ap length c.requires.numbers in omega (arith, same, c.len.ensures.count, c.len.ensures.few)
-
-pub add_arrows_among-requires-2-clause-ends : goal.add_arrows_among-requires-2-clause-ends
-add_arrows_among-requires-2-clause-ends c = subst (λ ns. All (HasEnds ns) c.args.table.now.edges) (sym c.requires.numbers) c.requires.ends
+pub add_arrows_among-requires-2-clause-table : goal.add_arrows_among-requires-2-clause-table
+add_arrows_among-requires-2-clause-table c =
+    subst (λ ns. IsJoinable ns c.args.table.now.edges) (sym c.requires.numbers) (record { rising = c.requires.rising; few = omega (arith, c.len.ensures.count, c.len.ensures.few); ends = c.requires.ends })
 
 pub add_arrows_among-requires-2-clause-size : goal.add_arrows_among-requires-2-clause-size
 add_arrows_among-requires-2-clause-size c =

@@ -2,27 +2,27 @@ use Rattle.std.proofs.Common.{◌≡◌, ◌∙◌, ◌<◌, ◌≤◌, ◌*◌,
 use Rattle.std.specs.List.{All, count_by}
 use Rattle.std.specs.Prelude.{◌==◌, ℕ, Contains, slice_index}
 use Rattle.lab_judge.specs.PlaceGraphs.{point_at, span_in}
-use Rattle.lab_judge.specs.Places.{IsCircle}
+use Rattle.lab_judge.specs.LeastPlaces.{IsLower}
+use Rattle.lab_judge.specs.Places.{IsArrow, IsCircle}
+use Rattle.lab_order.specs.Knots.{IsBackCircle}
 use Rattle.lab_order.specs.Order.{IsOrdered, IsAnswered, position}
-use Rattle.lab_judge.proofs.BackPoints.{has_back_circle}
-use Rattle.lab_judge.proofs.LeastPlaces.{least_placing}
-use Rattle.lab_judge.proofs.NodeOrders.{within}
-use Rattle.lab_judge.proofs.NodePlaces.{once_in, no_more}
-use Rattle.lab_judge.proofs.PlaceNodes.{circle_is, circle_within}
+use Rattle.lab_judge.proofs.GraphNodes.{within, circle_within, once_in}
+use Rattle.lab_judge.proofs.NodePlaces.{no_more}
+use Rattle.lab_judge.proofs.PointNodes.{circle_is, back_circle}
 use Rattle.lab_judge.proofs.SerialVerdicts.{all_have_ends}
-use Rattle.lab_judge.proofs.SnapshotVerdicts.{rests, runs}
+use Rattle.lab_judge.proofs.SnapshotVerdicts.{rests, runs, least_placing}
 use Rattle.lab_judge.proofs.placing.snapshot_verdict.Goals as goal
 use Rattle.lab_deps.proofs.Places.{times_count}
 
 pub place_graph-requires-clause-ends : goal.place_graph-requires-clause-ends
-place_graph-requires-clause-ends c = all_have_ends c.args._history.now c.args.nodes.now c.requires.nodes c.args.table.now.edges (λ e there. (c.requires.exact e).0 there)
+place_graph-requires-clause-ends c = all_have_ends c.args._history.now c.args.nodes.now c.requires.given.once c.args.table.now.edges (λ e there. (c.requires.given.exact e).0 there)
 
 pub places_in-requires-clause-within : goal.places_in-requires-clause-within
 places_in-requires-clause-within c =
     let ordered = subst (IsOrdered c.in_ok-graph.graph) c.in-Order.is c.in_ok-order.ensures.ordered in
     subst (All (λ n. n < 2 * c.len.result)) (sym c.deref.ensures.value)
     (subst (λ k. All (λ n. n < k) c.in-Order.order.items) (c.in_ok-graph.ensures.size ∙ ap (λ k. 2 * k) (sym c.len.ensures.count))
-    (within c.in_ok-graph.graph c.in-Order.order.items ordered.each_once))
+    (within c.in_ok-graph.graph c.in_ok-order.ensures.graph c.in-Order.order.items ordered))
 
 pub places_in-requires-clause-once : goal.places_in-requires-clause-once
 places_in-requires-clause-once c = λ node.
@@ -33,31 +33,31 @@ places_in-requires-clause-once c = λ node.
 pub places_in-requires-clause-few : goal.places_in-requires-clause-few
 places_in-requires-clause-few c =
     let ordered = subst (IsOrdered c.in_ok-graph.graph) c.in-Order.is c.in_ok-order.ensures.ordered in
-    let most = no_more _ c.in-Order.order.items (within c.in_ok-graph.graph c.in-Order.order.items ordered.each_once) (once_in c.in_ok-graph.graph c.in-Order.order.items ordered.each_once) in
+    let most = no_more _ c.in-Order.order.items (within c.in_ok-graph.graph c.in_ok-order.ensures.graph c.in-Order.order.items ordered) (once_in c.in_ok-graph.graph c.in-Order.order.items ordered.each_once) in
     let size = ap length c.deref.ensures.value in
     omega (arith, most, size, c.in_ok-graph.ensures.size, c.len.ensures.count, c.len.ensures.few)
 
 pub returns-in-Order-clause-verdict : goal.returns-in-Order-clause-verdict
 returns-in-Order-clause-verdict c =
-    let ordered = subst (IsOrdered c.in_ok-graph.graph) c.in-Order.is c.in_ok-order.ensures.ordered in
+    let answered = subst (IsAnswered c.in_ok-graph.graph) c.in-Order.is c.in_ok-order.ensures.least in
     let are = subst (λ l. (node : ℕ) → Contains l node → slice_index c.in_ok-places-in-Order.places.items node ≡ position l node) c.deref.ensures.value c.in_ok-places-in-Order.ensures.places in
-    runs c.args._history.now c.args.nodes.now c.requires.nodes c.args.table.now.edges c.requires.exact c.in_ok-graph.graph c.in_ok-graph.ensures c.in-Order.order.items ordered
-    c.in_ok-places-in-Order.places.items are c.requires.sound c.new.result
-    (c.new.ensures ∙ c.in_ok-spans-in-Order.ensures ∙ ap (λ l. map (span_in c.args.nodes.now l) c.args.nodes.now) c.deref-in-Order.ensures.value)
+    runs c.args._history.now c.args.nodes.now c.requires.given.rising c.requires.given.once c.args.table.now.edges c.requires.given.exact c.in_ok-graph.graph c.in_ok-order.ensures.graph c.in_ok-graph.ensures
+    c.in-Order.order.items answered c.in_ok-places-in-Order.places.items are c.new.result
+    (c.new.ensures ∙ c.in_ok-spans-in-Order.ensures ∙ ap (λ l. map (span_in c.args.nodes.now l) c.args.nodes.now) c.deref-in-Order.ensures.value) c.requires.sound
 
 pub returns-in-Order-clause-rests : goal.returns-in-Order-clause-rests
 returns-in-Order-clause-rests c =
-    let ordered = subst (IsOrdered c.in_ok-graph.graph) c.in-Order.is c.in_ok-order.ensures.ordered in
+    let answered = subst (IsAnswered c.in_ok-graph.graph) c.in-Order.is c.in_ok-order.ensures.least in
     let are = subst (λ l. (node : ℕ) → Contains l node → slice_index c.in_ok-places-in-Order.places.items node ≡ position l node) c.deref.ensures.value c.in_ok-places-in-Order.ensures.places in
-    rests c.args._history.now c.args.nodes.now c.requires.nodes c.args.table.now.edges c.requires.exact c.in_ok-graph.graph c.in_ok-graph.ensures c.in-Order.order.items ordered
-    c.in_ok-places-in-Order.places.items are c.requires.sound c.new.result
-    (c.new.ensures ∙ c.in_ok-spans-in-Order.ensures ∙ ap (λ l. map (span_in c.args.nodes.now l) c.args.nodes.now) c.deref-in-Order.ensures.value)
+    rests c.args._history.now c.args.nodes.now c.requires.given.rising c.requires.given.once c.args.table.now.edges c.requires.given.exact c.in_ok-graph.graph c.in_ok-order.ensures.graph c.in_ok-graph.ensures
+    c.in-Order.order.items answered c.in_ok-places-in-Order.places.items are c.new.result
+    (c.new.ensures ∙ c.in_ok-spans-in-Order.ensures ∙ ap (λ l. map (span_in c.args.nodes.now l) c.args.nodes.now) c.deref-in-Order.ensures.value) c.requires.sound
 
 pub returns-in-Order-clause-places : goal.returns-in-Order-clause-places
 returns-in-Order-clause-places c =
     let answered = subst (IsAnswered c.in_ok-graph.graph) c.in-Order.is c.in_ok-order.ensures.least in
     let are = subst (λ l. (node : ℕ) → Contains l node → slice_index c.in_ok-places-in-Order.places.items node ≡ position l node) c.deref.ensures.value c.in_ok-places-in-Order.ensures.places in
-    least_placing c.args._history.now c.args.nodes.now c.requires.rising c.requires.nodes c.args.table.now.edges c.requires.exact c.in_ok-graph.graph c.in_ok-order.ensures.graph c.in_ok-graph.ensures
+    least_placing c.args._history.now c.args.nodes.now c.requires.given.rising c.requires.given.once c.args.table.now.edges c.requires.given.exact c.in_ok-graph.graph c.in_ok-order.ensures.graph c.in_ok-graph.ensures
     c.in-Order.order.items answered c.in_ok-places-in-Order.places.items are c.new.result
     (c.new.ensures ∙ c.in_ok-spans-in-Order.ensures ∙ ap (λ l. map (span_in c.args.nodes.now l) c.args.nodes.now) c.deref-in-Order.ensures.value)
 
@@ -72,14 +72,13 @@ returns-clause-verdict c =
     let circle = subst (IsOrdered c.in_ok-graph.graph) c.in-Circle.is c.in_ok-order.ensures.ordered in
     let made = c.new-in-Circle.ensures ∙ c.in_ok-points-in-Circle.ensures ∙ ap (map (point_at c.args.nodes.now)) c.deref-in-Circle.ensures.value in (
       c.requires.sound,
-      subst (IsCircle c.args._history.now) (sym made) (circle_is c.args._history.now c.args.nodes.now c.requires.nodes c.args.table.now.edges c.requires.exact c.in_ok-graph.graph
-          c.in_ok-graph.ensures c.in-Circle.circle.items circle),
+      subst (IsCircle c.args._history.now) (sym made) (circle_is c.args._history.now c.args.nodes.now c.requires.given.rising c.requires.given.once c.args.table.now.edges c.requires.given.exact c.in_ok-graph.graph
+          c.in_ok-order.ensures.graph c.in_ok-graph.ensures c.in-Circle.circle.items circle),
     )
 
 pub returns-clause-circle : goal.returns-clause-circle
 returns-clause-circle c =
-    let circle = subst (IsOrdered c.in_ok-graph.graph) c.in-Circle.is c.in_ok-order.ensures.ordered in
     let answered = subst (IsAnswered c.in_ok-graph.graph) c.in-Circle.is c.in_ok-order.ensures.least in
-    has_back_circle c.args._history.now c.args.nodes.now c.requires.rising c.requires.nodes c.args.table.now.edges c.requires.exact c.in_ok-graph.graph c.in_ok-order.ensures.graph c.in_ok-graph.ensures
-    c.in-Circle.circle.items (circle_within c.in_ok-graph.graph c.in_ok-order.ensures.graph c.in-Circle.circle.items circle) answered c.new-in-Circle.result
-    (c.new-in-Circle.ensures ∙ c.in_ok-points-in-Circle.ensures ∙ ap (map (point_at c.args.nodes.now)) c.deref-in-Circle.ensures.value)
+    let made = c.new-in-Circle.ensures ∙ c.in_ok-points-in-Circle.ensures ∙ ap (map (point_at c.args.nodes.now)) c.deref-in-Circle.ensures.value in
+    subst (IsBackCircle IsLower (IsArrow c.args._history.now)) (sym made) (back_circle c.args._history.now c.args.nodes.now c.requires.given.rising c.requires.given.once c.args.table.now.edges c.requires.given.exact
+    c.in_ok-graph.graph c.in_ok-order.ensures.graph c.in_ok-graph.ensures c.in-Circle.circle.items answered)

@@ -1,12 +1,11 @@
-use Rattle.std.proofs.Common.{◌≡◌, ◌+◌, ◌∙◌, true, false, sym, ap, subst, length, arith}
+use Rattle.std.proofs.Common.{◌≡◌, ◌∙◌, true, false, sym, subst, arith}
 use Rattle.std.specs.Prelude.{Contains, IfSome}
 use Rattle.std.specs.Ordering.{is_lt}
 use Rattle.std.proofs.lemmas.Option.{slice_get_within, same_Some}
-use Rattle.std.proofs.lemmas.List.{length_push}
 use Rattle.lab_deps.specs.EdgeOrder.{edge_cmp}
 use Rattle.lab_deps.specs.KindSets.{among}
 use Rattle.lab_deps.specs.declared.edge.Edge.{Edge}
-use Rattle.lab_judge.proofs.Joined.{next_tie, step, last_step, one_more, read, no_others_more}
+use Rattle.lab_judge.proofs.Joined.{next_tie, step, read}
 use Rattle.lab_judge.proofs.LeastWalks.{least_listed, steps_on, gone_along}
 use Rattle.lab_judge.proofs.walks.walk_along.Goals as goal
 
@@ -35,15 +34,7 @@ loop-next-preserved c =
     let kind : among c.args.allowed edge.kind ≡ true
     = subst (λ o. IfSome o (λ e. among c.args.allowed e.kind ≡ true)) c.in-Some.is c.in_ok-edge.ensures.kind in
     record {
-      walk = λ h real.
-          one_more h _ c.loop-next.walk.items c.push.new.self.items _ edge _ c.in_ok-push.ensures.items (c.loop-next.invariant.walk h real) (real edge found)
-          (from ∙ sym (read c.args.nodes.now _ _ c.number.ensures.number)) (to ∙ sym (read c.args.nodes.now _ _ c.number-in-loop-next.ensures.number));
-      others =
-          no_others_more (among c.args.allowed) c.loop-next.walk.items c.push.new.self.items edge c.in_ok-push.ensures.items c.loop-next.invariant.others
-          kind;
-      size = ap length c.in_ok-push.ensures.items ∙ length_push c.loop-next.walk.items edge ∙ ap (λ n. n + 1) c.loop-next.invariant.size;
       rest = (step (among c.args.allowed) c.args.nodes.now c.args.edges.now c.loop-next.at c.loop-next.next-index c.args.way.now c.loop-next-test.true c.loop-next.invariant.rest).1;
-      last = sym (last_step c.loop-next.at c.loop-next.next-index c.args.way.now c.loop-next-test.true) ∙ c.loop-next.invariant.last;
       least = λ h has.
           steps_on h (among c.args.allowed) c.args.nodes.now c.args.from c.args.way.now c.loop-next.at c.loop-next.next-index c.loop-next.walk.items c.push.new.self.items edge c.loop-next-test.true
           c.in_ok-push.ensures.items
@@ -56,7 +47,7 @@ loop-next-preserved c =
           (c.loop-next.invariant.least h has);
     }
 
-pub returns-clause-least : goal.returns-clause-least
-returns-clause-least c = λ h has.
+pub returns : goal.returns
+returns c = λ h has.
     gone_along h (among c.args.allowed) c.args.nodes.now c.args.from c.args.way.now c.loop-next.at c.loop-next.next-index c.loop-next.walk.items (omega (arith, c.loop-next-test.false))
     (c.loop-next.invariant.least h has)

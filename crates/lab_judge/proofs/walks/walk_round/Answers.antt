@@ -1,24 +1,17 @@
 use Rattle.std.proofs.Common.{◌∙◌, sym, subst}
 use Rattle.lab_deps.specs.KindSets.{among}
 use Rattle.lab_judge.specs.LeastWalks.{GoesRound}
-use Rattle.lab_judge.proofs.Joined.{round, closed_round}
+use Rattle.lab_judge.proofs.Joined.{round}
 use Rattle.lab_judge.proofs.LeastWalks.{gone_round}
 use Rattle.lab_judge.proofs.walks.walk_round.Goals as goal
 
 pub walk_along-requires-clause-way : goal.walk_along-requires-clause-way
 walk_along-requires-clause-way c =
-    (round (among c.args.allowed) c.args.nodes.now c.args.edges.now c.args.circle.items c.requires.circle c.index-first.result.now c.deref.result.now c.index-first.ensures
-    (c.deref.ensures.value ∙ c.in_ok-push.ensures.items)).leads
+    round (among c.args.allowed) c.args.nodes.now c.args.edges.now c.args.circle.items c.requires.circle c.index-first.result.now c.deref.result.now c.index-first.ensures
+    (c.deref.ensures.value ∙ c.in_ok-push.ensures.items)
 
-pub returns-clause-closed : goal.returns-clause-closed
-returns-clause-closed c = λ h real.
-    let back = round (among c.args.allowed) c.args.nodes.now c.args.edges.now c.args.circle.items c.requires.circle c.index-first.result.now c.deref.result.now c.index-first.ensures
-    (c.deref.ensures.value ∙ c.in_ok-push.ensures.items) in
-    closed_round h (among c.args.allowed) c.args.nodes.now c.args.edges.now c.index-first.result.now _ back c.in_ok-walk_along.field-0.items c.new.result c.new.ensures
-    c.in_ok-walk_along.ensures.length (c.in_ok-walk_along.ensures.walk h real)
-
-pub returns-clause-least : goal.returns-clause-least
-returns-clause-least c = λ h has.
+pub returns : goal.returns
+returns c = λ h has.
     subst (GoesRound h (among c.args.allowed) c.args.nodes.now c.args.circle.items) (sym c.new.ensures)
     (gone_round h (among c.args.allowed) c.args.nodes.now c.args.circle.items (c.requires.circle.0, c.requires.circle.2) c.index-first.result.now c.deref.result.now c.index-first.ensures
-    (c.deref.ensures.value ∙ c.in_ok-push.ensures.items) c.in_ok-walk_along.field-0.items (c.in_ok-walk_along.ensures.least h has))
+    (c.deref.ensures.value ∙ c.in_ok-push.ensures.items) c.in_ok-walk_along.field-0.items (c.in_ok-walk_along.ensures h has))

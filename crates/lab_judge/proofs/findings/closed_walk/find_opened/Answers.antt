@@ -2,12 +2,14 @@ use Rattle.std.proofs.Common.{◌≡◌, ◌∷◌, false, sym, subst}
 use Rattle.std.specs.List.{All}
 use Rattle.std.specs.Ordering.{is_lt}
 use Rattle.std.specs.Prelude.{Contains, IfSome}
+use Rattle.std.proofs.lemmas.List.Elements.{All-contains}
+use Rattle.lab_judge.specs.Graphs.{HasEnds}
 use Rattle.lab_judge.specs.Openings.{IsOpenedWalk, IsOpening}
 use Rattle.lab_deps.specs.EdgeOrder.{edge_cmp}
 use Rattle.lab_deps.specs.KindSets.{among}
 use Rattle.lab_deps.specs.declared.edge.Edge.{Edge}
 use Rattle.lab_judge.specs.LeastWalks.{IsTurnToLeast}
-use Rattle.lab_judge.proofs.LeastWalks.{edge_graph}
+use Rattle.lab_judge.proofs.LeastWalks.{edge_graph, opened_round}
 use Rattle.lab_judge.proofs.OpenedWalks.{none_opened}
 use Rattle.lab_judge.proofs.WalkKinds.{has_all}
 use Rattle.lab_judge.proofs.findings.closed_walk.find_opened.Goals as goal
@@ -22,8 +24,10 @@ returns-in_ok-walk-in-Some-clause-found c = λ h exact.
     let found : Contains c.args.edges.now c.in-Some.edge × IsOpening (among c.args.opening) c.args.graph.now c.args.nodes.now c.in-Some.edge
     = subst (λ g. Contains c.args.edges.now c.in-Some.edge × IsOpening (among c.args.opening) g c.args.nodes.now c.in-Some.edge) c.requires.ways
     (subst (λ o. IfSome o (λ e. Contains c.args.edges.now e × IsOpening (among c.args.opening) c.args.ways.now c.args.nodes.now e)) c.in-Some.is c.in_ok-first_opening.ensures.found) in
+    let round = c.in_ok-walk-in-Some.ensures h (has_all h c.args.edges.now exact (among c.args.allowed)) in
     subst (IsOpenedWalk h (among c.args.opening) (among c.args.allowed)) (sym c.new.ensures)
-    (c.in_ok-walk-in-Some.ensures.closed h (λ e. (exact e).0), c.in_ok-walk-in-Some.ensures.opened (among c.args.opening) found.1.0, c.in_ok-walk-in-Some.ensures.allowed)
+    (opened_round h (among c.args.allowed) (among c.args.opening) c.args.graph.now c.args.nodes.now c.in-Some.edge
+    (All-contains (HasEnds c.args.nodes.now) c.args.edges.now c.in-Some.edge c.requires.table.ends found.0) ((exact c.in-Some.edge).0 found.0) found.1.0 round.0 round.1 c.in_ok-walk-in-Some.walk.items round.2)
 
 pub returns-in_ok-walk-in-Some-clause-due : goal.returns-in_ok-walk-in-Some-clause-due
 returns-in_ok-walk-in-Some-clause-due c = λ h committed exact.
@@ -37,7 +41,7 @@ returns-in_ok-walk-in-Some-clause-due c = λ h committed exact.
     let first : (f : Edge) → Contains edges f → IsOpening (among c.args.opening) graph nodes f → is_lt (edge_cmp f c.in-Some.edge) ≡ false
     = subst (λ g. (f : Edge) → Contains edges f → IsOpening (among c.args.opening) g nodes f → is_lt (edge_cmp f c.in-Some.edge) ≡ false) c.requires.ways
     (subst (λ o. IfSome o (λ e. (f : Edge) → Contains edges f → IsOpening (among c.args.opening) c.args.ways.now nodes f → is_lt (edge_cmp f e) ≡ false)) c.in-Some.is c.in_ok-first_opening.ensures.first) in
-    let round = c.in_ok-walk-in-Some.ensures.round h has in
+    let round = c.in_ok-walk-in-Some.ensures h has in
     record {
       txns = nodes;
       committed = committed;

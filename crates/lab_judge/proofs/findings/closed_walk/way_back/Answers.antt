@@ -1,14 +1,12 @@
-use Rattle.std.proofs.Common.{◌≡◌, ◌∷◌, ap, sym, subst, ◌∙◌, slice_index}
+use Rattle.std.proofs.Common.{◌≡◌, ◌∷◌, sym, subst, ◌∙◌}
 use Rattle.std.specs.Prelude.{IfSome}
 use Rattle.std.proofs.lemmas.Result.{IfOk-weaker}
 use Rattle.lab_order.specs.Least.{IsLeast}
 use Rattle.lab_order.specs.Order.{position}
 use Rattle.lab_order.specs.Path.{IsPath, IsShortestPath}
 use Rattle.lab_deps.specs.KindSets.{among}
-use Rattle.lab_judge.specs.Graphs.{LeadsAlong, last_of}
 use Rattle.lab_judge.specs.LeastWalks.{GoesBy}
-use Rattle.lab_judge.specs.Phenomena.{IsWalk}
-use Rattle.lab_judge.proofs.GraphWalks.{way_of, read_back}
+use Rattle.lab_judge.proofs.GraphWalks.{way_of}
 use Rattle.lab_judge.proofs.findings.closed_walk.way_back.Goals as goal
 
 pub walk_along-requires-clause-way : goal.walk_along-requires-clause-way
@@ -20,24 +18,8 @@ walk_along-requires-clause-way c =
     (subst (λ o. IfSome o (λ path. IsPath c.args.graph.now c.place.result c.place-2.result path.items)) c.in-Some.is c.in_ok-nodes_back.ensures.found)
     ).1
 
-pub returns-clause-walk : goal.returns-clause-walk
-returns-clause-walk c =
-    let first = c.in-Some-split_first.first.now in
-    let way = c.in-Some-split_first.way.now in
-    let nodes = c.args.nodes.now in
-    let edge = c.args.edge.now in
-    let parts : (first ≡ c.place.result) × LeadsAlong (among c.args.allowed) nodes c.args.edges.now first way × (last_of first way ≡ c.place-2.result)
-    = way_of (among c.args.allowed) nodes c.args.edges.now c.args.graph.now c.requires.graph c.place.result c.place-2.result c.in-Some.nodes_back.items first way
-    (sym c.deref.ensures.value ∙ c.in-Some-split_first.ensures.cases.0)
-    (subst (λ o. IfSome o (λ path. IsPath c.args.graph.now c.place.result c.place-2.result path.items)) c.in-Some.is c.in_ok-nodes_back.ensures.found) in
-    let from : slice_index nodes first ≡ edge.to = ap (slice_index nodes) (parts.0 ∙ c.place.ensures.place) ∙ read_back nodes edge.to c.requires.edge.1 in
-    let to : slice_index nodes (last_of first way) ≡ edge.from = ap (slice_index nodes) (parts.2 ∙ c.place-2.ensures.place) ∙ read_back nodes edge.from c.requires.edge.0 in
-    IfOk-weaker c.walk_along.result _ _
-    (λ walk w h real. subst (λ n. IsWalk h n walk.items edge.from) from (subst (λ n. IsWalk h (slice_index nodes first) walk.items n) to (w h real)))
-    c.walk_along.ensures.walk
-
-pub returns-clause-least : goal.returns-clause-least
-returns-clause-least c =
+pub returns : goal.returns
+returns c =
     let graph = c.args.graph.now in
     let nodes = c.args.nodes.now in
     let path = c.in-Some.nodes_back.items in
@@ -49,4 +31,4 @@ returns-clause-least c =
     (subst (λ n. IsLeast (IsShortestPath graph c.place.result n) path) c.place-2.ensures.place least) in
     IfOk-weaker c.walk_along.result _ _
     (λ walk goes h has. record { path = path; least = shortest; goes = subst (λ l. GoesBy h (among c.args.allowed) nodes l walk.items) (sym parts) (goes h has) })
-    c.walk_along.ensures.least
+    c.walk_along.ensures

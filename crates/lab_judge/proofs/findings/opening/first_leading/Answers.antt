@@ -1,4 +1,4 @@
-use Rattle.std.proofs.Common.{◌≡◌, ◌<◌, length, true, false, sym, ap, ◌∙◌, subst, arith, inl, inr}
+use Rattle.std.proofs.Common.{◌≡◌, ◌<◌, length, false, sym, ap, ◌∙◌, subst, arith, inl, inr}
 use Rattle.std.specs.List.{list_any}
 use Rattle.std.proofs.lemmas.Bool.{false≢true, cases_lt}
 use Rattle.lab_order.specs.Path.{Reaches}
@@ -17,7 +17,7 @@ returns-then-lead-clause-found c =
     let to = c.loop-to.to in
     let inside : to < length c.row-row.result = subst (λ n. to < n) c.len-to-end.ensures c.loop-to-test.true in
     let tied : c.meets.result ≡ list_any (ties (among kinds) ns from to) es =
-    row_tied ns c.requires.rising es c.requires.ends from to c.requires.from c.row-row.result c.row-row.ensures inside c.kinds-between.result c.kinds-between.ensures kinds c.meets.result c.meets.ensures in
+    row_tied ns c.requires.table.rising es c.requires.table.ends from to c.requires.from c.row-row.result c.row-row.ensures inside c.kinds-between.result c.kinds-between.ensures kinds c.meets.result c.meets.ensures in
     (subst (λ n. to < n) c.row-row.ensures.size inside, (c.lead.ensures.0 c.if-lead.true), sym tied ∙ c.if-meets.true)
 
 pub loop-to-preserved : goal.loop-to-preserved
@@ -29,7 +29,7 @@ loop-to-preserved c k less back =
     let to = c.loop-to.to in
     let inside : to < length c.row-row.result = subst (λ n. to < n) c.len-to-end.ensures c.loop-to-test.true in
     let tied : c.meets.result ≡ list_any (ties (among kinds) ns from to) es =
-    row_tied ns c.requires.rising es c.requires.ends from to c.requires.from c.row-row.result c.row-row.ensures inside c.kinds-between.result c.kinds-between.ensures kinds c.meets.result c.meets.ensures in
+    row_tied ns c.requires.table.rising es c.requires.table.ends from to c.requires.from c.row-row.result c.row-row.ensures inside c.kinds-between.result c.kinds-between.ensures kinds c.meets.result c.meets.ensures in
     let here : Reaches c.args.ways.now to from → list_any (ties (among kinds) ns from to) es ≡ false =
     elim c.else-meets.branch [
       | else-meets-via-then-meets+else-lead w ↦ λ on. absurd (false≢true (sym w.if-lead.false ∙ w.lead.ensures.1 on))

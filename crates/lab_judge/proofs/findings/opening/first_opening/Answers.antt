@@ -16,7 +16,7 @@ returns-clause-none c = λ _ k d lt.
     let nodes = c.args.nodes.now in
     let edges = c.args.edges.now in
     let there : Contains edges _ = Contains-get_or edges k d lt in
-    let most : position nodes _ < length nodes = within_nodes nodes edges c.requires.ends _ there in
+    let most : position nodes _ < length nodes = within_nodes nodes edges c.requires.table.ends _ there in
     c.loop-from.invariant _ there (omega (arith, most, c.loop-from-test.false, c.len-from-end.ensures.count))
 
 pub returns-in-Some-clause-first : goal.returns-in-Some-clause-first
@@ -32,4 +32,4 @@ returns-in-Some-clause-first c =
     let first : (f : Edge) → Contains edges f → position nodes f.from ≡ from → IsOpening (among c.args.opening) graph nodes f → is_lt (edge_cmp f edge) ≡ false
     = subst (λ o. IfSome o (λ e. (f : Edge) → Contains edges f → position nodes f.from ≡ from → IsOpening (among c.args.opening) graph nodes f → is_lt (edge_cmp f e) ≡ false)) c.in-Some.is
     c.in_ok-edge.ensures.first in
-    first_of_all (among c.args.opening) graph nodes c.requires.rising edges c.requires.ends from edge found.0 at c.loop-from.invariant first
+    first_of_all (among c.args.opening) graph nodes c.requires.table.rising edges c.requires.table.ends from edge found.0 at c.loop-from.invariant first

@@ -1,0 +1,49 @@
+-- The nodes of a graph, and of its orders.
+use Rattle.std.proofs.Common.{◌≡◌, ℕ, ◌<◌, ◌≤◌, ◌==◌, true, false, cond, List, [], nat_lt, refl, ap, ◌∙◌, arith, inl, inr}
+use Rattle.std.specs.Prelude.{Contains}
+use Rattle.std.specs.List.{All, list_any}
+use Rattle.std.proofs.lemmas.Bool.{both_ways, cases_lt, ltb-true, lt-ltb}
+use Rattle.std.proofs.lemmas.Bool.Decides.{Decides-eqb}
+use Rattle.std.proofs.lemmas.List.{get_or_past}
+use Rattle.std.proofs.lemmas.List.Elements.{All-weaker}
+use Rattle.lab_order.specs.Arrows.{Arrows, nodes_of, has_arrow, IsArrow, IsGraph}
+use Rattle.lab_order.specs.Order as order
+use Rattle.lab_order.specs.Order.{position}
+use Rattle.lab_deps.proofs.Places.{times, times_count}
+use Rattle.lab_judge.proofs.LabelledKnots.{ring_all}
+use Rattle.lab_judge.proofs.Labels.{AreThings, IsOrderOf, all_there}
+use Rattle.lab_judge.proofs.Numbers.{contains_it}
+
+module _ (graph : Arrows) (g : IsGraph graph) where
+  -- an arrow's ends are nodes
+  pub ends : (a b : ℕ) → IsArrow graph a b → (nat_lt a (nodes_of graph) ≡ true) × (nat_lt b (nodes_of graph) ≡ true)
+  ends a b arrow = (lt-ltb a (nodes_of graph) (g.within a b arrow), (elim (cases_lt b (nodes_of graph)) [ inl less ↦ lt-ltb b (nodes_of graph) less | inr past ↦ absurd (bare past) ]))
+    where
+      bare : nodes_of graph ≤ b → ⊥
+      bare past = both_ways (has_arrow graph a b) (ap (list_any (λ n. n == a)) (get_or_past graph b [] past)) arrow
+
+  pub node_things : AreThings (λ m n. m == n) position (λ a. nat_lt a (nodes_of graph)) (IsArrow graph)
+  node_things = record { decides = Decides-eqb; next = λ m ms n. refl; ends = ends }
+
+  -- the nodes of a cycle are nodes of the graph
+  pub circle_within : (circle : List ℕ) → order.IsCircle graph circle → All (λ a. a < nodes_of graph) circle
+  circle_within circle c = ring_all (λ a. a < nodes_of graph) (IsArrow graph) (λ a b arrow. g.within a b arrow) circle c
+
+  module _ (ns : List ℕ) (o : order.IsOrder graph ns) where
+    pub as_order : IsOrderOf (λ m n. m == n) position (λ a. nat_lt a (nodes_of graph)) (IsArrow graph) ns
+    as_order = record { each_once = o.each_once; forward = o.forward }
+
+    -- each node of an order is one of the graph
+    pub within : All (λ a. a < nodes_of graph) ns
+    within = All-weaker (λ a. nat_lt a (nodes_of graph) ≡ true) (λ a. a < nodes_of graph) (λ a e. ltb-true a (nodes_of graph) e) ns (all_there node_things ns as_order)
+
+-- each node comes once in an order
+pub once_in : (graph : Arrows) (ns : List ℕ) → order.HoldsEachOnce graph ns → (a : ℕ) → times a ns ≤ 1
+once_in graph ns each a =
+    elim (nat_lt a (nodes_of graph)) as (λ b. times a ns ≡ cond b 1 0 → times a ns ≤ 1) [ true ↦ λ e. omega (arith, e) | false ↦ λ e. omega (arith, e) ] (times_count a ns ∙ each a)
+
+-- and is there
+pub in_order : (graph : Arrows) (ns : List ℕ) → order.HoldsEachOnce graph ns → (a : ℕ) → a < nodes_of graph → Contains ns a
+in_order graph ns each a lt =
+    let one : times a ns ≡ 1 = times_count a ns ∙ each a ∙ ap (λ b. cond b 1 0) (lt-ltb a (nodes_of graph) lt) in
+    contains_it ns a (omega (arith, one))
