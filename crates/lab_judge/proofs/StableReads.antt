@@ -1,0 +1,168 @@
+-- Where what was seen stays true up to the commit, the writer of an anti-dependency commits after the reader; so every edge follows the order of commits.
+use Rattle.std.specs.Option.{option_or}
+use Rattle.std.proofs.Common.{◌≡◌, ◌≢◌, ℕ, suc, ◌<◌, ◌≤◌, refl, sym, ap, subst, ◌∙◌, false, true, List, [], ◌∷◌, ◌++◌, inl, inr, length, append_assoc, arith}
+use Rattle.std.specs.Prelude.{unwrap_or}
+use Rattle.std.proofs.lemmas.Bool.{cases_order}
+use Rattle.lab_table.specs.Row.{Row}
+use Rattle.lab_table.specs.Table.{Table}
+use Rattle.lab_table.specs.Statement.{matches}
+use Rattle.lab_table.proofs.Tests.{some_of}
+use Rattle.lab_history.specs.History.{History}
+use Rattle.lab_history.specs.Version as history
+use Rattle.lab_history.specs.declared.operation.Op.{Op}
+use Rattle.lab_engine.specs.declared.event.Level.{Level}
+use Rattle.lab_engine.specs.declared.event.Level.TheVariants.{Locking, Snapshot}
+use Rattle.lab_engine.specs.Log.{Past, Txn, commits, version_by, last_installed, initial_version}
+use Rattle.lab_engine.specs.Laws.{Untouched}
+use Rattle.lab_engine.specs.Recording.{IsLegalRecording}
+use Rattle.lab_engine.proofs.DoneTransactions.{untouched_by}
+use Rattle.lab_deps.specs.Edges.{IsEdge, Depends, changes, SeesPlace, InstallsAt, Lists}
+use Rattle.lab_deps.specs.declared.edge.Edge.{Edge}
+use Rattle.lab_deps.specs.declared.edge.Kind.{Kind}
+use Rattle.lab_deps.specs.declared.edge.Kind.TheVariants.{Write, ItemRead, PredicateRead, ItemAnti, PredicateAnti}
+use Rattle.lab_order.specs.Order.{position}
+use Rattle.lab_judge.specs.LogOrders.{commit_order}
+use Rattle.lab_judge.specs.Places.{is_anti, IsForwardOrder}
+use Rattle.lab_judge.specs.Phenomena.{IsClosedWalk, NoWalk}
+use Rattle.lab_judge.specs.Runs.{IsSerialRun}
+use Rattle.lab_judge.specs.Stable.{StaysTrue, ReadsStable, AllStayTrue, IsValidated, AllValidated}
+use Rattle.lab_judge.proofs.Suffixes.{suffix_of_suffix, same_suffix, head_same}
+use Rattle.lab_judge.proofs.Ranks.{rank-first, Installs}
+use Rattle.lab_judge.proofs.RecordedVersions.{installer_at, state_at-is}
+use Rattle.lab_judge.proofs.ViewedVersions.{SeenVersion, seen_by}
+use Rattle.lab_judge.proofs.CommittedSuffixes.{suffix_after, stand}
+use Rattle.lab_judge.proofs.SeenRanks.{place_of_seen, sees_rank, unseen, lists_match}
+use Rattle.lab_judge.proofs.AntiDependencies.{Follows, differ_none}
+use Rattle.lab_judge.proofs.CommitPositions.{position_is, each_once}
+use Rattle.lab_judge.proofs.CommitOrder.{flow_ahead}
+use Rattle.lab_judge.proofs.SoundRecordings.{is_sound}
+use Rattle.lab_judge.proofs.Orders.{is_serial}
+use Rattle.lab_judge.proofs.Excludes.{no_closed_walk}
+
+module _ {level : Level} {setup : Table} {past : Past} {h : History} (recorded : IsLegalRecording level setup past h) (row : Row) (op : Op) (v p from to k : ℕ)
+    (s : SeenVersion level setup past h from k op row) (stable : StaysTrue setup op.statement s.earlier s.base) (y : Installs row (commits past) p to) (other : from ≢ to)
+    (after : length s.base ≤ length y.earlier) where
+  -- the writer, if it committed after what the operation saw and before the reader
+  pub record Between : Type 0 where
+    pub front : List Txn
+    pub rest : List Txn
+    pub since_is : stable.since ≡ front ++ y.txn ∷ rest
+    pub earlier_is : y.earlier ≡ rest ++ s.base
+
+  both : s.later ++ s.txn ∷ s.earlier ≡ y.later ++ y.txn ∷ y.earlier
+  both = sym s.txns_are ∙ y.txns_are
+
+  same_place : length y.earlier ≡ length s.earlier → ⊥
+  same_place long =
+      let ends : s.txn ∷ s.earlier ≡ y.txn ∷ y.earlier = same_suffix s.later (s.txn ∷ s.earlier) y.later (y.txn ∷ y.earlier) both (ap suc (sym long)) in
+      other (sym s.number_is ∙ (ap (λ (t : Txn). t.no) (head_same s.txn y.txn s.earlier y.earlier ends) ∙ y.number_is))
+
+  between : length y.earlier < length s.earlier → Between
+  between short =
+      let reader : commits past ≡ (s.later ++ s.txn ∷ []) ++ s.earlier = (suffix_after (commits past) s.later s.txn s.earlier s.txns_are).1 in
+      let x = suffix_of_suffix y.later (y.txn ∷ y.earlier) (s.later ++ s.txn ∷ []) s.earlier (sym y.txns_are ∙ reader) (omega (arith, short)) in
+      let parts : stable.since ++ s.base ≡ (x.0 ++ y.txn ∷ []) ++ y.earlier = sym stable.since_is ∙ (x.1 ∙ sym (append_assoc x.0 (y.txn ∷ []) y.earlier)) in
+      let z = suffix_of_suffix stable.since s.base (x.0 ++ y.txn ∷ []) y.earlier parts (omega (arith, after)) in
+      record { front = x.0; rest = z.0; since_is = z.2 ∙ append_assoc x.0 (y.txn ∷ []) z.0; earlier_is = z.1 }
+
+  -- then it changed nothing that the operation's statement matches
+  unmatched : Between → (matches op.statement row (history.state_at h row p) ≡ false) × (matches op.statement row (history.state_at h row (suc p)) ≡ false)
+  unmatched b =
+      let wrote = some_of (version_by y.txn row) y.wrote_it in
+      let clear = untouched_by setup op.statement b.front y.txn b.rest s.base row wrote.0
+      (subst (λ x. Untouched setup op.statement x s.base) b.since_is stable.untouched) wrote.1 in
+      let old : history.state_at h row p ≡ (unwrap_or (last_installed (b.rest ++ s.base) row) (initial_version setup row)).state =
+      ap (history.state_at h row) (sym y.place_is)
+      ∙ (state_at-is recorded row (y.later ++ y.txn ∷ []) y.earlier (suffix_after (commits past) y.later y.txn y.earlier y.txns_are).1
+      ∙ ap (λ x. (unwrap_or (last_installed x row) (initial_version setup row)).state) b.earlier_is) in
+      let new : history.state_at h row (suc p) ≡ wrote.0.state =
+      ap (history.state_at h row) (ap suc (sym y.place_is) ∙ sym (rank-first row y.txn y.earlier y.wrote_it))
+      ∙ (state_at-is recorded row y.later (y.txn ∷ y.earlier) y.txns_are
+      ∙ ap (λ x. (unwrap_or (option_or x (last_installed y.earlier row)) (initial_version setup row)).state) wrote.1) in
+      (ap (matches op.statement row) old ∙ clear.0, ap (matches op.statement row) new ∙ clear.1)
+
+  comes_later : (Between → ⊥) → length s.earlier < length y.earlier
+  comes_later never = elim (cases_order (length s.earlier) (length y.earlier)) [
+    | inl e ↦ absurd (same_place (sym e))
+    | inr o ↦ elim o [
+      | inl below ↦ below
+      | inr above ↦ absurd (never (between above))
+    ]
+  ]
+
+module _ {level : Level} {setup : Table} {past : Past} {h : History} (recorded : IsLegalRecording level setup past h) (stable : ReadsStable level setup past) where
+  stays : (n k : ℕ) (op : Op) (row : Row) (s : SeenVersion level setup past h n k op row) → StaysTrue setup op.statement s.earlier s.base
+  stays n k op row s = subst (λ b. StaysTrue setup op.statement s.earlier b) (sym s.base_is) (stable s.later s.txn s.earlier s.txns_are s.front op s.ops s.ops_are s.ran)
+
+  item_follows : (row : Row) (op : Op) (v from to : ℕ) → history.IsCommitted h from → from ≢ to → SeesPlace h from op row v → Lists op row → InstallsAt h row v to → Follows past from to
+  item_follows row op v from to committed other ((k, is_op), place) lists at =
+      let s : SeenVersion level setup past h from k op row = seen_by recorded from k op row (committed, is_op) in
+      let r = sees_rank recorded from k op row v s place in
+      let y : Installs row (commits past) v to = installer_at recorded row v to at in
+      let after = unseen recorded row op v v from to k s y r.place_is (omega arith) in
+      let kept : StaysTrue setup op.statement s.earlier s.base = stays from k op row s in
+      record {
+        a = place_of_seen recorded from k op row s;
+        b = stand row (commits past) v to y;
+        ahead = comes_later recorded row op v v from to k s kept y other after (λ b. lists_match recorded from k op row s lists
+            (ap (matches op.statement row) r.state_is ∙ (unmatched recorded row op v v from to k s kept y other after b).0));
+      }
+
+  predicate_follows : (row : Row) (op : Op) (v p from to : ℕ) → history.IsCommitted h from → from ≢ to → SeesPlace h from op row v → v ≤ p → InstallsAt h row p to
+      → changes h op.statement row p ≡ true → Follows past from to
+  predicate_follows row op v p from to committed other ((k, is_op), place) above at differs =
+      let s : SeenVersion level setup past h from k op row = seen_by recorded from k op row (committed, is_op) in
+      let r = sees_rank recorded from k op row v s place in
+      let y : Installs row (commits past) p to = installer_at recorded row p to at in
+      let after = unseen recorded row op v p from to k s y r.place_is above in
+      let kept : StaysTrue setup op.statement s.earlier s.base = stays from k op row s in
+      record {
+        a = place_of_seen recorded from k op row s;
+        b = stand row (commits past) p to y;
+        ahead = comes_later recorded row op v p from to k s kept y other after
+            (λ b. let none = unmatched recorded row op v p from to k s kept y other after b in differ_none _ _ none.0 none.1 differs);
+      }
+
+  follows_ahead : (from to : ℕ) → Follows past from to → position (commit_order past) from < position (commit_order past) to
+  follows_ahead from to f = omega (arith, f.ahead, position_is recorded from f.a, position_is recorded to f.b)
+
+  kind_ahead : (e : Edge) → IsEdge h e → (kind : Kind) → e.kind ≡ kind → Depends h kind e.row e.from e.to → position (commit_order past) e.from < position (commit_order past) e.to
+  kind_ahead e edge Write is depends = flow_ahead recorded e edge (ap is_anti is)
+  kind_ahead e edge ItemRead is depends = flow_ahead recorded e edge (ap is_anti is)
+  kind_ahead e edge PredicateRead is depends = flow_ahead recorded e edge (ap is_anti is)
+  kind_ahead e edge ItemAnti is (op, v, sees, lists, at) = follows_ahead e.from e.to (item_follows e.row op v e.from e.to edge.0 edge.2 sees lists at)
+  kind_ahead e edge PredicateAnti is (op, v, p, sees, above, at, differs) = follows_ahead e.from e.to (predicate_follows e.row op v p e.from e.to edge.0 edge.2 sees above at differs)
+
+  -- every edge follows the order of commits
+  pub stable_forward : IsForwardOrder h (commit_order past)
+  stable_forward e edge = kind_ahead e edge e.kind refl edge.3
+
+  -- so the order of commits is a serial run
+  pub stable_serial : IsSerialRun h (commit_order past)
+  stable_serial = is_serial h (is_sound recorded) (commit_order past) (each_once recorded) stable_forward
+
+  pub stable_no_walk : NoWalk (IsClosedWalk h)
+  stable_no_walk es walk = no_closed_walk h (commit_order past) es stable_forward walk
+
+-- ---- who keeps the law of stable reads
+-- locking does
+pub locking_stable : (setup : Table) (past : Past) → ReadsStable Locking setup past
+locking_stable setup past later txn earlier place front op ops ops_are ran = record { since = ran.since; since_is = ran.done_is; untouched = ran.untouched }
+
+true_at : (setup : Table) (front : List Op) (op : Op) (ops : List Op) (since base : List Txn) → AllStayTrue setup (front ++ op ∷ ops) since base → Untouched setup op.statement since base
+true_at setup [] op ops since base all = all.1
+true_at setup (first ∷ front) op ops since base all = true_at setup front op ops since base all.0
+
+validated_at : (setup : Table) (later : List Txn) (txn : Txn) (earlier : List Txn) → AllValidated setup (later ++ txn ∷ earlier) → IsValidated setup earlier txn
+validated_at setup [] txn earlier all = all.1
+validated_at setup (first ∷ later) txn earlier all = validated_at setup later txn earlier all.0
+
+-- at snapshot validation does
+pub validated_stable : (setup : Table) (past : Past) → AllValidated setup (commits past) → ReadsStable Snapshot setup past
+validated_stable setup past all later txn earlier place front op ops ops_are ran =
+    let valid : IsValidated setup earlier txn = validated_at setup later txn earlier (subst (AllValidated setup) place all) in
+    record {
+      since = valid.since;
+      since_is = valid.since_is;
+      untouched = true_at setup front op ops valid.since (commits txn.before) (subst (λ k. AllStayTrue setup k valid.since (commits txn.before)) ops_are valid.true_still);
+    }

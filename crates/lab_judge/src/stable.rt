@@ -1,0 +1,28 @@
+//! What a legal log's recording keeps where what was read stays true up to the commit. The functions have nothing to do:
+//! their contracts are the laws.
+
+ghost use Rattle.lab_table.specs.Table.{Table};
+ghost use Rattle.lab_history.specs.History.{History};
+ghost use Rattle.lab_engine.specs.declared.event.Level.{Level};
+ghost use Rattle.lab_engine.specs.declared.event.Level.TheVariants.{Locking, Snapshot};
+ghost use Rattle.lab_engine.specs.Log.{Past, commits};
+ghost use Rattle.lab_engine.specs.Recording.{IsLegalRecording};
+ghost use Rattle.lab_judge.specs.Runs.{IsSerialRun};
+ghost use Rattle.lab_judge.specs.Places.{IsForwardOrder};
+ghost use Rattle.lab_judge.specs.Phenomena.{NoWalk, IsClosedWalk};
+ghost use Rattle.lab_judge.specs.LogOrders.{commit_order};
+ghost use Rattle.lab_judge.specs.Stable.{ReadsStable, AllValidated};
+
+/// Where what each operation saw stays true up to its transaction's commit, every dependency follows the order of commits,
+/// whatever the level; so that order is a serial run.
+pub fn stable_reads_are_serial()
+    ensures forward { (level : Level) (setup : Table) (past : Past) (h : History) → IsLegalRecording level setup past h → ReadsStable level setup past → IsForwardOrder h (commit_order past) }
+    ensures serial { (level : Level) (setup : Table) (past : Past) (h : History) → IsLegalRecording level setup past h → ReadsStable level setup past → IsSerialRun h (commit_order past) }
+    ensures no_walk { (level : Level) (setup : Table) (past : Past) (h : History) → IsLegalRecording level setup past h → ReadsStable level setup past → NoWalk (IsClosedWalk h) }
+{}
+
+/// Locking keeps reads stable, and so does a log at snapshot of which each commit was validated.
+pub fn who_keeps_reads_stable()
+    ensures locking { (setup : Table) (past : Past) → ReadsStable Locking setup past }
+    ensures validated { (setup : Table) (past : Past) → AllValidated setup (commits past) → ReadsStable Snapshot setup past }
+{}
