@@ -3,7 +3,7 @@
 ghost use Rattle.std.specs.Prelude.{◌≡◌, ◌≤◌, ◌<◌, ℕ, pos, int_le, int_lt, true, IfSome};
 ghost use Rattle.std.specs.Ordering.{int_eq};
 ghost use Rattle.lab_table.specs.Row.{Row};
-ghost use Rattle.lab_table.specs.Predicate.{Compare, may_hold, compares};
+ghost use Rattle.lab_table.specs.Predicate.{Compare, may_hold};
 ghost use Rattle.lab_table.specs.Statement.{where_may_hold, may_match};
 
 use lab_table::{Cmp, Col, Pred, PredKind, Statement, StatementKind, Value};

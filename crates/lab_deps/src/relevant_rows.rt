@@ -4,7 +4,6 @@ ghost use Rattle.std.specs.Prelude.{◌≡◌, ◌≤◌, ◌<◌, ℕ, T, true,
 ghost use Rattle.std.specs.List.{list_all};
 ghost use Rattle.std.specs.FinMap as map;
 ghost use Rattle.lab_table.specs.Row.{Row, row_cmp, row_test};
-ghost use Rattle.lab_table.specs.Statement.{may_match};
 ghost use Rattle.lab_history.specs.History.{History as Kept};
 ghost use Rattle.lab_deps.specs.EdgesByRow.{looks_at, found_at_row};
 

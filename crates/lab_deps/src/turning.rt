@@ -1,6 +1,6 @@
 //! The places where a row's versions turn from one of two classes to the other, and who installed the versions there.
 
-ghost use Rattle.std.specs.Prelude.{◌≡◌, ◌⊎◌, ◌<◌, ◌-◌, ℕ, suc, true, false, Some, length, slice_get, Contains, IfOk, IfSome};
+ghost use Rattle.std.specs.Prelude.{◌≡◌, ◌⊎◌, ◌<◌, ◌-◌, ℕ, suc, true, Some, length, slice_get, Contains, IfOk, IfSome};
 ghost use Rattle.lab_deps.specs.Edges.{differ};
 ghost use Rattle.lab_deps.specs.FrontSets.{AreRising, IsCut, Gains};
 ghost use Rattle.lab_deps.specs.Turnings.{StandsAt, IsTurning, class_in};

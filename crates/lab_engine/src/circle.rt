@@ -8,7 +8,7 @@
 ghost use Rattle.std.specs.Prelude.{◌≡◌, ◌≤◌, ◌<◌, ◌+◌, ◌∷◌, ◌↔◌, false, None, List, ℕ, length, get_or, IfOk, IfSome, IsTrue};
 ghost use Rattle.lab_engine.specs.SessionBits.{has};
 ghost use Rattle.lab_engine.specs.WaitsFor.{IsWalk, IsRound};
-ghost use Rattle.lab_engine.specs.LeastWalk.{AreLayers, IsLeastWalk, Leads};
+ghost use Rattle.lab_engine.specs.LeastWalk.{AreLayers, IsLeastWalk};
 ghost use Rattle.lab_engine.specs.LeastCircle.{NotAfter};
 
 use crate::event::Sessions;

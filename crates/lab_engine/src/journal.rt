@@ -11,10 +11,9 @@ ghost use Rattle.lab_engine.specs.Engine.{Ends};
 ghost use Rattle.lab_engine.specs.EventQuery.{is_ending};
 ghost use Rattle.lab_engine.specs.LeastCircle.{NamesLeastOf, NamesLeastOfWaiting};
 ghost use Rattle.lab_engine.specs.Limits.{max_events};
-ghost use Rattle.lab_engine.specs.Log.{Past, past_of, active, asked, waiting};
+ghost use Rattle.lab_engine.specs.Log.{past_of, active, asked, waiting};
 ghost use Rattle.lab_engine.specs.Rules.{Permitted};
 ghost use Rattle.lab_engine.specs.Sessions.{all_sessions};
-ghost use Rattle.lab_engine.specs.Situation.{Describes};
 
 use crate::answer::answer_to;
 use crate::decision::{copy_of, step_outcome, waiting_command};

@@ -1,18 +1,14 @@
 //! What is kept of all rows.
 
-ghost use Rattle.std.specs.Prelude.{◌≡◌, ◌≤◌, ◌+◌, ◌==◌, ◌&&◌, ◌||◌, ℕ, [], None, Some, cond, is_some, is_none, length, option_map, IfOk, OnOk};
-ghost use Rattle.std.specs.Prelude as list;
-ghost use Rattle.std.specs.BTreeMap.{IsOrdered};
+ghost use Rattle.std.specs.Prelude.{◌≡◌, ◌≤◌, ◌+◌, ◌==◌, ◌&&◌, ◌||◌, ℕ, None, Some, cond, is_some, is_none, length, option_map, OnOk};
 ghost use Rattle.std.specs.List.{list_any};
 ghost use Rattle.std.specs.Option.{option_or};
 ghost use Rattle.std.specs.Vec.{vec_capacity};
 ghost use Rattle.std.specs.FinMap as map;
-ghost use Rattle.lab_table.specs.Row.{Row, row_cmp, row_eq};
+ghost use Rattle.lab_table.specs.Row.{Row, row_eq};
 ghost use Rattle.lab_history.specs.VersionName.{state_value};
 ghost use Rattle.lab_engine.specs.Chains as plain;
 ghost use Rattle.lab_engine.specs.Chains.{longer};
-ghost use Rattle.lab_engine.specs.EachRow.{each_row};
-ghost use Rattle.lab_engine.specs.Kept.{pending_of};
 ghost use Rattle.lab_engine.specs.KeptRows.{kept_at, entries_in, chain_in, pending_in, IsReadyAt, AreReady, IsSame};
 ghost use Rattle.lab_engine.specs.Merging.{written_version};
 

@@ -8,7 +8,6 @@ ghost use Rattle.lab_engine.specs.declared.event.Level.{Level as Kind};
 ghost use Rattle.lab_engine.specs.Limits.{max_events};
 ghost use Rattle.lab_engine.specs.Log.{Past, active, waiting, begun_after};
 ghost use Rattle.lab_engine.specs.EventQuery.{is_ending};
-ghost use Rattle.lab_engine.specs.KeptRows.{AreReady};
 ghost use Rattle.lab_engine.specs.WaitsFor.{waits_for};
 ghost use Rattle.lab_engine.specs.Situation.{Describes, DescribesAll, DescribesRows, HoldsOutcome, HasPlaces, all_sessions, keeps_statements, kept_of, running_of, waiting_of};
 

@@ -9,7 +9,7 @@ mod versions;
 mod waits;
 
 use lab_engine::{EngineFault, Level, LogEvent, Outcome};
-use lab_table::{Command, RowId, RowName, Session, Statement, Table, TableName, TxnNo};
+use lab_table::{Command, RowId, RowName, Session, Table, TableName, TxnNo};
 use std::alloc::Global;
 use transactions::{Txn, active, next_number, waiting};
 

@@ -1,6 +1,6 @@
 //! Laws of explanations. The functions have nothing to do: their contracts are the laws.
 
-ghost use Rattle.std.specs.Prelude.{◌≡◌, ◌≤◌, ℕ, Some, None, Option, List, Contains};
+ghost use Rattle.std.specs.Prelude.{◌≡◌, ◌≤◌, ℕ, None, Option, List, Contains};
 ghost use Rattle.lab_history.specs.History.{History as Held};
 ghost use Rattle.lab_deps.specs.Soundness.{Stands};
 ghost use Rattle.lab_deps.specs.declared.edge.Edge.{Edge as Dependency};

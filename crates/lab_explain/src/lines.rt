@@ -1,7 +1,7 @@
 //! The layout of sentences in lines. Each function that takes bytes appends to them; after NoMemory, part of what was to be
 //! appended may stand there.
 
-ghost use Rattle.std.specs.Prelude.{◌≡◌, ◌++◌, ◌≤◌, ◌<◌, length, OnOk};
+ghost use Rattle.std.specs.Prelude.{◌≡◌, ◌++◌, ◌≤◌, length, OnOk};
 ghost use Rattle.std.specs.Fmt.{decimal};
 ghost use Rattle.lab_explain.specs.Lines.{blank_after, word_length, breaks, wrapped, sentence, paragraph, step, lines, first_lines, left_out, capped};
 

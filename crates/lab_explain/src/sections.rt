@@ -1,7 +1,6 @@
 //! The text of an explanation.
 
 ghost use Rattle.std.specs.Prelude.{◌≡◌, ◌++◌, IfOk, OnOk};
-ghost use Rattle.lab_explain.specs.Findings.{serial_walk};
 ghost use Rattle.lab_explain.specs.Explanation.{order_sentence, serial_lines, findings_lines, whole_text, one_text, explanation_of};
 
 use crate::fault_parts::put_txns;

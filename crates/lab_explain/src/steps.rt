@@ -2,7 +2,7 @@
 //! to be appended may stand there.
 
 ghost use Rattle.std.specs.Prelude.{◌≡◌, ◌++◌, OnOk};
-ghost use Rattle.lab_explain.specs.Steps.{from_text, left_next, saw_next, to_text, tag_text, order_text, edge_text, told_edge, edge_step, walk_steps};
+ghost use Rattle.lab_explain.specs.Steps.{from_text, left_next, saw_next, to_text, tag_text, order_text, edge_text, edge_step, walk_steps};
 
 use crate::clauses::{put_left, put_left_row, put_op, put_saw, put_seen, put_txn};
 use crate::lines::put_step;

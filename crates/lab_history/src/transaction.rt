@@ -42,7 +42,7 @@ pub struct Installed {
 
 impl Model for Installed {
     ghost use Rattle.std.specs.FinMap as map;
-    ghost use Rattle.std.specs.Prelude.{T, ℕ};
+    ghost use Rattle.std.specs.Prelude.{T};
     ghost use Rattle.std.specs.Coded.{coded_ℕ, coded_list};
     ghost use Rattle.lab_table.specs.Row.{row_cmp, coded_row};
     ghost use Rattle.lab_history.specs.Installed.{Installed};

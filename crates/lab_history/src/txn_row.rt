@@ -1,6 +1,6 @@
 //! A transaction with a row, in an order that looks at numbers first.
 
-ghost use Rattle.std.specs.Prelude.{◌≡◌, Some, refl};
+ghost use Rattle.std.specs.Prelude.{Some, refl};
 ghost use Rattle.std.specs.Cmp.{partial_equiv_from_equiv, po};
 ghost use Rattle.lab_history.specs.TxnRow.{txn_row_cmp, txn_row_test, txn_rows_total, txn_rows_equiv, txn_rows_tested};
 

@@ -1,7 +1,7 @@
 //! What stands behind the keys of the members of lists.
 
-ghost use Rattle.std.specs.Prelude.{◌≡◌, ℕ, [], Result};
-ghost use Rattle.serde_json.specs.View.{view, items_view};
+ghost use Rattle.std.specs.Prelude.{ℕ, [], Result};
+ghost use Rattle.serde_json.specs.View.{items_view};
 ghost use Rattle.serde_json.specs.Data.{Items};
 ghost use Rattle.lab_history.specs.Faults.{Gives};
 ghost use Rattle.lab_history.specs.declared.fault.FileFault.{FileFault};

@@ -1,6 +1,6 @@
 //! Why a file is no history, as a line. After NoMemory, part of what was to be appended may stand there.
 
-ghost use Rattle.std.specs.Prelude.{◌≡◌, ◌++◌, IfOk, OnOk};
+ghost use Rattle.std.specs.Prelude.{◌≡◌, IfOk};
 ghost use Rattle.lab_judge.specs.FileFaultText.{file_fault_text};
 
 use itoa::Buffer;

@@ -1,7 +1,6 @@
 //! Which phenomena a history has, and the level that it meets.
 
 ghost use Rattle.std.specs.Prelude.{◌≡◌, ◌↔◌, Contains, IfOk};
-ghost use Rattle.std.specs.List.{All};
 ghost use Rattle.lab_history.specs.History.{History as Recorded};
 ghost use Rattle.lab_deps.specs.Soundness.{Stands, IsSound};
 ghost use Rattle.lab_deps.specs.Edges.{IsEdge};

@@ -1,6 +1,6 @@
 //! The judgements of many files, by several threads.
 
-ghost use Rattle.std.specs.Prelude.{◌≡◌, IfOk};
+ghost use Rattle.std.specs.Prelude.{IfOk};
 ghost use Rattle.std.specs.List.{AllZip};
 ghost use Rattle.lab_judge.specs.FileAnswer.{IsFileAnswer};
 

@@ -1,7 +1,6 @@
 //! Who has read what a statement would write.
 
 ghost use Rattle.std.specs.Prelude.{◌≡◌, ◌||◌, ℕ};
-ghost use Rattle.std.specs.List.{list_any};
 ghost use Rattle.lab_engine.specs.declared.event.Level.TheVariants.{Locking};
 ghost use Rattle.lab_engine.specs.Asker.{AreOthers, IsAsker};
 ghost use Rattle.lab_engine.specs.Log.{Past, Txn};

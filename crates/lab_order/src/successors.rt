@@ -2,7 +2,7 @@
 
 ghost use Rattle.std.specs.Prelude.{◌≡◌, ◌==◌, ◌<◌, ◌+◌, ◌-◌, ◌&&◌, ◌^◌, ℕ, nat_lt, cond, length, IfOk};
 ghost use Rattle.std.specs.List.{All};
-ghost use Rattle.lab_order.specs.Arrows.{nodes_of, before, IsGraph};
+ghost use Rattle.lab_order.specs.Arrows.{nodes_of, before};
 ghost use Rattle.lab_order.specs.Counts.{how_often, after, waits_of, IsTransposed};
 
 use crate::free_nodes::FreeNodes;

@@ -1,6 +1,6 @@
 //! What stands above the columns of a picture, and where.
 
-ghost use Rattle.std.specs.Prelude.{◌≡◌, ◌++◌, ◌≤◌, length, IfOk, OnOk};
+ghost use Rattle.std.specs.Prelude.{◌≡◌, ◌++◌, ◌≤◌, IfOk, OnOk};
 ghost use Rattle.lab_picture.specs.Heading.{title_bytes, line_bytes, more_text, more_lines, far_text, far_lines, first_tie, legend_lines, marked_lines, about_y, note_y, more_y, far_y, legend_y, marked_y, head_y, title_style, title_lines, notes_text, sample_end, sample_path, sample_text, dependencies_text, legend_text, marked_text, heading_text};
 
 use crate::drawing::{Arrow, Drawing, Spot, Tie};

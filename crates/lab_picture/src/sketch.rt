@@ -12,7 +12,7 @@ use crate::titles::{put_finding_title, put_serial_title};
 use lab_deps::Edge;
 use lab_history::History;
 use lab_judge::{Finding, Report, Serial, put_finding, put_serial};
-use lab_table::{NoMemory, TxnNo};
+use lab_table::NoMemory;
 use std::alloc::Global;
 
 /// The drawing of a serial verdict, or of what a report finds of a phenomenon. NoMemory where an allocation was

@@ -1,6 +1,6 @@
 //! The text of a drawing, in SVG.
 
-ghost use Rattle.std.specs.Prelude.{◌≡◌, ◌++◌, ◌≤◌, ◌<◌, length, take, IfOk, OnOk};
+ghost use Rattle.std.specs.Prelude.{◌≡◌, ◌++◌, ◌≤◌, length, IfOk, OnOk};
 ghost use Rattle.lab_picture.specs.Svg.{size_text, numbers_text, view_text, svg_text, letters_text, open_text, told_title, told_line, told_text, marker_text, ground_text, head_text, drawn_columns, drawn_arrows, svg_with, svg_of, shown_columns, goes_below, frame_of};
 
 use crate::arrows::{has_round, put_arrows};

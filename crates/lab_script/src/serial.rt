@@ -4,7 +4,7 @@ ghost use Rattle.std.specs.Prelude.{◌≡◌, ◌++◌, ◌&&◌, not, None, So
 ghost use Rattle.std.specs.Option.{option_or};
 ghost use Rattle.lab_script.specs.Limits.{AllPrint, SomeLine};
 ghost use Rattle.lab_script.specs.TranscriptView.{Breaks, ended_by, first_broken, limit_broken, shown_of, unprintable};
-ghost use Rattle.lab_script.specs.Transcript.{body_of, body_text, committed, end_text, inside_after, is_begin, sessions_in, statement_text, table_after, table_with, transcript, transaction_of, transaction_text};
+ghost use Rattle.lab_script.specs.Transcript.{body_of, end_text, inside_after, is_begin, sessions_in, statement_text, table_after, table_with, transcript, transaction_of, transaction_text};
 
 use crate::script::{Line, Script};
 use crate::transcript::{

@@ -1,6 +1,6 @@
 //! Playing a script by one thread for each session.
 
-ghost use Rattle.std.specs.Prelude.{◌≡◌, ◌≢◌, ◌≤◌, ℕ, [], ◌++◌, map, None, false, true, OnOk, IfOk, IfErr, IfSome, IfNone};
+ghost use Rattle.std.specs.Prelude.{◌≡◌, ◌≢◌, [], ◌++◌, map, None, false, true, OnOk, IfOk, IfErr, IfSome, IfNone};
 ghost use Rattle.std.specs.List.{All};
 ghost use Rattle.lab_engine.specs.RecordedLog.{IsSoundRecord};
 ghost use Rattle.lab_session.specs.Waiting.{TellsFull};

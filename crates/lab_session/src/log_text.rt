@@ -1,6 +1,6 @@
 //! A log as a text. Each function appends; after NoMemory, part of what was to be appended may stand there.
 
-ghost use Rattle.std.specs.Prelude.{◌≢◌, ◌≡◌, ◌++◌, codes, flat_map, map, Err, IfOk, OnOk};
+ghost use Rattle.std.specs.Prelude.{◌≢◌, ◌≡◌, ◌++◌, flat_map, map, Err, IfOk, OnOk};
 ghost use Rattle.lab_statement.specs.Limits.{CommandPrints, IsDeep, IsLong};
 ghost use Rattle.lab_statement.specs.Printed.{joined, printed_row_name};
 ghost use Rattle.lab_session.specs.LogText.{AllPrint, SomeEvent, event_text, log_text, next_text, outcome_text, refusal_text, session_text};

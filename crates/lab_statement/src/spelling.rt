@@ -1,19 +1,16 @@
 //! The printed form of statements. Each function that spells a text answers whether all of it was taken.
 
-ghost use Rattle.std.specs.Prelude.{◌≡◌, ◌++◌, ◌||◌, codes, true};
+ghost use Rattle.std.specs.Prelude.{◌≡◌, ◌++◌, ◌||◌, codes};
 ghost use Rattle.std.specs.Fmt.{decimal, signed_decimal};
-ghost use Rattle.lab_statement.specs.Printed.{printed_col, printed_cmp, joined, printed_numbers, parenthesized, printed_pred, printed_where, printed_expr, is_and, is_or, printed_kind, printed_row, printed_statement, printed_command};
+ghost use Rattle.lab_statement.specs.Printed.{printed_col, printed_cmp, joined, printed_numbers, parenthesized, printed_pred, printed_where, printed_expr, is_and, is_or, printed_kind, printed_statement, printed_command};
 ghost use Rattle.lab_statement.specs.Each.{Each};
-ghost use Rattle.lab_statement.specs.Ranges.{ValueInRange, ModulusInRange, PredInRange, WhereInRange, ExprInRange, KindInRange, RowInRange, StatementInRange, CommandInRange};
+ghost use Rattle.lab_statement.specs.Ranges.{ValueInRange, ModulusInRange, PredInRange, WhereInRange, ExprInRange, KindInRange, StatementInRange, CommandInRange};
 ghost use Rattle.lab_statement.specs.Sink.{OnTaken, Puts};
 
 use crate::row_text::{spell_both, spell_natural, spell_row};
 use crate::sink::Sink;
 use crate::spell::{Spell, spell_all};
-use lab_table::{
-    Cmp, Col, Command, Expr, Modulus, Pred, PredKind, RowId, Statement, StatementKind, TableName,
-    Value,
-};
+use lab_table::{Cmp, Col, Command, Expr, Modulus, Pred, PredKind, Statement, StatementKind, Value};
 
 fn col_text(col: Col) -> &'static [u8]
     ensures { result.now ≡ printed_col col }
