@@ -62,13 +62,16 @@ pub clash_decided : (setup : Table) (past : Past) (txn : Txn) (since : List Txn)
     → NoneClashes setup txn since (commits txn.before) row ⊎ ((number : ℕ) × ClashesFirst setup past txn row number)
 clash_decided setup past txn since since_is row = elim (first_of setup txn since (commits txn.before) row) [
   | inl none ↦ inl none
-  | inr f ↦ inr (f.by.no, record {
-    newer = f.newer;
-    by = f.by;
-    older = f.older;
-    commits_are = since_is ∙ (ap (λ k. k ++ commits txn.before) f.since_is ∙ append_assoc f.newer (f.by ∷ f.older) (commits txn.before));
-    number_is = refl;
-    clashes = f.clashes;
-    none_before = f.none_before;
-  })
+  | inr f ↦ inr (
+    f.by.no,
+    record {
+      newer = f.newer;
+      by = f.by;
+      older = f.older;
+      commits_are = since_is ∙ (ap (λ k. k ++ commits txn.before) f.since_is ∙ append_assoc f.newer (f.by ∷ f.older) (commits txn.before));
+      number_is = refl;
+      clashes = f.clashes;
+      none_before = f.none_before;
+    },
+  )
 ]

@@ -10,7 +10,9 @@ ghost use Rattle.lab_statement.specs.Sink.{OnTaken, Puts};
 use crate::row_text::{spell_both, spell_natural, spell_row};
 use crate::sink::Sink;
 use crate::spell::{Spell, spell_all};
-use lab_table::{Cmp, Col, Command, Expr, Modulus, Pred, PredKind, Statement, StatementKind, Value};
+use lab_table::{
+    Cmp, Col, Command, Expr, Modulus, Pred, PredKind, Statement, StatementKind, Value,
+};
 
 fn col_text(col: Col) -> &'static [u8]
     ensures { result.now ≡ printed_col col }
