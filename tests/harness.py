@@ -1,0 +1,87 @@
+"""What every test does: it takes its words, finds the program, runs it, counts what passed, and writes the last line."""
+import argparse
+import os
+import subprocess
+import sys
+
+TOP = os.path.dirname(os.path.dirname(os.path.realpath(__file__)))
+NAME = os.path.basename(sys.argv[0])
+SECONDS = 60
+
+
+def refuse(why):
+    """Says why there is nothing to try, and ends with status 2."""
+    print(f"{NAME}: {why}", file=sys.stderr)
+    sys.exit(2)
+
+
+class Words(argparse.ArgumentParser):
+    """The words of a test. Its help is the test's docstring, in which the usage stands behind `usage: `."""
+
+    def __init__(self, docstring):
+        usage = docstring.partition("usage: ")[2].partition("\n\n")[0]
+        super().__init__(usage=usage, description=docstring, allow_abbrev=False)
+
+    def format_help(self):
+        return self.description
+
+
+def find_program(named=None):
+    """The path of a program that is named, or else of the one that programs/find names."""
+    if named is None:
+        found = subprocess.run([f"{TOP}/programs/find"], stdout=subprocess.PIPE, text=True, check=False)
+        if found.returncode:
+            # (which has said why)
+            sys.exit(2)
+        named = found.stdout.strip()
+    if not os.path.isfile(named) or not os.access(named, os.X_OK):
+        refuse(f"there is no program {named}")
+    return os.path.abspath(named)
+
+
+def program_of(docstring):
+    """The program of a test that takes no word but its name."""
+    words = Words(docstring)
+    words.add_argument("program", nargs="?")
+    return find_program(words.parse_args().program)
+
+
+def library_and_program(docstring):
+    """The library that refuses allocations, .ci/refuse.c compiled, and the program of a test that takes both."""
+    words = Words(docstring)
+    words.add_argument("library")
+    words.add_argument("program", nargs="?")
+    given = words.parse_args()
+    if not os.path.isfile(given.library):
+        refuse(f"there is no library {given.library}: .ci/library builds it")
+    return os.path.abspath(given.library), find_program(given.program)
+
+
+def run(words, text=b"", seconds=SECONDS, **how):
+    """Runs a command with a text on its standard input. Of one that doesn't end in time the exit status is None."""
+    try:
+        return subprocess.run(words, input=text, capture_output=True, timeout=seconds, check=False, **how)
+    except subprocess.TimeoutExpired as late:
+        return subprocess.CompletedProcess(words, None, late.stdout or b"", late.stderr or b"")
+
+
+class Tally:
+    """How many tries of a test passed, and how many failed."""
+
+    def __init__(self):
+        self.passed = self.failed = 0
+
+    def note(self, is_right, *why):
+        """Counts a try, says why it failed, and answers whether it passed."""
+        if is_right:
+            self.passed += 1
+            return True
+        self.failed += 1
+        for line in why:
+            print(f"{NAME}: {line}", flush=True)
+        return False
+
+    def end(self, more=""):
+        """Writes the last line, and ends with status 1 where a try failed, or where none was made."""
+        print(f"{self.passed} passed, {self.failed} failed{more}")
+        sys.exit(1 if self.failed or not self.passed else 0)
