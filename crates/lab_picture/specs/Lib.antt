@@ -9,6 +9,7 @@ pub mod Forward
 pub mod ArrowLaws
 pub mod Text
 pub mod Layout
+pub mod Effect
 pub mod Boxes
 pub mod Columns
 pub mod Arrows

@@ -2,12 +2,13 @@
 
 ghost use Rattle.std.specs.Prelude.{◌≡◌, ◌++◌, ◌≤◌, length, IfOk, OnOk};
 ghost use Rattle.lab_statement.specs.Printed.{printed_statement};
-ghost use Rattle.lab_picture.specs.Boxes.{listed_text, whole_text, edge_style, edge_text, rest_lines, inner_text, box_text, boxes_text};
+ghost use Rattle.lab_picture.specs.Boxes.{whole_text, edge_style, edge_text, rest_lines, inner_text, box_text, boxes_text};
 
+use crate::effect::effect_text;
 use crate::layout::{BOX_BYTES, Frame, left, upper};
 use crate::text::{in_three, put_escaped, put_one_line, put_place, put_three_lines, put_two_lines};
 use lab_history::Op;
-use lab_statement::{put_list, put_statement};
+use lab_statement::put_statement;
 use lab_table::NoMemory;
 use std::alloc::Global;
 
@@ -17,15 +18,6 @@ fn statement_text(alloc: Global, op: &Op) -> Result<Vec<u8>, NoMemory>
 {
     let mut text = Vec::new(alloc);
     put_statement(&mut text, &op.statement)?;
-    Ok(text)
-}
-
-/// The text of the rows that an operation listed.
-fn listed_text(alloc: Global, op: &Op) -> Result<Vec<u8>, NoMemory>
-    ensures { IfOk result (λ text. text.items ≡ listed_text op.now) }
-{
-    let mut text = Vec::from_slice(alloc, b"-> ")?;
-    put_list(&mut text, op.rows.entries())?;
     Ok(text)
 }
 
@@ -53,7 +45,7 @@ fn put_edge(out: &mut Vec<u8>, x: u64, y: u64, marked: bool) -> Result<(), NoMem
     put_edge_style(out, marked)
 }
 
-/// Appends a list in the lines that a statement of so many lines leaves of four.
+/// Appends what an operation did in the lines that a statement of so many lines leaves of four.
 #[tactic(auto, unfolding(crate::specs::Boxes::rest_lines))]
 fn put_rest(
     alloc: Global,
@@ -61,21 +53,21 @@ fn put_rest(
     x: u64,
     y: u64,
     used: u64,
-    list: &[u8],
+    effect: &[u8],
 ) -> Result<(), NoMemory>
     requires { y ≤ 12000000000000 }
-    ensures { OnOk result (out.new.items ≡ out.old.items ++ rest_lines x y used list.now) }
+    ensures { OnOk result (out.new.items ≡ out.old.items ++ rest_lines x y used effect.now) }
 {
     if used == 1 {
-        put_three_lines(alloc, out, b"", x, y, 13, BOX_BYTES, list)
+        put_three_lines(alloc, out, b"", x, y, 13, BOX_BYTES, effect)
     } else if used == 2 {
-        put_two_lines(alloc, out, b"", x, y, 13, BOX_BYTES, list)
+        put_two_lines(alloc, out, b"", x, y, 13, BOX_BYTES, effect)
     } else {
-        put_one_line(alloc, out, b"", x, y, BOX_BYTES, list)
+        put_one_line(alloc, out, b"", x, y, BOX_BYTES, effect)
     }
 }
 
-/// Appends a statement in up to three lines, and below it what it listed, in up to four with those.
+/// Appends a statement in up to three lines, and below it what it did, in up to four with those.
 #[tactic(auto, unfolding(crate::specs::Boxes::inner_text))]
 fn put_inner(
     alloc: Global,
@@ -83,24 +75,24 @@ fn put_inner(
     x: u64,
     y: u64,
     statement: &[u8],
-    list: &[u8],
+    effect: &[u8],
 ) -> Result<(), NoMemory>
     requires { y ≤ 11500000000000 }
-    ensures { OnOk result (out.new.items ≡ out.old.items ++ inner_text x y statement.now list.now) }
+    ensures { OnOk result (out.new.items ≡ out.old.items ++ inner_text x y statement.now effect.now) }
 {
     put_three_lines(alloc, out, b"", x, y, 13, BOX_BYTES, statement)?;
     let used = in_three(BOX_BYTES, statement);
-    put_rest(alloc, out, x, y + 13 * used, used, list)
+    put_rest(alloc, out, x, y + 13 * used, used, effect)
 }
 
-/// Appends a statement and what it listed as a title.
-fn put_whole(out: &mut Vec<u8>, statement: &[u8], list: &[u8]) -> Result<(), NoMemory>
-    ensures { OnOk result (out.new.items ≡ out.old.items ++ whole_text statement.now list.now) }
+/// Appends a statement and what it did as a title.
+fn put_whole(out: &mut Vec<u8>, statement: &[u8], effect: &[u8]) -> Result<(), NoMemory>
+    ensures { OnOk result (out.new.items ≡ out.old.items ++ whole_text statement.now effect.now) }
 {
     out.extend_from_slice(b"<g><title>")?;
     put_escaped(out, statement)?;
     out.extend_from_slice(b" ")?;
-    put_escaped(out, list)?;
+    put_escaped(out, effect)?;
     out.extend_from_slice(b"</title>\n")
 }
 
@@ -119,10 +111,10 @@ fn put_box(
     ensures { OnOk result (out.new.items ≡ out.old.items ++ box_text x y marked op.now) }
 {
     let statement = statement_text(alloc, op)?;
-    let list = listed_text(alloc, op)?;
-    put_whole(out, &statement, &list)?;
+    let effect = effect_text(alloc, op)?;
+    put_whole(out, &statement, &effect)?;
     put_edge(out, x, y, marked)?;
-    put_inner(alloc, out, x + 5, y + 14, &statement, &list)?;
+    put_inner(alloc, out, x + 5, y + 14, &statement, &effect)?;
     out.extend_from_slice(b"</g>\n")
 }
 

@@ -15,6 +15,7 @@ mod asked;
 mod boxes;
 mod columns;
 mod drawing;
+mod effect;
 mod fault_drawing;
 mod forward;
 mod heading;
