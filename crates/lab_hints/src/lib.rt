@@ -10,9 +10,12 @@
 //! fails, are let go. What is shown of an input is printed ASCII, and short.
 #![tactic(auto)]
 
+mod byte;
 mod file;
 mod grammar;
+mod kind;
 mod limits;
+mod long;
 mod notes;
 mod path;
 mod play;
@@ -20,6 +23,7 @@ mod position;
 mod rows;
 mod said;
 mod script;
+mod session;
 mod silent;
 mod statement;
 mod stop;

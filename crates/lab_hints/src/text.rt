@@ -65,6 +65,19 @@ fn printed(byte: u8) -> u8 {
     }
 }
 
+/// The part of a line before its first two dashes, and the rest with them.
+pub fn code_and_remark(line: &[u8]) -> (&[u8], &[u8]) {
+    match line.find(b"--") {
+        None => (line, &[]),
+        Some(place) => line.split_at(place),
+    }
+}
+
+/// Whether all of a code is blank.
+pub fn is_blank(code: &[u8]) -> bool {
+    code.iter().all(|byte| *byte == b' ' || *byte == b'\t')
+}
+
 /// The line with a number, counted from 1.
 pub fn line_numbered(text: &[u8], number: usize) -> Option<&[u8]> {
     let mut left = number;

@@ -2,8 +2,11 @@
 
 ghost use Rattle.std.specs.Prelude.{◌≤◌, length};
 
-use lab_table::NoMemory;
+use lab_table::{NoMemory, Word};
 use std::alloc::Global;
+
+/// What the signs of the grammar are made of, but for the minus.
+const SIGNS: &[u8] = b"(),;*<=>%+";
 
 /// What a token is made of.
 #[derive(Clone, Copy, PartialEq, Eq)]
@@ -27,6 +30,25 @@ impl Token<'_> {
     /// Whether this is a word or a sign, in either case.
     pub fn is(&self, text: &str) -> bool {
         self.text.eq_ignore_ascii_case(text.as_bytes())
+    }
+
+    /// Whether this is a minus, or a byte that begins no token of the grammar.
+    fn is_foreign_sign(&self) -> bool {
+        self.kind == Kind::Sign && !self.text.iter().any(|byte| SIGNS.contains(byte))
+    }
+
+    /// Whether a name may have this elsewhere, and none of the grammar has: digits, or such a sign.
+    pub fn is_foreign_to_names(&self) -> bool {
+        self.kind == Kind::Digits || self.is_foreign_sign()
+    }
+
+    /// Whether this stands in a statement or a setup.
+    pub fn is_of_grammar(&self) -> bool {
+        match self.kind {
+            Kind::Word => Word::named(self.text).is_some(),
+            Kind::Digits => true,
+            Kind::Sign => !self.is_foreign_sign(),
+        }
     }
 }
 

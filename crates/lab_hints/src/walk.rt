@@ -31,10 +31,51 @@ pub enum Wrong {
 pub struct Stop<'a> {
     /// The token, or None at the end of the line.
     pub found: Option<Token<'a>>,
-    /// The token before it, if there is one.
+    /// The token before it, if there is one, and whether that is a table's name.
     pub before: Option<Token<'a>>,
+    pub is_behind_name: bool,
+    /// The code from the token on.
+    pub rest: &'a [u8],
     pub position: Position,
     pub wrong: Wrong,
+}
+
+impl Stop<'_> {
+    /// Whether a number is at fault that has a minus before it.
+    pub fn is_signed_number(&self) -> bool {
+        self.position.signed && self.wrong != Wrong::Unexpected
+    }
+
+    /// The column of what is at fault, or None at the end of the line. A number begins at its minus.
+    pub fn column(&self) -> Option<usize> {
+        let first = if self.is_signed_number() {
+            self.before
+        } else {
+            self.found
+        };
+        Some(first?.column)
+    }
+
+    /// Whether what was found is foreign to names and stands where one does, or right behind one.
+    pub fn is_in_name(&self) -> bool {
+        let Some(token) = self.found else {
+            return false;
+        };
+        if !token.is_foreign_to_names() {
+            return false;
+        }
+        match self.before {
+            Some(before) if self.is_behind_name => {
+                before.column.saturating_add(before.text.len()) == token.column
+            }
+            _ => self.position.items.first() == Some(&Item::Name),
+        }
+    }
+
+    /// Whether the line seems to be the rest of what the line before it begins.
+    pub fn goes_on(&self) -> bool {
+        self.before.is_none() && self.found.is_some_and(|token| token.is_of_grammar())
+    }
 }
 
 /// What is open in a predicate.
@@ -50,6 +91,8 @@ pub struct Walk {
     /// Where the line began, and how far it was read.
     front: Place,
     position: Position,
+    /// Whether a table's name was read last.
+    is_behind_name: bool,
     /// What is open in the predicate that is being read.
     opened: Vec<Opened>,
     /// The tables that were named, and the rows of the setup.
@@ -66,12 +109,18 @@ impl Walk {
         Walk {
             front: Place::Setup,
             position: Position::at(Place::Setup),
+            is_behind_name: false,
             opened: Vec::new(alloc),
             tables: Vec::new(alloc),
             rows: ByRow::new(alloc),
             table: TableName::test(),
             id: None,
         }
+    }
+
+    /// Where the line began that was read last.
+    pub fn front(&self) -> Place {
+        self.front
     }
 
     /// The tables that were named.
@@ -99,30 +148,36 @@ impl Walk {
         let tokens = tokens_of(alloc, code)?;
         self.front = place;
         self.position = Position::at(place);
+        self.is_behind_name = false;
         self.opened.clear();
         let mut before = None;
         for token in &tokens {
             if let Some(wrong) = self.step(token)? {
-                return Ok(Some(self.stop(before, Some(*token), wrong)));
+                return Ok(Some(self.stop(code, before, Some(*token), wrong)));
             }
             before = Some(*token);
         }
         if self.position.may_end() {
             Ok(None)
         } else {
-            Ok(Some(self.stop(before, None, Wrong::Unexpected)))
+            Ok(Some(self.stop(code, before, None, Wrong::Unexpected)))
         }
     }
 
     fn stop<'a>(
         &self,
+        code: &'a [u8],
         before: Option<Token<'a>>,
         found: Option<Token<'a>>,
         wrong: Wrong,
     ) -> Stop<'a> {
+        let column = found.map_or(code.len() + 1, |token| token.column);
+        let (_, rest) = code.split_at(column.saturating_sub(1).min(code.len()));
         Stop {
             found,
             before,
+            is_behind_name: self.is_behind_name,
+            rest,
             position: self.position,
             wrong,
         }
@@ -146,6 +201,7 @@ impl Walk {
             Item::Word | Item::Comparison => None,
         };
         if wrong.is_none() {
+            self.is_behind_name = step.item == Item::Name;
             self.go_on(step.behind);
         }
         Ok(wrong)
