@@ -47,7 +47,7 @@ fn answer(alloc: Global, input: &[u8]) -> Result<Answer, NoMemory>
 ///
 /// The input is read before the first write. `Unread` where it can't be read, `NoMemory` where an allocation was
 /// refused, and then nothing is written; `Unwritten` where a write fails. Behind the answer `notes` is given a hint where
-/// the input is refused, or no transaction begins in it; what fails there is let go.
+/// the input is refused, or a session of it begins no transaction; what fails there is let go.
 pub fn serial<R: Read, W: Write, N: Write>(
     alloc: Global,
     reader: &mut R,

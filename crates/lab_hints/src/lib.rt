@@ -1,7 +1,7 @@
 //! Hints: what may be said to people of an input that was refused.
 //!
-//! [`note_script`] shows the faulty line of a script, what was found where and what may stand there, or tells that no
-//! transaction begins in a script; [`note_file`] what was found at the place of a history file that is wrong, and what is
+//! [`note_script`] shows the faulty line of a script, what was found where and what may stand there, or tells which
+//! sessions begin no transaction; [`note_file`] what was found at the place of a history file that is wrong, and what is
 //! wanted there; [`note_play`] which limit a play came to. They are called once the answer is written, read the input again,
 //! and look themselves for the rest: in a script along a table of the grammar's forms, in a file in the value that it has.
 //!

@@ -3,7 +3,7 @@
 use crate::file::file_hint;
 use crate::play::play_hint;
 use crate::script::script_hint;
-use crate::silent::silent_script_hint;
+use crate::silent::{left_out_hint, silent_play_hint};
 use lab_history_file::read_history;
 use lab_script::parse_script;
 use lab_session::PlayFault;
@@ -19,30 +19,29 @@ fn put_hint<N: Write>(notes: &mut N, hint: Result<Vec<u8>, NoMemory>) {
     }
 }
 
-/// Whether a line of a text begins with the word that begins a transaction; so most scripts need no second look.
-fn may_begin(input: &[u8]) -> bool {
-    input
-        .split(|byte| *byte == b'\n')
-        .any(|line| line.trim_ascii_start().starts_with(b"begin"))
-}
-
-/// A hint on a script: on its fault, or that no transaction begins in it.
+/// A hint on the fault of a script.
 fn hint_of_script(alloc: Global, input: &[u8]) -> Result<Vec<u8>, NoMemory> {
     match parse_script(alloc, input) {
-        Ok(script) => silent_script_hint(alloc, &script),
+        Ok(script) => {
+            drop(script);
+            Ok(Vec::new(alloc))
+        }
         Err(fault) => script_hint(alloc, input, &fault),
     }
 }
 
-/// Writes what there is to say of a script beside the answer: on its fault where it was refused, or that no transaction
-/// begins in it.
+/// Writes what there is to say of a script beside its transcript: on its fault where it was refused, or that a session
+/// begins no transaction.
 pub fn note_script<N: Write>(alloc: Global, input: &[u8], is_refused: bool, notes: &mut N) {
-    if is_refused || !may_begin(input) {
+    if is_refused {
         put_hint(notes, hint_of_script(alloc, input));
+    } else {
+        put_hint(notes, left_out_hint(alloc, input));
     }
 }
 
-/// Writes what there is to say of a play beside the answer: on its fault if it has one, else on its script.
+/// Writes what there is to say of a play beside the answer: on its fault if it has one, else on the fault of its script, or
+/// that no transaction begins in it.
 pub fn note_play<N: Write>(
     alloc: Global,
     input: &[u8],
@@ -52,7 +51,8 @@ pub fn note_play<N: Write>(
 ) {
     match fault {
         Some(fault) => put_hint(notes, play_hint(alloc, &fault)),
-        None => note_script(alloc, input, is_refused, notes),
+        None if is_refused => put_hint(notes, hint_of_script(alloc, input)),
+        None => put_hint(notes, silent_play_hint(alloc, input)),
     }
 }
 
