@@ -1,23 +1,38 @@
 //! A subcommand with its input, and what is due.
 
 use crate::streams::{Sink, Source};
-use lab_commands::{judge, run, serial};
+use lab_case_commands::{case as case_script, matrix};
+use lab_commands::{batch, judge, run, run_free, serial};
 use lab_engine::Level;
-use lab_streams::{Ending, RunFault, status};
+use lab_explain::explain;
+use lab_matrix::CaseName;
+use lab_picture::{Phenomenon, picture};
+use lab_streams::{RunFault, status};
 use std::alloc::Global;
 use std::io::{Read, Write};
 use std::process::Abort;
+use std::rt::Files;
+use std::sync::Wait;
 use std::test::Fail;
+use std::thread::Threads;
 
 /// A subcommand and its options.
 #[derive(Clone, Copy, Debug)]
 pub enum Subcommand {
     Serial,
     Run { level: Level, history: bool },
+    RunFree { level: Level, history: bool },
     Judge,
+    Picture { asked: Option<Phenomenon> },
+    Explain { asked: Option<Phenomenon> },
+    Case { name: CaseName },
+    Matrix,
+    /// Of these files, which `Files` opens; it has no reader.
+    Batch { names: &'static [&'static str] },
 }
 
 /// A subcommand, its input, what it writes, and the exit status.
+#[derive(Clone, Copy)]
 pub struct Case {
     pub subcommand: Subcommand,
     pub input: &'static [u8],
@@ -25,34 +40,64 @@ pub struct Case {
     pub status: u8,
 }
 
-/// Runs a subcommand that waits for nobody.
-pub fn given<R: Read, W: Write>(
+/// Runs a subcommand, and answers the exit status of what it wrote.
+pub fn given<T: Files + Threads + Wait + Sync, R: Read, W: Write, N: Write>(
+    rt: &T,
     alloc: Global,
     subcommand: Subcommand,
     reader: &mut R,
     writer: &mut W,
-) -> Result<Ending, RunFault> {
-    let mut notes = Sink::new(alloc, 9_000, 0);
-    match subcommand {
-        Subcommand::Serial => serial(alloc, reader, writer, &mut notes),
-        Subcommand::Run { level, history } => {
-            run(alloc, reader, writer, &mut notes, level, history)
+    notes: &mut N,
+) -> Result<u8, RunFault> {
+    let ending = match subcommand {
+        Subcommand::Serial => serial(alloc, reader, writer, notes),
+        Subcommand::Run { level, history } => run(alloc, reader, writer, notes, level, history),
+        Subcommand::RunFree { level, history } => {
+            run_free(rt, alloc, reader, writer, notes, level, history)
         }
-        Subcommand::Judge => judge(alloc, reader, writer, &mut notes),
+        Subcommand::Judge => judge(alloc, reader, writer, notes),
+        Subcommand::Picture { asked } => picture(alloc, reader, writer, notes, asked),
+        Subcommand::Explain { asked } => explain(alloc, reader, writer, notes, asked),
+        Subcommand::Case { name } => case_script(alloc, name, writer),
+        Subcommand::Matrix => matrix(alloc, writer),
+        Subcommand::Batch { names } => return batch(rt, alloc, names, writer),
+    };
+    match ending {
+        Ok(ending) => Ok(status(Ok(ending))),
+        Err(fault) => Err(fault),
+    }
+}
+
+/// The exit status of a run.
+pub fn status_of(run: Result<u8, RunFault>) -> u8 {
+    match run {
+        Ok(ended) => ended,
+        Err(fault) => status(Err(fault)),
     }
 }
 
 /// Compares what is written of each input, and the exit status: at once, byte by byte, and where reads are interrupted,
-/// at first and between bytes.
-pub fn check(rt: &impl Abort, alloc: Global, cases: &[Case]) -> Result<(), Fail> {
+/// at first and between bytes. Where an input is refused, there is a hint.
+pub fn check(
+    rt: &(impl Abort + Files + Threads + Wait + Sync),
+    alloc: Global,
+    cases: &[Case],
+) -> Result<(), Fail> {
     for case in cases {
         for (step, interrupted, most) in [(9_000, 0, 9_000), (1, 0, 1), (5, 3, 2)] {
             let mut reader = Source::new(case.input, step, interrupted, 0);
             reader.interrupted_between = interrupted > 0;
             let mut writer = Sink::new(alloc, most, 0);
-            let run = given(alloc, case.subcommand, &mut reader, &mut writer);
+            let mut notes = Sink::new(alloc, 9_000, 0);
+            let subcommand = case.subcommand;
+            let run = given(rt, alloc, subcommand, &mut reader, &mut writer, &mut notes);
             assert_eq!(rt; writer.text.as_slice(), case.text, "of {:?}", case.input);
-            assert_eq!(rt; status(run), case.status, "of {:?}", case.input);
+            assert_eq!(rt; status_of(run), case.status, "of {:?}", case.input);
+            assert!(rt;
+                case.status != 2 || !notes.text.is_empty(),
+                "of {:?}",
+                case.input
+            );
         }
     }
     Ok(())

@@ -1,71 +1,160 @@
 //! Streams that fail or never end, and memory that is refused, for one case of each way that a subcommand ends.
 
-use crate::case::{Case, Subcommand, given};
-use crate::judge::{ABORTED_READ, CUT_FILE};
-use crate::run::{HISTORY, LEFT_OPEN};
+use crate::case::{Case, Subcommand, given, status_of};
+use crate::files::HeldFiles;
+use crate::judge::{ABORTED_READ, CUT, CUT_FILE};
+use crate::run::{FREE_HISTORY, FREE_LEFT_OPEN, FREE_NO_SESSION, HISTORY, LEFT_OPEN};
 use crate::serial::{NO_SESSION, TWO_SESSIONS};
-use crate::streams::{Endless, Sink, Source};
-use lab_streams::{RunFault, status};
+use crate::streams::{Endless, FAULTS, Sink, Source};
+use crate::words::{EXPLANATION, LISTING, MATRIX, NO_EXPLANATION, NO_PICTURE, PICTURE};
+use lab_streams::RunFault;
 use std::alloc::{AllocError, Global};
+use std::io::ErrorKind;
+use std::process::Abort;
+use std::sync::Wait;
+use std::sync::atomic::AtomicBool;
 use std::test::Fail;
+use std::thread::Threads;
 
-const CASES: [Case; 6] = [
+/// Cases that read.
+const READING: [Case; 13] = [
     TWO_SESSIONS,
     NO_SESSION,
     LEFT_OPEN,
     HISTORY,
+    FREE_LEFT_OPEN,
+    FREE_HISTORY,
+    FREE_NO_SESSION,
     ABORTED_READ,
     CUT_FILE,
+    PICTURE,
+    NO_PICTURE,
+    EXPLANATION,
+    NO_EXPLANATION,
 ];
 
 #[test]
 fn writes_nothing_after_a_failed_read(rt: HostRuntime) -> Result<(), Fail> {
-    for case in &CASES {
+    for case in &READING {
         let mut whole = Source::new(case.input, 10, 0, 0);
         let mut written = Sink::new(rt.alloc(), 9_000, 0);
-        let run = given(rt.alloc(), case.subcommand, &mut whole, &mut written);
-        assert_eq!(rt; status(run), case.status);
+        let mut notes = Sink::new(rt.alloc(), 9_000, 0);
+        let subcommand = case.subcommand;
+        let run = given(
+            &rt,
+            rt.alloc(),
+            subcommand,
+            &mut whole,
+            &mut written,
+            &mut notes,
+        );
+        assert_eq!(rt; status_of(run), case.status);
         assert!(rt; 1 < whole.calls && whole.calls < 1_000);
         for fails_at in 1..=whole.calls.min(1_000) {
-            let mut reader = Source::new(case.input, 10, 0, fails_at);
-            let mut writer = Sink::new(rt.alloc(), 9_000, 0);
-            let run = given(rt.alloc(), case.subcommand, &mut reader, &mut writer);
-            assert_eq!(rt; run, Err(RunFault::Unread), "at call {fails_at}");
-            assert_eq!(rt; status(run), 3);
-            assert!(rt;
-                writer.text.is_empty() && writer.calls == 0,
-                "at call {fails_at}"
-            );
+            for fault in FAULTS {
+                let mut reader = Source::new(case.input, 10, 0, fails_at);
+                reader.fault = fault;
+                let mut writer = Sink::new(rt.alloc(), 9_000, 0);
+                let mut notes = Sink::new(rt.alloc(), 9_000, 0);
+                let run = given(
+                    &rt,
+                    rt.alloc(),
+                    subcommand,
+                    &mut reader,
+                    &mut writer,
+                    &mut notes,
+                );
+                assert_eq!(rt; run, Err(RunFault::Unread), "{fault:?} at call {fails_at}");
+                assert_eq!(rt; status_of(run), 3);
+                assert!(rt;
+                    writer.calls == 0 && notes.calls == 0,
+                    "{fault:?} at call {fails_at}"
+                );
+            }
         }
     }
     Ok(())
 }
 
+/// Of a file that stands in memory.
+const BATCH: Case = Case {
+    subcommand: Subcommand::Batch { names: &["whole"] },
+    input: CUT,
+    text: b"== whole\nfile: NotJson\n",
+    status: 2,
+};
+
+/// Cases that write: all.
+const WRITING: [Case; 16] = [
+    TWO_SESSIONS,
+    NO_SESSION,
+    LEFT_OPEN,
+    HISTORY,
+    FREE_LEFT_OPEN,
+    FREE_HISTORY,
+    FREE_NO_SESSION,
+    ABORTED_READ,
+    CUT_FILE,
+    PICTURE,
+    NO_PICTURE,
+    EXPLANATION,
+    NO_EXPLANATION,
+    LISTING,
+    MATRIX,
+    BATCH,
+];
+
+/// Runs a case whose writes are cut to ten bytes, one of which fails, or each flush alone. There is no hint then.
+fn cut<T: Threads + Wait + Sync + Abort>(
+    rt: &T,
+    alloc: Global,
+    case: &Case,
+    writer: &mut Sink,
+) -> Result<u8, RunFault> {
+    let is_written = AtomicBool::new(false);
+    let files = HeldFiles {
+        rt,
+        bytes: case.input,
+        fails_at: 0,
+        fault: ErrorKind::Other,
+        is_written: &is_written,
+    };
+    let mut reader = Source::new(case.input, 9_000, 0, 0);
+    let mut notes = Sink::new(alloc, 9_000, 0);
+    let run = given(
+        &files,
+        alloc,
+        case.subcommand,
+        &mut reader,
+        writer,
+        &mut notes,
+    );
+    assert!(rt; run.is_ok() || notes.calls == 0);
+    run
+}
+
 #[test]
 fn tells_a_failed_write(rt: HostRuntime) -> Result<(), Fail> {
-    for case in &CASES {
-        let mut reader = Source::new(case.input, 9_000, 0, 0);
+    for case in &WRITING {
         let mut whole = Sink::new(rt.alloc(), 10, 0);
-        let run = given(rt.alloc(), case.subcommand, &mut reader, &mut whole);
-        assert_eq!(rt; status(run), case.status);
+        let run = cut(&rt, rt.alloc(), case, &mut whole);
+        assert_eq!(rt; status_of(run), case.status);
         assert!(rt; 1 < whole.calls && whole.calls < 1_000);
         for fails_at in 1..=whole.calls.min(1_000) {
-            let mut reader = Source::new(case.input, 9_000, 0, 0);
             let mut writer = Sink::new(rt.alloc(), 10, fails_at);
-            let run = given(rt.alloc(), case.subcommand, &mut reader, &mut writer);
+            let run = cut(&rt, rt.alloc(), case, &mut writer);
             assert_eq!(rt; run, Err(RunFault::Unwritten), "at call {fails_at}");
-            assert_eq!(rt; status(run), 3);
+            assert_eq!(rt; status_of(run), 3);
             assert!(rt;
                 case.text.starts_with(writer.text.as_slice()),
                 "at call {fails_at}"
             );
         }
-        let mut reader = Source::new(case.input, 9_000, 0, 0);
         let mut writer = Sink::new(rt.alloc(), 9_000, 0);
         writer.flush_fails = true;
-        let run = given(rt.alloc(), case.subcommand, &mut reader, &mut writer);
+        let run = cut(&rt, rt.alloc(), case, &mut writer);
         assert_eq!(rt; run, Err(RunFault::Unwritten));
-        assert_eq!(rt; status(run), 3);
+        assert_eq!(rt; status_of(run), 3);
         assert_eq!(rt; writer.text.as_slice(), case.text);
     }
     Ok(())
@@ -80,21 +169,33 @@ const ENDLESS: [(Subcommand, &'static [u8]); 2] = [
 #[test]
 fn reads_within_its_bounds(rt: HostRuntime) -> Result<(), Fail> {
     for (subcommand, text) in &ENDLESS {
+        let mut reader = Endless { byte: b' ' };
         let mut writer = Sink::new(rt.alloc(), 9_000, 0);
+        let mut notes = Sink::new(rt.alloc(), 9_000, 0);
         let run = given(
+            &rt,
             rt.alloc(),
             *subcommand,
-            &mut Endless { byte: b' ' },
+            &mut reader,
             &mut writer,
+            &mut notes,
         );
-        assert_eq!(rt; status(run), 2);
+        assert_eq!(rt; status_of(run), 2);
         assert_eq!(rt; writer.text.as_slice(), *text);
     }
     for (interrupted, wanted) in [(19_999_998, 0), (19_999_999, 3)] {
         let mut reader = Source::new(b"setup ();", 9_000, interrupted, 0);
         let mut writer = Sink::new(rt.alloc(), 9_000, 0);
-        let run = given(rt.alloc(), Subcommand::Serial, &mut reader, &mut writer);
-        assert_eq!(rt; status(run), wanted, "after {interrupted} calls");
+        let mut notes = Sink::new(rt.alloc(), 9_000, 0);
+        let run = given(
+            &rt,
+            rt.alloc(),
+            Subcommand::Serial,
+            &mut reader,
+            &mut writer,
+            &mut notes,
+        );
+        assert_eq!(rt; status_of(run), wanted, "after {interrupted} calls");
         assert_eq!(rt; reader.calls, 20_000_000);
     }
     Ok(())
@@ -116,19 +217,38 @@ fn was_refused(alloc: Global) -> bool {
     block.is_err()
 }
 
+/// Cases that are played by no thread, where a refused allocation may be one of the system's.
+const ALONE: [Case; 6] = [
+    TWO_SESSIONS,
+    NO_SESSION,
+    LEFT_OPEN,
+    HISTORY,
+    ABORTED_READ,
+    CUT_FILE,
+];
+
 #[test]
 fn writes_nothing_where_memory_is_refused(rt: HostRuntime) -> Result<(), Fail> {
-    for case in &CASES {
+    for case in &ALONE {
         let mut succeeded = false;
         for growth in 1..5_000u16 {
             let mut reader = Source::new(case.input, 10, 0, 0);
             let mut writer = Sink::new(rt.alloc(), 9_000, 0);
+            let mut notes = Sink::new(rt.alloc(), 9_000, 0);
+            let subcommand = case.subcommand;
             refuse(rt.alloc(), growth);
-            let run = given(rt.alloc(), case.subcommand, &mut reader, &mut writer);
+            let run = given(
+                &rt,
+                rt.alloc(),
+                subcommand,
+                &mut reader,
+                &mut writer,
+                &mut notes,
+            );
             let refused = was_refused(rt.alloc());
             refuse(rt.alloc(), 0);
             if !refused {
-                assert_eq!(rt; status(run), case.status);
+                assert_eq!(rt; status_of(run), case.status);
                 assert_eq!(rt; writer.text.as_slice(), case.text);
                 succeeded = true;
                 break;
@@ -141,7 +261,7 @@ fn writes_nothing_where_memory_is_refused(rt: HostRuntime) -> Result<(), Fail> {
             } else {
                 3
             };
-            assert_eq!(rt; status(run), wanted, "at growth {growth}");
+            assert_eq!(rt; status_of(run), wanted, "at growth {growth}");
         }
         assert!(rt; succeeded, "of {:?}", case.input);
     }

@@ -17,9 +17,13 @@ const WRITE_CYCLE: Case = Case {
     status: 0,
 };
 
+/// A read of what its transaction then overwrote.
+pub const INTERMEDIATE: &[u8] =
+    br#"{"end":[[1,11],[2,20]],"format":"hermitage-history","initial":[[1,10],[2,20]],"installed":[[1,[1]]],"transactions":[{"no":1,"ops":[{"rows":[[1,10]],"statement":"update test set value = 101 where id = 1","view":[],"writes":[[1,101]]},{"rows":[[1,101]],"statement":"update test set value = 11 where id = 1","view":[[1,1,1]],"writes":[[1,11]]}],"outcome":"committed"},{"no":2,"ops":[{"rows":[[1,101],[2,20]],"statement":"select * from test","view":[[1,1,1]],"writes":[]}],"outcome":"committed"}],"version":1}"#;
+
 const INTERMEDIATE_READ: Case = Case {
     subcommand: Subcommand::Judge,
-    input: br#"{"end":[[1,11],[2,20]],"format":"hermitage-history","initial":[[1,10],[2,20]],"installed":[[1,[1]]],"transactions":[{"no":1,"ops":[{"rows":[[1,10]],"statement":"update test set value = 101 where id = 1","view":[],"writes":[[1,101]]},{"rows":[[1,101]],"statement":"update test set value = 11 where id = 1","view":[[1,1,1]],"writes":[[1,11]]}],"outcome":"committed"},{"no":2,"ops":[{"rows":[[1,101],[2,20]],"statement":"select * from test","view":[[1,1,1]],"writes":[]}],"outcome":"committed"}],"version":1}"#,
+    input: INTERMEDIATE,
     text: b"serializable: no F3 IntermediateRead T2 op 1 row 1\nsnapshot: no F3 IntermediateRead T2 op 1 row 1\nG0: absent\nG1a: absent\nG1b: present T2 op 1 row 1\nG1c: not judged\nG-single: not judged\nG2-item: not judged\nG2: not judged\nlevel: PL-1\n",
     status: 0,
 };
@@ -60,9 +64,13 @@ const ROW_BORN_AGAIN: Case = Case {
     status: 0,
 };
 
+/// A history without transactions.
+pub const EMPTY: &[u8] =
+    br#"{"end":[[1,10],[2,20]],"format":"hermitage-history","initial":[[1,10],[2,20]],"installed":[],"transactions":[],"version":1}"#;
+
 const NO_TRANSACTIONS: Case = Case {
     subcommand: Subcommand::Judge,
-    input: br#"{"end":[[1,10],[2,20]],"format":"hermitage-history","initial":[[1,10],[2,20]],"installed":[],"transactions":[],"version":1}"#,
+    input: EMPTY,
     text: b"serializable: yes\nsnapshot: yes\nG0: absent\nG1a: absent\nG1b: absent\nG1c: absent\nG-single: absent\nG2-item: absent\nG2: absent\nlevel: PL-3\n",
     status: 0,
 };
@@ -74,10 +82,17 @@ const ANOTHER_END: Case = Case {
     status: 0,
 };
 
+/// A file without its last bracket.
+pub const CUT: &[u8] =
+    br#"{"end":[[1,11]],"format":"hermitage-history","initial":[[1,10]],"installed":[[1,[1]]],"transactions":[{"no":1,"ops":[{"rows":[[1,10]],"statement":"update test set value = value + 1 where id = 1","view":[],"writes":[[1,11]]}],"outcome":"committed"}],"version":1"#;
+
+/// The line of its fault.
+pub const CUT_FAULT: &[u8] = b"file: NotJson\n";
+
 pub const CUT_FILE: Case = Case {
     subcommand: Subcommand::Judge,
-    input: br#"{"end":[[1,11]],"format":"hermitage-history","initial":[[1,10]],"installed":[[1,[1]]],"transactions":[{"no":1,"ops":[{"rows":[[1,10]],"statement":"update test set value = value + 1 where id = 1","view":[],"writes":[[1,11]]}],"outcome":"committed"}],"version":1"#,
-    text: b"file: NotJson\n",
+    input: CUT,
+    text: CUT_FAULT,
     status: 2,
 };
 

@@ -5,9 +5,13 @@
 #![tactic(auto)]
 
 #[cfg(test)]
+mod batch;
+#[cfg(test)]
 mod case;
 #[cfg(test)]
 mod failing;
+#[cfg(test)]
+mod files;
 #[cfg(test)]
 mod judge;
 #[cfg(test)]
@@ -18,3 +22,5 @@ mod serial;
 mod streams;
 #[cfg(test)]
 mod transcript;
+#[cfg(test)]
+mod words;

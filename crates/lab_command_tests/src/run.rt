@@ -1,11 +1,16 @@
-//! What `run` writes.
+//! What `run` writes, also by threads.
 
 use crate::case::{Case, Subcommand, check};
-use crate::streams::{Sink, Source};
-use lab_commands::run_free;
 use lab_engine::Level;
-use lab_streams::status;
 use std::test::Fail;
+
+/// A transaction that adds 1.
+pub const INCREMENTED: &[u8] =
+    b"setup (1, 10);\nbegin; -- T1\nupdate test set value = value + 1 where id = 1; -- T1\ncommit; -- T1\n";
+
+/// Its history file.
+pub const INCREMENTED_FILE: &[u8] =
+    b"{\"end\":[[\"test\",1,11]],\"format\":\"hermitage-history\",\"initial\":[[\"test\",1,10]],\"installed\":[[\"test\",1,[1]]],\"transactions\":[{\"no\":1,\"ops\":[{\"rows\":[[\"test\",1,10]],\"statement\":\"update test set value = value + 1 where id = 1\",\"view\":[],\"writes\":[[\"test\",1,11]]}],\"outcome\":\"committed\"}],\"version\":2}\n";
 
 /// The history file of a play.
 pub const HISTORY: Case = Case {
@@ -13,10 +18,18 @@ pub const HISTORY: Case = Case {
         level: Level::Snapshot,
         history: true,
     },
-    input: b"setup (1, 10);\nbegin; -- T1\nupdate test set value = value + 1 where id = 1; -- T1\ncommit; -- T1\n",
-    text: b"{\"end\":[[\"test\",1,11]],\"format\":\"hermitage-history\",\"initial\":[[\"test\",1,10]],\"installed\":[[\"test\",1,[1]]],\"transactions\":[{\"no\":1,\"ops\":[{\"rows\":[[\"test\",1,10]],\"statement\":\"update test set value = value + 1 where id = 1\",\"view\":[],\"writes\":[[\"test\",1,11]]}],\"outcome\":\"committed\"}],\"version\":2}\n",
+    input: INCREMENTED,
+    text: INCREMENTED_FILE,
     status: 0,
 };
+
+/// A transaction that the script leaves open.
+pub const OPEN: &[u8] =
+    b"setup (1, 10);\nbegin; -- T1\nupdate test set value = value + 1 where id = 1; -- T1\n";
+
+/// Its log, and the report of it.
+pub const OPEN_LOG: &[u8] =
+    b"T1 begin: begun 1\nT1 update test set value = value + 1 where id = 1: rows (1, 10)\nT1 abort: aborted\nserializable: yes\nsnapshot: yes\nG0: absent\nG1a: absent\nG1b: absent\nG1c: absent\nG-single: absent\nG2-item: absent\nG2: absent\nlevel: PL-3\n";
 
 /// A transaction that the script leaves open, so that the play aborts it.
 pub const LEFT_OPEN: Case = Case {
@@ -24,18 +37,24 @@ pub const LEFT_OPEN: Case = Case {
         level: Level::Snapshot,
         history: false,
     },
-    input: b"setup (1, 10);\nbegin; -- T1\nupdate test set value = value + 1 where id = 1; -- T1\n",
-    text: b"T1 begin: begun 1\nT1 update test set value = value + 1 where id = 1: rows (1, 10)\nT1 abort: aborted\nserializable: yes\nsnapshot: yes\nG0: absent\nG1a: absent\nG1b: absent\nG1c: absent\nG-single: absent\nG2-item: absent\nG2: absent\nlevel: PL-3\n",
+    input: OPEN,
+    text: OPEN_LOG,
     status: 0,
 };
+
+/// A command of no session.
+pub const WITHOUT_SESSION: &[u8] = b"setup (1, 10);\n-- a remark\nbegin;\n";
+
+/// The line of its fault.
+pub const WITHOUT_SESSION_FAULT: &[u8] = b"line 3: NoSession\n";
 
 const NO_SESSION: Case = Case {
     subcommand: Subcommand::Run {
         level: Level::Locking,
         history: true,
     },
-    input: b"setup (1, 10);\n-- a remark\nbegin;\n",
-    text: b"line 3: NoSession\n",
+    input: WITHOUT_SESSION,
+    text: WITHOUT_SESSION_FAULT,
     status: 2,
 };
 
@@ -50,36 +69,48 @@ const TWO_TABLES: Case = Case {
     status: 0,
 };
 
-/// Of one session each, so that a play by threads writes the same.
-const CASES: [Case; 3] = [HISTORY, LEFT_OPEN, NO_SESSION];
+/// The same by threads. The scripts are of one session each, so that what is written depends on no schedule.
+pub const FREE_HISTORY: Case = Case {
+    subcommand: Subcommand::RunFree {
+        level: Level::Snapshot,
+        history: true,
+    },
+    input: INCREMENTED,
+    text: INCREMENTED_FILE,
+    status: 0,
+};
+
+pub const FREE_LEFT_OPEN: Case = Case {
+    subcommand: Subcommand::RunFree {
+        level: Level::Snapshot,
+        history: false,
+    },
+    input: OPEN,
+    text: OPEN_LOG,
+    status: 0,
+};
+
+pub const FREE_NO_SESSION: Case = Case {
+    subcommand: Subcommand::RunFree {
+        level: Level::Locking,
+        history: true,
+    },
+    input: WITHOUT_SESSION,
+    text: WITHOUT_SESSION_FAULT,
+    status: 2,
+};
+
+const CASES: [Case; 7] = [
+    HISTORY,
+    LEFT_OPEN,
+    NO_SESSION,
+    TWO_TABLES,
+    FREE_HISTORY,
+    FREE_LEFT_OPEN,
+    FREE_NO_SESSION,
+];
 
 #[test]
 fn run_writes_what_is_due(rt: HostRuntime) -> Result<(), Fail> {
-    check(&rt, rt.alloc(), &CASES)?;
-    check(&rt, rt.alloc(), &[TWO_TABLES])
-}
-
-#[test]
-fn run_free_writes_what_is_due(rt: HostRuntime) -> Result<(), Fail> {
-    for case in &CASES {
-        let Subcommand::Run { level, history } = case.subcommand else {
-            return Err(Fail::from("a case of another subcommand"));
-        };
-        let mut reader = Source::new(case.input, 5, 3, 0);
-        reader.interrupted_between = true;
-        let mut writer = Sink::new(rt.alloc(), 2, 0);
-        let mut notes = Sink::new(rt.alloc(), 9_000, 0);
-        let run = run_free(
-            &rt,
-            rt.alloc(),
-            &mut reader,
-            &mut writer,
-            &mut notes,
-            level,
-            history,
-        );
-        assert_eq!(rt; writer.text.as_slice(), case.text, "of {:?}", case.input);
-        assert_eq!(rt; status(run), case.status, "of {:?}", case.input);
-    }
-    Ok(())
+    check(&rt, rt.alloc(), &CASES)
 }

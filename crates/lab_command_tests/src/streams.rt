@@ -3,8 +3,11 @@
 use std::alloc::Global;
 use std::io::{Error, ErrorKind, Read, Result as IoResult, Write};
 
+/// What a read that fails may tell. None of it asks for another call, as an interruption does.
+pub const FAULTS: [ErrorKind; 3] = [ErrorKind::Other, ErrorKind::WouldBlock, ErrorKind::TimedOut];
+
 /// A reader of some bytes: so many at a call, after some calls that are interrupted; each second call may be interrupted
-/// too, also between the bytes; one call fails.
+/// too, also between the bytes; one call fails, and those behind it go on.
 #[derive(Drop)]
 pub struct Source<'a> {
     rest: &'a [u8],
@@ -12,6 +15,7 @@ pub struct Source<'a> {
     interrupted: u32,
     fails_at: u32,
     pub interrupted_between: bool,
+    pub fault: ErrorKind,
     pub calls: u32,
 }
 
@@ -23,6 +27,7 @@ impl<'a> Source<'a> {
             interrupted,
             fails_at,
             interrupted_between: false,
+            fault: ErrorKind::Other,
             calls: 0,
         }
     }
@@ -40,7 +45,7 @@ impl<'a> Read for Source<'a> {
             return Err(Error::from(ErrorKind::Interrupted));
         }
         if self.calls == self.fails_at {
-            return Err(Error::from(ErrorKind::Other));
+            return Err(Error::from(self.fault));
         }
         let count = self.step.min(self.rest.len()).min(buf.len());
         let (front, rest) = self.rest.split_at(count);

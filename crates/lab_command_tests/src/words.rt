@@ -1,0 +1,87 @@
+//! What `picture`, `explain`, `case` and `matrix` write, and `batch` of one file.
+
+use crate::case::{Case, Subcommand, check};
+use crate::judge::{CUT, CUT_FAULT, EMPTY, INTERMEDIATE};
+use lab_matrix::CaseName;
+use lab_picture::Phenomenon;
+use std::test::Fail;
+
+/// Of a history without transactions there is nothing but the heading.
+pub const PICTURE: Case = Case {
+    subcommand: Subcommand::Picture { asked: None },
+    input: EMPTY,
+    text: br#"<svg xmlns="http://www.w3.org/2000/svg" role="img" width="556" height="76" viewBox="0 0 556 76" font-family="monospace" font-size="11">
+<title>Serializable: no committed transaction</title>
+<desc>serializable: yes
+</desc>
+<defs><marker id="head" viewBox="0 0 8 8" refX="8" refY="4" markerWidth="9" markerHeight="9" markerUnits="userSpaceOnUse" orient="auto"><path d="M0 0L8 4L0 8z"/></marker></defs>
+<rect width="556" height="76" fill="white"/>
+<text font-size="14" font-weight="bold" x="26" y="30">Serializable: no committed transaction</text>
+<text x="26" y="48">serializable: yes
+</text>
+</svg>
+"#,
+    status: 0,
+};
+
+pub const NO_PICTURE: Case = Case {
+    subcommand: Subcommand::Picture { asked: None },
+    input: CUT,
+    text: CUT_FAULT,
+    status: 2,
+};
+
+pub const EXPLANATION: Case = Case {
+    subcommand: Subcommand::Explain {
+        asked: Some(Phenomenon::G1b),
+    },
+    input: INTERMEDIATE,
+    text: b"G1b (intermediate read): present: statement 1 of T2 (select * from test) saw row 1 as 101 (the\n    version of statement 1 of T1), not the last one of its transaction.\nWhat each line says, and what a no doesn't: docs/REPORT.md.\n",
+    status: 0,
+};
+
+pub const NO_EXPLANATION: Case = Case {
+    subcommand: Subcommand::Explain { asked: None },
+    input: CUT,
+    text: CUT_FAULT,
+    status: 2,
+};
+
+pub const LISTING: Case = Case {
+    subcommand: Subcommand::Case { name: CaseName::P4 },
+    input: b"",
+    text: b"setup (1, 10), (2, 20);\nbegin; -- T1\nbegin; -- T2\nselect * from test where id = 1; -- T1\nselect * from test where id = 1; -- T2\nupdate test set value = 11 where id = 1; -- T1\nupdate test set value = 11 where id = 1; -- T2\ncommit; -- T1\ncommit; -- T2\n",
+    status: 0,
+};
+
+pub const MATRIX: Case = Case {
+    subcommand: Subcommand::Matrix,
+    input: b"",
+    text: b"case      locking     committed   snapshot\nG0        PL-3 SI     PL-3 SI     PL-3 SI\nG1a       PL-3 SI     PL-3 SI     PL-3 SI\nG1b       PL-3 SI     PL-2        PL-3 SI\nG1c       PL-3 SI     PL-2 SI     PL-2 SI\nOTV       PL-3 SI     PL-2        PL-3 SI\nPMP       PL-3 SI     PL-2.99     PL-3 SI\nP4        PL-3 SI     PL-2        PL-3 SI\nG-single  PL-3 SI     PL-2        PL-3 SI\nG2-item   PL-3 SI     PL-2 SI     PL-2 SI\nG2        PL-3 SI     PL-2.99 SI  PL-2.99 SI\npromised  PL-3        PL-2        SI\n",
+    status: 0,
+};
+
+/// Of a file that isn't there.
+pub const UNREADABLE: Case = Case {
+    subcommand: Subcommand::Batch {
+        names: &["no/such file"],
+    },
+    input: b"",
+    text: b"== no/such file\nfile: unreadable\n",
+    status: 3,
+};
+
+const CASES: [Case; 7] = [
+    PICTURE,
+    NO_PICTURE,
+    EXPLANATION,
+    NO_EXPLANATION,
+    LISTING,
+    MATRIX,
+    UNREADABLE,
+];
+
+#[test]
+fn the_other_words_write_what_is_due(rt: HostRuntime) -> Result<(), Fail> {
+    check(&rt, rt.alloc(), &CASES)
+}
