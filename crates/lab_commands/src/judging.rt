@@ -1,10 +1,11 @@
 //! The subcommand `judge`: what there is to say of a history file.
 
-ghost use Rattle.std.specs.Prelude.{◌≡◌, ◌≢◌, ◌⊎◌, List, ℕ, IfOk, IfErr, IfSome};
+ghost use Rattle.std.specs.Prelude.{◌≡◌, ◌≢◌, ◌⊎◌, List, ℕ, IfOk, IfErr, IfSome, OnErr};
 ghost use Rattle.std.specs.Io.KnownBytes.{Appends, Keeps};
 ghost use Rattle.lab_history.specs.History.{History as Held};
 ghost use Rattle.lab_judge.specs.Judgement.{IsExactJudgement};
 ghost use Rattle.lab_streams.specs.HistoryFile.{HoldsHistory, IsFileFault};
+ghost use Rattle.lab_streams.specs.Input.{ReadsFirst};
 ghost use Rattle.lab_commands.specs.Judging.{IsJudgeAnswer};
 
 use lab_hints::note_file;
@@ -55,7 +56,9 @@ pub fn judge<R: Read, W: Write, N: Write>(
 ) -> Result<Ending, RunFault>
     ensures written { IfOk result (λ ending. IfSome (R.remaining reader.old) (λ input.
         (text : List ℕ) × Appends (W.contents writer.old) (W.contents writer.new) text × IsJudgeAnswer input text ending)) }
+    ensures read_first { ReadsFirst result (R.remaining reader.old) (R.remaining reader.new) }
     ensures silent { IfErr result (λ fault. (fault ≡ RunFault.Unwritten) ⊎ Keeps (W.contents writer.old) (W.contents writer.new)) }
+    ensures hint_last { OnErr result (Keeps (N.contents notes.old) (N.contents notes.new)) }
 {
     let input = read_input(alloc, reader)?;
     let answer = answer(alloc, input.as_slice())?;

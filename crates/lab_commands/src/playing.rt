@@ -1,7 +1,8 @@
 //! The subcommand `run`: a script played on an engine, and what its recording is judged to be.
 
-ghost use Rattle.std.specs.Prelude.{◌≡◌, ◌⊎◌, List, ℕ, IfOk, IfErr, IfSome};
+ghost use Rattle.std.specs.Prelude.{◌≡◌, ◌⊎◌, List, ℕ, IfOk, IfErr, IfSome, OnErr};
 ghost use Rattle.std.specs.Io.KnownBytes.{Appends, Keeps};
+ghost use Rattle.lab_streams.specs.Input.{ReadsFirst};
 ghost use Rattle.lab_script.specs.Limits.{ScriptPrints};
 ghost use Rattle.lab_commands.specs.Playing.{IsScriptedPlay, IsScriptedRefusal, IsRunAnswer, IsRecordingAnswer};
 
@@ -107,7 +108,9 @@ pub fn run<R: Read, W: Write, N: Write>(
     ensures written { IfOk result (λ ending. IfSome (R.remaining reader.old) (λ input.
         (text : List ℕ) × Appends (W.contents writer.old) (W.contents writer.new) text
         × IsRunAnswer (IsScriptedPlay level) (IsScriptedRefusal level) history input text ending)) }
+    ensures read_first { ReadsFirst result (R.remaining reader.old) (R.remaining reader.new) }
     ensures silent { IfErr result (λ fault. (fault ≡ RunFault.Unwritten) ⊎ Keeps (W.contents writer.old) (W.contents writer.new)) }
+    ensures hint_last { OnErr result (Keeps (N.contents notes.old) (N.contents notes.new)) }
 {
     first_bytes_tell_a_script();
     let input = read_input(alloc, reader)?;

@@ -1,7 +1,8 @@
 //! The subcommand `run --free`: a script played by one thread for each session.
 
-ghost use Rattle.std.specs.Prelude.{◌≡◌, ◌⊎◌, List, ℕ, IfOk, IfErr, IfSome};
+ghost use Rattle.std.specs.Prelude.{◌≡◌, ◌⊎◌, List, ℕ, IfOk, IfErr, IfSome, OnErr};
 ghost use Rattle.std.specs.Io.KnownBytes.{Appends, Keeps};
+ghost use Rattle.lab_streams.specs.Input.{ReadsFirst};
 ghost use Rattle.lab_engine.specs.RecordedLog.{RecordedLog};
 ghost use Rattle.lab_commands.specs.Playing.{IsFreePlay, IsFreeRefusal, IsUntold, IsRunAnswer, IsRecordingAnswer};
 
@@ -143,7 +144,9 @@ pub fn run_free<T: Threads + Wait + Sync, R: Read, W: Write, N: Write>(
     ensures written { IfOk result (λ ending. IfSome (R.remaining reader.old) (λ input.
         (text : List ℕ) × Appends (W.contents writer.old) (W.contents writer.new) text
         × IsRunAnswer (IsFreePlay level) (IsFreeRefusal level) history input text ending)) }
+    ensures read_first { ReadsFirst result (R.remaining reader.old) (R.remaining reader.new) }
     ensures silent { IfErr result (λ fault. (fault ≡ RunFault.Unwritten) ⊎ Keeps (W.contents writer.old) (W.contents writer.new)) }
+    ensures hint_last { OnErr result (Keeps (N.contents notes.old) (N.contents notes.new)) }
 {
     first_bytes_tell_a_script();
     let input = read_input(alloc, reader)?;

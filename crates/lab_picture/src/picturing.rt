@@ -1,8 +1,9 @@
 //! The subcommand `picture`: from the bytes of a history file to its picture.
 
-ghost use Rattle.std.specs.Prelude.{◌≡◌, ◌≢◌, ◌⊎◌, List, ℕ, IfOk, IfErr, IfSome};
+ghost use Rattle.std.specs.Prelude.{◌≡◌, ◌≢◌, ◌⊎◌, List, ℕ, IfOk, IfErr, IfSome, OnErr};
 ghost use Rattle.std.specs.Io.KnownBytes.{Appends, Keeps};
 ghost use Rattle.lab_streams.specs.HistoryFile.{HoldsHistory, IsFileFault};
+ghost use Rattle.lab_streams.specs.Input.{ReadsFirst};
 ghost use Rattle.lab_picture.specs.Picture.{IsPictureOf, IsPictureAnswer};
 
 use crate::asked::Phenomenon;
@@ -76,7 +77,9 @@ pub fn picture<R: Read, W: Write, N: Write>(
 ) -> Result<Ending, RunFault>
     ensures written { IfOk result (λ ending. IfSome (R.remaining reader.old) (λ input.
         (text : List ℕ) × Appends (W.contents writer.old) (W.contents writer.new) text × IsPictureAnswer input asked text ending)) }
+    ensures read_first { ReadsFirst result (R.remaining reader.old) (R.remaining reader.new) }
     ensures silent { IfErr result (λ fault. (fault ≡ RunFault.Unwritten) ⊎ Keeps (W.contents writer.old) (W.contents writer.new)) }
+    ensures hint_last { OnErr result (Keeps (N.contents notes.old) (N.contents notes.new)) }
 {
     let input = read_input(alloc, reader)?;
     let answer = answer(alloc, input.as_slice(), asked)?;

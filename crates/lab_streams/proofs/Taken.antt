@@ -1,5 +1,5 @@
 -- What reading takes from a reader.
-use Rattle.std.proofs.Common.{◌≡◌, ◌⊎◌, inl, inr, ℕ, ◌≤◌, List, [], ◌++◌, length, Option, None, Some, IfSome, ap, sym, refl, ◌∙◌, take_all, append-nil, append_assoc, take}
+use Rattle.std.proofs.Common.{◌≡◌, ◌⊎◌, inl, inr, ℕ, ◌≤◌, List, [], ◌++◌, length, Option, None, Some, IfSome, ap, sym, subst, refl, ◌∙◌, take_all, append-nil, append_assoc, take}
 use Rattle.std.proofs.lemmas.List.{take_at}
 use Rattle.std.specs.Io.KnownBytes.{Consumes, Keeps, IsAtEnd}
 use Rattle.std.proofs.KnownBytes.{Consumes-nil, Consumes-trans, Consumes-kept}
@@ -44,6 +44,12 @@ module _ (most : ℕ) where
       → IsAtEnd b ⊎ (length bytes ≡ most) → IfSome a (λ input. bytes ≡ take most input)
   read_whole a b bytes few took (inl end) = rw took.grown (taken_at_end a b took.part (rw took.grown at few) took.taken end)
   read_whole a b bytes few took (inr full) = rw took.grown (taken_at_limit a b took.part (rw took.grown at full) took.taken)
+
+  -- and that was taken from the reader
+  pub read_out : (a b : Option (List ℕ)) (bytes : List ℕ) → Takes a b [] bytes → IfSome a (λ input. bytes ≡ take most input)
+      → IfSome a (λ input. Consumes a b (take most input))
+  read_out None b bytes took is = tt
+  read_out (Some input) b bytes took is = subst (Consumes (Some input) b) (sym took.grown ∙ is) took.taken
 
 -- what is said of an input, where a text was written of what was read of it
 pub said_of_input : (remaining : Option (List ℕ)) (bytes text : List ℕ) (Puts : List ℕ → Type 0) (Says : List ℕ → List ℕ → Type 0) → IfSome remaining (λ input. bytes ≡ read_of input)

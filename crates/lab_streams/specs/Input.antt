@@ -1,7 +1,9 @@
 -- What is read of an input.
-use Rattle.std.specs.Prelude.{◌≡◌, ℕ, ◌+◌, List, ◌++◌, take, Option}
+use Rattle.std.specs.Prelude.{◌≡◌, ◌≢◌, ◌⊎◌, ℕ, ◌+◌, List, ◌++◌, take, Option, IfSome, Result, MatchResult}
 use Rattle.std.specs.Io.KnownBytes.{Consumes}
 use Rattle.lab_history.specs.Limits.{max_file_bytes}
+use Rattle.lab_streams.specs.declared.ending.RunFault.{RunFault}
+use Rattle.lab_streams.specs.declared.ending.RunFault.TheVariants.{Unwritten}
 
 -- the most bytes that are read: one more than a history file may have, so that a longer one shows
 abbrev pub max_input_bytes : ℕ
@@ -16,3 +18,11 @@ pub record Takes (left rest : Option (List ℕ)) (old new : List ℕ) : Type 0 w
   pub part : List ℕ
   pub grown : new ≡ old ++ part
   pub taken : Consumes left rest part
+
+-- all that is read of an input was taken from its reader, which had `left` and has `rest`
+abbrev pub IsReadOut : Option (List ℕ) → Option (List ℕ) → Type 0
+IsReadOut left rest = IfSome left (λ input. Consumes left rest (read_of input))
+
+-- a run that may have written something had taken all that is read of its input from the reader
+abbrev pub ReadsFirst : {A : Type 0} → Result A RunFault → Option (List ℕ) → Option (List ℕ) → Type 0
+ReadsFirst run left rest = MatchResult run (λ _. IsReadOut left rest) (λ fault. (fault ≢ Unwritten) ⊎ IsReadOut left rest)

@@ -1,8 +1,8 @@
 //! Reading an input whole.
 
-ghost use Rattle.std.specs.Prelude.{◌≡◌, ◌⊎◌, ◌≤◌, ◌<◌, length, IfOk, OnOk, IfSome};
+ghost use Rattle.std.specs.Prelude.{◌≡◌, ◌≢◌, ◌⊎◌, ◌≤◌, ◌<◌, length, IfOk, IfErr, OnOk, IfSome};
 ghost use Rattle.std.specs.Io.KnownBytes.{IsAtEnd};
-ghost use Rattle.lab_streams.specs.Input.{read_of, Takes, max_input_bytes};
+ghost use Rattle.lab_streams.specs.Input.{read_of, Takes, IsReadOut, max_input_bytes};
 
 use crate::ending::RunFault;
 use lab_history::MAX_FILE_BYTES;
@@ -33,6 +33,7 @@ fn read_turn<R: Read>(
     bytes: &mut Vec<u8>,
 ) -> Result<Turn, RunFault>
     requires { length bytes.old.items < max_input_bytes }
+    ensures fault { IfErr result (λ fault. fault ≢ RunFault.Unwritten) }
     ensures part { OnOk result (Takes (R.remaining reader.old) (R.remaining reader.new) bytes.old.items bytes.new.items) }
     ensures few { OnOk result (length bytes.new.items ≤ max_input_bytes) }
     ensures more { IfOk result (λ turn. turn ≡ Turn.More → length bytes.new.items < max_input_bytes) }
@@ -65,7 +66,9 @@ fn read_turn<R: Read>(
 /// reach the end; `NoMemory` where an allocation was refused. What was read by then is given up.
 #[tactic(auto, using(crate::proofs::Taken::takes_start, crate::proofs::Taken::takes_more))]
 pub fn read_input<R: Read>(alloc: Global, reader: &mut R) -> Result<Vec<u8>, RunFault>
-    ensures { IfOk result (λ bytes. IfSome (R.remaining reader.old) (λ input. bytes.items ≡ read_of input)) }
+    ensures bytes { IfOk result (λ bytes. IfSome (R.remaining reader.old) (λ input. bytes.items ≡ read_of input)) }
+    ensures taken { OnOk result (IsReadOut (R.remaining reader.old) (R.remaining reader.new)) }
+    ensures fault { IfErr result (λ fault. fault ≢ RunFault.Unwritten) }
 {
     let mut chunk = [0u8; CHUNK];
     let mut bytes = Vec::new(alloc);

@@ -8,6 +8,6 @@ use Rattle.lab_commands.proofs.judging.judge.Goals as goal
 pub returns-clause-written : goal.returns-clause-written
 returns-clause-written g c =
     let answer = c.in_ok-answer.answer in
-    said_of_input _ c.in_ok-input.input.items answer.text.items (Appends _ _) (λ input text. IsJudgeAnswer input text answer.ending) c.in_ok-input.ensures
+    said_of_input _ c.in_ok-input.input.items answer.text.items (Appends _ _) (λ input text. IsJudgeAnswer input text answer.ending) c.in_ok-input.ensures.bytes
     (subst (Appends _ _) c.as_slice-2.ensures.value c.in_ok-write_text.ensures.written)
     (λ input is. answers_whole input answer.text.items answer.ending (subst (λ bytes. IsJudgeAnswer bytes answer.text.items answer.ending) (c.as_slice.ensures.value ∙ is) c.in_ok-answer.ensures))

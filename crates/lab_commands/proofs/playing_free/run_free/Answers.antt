@@ -10,6 +10,6 @@ returns-clause-written g c =
     let answer = c.in_ok-answer.answer in
     let law = c.first_bytes_tell_a_script.ensures in
     said_of_input _ c.in_ok-input.input.items answer.text.items (Appends _ _) (λ input text. IsRunAnswer (IsFreePlay c.args.level) (IsFreeRefusal c.args.level) c.args.history input text answer.ending)
-    c.in_ok-input.ensures (subst (Appends _ _) c.as_slice-2.ensures.value c.in_ok-write_text.ensures.written)
+    c.in_ok-input.ensures.bytes (subst (Appends _ _) c.as_slice-2.ensures.value c.in_ok-write_text.ensures.written)
     (λ input is. run_whole law.spelled law.fault input answer.text.items answer.ending (IsFreePlay c.args.level) (IsFreeRefusal c.args.level) c.args.history
     (subst (λ bytes. IsRunAnswer (IsFreePlay c.args.level) (IsFreeRefusal c.args.level) c.args.history bytes answer.text.items answer.ending) (c.as_slice.ensures.value ∙ is) c.in_ok-answer.ensures))

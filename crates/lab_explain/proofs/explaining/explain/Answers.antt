@@ -8,6 +8,6 @@ use Rattle.lab_explain.proofs.explaining.explain.Goals as goal
 pub returns-clause-written : goal.returns-clause-written
 returns-clause-written g c =
     let answer = c.in_ok-answer.answer in
-    said_of_input _ c.in_ok-input.input.items answer.text.items (Appends _ _) (λ input text. IsExplainAnswer input c.args.asked text answer.ending) c.in_ok-input.ensures
+    said_of_input _ c.in_ok-input.input.items answer.text.items (Appends _ _) (λ input text. IsExplainAnswer input c.args.asked text answer.ending) c.in_ok-input.ensures.bytes
     (subst (Appends _ _) c.as_slice-2.ensures.value c.in_ok-write_text.ensures.written)
     (λ input is. answers_whole input c.args.asked answer.text.items answer.ending (subst (λ bytes. IsExplainAnswer bytes c.args.asked answer.text.items answer.ending) (c.as_slice.ensures.value ∙ is) c.in_ok-answer.ensures))
