@@ -29,12 +29,13 @@ fn read_file<T: Files>(rt: &T, alloc: Global, name: &str) -> Result<Option<Vec<u
 
 /// Files' bytes, and which of them were read; one that wasn't has none.
 #[derive(Drop)]
-struct Inputs {
-    files: Vec<Vec<u8>>,
-    are_read: Vec<bool>,
+pub struct Inputs {
+    pub files: Vec<Vec<u8>>,
+    pub are_read: Vec<bool>,
 }
 
-fn read_files<T: Files>(rt: &T, alloc: Global, names: &[&str]) -> Result<Inputs, NoMemory>
+/// Opens and reads each of these files, in their order. NoMemory where an allocation was refused.
+pub fn read_files<T: Files>(rt: &T, alloc: Global, names: &[&str]) -> Result<Inputs, NoMemory>
     ensures files { IfOk result (λ inputs. length inputs.files.items ≡ length names.now) }
     ensures are_read { IfOk result (λ inputs. length inputs.are_read.items ≡ length names.now) }
 {
@@ -80,13 +81,15 @@ fn put_part(
 
 /// What there is to say of files, and the greatest exit status that one of them calls for.
 #[derive(Drop)]
-struct BatchAnswer {
-    text: Vec<u8>,
-    status: u8,
+pub struct BatchAnswer {
+    pub text: Vec<u8>,
+    pub status: u8,
 }
 
-/// What there is to say of the files with these names, of which this was read.
-fn answer<T: Threads + Sync>(
+/// What there is to say of the files with these names, of which this was read. NoMemory where an allocation was refused.
+///
+/// `batch` writes this of what [`read_files`] gives it.
+pub fn batch_answer<T: Threads + Sync>(
     rt: &T,
     alloc: Global,
     names: &[&str],
@@ -127,7 +130,7 @@ pub fn batch<T: Files + Threads + Sync, W: Write>(
     ensures silent { IfErr result (λ fault. (fault ≡ RunFault.Unwritten) ⊎ Keeps (W.contents writer.old) (W.contents writer.new)) }
 {
     let inputs = read_files(rt, alloc, names)?;
-    let answer = answer(rt, alloc, names, &inputs)?;
+    let answer = batch_answer(rt, alloc, names, &inputs)?;
     write_text(writer, &answer.text)?;
     Ok(answer.status)
 }

@@ -14,7 +14,7 @@ mod playing_free;
 mod recording_answer;
 mod transcribing;
 
-pub use batching::batch;
+pub use batching::{BatchAnswer, Inputs, batch, batch_answer, read_files};
 pub use judging::judge;
 pub use laws::{judge_answer_unique, run_answer_unique, serial_answer_unique};
 pub use playing::run;

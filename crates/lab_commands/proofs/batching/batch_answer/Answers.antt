@@ -1,7 +1,7 @@
 use Rattle.std.proofs.lemmas.Iterator.{YieldsList-from_slice, YieldsList-from_zip}
 use Rattle.std.proofs.lemmas.Iterator.Consumers.{YieldsList-end}
 use Rattle.lab_commands.proofs.BatchParts.{have_parts, batched}
-use Rattle.lab_commands.proofs.batching.answer.Goals as goal
+use Rattle.lab_commands.proofs.batching.batch_answer.Goals as goal
 
 pub returns : goal.returns
 returns g c =

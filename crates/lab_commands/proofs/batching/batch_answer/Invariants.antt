@@ -2,7 +2,7 @@ use Rattle.std.proofs.Common.{◌≡◌}
 use Rattle.std.specs.Prelude.{fold, max}
 use Rattle.std.specs.List.{flat_map}
 use Rattle.lab_commands.specs.Batching.{part_text, part_status}
-use Rattle.lab_commands.proofs.batching.answer.Given as goal
+use Rattle.lab_commands.proofs.batching.batch_answer.Given as goal
 
 abbrev pub invariant-loop-name : goal.invariant-loop-name
 invariant-loop-name g l =
