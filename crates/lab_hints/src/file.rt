@@ -1,80 +1,57 @@
 //! What is said of a file that is no history.
 
+use crate::json_text::put_no_json;
 use crate::limits::{limit_rule, put_over};
 use crate::path::{put_value, put_wrong_value, value_at};
 use crate::rows::{has_number, items_at, unsorted_place};
 use crate::statement::put_bad_statement;
-use crate::text::{BYTE_ORDER_MARK, Part, line_numbered, put, put_shown};
+use crate::text::{Part, put};
 use lab_history::{FileFault, Limit, Path};
 use lab_table::{NoMemory, TxnNo};
-use serde_json::{Error, Value as Json};
+use serde_json::Value as Json;
 use std::alloc::{AllocError, Global};
 
-/// The most bytes that are shown of a text that is no JSON.
-const SHOWN_BYTES: usize = 20;
+/// The most places that are told of one thing.
+const TOLD_PLACES: usize = 2;
 
-/// Appends what stands at a line and a column of a text that is no JSON.
-fn put_found_text(
-    out: &mut Vec<u8>,
-    bytes: &[u8],
-    line: usize,
-    column: usize,
-) -> Result<(), NoMemory> {
-    let line = line_numbered(bytes, line).unwrap_or(&[]);
-    let (_, rest) = line.split_at(column.saturating_sub(1).min(line.len()));
-    put(out, &[Part::Say("found '")])?;
-    put_shown(out, rest, SHOWN_BYTES)?;
-    put(out, &[Part::Say("', with which no JSON text goes on")])
-}
-
-/// Appends where a text stops being JSON.
-fn put_no_json(out: &mut Vec<u8>, bytes: &[u8], error: &Error) -> Result<(), NoMemory> {
-    if bytes.is_empty() {
-        return put(out, &[Part::Say("the input is empty")]);
-    }
-    if bytes.starts_with(BYTE_ORDER_MARK) {
-        return put(
-            out,
-            &[Part::Say(
-                "found a byte order mark (EF BB BF) at the front, which is no part of JSON",
-            )],
-        );
-    }
-    let (line, column) = (error.line(), error.column());
+/// Appends the place of a transaction's number.
+fn put_number_place(out: &mut Vec<u8>, index: usize) -> Result<(), NoMemory> {
     put(
         out,
         &[
-            Part::Say("line "),
-            Part::Number(line as u64),
-            Part::Say(", column "),
-            Part::Number(column as u64),
-            Part::Say(": "),
+            Part::Say(" /transactions/"),
+            Part::Number(index as u64),
+            Part::Say("/no"),
         ],
-    )?;
-    if error.is_eof() {
-        put(
-            out,
-            &[Part::Say("the text ends before its JSON value does")],
-        )
-    } else {
-        put_found_text(out, bytes, line, column)
-    }
+    )
 }
 
-/// Appends where the transactions with a number stand.
+/// Appends how many places there are besides.
+fn put_more(out: &mut Vec<u8>, count: usize) -> Result<(), NoMemory> {
+    put(
+        out,
+        &[
+            Part::Say(" and "),
+            Part::Number(count as u64),
+            Part::Say(" more"),
+        ],
+    )
+}
+
+/// Appends where the first transactions with a number stand, and how many more there are.
 fn put_repeated(out: &mut Vec<u8>, json: &Json, no: TxnNo) -> Result<(), NoMemory> {
     put(out, &[Part::Say("found this number at")])?;
+    let mut found = 0usize;
     for (index, txn) in items_at(json, "transactions").iter().enumerate() {
         if has_number(txn, no) {
-            put(
-                out,
-                &[
-                    Part::Say(" /transactions/"),
-                    Part::Number(index as u64),
-                    Part::Say("/no"),
-                ],
-            )?;
+            found = found.saturating_add(1);
+            if found <= TOLD_PLACES {
+                put_number_place(out, index)?;
+            }
         }
+    }
+    if found > TOLD_PLACES {
+        put_more(out, found - TOLD_PLACES)?;
     }
     put(out, &[Part::Say("; each transaction has another")])
 }
@@ -143,7 +120,7 @@ fn put_read(
     match Json::from_slice(alloc, bytes) {
         Ok(json) => put_fault(out, alloc, &json, fault),
         Err(error) if error.is_memory() => Err(AllocError),
-        Err(error) => put_no_json(out, bytes, &error),
+        Err(error) => put_no_json(out, alloc, bytes, &error),
     }
 }
 

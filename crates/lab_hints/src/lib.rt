@@ -2,8 +2,11 @@
 //!
 //! [`note_script`] shows the faulty line of a script, what was found where and what may stand there, or tells which
 //! sessions begin no transaction; [`note_file`] what was found at the place of a history file that is wrong, and what is
-//! wanted there; [`note_play`] which limit a play came to. They are called once the answer is written, read the input again,
-//! and look themselves for the rest: in a script along a table of the grammar's forms, in a file in the value that it has.
+//! wanted there; [`note_play`] which limit a play came to. [`note_named_file`] says the same of one of many files, behind its
+//! name, and [`note_unopened`] and [`note_unread`] why there is none. [`note_newer_rows`] tells a cause of a record's fault.
+//! They are called once the answer is written,
+//! read the input again, and look themselves for the rest: in a script along a table of the grammar's forms, in a file in the
+//! value that it has or in its tokens.
 //!
 //! The texts aren't promised: no contract speaks of them, and they may change from version to version. A hint that finds
 //! less than the fault tells says what the fault's kind says by itself. Each call returns. Want of memory, and a write that
@@ -13,6 +16,8 @@
 mod byte;
 mod file;
 mod grammar;
+mod json_string;
+mod json_text;
 mod kind;
 mod limits;
 mod long;
@@ -32,4 +37,6 @@ mod token;
 mod walk;
 mod wanted;
 
-pub use notes::{note_file, note_play, note_script};
+pub use notes::{
+    note_file, note_named_file, note_newer_rows, note_play, note_script, note_unopened, note_unread,
+};

@@ -1,15 +1,19 @@
 //! Writing hints behind an answer.
 
 use crate::file::file_hint;
-use crate::play::play_hint;
+use crate::play::{long_file_hint, play_hint};
 use crate::script::script_hint;
 use crate::silent::{left_out_hint, silent_play_hint};
+use crate::text::put_shown;
 use lab_history_file::read_history;
 use lab_script::parse_script;
 use lab_session::PlayFault;
 use lab_table::NoMemory;
 use std::alloc::Global;
-use std::io::Write;
+use std::io::{Error, Write};
+
+/// The most bytes that are shown of a file's name.
+const SHOWN_NAME: usize = 200;
 
 /// Writes a hint, if there is one. What fails is let go.
 fn put_hint<N: Write>(notes: &mut N, hint: Result<Vec<u8>, NoMemory>) {
@@ -40,8 +44,19 @@ pub fn note_script<N: Write>(alloc: Global, input: &[u8], is_refused: bool, note
     }
 }
 
-/// Writes what there is to say of a play beside the answer: on its fault if it has one, else on the fault of its script, or
-/// that no transaction begins in it.
+/// A hint on a play that was refused, and that has no fault: on the script's, or that the history's file is too long.
+fn hint_of_refused_play(alloc: Global, input: &[u8]) -> Result<Vec<u8>, NoMemory> {
+    match parse_script(alloc, input) {
+        Ok(script) => {
+            drop(script);
+            long_file_hint(alloc)
+        }
+        Err(fault) => script_hint(alloc, input, &fault),
+    }
+}
+
+/// Writes what there is to say of a play beside the answer: on its fault if it has one, else on the fault of its script or
+/// of its history's file, or that no transaction begins in it.
 pub fn note_play<N: Write>(
     alloc: Global,
     input: &[u8],
@@ -51,7 +66,7 @@ pub fn note_play<N: Write>(
 ) {
     match fault {
         Some(fault) => put_hint(notes, play_hint(alloc, &fault)),
-        None if is_refused => put_hint(notes, hint_of_script(alloc, input)),
+        None if is_refused => put_hint(notes, hint_of_refused_play(alloc, input)),
         None => put_hint(notes, silent_play_hint(alloc, input)),
     }
 }
@@ -72,4 +87,50 @@ pub fn note_file<N: Write>(alloc: Global, input: &[u8], is_refused: bool, notes:
     if is_refused {
         put_hint(notes, hint_of_file(alloc, input));
     }
+}
+
+/// A hint behind a file's name. Nothing where the hint says nothing.
+fn named(alloc: Global, name: &str, hint: &[u8]) -> Result<Vec<u8>, NoMemory> {
+    let mut text = Vec::new(alloc);
+    if !hint.is_empty() {
+        put_shown(&mut text, name.as_bytes(), SHOWN_NAME)?;
+        text.extend_from_slice(b": ")?;
+        text.extend_from_slice(hint)?;
+    }
+    Ok(text)
+}
+
+fn hint_of_named_file(alloc: Global, name: &str, bytes: &[u8]) -> Result<Vec<u8>, NoMemory> {
+    named(alloc, name, &hint_of_file(alloc, bytes)?)
+}
+
+/// Writes behind a history file's name what there is to say of its fault.
+pub fn note_named_file<N: Write>(alloc: Global, name: &str, bytes: &[u8], notes: &mut N) {
+    put_hint(notes, hint_of_named_file(alloc, name, bytes));
+}
+
+fn hint_of_unopened(alloc: Global, name: &str, error: &Error) -> Result<Vec<u8>, NoMemory> {
+    let why = format!(in alloc; "it can't be opened: {error}\n")?;
+    named(alloc, name, why.as_bytes())
+}
+
+/// Writes behind a file's name why it can't be opened.
+pub fn note_unopened<N: Write>(alloc: Global, name: &str, error: &Error, notes: &mut N) {
+    put_hint(notes, hint_of_unopened(alloc, name, error));
+}
+
+/// Writes behind a file's name that it can't be read.
+pub fn note_unread<N: Write>(alloc: Global, name: &str, notes: &mut N) {
+    put_hint(notes, named(alloc, name, b"a read failed\n"));
+}
+
+/// What else a fault may come of whose view was read before an update or a delete.
+const NEWER_ROWS: &[u8] =
+    b"or a view is of its transaction's snapshot, and the update or the delete behind it read newer \
+rows, as at repeatable read of MariaDB and MySQL\n";
+
+/// Writes that a fault of a record may come of an update or a delete that read newer rows than its transaction's snapshot.
+pub fn note_newer_rows<N: Write>(notes: &mut N) {
+    let _ = notes.write_all(NEWER_ROWS);
+    let _ = notes.flush();
 }

@@ -1,7 +1,8 @@
-//! What is said of a play that has no recording.
+//! What is said of a play that has no recording, or no history file.
 
 use crate::limits::limit_rule;
 use crate::text::{Part, text_of};
+use lab_history::Limit;
 use lab_session::{CloseFault, PlayFault};
 use lab_table::NoMemory;
 use std::alloc::Global;
@@ -28,6 +29,14 @@ fn close_hint(alloc: Global, fault: &CloseFault) -> Result<Vec<u8>, NoMemory> {
             Part::Say(rule),
             Part::Say("\n"),
         ],
+    )
+}
+
+/// One line on a history whose file would be too long. NoMemory where an allocation was refused.
+pub fn long_file_hint(alloc: Global) -> Result<Vec<u8>, NoMemory> {
+    text_of(
+        alloc,
+        &[Part::Say(limit_rule(Limit::Bytes)), Part::Say("\n")],
     )
 }
 
