@@ -71,19 +71,16 @@ fn ended(ending: Result<Ending, RunFault>) -> Result<u8, RunFault> {
     Ok(status(Ok(ending?)))
 }
 
-/// Runs `batch`, and answers the exit status. A file that couldn't be read counts as a read that failed.
-fn run_batch<T: Files + Threads + Sync, W: Write>(
+/// Runs `batch`, and answers the exit status.
+fn run_batch<T: Files + Threads + Sync, W: Write, N: Write>(
     rt: &T,
     alloc: Global,
     writer: &mut W,
+    notes: &mut N,
     matches: &ArgMatches<'_>,
 ) -> Result<u8, RunFault> {
     let names = file_names(alloc, matches)?;
-    let greatest = batch(rt, alloc, &names, writer)?;
-    if greatest == status(Err(RunFault::Unread)) {
-        return Err(RunFault::Unread);
-    }
-    Ok(greatest)
+    batch(rt, alloc, &names, writer, notes)
 }
 
 /// Runs `case`, and answers the exit status.
@@ -155,7 +152,7 @@ fn run_subcommand<T: Files + Threads + Wait + Sync, R: Read, W: Write, N: Write>
         Some(("serial", _)) => ended(serial(alloc, reader, writer, notes)),
         Some(("run", more)) => run_play(rt, alloc, reader, writer, notes, more),
         Some(("judge", _)) => ended(judge(alloc, reader, writer, notes)),
-        Some(("batch", more)) => run_batch(rt, alloc, writer, more),
+        Some(("batch", more)) => run_batch(rt, alloc, writer, notes, more),
         Some(("case", more)) => run_case(alloc, writer, more),
         Some(("matrix", _)) => ended(matrix(alloc, writer)),
         Some(("picture", more)) => run_picture(alloc, reader, writer, notes, more),
