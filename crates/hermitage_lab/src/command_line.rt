@@ -152,7 +152,7 @@ pub static CASES: [&str; 10] = [
 ];
 
 /// The names of the phenomena that a picture or an explanation may be asked of.
-static PHENOMENA: [&str; 7] = ["G0", "G1a", "G1b", "G1c", "G-single", "G2-item", "G2"];
+pub static PHENOMENA: [&str; 7] = ["G0", "G1a", "G1b", "G1c", "G-single", "G2-item", "G2"];
 
 /// The names of the engines.
 pub static ENGINES: [&str; 3] = ["locking", "committed", "snapshot"];

@@ -8,10 +8,12 @@ ghost use Rattle.std.specs.Prelude.{◌≡◌, ◌≢◌, Ok, Err};
 ghost use Rattle.clap.specs.Values.{kind_of};
 ghost use Rattle.clap.specs.declared.error.kind.ErrorKind.TheVariants.{DisplayHelp, DisplayVersion, OutOfMemory};
 
+use crate::command_line::{ENGINES, PHENOMENA};
 use crate::told::told;
 use clap::ArgMatches;
 use lab_case_commands::{case, matrix};
 use lab_commands::{batch, judge, run, run_free, serial};
+use lab_hints::{Choices, note_words};
 use lab_picture::{Phenomenon, picture};
 use lab_streams::{Ending, RunFault, status};
 use std::alloc::{AllocError, Global};
@@ -161,41 +163,15 @@ fn run_subcommand<T: Files + Threads + Wait + Sync, R: Read, W: Write, N: Write>
     }
 }
 
-/// Whether a subcommand reads standard input.
-fn reads_input(subcommand: &str) -> bool {
-    matches!(
-        subcommand,
-        "serial" | "run" | "judge" | "picture" | "explain"
-    )
-}
-
-/// Says on standard error what to type where a subcommand that reads standard input was given a file's name.
-fn note_arguments(rt: &HostRuntime, given: &[String]) {
-    let [_, subcommand, middle @ .., last] = given else {
-        return;
-    };
-    let takes_name = match middle.last() {
-        Some(option) => matches!(option.as_str(), "--engine" | "--phenomenon"),
-        None => false,
-    };
-    if takes_name || last.starts_with("-") || !reads_input(subcommand.as_str()) {
-        return;
-    }
-    let _ = rt.eprint("\nit reads standard input: hermitage_lab ");
-    let _ = rt.eprint(subcommand.as_str());
-    for option in middle {
-        let _ = rt.eprint(" ");
-        let _ = rt.eprint(option.as_str());
-    }
-    let _ = rt.eprint(" < ");
-    let _ = rt.eprintln(last.as_str());
-}
-
 /// What arguments that name no run come to: what there is to report, and what to type instead.
 fn refused(rt: &HostRuntime, error: &clap::Error, given: &[String]) -> Result<u8, RunFault> {
     let status = report(rt, error)?;
     if status == ARGUMENTS_REFUSED {
-        note_arguments(rt, given);
+        let choices = Choices {
+            engines: &ENGINES,
+            phenomena: &PHENOMENA,
+        };
+        note_words(rt.alloc(), given, choices, &mut rt.stderr());
     }
     Ok(status)
 }
