@@ -17,6 +17,7 @@ mod findings;
 mod laws;
 mod lines;
 mod names;
+mod newer_rows;
 mod phrases;
 mod places;
 mod sections;
