@@ -1,4 +1,5 @@
--- A log that is legal by the optimistic rules, retold with an abort in place of each refused commit, is legal at snapshot and has the same recording.
+-- A log that is legal by the optimistic rules, retold with an abort in place of each refused commit, is legal at snapshot
+-- and has the same recording.
 use Rattle.std.specs.Option.{option_or}
 use Rattle.std.proofs.Common.{◌≡◌, ℕ, ◌+◌, refl, sym, ap, subst, ◌∙◌, Bool, true, false, cond, List, [], ◌∷◌, ◌++◌, ◌⊎◌, inl, inr, length, reverse, append_assoc, length-append, ◌<◌, arith}
 use Rattle.std.specs.Prelude.{Option, Some, None, option_map, unwrap_or, is_some, IsSome, ◌==◌, ◌||◌, filter, ⊤}

@@ -1,4 +1,5 @@
--- What the optimistic rules keep: every edge follows the order of commits, so the recording is a serial run, and a snapshot run.
+-- What the optimistic rules keep: every edge follows the order of commits, so the recording is a serial run, and a
+-- snapshot run.
 use Rattle.std.proofs.Common.{subst}
 use Rattle.lab_table.specs.Table.{Table}
 use Rattle.lab_history.specs.History.{History}

@@ -1,4 +1,5 @@
--- Where what was seen stays true up to the commit, the writer of an anti-dependency commits after the reader; so every edge follows the order of commits.
+-- Where what was seen stays true up to the commit, the writer of an anti-dependency commits after the reader; so every
+-- edge follows the order of commits.
 use Rattle.std.specs.Option.{option_or}
 use Rattle.std.proofs.Common.{◌≡◌, ◌≢◌, ℕ, suc, ◌<◌, ◌≤◌, refl, sym, ap, subst, ◌∙◌, false, true, List, [], ◌∷◌, ◌++◌, inl, inr, length, append_assoc, arith}
 use Rattle.std.specs.Prelude.{unwrap_or}

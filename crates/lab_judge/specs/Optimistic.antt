@@ -1,4 +1,5 @@
--- The optimistic rules: nobody waits, a transaction sees the commits as of its begin, and a commit is refused where what its statements saw was changed since.
+-- The optimistic rules: nobody waits, a transaction sees what had committed at its begin, and a commit is refused where
+-- what it wrote, or what its statements saw, was changed since.
 use Rattle.std.specs.Prelude.{◌≡◌, ℕ, ◌||◌, unwrap_or, Some, IsTrue, IsSome, List, [], ◌∷◌, ◌++◌, ◌⊎◌, ⊤}
 use Rattle.lab_table.specs.Row.{Row}
 use Rattle.lab_table.specs.Table.{Table}
@@ -15,8 +16,8 @@ use Rattle.lab_engine.specs.Log.{Past, Txn, commits, version_by, last_installed,
 use Rattle.lab_engine.specs.Rules.{Gives, IsBelow, Permitted}
 use Rattle.lab_engine.specs.Recording.{IsRecording}
 
--- one transaction, which installed a row when these had committed, clashes there with another: that one wrote the row too, or has run a statement
--- that matches the row as it was before or as it is then
+-- one transaction, which installed a row when these had committed, clashes there with another: that one wrote the row
+-- too, or has run a statement that matches the row as it was before or as it is then
 abbrev pub Clashes : Table → Txn → List Txn → Txn → Row → Type 0
 Clashes setup txn earlier by row = (v : Version) × (version_by by row ≡ Some v)
     × (IsSome (version_by txn row) ⊎ IsTrue (has_read txn.ops row (unwrap_or (last_installed earlier row) (initial_version setup row)).state || has_read txn.ops row v.state))
@@ -46,7 +47,7 @@ pub record ClashesFirst (setup : Table) (past : Past) (txn : Txn) (row : Row) (n
 abbrev pub RefusedAt : Table → Past → Txn → Row → ℕ → Type 0
 RefusedAt setup past txn row by = ClashesFirst setup past txn row by × ((other : Row) (number : ℕ) → IsBelow other row → ¬ ClashesFirst setup past txn other number)
 
--- which refusals are permitted
+-- which refusals are permitted; that of a commit that clashes is told as a write conflict
 abbrev pub PermitsRefusal : Table → Past → ℕ → Command → EngineFault → Type 0
 PermitsRefusal setup past session command (WriteConflict row by) = (txn : Txn) × Gives past session command Commit txn × RefusedAt setup past txn row by
 PermitsRefusal setup past session command other = Permitted Snapshot setup past session command (Refused other)

@@ -1,4 +1,5 @@
--- The rules of an engine as a table of flags: what a transaction sees, which conflicts make a statement wait, and which make a commit be refused.
+-- The rules of an engine as a table of flags: what a transaction sees, which conflicts make a statement wait, and which
+-- make a commit be refused.
 use Rattle.std.specs.Prelude.{◌≡◌, ◌||◌, Bool, true, false, cond, unwrap_or, Some, IsSome, IsTrue, List, [], ◌∷◌, ◌++◌, ◌⊎◌, ⊤}
 use Rattle.lab_table.specs.Row.{Row}
 use Rattle.lab_table.specs.Table.{Table}
@@ -10,12 +11,19 @@ use Rattle.lab_engine.specs.declared.event.Level.TheVariants.{Locking, Snapshot,
 use Rattle.lab_engine.specs.Log.{Past, Txn, commits, version_by, committed_version, last_installed, initial_version, has_read}
 use Rattle.lab_engine.specs.Rules.{HoldsMatch}
 
+-- a line of the table
 pub record Rules : Type 0 where
+  -- besides its own writes a transaction sees what had committed at its begin, and not what has by now
   pub sees_begin : Bool
+  -- a statement waits for who has a pending write of a row that it matches
   pub match_blocks : Bool
+  -- it waits for who has a pending write of a row that it would write
   pub write_blocks : Bool
+  -- it waits for who has run a statement that matches a row that it would write
   pub read_blocks : Bool
+  -- a commit is refused where one that committed since its begin wrote a row that it wrote
   pub write_clashes : Bool
+  -- it is refused where one that committed since its begin changed a row that one of its statements matches
   pub read_clashes : Bool
 
 -- the table: a line for each level
@@ -24,6 +32,7 @@ rules_of Locking = record { sees_begin = false; match_blocks = true; write_block
 rules_of ReadCommitted = record { sees_begin = false; match_blocks = false; write_blocks = true; read_blocks = false; write_clashes = false; read_clashes = false }
 rules_of Snapshot = record { sees_begin = true; match_blocks = false; write_blocks = false; read_blocks = false; write_clashes = true; read_clashes = false }
 
+-- the line of the optimistic rules, which no level has
 abbrev pub optimistic : Rules
 optimistic = record { sees_begin = true; match_blocks = false; write_blocks = false; read_blocks = false; write_clashes = true; read_clashes = true }
 
@@ -40,7 +49,8 @@ seen_by rules setup past txn row = unwrap_or (version_by txn row) (committed_ver
 abbrev pub HoldsWriteBy : Rules → Table → Past → Txn → Statement → Txn → Type 0
 HoldsWriteBy rules setup past asker s holder = (row : Row) × IsSome (version_by holder row) × IsTrue (would_write s row (seen_by rules setup past asker row).state)
 
--- a transaction has run a statement that matches the old or the new state of a row that the asker's statement would write
+-- a transaction has run a statement that matches the old or the new state of a row that the asker's statement would
+-- write
 abbrev pub HasReadBy : Rules → Table → Past → Txn → Statement → Txn → Type 0
 HasReadBy rules setup past asker s holder = (row : Row) × IsTrue (would_write s row (seen_by rules setup past asker row).state)
     × IsTrue (has_read holder.ops row (seen_by rules setup past asker row).state || has_read holder.ops row (new_state s row (seen_by rules setup past asker row).state))
@@ -56,6 +66,7 @@ ClashesBy rules setup txn earlier by row = (v : Version) × (version_by by row �
     × (If rules.write_clashes (IsSome (version_by txn row))
     ⊎ If rules.read_clashes (IsTrue (has_read txn.ops row (unwrap_or (last_installed earlier row) (initial_version setup row)).state || has_read txn.ops row v.state)))
 
+-- at a row none of a list, the last to commit first, clashes with a transaction; base had committed before them
 abbrev pub NoneClashesBy : Rules → Table → Txn → List Txn → List Txn → Row → Type 0
 NoneClashesBy rules setup txn [] base row = ⊤
 NoneClashesBy rules setup txn (by ∷ earlier) base row = NoneClashesBy rules setup txn earlier base row × ¬ ClashesBy rules setup txn (earlier ++ base) by row

@@ -26,7 +26,8 @@ abbrev pub AllStayTrue : Table → List Op → List Txn → List Txn → Type 0
 AllStayTrue setup [] since base = ⊤
 AllStayTrue setup (op ∷ ops) since base = AllStayTrue setup ops since base × Untouched setup op.statement since base
 
--- a transaction that commits after done is validated: nobody who committed since its begin changed what its statements match
+-- a transaction that commits after these is validated: nobody who committed since its begin changed what its statements
+-- match
 pub record IsValidated (setup : Table) (done : List Txn) (txn : Txn) : Type 0 where
   pub since : List Txn
   pub since_is : done ≡ since ++ commits txn.before

@@ -1,5 +1,6 @@
-//! What the recording of every log keeps that is legal by the optimistic rules. The functions have nothing to do:
-//! their contracts are the laws.
+//! What the recording of every log keeps that is legal by the optimistic rules (Kung and Robinson, "On Optimistic Methods
+//! for Concurrency Control", 1981): nobody waits, and a commit is refused where what its transaction wrote, or what its
+//! statements saw, was changed since its begin. The functions have nothing to do: their contracts are the laws.
 
 ghost use Rattle.std.specs.Prelude.{◌≡◌, ℕ, List, ◌++◌, ◌⊎◌};
 ghost use Rattle.lab_table.specs.Row.{Row};
