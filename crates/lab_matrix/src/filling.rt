@@ -63,31 +63,34 @@ fn judged<E: Engine + Drop>(
     }
 }
 
+/// The cell of a case on one engine: its script, played on an engine of a copy of its setup, and judged.
+macro_rules! cell {
+    ($alloc:ident, $name:ident, $engine:ident) => {{
+        let script = case($alloc, $name)?;
+        let engine = $engine::new($alloc, script.setup.copy($alloc)?);
+        judged($alloc, $name, &script, engine)
+    }};
+}
+
 fn at_locking(alloc: Global, name: CaseName) -> Result<Report, MatrixFault>
     ensures cell { IfOk result (IsCell name Level.Locking) }
     ensures fault { IfErr result (IsCellFault name Level.Locking) }
 {
-    let script = case(alloc, name)?;
-    let engine = LockEngine::new(alloc, script.setup.copy(alloc)?);
-    judged(alloc, name, &script, engine)
+    cell!(alloc, name, LockEngine)
 }
 
 fn at_committed(alloc: Global, name: CaseName) -> Result<Report, MatrixFault>
     ensures cell { IfOk result (IsCell name Level.Committed) }
     ensures fault { IfErr result (IsCellFault name Level.Committed) }
 {
-    let script = case(alloc, name)?;
-    let engine = CommittedEngine::new(alloc, script.setup.copy(alloc)?);
-    judged(alloc, name, &script, engine)
+    cell!(alloc, name, CommittedEngine)
 }
 
 fn at_snapshot(alloc: Global, name: CaseName) -> Result<Report, MatrixFault>
     ensures cell { IfOk result (IsCell name Level.Snapshot) }
     ensures fault { IfErr result (IsCellFault name Level.Snapshot) }
 {
-    let script = case(alloc, name)?;
-    let engine = SnapshotEngine::new(alloc, script.setup.copy(alloc)?);
-    judged(alloc, name, &script, engine)
+    cell!(alloc, name, SnapshotEngine)
 }
 
 fn row_of_case(alloc: Global, name: CaseName) -> Result<Row, MatrixFault>
