@@ -1,4 +1,4 @@
-//! Tests of engines, of recordings and of the ends of runs, beside plainer bodies.
+//! Tests of engines, of recordings and of the ends of runs, beside plainer bodies, and of benches that are refused memory.
 #![tactic(auto)]
 
 #[cfg(test)]
@@ -19,3 +19,7 @@ mod plain_close;
 mod plain_recording;
 #[cfg(test)]
 mod recordings;
+#[cfg(test)]
+mod refusal;
+#[cfg(test)]
+mod refused;

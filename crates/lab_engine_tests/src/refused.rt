@@ -1,0 +1,280 @@
+//! Benches whose calls have each of their allocations refused in turn, through whole scripts on each engine: they answer
+//! want of memory and nothing else, log and sessions are as before, and the script then plays as if nothing had been.
+
+ghost use Rattle.std.specs.Prelude.{◌≡◌, []};
+
+use crate::listings::listing;
+use crate::refusal::{refuse, was_refused};
+use lab_engine::{Engine, Level};
+use lab_locking::LockEngine;
+use lab_script::{Line, Script, parse_script};
+use lab_session::{Bench, BenchFault, CloseFault, print_log};
+use lab_table::Session;
+use lab_versions::{CommittedEngine, SnapshotEngine};
+use std::alloc::Global;
+use std::test::Fail;
+
+/// A predicate by value, and an update that changes what it matches.
+const BY_VALUE: &[u8] = b"setup (1, 10), (2, 20);
+begin; -- T1
+begin; -- T2
+select * from test where value = 20; -- T2
+update test set value = value + 10 where id = 1; -- T1
+commit; -- T2
+commit; -- T1
+";
+
+/// A predicate of several parts, and a negative value.
+const PARTS: &[u8] = b"setup (1, -7), (2, 20);
+begin; -- T3
+select * from test where value % 3 = -1; -- T3
+SELECT * FROM test WHERE NOT (id=1 OR value>=20) AND id IN(1,2) -- T3
+commit; -- T3
+";
+
+/// One update.
+const ONE_UPDATE: &[u8] = b"setup (1, 10);
+begin; -- T1
+update test set value = value + 1 where id = 1; -- T1
+commit; -- T1
+";
+
+/// How many scripts there are.
+const SCRIPTS: u32 = 5;
+
+/// Each by its number; two of them are listings, in which sessions wait at locking, in one up to a deadlock.
+fn script_text(number: u32) -> &'static [u8] {
+    match number {
+        0 => BY_VALUE,
+        1 => PARTS,
+        2 => listing(2),
+        3 => listing(3),
+        _ => ONE_UPDATE,
+    }
+}
+
+/// What the next turn of a bench came to.
+#[derive(Clone, Copy, Debug, PartialEq, Eq)]
+enum Turn {
+    Retried,
+    Stepped,
+    Closed,
+    NoMemory,
+    /// Another refusal.
+    Wrong,
+}
+
+fn of_fault(fault: Option<BenchFault>, done: Turn) -> Turn {
+    match fault {
+        None => done,
+        Some(BenchFault::NoMemory) => Turn::NoMemory,
+        Some(BenchFault::Full) => Turn::Wrong,
+    }
+}
+
+/// Takes the next turn: the retry that is due, else the line that is, else the close.
+fn take_turn<E: Engine>(alloc: Global, bench: &mut Bench<E>, line: Option<&Line>) -> Turn {
+    if let Some(session) = bench.retryable() {
+        if !bench.is_waiting(session) {
+            return Turn::Wrong;
+        }
+        return of_fault(bench.retry(alloc, session).err(), Turn::Retried);
+    }
+    match line {
+        Some(line) => of_fault(
+            bench.step(alloc, line.session, &line.command).err(),
+            Turn::Stepped,
+        ),
+        None => match bench.close(alloc, 0, &[]).err() {
+            None => Turn::Closed,
+            Some(CloseFault::NoMemory) => Turn::NoMemory,
+            Some(_) => Turn::Wrong,
+        },
+    }
+}
+
+/// What a bench's log reads.
+fn logged<E: Engine>(alloc: Global, bench: &Bench<E>) -> Option<Vec<u8>> {
+    let recording = bench.close(alloc, 0, &[]).ok()?;
+    let text = print_log(alloc, &recording).ok();
+    drop(recording);
+    text
+}
+
+/// Which sessions of a bench wait, and which it would retry.
+fn said<E: Engine>(bench: &Bench<E>) -> ([bool; 9], Option<Session>) {
+    let mut waiting = [false; 9];
+    for (place, session) in Session::ALL.iter().enumerate() {
+        waiting[place] = bench.is_waiting(*session);
+    }
+    (waiting, bench.retryable())
+}
+
+/// Takes a turn with this allocation refused, and where that left no memory once more. What it came to, and whether an
+/// allocation was refused; None where an answer isn't what is due, or the bench isn't as before after the refusal.
+fn take_refused<E: Engine>(
+    alloc: Global,
+    growth: u16,
+    bench: &mut Bench<E>,
+    line: Option<&Line>,
+) -> Option<(Turn, bool)> {
+    let log = logged(alloc, bench)?;
+    let before = said(bench);
+    refuse(alloc, growth);
+    let turn = take_turn(alloc, bench, line);
+    let refused = was_refused(alloc);
+    if turn != Turn::NoMemory {
+        return Some((turn, refused));
+    }
+    if !refused || said(bench) != before || logged(alloc, bench)? != log {
+        return None;
+    }
+    Some((take_turn(alloc, bench, line), refused))
+}
+
+/// Plays lines to the close, with this allocation refused of the turn at a place, counted from 0. Whether one was
+/// refused there, and how many turns were taken; None where one isn't as is due.
+fn play_lines<E: Engine>(
+    alloc: Global,
+    bench: &mut Bench<E>,
+    lines: &[Line],
+    place: usize,
+    growth: u16,
+) -> Option<(bool, usize)> {
+    let mut given = 0;
+    let mut refused = false;
+    for turns in 0..2 * lines.len() + 1 {
+        let line = lines.get(given);
+        let turn = if turns == place {
+            let (turn, was) = take_refused(alloc, growth, bench, line)?;
+            refused = was;
+            turn
+        } else {
+            take_turn(alloc, bench, line)
+        };
+        match turn {
+            Turn::Retried => {}
+            Turn::Stepped => given += 1,
+            Turn::Closed => return Some((refused, turns + 1)),
+            Turn::NoMemory | Turn::Wrong => return None,
+        }
+    }
+    None
+}
+
+/// A play of a script: whether an allocation was refused, how many turns it took, and its log.
+#[derive(Drop)]
+struct Play {
+    refused: bool,
+    turns: usize,
+    log: Vec<u8>,
+}
+
+/// Plays lines on a fresh engine.
+fn played<E: Engine + Drop>(
+    alloc: Global,
+    engine: E,
+    lines: &[Line],
+    place: usize,
+    growth: u16,
+) -> Option<Play>
+    requires { E.events engine ≡ [] }
+{
+    let mut bench = Bench::new(engine);
+    let took = play_lines(alloc, &mut bench, lines, place, growth);
+    let log = logged(alloc, &bench);
+    drop(bench);
+    let (refused, turns) = took?;
+    Some(Play {
+        refused,
+        turns,
+        log: log?,
+    })
+}
+
+/// Plays a script at a level.
+fn played_at(
+    alloc: Global,
+    level: Level,
+    script: &Script,
+    place: usize,
+    growth: u16,
+) -> Option<Play> {
+    let setup = script.setup.copy(alloc).ok()?;
+    let lines = script.lines.as_slice();
+    match level {
+        Level::Locking => played(alloc, LockEngine::new(alloc, setup), lines, place, growth),
+        Level::Committed => {
+            played(
+                alloc,
+                CommittedEngine::new(alloc, setup),
+                lines,
+                place,
+                growth,
+            )
+        }
+        Level::Snapshot => {
+            played(
+                alloc,
+                SnapshotEngine::new(alloc, setup),
+                lines,
+                place,
+                growth,
+            )
+        }
+    }
+}
+
+/// Plays a script with each allocation of the turn at a place refused in turn, until none is. How many there were; None
+/// where a play isn't as that to which nothing was refused.
+fn refusals_at(
+    alloc: Global,
+    level: Level,
+    script: &Script,
+    place: usize,
+    due: &[u8],
+) -> Option<u16> {
+    for growth in 1..2_000u16 {
+        let played = played_at(alloc, level, script, place, growth)?;
+        let (refused, alike) = (played.refused, played.log.as_slice() == due);
+        drop(played);
+        if !alike {
+            return None;
+        }
+        if !refused {
+            return Some(growth - 1);
+        }
+    }
+    None
+}
+
+/// The same of each turn in order. The first place that isn't as is due, if there is one.
+fn wrong_place(alloc: Global, level: Level, script: &Script) -> Option<usize> {
+    let Some(due) = played_at(alloc, level, script, 0, 0) else {
+        return Some(0);
+    };
+    let wrong = (0..due.turns).find(|place| refusals_at(
+        alloc, level, script, *place, &due.log,
+    ).is_none());
+    drop(due);
+    wrong
+}
+
+#[test]
+fn benches_that_are_refused_memory_are_as_before(rt: HostRuntime) -> Result<(), Fail> {
+    for number in 0..SCRIPTS {
+        for level in [Level::Locking, Level::Committed, Level::Snapshot] {
+            let script = parse_script(rt.alloc(), script_text(number)).ok();
+            assert!(rt; script.is_some(), "script {number}");
+            if let Some(script) = script {
+                let wrong = wrong_place(rt.alloc(), level, &script);
+                drop(script);
+                assert!(rt;
+                    wrong.is_none(),
+                    "script {number} at {level:?}: turn {wrong:?}"
+                );
+            }
+        }
+    }
+    Ok(())
+}
