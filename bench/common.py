@@ -1,4 +1,4 @@
-"""What the scripts here share: numbers that look random, and building programs.
+"""What the scripts here share: the program, and building others.
 
 Programs of the bench are NAME.rattle here. They are no crates of crates.txt, so each is proved and built in a folder of
 its own, over the libraries of the product; those without rt's stamp of an earlier build, as the gate leaves them, are
@@ -9,15 +9,6 @@ import subprocess
 import sys
 
 TOP = os.path.dirname(os.path.dirname(os.path.realpath(__file__)))
-# As many tables as an input may have, with names as long as may be. They begin alike, so that names are compared in full.
-TABLES = ("accounts_of_last", "accounts_of_next", "accounts_of_then", "accounts_of_this")
-
-
-def numbers(seed=1):
-    """Numbers that look random and are the same at each run."""
-    while True:
-        seed = (seed * 1_103_515_245 + 12_345) % 2**31
-        yield seed >> 8
 
 
 def product():

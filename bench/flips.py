@@ -1,5 +1,5 @@
 """The shapes of bench/histories.py whose writers set all values to 0 or to 1, which each select looks for."""
-from common import numbers
+from picks import numbers
 from recorder import IDS, Recorder, everything, named, seen_at_first, zeros
 
 

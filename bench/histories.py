@@ -5,8 +5,8 @@ The transactions of a yes run one after another. In a no some of them see rows a
 them since, so that dependencies lead round."""
 from functools import partial
 
-from common import TABLES, numbers
 from flips import bounds, flips, hostile, shuffled, unlike
+from picks import TABLES, numbers
 from recorder import IDS, OPERATIONS, TRANSACTIONS, Recorder, everything, named, seen_at_first, table_of, zeros
 
 EACH = OPERATIONS // TRANSACTIONS
