@@ -1,7 +1,9 @@
 //! An engine whose type keeps the level and the setup that its run began with.
 
 ghost use Rattle.std.specs.Prelude.{◌≡◌};
+ghost use Rattle.std.specs.Coded.{Coded-set, coded_ℤ};
 ghost use Rattle.std.specs.FinMap as map;
+ghost use Rattle.lab_table.specs.Row.{coded_row};
 
 use lab_engine::{Engine, Level, LogEvent, Outcome};
 use lab_table::{Command, NoMemory, Session, Table};
