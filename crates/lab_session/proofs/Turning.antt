@@ -1,9 +1,8 @@
 -- A list with one more call; a command that isn't answered waits; of those to be retried there is one least, and it is answered.
 use Rattle.std.proofs.Common.{◌≡◌, ◌≢◌, ℕ, ◌<◌, ◌-◌, ◌++◌, length, length-append, refl, sym, ap, subst, ◌∙◌, arith, true, false, List, [], ◌∷◌, ◌⊎◌, inl, inr}
-use Rattle.std.specs.Prelude.{IsSome, is_some, cond, Option, Some, None, option_map, Contains, MatchOption, slice_get, Result, IfOk}
+use Rattle.std.specs.Prelude.{IsSome, is_some, cond, Option, Some, None, option_map, Contains, MatchOption, slice_get}
 use Rattle.std.proofs.lemmas.Bool.{both_ways, eq-eqb}
 use Rattle.std.proofs.lemmas.Option.{same_Some}
-use Rattle.std.proofs.lemmas.Result.{IfOk-weaker}
 use Rattle.lab_table.specs.Table.{Table}
 use Rattle.lab_table.specs.declared.statement.Statement.{Statement}
 use Rattle.lab_table.specs.declared.statement.Command.{Command}
@@ -24,9 +23,7 @@ use Rattle.lab_engine.proofs.Runs.{past_of-push}
 use Rattle.lab_session.specs.declared.bench.Receipt.{Receipt}
 use Rattle.lab_session.specs.declared.seat.Call.{Call}
 use Rattle.lab_engine.specs.Journal.{EngineRun}
-use Rattle.lab_session.specs.Bench.{IsSoundRun}
 use Rattle.lab_session.specs.Seats.{Seated, IsLogged, GrowsBy, last_outcome}
-use Rattle.lab_session.specs.Turns.{holding}
 
 -- what the last of the calls was answered
 pub last_is : (calls : List Call) (call : Call) → last_outcome (calls ++ call ∷ []) ≡ Some call.receipt.outcome
@@ -43,12 +40,12 @@ grown seat command receipt before calls holds same is answered =
     let all : calls ≡ seat.calls ++ call ∷ [] = is ∙ ap (λ l. l ++ call ∷ []) same in
     record { session = refl; calls = all; answered = answered; reply = ap last_outcome all ∙ last_is seat.calls call }
 
--- the receipt of an event that was appended
-pub logged : (level : Level) (setup : Table) (old : List LogEvent) (new : EngineRun) (session : ℕ) (command : Command) (receipt : Receipt) → Appends level setup old new.log session command receipt.outcome
-    → receipt.place ≡ length new.log → IsSoundRun new → IsLogged session receipt
-logged level setup old new session command receipt appends place sound = record {
+-- the receipt of an event that was appended in a lab
+pub logged : (Runs : EngineRun → Type 0) (level : Level) (setup : Table) (old : List LogEvent) (new : EngineRun) (session : ℕ) (command : Command) (receipt : Receipt)
+    → Appends level setup old new.log session command receipt.outcome → receipt.place ≡ length new.log → Runs new → IsLogged Runs session receipt
+logged Runs level setup old new session command receipt appends place of_lab = record {
   run = new;
-  sound = sound;
+  of_lab = of_lab;
   earlier = old;
   event = record { session = session; command = command; outcome = receipt.outcome };
   log_is = appends.0;
@@ -135,25 +132,3 @@ retry_answers level setup old new session outcome ((t, waits, may), least) (s, h
     let same : t ≡ s = same_Some t s (sym waits ∙ held) in
     answers level setup (past_of old) session s outcome appends.1
     (subst (λ u. IsFree level setup (past_of old) session u ⊎ ((circle : List ℕ) × IsCircle level setup (past_of old) session u circle)) same may)
-
--- a call that a seat's list has more where the seat was given a command to hold
-regrown : (seat held after : Seated) (command given : Command) (receipt : Receipt) → held ≡ holding seat command → held.holds ≡ Some given → GrowsBy held after given receipt
-    → GrowsBy seat after command receipt
-regrown seat held after command given receipt same holds grows =
-    let call : Command → Call = λ c. record { command = c; receipt = receipt } in
-    let is : given ≡ command = same_Some given command (sym holds ∙ ap (λ (s : Seated). s.holds) same) in
-    let session : after.session ≡ seat.session = grows.session ∙ ap (λ (s : Seated). s.session) same in
-    let before : held.calls ≡ seat.calls = ap (λ (s : Seated). s.calls) same in
-    let calls : after.calls ≡ seat.calls ++ call command ∷ [] = grows.calls ∙ ap (λ l. l ++ call given ∷ []) before ∙ ap (λ c. seat.calls ++ call c ∷ []) is in
-    record { session = session; calls = calls; answered = grows.answered; reply = grows.reply }
-
--- what is answered where a seat was given a command to hold
-module _ {E : Type 0} (seat held : Seated) (command : Command) (result : Result Seated E) (same : held ≡ holding seat command)
-    (answered : IfOk result (λ s. (given : Command) × (receipt : Receipt) × (held.holds ≡ Some given) × GrowsBy held s given receipt × IsLogged held.session receipt)) where
-  pub answered_since : IfOk result (λ s. (receipt : Receipt) × GrowsBy seat s command receipt × IsLogged seat.session receipt)
-  answered_since = IfOk-weaker result _ _ (λ s p. (p.1, regrown seat held s command p.0 p.1 same p.2 p.3, subst (λ n. IsLogged n p.1) (ap (λ (h : Seated). h.session) same) p.4)) answered
-
-  pub answered_again : seat.holds ≡ Some command
-      → IfOk result (λ s. (given : Command) × (receipt : Receipt) × (seat.holds ≡ Some given) × GrowsBy seat s given receipt × IsLogged seat.session receipt)
-  answered_again holds = IfOk-weaker result _ _
-      (λ s p. (command, p.1, holds, regrown seat held s command p.0 p.1 same p.2 p.3, subst (λ n. IsLogged n p.1) (ap (λ (h : Seated). h.session) same) p.4)) answered

@@ -12,10 +12,9 @@ use Rattle.lab_engine.specs.OverLimit.{BreaksLimit}
 use Rattle.lab_history.specs.declared.fault.Limit.{Limit}
 use Rattle.lab_session.specs.declared.seat.Call.{Call}
 use Rattle.lab_session.specs.declared.fault.LabFault.{LabFault}
-use Rattle.lab_session.specs.declared.fault.LabFault.TheVariants.{NothingWaiting}
+use Rattle.lab_session.specs.declared.fault.LabFault.TheVariants as lab_fault
 use Rattle.lab_session.specs.Seats.{Seated}
 use Rattle.lab_session.specs.Bench.{IsSoundRun, IsFull}
-use Rattle.lab_session.specs.Waiting.{TellsFull}
 use Rattle.lab_session.specs.declared.free.Ended.{Ended}
 use Rattle.lab_session.specs.declared.fault.PlayFault.{PlayFault}
 use Rattle.lab_session.specs.declared.fault.PlayFault.TheVariants.{NoMemory, OverLimit, Close, NoThread, Full}
@@ -47,9 +46,15 @@ pub record IsFirstOf (ended : List Ended) (fault : LabFault) : Type 0 where
 abbrev pub IsUnused : Seated → Type 0
 IsUnused seat = seat.calls ≡ []
 
--- a fault that a thread may give back: it submits before it resumes, and a log that is told to be full is
+-- some legal log is full where that is told
+abbrev pub TellsSomeFull : LabFault → Type 0
+TellsSomeFull (lab_fault.NoMemory waits) = Unit {0}
+TellsSomeFull (lab_fault.Full waits) = (run : EngineRun) × IsFull run
+TellsSomeFull lab_fault.NothingWaiting = Unit {0}
+
+-- a fault that a thread may give back: it submits before it resumes, and some log that is told to be full is
 abbrev pub IsRefusal : Option LabFault → Type 0
-IsRefusal fault = (fault ≢ Some NothingWaiting) × IfSome fault TellsFull
+IsRefusal fault = (fault ≢ Some lab_fault.NothingWaiting) × IfSome fault TellsSomeFull
 
 -- a thread's seat has all that its session gives, where nothing was refused
 pub record IsEnded (lines : List Line) (seat : Seated) (fault : Option LabFault) : Type 0 where

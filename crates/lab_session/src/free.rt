@@ -3,9 +3,8 @@
 ghost use Rattle.std.specs.Prelude.{◌≡◌, ◌≢◌, [], ◌++◌, map, None, false, true, OnOk, IfOk, IfErr, IfSome, IfNone};
 ghost use Rattle.std.specs.List.{All};
 ghost use Rattle.lab_engine.specs.RecordedLog.{IsSoundRecord};
-ghost use Rattle.lab_session.specs.Waiting.{TellsFull};
 ghost use Rattle.lab_session.specs.Play.{given_lines, commands_of};
-ghost use Rattle.lab_session.specs.Free.{IsFirstOf, IsUnused, HasOneMore, IsPlayedSeat, IsRefusal, IsEnded, AllPlayed, IsStop, AllSessionsPlayed, IsFreeFault};
+ghost use Rattle.lab_session.specs.Free.{IsFirstOf, IsUnused, HasOneMore, IsPlayedSeat, TellsSomeFull, IsRefusal, IsEnded, AllPlayed, IsStop, AllSessionsPlayed, IsFreeFault};
 
 use crate::fault::{LabFault, PlayFault, refused_play, unclosed};
 use crate::kept::{Kept, Origin};
@@ -63,7 +62,7 @@ fn give<E: Engine + Drop, R: Wait>(
 ) -> Result<Seat, (Seat, LabFault)>
     ensures more { IfOk result (λ given. HasOneMore seat given command.now) }
     ensures fault { IfErr result (λ e. e.1 ≢ LabFault.NothingWaiting) }
-    ensures full { IfErr result (λ e. TellsFull e.1) }
+    ensures full { IfErr result (λ e. TellsSomeFull e.1) }
 {
     let Ok(command) = command.copy(alloc) else {
         return Err((seat, LabFault::NoMemory { waiting: false }));
@@ -83,7 +82,7 @@ fn give_lines<E: Engine + Drop, G: Gate, R: Wait>(
     requires { IsUnused seat }
     ensures played { IfOk result (IsPlayedSeat (given_lines lines.now)) }
     ensures fault { IfErr result (λ e. e.1 ≢ LabFault.NothingWaiting) }
-    ensures full { IfErr result (λ e. TellsFull e.1) }
+    ensures full { IfErr result (λ e. TellsSomeFull e.1) }
 {
     let session = seat.session();
     let mut seat = seat;
@@ -261,7 +260,7 @@ fn first_fault(ended: &[Ended]) -> Option<LabFault>
     ensures first { IfSome result (IsFirstOf ended.now) }
     ensures none { IfNone result (All (λ e. e.fault ≡ None) ended.now) }
     ensures some { IfSome result (λ fault. fault ≢ LabFault.NothingWaiting) }
-    ensures full { IfSome result TellsFull }
+    ensures full { IfSome result TellsSomeFull }
 {
     for one in ended {
         if let Some(fault) = one.fault {

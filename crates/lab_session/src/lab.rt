@@ -1,16 +1,17 @@
 //! A bench that threads share, and the seats of its sessions.
 
-ghost use Rattle.std.specs.Prelude.{◌≡◌, ◌≢◌, ◌≤◌, ℕ, None, Some, [], true, map, is_some, IsSome, IfOk, IfErr};
+ghost use Rattle.std.specs.Prelude.{◌≡◌, ◌≢◌, ◌≤◌, ℕ, None, Some, [], true, false, map, is_some, IsSome, IfOk, IfErr};
 ghost use Rattle.lab_engine.specs.declared.event.EngineFault.TheVariants.{Busy};
 ghost use Rattle.lab_engine.specs.declared.event.Outcome.TheVariants.{Refused};
 ghost use Rattle.lab_engine.specs.Journal.{EngineRun};
 ghost use Rattle.lab_engine.specs.Log.{past_of, active, asked as asks_for};
 ghost use Rattle.lab_engine.specs.Recording.{numbers_from};
 ghost use Rattle.lab_engine.specs.RecordedLog.{IsSoundRecord};
-ghost use Rattle.lab_session.specs.Bench.{IsSoundRun};
+ghost use Rattle.lab_session.specs.Bench.{IsRunOf, IsSoundRun};
 ghost use Rattle.lab_session.specs.Seats.{new_seat, last_outcome, IsLogged, GrowsBy};
 ghost use Rattle.lab_session.specs.Closing.{AreClosed, IsLabCloseFault};
-ghost use Rattle.lab_session.specs.Waiting.{still_waits, handed_back, RestsOrHolds, TellsFull};
+ghost use Rattle.lab_session.specs.Waiting.{still_waits, handed_back, IsTold, IsToldOfHeld};
+ghost use Rattle.lab_session.specs.Turns.{holding, IsSteppedIn, IsRetriedIn, IsAnswered, IsGoneOn};
 
 use crate::bench::Bench;
 use crate::fault::{CloseFault, LabFault};
@@ -100,7 +101,8 @@ impl<E: Engine + Drop> Lab<E> {
     }
 
     /// Waits until the command that a seat holds may be retried, and is answered. Where the play is given up before,
-    /// the command waits on, and the seat is handed back.
+    /// the command waits on, and the seat is handed back. That it waits on is looked at: another seat of the session, of
+    /// another lab, might have been given the answer.
     fn waited<R: Wait>(
         &self,
         rt: &R,
@@ -109,12 +111,12 @@ impl<E: Engine + Drop> Lab<E> {
         seat: Seat,
     ) -> Result<Seat, (Seat, LabFault)>
         requires { IsSome seat.holds }
-        ensures answered { IfOk result (λ s. (command : _) × (r : _) × (seat.holds ≡ Some command) × GrowsBy seat s command r × IsLogged seat.session r) }
+        ensures retried { IfOk result (IsRetriedIn (IsRunOf E.kind E.opening E.events) seat) }
         ensures holds { IfOk result (λ s. s.holds ≡ None) }
         ensures apart { IfOk result (λ s. last_outcome s.calls ≢ Some (Refused Busy)) }
         ensures seat { IfErr result (λ e. e.0 ≡ seat) }
         ensures waiting { IfErr result (λ e. still_waits e.1 ≡ true) }
-        ensures full { IfErr result (λ e. TellsFull e.1) }
+        ensures told { IfErr result (λ e. IsTold (IsRunOf E.kind E.opening E.events) seat.session e.1) }
     {
         let mut shared = shared;
         let mut seat = seat;
@@ -125,7 +127,7 @@ impl<E: Engine + Drop> Lab<E> {
                     return Ok(seat);
                 }
                 Ok(None) => {
-                    if shared.given_up {
+                    if shared.given_up && shared.bench.is_waiting(seat.session) {
                         return Err((seat, ended(&shared.bench)));
                     }
                 }
@@ -150,13 +152,14 @@ impl<E: Engine + Drop> Lab<E> {
         seat: Seat,
         command: Command,
     ) -> Result<Seat, (Seat, LabFault)>
-        ensures answered { IfOk result (λ s. (r : _) × GrowsBy seat s command r × IsLogged seat.session r) }
-        ensures holds { IfOk result (λ s. RestsOrHolds seat.holds s.holds) }
+        ensures answered { IfOk result (λ s. (r : _) × GrowsBy seat s command r × IsLogged (IsRunOf E.kind E.opening E.events) seat.session r) }
+        ensures turns { IfOk result (λ s. (old : _) × IsAnswered (IsRunOf E.kind E.opening E.events) old seat s command) }
         ensures busy { IfOk result (λ s. last_outcome s.calls ≡ Some (Refused Busy) → s.holds ≡ seat.holds) }
         ensures at_once { IfOk result (λ s. asks_for command ≡ None → s.holds ≡ seat.holds) }
         ensures seat { IfErr result (λ e. e.0 ≡ handed_back seat command e.1) }
+        ensures told { IfErr result (λ e. IsTold (IsRunOf E.kind E.opening E.events) seat.session e.1) }
+        ensures waits { IfErr result (λ e. still_waits e.1 ≡ true → (old : _) × IsSteppedIn (IsRunOf E.kind E.opening E.events) old seat (holding seat command) command false) }
         ensures fault { IfErr result (λ e. e.1 ≢ LabFault.NothingWaiting) }
-        ensures full { IfErr result (λ e. TellsFull e.1) }
     {
         let mut seat = seat;
         let mut shared = self.shared.lock(rt);
@@ -184,19 +187,23 @@ impl<E: Engine + Drop> Lab<E> {
         alloc: Global,
         seat: Seat,
     ) -> Result<Seat, (Seat, LabFault)>
-        ensures answered { IfOk result (λ s. (command : _) × (r : _) × (seat.holds ≡ Some command) × GrowsBy seat s command r × IsLogged seat.session r) }
+        ensures answered { IfOk result (λ s. (command : _) × (r : _) × (seat.holds ≡ Some command) × GrowsBy seat s command r × IsLogged (IsRunOf E.kind E.opening E.events) seat.session r) }
+        ensures turns { IfOk result (IsGoneOn (IsRunOf E.kind E.opening E.events) seat) }
         ensures holds { IfOk result (λ s. s.holds ≡ None) }
         ensures seat { IfErr result (λ e. e.0 ≡ seat) }
         ensures nothing { IfErr result (λ e. e.1 ≡ LabFault.NothingWaiting → seat.holds ≡ None) }
-        ensures full { IfErr result (λ e. TellsFull e.1) }
+        ensures told { IfErr result (λ e. e.1 ≢ LabFault.NothingWaiting → IsToldOfHeld (IsRunOf E.kind E.opening E.events) seat.session e.1) }
     {
         if seat.holds.is_none() {
             return Err((seat, LabFault::NothingWaiting));
         }
         let mut seat = seat;
         let mut shared = self.shared.lock(rt);
+        if shared.bench.is_waiting(seat.session) {
+            return self.waited(rt, alloc, shared, seat);
+        }
         match gone_on(&mut shared.bench, alloc, &mut seat) {
-            Ok(Some(progress)) => {
+            Ok(progress) => {
                 let Progress { answered, change } = progress;
                 change.wake(&self.changed);
                 if answered {
@@ -204,7 +211,6 @@ impl<E: Engine + Drop> Lab<E> {
                 }
                 self.waited(rt, alloc, shared, seat)
             }
-            Ok(None) => self.waited(rt, alloc, shared, seat),
             Err(fault) => Err((seat, fault)),
         }
     }

@@ -1,6 +1,6 @@
 //! What is done under the lock of a lab: each function here is lent the bench for one turn.
 
-ghost use Rattle.std.specs.Prelude.{◌≡◌, ◌≢◌, ◌<◌, ◌≤◌, ◌+◌, None, Some, true, false, length, IsSome, IsOk, IfOk, IfErr, OnOk, OnErr, IfSome, IfNone, Err};
+ghost use Rattle.std.specs.Prelude.{◌≡◌, ◌≢◌, ◌<◌, ◌≤◌, ◌+◌, None, Some, true, false, length, IsSome, IsOk, IfOk, IfErr, OnOk, OnErr, IfSome, IfNone};
 ghost use Rattle.std.specs.Vec.{vec_capacity};
 ghost use Rattle.lab_engine.specs.Limits.{max_events};
 ghost use Rattle.lab_engine.specs.Engine.{Ends};
@@ -8,7 +8,7 @@ ghost use Rattle.lab_engine.specs.declared.event.EngineFault.TheVariants.{Busy};
 ghost use Rattle.lab_engine.specs.declared.event.Outcome.TheVariants.{Refused};
 ghost use Rattle.lab_engine.specs.Log.{past_of, waiting, asked as asks_for};
 ghost use Rattle.lab_engine.specs.Recording.{IsLeastRetryable};
-ghost use Rattle.lab_session.specs.Bench.{IsFull};
+ghost use Rattle.lab_session.specs.Bench.{IsRunOf, IsFull};
 ghost use Rattle.lab_session.specs.Waiting.{still_waits, lab_fault_of, TellsFull};
 ghost use Rattle.lab_session.specs.Seats.{last_outcome, IsOpen};
 ghost use Rattle.lab_session.specs.Turns.{resting, IsStepped, IsRetried};
@@ -58,6 +58,8 @@ pub(crate) fn stepped<E: Engine>(
     command: Command,
 ) -> Result<Progress, (Command, LabFault)>
     ensures stepped { IfOk result (λ progress. IsStepped bench.old bench.new seat.old seat.new command progress.answered) }
+    ensures before { IsRunOf E.kind E.opening E.events bench.old }
+    ensures behind { OnOk result (IsRunOf E.kind E.opening E.events bench.new) }
     ensures waits { IfOk result (λ progress. progress.answered ≡ false → IsSome (waiting (past_of bench.new.log) seat.old.session)) }
     ensures asks { IfOk result (λ progress. progress.answered ≡ false → asks_for command ≢ None) }
     ensures level { bench.new.level ≡ bench.old.level }
@@ -67,9 +69,8 @@ pub(crate) fn stepped<E: Engine>(
     ensures command { IfErr result (λ e. e.0 ≡ command) }
     ensures waiting { IfErr result (λ e. still_waits e.1 ≡ false) }
     ensures fault { IfErr result (λ e. e.1 ≢ LabFault.NothingWaiting) }
-    ensures full { IfErr result (λ e. e.1 ≡ LabFault.Full false → length bench.old.log ≡ max_events) }
+    ensures full { IfErr result (λ e. TellsFull bench.old e.1) }
     ensures end { length bench.old.log < max_events → Ends (past_of bench.old.log) seat.old.session command → IsOpen seat.old.calls → IsOk result }
-    ensures told { IfErr result (λ e. TellsFull e.1) }
 {
     let ends = bench.ends(seat.session, &command);
     if reserve_call(&mut seat.calls, ends).is_err() {
@@ -94,37 +95,31 @@ pub(crate) fn stepped<E: Engine>(
     })
 }
 
-/// Steps the command that a seat holds, as [`stepped`] does; answered, the seat holds none. None where the session waits,
-/// and then nothing is done.
+/// Steps the command that a seat holds, as [`stepped`] does; answered, the seat holds none. Refused, it isn't waiting, and
+/// nothing has changed.
 pub(crate) fn gone_on<E: Engine>(
     bench: &mut Bench<E>,
     alloc: Global,
     seat: &mut Seat,
-) -> Result<Option<Progress>, LabFault>
+) -> Result<Progress, LabFault>
     requires { IsSome seat.old.holds }
-    ensures stepped { IfOk result (λ done. IfSome done (λ progress. (command : _) × (seat.old.holds ≡ Some command)
-        × IsStepped bench.old bench.new (resting seat.old) seat.new command progress.answered)) }
-    ensures rests { IfOk result (λ done. IfSome done (λ progress. waiting (past_of bench.old.log) seat.old.session ≡ None)) }
-    ensures waits { IfOk result (λ done. IfNone done (IsSome (waiting (past_of bench.old.log) seat.old.session))) }
-    ensures same_log { IfOk result (λ done. IfNone done (bench.new.log ≡ bench.old.log)) }
-    ensures same_seat { IfOk result (λ done. IfNone done (seat.new ≡ seat.old)) }
+    ensures stepped { IfOk result (λ progress. (command : _) × (seat.old.holds ≡ Some command)
+        × IsStepped bench.old bench.new (resting seat.old) seat.new command progress.answered) }
+    ensures before { IsRunOf E.kind E.opening E.events bench.old }
+    ensures behind { OnOk result (IsRunOf E.kind E.opening E.events bench.new) }
     ensures level { bench.new.level ≡ bench.old.level }
     ensures setup { bench.new.setup ≡ bench.old.setup }
     ensures log { OnErr result (bench.new.log ≡ bench.old.log) }
     ensures seat { OnErr result (seat.new ≡ seat.old) }
     ensures waiting { IfErr result (λ e. still_waits e ≡ false) }
     ensures fault { IfErr result (λ e. e ≢ LabFault.NothingWaiting) }
-    ensures full { result ≡ Err (LabFault.Full false) → length bench.old.log ≡ max_events }
-    ensures told { IfErr result TellsFull }
+    ensures full { IfErr result (TellsFull bench.old) }
 {
-    if bench.is_waiting(seat.session) {
-        return Ok(None);
-    }
     let Some(command) = seat.holds.take() else {
         unreachable!()
     };
     match stepped(bench, alloc, seat, command) {
-        Ok(progress) => Ok(Some(progress)),
+        Ok(progress) => Ok(progress),
         Err(refused) => {
             let (command, fault) = refused;
             seat.holds = Some(command);
@@ -143,6 +138,8 @@ pub(crate) fn retried<E: Engine>(
 ) -> Result<Option<Change>, LabFault>
     requires { IsSome seat.old.holds }
     ensures retried { IfOk result (λ done. IfSome done (λ change. IsRetried bench.old bench.new seat.old seat.new)) }
+    ensures before { IsRunOf E.kind E.opening E.events bench.old }
+    ensures behind { OnOk result (IsRunOf E.kind E.opening E.events bench.new) }
     ensures apart { IfOk result (λ done. IfSome done (λ change. last_outcome seat.new.calls ≢ Some (Refused Busy))) }
     ensures not_due { IfOk result (λ done. IfNone done (¬ IsLeastRetryable bench.old.level bench.old.setup (past_of bench.old.log) seat.old.session)) }
     ensures same_log { IfOk result (λ done. IfNone done (bench.new.log ≡ bench.old.log)) }
@@ -152,9 +149,8 @@ pub(crate) fn retried<E: Engine>(
     ensures log { OnErr result (bench.new.log ≡ bench.old.log) }
     ensures seat { OnErr result (seat.new ≡ seat.old) }
     ensures waiting { IfErr result (λ e. still_waits e ≡ true) }
-    ensures waits { OnErr result (IsSome (waiting (past_of bench.new.log) seat.old.session)) }
-    ensures full { result ≡ Err (LabFault.Full true) → length bench.old.log ≡ max_events }
-    ensures told { IfErr result TellsFull }
+    ensures waits { OnErr result (IsSome (waiting (past_of bench.old.log) seat.old.session)) }
+    ensures full { IfErr result (TellsFull bench.old) }
 {
     if bench.retryable() != Some(seat.session) {
         return Ok(None);
@@ -174,10 +170,10 @@ pub(crate) fn retried<E: Engine>(
     Ok(Some(change))
 }
 
-/// What a waiting session is told where a play is given up: that the log is full, or that memory was wanted.
+/// What a session whose command waits is told where a play is given up: that the log is full, or that memory was wanted.
 pub(crate) fn ended<E: Engine>(bench: &Bench<E>) -> LabFault
     ensures waiting { still_waits result ≡ true }
-    ensures told { TellsFull result }
+    ensures full { TellsFull bench.now result }
     ensures room { result ≡ LabFault.NoMemory true → ¬ IsFull bench.now }
 {
     if bench.is_full() {

@@ -1,4 +1,4 @@
 use Rattle.lab_session.proofs.turn.ended.Goals as goal
 
-pub returns-then-is_full-clause-told : goal.returns-then-is_full-clause-told
-returns-then-is_full-clause-told g c = (c.args.bench.now, c.is_full.ensures.0 c.if-is_full.true)
+pub returns-then-is_full-clause-full : goal.returns-then-is_full-clause-full
+returns-then-is_full-clause-full g c = c.is_full.ensures.0 c.if-is_full.true

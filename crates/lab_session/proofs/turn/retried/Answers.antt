@@ -6,14 +6,14 @@ use Rattle.lab_session.specs.Seats.{Seated, GrowsBy}
 use Rattle.lab_session.specs.Turns.{IsRetried}
 use Rattle.lab_session.specs.Waiting.{TellsFull}
 use Rattle.lab_session.proofs.Filled.{tells_full}
-use Rattle.lab_session.proofs.Turning.{grown, logged, not_least, not_told_busy, retry_answers}
+use Rattle.lab_session.proofs.Turning.{grown, not_least, not_told_busy, retry_answers}
 use Rattle.lab_session.proofs.turn.retried.Goals as goal
 
 pub returns-then-ne-clause-not_due : goal.returns-then-ne-clause-not_due
 returns-then-ne-clause-not_due g c =
     let run = c.args.bench.now in
     let apart : c.retryable.result ≢ Some c.args.seat.now.session = search rules in
-    not_least run.level run.setup (past_of run.log) c.args.seat.now.session c.retryable.result c.retryable.ensures apart
+    not_least run.level run.setup (past_of run.log) c.args.seat.now.session c.retryable.result c.retryable.ensures.least apart
 
 pub returns-clause-retried : goal.returns-clause-retried
 returns-clause-retried g c =
@@ -22,7 +22,7 @@ returns-clause-retried g c =
     let after : Seated = record { session = c.seat.inside.session; calls = c.push_reserved.new.self.items; holds = c.take.new.self } in
     let is : c.retryable.result ≡ Some c.seat.inside.session = search rules in
     let due : IsLeastRetryable run.level run.setup (past_of run.log) c.seat.inside.session =
-    subst (λ r. MatchOption r (NoneRetryable run.level run.setup (past_of run.log)) (IsLeastRetryable run.level run.setup (past_of run.log))) is c.retryable.ensures in
+    subst (λ r. MatchOption r (NoneRetryable run.level run.setup (past_of run.log)) (IsLeastRetryable run.level run.setup (past_of run.log))) is c.retryable.ensures.least in
     let answered : is_answer c.in-Ok.receipt.outcome ≡ true =
     retry_answers run.level run.setup run.log c.retry.new.self.log c.seat.inside.session c.in-Ok.receipt.outcome due c.in-Ok.ensures.retry in
     let grows : GrowsBy inside after c.in-Some.command c.in-Ok.receipt =
@@ -34,15 +34,14 @@ returns-clause-retried g c =
       receipt = c.in-Ok.receipt;
       retry = c.in-Ok.ensures.retry;
       place = c.in-Ok.ensures.place;
-      logged = logged run.level run.setup run.log c.retry.new.self c.seat.inside.session _ c.in-Ok.receipt c.in-Ok.ensures.retry.2 c.in-Ok.ensures.place c.in-Ok.ensures.sound;
       command = c.in-Some.command;
       held = held;
       listed = grows;
       rests = rests;
     })
 
-pub returns-in-Err-clause-told : goal.returns-in-Err-clause-told
-returns-in-Err-clause-told g c = subst TellsFull (sym c.lab_fault.ensures) (tells_full c.args.bench.now c.in-Err.fault true c.in-Err.ensures.filled)
+pub returns-in-Err-clause-full : goal.returns-in-Err-clause-full
+returns-in-Err-clause-full g c = subst (TellsFull c.args.bench.now) (sym c.lab_fault.ensures) (tells_full c.args.bench.now c.in-Err.fault true c.in-Err.ensures.filled)
 
 pub returns-clause-apart : goal.returns-clause-apart
 returns-clause-apart g c =
@@ -51,7 +50,7 @@ returns-clause-apart g c =
     let after : Seated = record { session = c.seat.inside.session; calls = c.push_reserved.new.self.items; holds = c.take.new.self } in
     let is : c.retryable.result ≡ Some c.seat.inside.session = search rules in
     let due : IsLeastRetryable run.level run.setup (past_of run.log) c.seat.inside.session =
-    subst (λ r. MatchOption r (NoneRetryable run.level run.setup (past_of run.log)) (IsLeastRetryable run.level run.setup (past_of run.log))) is c.retryable.ensures in
+    subst (λ r. MatchOption r (NoneRetryable run.level run.setup (past_of run.log)) (IsLeastRetryable run.level run.setup (past_of run.log))) is c.retryable.ensures.least in
     let answered : is_answer c.in-Ok.receipt.outcome ≡ true =
     retry_answers run.level run.setup run.log c.retry.new.self.log c.seat.inside.session c.in-Ok.receipt.outcome due c.in-Ok.ensures.retry in
     not_told_busy run.level run.setup run.log c.retry.new.self.log inside after c.in-Some.command c.in-Ok.receipt c.in-Ok.ensures.retry

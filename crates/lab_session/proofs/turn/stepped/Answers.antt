@@ -10,7 +10,7 @@ use Rattle.lab_session.specs.Turns.{IsStepped}
 use Rattle.lab_session.specs.Waiting.{TellsFull}
 use Rattle.lab_session.proofs.Filled.{tells_full}
 use Rattle.lab_session.proofs.Places.{placed, no_end}
-use Rattle.lab_session.proofs.Turning.{grown, logged, unanswered_waits, unanswered_asks}
+use Rattle.lab_session.proofs.Turning.{grown, unanswered_waits, unanswered_asks}
 use Rattle.lab_session.proofs.turn.stepped.Goals as goal
 
 pub returns-then-not-is_answered-clause-stepped : goal.returns-then-not-is_answered-clause-stepped
@@ -22,7 +22,6 @@ returns-then-not-is_answered-clause-stepped g c =
       receipt = c.in-Ok.receipt;
       step = c.in-Ok.ensures.step;
       place = c.in-Ok.ensures.place;
-      logged = logged c.args.bench.now.level c.args.bench.now.setup c.args.bench.now.log c.step.new.self c.seat.inside.session c.args.command c.in-Ok.receipt c.in-Ok.ensures.step.0 c.in-Ok.ensures.place c.in-Ok.ensures.sound;
       answer = answer;
       listed = λ is. absurd (both_ways false refl is);
       kept = λ is. absurd (both_ways false refl is);
@@ -40,7 +39,6 @@ returns-clause-stepped g c =
       receipt = c.in-Ok.receipt;
       step = c.in-Ok.ensures.step;
       place = c.in-Ok.ensures.place;
-      logged = logged c.args.bench.now.level c.args.bench.now.setup c.args.bench.now.log c.step.new.self c.seat.inside.session c.args.command c.in-Ok.receipt c.in-Ok.ensures.step.0 c.in-Ok.ensures.place c.in-Ok.ensures.sound;
       answer = answer;
       listed = λ is. grows;
       kept = λ is. refl;
@@ -54,8 +52,8 @@ returns-then-not-is_answered-clause-waits g c =
     subst (λ (s : Seated). false ≡ false → IsSome (waiting (past_of c.step.new.self.log) s.session)) c.seat.view_is
     (λ is. unanswered_waits run.level run.setup run.log c.step.new.self.log c.seat.inside.session c.args.command c.in-Ok.receipt.outcome c.in-Ok.ensures.step answer)
 
-pub returns-in-Err-clause-told : goal.returns-in-Err-clause-told
-returns-in-Err-clause-told g c = subst TellsFull (sym c.lab_fault.ensures) (tells_full c.args.bench.now c.in-Err.fault false c.in-Err.ensures.filled)
+pub returns-in-Err-clause-full : goal.returns-in-Err-clause-full
+returns-in-Err-clause-full g c = subst (TellsFull c.args.bench.now) (sym c.lab_fault.ensures) (tells_full c.args.bench.now c.in-Err.fault false c.in-Err.ensures.filled)
 
 pub returns-then-not-is_answered-clause-asks : goal.returns-then-not-is_answered-clause-asks
 returns-then-not-is_answered-clause-asks g c =
@@ -70,4 +68,4 @@ invariant_of-seat-2 g c =
     let call : Call = record { command = c.args.command; receipt = c.in-Ok.receipt } in
     placed c.reserve_call.new.calls.items c.push_reserved.new.self.items call (vec_capacity c.push_reserved.new.self) c.push_reserved.ensures.items
     (λ going. subst (λ n. length c.reserve_call.new.calls.items + 1 < n) (sym c.push_reserved.ensures.capacity)
-    (behind (no_end run.level run.setup (past_of run.log) c.seat.inside.session c.args.command c.in-Ok.receipt.outcome c.ends-ends.result c.ends-ends.ensures c.in-Ok.ensures.step.0.1 going)))
+    (behind (no_end run.level run.setup (past_of run.log) c.seat.inside.session c.args.command c.in-Ok.receipt.outcome c.ends-ends.result c.ends-ends.ensures.ends c.in-Ok.ensures.step.0.1 going)))

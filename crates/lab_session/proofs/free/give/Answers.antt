@@ -1,0 +1,9 @@
+use Rattle.lab_engine.specs.Journal.{EngineRun}
+use Rattle.lab_session.specs.Bench.{IsRunOf}
+use Rattle.lab_session.proofs.Filled.{some_full}
+use Rattle.lab_session.proofs.free.give.Goals as goal
+
+pub returns-clause-full : goal.returns-clause-full
+returns-clause-full g c =
+    let Runs : EngineRun → Type 0 = IsRunOf g.E.Engine.kind g.E.Engine.opening g.E.Engine.events in
+    some_full Runs c.args.seat.session c.submit.result c.submit.ensures.told
