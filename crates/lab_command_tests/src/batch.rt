@@ -33,8 +33,13 @@ fn batch_tells_a_file_of_which_a_read_fails(rt: HostRuntime) -> Result<(), Fail>
                 is_called: &is_written,
             };
             let names = ["whole", "failing", "whole"];
-            let run = batch(&files, rt.alloc(), &names, &mut writer);
+            let mut notes = Sink::new(rt.alloc(), 9_000, 0);
+            let run = batch(&files, rt.alloc(), &names, &mut writer, &mut notes);
             assert_eq!(rt; writer.sink.text.as_slice(), WRITTEN, "at call {fails_at}");
+            assert!(rt;
+                notes.text.starts_with(b"whole: line 1, column "),
+                "at call {fails_at}"
+            );
             assert_eq!(rt; run, Ok(3), "at call {fails_at}");
         }
     }

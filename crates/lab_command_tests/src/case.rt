@@ -60,7 +60,7 @@ pub fn given<T: Files + Threads + Wait + Sync, R: Read, W: Write, N: Write>(
         Subcommand::Explain { asked } => explain(alloc, reader, writer, notes, asked),
         Subcommand::Case { name } => case_script(alloc, name, writer),
         Subcommand::Matrix => matrix(alloc, writer),
-        Subcommand::Batch { names } => return batch(rt, alloc, names, writer),
+        Subcommand::Batch { names } => return batch(rt, alloc, names, writer, notes),
     };
     match ending {
         Ok(ending) => Ok(status(Ok(ending))),

@@ -1,6 +1,6 @@
 //! The subcommand `batch`: the reports of many files.
 
-ghost use Rattle.std.specs.Prelude.{◌≡◌, ◌≢◌, ◌⊎◌, ◌++◌, List, ℕ, Option, length, map, IfOk, IfErr, OnOk};
+ghost use Rattle.std.specs.Prelude.{◌≡◌, ◌≢◌, ◌⊎◌, ◌++◌, List, ℕ, Option, length, map, IfOk, IfErr, OnOk, OnErr};
 ghost use Rattle.std.specs.Io.KnownBytes.{Appends, Keeps};
 ghost use Rattle.std.specs.List.{zip};
 ghost use Rattle.lab_commands.specs.Batching.{IsBatchAnswer, input_of, part_text, part_status};
@@ -190,6 +190,7 @@ pub fn batch<T: Files + Threads + Sync, W: Write, N: Write>(
         × Appends (W.contents writer.old) (W.contents writer.new) text × IsBatchAnswer (map (λ name. name.now) names.now) inputs text status) }
     ensures unread_is_told { IfErr result (λ fault. fault ≢ RunFault.Unread) }
     ensures silent { IfErr result (λ fault. (fault ≡ RunFault.Unwritten) ⊎ Keeps (W.contents writer.old) (W.contents writer.new)) }
+    ensures hint_last { OnErr result (Keeps (N.contents notes.old) (N.contents notes.new)) }
 {
     let inputs = read_files(rt, alloc, names)?;
     let answer = batch_answer(rt, alloc, names, &inputs)?;
