@@ -273,3 +273,14 @@ def read(text):
     if reader.setup is None:
         raise Fault(number + 1, "NoSetup")
     return Script(reader.setup, tuple(reader.commands), tuple(sorted(reader.tables)))
+
+
+def statement_of(text):
+    """The statement of a text that has one and nothing else, as a history's operations have it."""
+    reader = Reader()
+    reader.take_line(text)
+    kind, statement = reader.command() or ("set", None)
+    reader.have(";")
+    if reader.peek() or not statement:
+        raise Wrong("UnknownStatement")
+    return statement
