@@ -1,6 +1,6 @@
 //! Free plays whose order a gate forces: at each level the log is the one that the level's rules leave.
 
-use crate::instrumented::{Counts, Refusals, play_instrumented};
+use crate::instrumented::{Counts, Refusals, comes_to, play_instrumented};
 use lab_engine::{Level, Recording};
 use lab_locking::LockEngine;
 use lab_script::{Script, parse_script};
@@ -11,9 +11,7 @@ use std::alloc::Global;
 use std::sync::atomic::{AtomicU32, Ordering};
 use std::sync::{Arc, Wait};
 use std::test::Fail;
-use std::thread::{Threads, yield_now};
-
-const MAX_TURNS: u32 = 20_000_000;
+use std::thread::Threads;
 
 /// Session 2 begins behind session 1's update. Session 1 commits once the log has so many events, and session 2 behind
 /// that.
@@ -60,12 +58,7 @@ impl Gate for Forcing {
             (2, 3) => self.before_commit.saturating_add(1),
             _ => 0,
         };
-        for _ in 0..MAX_TURNS {
-            if self.counts.events.load(Ordering::SeqCst) >= events {
-                return;
-            }
-            yield_now();
-        }
+        comes_to(&self.counts.events, events);
     }
 
     fn after(&self, session: Session, index: usize) {
@@ -127,15 +120,6 @@ T2 commit: refused WriteConflict row 1 by 1
     ),
 ];
 
-/// What is refused in a play: nothing, or the first retry.
-fn refusals_of(retry: bool) -> Refusals {
-    Refusals {
-        idle: None,
-        statement: None,
-        retry,
-    }
-}
-
 /// A free play of the script on the engine of a level.
 fn play_on<R: Threads + Wait + Sync>(
     rt: &R,
@@ -162,12 +146,12 @@ fn play_on<R: Threads + Wait + Sync>(
     }
 }
 
-/// The same of the script above.
+/// The same of the script above, with so many of the first retries refused.
 fn play_at<R: Threads + Wait + Sync>(
     rt: &R,
     alloc: Global,
     level: Level,
-    refuses: bool,
+    retries: u32,
     gate: &Forcing,
 ) -> Option<Result<Recording, PlayFault>> {
     let script = parse_script(alloc, SCRIPT).ok()?;
@@ -175,7 +159,8 @@ fn play_at<R: Threads + Wait + Sync>(
         drop(script);
         return None;
     };
-    let played = play_on(rt, alloc, level, setup, refusals_of(refuses), &script, gate);
+    let refusals = Refusals::of_retries(retries);
+    let played = play_on(rt, alloc, level, setup, refusals, &script, gate);
     drop(script);
     Some(played)
 }
@@ -187,7 +172,7 @@ fn recording_at<R: Threads + Wait + Sync>(
     level: Level,
     gate: &Forcing,
 ) -> Option<Recording> {
-    play_at(rt, alloc, level, false, gate)?.ok()
+    play_at(rt, alloc, level, 0, gate)?.ok()
 }
 
 /// The text of the log of a recording of this level.
@@ -240,7 +225,7 @@ fn a_forced_play_has_the_log_of_its_level(rt: HostRuntime) -> Result<(), Fail> {
 
 /// Why a play at locking is refused whose first retry has no memory.
 fn fault_of<R: Threads + Wait + Sync>(rt: &R, alloc: Global, gate: &Forcing) -> Option<PlayFault> {
-    play_at(rt, alloc, Level::Locking, true, gate)?.err()
+    play_at(rt, alloc, Level::Locking, 1, gate)?.err()
 }
 
 /// Session 2's select waits, and its retry has no memory.

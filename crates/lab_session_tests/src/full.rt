@@ -157,7 +157,7 @@ fn fault_of<R: Threads + Wait + Sync>(
     let refusals = Refusals {
         idle: Session::new(refused),
         statement: None,
-        retry: false,
+        retries: 0,
     };
     let counts = Counts::new(alloc).ok()?;
     let Some(script) = script_of(alloc, refused, filling) else {

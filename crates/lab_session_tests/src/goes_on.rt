@@ -1,10 +1,11 @@
-//! Commands that are refused memory before their event, and while they wait, and that are told Busy then.
+//! Commands that are refused memory before their event, and while they wait, and that go on then, in their lab or in
+//! another one.
 
-use crate::instrumented::{Counts, Instrumented, Refusals};
+use crate::instrumented::{Counts, Instrumented, Refusals, comes_to};
 use lab_engine::{EngineFault, Outcome};
 use lab_locking::LockEngine;
 use lab_script::parse_script;
-use lab_session::{Lab, LabFault, Seat, print_log};
+use lab_session::{CloseFault, Lab, LabFault, Seat, print_log};
 use lab_statement::parse_statement;
 use lab_table::{Command, Session, Table};
 use std::alloc::Global;
@@ -54,7 +55,7 @@ fn commits<R: Wait>(
     seat: Seat,
     counts: &Counts,
 ) -> Option<Seat> {
-    if !seen(&counts.waits) {
+    if !comes_to(&counts.waits, 1) {
         drop(seat);
         return None;
     }
@@ -121,18 +122,82 @@ fn told_busy<R: Wait>(rt: &R, alloc: Global, lab: &Lab<Refusing>, seat: Seat) ->
     }
 }
 
-/// Refused while it waits it goes on, also behind a command that is told Busy.
-fn refused_behind<R: Wait>(rt: &R, alloc: Global, lab: &Lab<Refusing>, seat: Seat) -> Option<Seat> {
-    let seat = refused(rt, alloc, lab, seat, true)?;
+/// It goes on behind a command that is told Busy.
+fn goes_on_behind<R: Wait>(rt: &R, alloc: Global, lab: &Lab<Refusing>, seat: Seat) -> Option<Seat> {
     let seat = told_busy(rt, alloc, lab, seat)?;
     lab.resume(rt, alloc, seat).ok()
 }
 
-/// Begins, and updates the same row as the other: refused before its event, and while it waits.
-fn updates_too<R: Wait>(rt: &R, alloc: Global, lab: &Lab<Refusing>, seat: Seat) -> Option<Seat> {
+/// A lab of its own over the same table, where nothing waits.
+fn other_lab(alloc: Global) -> Option<Lab<LockEngine>> {
+    let engine = LockEngine::new(alloc, setup(alloc)?);
+    let (lab, seats) = Lab::start(alloc, engine, 2).ok()?;
+    drop(seats);
+    Some(lab)
+}
+
+/// Whether a seat has, behind its begin in the one lab, a begin and the second update in the other, at places 1 and 2.
+fn has_gone_on(alloc: Global, seat: &Seat) -> Option<bool> {
+    let [_, begun, updated] = seat.calls() else {
+        return Some(false);
+    };
+    let update = update(alloc, SECOND)?;
+    let is_as_due = begun.receipt.place == 1
+        && matches!(begun.receipt.outcome, Outcome::Begun(_))
+        && updated.receipt.place == 2
+        && updated.command.equals(&update)
+        && matches!(updated.receipt.outcome, Outcome::Rows { .. });
+    drop(update);
+    Some(is_as_due)
+}
+
+/// The seat that was handed back where nothing was held, if its calls are as they are due.
+fn at_rest(alloc: Global, refused: (Seat, LabFault)) -> Option<Seat> {
+    let (seat, fault) = refused;
+    if fault == LabFault::NothingWaiting && has_gone_on(alloc, &seat) == Some(true) {
+        Some(seat)
+    } else {
+        drop(seat);
+        None
+    }
+}
+
+/// Submits a begin, goes on with what the seat holds, and then holds nothing.
+fn stepped_in<R: Wait>(rt: &R, alloc: Global, lab: &Lab<LockEngine>, seat: Seat) -> Option<Seat> {
+    let seat = lab.submit(rt, alloc, seat, Command::Begin).ok()?;
+    let seat = lab.resume(rt, alloc, seat).ok()?;
+    let refused = lab.resume(rt, alloc, seat).err()?;
+    at_rest(alloc, refused)
+}
+
+/// In another lab, where its session isn't waiting, what the seat holds is stepped.
+fn goes_on_elsewhere<R: Wait>(rt: &R, alloc: Global, seat: Seat) -> Option<Seat> {
+    let Some(lab) = other_lab(alloc) else {
+        drop(seat);
+        return None;
+    };
+    let seat = stepped_in(rt, alloc, &lab, seat);
+    drop(lab);
+    seat
+}
+
+/// Begins, and updates the same row as the other: refused before its event, and while it waits. It goes on in this lab or
+/// in another one.
+fn updates_too<R: Wait>(
+    rt: &R,
+    alloc: Global,
+    lab: &Lab<Refusing>,
+    seat: Seat,
+    elsewhere: bool,
+) -> Option<Seat> {
     let seat = lab.submit(rt, alloc, seat, Command::Begin).ok()?;
     let seat = refused_before(rt, alloc, lab, seat)?;
-    refused_behind(rt, alloc, lab, seat)
+    let seat = refused(rt, alloc, lab, seat, true)?;
+    if elsewhere {
+        goes_on_elsewhere(rt, alloc, seat)
+    } else {
+        goes_on_behind(rt, alloc, lab, seat)
+    }
 }
 
 /// The same once the other has updated.
@@ -142,12 +207,13 @@ fn second<R: Wait>(
     lab: &Lab<Refusing>,
     seat: Seat,
     updated: &AtomicBool,
+    elsewhere: bool,
 ) -> Option<Seat> {
     if !seen(updated) {
         drop(seat);
         return None;
     }
-    updates_too(rt, alloc, lab, seat)
+    updates_too(rt, alloc, lab, seat, elsewhere)
 }
 
 /// Neither want of memory left an event, and Busy left what waits.
@@ -170,7 +236,7 @@ fn lab_of_two(alloc: Global, counts: Arc<Counts, Global>) -> Option<(Lab<Refusin
     let refusals = Refusals {
         idle: None,
         statement: Session::new(2),
-        retry: true,
+        retries: 1,
     };
     let Some(setup) = setup(alloc) else {
         drop(counts);
@@ -186,9 +252,25 @@ fn two(seats: &mut Vec<Seat>) -> Option<(Seat, Seat)> {
     seats.pop().zip(theirs)
 }
 
-/// A lab of two sessions, and their seats.
+/// The same after a close that was refused for want of seats.
+fn unclosed(alloc: Global, lab: Lab<Refusing>) -> Option<Lab<Refusing>> {
+    let (lab, none, fault) = lab.close(alloc, Vec::new(alloc)).err()?;
+    drop(none);
+    if matches!(fault, CloseFault::SeatMissing { .. }) {
+        Some(lab)
+    } else {
+        drop(lab);
+        None
+    }
+}
+
+/// A lab of two sessions whose close was refused, and their seats.
 fn started(alloc: Global, counts: &Arc<Counts, Global>) -> Option<(Lab<Refusing>, Seat, Seat)> {
     let (lab, mut seats) = lab_of_two(alloc, Arc::try_clone(counts).ok()?)?;
+    let Some(lab) = unclosed(alloc, lab) else {
+        drop(seats);
+        return None;
+    };
     let both = two(&mut seats);
     drop(seats);
     let Some((ours, theirs)) = both else {
@@ -244,22 +326,46 @@ fn logged(
     text
 }
 
+/// Whether a run came to what is due: its log, or where session 2 went on in another lab that both sessions have gone on.
+fn is_as_due(
+    alloc: Global,
+    lab: Lab<Refusing>,
+    ours: Option<Seat>,
+    theirs: Option<Seat>,
+    elsewhere: bool,
+) -> bool {
+    if elsewhere {
+        let have_gone_on = ours.is_some() && theirs.is_some();
+        drop(lab);
+        drop(ours);
+        drop(theirs);
+        return have_gone_on;
+    }
+    match logged(alloc, lab, ours, theirs) {
+        Some(text) => text.as_slice() == DUE,
+        None => false,
+    }
+}
+
+/// In its lab, whose close was refused before, and in another one, where nothing of its session waits.
 #[test]
 fn a_command_whose_retry_had_no_memory_goes_on(rt: HostRuntime) -> Result<(), Fail> {
     let alloc = rt.alloc();
-    let counts = Counts::new(alloc)?;
-    let Some((lab, ours, theirs)) = started(alloc, &counts) else {
+    for elsewhere in [false, true] {
+        let counts = Counts::new(alloc)?;
+        let Some((lab, ours, theirs)) = started(alloc, &counts) else {
+            drop(counts);
+            return Err(Fail::from("a lab"));
+        };
+        let updated = AtomicBool::new(false);
+        let (ours, theirs) = thread::join(
+            &rt,
+            || first(&rt, alloc, &lab, ours, &updated, &counts),
+            || second(&rt, alloc, &lab, theirs, &updated, elsewhere),
+        );
         drop(counts);
-        return Err(Fail::from("a lab"));
-    };
-    let updated = AtomicBool::new(false);
-    let (ours, theirs) = thread::join(
-        &rt,
-        || first(&rt, alloc, &lab, ours, &updated, &counts),
-        || second(&rt, alloc, &lab, theirs, &updated),
-    );
-    drop(counts);
-    let text = logged(alloc, lab, ours, theirs).ok_or("a log")?;
-    assert_eq!(rt; text.as_slice(), DUE);
+        let is_as_due = is_as_due(alloc, lab, ours, theirs, elsewhere);
+        assert!(rt; is_as_due, "elsewhere: {elsewhere}");
+    }
     Ok(())
 }

@@ -9,17 +9,34 @@ use lab_script::Script;
 use lab_session::{Gate, PlayFault, play_free};
 use lab_table::{Command, NoMemory, Session, Table};
 use std::alloc::{AllocError, Global};
-use std::sync::atomic::{AtomicBool, AtomicU32, Ordering};
+use std::sync::atomic::{AtomicU32, Ordering};
 use std::sync::{Arc, Wait};
-use std::thread::Threads;
+use std::thread::{Threads, yield_now};
+
+const MAX_TURNS: u32 = 20_000_000;
+
+/// Lets others run until a count has come to a number; false where it doesn't within so many turns.
+pub fn comes_to(count: &AtomicU32, number: u32) -> bool {
+    for _ in 0..MAX_TURNS {
+        if count.load(Ordering::SeqCst) >= number {
+            return true;
+        }
+        yield_now();
+    }
+    false
+}
 
 /// What an engine did so far.
 pub struct Counts {
     /// The events of its log.
     pub events: AtomicU32,
-    /// Whether a command was told to wait.
-    pub waits: AtomicBool,
-    /// The commands of sessions 1 and 2 that were answered, or refused.
+    /// How often a command was told to wait.
+    pub waits: AtomicU32,
+    /// How often it was asked which session may be retried, as one that waits does when it is woken.
+    pub looks: AtomicU32,
+    /// The events of its log when that was asked last.
+    pub looked_behind: AtomicU32,
+    /// The commands of session 1 that were answered, or refused, and those of the others.
     ended: [AtomicU32; 2],
 }
 
@@ -28,6 +45,8 @@ impl Drop for Counts {
         let Counts {
             events: _,
             waits: _,
+            looks: _,
+            looked_behind: _,
             ended: _,
         } = self;
     }
@@ -38,13 +57,15 @@ impl Counts {
     pub fn new(alloc: Global) -> Result<Arc<Counts, Global>, NoMemory> {
         let counts = Counts {
             events: AtomicU32::new(0),
-            waits: AtomicBool::new(false),
+            waits: AtomicU32::new(0),
+            looks: AtomicU32::new(0),
+            looked_behind: AtomicU32::new(0),
             ended: [AtomicU32::new(0), AtomicU32::new(0)],
         };
         Ok(Arc::new(alloc, counts)?)
     }
 
-    /// The count of a session, of which there are two.
+    /// The count of session 1, or of the others.
     pub fn ended_of(&self, session: Session) -> &AtomicU32 {
         if session.number() == 1 {
             &self.ended[0]
@@ -59,11 +80,17 @@ impl Counts {
 
     fn count(&self, session: Session, outcome: &Outcome) {
         if matches!(outcome, Outcome::Waits { .. }) {
-            self.waits.store(true, Ordering::SeqCst);
+            self.waits.fetch_add(1, Ordering::SeqCst);
         } else {
             self.count_end(session);
         }
         self.events.fetch_add(1, Ordering::SeqCst);
+    }
+
+    fn count_look(&self) {
+        let events = self.events.load(Ordering::SeqCst);
+        self.looked_behind.store(events, Ordering::SeqCst);
+        self.looks.fetch_add(1, Ordering::SeqCst);
     }
 }
 
@@ -74,11 +101,20 @@ pub struct Refusals {
     pub idle: Option<Session>,
     /// The first statement of this session.
     pub statement: Option<Session>,
-    /// The first retry.
-    pub retry: bool,
+    /// So many of the first retries.
+    pub retries: u32,
 }
 
 impl Refusals {
+    /// Of so many of the first retries.
+    pub fn of_retries(retries: u32) -> Refusals {
+        Refusals {
+            idle: None,
+            statement: None,
+            retries,
+        }
+    }
+
     /// Whether a step is refused.
     fn refuse_step(&mut self, session: Session, command: &Command, is_active: bool) -> bool
         ensures { result ≡ true → (is_active ≡ false) ⊎ ((s : Spelled) × (command.now ≡ Run s)) }
@@ -97,8 +133,8 @@ impl Refusals {
 
     /// Whether a retry is refused.
     fn refuse_retry(&mut self) -> bool {
-        let refused = self.retry;
-        self.retry = false;
+        let refused = self.retries > 0;
+        self.retries = self.retries.saturating_sub(1);
         refused
     }
 }
@@ -178,6 +214,7 @@ impl<E: Engine> Engine for Instrumented<E> {
     }
 
     fn retryable(&self) -> Option<Session> {
+        self.counts.count_look();
         self.engine.retryable()
     }
 }

@@ -13,6 +13,8 @@ mod forced;
 #[cfg(test)]
 mod full;
 #[cfg(test)]
+mod given_up;
+#[cfg(test)]
 mod goes_on;
 #[cfg(test)]
 mod instrumented;
@@ -23,4 +25,10 @@ mod refusal;
 #[cfg(test)]
 mod refused;
 #[cfg(test)]
+mod runs;
+#[cfg(test)]
 mod seats;
+#[cfg(test)]
+mod starts;
+#[cfg(test)]
+mod woken;

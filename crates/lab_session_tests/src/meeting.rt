@@ -1,5 +1,6 @@
 //! Free play by several threads.
 
+use crate::instrumented::comes_to;
 use lab_engine::Recording;
 use lab_script::{Script, parse_script};
 use lab_session::{Gate, play_free};
@@ -7,37 +8,36 @@ use lab_table::Session;
 use lab_versions::SnapshotEngine;
 use std::alloc::Global;
 use std::sync::Wait;
-use std::sync::atomic::{AtomicBool, Ordering};
+use std::sync::atomic::{AtomicBool, AtomicU32, Ordering};
 use std::test::Fail;
 use std::thread::Threads;
 
-const MAX_TURNS: u32 = 200_000_000;
-
-/// At the first line of sessions 1 and 2, each raises its flag and holds until it sees the other's.
+/// Holds each session at its first line until so many are there.
 struct Meeting {
-    here: [AtomicBool; 2],
+    sessions: u32,
+    here: AtomicU32,
     missed: AtomicBool,
 }
 
 impl Drop for Meeting {
     fn drop(self) {
-        let Meeting { here: _, missed: _ } = self;
+        let Meeting {
+            sessions: _,
+            here: _,
+            missed: _,
+        } = self;
     }
 }
 
 impl Gate for Meeting {
-    fn before(&self, session: Session, index: usize) {
-        let number = usize::from(session.number());
-        if index != 0 || number == 0 || number > 2 {
+    fn before(&self, _session: Session, index: usize) {
+        if index != 0 {
             return;
         }
-        self.here[number - 1].store(true, Ordering::SeqCst);
-        for _ in 0..MAX_TURNS {
-            if self.here[2 - number].load(Ordering::SeqCst) {
-                return;
-            }
+        self.here.fetch_add(1, Ordering::SeqCst);
+        if !comes_to(&self.here, self.sessions) {
+            self.missed.store(true, Ordering::SeqCst);
         }
-        self.missed.store(true, Ordering::SeqCst);
     }
 
     fn after(&self, _session: Session, _index: usize) {}
@@ -55,9 +55,14 @@ fn played<R: Threads + Wait + Sync>(
     play_free(rt, alloc, engine, script, gate).ok()
 }
 
-/// How many events a play of two begins has.
-fn events<R: Threads + Wait + Sync>(rt: &R, alloc: Global, gate: &Meeting) -> Option<usize> {
-    let script = parse_script(alloc, b"setup ();\nbegin; -- T1\nbegin; -- T2\n").ok()?;
+/// How many events a play of a script has.
+fn events<R: Threads + Wait + Sync>(
+    rt: &R,
+    alloc: Global,
+    text: &[u8],
+    gate: &Meeting,
+) -> Option<usize> {
+    let script = parse_script(alloc, text).ok()?;
     let played = played(rt, alloc, &script, gate);
     drop(script);
     let recording = played?;
@@ -66,17 +71,40 @@ fn events<R: Threads + Wait + Sync>(rt: &R, alloc: Global, gate: &Meeting) -> Op
     Some(events)
 }
 
+/// Scripts by their number of sessions, each of which begins.
+const ALL_BEGIN: [(u32, &[u8]); 3] = [
+    (2, b"setup ();\nbegin; -- T1\nbegin; -- T2\n"),
+    (3, b"setup ();\nbegin; -- T4\nbegin; -- T6\nbegin; -- T9\n"),
+    (
+        9,
+        b"setup ();
+begin; -- T1
+begin; -- T2
+begin; -- T3
+begin; -- T4
+begin; -- T5
+begin; -- T6
+begin; -- T7
+begin; -- T8
+begin; -- T9
+",
+    ),
+];
+
 #[test]
-fn two_threads_are_in_their_first_command_at_once(rt: HostRuntime) -> Result<(), Fail> {
-    let gate = Meeting {
-        here: [AtomicBool::new(false), AtomicBool::new(false)],
-        missed: AtomicBool::new(false),
-    };
-    let events = events(&rt, rt.alloc(), &gate);
-    let missed = gate.missed.load(Ordering::SeqCst);
-    drop(gate);
-    assert!(rt; !missed);
-    // Two begins, and the aborts of what is left active.
-    assert_eq!(rt; events, Some(4));
+fn all_threads_are_in_their_first_command_at_once(rt: HostRuntime) -> Result<(), Fail> {
+    for (sessions, text) in ALL_BEGIN {
+        let gate = Meeting {
+            sessions,
+            here: AtomicU32::new(0),
+            missed: AtomicBool::new(false),
+        };
+        let events = events(&rt, rt.alloc(), text, &gate);
+        let missed = gate.missed.load(Ordering::SeqCst);
+        drop(gate);
+        assert!(rt; !missed, "{sessions} sessions");
+        // A begin of each, and the aborts of what is left active.
+        assert_eq!(rt; events, Some(2 * sessions as usize), "{sessions} sessions");
+    }
     Ok(())
 }

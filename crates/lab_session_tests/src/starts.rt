@@ -1,0 +1,70 @@
+//! A free play with each allocation refused in turn: that a thread wasn't given is told apart from want of memory.
+
+use crate::refusal::{refuse, was_refused};
+use lab_script::parse_script;
+use lab_session::{Gate, PlayFault, play_free};
+use lab_table::Session;
+use lab_versions::SnapshotEngine;
+use std::alloc::Global;
+use std::sync::Wait;
+use std::test::Fail;
+use std::thread::Threads;
+
+const SCRIPT: &[u8] =
+    b"setup (1, 10);\nbegin; -- T1\nupdate test set value = 11 where id = 1; -- T1\n";
+
+/// Holds nobody.
+struct Open;
+
+impl Gate for Open {
+    fn before(&self, _session: Session, _index: usize) {}
+
+    fn after(&self, _session: Session, _index: usize) {}
+}
+
+/// What a play came to.
+#[derive(Clone, Copy, Debug, PartialEq, Eq)]
+struct Play {
+    fault: Option<PlayFault>,
+    /// Whether an allocation was refused.
+    refused: bool,
+}
+
+/// A play of the script with this allocation refused.
+fn played<R: Threads + Wait + Sync>(rt: &R, alloc: Global, growth: u16) -> Option<Play> {
+    let script = parse_script(alloc, SCRIPT).ok()?;
+    let Ok(setup) = script.setup.copy(alloc) else {
+        drop(script);
+        return None;
+    };
+    let engine = SnapshotEngine::new(alloc, setup);
+    refuse(alloc, growth);
+    let fault = play_free(rt, alloc, engine, &script, &Open).err();
+    let refused = was_refused(alloc);
+    drop(script);
+    Some(Play { fault, refused })
+}
+
+/// The start of a thread allocates too, and its want of memory is that there is no thread.
+#[test]
+fn a_thread_that_is_refused_memory_is_not_given(rt: HostRuntime) -> Result<(), Fail> {
+    let mut without_thread = 0u16;
+    let mut refusals = 0u16;
+    for growth in 1..2_000u16 {
+        let played = played(&rt, rt.alloc(), growth).ok_or("a play")?;
+        if !played.refused {
+            assert_eq!(rt; played.fault, None);
+            break;
+        }
+        refusals = growth;
+        match played.fault {
+            Some(PlayFault::NoThread) => without_thread = growth,
+            Some(PlayFault::NoMemory) | None => {}
+            other => assert_eq!(rt; other, None, "at growth {growth}"),
+        }
+    }
+    assert!(rt; refusals < 1_999);
+    // Where nothing is refused there is nothing to tell.
+    assert!(rt; refusals == 0 || without_thread > 0);
+    Ok(())
+}
