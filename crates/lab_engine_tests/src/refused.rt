@@ -154,7 +154,7 @@ fn play_lines<E: Engine>(
         };
         match turn {
             Turn::Retried => {}
-            Turn::Stepped => given += 1,
+            Turn::Stepped => given = given.saturating_add(1),
             Turn::Closed => return Some((refused, turns + 1)),
             Turn::NoMemory | Turn::Wrong => return None,
         }
