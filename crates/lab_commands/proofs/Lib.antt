@@ -7,3 +7,4 @@ mod WholeScripts
 mod OneAnswer
 mod OneTranscript
 mod OneRun
+mod Unchanged

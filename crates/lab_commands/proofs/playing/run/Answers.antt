@@ -3,6 +3,7 @@ use Rattle.std.specs.Io.KnownBytes.{Appends}
 use Rattle.lab_commands.specs.Playing.{IsRunAnswer, IsScriptedPlay, IsScriptedRefusal}
 use Rattle.lab_streams.proofs.Taken.{said_of_input}
 use Rattle.lab_commands.proofs.WholeScripts.{run_whole}
+use Rattle.lab_commands.proofs.Unchanged.{kept, where_refused}
 use Rattle.lab_commands.proofs.playing.run.Goals as goal
 
 pub returns-clause-written : goal.returns-clause-written
@@ -15,3 +16,6 @@ returns-clause-written g c =
     (λ input is. run_whole law.spelled law.fault input answer.text.items answer.ending (IsScriptedPlay c.args.level) (IsScriptedRefusal c.args.level) c.args.history
     (subst (λ bytes. IsRunAnswer (IsScriptedPlay c.args.level) (IsScriptedRefusal c.args.level) c.args.history bytes answer.text.items answer.ending)
     (c.as_slice.ensures.value ∙ is) c.in_ok-answer.ensures))
+
+pub returns-in_err-write_text-clause-hint_last : goal.returns-in_err-write_text-clause-hint_last
+returns-in_err-write_text-clause-hint_last g c = where_refused (kept _) _

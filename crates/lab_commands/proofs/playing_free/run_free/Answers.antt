@@ -3,6 +3,7 @@ use Rattle.std.specs.Io.KnownBytes.{Appends}
 use Rattle.lab_commands.specs.Playing.{IsRunAnswer, IsFreePlay, IsFreeRefusal}
 use Rattle.lab_streams.proofs.Taken.{said_of_input}
 use Rattle.lab_commands.proofs.WholeScripts.{run_whole}
+use Rattle.lab_commands.proofs.Unchanged.{kept, where_refused}
 use Rattle.lab_commands.proofs.playing_free.run_free.Goals as goal
 
 pub returns-clause-written : goal.returns-clause-written
@@ -13,3 +14,6 @@ returns-clause-written g c =
     c.in_ok-input.ensures.bytes (subst (Appends _ _) c.as_slice-2.ensures.value c.in_ok-write_text.ensures.written)
     (λ input is. run_whole law.spelled law.fault input answer.text.items answer.ending (IsFreePlay c.args.level) (IsFreeRefusal c.args.level) c.args.history
     (subst (λ bytes. IsRunAnswer (IsFreePlay c.args.level) (IsFreeRefusal c.args.level) c.args.history bytes answer.text.items answer.ending) (c.as_slice.ensures.value ∙ is) c.in_ok-answer.ensures))
+
+pub returns-in_err-write_text-clause-hint_last : goal.returns-in_err-write_text-clause-hint_last
+returns-in_err-write_text-clause-hint_last g c = where_refused (kept _) _
