@@ -7,4 +7,3 @@ mod WholeScripts
 mod OneAnswer
 mod OneTranscript
 mod OneRun
-mod Unchanged

@@ -3,7 +3,7 @@ use Rattle.std.specs.Io.KnownBytes.{Appends}
 use Rattle.lab_commands.specs.Judging.{IsJudgeAnswer}
 use Rattle.lab_commands.proofs.JudgedFiles.{answers_whole}
 use Rattle.lab_streams.proofs.Taken.{said_of_input}
-use Rattle.lab_commands.proofs.Unchanged.{kept, where_refused}
+use Rattle.lab_streams.proofs.Unchanged.{kept, where_refused}
 use Rattle.lab_commands.proofs.judging.judge.Goals as goal
 
 pub returns-clause-written : goal.returns-clause-written

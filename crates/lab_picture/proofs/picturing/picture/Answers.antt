@@ -3,6 +3,7 @@ use Rattle.std.specs.Io.KnownBytes.{Appends}
 use Rattle.lab_streams.proofs.Taken.{said_of_input}
 use Rattle.lab_picture.specs.Picture.{IsPictureAnswer}
 use Rattle.lab_picture.proofs.HeldFiles.{pictures_whole}
+use Rattle.lab_streams.proofs.Unchanged.{kept, where_refused}
 use Rattle.lab_picture.proofs.picturing.picture.Goals as goal
 
 pub returns-clause-written : goal.returns-clause-written
@@ -11,3 +12,6 @@ returns-clause-written g c =
     said_of_input _ c.in_ok-input.input.items answer.text.items (Appends _ _) (λ input text. IsPictureAnswer input c.args.asked text answer.ending) c.in_ok-input.ensures.bytes
     (subst (Appends _ _) c.as_slice-2.ensures.value c.in_ok-write_text.ensures.written)
     (λ input is. pictures_whole input c.args.asked answer.text.items answer.ending (subst (λ bytes. IsPictureAnswer bytes c.args.asked answer.text.items answer.ending) (c.as_slice.ensures.value ∙ is) c.in_ok-answer.ensures))
+
+pub returns-in_err-write_text-clause-hint_last : goal.returns-in_err-write_text-clause-hint_last
+returns-in_err-write_text-clause-hint_last g c = where_refused (kept _) _
