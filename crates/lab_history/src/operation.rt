@@ -33,7 +33,7 @@ pub struct View {
 
 impl Model for View {
     ghost use Rattle.std.specs.FinMap as map;
-    ghost use Rattle.lab_table.specs.Row.{row_cmp, coded_row};
+    ghost use Rattle.lab_table.specs.Row.{coded_row};
     ghost use Rattle.lab_history.specs.VersionName.{View, coded_version};
 
     ghost Value = { View };
@@ -52,7 +52,7 @@ pub struct Rows {
 impl Model for Rows {
     ghost use Rattle.std.specs.FinMap as map;
     ghost use Rattle.std.specs.Coded.{coded_ℤ};
-    ghost use Rattle.lab_table.specs.Row.{row_cmp, coded_row};
+    ghost use Rattle.lab_table.specs.Row.{coded_row};
     ghost use Rattle.lab_table.specs.Table.{Rows};
 
     ghost Value = { Rows };

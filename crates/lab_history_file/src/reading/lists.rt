@@ -1,6 +1,6 @@
 //! The lists of a history file, whose members begin with a row. They are found by their keys.
 
-ghost use Rattle.std.specs.Prelude.{◌≡◌, T, IfOk};
+ghost use Rattle.std.specs.Prelude.{T, IfOk};
 ghost use Rattle.std.specs.FinMap as map;
 ghost use Rattle.serde_json.specs.View.{view};
 ghost use Rattle.lab_table.specs.Row.{row_cmp};
