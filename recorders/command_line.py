@@ -22,7 +22,7 @@ def words_of(name, about, epilog, levels):
     parser = Parser(prog=name, description=about, epilog=epilog, formatter_class=as_written, allow_abbrev=False)
     level = "of each transaction: " + ", ".join(levels)
     parser.add_argument(
-        "--level", metavar="LEVEL", required=len(levels) > 1, default=levels[0], choices=levels, help=level
+        "--level", metavar="LEVEL", required=len(levels) > 1, default=next(iter(levels)), choices=levels, help=level
     )
     parser.add_argument("--log", action="store_true", help="say on standard error what each line of the script came to")
     patience = "how long to wait where all sessions wait for somebody else (%(default)s)"

@@ -1,22 +1,7 @@
 """Plays a script on a database, its sessions line by line, and writes the history of what came of it.
 
-A recorder is this module and a database. The database gives each session a connection of its own, and its answers are
-all that a history has: rows, written values, versions, who waits, and who is refused.
-
-    database.rows()                  what is committed now: a value for each row, and a row is its table and its id
-    database.session()               a session, which
-        .begin(txn)                      begins a transaction
-        .start(txn, statement)           gives a statement, and doesn't wait for it
-        .is_answered()                   returns once the statement is answered (true), or is seen to wait (false)
-        .operation(txn, statement)       the operation that was answered; Refused where the statement was
-        .commit(txn)                     the place in the order of commits, or None if nothing was written; Refused
-        .rollback(txn)
-
-Every row has a version beside its value, in five columns: `txn` and `op` name it, and `old_value`, `old_txn` and `old_op`
-are what it replaced. An update fills them from the right side of its own `set`, where the database has the row that the
-statement is about to change, also where it waited for that row and looked at it again. An insert and a select have
-nothing to replace; a delete leaves a note of its version, which stands for the absent row. What a statement saw of the
-rows that it didn't list is asked otherwise, and the database says how (docs/RECORDING.md, "Recorders").
+The database gives each session a connection of its own, and its answers are all that a history has: rows, written values,
+versions, who waits, and who is refused (`database`).
 """
 import json
 import sys
@@ -25,11 +10,6 @@ from dataclasses import dataclass, field
 
 PAUSE = 0.005  # seconds between two looks at who waits
 TRANSACTIONS, OPERATIONS, ROWS, ENTRIES, BYTES = 1000, 10_000, 1000, 200_000, 8_388_608
-NOTHING = "cast(null as integer)"
-COLUMNS = (
-    "id integer primary key, value integer not null check (value between -1000000000 and 1000000000),"
-    " txn integer, op integer, old_value integer, old_txn integer, old_op integer"
-)
 
 
 class Refused(Exception):
@@ -42,6 +22,10 @@ class Untold(Exception):
 
 class Unreachable(Exception):
     """The database doesn't answer."""
+
+
+class Waits(Exception):
+    """The database lets nobody wait: the statement is to be tried again when another transaction has ended."""
 
 
 @dataclass
@@ -79,32 +63,23 @@ class Transaction:
     def next_version(self):
         return self.no, len(self.ops) + 1
 
-
-def write_of(statement, table, version):
-    """A statement in SQL. It gives the rows that it lists: id, and of the version that it found there value and name;
-    and last the value that it leaves."""
-    no, op = version
-    where = f"where {statement.condition()}"
-    if statement.kind == "select":
-        return f"select id, value, txn, op, {NOTHING} from {table} {where}"
-    if statement.kind == "update":
-        change = f"value = {statement.result()}, old_value = value, old_txn = txn, old_op = op, txn = {no}, op = {op}"
-        return f"update {table} set {change} {where} returning id, old_value, old_txn, old_op, value"
-    if statement.kind == "delete":
-        return f"delete from {table} {where} returning id, value, txn, op, {NOTHING}"
-    row = f"{statement.row[0]}, {statement.row[1]}, {no}, {op}"
-    return f"insert into {table} (id, value, txn, op) values ({row}) returning id, {NOTHING}, {NOTHING}, {NOTHING}, value"
+    def take(self, op):
+        """Takes an operation as its next one."""
+        self.own.update(dict.fromkeys(op.writes, self.next_version()))
+        self.ops.append(op)
 
 
 def operation_of(txn, statement, listed, seen):
-    """The operation of a statement that listed these rows, as `write_of` has them, and saw these versions. A view has the
-    rows of the statement's table, and of other tables those that the transaction wrote."""
-    found = {}
+    """The operation of a statement that listed these rows, and looked at these versions of rows. Of a row that it listed
+    there are the id, and of the version that it found there value and name, and last the value that it left. The rest
+    it saw as its transaction's snapshot has it, if there is one, and as the transaction wrote it. A view has the rows of
+    the statement's table, and of other tables those that the transaction wrote."""
+    found, known = {}, {**(txn.snapshot or {}), **txn.own, **seen}
     for id, value, no, op, left in listed:
         if (statement.table, id) in found:
             raise Untold(f"T{txn.session} finds row {id} of {statement.table} twice, as it was and as inserted anew")
         found[statement.table, id] = value, (no, op) if no else None, left
-    view = {row: version for row, version in seen.items() if row[0] == statement.table or row in txn.own}
+    view = {row: version for row, version in known.items() if row[0] == statement.table or row in txn.own}
     if statement.kind != "insert":
         view.update({row: version for row, (_, version, _) in found.items()})
     rows = {row: value for row, (value, _, _) in found.items() if statement.kind != "insert"}
@@ -208,11 +183,9 @@ class Play:
         try:
             op = session.operation(txn, command.statement)
         except Refused as why:
-            txn.is_refused = True
             self.tell(command, f"refused {why}")
             return
-        txn.own.update({row: txn.next_version() for row in op.writes})
-        txn.ops.append(op)
+        txn.take(op)
         if op.remark:
             self.warn(f"line {command.line}: {op.remark}")
         rows = ", ".join(f"({id}, {value})" for (_, id), value in sorted(op.rows.items()))

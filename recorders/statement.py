@@ -33,6 +33,11 @@ class Statement:
         """The rows that it matches, in SQL."""
         return in_sql(self.where) if self.where else "true"
 
+    def ids(self):
+        """A condition in SQL on ids alone, which every row that it matches meets."""
+        found = self.where and of_ids(self.where)
+        return in_sql(found) if found else "true"
+
 
 @dataclass(frozen=True)
 class Command:
@@ -77,6 +82,23 @@ def in_sql(tree):
     if kind in ("and", "or"):
         return f"({in_sql(parts[0])} {kind} {in_sql(parts[1])})"
     return "false" if kind == "in" and not parts[1] else f"({printed_atom(*tree)})"
+
+
+def columns(tree):
+    """The columns that a condition asks."""
+    kind, *parts = tree
+    return set().union(*map(columns, parts)) if kind in ("not", "and", "or") else {parts[0]}
+
+
+def of_ids(tree):
+    """A condition on ids alone that holds wherever this one does; None where that would be any row."""
+    kind, *parts = tree
+    if kind in ("and", "or"):
+        found = [part for part in map(of_ids, parts) if part]
+        if len(found) == 2:
+            return kind, *found
+        return found[0] if found and kind == "and" else None
+    return tree if columns(tree) == {"id"} else None
 
 
 def printed_setup(setup):

@@ -2,7 +2,7 @@
 
 An edit is a file, a text that it has once, and what stands there instead.
 """
-POSTGRES, RECORDING = "postgres", "recording.py"
+POSTGRES, RECORDING, TABLES = "postgres", "recording.py", "tables.py"
 READ_COMMITTED, REPEATABLE_READ, SERIALIZABLE = "read committed", "repeatable read", "serializable"
 ALL = READ_COMMITTED, REPEATABLE_READ, SERIALIZABLE
 OF_SNAPSHOTS = REPEATABLE_READ, SERIALIZABLE
@@ -14,8 +14,8 @@ MUTATIONS = (
         (
             (
                 POSTGRES,
-                "seen = {**txn.snapshot, **txn.own}",
-                "seen = {**seen_in(self.database.look(self.database.seeing()))[0], **txn.own}",
+                'seen, matched = seen_in(line for line in lines if line[0] == "seen")',
+                "seen, matched = {**seen_in(self.look(self.seeing()))[0], **txn.own}, set()",
             ),
         ),
     ),
@@ -23,7 +23,7 @@ MUTATIONS = (
         "a view is read over another connection, without the transaction's own writes",
         OF_SNAPSHOTS,
         (
-            (POSTGRES, "seen = {**txn.snapshot, **txn.own}", "seen = txn.snapshot"),
+            (RECORDING, "**txn.own, **seen}", "**seen}"),
         ),
     ),
     (
@@ -37,7 +37,7 @@ MUTATIONS = (
         "the level isn't asked for",
         OF_SNAPSHOTS,
         (
-            (POSTGRES, 'f"begin isolation level {self.database.words.level}"', '"begin"'),
+            (POSTGRES, 'f"begin isolation level {self.words.level}"', '"begin"'),
         ),
     ),
     (
@@ -113,7 +113,7 @@ MUTATIONS = (
         "the column op keeps the number of the transaction's first operation",
         ALL,
         (
-            (RECORDING, "    no, op = version\n", "    no, op = version[0], 1\n"),
+            (TABLES, "{left}, txn = {no}, op = {op}", "{left}, txn = {no}, op = 1"),
         ),
     ),
     (
@@ -121,7 +121,7 @@ MUTATIONS = (
         ALL,
         (
             (
-                RECORDING,
+                TABLES,
                 "returning id, old_value, old_txn, old_op, value",
                 "returning id, value, old_txn, old_op, value",
             ),
@@ -150,7 +150,7 @@ MUTATIONS = (
         "the server gets another result than the script has",
         ALL,
         (
-            (RECORDING, 'change = f"value = {statement.result()},', 'change = f"value = 1 + {statement.result()},'),
+            (TABLES, 'left = f"value = {statement.result()}"', 'left = f"value = 1 + {statement.result()}"'),
         ),
     ),
     (
@@ -158,7 +158,7 @@ MUTATIONS = (
         OF_SNAPSHOTS,
         (
             (
-                RECORDING,
+                TABLES,
                 'where = f"where {statement.condition()}"',
                 'where = f"where {statement.condition()} and id <> 2"',
             ),

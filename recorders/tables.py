@@ -1,0 +1,129 @@
+"""What dialects of SQL share: the tables, whose rows have the names of their versions, and the statements over them.
+
+Every row has a version beside its value, in five columns: `txn` and `op` name it, and `old_value`, `old_txn` and `old_op`
+are what it replaced. An update fills them from the right side of its own `set`, where the database has the row that the
+statement is about to change, also where it waited for that row and looked at it again. An insert and a select have
+nothing to replace; a delete leaves a note of its version, which stands for the absent row. What a statement saw of the
+rows that it didn't list is asked otherwise, and the dialect says how (docs/RECORDING.md, "Recorders").
+"""
+from database import Database
+from recording import Refused, Unreachable
+
+NOTHING = "cast(null as integer)"
+COLUMNS = (
+    "id integer primary key, value integer not null check (value between -1000000000 and 1000000000),"
+    " txn integer, op integer, old_value integer, old_txn integer, old_op integer"
+)
+
+
+def version(no, op):
+    return (no, op) if no else None
+
+
+def change_of(statement, name):
+    """What an update sets. (Where a database sets one column after the other, what is replaced has to come first.)"""
+    no, op = name
+    left = f"value = {statement.result()}"
+    return f"old_value = value, old_txn = txn, old_op = op, {left}, txn = {no}, op = {op}"
+
+
+def write_of(statement, table, name):
+    """A statement in SQL. It gives the rows that it lists: id, and of the version that it found there value and name;
+    and last the value that it leaves."""
+    no, op = name
+    where = f"where {statement.condition()}"
+    if statement.kind == "select":
+        return f"select id, value, txn, op, {NOTHING} from {table} {where}"
+    if statement.kind == "update":
+        change = change_of(statement, name)
+        return f"update {table} set {change} {where} returning id, old_value, old_txn, old_op, value"
+    if statement.kind == "delete":
+        return f"delete from {table} {where} returning id, value, txn, op, {NOTHING}"
+    row = f"{statement.row[0]}, {statement.row[1]}, {no}, {op}"
+    return f"insert into {table} (id, value, txn, op) values ({row}) returning id, {NOTHING}, {NOTHING}, {NOTHING}, value"
+
+
+class Tables(Database):
+    """The tables of a script, and a connection that looks at them from outside all transactions. Its dialect has also
+
+    ask(connection, question)       the rows of an answer, each of numbers, texts and None; Refused
+    ROOM                            what stands before a table's name
+    PLACE                           the type of a key that rises by itself
+    """
+
+    ROOM, PLACE, COLUMNS = "", "integer primary key", COLUMNS
+    DRAWING = "insert into {room}commit1 (txn) values ({no}) returning place"
+    PRESENT = "true"  # the rows that a user of the table would see
+
+    def __init__(self, words, script):
+        super().__init__(words, script)
+        self.connections = []
+        self.looker = self.connect()
+
+    def asked(self, connection, question):
+        """An answer to the recorder's own question, which the database isn't expected to refuse."""
+        try:
+            return self.ask(connection, question)
+        except Refused as why:
+            raise Unreachable(f"the server refused the recorder: {why}") from None
+
+    def look(self, question):
+        return self.asked(self.looker, question)
+
+    def make_tables(self):
+        for name in self.script.tables:
+            self.look(f"create table {self.table(name)} ({self.COLUMNS})")
+        for (name, id), value in self.script.setup.items():
+            self.look(f"insert into {self.table(name)} (id, value) values ({id}, {value})")
+        # Names with a digit aren't those of a script's tables.
+        numbers = "id integer, txn integer, op integer"
+        self.look(f"create table {self.ROOM}gone1 (place {self.PLACE}, name varchar(16), {numbers})")
+        self.look(f"create table {self.ROOM}commit1 (place {self.PLACE}, txn integer)")
+
+    def table(self, name):
+        return f'{self.ROOM}"{name}"'
+
+    def rows(self):
+        which = f"where {self.PRESENT}"
+        parts = [f"select '{name}', id, value from {self.table(name)} {which}" for name in self.script.tables]
+        listed = self.look(" union all ".join(parts)) if parts else []
+        return {(name, id): value for name, id, value in listed}
+
+    def seeing(self, statement=None):
+        """A question for the versions of all rows, present and gone, and which of them the statement matches. Of the
+        notes of a row the last one counts: it is gone again only after it was inserted again, which waits for who deleted
+        it before, so places rise with time."""
+        notes = f"{self.ROOM}gone1"
+        last = f"(select max(place) from {notes} other where other.name = one.name and other.id = one.id)"
+        parts = [f"select 'seen', name, id, txn, op, 0, 0 from {notes} one where place = {last}"]
+        for name in self.script.tables:
+            is_its = statement and statement.table == name
+            matches = f"case when {statement.condition()} then 1 else 0 end" if is_its else "0"
+            parts.append(f"select 'seen', '{name}', id, txn, op, 1, {matches} from {self.table(name)}")
+        return " union all ".join(parts)
+
+    def noting(self, statement, name, source):
+        """What notes the versions of a delete: `source` is a table of its ids."""
+        noted = f"select '{statement.table}', id, {name[0]}, {name[1]} from {source}"
+        return f"insert into {self.ROOM}gone1 (name, id, txn, op) {noted}"
+
+    def place(self, connection, txn):
+        return self.asked(connection, self.DRAWING.format(room=self.ROOM, no=txn.no))[0][0]
+
+    def commit(self, connection):
+        self.ask(connection, "commit")
+
+    def rollback(self, connection):
+        self.asked(connection, "rollback")
+
+
+def seen_in(lines):
+    """The versions that a look gives, a row that is present before its notes; and the rows that match."""
+    seen, matched = {}, set()
+    for _, name, id, no, op, is_present, matches in lines:
+        row = name, id
+        if is_present or row not in seen:
+            seen[row] = version(no, op)
+        if matches:
+            matched.add(row)
+    return seen, matched
