@@ -22,6 +22,8 @@ class Client:
     END, DONE = "", b""  # what is asked behind a question, and what its answer ends with
     LOST = re.compile(rb"$^")  # what is said where the connection is lost, and the client goes on
 
+    id = None  # the connection's number at the server, once it is known
+
     def __init__(self, words):
         self.lock = threading.RLock()
         streams = {"stdin": subprocess.PIPE, "stdout": subprocess.PIPE, "stderr": subprocess.STDOUT}

@@ -3,6 +3,9 @@ import argparse
 import os
 import signal
 import sys
+from contextlib import contextmanager
+from importlib.machinery import SourceFileLoader
+from importlib.util import module_from_spec, spec_from_loader
 
 import script
 from recording import Unreachable, Untold, record
@@ -17,12 +20,15 @@ class Parser(argparse.ArgumentParser):
         self.exit(REFUSED, f"{self.prog}: {message}\n")
 
 
-def words_of(name, about, epilog, levels):
+def words_of(name, about, epilog, make):
+    """The words of a recorder; `make` makes its database, of the words and a script."""
     as_written = argparse.RawDescriptionHelpFormatter
     parser = Parser(prog=name, description=about, epilog=epilog, formatter_class=as_written, allow_abbrev=False)
+    parser.set_defaults(make=make)
+    levels = list(make.LEVELS)
     level = "of each transaction: " + ", ".join(levels)
     parser.add_argument(
-        "--level", metavar="LEVEL", required=len(levels) > 1, default=next(iter(levels)), choices=levels, help=level
+        "--level", metavar="LEVEL", required=len(levels) > 1, default=levels[0], choices=levels, help=level
     )
     parser.add_argument("--log", action="store_true", help="say on standard error what each line of the script came to")
     patience = "how long to wait where all sessions wait for somebody else (%(default)s)"
@@ -30,33 +36,60 @@ def words_of(name, about, epilog, levels):
     return parser
 
 
+def parser_of(path):
+    """The words of a recorder, of which this is the file."""
+    loader = SourceFileLoader("recorder", path)
+    module = module_from_spec(spec_from_loader(loader.name, loader))
+    loader.exec_module(module)
+    return module.parser()
+
+
 def end(*_):
     raise KeyboardInterrupt
 
 
-def recorded(words, make):
-    """The text of the history of the script on standard input. What the database has of it is put away."""
-    given = script.read(sys.stdin.buffer.read(script.READ_BYTES))
-    database = make(words, given)
+@contextmanager
+def uninterrupted():
+    """What is put away is put away whole."""
+    before = {name: signal.signal(name, signal.SIG_IGN) for name in (signal.SIGINT, signal.SIGTERM)}
+    yield
+    for name, how in before.items():
+        signal.signal(name, how)
+
+
+def warn(what):
+    print(what, file=sys.stderr, flush=True)
+
+
+def recorded(words, text, say=warn):
+    """The text of the history of a script. What the database has of it is put away."""
+    given = script.read(text)
+    database = words.make(words, given)
     try:
         database.make_tables()
-        return record(given, database, words.log, words.patience)
+        return record(given, database, words.log, words.patience, say)
     finally:
-        signal.signal(signal.SIGINT, signal.SIG_IGN)
-        signal.signal(signal.SIGTERM, signal.SIG_IGN)
-        database.close()
+        with uninterrupted():
+            database.close()
 
 
-def run(parser, make):
-    """Records a run, and ends with 0, or with 2 or 3 and one line on standard error."""
-    signal.signal(signal.SIGTERM, end)
+def run(parser):
+    """Records a run of the script on standard input, and ends as `ending` says."""
     words = parser.parse_args()
-    try:
-        sys.stdout.write(recorded(words, make) + "\n")
+    with ending(parser, words.make.ERRORS):
+        sys.stdout.write(recorded(words, sys.stdin.buffer.read(script.READ_BYTES)) + "\n")
         sys.stdout.flush()
+
+
+@contextmanager
+def ending(parser, errors):
+    """Ends with 0, or with 2 or 3 and one line on standard error."""
+    signal.signal(signal.SIGTERM, end)
+    try:
+        yield
     except (script.Fault, Untold) as why:
         parser.exit(REFUSED, f"{parser.prog}: {why}\n")
-    except (Unreachable, *make.ERRORS) as why:
+    except (Unreachable, *errors) as why:
         parser.exit(FAILED, f"{parser.prog}: {why}\n")
     except OSError as error:
         # (nothing more can be written, and Python would try to)

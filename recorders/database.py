@@ -1,7 +1,8 @@
 """What recorders share: a database that plays scripts, and its sessions, whose statements are carried out in threads.
 
-A recorder for a database is a dialect, a class over Database that has (docs/RECORDING.md, "A recorder for another database"):
+A recorder is a dialect, a class over Database that has (docs/RECORDING.md, "A recorder for another database"):
 
+    NAME, version()                 what it is called, and its version as it says it
     LEVELS                          its levels, each with what its manual promises
     make_tables()                   makes the tables of the script, with the rows of its setup
     rows()                          what is committed: a value for each row, and a row is its table and its id
@@ -27,6 +28,7 @@ LOOK = 0.002  # seconds until a statement that isn't answered is looked at
 class Database:
     """The tables of a script in a database, and its dialect."""
 
+    NAME = ""
     LEVELS = {}  # by its name what the manual promises: PL-1, PL-2, PL-2.99, SI or PL-3
     # The levels at which a transaction has one snapshot, which is taken with its first statement.
     OF_SNAPSHOTS = ()
@@ -38,11 +40,14 @@ class Database:
         self.words, self.script = words, script
         self.has_snapshots = words.level in self.OF_SNAPSHOTS
 
+    def version(self):
+        return ""
+
     def session(self):
         return Session(self)
 
     def snapshot(self, connection):
-        """The versions of all rows, as the snapshot of the transaction has them that is about to give its first statement."""
+        """The versions of all rows in the snapshot of a transaction that is about to give its first statement."""
         raise NotImplementedError
 
     def waits(self, _):
@@ -68,8 +73,8 @@ class Session:
         self.given, self.thread = (txn, statement), None
 
     def is_answered(self):
-        """Returns once the statement is answered (true), or is seen to wait (false). One that the database told to wait is
-        tried again each time."""
+        """Returns once the statement is answered (true), or is seen to wait (false). One that is to be tried again is tried
+        each time."""
         if not self.thread:
             self.thread = threading.Thread(target=self.try_given, daemon=True)
             self.thread.start()

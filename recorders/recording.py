@@ -1,10 +1,9 @@
 """Plays a script on a database, its sessions line by line, and writes the history of what came of it.
 
-The database gives each session a connection of its own, and its answers are all that a history has: rows, written values,
-versions, who waits, and who is refused (`database`).
+The database gives each session a connection of its own (`database`), and its answers are all that a history has: rows,
+written values, versions, who waits, and who is refused.
 """
 import json
-import sys
 import time
 from dataclasses import dataclass, field
 
@@ -70,10 +69,10 @@ class Transaction:
 
 
 def operation_of(txn, statement, listed, seen):
-    """The operation of a statement that listed these rows, and looked at these versions of rows. Of a row that it listed
-    there are the id, and of the version that it found there value and name, and last the value that it left. The rest
-    it saw as its transaction's snapshot has it, if there is one, and as the transaction wrote it. A view has the rows of
-    the statement's table, and of other tables those that the transaction wrote."""
+    """The operation of a statement that listed these rows, and looked at these versions. Of a row that it listed there are
+    the id, of the version that it found there value and name, and last the value that it left. The rest it saw as its
+    transaction's snapshot has it, if there is one, and as the transaction wrote it. A view has the rows of the
+    statement's table, and of other tables those that the transaction wrote."""
     found, known = {}, {**(txn.snapshot or {}), **txn.own, **seen}
     for id, value, no, op, left in listed:
         if (statement.table, id) in found:
@@ -90,8 +89,8 @@ def operation_of(txn, statement, listed, seen):
 class Play:
     """The play of a script: lines are given in their order, and those of a session that waits wait with it."""
 
-    def __init__(self, script, database, is_logged, patience):
-        self.database, self.is_logged, self.patience = database, is_logged, patience
+    def __init__(self, script, database, is_logged, patience, warn):
+        self.database, self.is_logged, self.patience, self.warn = database, is_logged, patience, warn
         self.pending = list(script.commands)
         self.sessions, self.active, self.waiting = {}, {}, {}
         self.transactions = []
@@ -212,9 +211,6 @@ class Play:
         if self.is_logged:
             self.warn(what)
 
-    def warn(self, what):
-        print(what, file=sys.stderr, flush=True)
-
 
 def installed(transactions):
     """For each row the committed transactions that wrote it, in the order of their commits."""
@@ -259,9 +255,10 @@ def text_of(whole):
     return text
 
 
-def record(script, database, is_logged, patience):
-    """Plays a script on a database that has the tables of its setup, and gives the text of the history."""
+def record(script, database, is_logged, patience, warn):
+    """Plays a script on a database that has the tables of its setup, and gives the text of the history. What a user has
+    to know is told by `warn`, line by line."""
     initial = database.rows()
-    play = Play(script, database, is_logged, patience)
+    play = Play(script, database, is_logged, patience, warn)
     play.run()
     return text_of(history(initial, play.transactions, database.rows()))

@@ -1,7 +1,12 @@
 """Statements of a script: their printed form, which a history has of them, and their condition in SQL."""
+import math
+import operator
 from dataclasses import dataclass
 
 TEST = "test"
+COMPARED = {
+    "=": operator.eq, "<>": operator.ne, "<": operator.lt, "<=": operator.le, ">": operator.gt, ">=": operator.ge
+}
 
 
 @dataclass(frozen=True)
@@ -32,6 +37,19 @@ class Statement:
     def condition(self):
         """The rows that it matches, in SQL."""
         return in_sql(self.where) if self.where else "true"
+
+    def matches(self, id, value):
+        """Whether it matches a row; an insert matches one of its id."""
+        if self.row:
+            return id == self.row[0]
+        return not self.where or holds(self.where, {"id": id, "value": value})
+
+    def left(self, value):
+        """The value that it leaves of a row that it matches: None where that is gone, or where nothing is written."""
+        if not self.change:
+            return None
+        sign, number = self.change
+        return value + (-number if sign == "-" else number) if sign else number
 
     def ids(self):
         """A condition in SQL on ids alone, which every row that it matches meets."""
@@ -82,6 +100,19 @@ def in_sql(tree):
     if kind in ("and", "or"):
         return f"({in_sql(parts[0])} {kind} {in_sql(parts[1])})"
     return "false" if kind == "in" and not parts[1] else f"({printed_atom(*tree)})"
+
+
+def holds(tree, row):
+    """Whether a row meets a condition, as SQL has it: the sign of a remainder is that of the number."""
+    kind, *parts = tree
+    if kind == "not":
+        return not holds(parts[0], row)
+    if kind in ("and", "or"):
+        return (all if kind == "and" else any)(holds(part, row) for part in parts)
+    value, number = row[parts[0]], parts[1]
+    if kind == "in":
+        return value in number
+    return math.fmod(value, number) == parts[2] if kind == "%" else COMPARED[kind](value, number)
 
 
 def columns(tree):

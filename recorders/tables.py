@@ -21,10 +21,11 @@ def version(no, op):
 
 
 def change_of(statement, name):
-    """What an update sets. (Where a database sets one column after the other, what is replaced has to come first.)"""
+    """What an update sets, or a delete where rows that are gone stay. What is replaced comes first, for databases that set
+    one column after the other."""
     no, op = name
-    left = f"value = {statement.result()}"
-    return f"old_value = value, old_txn = txn, old_op = op, {left}, txn = {no}, op = {op}"
+    left = statement.result() if statement.change else "value"
+    return f"old_value = value, old_txn = txn, old_op = op, value = {left}, txn = {no}, op = {op}"
 
 
 def write_of(statement, table, name):
@@ -49,9 +50,11 @@ class Tables(Database):
     ask(connection, question)       the rows of an answer, each of numbers, texts and None; Refused
     ROOM                            what stands before a table's name
     PLACE                           the type of a key that rises by itself
+    DRAWING                         what draws a place
+    VERSION                         what gives the version in SQL
     """
 
-    ROOM, PLACE, COLUMNS = "", "integer primary key", COLUMNS
+    ROOM, PLACE, VERSION, COLUMNS = "", "integer primary key", "version()", COLUMNS
     DRAWING = "insert into {room}commit1 (txn) values ({no}) returning place"
     PRESENT = "true"  # the rows that a user of the table would see
 
@@ -59,6 +62,9 @@ class Tables(Database):
         super().__init__(words, script)
         self.connections = []
         self.looker = self.connect()
+
+    def ask(self, connection, question):
+        return connection.ask(question)
 
     def asked(self, connection, question):
         """An answer to the recorder's own question, which the database isn't expected to refuse."""
@@ -79,6 +85,9 @@ class Tables(Database):
         numbers = "id integer, txn integer, op integer"
         self.look(f"create table {self.ROOM}gone1 (place {self.PLACE}, name varchar(16), {numbers})")
         self.look(f"create table {self.ROOM}commit1 (place {self.PLACE}, txn integer)")
+
+    def version(self):
+        return self.look(f"select {self.VERSION}")[0][0]
 
     def table(self, name):
         return f'{self.ROOM}"{name}"'

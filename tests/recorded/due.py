@@ -169,7 +169,8 @@ BEGUN = SCRIPT + b"begin; -- T1\n"
 LONG = b"delete from test where " + b"id = 1 or " * 150 + b"id = 2; -- T1\n"
 FIVE = b"setup a (1, 1), b (1, 1), c (1, 1), d (1, 1), (1, 1);"
 MANY = b"".join(b"insert into test (id, value) values (%d, 1); -- T1\n" % id for id in range(3, 1003))
-# What is wrong, the words, standard input, the status, and what stands in the one line of standard error.
+# What is wrong, of one recorder behind its name, the words, standard input, the status, and what stands in the one line
+# of standard error.
 BAD_INPUT = (
     ("no script", LEVEL, b"", 2, r": line 1: NoSetup$"),
     ("a statement that isn't one", LEVEL, BEGUN + b"select value from test; -- T1\n", 2, r": line 3: UnknownStatement$"),
@@ -180,7 +181,10 @@ BAD_INPUT = (
     ("a level that there isn't", ["--level", "chaos"], SCRIPT, 2, "chaos"),
     ("a word that there isn't", [*LEVEL, "--speed"], SCRIPT, 2, "--speed"),
     ("more rows than a history has", LEVEL, BEGUN + MANY, 2, r"has 1002 rows, and a history at most 1000$"),
-    ("PostgreSQL: no level", [], SCRIPT, 2, "--level"),
-    ("PostgreSQL: no server", [*LEVEL, "--host", "/nowhere"], SCRIPT, 3, "/nowhere"),
-    ("PostgreSQL: no such database", [*LEVEL, "--dbname", "none"], SCRIPT, 3, "none"),
+    ("postgres: no level", [], SCRIPT, 2, "--level"),
+    ("postgres: no server", [*LEVEL, "--host", "/nowhere"], SCRIPT, 3, "/nowhere"),
+    ("postgres: no such database", [*LEVEL, "--dbname", "none"], SCRIPT, 3, "none"),
+    ("mariadb: no level", [], SCRIPT, 2, "--level"),
+    ("mariadb: no server", [*LEVEL, "--socket", "/nowhere"], SCRIPT, 3, "/nowhere"),
+    ("mariadb: no such user", [*LEVEL, "--user", "nobody_here"], SCRIPT, 3, "nobody_here"),
 )
