@@ -134,7 +134,11 @@ class Session:
         the transaction wrote is locked, so of two who wrote one row the first draws first."""
         self.look_if_open(txn)
         place = self.database.place(self.connection, txn) if txn.own and not txn.is_refused else None
-        self.database.commit(self.connection)
+        try:
+            self.database.commit(self.connection)
+        except Refused:
+            self.database.rollback(self.connection)
+            raise
         return place
 
     def rollback(self, txn):

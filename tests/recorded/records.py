@@ -10,7 +10,7 @@ from harness import TOP, run
 from recorded.due_mariadb import READ_UNCOMMITTED, SNAPSHOTS
 from recorded.mutations import READ_COMMITTED, REPEATABLE_READ, SERIALIZABLE
 
-AT_ONCE, SECONDS = 4, 300
+AT_ONCE, SECONDS = 6, 300
 # What a report says where the level is at least as good.
 MET = {
     "PL-1": [("G0", "absent")],
@@ -88,11 +88,11 @@ def is_remark(line):
     return re.match(r"line \d+: row ", line)
 
 
-def played(program, recorder, texts):
+def played(program, recorder, texts, at_once=AT_ONCE):
     """Plays scripts, and gives for each its text, the lines of its log and its report, or None where there is none."""
-    shares = [texts[first::AT_ONCE] for first in range(min(AT_ONCE, len(texts)))]
-    with ThreadPoolExecutor(AT_ONCE) as pool:
+    shares = [texts[first::at_once] for first in range(min(at_once, len(texts)))]
+    with ThreadPoolExecutor(at_once) as pool:
         ended = list(pool.map(recorder.plays, shares))
-    recorded = [ended[place % AT_ONCE][place // AT_ONCE] for place in range(len(texts))]
+    recorded = [ended[place % at_once][place // at_once] for place in range(len(texts))]
     found = reports(program, [(out or "").encode() for out, _ in recorded])
     return [(text, log, it if out else None) for text, (out, log), it in zip(texts, recorded, found)]
