@@ -73,8 +73,8 @@ class Session:
         self.given, self.thread = (txn, statement), None
 
     def is_answered(self):
-        """Returns once the statement is answered (true), or is seen to wait (false). One that is to be tried again is tried
-        each time."""
+        """Returns once the statement is answered (true), or is seen to wait (false). One that is to be tried again is
+        tried each time."""
         if not self.thread:
             self.thread = threading.Thread(target=self.try_given, daemon=True)
             self.thread.start()

@@ -69,9 +69,9 @@ class Transaction:
 
 
 def operation_of(txn, statement, listed, seen):
-    """The operation of a statement that listed these rows, and looked at these versions. Of a row that it listed there are
-    the id, of the version that it found there value and name, and last the value that it left. The rest it saw as its
-    transaction's snapshot has it, if there is one, and as the transaction wrote it. A view has the rows of the
+    """The operation of a statement that listed these rows, and looked at these versions. Of a row that it listed there
+    are the id, of the version that it found there value and name, and last the value that it left. The rest it saw as
+    its transaction's snapshot has it, if there is one, and as the transaction wrote it. A view has the rows of the
     statement's table, and of other tables those that the transaction wrote."""
     found, known = {}, {**(txn.snapshot or {}), **txn.own, **seen}
     for id, value, no, op, left in listed:

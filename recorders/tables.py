@@ -1,7 +1,7 @@
 """What dialects of SQL share: the tables, whose rows have the names of their versions, and the statements over them.
 
-Every row has a version beside its value, in five columns: `txn` and `op` name it, and `old_value`, `old_txn` and `old_op`
-are what it replaced. An update fills them from the right side of its own `set`, where the database has the row that the
+Every row has a version beside its value, in five columns: `txn` and `op` name it, and `old_value`, `old_txn` and
+`old_op` are what it replaced. An update fills them from the right side of its own `set`, where the database has the row that the
 statement is about to change, also where it waited for that row and looked at it again. An insert and a select have
 nothing to replace; a delete leaves a note of its version, which stands for the absent row. What a statement saw of the
 rows that it didn't list is asked otherwise, and the dialect says how (docs/RECORDING.md, "Recorders").
@@ -21,8 +21,8 @@ def version(no, op):
 
 
 def change_of(statement, name):
-    """What an update sets, or a delete where rows that are gone stay. What is replaced comes first, for databases that set
-    one column after the other."""
+    """What an update sets, or a delete where rows that are gone stay. What is replaced comes first, for databases that
+    set one column after the other."""
     no, op = name
     left = statement.result() if statement.change else "value"
     return f"old_value = value, old_txn = txn, old_op = op, value = {left}, txn = {no}, op = {op}"
@@ -40,8 +40,8 @@ def write_of(statement, table, name):
         return f"update {table} set {change} {where} returning id, old_value, old_txn, old_op, value"
     if statement.kind == "delete":
         return f"delete from {table} {where} returning id, value, txn, op, {NOTHING}"
-    row = f"{statement.row[0]}, {statement.row[1]}, {no}, {op}"
-    return f"insert into {table} (id, value, txn, op) values ({row}) returning id, {NOTHING}, {NOTHING}, {NOTHING}, value"
+    row, nothing = f"{statement.row[0]}, {statement.row[1]}, {no}, {op}", ", ".join([NOTHING] * 3)
+    return f"insert into {table} (id, value, txn, op) values ({row}) returning id, {nothing}, value"
 
 
 class Tables(Database):
@@ -100,8 +100,8 @@ class Tables(Database):
 
     def seeing(self, statement=None):
         """A question for the versions of all rows, present and gone, and which of them the statement matches. Of the
-        notes of a row the last one counts: it is gone again only after it was inserted again, which waits for who deleted
-        it before, so places rise with time."""
+        notes of a row the last one counts: it is gone again only after it was inserted again, which waits for who
+        deleted it before, so places rise with time."""
         notes = f"{self.ROOM}gone1"
         last = f"(select max(place) from {notes} other where other.name = one.name and other.id = one.id)"
         parts = [f"select 'seen', name, id, txn, op, 0, 0 from {notes} one where place = {last}"]

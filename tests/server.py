@@ -33,7 +33,7 @@ class Server:
     """A running PostgreSQL server, as a context; `environment` has what its clients need."""
 
     USERS = "postgres", "nobody"  # who runs the server where the tests are root's, which it refuses
-    SETTINGS = {"listen_addresses": "", "fsync": "off", "deadlock_timeout": "20ms", "max_connections": "80"}
+    SETTINGS = {"listen_addresses": "", "fsync": "off", "deadlock_timeout": "20ms", "max_connections": "100"}
     VARIABLES = "PG"  # how the variables begin by which clients find another server
 
     def __init__(self, folder):

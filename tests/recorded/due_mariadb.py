@@ -42,7 +42,8 @@ DUE_OF_MARIADB = (
     (
         "at read uncommitted what isn't committed is read",
         READ_UNCOMMITTED,
-        BOTH + "update test set value = 11 where id = 1; -- T1\nselect * from test; -- T2\nabort; -- T1\ncommit; -- T2\n",
+        BOTH + "update test set value = 11 where id = 1; -- T1\nselect * from test; -- T2\n"
+        "abort; -- T1\ncommit; -- T2\n",
         (r"^line 5: T2 .*: rows \(1, 11\), \(2, 20\)$",),
         {(2, 1): {"view": of_test([1, 1, 1]), "rows": of_test([1, 11], [2, 20])}},
     ),
@@ -94,8 +95,8 @@ DUE_OF_MARIADB = (
     (
         "a delete and an insert of one key in one transaction",
         REPEATABLE_READ,
-        SETUP + "begin; -- T1\ndelete from test where id = 2; -- T1\ninsert into test (id, value) values (2, 5); -- T1\n"
-        "delete from test where value = 5; -- T1\nselect * from test; -- T1\ncommit; -- T1\n",
+        SETUP + "begin; -- T1\ndelete from test where id = 2; -- T1\n"
+        "insert into test (id, value) values (2, 5); -- T1\ndelete from test where value = 5; -- T1\nselect * from test; -- T1\ncommit; -- T1\n",
         (r"^line 6: T1 .*: rows \(1, 10\)$",),
         {
             (1, 2): {"view": of_test([2, 1, 1]), "rows": [], "writes": of_test([2, 5])},

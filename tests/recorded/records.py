@@ -1,4 +1,4 @@
-"""Records of made scripts: what a recorder makes of them at a level, what the judge reports, and what the level promises."""
+"""Records of scripts: what a recorder makes of them at a level, what is reported of it, and what the level promises."""
 import json
 import os
 import re
@@ -10,7 +10,7 @@ from harness import TOP, run
 from recorded.due_mariadb import READ_UNCOMMITTED, SNAPSHOTS
 from recorded.mutations import READ_COMMITTED, REPEATABLE_READ, SERIALIZABLE
 
-AT_ONCE, SECONDS = 6, 300
+AT_ONCE, SECONDS = 8, 300
 # What a report says where the level is at least as good.
 MET = {
     "PL-1": [("G0", "absent")],
