@@ -35,6 +35,7 @@ class Server:
     USERS = "postgres", "nobody"  # who runs the server where the tests are root's, which it refuses
     SETTINGS = {"listen_addresses": "", "fsync": "off", "deadlock_timeout": "20ms", "max_connections": "100"}
     VARIABLES = "PG"  # how the variables begin by which clients find another server
+    STOP = signal.SIGINT
 
     def __init__(self, folder):
         self.folder = folder
@@ -97,8 +98,6 @@ class Server:
         """The lines of an answer."""
         words, how = self.asking(question), {"env": self.environment, "check": False}
         return subprocess.run(words, capture_output=True, text=True, **how).stdout.splitlines()
-
-    STOP = signal.SIGINT
 
     def __exit__(self, *_):
         """Stops the server by its process, and sees it end."""
