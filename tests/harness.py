@@ -85,3 +85,21 @@ class Tally:
         """Writes the last line, and ends with status 1 where a try failed, or where none was made."""
         print(f"{self.passed} passed, {self.failed} failed{more}")
         sys.exit(1 if self.failed or not self.passed else 0)
+
+
+class Progress:
+    """A line that says how far long work is, as `3 of 10 tests`, each time in place of the one before. Nothing is
+    written where standard error is no terminal."""
+
+    def __init__(self, count, what):
+        self.count, self.what, self.is_told = count, what, sys.stderr.isatty()
+
+    def tell(self, done):
+        """Says how much is done."""
+        if self.is_told:
+            print(f"\r{done} of {self.count} {self.what}\x1b[K", end="", file=sys.stderr, flush=True)
+
+    def clear(self):
+        """Takes the line away, so that another can be written."""
+        if self.is_told:
+            print("\r\x1b[K", end="", file=sys.stderr, flush=True)

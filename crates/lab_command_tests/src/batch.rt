@@ -1,8 +1,9 @@
 //! What `batch` writes where a read of a file fails, and that it reads its files before it writes.
 
+use crate::case::PLAIN;
 use crate::files::{HeldFiles, Telling};
 use crate::streams::{FAULTS, Sink};
-use lab_commands::batch;
+use lab_commands::{Progress, batch};
 use std::sync::atomic::AtomicBool;
 use std::test::Fail;
 
@@ -34,13 +35,31 @@ fn batch_tells_a_file_of_which_a_read_fails(rt: HostRuntime) -> Result<(), Fail>
             };
             let names = ["whole", "failing", "whole"];
             let mut notes = Sink::new(rt.alloc(), 9_000, 0);
-            let run = batch(&files, rt.alloc(), &names, &mut writer, &mut notes);
+            let mut shown = Sink::new(rt.alloc(), 100, 0);
+            let mut progress = Progress {
+                to: &mut shown,
+                is_shown: true,
+            };
+            let run = batch(
+                &files,
+                rt.alloc(),
+                &names,
+                &mut writer,
+                &mut notes,
+                PLAIN,
+                &mut progress,
+            );
             assert_eq!(rt; writer.sink.text.as_slice(), WRITTEN, "at call {fails_at}");
             assert!(rt;
                 notes.text.starts_with(b"whole: line 1, column "),
                 "at call {fails_at}"
             );
             assert_eq!(rt; run, Ok(3), "at call {fails_at}");
+            assert_eq!(rt;
+                shown.text.as_slice(),
+                b"\r3 of 3 files\r\x1b[K",
+                "at call {fails_at}"
+            );
         }
     }
     Ok(())

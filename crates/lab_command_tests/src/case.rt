@@ -2,12 +2,13 @@
 
 use crate::streams::{Sink, Source};
 use lab_case_commands::{case as case_script, matrix};
-use lab_commands::{batch, judge, run, run_free, serial};
+use lab_commands::{Progress, batch, judge, run, run_free, serial};
 use lab_engine::Level;
 use lab_explain::explain;
 use lab_matrix::CaseName;
-use lab_picture::{Phenomenon, picture};
-use lab_streams::{RunFault, status};
+use lab_picture::picture;
+use lab_reports::Phenomenon;
+use lab_streams::{Format, RunFault, Wanted, status};
 use std::alloc::Global;
 use std::io::{Read, Write};
 use std::process::Abort;
@@ -23,6 +24,8 @@ pub enum Subcommand {
     Run { level: Level, history: bool },
     RunFree { level: Level, history: bool },
     Judge,
+    /// `judge` with its options.
+    JudgeFor { wanted: Wanted },
     Picture { asked: Option<Phenomenon> },
     Explain { asked: Option<Phenomenon> },
     Case { name: CaseName },
@@ -30,6 +33,12 @@ pub enum Subcommand {
     /// Of these files, which `Files` opens; it has no reader.
     Batch { names: &'static [&'static str] },
 }
+
+/// A report as lines, of which nothing is required.
+pub const PLAIN: Wanted = Wanted {
+    format: Format::Lines,
+    requirement: None,
+};
 
 /// A subcommand, its input, what it writes, and the exit status.
 #[derive(Clone, Copy)]
@@ -51,16 +60,26 @@ pub fn given<T: Files + Threads + Wait + Sync, R: Read, W: Write, N: Write>(
 ) -> Result<u8, RunFault> {
     let ending = match subcommand {
         Subcommand::Serial => serial(alloc, reader, writer, notes),
-        Subcommand::Run { level, history } => run(alloc, reader, writer, notes, level, history),
-        Subcommand::RunFree { level, history } => {
-            run_free(rt, alloc, reader, writer, notes, level, history)
+        Subcommand::Run { level, history } => {
+            run(alloc, reader, writer, notes, level, history, PLAIN)
         }
-        Subcommand::Judge => judge(alloc, reader, writer, notes),
+        Subcommand::RunFree { level, history } => {
+            run_free(rt, alloc, reader, writer, notes, level, history, PLAIN)
+        }
+        Subcommand::Judge => judge(alloc, reader, writer, notes, PLAIN),
+        Subcommand::JudgeFor { wanted } => judge(alloc, reader, writer, notes, wanted),
         Subcommand::Picture { asked } => picture(alloc, reader, writer, notes, asked),
         Subcommand::Explain { asked } => explain(alloc, reader, writer, notes, asked),
         Subcommand::Case { name } => case_script(alloc, name, writer),
         Subcommand::Matrix => matrix(alloc, writer),
-        Subcommand::Batch { names } => return batch(rt, alloc, names, writer, notes),
+        Subcommand::Batch { names } => {
+            let mut shown = Sink::new(alloc, 1, 0);
+            let mut progress = Progress {
+                to: &mut shown,
+                is_shown: false,
+            };
+            return batch(rt, alloc, names, writer, notes, PLAIN, &mut progress);
+        }
     };
     match ending {
         Ok(ending) => Ok(status(Ok(ending))),
@@ -94,7 +113,7 @@ pub fn check(
             assert_eq!(rt; writer.text.as_slice(), case.text, "of {:?}", case.input);
             assert_eq!(rt; status_of(run), case.status, "of {:?}", case.input);
             assert!(rt;
-                case.status != 2 || !notes.text.is_empty(),
+                !matches!(case.status, 1 | 2) || !notes.text.is_empty(),
                 "of {:?}",
                 case.input
             );

@@ -7,8 +7,9 @@ use crate::run::{FREE_HISTORY, FREE_LEFT_OPEN, FREE_NO_SESSION, HISTORY, LEFT_OP
 use crate::serial::{NO_SESSION, TWO_SESSIONS};
 use crate::streams::{Endless, FAULTS, Sink, Source};
 use crate::words::{EXPLANATION, LISTING, MATRIX, NO_EXPLANATION, NO_PICTURE, PICTURE};
+use lab_refusal_tests::{refuse, was_refused};
 use lab_streams::RunFault;
-use std::alloc::{AllocError, Global};
+use std::alloc::Global;
 use std::io::ErrorKind;
 use std::process::Abort;
 use std::sync::Wait;
@@ -199,22 +200,6 @@ fn reads_within_its_bounds(rt: HostRuntime) -> Result<(), Fail> {
         assert_eq!(rt; reader.calls, 20_000_000);
     }
     Ok(())
-}
-
-// What .ci/refuse.c reads in sizes of blocks; without it these are ordinary blocks, and no allocation is refused.
-const MARK: usize = 5_000_011;
-
-const ASK: usize = 5_100_003;
-
-/// From now on the n-th allocation is refused, or none at 0.
-fn refuse(alloc: Global, n: u16) {
-    let _: Result<Vec<u8>, AllocError> = Vec::with_capacity(alloc, MARK + n as usize);
-}
-
-/// Whether an allocation was refused since.
-fn was_refused(alloc: Global) -> bool {
-    let block: Result<Vec<u8>, AllocError> = Vec::with_capacity(alloc, ASK);
-    block.is_err()
 }
 
 /// Cases that are played by no thread, where a refused allocation may be one of the system's.

@@ -3,7 +3,7 @@
 use crate::case::{Case, Subcommand, check};
 use crate::judge::{CUT, CUT_FAULT, EMPTY, INTERMEDIATE};
 use lab_matrix::CaseName;
-use lab_picture::Phenomenon;
+use lab_reports::Phenomenon;
 use std::test::Fail;
 
 /// Of a history without transactions there is nothing but the heading.

@@ -5,9 +5,10 @@ use Rattle.std.specs.List.{All, AllZip, flat_map, zip}
 use Rattle.std.proofs.lemmas.List.Elements.{All-nil, All-cons}
 use Rattle.std.proofs.lemmas.List.Folds.{fold-map, flat_map-map}
 use Rattle.lab_history.specs.declared.fault.FileFault.{FileFault}
-use Rattle.lab_judge.specs.FileAnswer.{IsFileAnswer}
+use Rattle.lab_judge.specs.FileJudgement.{IsFileAnswer}
 use Rattle.lab_judge.specs.declared.report.Report.{Report}
-use Rattle.lab_commands.specs.Batching.{Part, IsSaid, IsBatchAnswer, behind_name, input_of, said_text, part_text, part_status}
+use Rattle.lab_streams.specs.declared.reporting.Wanted.{Wanted}
+use Rattle.lab_commands.specs.Batching.{Part, IsSaid, IsBatchAnswer, name_line, input_of, said_text, part_text, part_status}
 use Rattle.lab_commands.proofs.GreatestNumbers.{folded_is_greatest}
 
 abbrev pub Answer : Type 0
@@ -17,36 +18,37 @@ Answer = Result Report FileFault
 abbrev pub Turn : Type 0
 Turn = (Bor (List ℕ) × Bool) × Answer
 
-abbrev pub text_at : Turn → List ℕ
-text_at turn = part_text turn.0.0.now turn.0.1 turn.1
+abbrev pub text_at : Wanted → Turn → List ℕ
+text_at wanted turn = part_text wanted.format turn.0.0.now turn.0.1 turn.1
 
-abbrev pub status_at : Turn → ℕ
-status_at turn = part_status turn.0.1 turn.1
+abbrev pub status_at : Wanted → Turn → ℕ
+status_at wanted turn = part_status wanted.requirement turn.0.1 turn.1
 
-is_said : (is_read : Bool) (bytes : List ℕ) (answer : Answer) → IsFileAnswer bytes answer → IsSaid (input_of is_read bytes) (said_text is_read answer) (part_status is_read answer)
-is_said true bytes answer true_of = record { answer = answer; is_true = true_of; said_is = refl; status_is = refl }
-is_said false bytes answer true_of = (refl, refl)
+is_said : (wanted : Wanted) (name : List ℕ) (is_read : Bool) (bytes : List ℕ) (answer : Answer) → IsFileAnswer bytes answer
+    → IsSaid wanted name (input_of is_read bytes) (said_text wanted.format name is_read answer) (part_status wanted.requirement is_read answer)
+is_said wanted name true bytes answer true_of = record { answer = answer; is_true = true_of; said_is = refl; status_is = refl }
+is_said wanted name false bytes answer true_of = (refl, refl)
 
-module _ (F : Type 0) (bytes_of : F → List ℕ) where
+module _ (wanted : Wanted) (F : Type 0) (bytes_of : F → List ℕ) where
   -- the files have parts, which say what is put together at each turn
   pub record HaveParts (names : List (Bor (List ℕ))) (are_read : List Bool) (files : List F) (answers : List Answer) : Type 0 where
     pub parts : List Part
     pub named : map (λ p. p.name) parts ≡ map (λ name. name.now) names
     pub read : map (λ p. p.input) parts ≡ map (λ p. input_of p.0 (bytes_of p.1)) (zip are_read files)
-    pub said : All (λ p. IsSaid p.input p.said p.status) parts
-    pub text_is : flat_map (λ p. behind_name p.name p.said) parts ≡ flat_map text_at (zip (zip names are_read) answers)
-    pub status_is : map (λ p. p.status) parts ≡ map status_at (zip (zip names are_read) answers)
+    pub said : All (λ p. IsSaid wanted p.name p.input p.said p.status) parts
+    pub text_is : flat_map (λ p. name_line wanted.format p.name ++ p.said) parts ≡ flat_map (text_at wanted) (zip (zip names are_read) answers)
+    pub status_is : map (λ p. p.status) parts ≡ map (status_at wanted) (zip (zip names are_read) answers)
 
   more : (name : Bor (List ℕ)) (is_read : Bool) (file : F) (answer : Answer) (names : List (Bor (List ℕ))) (are_read : List Bool) (files : List F) (answers : List Answer)
       → IsFileAnswer (bytes_of file) answer → HaveParts names are_read files answers → HaveParts (name ∷ names) (is_read ∷ are_read) (file ∷ files) (answer ∷ answers)
   more name is_read file answer names are_read files answers true_of rest =
-      let part : Part = record { name = name.now; input = input_of is_read (bytes_of file); said = said_text is_read answer; status = part_status is_read answer } in
+      let part : Part = record { name = name.now; input = input_of is_read (bytes_of file); said = said_text wanted.format name.now is_read answer; status = part_status wanted.requirement is_read answer } in
       record {
         parts = part ∷ rest.parts;
         named = ap (λ ns. name.now ∷ ns) rest.named;
         read = ap (λ is. part.input ∷ is) rest.read;
-        said = All-cons (λ (p : Part). IsSaid p.input p.said p.status) part rest.parts (is_said is_read (bytes_of file) answer true_of) rest.said;
-        text_is = ap (λ text. part_text name.now is_read answer ++ text) rest.text_is;
+        said = All-cons (λ (p : Part). IsSaid wanted p.name p.input p.said p.status) part rest.parts (is_said wanted name.now is_read (bytes_of file) answer true_of) rest.said;
+        text_is = ap (λ text. part_text wanted.format name.now is_read answer ++ text) rest.text_is;
         status_is = ap (λ ss. part.status ∷ ss) rest.status_is;
       }
 
@@ -65,20 +67,20 @@ module _ (F : Type 0) (bytes_of : F → List ℕ) where
   module _ {Y : Type 0} (turn : Y → Turn) (turns : List Y) (names : List (Bor (List ℕ))) (are_read : List Bool) (files : List F) (answers : List Answer) (text : List ℕ) (status : ℕ)
       (have : HaveParts names are_read files answers) (walked : map turn turns ≡ zip (zip names are_read) answers) where
     -- what is put together turn by turn is said of the files
-    pub batched : text ≡ flat_map (λ y. text_at (turn y)) turns → status ≡ fold (λ s y. max s (status_at (turn y))) 0 turns
-        → IsBatchAnswer (map (λ name. name.now) names) (map (λ p. input_of p.0 (bytes_of p.1)) (zip are_read files)) text status
+    pub batched : text ≡ flat_map (λ y. text_at wanted (turn y)) turns → status ≡ fold (λ s y. max s (status_at wanted (turn y))) 0 turns
+        → IsBatchAnswer wanted (map (λ name. name.now) names) (map (λ p. input_of p.0 (bytes_of p.1)) (zip are_read files)) text status
     batched text_is status_is =
         let greatest : status ≡ fold max 0 (map (λ p. p.status) have.parts)
         = status_is
-        ∙ sym (fold-map (λ s (t : Turn). max s (status_at t)) turn 0 turns)
-        ∙ ap (λ ts. fold (λ s (t : Turn). max s (status_at t)) 0 ts) walked
-        ∙ sym (fold-map max status_at 0 (zip (zip names are_read) answers))
+        ∙ sym (fold-map (λ s (t : Turn). max s (status_at wanted t)) turn 0 turns)
+        ∙ ap (λ ts. fold (λ s (t : Turn). max s (status_at wanted t)) 0 ts) walked
+        ∙ sym (fold-map max (status_at wanted) 0 (zip (zip names are_read) answers))
         ∙ sym (ap (λ ss. fold max 0 ss) have.status_is) in
         record {
           parts = have.parts;
           named = have.named;
           read = have.read;
           said = have.said;
-          text_is = text_is ∙ sym (flat_map-map text_at turn turns) ∙ ap (λ ts. flat_map text_at ts) walked ∙ sym have.text_is;
+          text_is = text_is ∙ sym (flat_map-map (text_at wanted) turn turns) ∙ ap (λ ts. flat_map (text_at wanted) ts) walked ∙ sym have.text_is;
           status_is = folded_is_greatest (map (λ p. p.status) have.parts) status greatest;
         }

@@ -1,9 +1,8 @@
-mod JudgedFiles
 mod GreatestNumbers
 mod BatchParts
-mod PlaysPrint
-mod Refusals
-mod WholeScripts
-mod OneAnswer
+mod PlayRefusals
 mod OneTranscript
 mod OneRun
+mod OneReport
+mod WrittenRefusals
+mod BatchWindows

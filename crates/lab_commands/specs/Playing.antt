@@ -1,5 +1,5 @@
 -- What `run` says of an input.
-use Rattle.std.specs.Prelude.{◌≡◌, ◌≢◌, ℕ, ◌<◌, ◌≤◌, ◌⊎◌, Ok, List, ◌++◌, length, Bool, true, false}
+use Rattle.std.specs.Prelude.{◌≡◌, ◌≢◌, ℕ, ◌<◌, ◌≤◌, ◌⊎◌, Ok, Option, Some, None, List, [], ◌++◌, length, Bool, true, false}
 use Rattle.serde_json.specs.Written.{compact_text}
 use Rattle.lab_script.specs.declared.script.Script.{Script}
 use Rattle.lab_statement.specs.Printed.{newline}
@@ -14,21 +14,25 @@ use Rattle.lab_engine.specs.Log.{past_of}
 use Rattle.lab_engine.specs.Recording.{IsRecording}
 use Rattle.lab_engine.specs.RecordedLog.{RecordedLog, IsSoundRecord}
 use Rattle.lab_engine.specs.declared.event.Level.{Level}
+use Rattle.lab_engine.specs.declared.event.LogEvent.{LogEvent}
 use Rattle.lab_history.specs.Limits.{max_file_bytes}
 use Rattle.lab_session.specs.Play.{given_lines, IsLegalPlay, IsScriptedFault}
 use Rattle.lab_session.specs.Free.{AllSessionsPlayed, IsFreeFault}
 use Rattle.lab_session.specs.LogText.{log_text, SomeEvent}
-use Rattle.lab_session.specs.PlayFaultText.{play_fault_text}
 use Rattle.lab_session.specs.declared.fault.PlayFault.{PlayFault}
 use Rattle.lab_session.specs.declared.fault.PlayFault.TheVariants.{NoMemory}
 use Rattle.lab_session.specs.declared.fault.PlayFault.TheVariants as play_fault
 use Rattle.lab_judge.specs.Judgement.{IsExactJudgement}
-use Rattle.lab_judge.specs.ReportText.{report_text}
 use Rattle.lab_judge.specs.FileFaultText.{file_fault_text}
 use Rattle.lab_judge.specs.declared.report.Report.{Report}
+use Rattle.lab_reports.specs.declared.requirement.Requirement.{Requirement}
+use Rattle.lab_streams.specs.Reports.{said_of, ending_due}
 use Rattle.lab_streams.specs.declared.ending.Ending.{Ending}
 use Rattle.lab_streams.specs.declared.ending.Ending.TheVariants.{Done, Refused}
-use Rattle.lab_commands.specs.Serial.{IsRefused}
+use Rattle.lab_streams.specs.declared.reporting.Format.{Format}
+use Rattle.lab_streams.specs.declared.reporting.Format.TheVariants.{Lines, Json}
+use Rattle.lab_streams.specs.declared.reporting.Wanted.{Wanted}
+use Rattle.lab_commands.specs.Refusals.{play_refused_text, IsRefused}
 
 -- a recording of a script that is played by one thread, at a level: its log is legal and follows the script to its end,
 -- and its history has no fault
@@ -67,43 +71,55 @@ IsFreeRefusal level script fault = IsFreeFault level script.setup (given_lines s
 abbrev pub file_text : History → List ℕ
 file_text history = compact_text (tree_of history)
 
--- the text is the log, and the report of a judgement of what it recorded
-pub record IsLogAnswer (recording : RecordedLog) (text : List ℕ) (ending : Ending) : Type 0 where
+-- what is written of a log in front of a report
+abbrev pub log_said : Format → List LogEvent → List ℕ
+log_said Lines log = log_text log
+log_said Json log = []
+
+-- the text is the log and the report of a judgement of what it recorded, or in JSON that report alone
+pub record IsLogAnswer (wanted : Wanted) (recording : RecordedLog) (text : List ℕ) (ending : Ending) : Type 0 where
   pub report : Report
   pub judgement : IsExactJudgement recording.history report
-  pub text_is : text ≡ log_text recording.log ++ report_text report
-  pub done : ending ≡ Done
+  pub text_is : text ≡ log_said wanted.format recording.log ++ said_of wanted.format None report
+  pub ends : ending ≡ ending_due wanted.requirement report
+
+-- how it ends where something else is written of a history than its report, by what is required of that
+abbrev pub Ends : Option Requirement → History → Ending → Type 0
+Ends None history ending = ending ≡ Done
+Ends (Some requirement) history ending = (report : Report) × IsExactJudgement history report × (ending ≡ ending_due (Some requirement) report)
 
 -- the text is the file of what was recorded and a newline, where it isn't too long, or the line that says that it would be
-pub data IsHistoryAnswer (recording : RecordedLog) (text : List ℕ) (ending : Ending) : Type 0 where
-  written : length (file_text recording.history) ≤ max_file_bytes → text ≡ file_text recording.history ++ newline → ending ≡ Done → IsHistoryAnswer recording text ending
-  too_long : max_file_bytes < length (file_text recording.history) → text ≡ file_fault_text (OverLimit Bytes) → ending ≡ Refused → IsHistoryAnswer recording text ending
+pub data IsHistoryAnswer (wanted : Wanted) (recording : RecordedLog) (text : List ℕ) (ending : Ending) : Type 0 where
+  written : length (file_text recording.history) ≤ max_file_bytes → text ≡ file_text recording.history ++ newline → Ends wanted.requirement recording.history ending
+      → IsHistoryAnswer wanted recording text ending
+  too_long : max_file_bytes < length (file_text recording.history) → text ≡ file_fault_text (OverLimit Bytes) → ending ≡ Refused → IsHistoryAnswer wanted recording text ending
 
 -- what is told of a recording: its history where that is asked for, else its log
-abbrev pub IsRecordingAnswer : Bool → RecordedLog → List ℕ → Ending → Type 0
-IsRecordingAnswer false recording text ending = IsLogAnswer recording text ending
-IsRecordingAnswer true recording text ending = IsHistoryAnswer recording text ending
+abbrev pub IsRecordingAnswer : Bool → Wanted → RecordedLog → List ℕ → Ending → Type 0
+IsRecordingAnswer false wanted recording text ending = IsLogAnswer wanted recording text ending
+IsRecordingAnswer true wanted recording text ending = IsHistoryAnswer wanted recording text ending
 
 -- What is said of a script whose plays give such recordings, or are refused for such a fault.
 module _ (Plays : Script → RecordedLog → Type 0) (Refuses : Script → PlayFault → Type 0) where
   -- the input spells a script, and the text tells of a recording of it
-  pub record IsPlayed (history : Bool) (input text : List ℕ) (ending : Ending) : Type 0 where
+  pub record IsPlayed (history : Bool) (wanted : Wanted) (input text : List ℕ) (ending : Ending) : Type 0 where
     pub script : Script
     pub spelled : Spells input script
     pub recording : RecordedLog
     pub played : Plays script recording
-    pub tells : IsRecordingAnswer history recording text ending
+    pub tells : IsRecordingAnswer history wanted recording text ending
 
-  -- the input spells a script whose play was refused, and the text is the line of its fault
-  pub record IsUnplayed (input text : List ℕ) (ending : Ending) : Type 0 where
+  -- the input spells a script whose play was refused, and the text tells its fault
+  pub record IsUnplayed (format : Format) (input text : List ℕ) (ending : Ending) : Type 0 where
     pub script : Script
     pub spelled : Spells input script
     pub fault : PlayFault
     pub told_why : fault ≢ NoMemory
     pub faulty : Refuses script fault
-    pub text_is : text ≡ play_fault_text fault
+    pub text_is : text ≡ play_refused_text format fault
     pub refused : ending ≡ Refused
 
   -- the text is what is to be said of the input, and the ending is the one due
-  abbrev pub IsRunAnswer : Bool → List ℕ → List ℕ → Ending → Type 0
-  IsRunAnswer history input text ending = IsPlayed history input text ending ⊎ (IsRefused input text ending ⊎ IsUnplayed input text ending)
+  abbrev pub IsRunAnswer : Bool → Wanted → List ℕ → List ℕ → Ending → Type 0
+  IsRunAnswer history wanted input text ending =
+      IsPlayed history wanted input text ending ⊎ (IsRefused wanted.format input text ending ⊎ IsUnplayed wanted.format input text ending)

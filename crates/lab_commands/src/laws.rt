@@ -6,11 +6,12 @@ ghost use Rattle.lab_commands.specs.Judging.{IsJudgeAnswer};
 ghost use Rattle.lab_commands.specs.Playing.{IsScriptedPlay, IsScriptedRefusal, IsRunAnswer};
 ghost use Rattle.lab_commands.specs.Serial.{IsSerialAnswer};
 ghost use Rattle.lab_streams.specs.declared.ending.Ending.{Ending};
+ghost use Rattle.lab_streams.specs.declared.reporting.Wanted.{Wanted};
 
 /// Of one input `judge` says one thing, byte for byte: whoever judges a file gets the same report, or the same fault.
 pub fn judge_answer_unique()
-    ensures text { (input one other : List ℕ) (first again : Ending) → IsJudgeAnswer input one first → IsJudgeAnswer input other again → one ≡ other }
-    ensures ending { (input one other : List ℕ) (first again : Ending) → IsJudgeAnswer input one first → IsJudgeAnswer input other again → first ≡ again }
+    ensures text { (wanted : Wanted) (input one other : List ℕ) (first again : Ending) → IsJudgeAnswer wanted input one first → IsJudgeAnswer wanted input other again → one ≡ other }
+    ensures ending { (wanted : Wanted) (input one other : List ℕ) (first again : Ending) → IsJudgeAnswer wanted input one first → IsJudgeAnswer wanted input other again → first ≡ again }
 {}
 
 /// Of one input `serial` says one thing, byte for byte: the transcript, or the line of the fault.
@@ -22,8 +23,8 @@ pub fn serial_answer_unique()
 /// Of one input `run` says one thing at a level, byte for byte: the log and the report, or the history file, or the line of
 /// the fault.
 pub fn run_answer_unique()
-    ensures text { (level : Level) (history : Bool) (input one other : List ℕ) (first again : Ending) → IsRunAnswer (IsScriptedPlay level) (IsScriptedRefusal level) history input one first
-        → IsRunAnswer (IsScriptedPlay level) (IsScriptedRefusal level) history input other again → one ≡ other }
-    ensures ending { (level : Level) (history : Bool) (input one other : List ℕ) (first again : Ending) → IsRunAnswer (IsScriptedPlay level) (IsScriptedRefusal level) history input one first
-        → IsRunAnswer (IsScriptedPlay level) (IsScriptedRefusal level) history input other again → first ≡ again }
+    ensures text { (level : Level) (history : Bool) (wanted : Wanted) (input one other : List ℕ) (first again : Ending) → IsRunAnswer (IsScriptedPlay level) (IsScriptedRefusal level) history wanted input one first
+        → IsRunAnswer (IsScriptedPlay level) (IsScriptedRefusal level) history wanted input other again → one ≡ other }
+    ensures ending { (level : Level) (history : Bool) (wanted : Wanted) (input one other : List ℕ) (first again : Ending) → IsRunAnswer (IsScriptedPlay level) (IsScriptedRefusal level) history wanted input one first
+        → IsRunAnswer (IsScriptedPlay level) (IsScriptedRefusal level) history wanted input other again → first ≡ again }
 {}

@@ -7,16 +7,26 @@
 #![tactic(auto)]
 
 mod batching;
+mod files;
+mod free;
+mod judged_files;
 mod judging;
 mod laws;
-mod playing;
-mod playing_free;
+mod listed;
+mod player;
+mod progress;
 mod recording_answer;
+mod refusals;
+mod running;
+mod scripted;
 mod transcribing;
 
-pub use batching::{BatchAnswer, Inputs, batch, batch_answer, read_files};
+pub use batching::batch;
+pub use files::{Inputs, read_files};
+pub use judged_files::{BatchAnswer, batch_answer};
 pub use judging::judge;
 pub use laws::{judge_answer_unique, run_answer_unique, serial_answer_unique};
-pub use playing::run;
-pub use playing_free::run_free;
+pub use listed::listed_names;
+pub use progress::Progress;
+pub use running::{run, run_free};
 pub use transcribing::serial;

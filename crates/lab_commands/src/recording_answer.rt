@@ -1,40 +1,89 @@
 //! What a recording tells.
 
-ghost use Rattle.std.specs.Prelude.{◌≢◌, ◌≡◌, Err, IfOk};
+ghost use Rattle.std.specs.Prelude.{◌≢◌, ◌≡◌, Err, IfOk, IfErr};
 ghost use Rattle.lab_statement.specs.Limits.{IsDeep, IsLong};
 ghost use Rattle.lab_session.specs.LogText.{SomeEvent};
-ghost use Rattle.lab_commands.specs.Playing.{IsLogAnswer, IsHistoryAnswer};
+ghost use Rattle.lab_commands.specs.Playing.{log_said, Ends, IsLogAnswer, IsHistoryAnswer, IsRecordingAnswer, IsUntold};
 
 use lab_engine::Recording;
 use lab_history::{FileFault, Limit};
 use lab_history_file::{WriteFault, write_history};
-use lab_judge::{judge_recording, print_file_fault, print_report};
-use lab_session::print_log;
+use lab_judge::{judge_recording, print_file_fault};
+use lab_reports::Requirement;
+use lab_session::{PlayFault, print_log};
 use lab_statement::PrintFault;
-use lab_streams::{Answer, Ending};
+use lab_streams::{Answer, Ending, Format, Wanted, ending_of, print_said, shortfall_line};
 use lab_table::NoMemory;
 use std::alloc::{AllocError, Global};
 
-/// The log of a recording, and the report of a judgement of its history. TooDeep and TooLong only where a statement of
-/// the log breaks that limit.
-pub fn log_answer(alloc: Global, recording: &Recording) -> Result<Answer, PrintFault>
-    ensures answer { IfOk result (λ answer. IsLogAnswer recording.now answer.text.items answer.ending) }
+/// What is written of a recording's log in front of the report. TooDeep and TooLong only where a statement of the log breaks
+/// that limit.
+fn print_log_said(
+    alloc: Global,
+    format: Format,
+    recording: &Recording,
+) -> Result<Vec<u8>, PrintFault>
+    ensures text { IfOk result (λ text. text.items ≡ log_said format recording.now.log) }
     ensures too_deep { result ≡ Err PrintFault.TooDeep → SomeEvent IsDeep recording.now.log }
     ensures too_long { result ≡ Err PrintFault.TooLong → SomeEvent IsLong recording.now.log }
     ensures few_tables { result ≢ Err PrintFault.TooManyTables }
 {
-    let mut text = print_log(alloc, recording)?;
+    match format {
+        Format::Lines => print_log(alloc, recording),
+        Format::Json => Ok(Vec::new(alloc)),
+    }
+}
+
+/// The log of a recording and the report of a judgement of its history, or in JSON that report alone. TooDeep and TooLong
+/// only where a statement of the log breaks that limit.
+fn log_answer(
+    alloc: Global,
+    recording: &Recording,
+    wanted: Wanted,
+    shortfall: &mut Vec<u8>,
+) -> Result<Answer, PrintFault>
+    ensures answer { IfOk result (λ answer. IsLogAnswer wanted recording.now answer.text.items answer.ending) }
+    ensures too_deep { result ≡ Err PrintFault.TooDeep → SomeEvent IsDeep recording.now.log }
+    ensures too_long { result ≡ Err PrintFault.TooLong → SomeEvent IsLong recording.now.log }
+    ensures few_tables { result ≢ Err PrintFault.TooManyTables }
+{
+    let mut text = print_log_said(alloc, wanted.format, recording)?;
     let report = judge_recording(alloc, recording)?;
-    text.extend_from_slice(&print_report(alloc, &report)?)?;
+    text.extend_from_slice(&print_said(alloc, wanted.format, None, &report)?)?;
+    *shortfall = shortfall_line(alloc, "standard input", wanted.requirement, &report)?;
     Ok(Answer {
         text,
-        ending: Ending::Done,
+        ending: ending_of(wanted.requirement, &report),
     })
 }
 
+/// How a run ends that writes its history, by what is required of the report.
+fn end_of_history(
+    alloc: Global,
+    recording: &Recording,
+    requirement: Option<Requirement>,
+    shortfall: &mut Vec<u8>,
+) -> Result<Ending, NoMemory>
+    ensures { IfOk result (Ends requirement recording.now.history) }
+{
+    match requirement {
+        None => Ok(Ending::Done),
+        Some(_) => {
+            let report = judge_recording(alloc, recording)?;
+            *shortfall = shortfall_line(alloc, "standard input", requirement, &report)?;
+            Ok(ending_of(requirement, &report))
+        }
+    }
+}
+
 /// The history file of a recording and a newline, or the line that says that the file would be too long.
-pub fn history_answer(alloc: Global, recording: &Recording) -> Result<Answer, NoMemory>
-    ensures { IfOk result (λ answer. IsHistoryAnswer recording.now answer.text.items answer.ending) }
+fn history_answer(
+    alloc: Global,
+    recording: &Recording,
+    wanted: Wanted,
+    shortfall: &mut Vec<u8>,
+) -> Result<Answer, NoMemory>
+    ensures { IfOk result (λ answer. IsHistoryAnswer wanted recording.now answer.text.items answer.ending) }
 {
     match write_history(alloc, recording.history()) {
         Ok(file) => {
@@ -42,7 +91,7 @@ pub fn history_answer(alloc: Global, recording: &Recording) -> Result<Answer, No
             text.push(b'\n')?;
             Ok(Answer {
                 text,
-                ending: Ending::Done,
+                ending: end_of_history(alloc, recording, wanted.requirement, shortfall)?,
             })
         }
         Err(WriteFault::NoMemory) => Err(AllocError),
@@ -55,5 +104,31 @@ pub fn history_answer(alloc: Global, recording: &Recording) -> Result<Answer, No
             )?,
             ending: Ending::Refused,
         }),
+    }
+}
+
+/// What there is to tell of a recording: its history where that is asked for, else its log and the report, which in JSON
+/// stands alone; why the report doesn't meet what is required is noted. A log of which a statement doesn't print is a play
+/// that is over that limit.
+pub fn recording_answer(
+    alloc: Global,
+    recording: &Recording,
+    history: bool,
+    wanted: Wanted,
+    shortfall: &mut Vec<u8>,
+) -> Result<Answer, PlayFault>
+    ensures tells { IfOk result (λ answer. IsRecordingAnswer history wanted recording.now answer.text.items answer.ending) }
+    ensures fault { IfErr result (IsUntold recording.now) }
+{
+    if history {
+        return Ok(history_answer(alloc, recording, wanted, shortfall)?);
+    }
+    match log_answer(alloc, recording, wanted, shortfall) {
+        Ok(answer) => Ok(answer),
+        Err(PrintFault::NoMemory) => Err(PlayFault::NoMemory),
+        Err(PrintFault::TooDeep | PrintFault::TooLong) => Err(PlayFault::OverLimit {
+            which: Limit::Statement,
+        }),
+        Err(PrintFault::TooManyTables) => unreachable!(),
     }
 }

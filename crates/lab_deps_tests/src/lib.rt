@@ -18,7 +18,6 @@ mod pairs;
 #[cfg(test)]
 mod plays;
 #[cfg(test)]
-mod refusal;
 #[cfg(test)]
 mod refused;
 #[cfg(test)]

@@ -2,9 +2,9 @@
 //! and what they would change is as it was; or, where they could do without, they answer as ever.
 
 use crate::inputs::{Inputs, given};
-use crate::refusal::was_refused;
 use crate::refused_calls::{Call, is_right};
 use crate::refused_statements::{EVERY_KIND, tried};
+use lab_refusal_tests::was_refused;
 use lab_statement::parse_statement;
 use lab_table::Statement;
 use std::alloc::Global;

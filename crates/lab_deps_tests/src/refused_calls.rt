@@ -4,12 +4,12 @@
 ghost use Rattle.std.specs.Prelude.{◌≡◌, IfOk};
 
 use crate::inputs::{Inputs, Lists, Named, delete};
-use crate::refusal::refuse;
 use crate::refused_edges::is_right_of_dependencies;
 use crate::refused_steps::told;
 use crate::refused_versions::{is_right_of_overlays, is_right_of_versions};
 use lab_engine::{EngineFault, LogEvent, MAX_EVENTS, Outcome, RecordFault, Recording, Sessions};
 use lab_history::{History, ListPlace, Path};
+use lab_refusal_tests::refuse;
 use lab_table::{NoMemory, Table};
 use std::alloc::{AllocError, Global};
 

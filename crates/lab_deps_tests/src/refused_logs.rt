@@ -2,10 +2,10 @@
 //! up for, with each allocation refused in turn.
 
 use crate::bare::Bare;
-use crate::refusal::{refuse, was_refused};
 use crate::refused_steps::{Play, TWO_UPDATES, WAITING, has_told, is_refused, turns_before};
 use lab_engine::Engine;
 use lab_locking::LockEngine;
+use lab_refusal_tests::{refuse, was_refused};
 use lab_script::{Line, Script, parse_script};
 use std::alloc::Global;
 use std::process::Abort;

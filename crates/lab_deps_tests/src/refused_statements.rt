@@ -1,6 +1,6 @@
 //! Statements that are made with an allocation refused: read, copied, or with their condition copied.
 
-use crate::refusal::{refuse, was_refused};
+use lab_refusal_tests::{refuse, was_refused};
 use lab_statement::{ScriptFault, parse_statement, print_statement};
 use lab_table::{Statement, StatementKind};
 use std::alloc::Global;

@@ -4,9 +4,9 @@
 ghost use Rattle.std.specs.Prelude.{◌<◌, length};
 ghost use Rattle.lab_engine.specs.Limits.{max_events};
 
-use crate::refusal::{refuse, was_refused};
 use lab_engine::{Engine, EngineFault, Level, LogEvent, MAX_EVENTS, Outcome};
 use lab_locking::LockEngine;
+use lab_refusal_tests::{refuse, was_refused};
 use lab_script::{Line, Script, parse_script};
 use lab_table::{NoMemory, Session};
 use lab_versions::{CommittedEngine, SnapshotEngine};

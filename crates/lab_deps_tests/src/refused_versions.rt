@@ -2,10 +2,10 @@
 //! answer.
 
 use crate::inputs::{Inputs, Named, delete};
-use crate::refusal::refuse;
 use crate::refused_calls::Call;
 use lab_engine::Versions;
 use lab_history::{History, VersionName};
+use lab_refusal_tests::refuse;
 use lab_table::NoMemory;
 use std::alloc::Global;
 

@@ -20,6 +20,5 @@ mod plain_recording;
 #[cfg(test)]
 mod recordings;
 #[cfg(test)]
-mod refusal;
 #[cfg(test)]
 mod refused;

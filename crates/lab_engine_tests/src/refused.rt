@@ -4,9 +4,9 @@
 ghost use Rattle.std.specs.Prelude.{◌≡◌, []};
 
 use crate::listings::listing;
-use crate::refusal::{refuse, was_refused};
 use lab_engine::{Engine, Level};
 use lab_locking::LockEngine;
+use lab_refusal_tests::{refuse, was_refused};
 use lab_script::{Line, Script, parse_script};
 use lab_session::{Bench, BenchFault, CloseFault, print_log};
 use lab_table::Session;

@@ -3,5 +3,4 @@ mod ShortTexts
 mod LastCommits
 mod ToldWalks
 mod TrueFaults
-mod WholeInputs
 mod OneExplanation

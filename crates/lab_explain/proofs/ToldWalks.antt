@@ -6,7 +6,7 @@ use Rattle.lab_deps.specs.declared.edge.Edge.{Edge}
 use Rattle.lab_judge.specs.Judgement.{IsExactJudgement}
 use Rattle.lab_judge.specs.declared.report.Report.{Report}
 use Rattle.lab_picture.specs.ArrowLaws.{IsArrowOf, NamesWalk}
-use Rattle.lab_picture.specs.declared.asked.Phenomenon.{Phenomenon}
+use Rattle.lab_reports.specs.declared.phenomenon.Phenomenon.{Phenomenon}
 use Rattle.lab_picture.specs.declared.drawing.Arrow.{Arrow}
 use Rattle.lab_picture.proofs.JudgedWalks.{is_found}
 use Rattle.lab_picture.proofs.DrawnWalks.{edge_of}

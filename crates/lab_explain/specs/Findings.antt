@@ -9,8 +9,8 @@ use Rattle.lab_judge.specs.declared.report.Finding.TheVariants.{Absent, Walk, At
 use Rattle.lab_judge.specs.declared.report.Report.{Report}
 use Rattle.lab_judge.specs.declared.serial.Serial.{Serial}
 use Rattle.lab_judge.specs.declared.serial.Serial.TheVariants as serial
-use Rattle.lab_picture.specs.Asked.{phenomenon_name, finding_of}
-use Rattle.lab_picture.specs.declared.asked.Phenomenon.{Phenomenon}
+use Rattle.lab_reports.specs.Phenomena.{phenomenon_name, finding_of}
+use Rattle.lab_reports.specs.declared.phenomenon.Phenomenon.{Phenomenon}
 use Rattle.lab_explain.specs.Lines.{paragraph, capped}
 use Rattle.lab_explain.specs.Clauses.{saw_text}
 use Rattle.lab_explain.specs.Names.{title_of, flaw_of}

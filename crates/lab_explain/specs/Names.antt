@@ -2,8 +2,8 @@
 use Rattle.std.specs.Prelude.{ℕ, List, codes}
 use Rattle.lab_judge.specs.declared.report.Grade.{Grade}
 use Rattle.lab_judge.specs.declared.report.Grade.TheVariants as grade
-use Rattle.lab_picture.specs.declared.asked.Phenomenon.{Phenomenon}
-use Rattle.lab_picture.specs.declared.asked.Phenomenon.TheVariants.{G0, G1a, G1b, G1c, GSingle, G2Item, G2}
+use Rattle.lab_reports.specs.declared.phenomenon.Phenomenon.{Phenomenon}
+use Rattle.lab_reports.specs.declared.phenomenon.Phenomenon.TheVariants.{G0, G1a, G1b, G1c, GSingle, G2Item, G2}
 
 -- a phenomenon: the report's name and the textbook's
 abbrev pub title_of : Phenomenon → List ℕ

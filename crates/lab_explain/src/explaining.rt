@@ -3,15 +3,15 @@
 ghost use Rattle.std.specs.Prelude.{◌≡◌, ◌⊎◌, List, ℕ, IfOk, IfErr, IfSome, OnErr};
 ghost use Rattle.std.specs.Io.KnownBytes.{Appends, Keeps};
 ghost use Rattle.lab_streams.specs.Input.{ReadsFirst};
-ghost use Rattle.lab_explain.specs.Answer.{IsExplanationOf, IsExplainAnswer};
+ghost use Rattle.lab_explain.specs.Answer.{IsExplanationOf, Explains, IsExplainAnswer};
 
 use crate::newer_rows::may_have_read_newer_rows;
 use crate::sections::explanation;
-use lab_hints::{note_file, note_newer_rows};
-use lab_history::{FileFault, History};
-use lab_judge::{judge, print_file_fault};
-use lab_picture::{Phenomenon, history_of};
-use lab_streams::{Answer, Ending, RunFault, read_input, write_text};
+use lab_hints::note_newer_rows;
+use lab_history::History;
+use lab_judge::judge;
+use lab_reports::Phenomenon;
+use lab_streams::{Answer, Ending, Format, RunFault, Teller, tell_history};
 use lab_table::NoMemory;
 use std::alloc::{AllocError, Global};
 use std::io::{Read, Write};
@@ -33,35 +33,34 @@ fn explained(
     explanation(alloc, history, &report, asked)
 }
 
-/// What there is to say of an input: the explanation of a judgement of the history that it holds, or the line of its first
-/// fault. A fault of the record that may come of newer rows is noted.
-fn answer(
-    alloc: Global,
-    input: &[u8],
+/// What tells the explanation of a judgement.
+#[derive(Drop)]
+struct TellsExplanation {
     asked: Option<Phenomenon>,
-    may_be_newer: &mut bool,
-) -> Result<Answer, NoMemory>
-    ensures { IfOk result (λ answer. IsExplainAnswer input.now asked answer.text.items answer.ending) }
-{
-    match history_of(alloc, input) {
-        Ok(history) => Ok(Answer {
-            text: explained(alloc, &history, asked, may_be_newer)?,
+    /// Whether a fault of the record that was told may come of newer rows.
+    may_be_newer: bool,
+}
+
+impl Teller for TellsExplanation {
+    ghost Tells = { λ e. Explains e.asked };
+
+    fn tell(&mut self, alloc: Global, history: &History) -> Result<Answer, NoMemory> {
+        Ok(Answer {
+            text: explained(alloc, history, self.asked, &mut self.may_be_newer)?,
             ending: Ending::Done,
-        }),
-        Err(FileFault::NoMemory) => Err(AllocError),
-        Err(fault) => Ok(Answer {
-            text: print_file_fault(alloc, &fault)?,
-            ending: Ending::Refused,
-        }),
+        })
+    }
+
+    fn note<N: Write>(&self, notes: &mut N) {
+        if self.may_be_newer {
+            note_newer_rows(notes);
+        }
     }
 }
 
 /// Reads a history file, and writes in sentences what a judgement of its history says: all of it, or what is found of a
-/// phenomenon. Or the line of the file's first fault. A file of more than 8,388,608 bytes is refused, whatever it holds.
-///
-/// The input is read before the first write. `Unread` where it can't be read, `NoMemory` where an allocation was
-/// refused, and then nothing is written; `Unwritten` where a write fails. Behind the answer `notes` is given a hint
-/// where the file is refused, or where a fault has another cause besides the one that is told; what fails there is let go.
+/// phenomenon. Or the line of the file's first fault. It reads, writes and ends as [`tell_history`] does. `notes` is given a
+/// hint also where a fault has another cause besides the one that is told.
 pub fn explain<R: Read, W: Write, N: Write>(
     alloc: Global,
     reader: &mut R,
@@ -75,18 +74,9 @@ pub fn explain<R: Read, W: Write, N: Write>(
     ensures silent { IfErr result (λ fault. (fault ≡ RunFault.Unwritten) ⊎ Keeps (W.contents writer.old) (W.contents writer.new)) }
     ensures hint_last { OnErr result (Keeps (N.contents notes.old) (N.contents notes.new)) }
 {
-    let input = read_input(alloc, reader)?;
-    let mut may_be_newer = false;
-    let answer = answer(alloc, input.as_slice(), asked, &mut may_be_newer)?;
-    write_text(writer, answer.text.as_slice())?;
-    note_file(
-        alloc,
-        input.as_slice(),
-        answer.ending == Ending::Refused,
-        notes,
-    );
-    if may_be_newer {
-        note_newer_rows(notes);
-    }
-    Ok(answer.ending)
+    let explanation = TellsExplanation {
+        asked,
+        may_be_newer: false,
+    };
+    tell_history(alloc, explanation, Format::Lines, reader, writer, notes)
 }

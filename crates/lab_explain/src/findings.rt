@@ -14,7 +14,7 @@ use crate::steps::put_walk_steps;
 use lab_deps::Edge;
 use lab_history::History;
 use lab_judge::{Finding, Report, Serial, put_walk};
-use lab_picture::Phenomenon;
+use lab_reports::Phenomenon;
 use lab_table::{NoMemory, RowName, TxnNo};
 use std::alloc::Global;
 

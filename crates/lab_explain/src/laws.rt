@@ -11,7 +11,7 @@ ghost use Rattle.lab_judge.specs.declared.report.Report.{Report};
 ghost use Rattle.lab_judge.specs.declared.serial.Serial.TheVariants.{NoFault};
 ghost use Rattle.lab_streams.specs.declared.ending.Ending.{Ending};
 ghost use Rattle.lab_picture.specs.ArrowLaws.{IsArrowOf, NamesWalk};
-ghost use Rattle.lab_picture.specs.declared.asked.Phenomenon.{Phenomenon};
+ghost use Rattle.lab_reports.specs.declared.phenomenon.Phenomenon.{Phenomenon};
 ghost use Rattle.lab_picture.specs.declared.drawing.Arrow.{Arrow as Drawn};
 ghost use Rattle.lab_explain.specs.Answer.{IsExplainAnswer};
 ghost use Rattle.lab_explain.specs.Explanation.{explanation_of};

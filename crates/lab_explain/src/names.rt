@@ -4,7 +4,7 @@ ghost use Rattle.std.specs.Prelude.{◌≡◌};
 ghost use Rattle.lab_explain.specs.Names.{title_of, flaw_of, level_line};
 
 use lab_judge::Grade;
-use lab_picture::Phenomenon;
+use lab_reports::Phenomenon;
 
 /// A phenomenon, by the report's name and the textbook's.
 pub fn title_of(phenomenon: Phenomenon) -> &'static str

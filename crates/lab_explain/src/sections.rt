@@ -13,7 +13,7 @@ use crate::places::put_places_lines;
 use crate::steps::put_walk_steps;
 use lab_history::History;
 use lab_judge::{Report, Serial};
-use lab_picture::Phenomenon;
+use lab_reports::Phenomenon;
 use lab_table::{NoMemory, TxnNo};
 use std::alloc::Global;
 

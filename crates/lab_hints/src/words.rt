@@ -13,6 +13,7 @@ const MAX_LINE: usize = 1_000;
 pub struct Choices<'a> {
     pub engines: &'a [&'a str],
     pub phenomena: &'a [&'a str],
+    pub requirements: &'a [&'a str],
 }
 
 /// An option of a subcommand that reads standard input.
@@ -20,8 +21,10 @@ pub struct Choices<'a> {
 enum Choice {
     Engine,
     Phenomenon,
+    Requirement,
     Free,
     History,
+    Json,
 }
 
 /// What words come to that were given to a subcommand.
@@ -29,8 +32,10 @@ enum Choice {
 struct Meant<'a> {
     engine: Option<&'a str>,
     phenomenon: Option<&'a str>,
+    requirement: Option<&'a str>,
     is_free: bool,
     has_history: bool,
+    is_json: bool,
     files: Vec<&'a str>,
     /// The option whose value is the next word.
     awaited: Option<Choice>,
@@ -55,8 +60,10 @@ fn option_of(word: &str) -> Option<(Choice, bool)> {
     let options = [
         ("--engine", Choice::Engine),
         ("--phenomenon", Choice::Phenomenon),
+        ("--require", Choice::Requirement),
         ("--free", Choice::Free),
         ("--history", Choice::History),
+        ("--json", Choice::Json),
     ];
     for (name, choice) in options {
         if word.len() > 2 && name.starts_with(word) {
@@ -72,7 +79,8 @@ impl<'a> Meant<'a> {
         match choice {
             Choice::Engine => self.engine = named(choices.engines, word),
             Choice::Phenomenon => self.phenomenon = named(choices.phenomena, word),
-            Choice::Free | Choice::History => {}
+            Choice::Requirement => self.requirement = named(choices.requirements, word),
+            Choice::Free | Choice::History | Choice::Json => {}
         }
     }
 
@@ -103,15 +111,14 @@ impl<'a> Meant<'a> {
     fn take_option(&mut self, choice: Choice, value: Option<&str>, choices: Choices<'a>) {
         match choice {
             Choice::Engine => self.asks_engine = true,
-            Choice::Phenomenon => {}
+            Choice::Phenomenon | Choice::Requirement => {}
             Choice::Free => self.is_free = true,
             Choice::History => self.has_history = true,
+            Choice::Json => self.is_json = true,
         }
         match value {
             Some(value) => self.take_value(choice, value, choices),
-            None if matches!(choice, Choice::Engine | Choice::Phenomenon) => {
-                self.awaited = Some(choice);
-            }
+            None if takes_value(choice) => self.awaited = Some(choice),
             None => {}
         }
     }
@@ -146,12 +153,24 @@ impl<'a> Meant<'a> {
     }
 }
 
+fn takes_value(choice: Choice) -> bool {
+    matches!(
+        choice,
+        Choice::Engine | Choice::Phenomenon | Choice::Requirement
+    )
+}
+
 fn takes_engine(subcommand: &str) -> bool {
     subcommand == "run"
 }
 
 fn takes_phenomenon(subcommand: &str) -> bool {
     matches!(subcommand, "picture" | "explain")
+}
+
+/// Whether a subcommand writes the report of a judgement.
+fn writes_report(subcommand: &str) -> bool {
+    subcommand == "judge" || takes_engine(subcommand)
 }
 
 /// Whether a subcommand reads standard input.
@@ -171,8 +190,10 @@ fn meaning_of<'a>(
     let mut meant = Meant {
         engine: None,
         phenomenon: None,
+        requirement: None,
         is_free: false,
         has_history: false,
+        is_json: false,
         files: Vec::new(alloc),
         awaited: None,
         asks_engine: false,
@@ -182,6 +203,18 @@ fn meaning_of<'a>(
         meant.take(subcommand, word.as_str(), choices)?;
     }
     Ok(meant)
+}
+
+/// Appends the options of a report.
+fn put_report_options(out: &mut Vec<u8>, meant: &Meant<'_>) -> Result<(), NoMemory> {
+    if let Some(requirement) = meant.requirement {
+        out.extend_from_slice(b" --require ")?;
+        out.extend_from_slice(requirement.as_bytes())?;
+    }
+    if meant.is_json && !meant.has_history {
+        out.extend_from_slice(b" --json")?;
+    }
+    Ok(())
 }
 
 /// Appends the options that a subcommand takes; `run` has an engine in any case.
@@ -202,6 +235,9 @@ fn put_options<'a>(
         if meant.has_history {
             out.extend_from_slice(b" --history")?;
         }
+    }
+    if writes_report(subcommand) {
+        put_report_options(out, meant)?;
     }
     match meant.phenomenon {
         Some(phenomenon) if takes_phenomenon(subcommand) => {
@@ -230,9 +266,10 @@ fn put_command<'a>(
 }
 
 /// Appends the command that judges many files.
-fn put_batch(out: &mut Vec<u8>, files: &[&str]) -> Result<(), NoMemory> {
+fn put_batch(out: &mut Vec<u8>, meant: &Meant<'_>) -> Result<(), NoMemory> {
     out.extend_from_slice(b"\nbatch judges files: hermitage_lab batch")?;
-    for file in files {
+    put_report_options(out, meant)?;
+    for file in meant.files.as_slice() {
         out.push(b' ')?;
         put_quoted(out, *file)?;
     }
@@ -256,7 +293,7 @@ fn words_hint(alloc: Global, given: &[String], choices: Choices<'_>) -> Result<V
         return Ok(out);
     }
     if subcommand == "judge" && meant.files.len() > 1 {
-        put_batch(&mut out, &meant.files)?;
+        put_batch(&mut out, &meant)?;
     } else {
         put_command(&mut out, subcommand, &meant, choices)?;
     }

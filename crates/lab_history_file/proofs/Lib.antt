@@ -31,3 +31,4 @@ pub mod CodeBytes
 pub mod WritableTree
 pub mod Keys
 pub mod TextFaults
+pub mod OneFile

@@ -1,23 +1,20 @@
--- A value is never told to be no JSON text, and what is told of one is true of it.
-use Rattle.std.proofs.Common.{◌≡◌, ◌≢◌, ◌⊎◌, ⊎_elim, inl, inr, ℕ, List, Some, Result, Ok, Err, IfErr, IsUtf8, sym, ◌∙◌, subst}
-use Rattle.std.proofs.lemmas.Option.{none-some, same_Some}
-use Rattle.serde_json.specs.Data.{Data}
-use Rattle.serde_json.specs.Read.{read}
+-- What reading bytes that aren't too many comes to: the history that they hold, or their first fault.
+use Rattle.std.proofs.Common.{◌≢◌, ⊎_elim, ℕ, ◌≤◌, List, length, Result, Ok, Err, IfErr}
+use Rattle.std.specs.Prelude.{IfOk}
 use Rattle.lab_history.specs.History.{History}
-use Rattle.lab_history_file.specs.FaultOf.{IsTrueFault}
+use Rattle.lab_history.specs.Limits.{max_file_bytes}
+use Rattle.lab_history.specs.declared.fault.FileFault.{FileFault}
+use Rattle.lab_history.specs.declared.fault.FileFault.TheVariants.{NoMemory}
 use Rattle.lab_history_file.specs.FileRead.{ReadsAs}
 use Rattle.lab_history_file.specs.Format.{history_in}
-use Rattle.lab_history.specs.declared.fault.FileFault.{FileFault}
-use Rattle.lab_history.specs.declared.fault.FileFault.TheVariants as fault
-use Rattle.lab_history_file.proofs.FaultsAreTrue.{fault_is_true}
+use Rattle.lab_history_file.specs.HistoryFile.{HoldsHistory, IsFileFault, no_text, no_history, of_format}
 
-pub no_text_fault : (d : Data) → history_in d ≢ Err fault.NotJson
-no_text_fault d known = fault_is_true d fault.NotJson known
+module _ (bytes : List ℕ) (short : length bytes ≤ max_file_bytes) where
+  pub what_is_read_is_held : (result : Result History FileFault) → ReadsAs history_in bytes result → IfOk result (HoldsHistory bytes)
+  what_is_read_is_held (Ok history) (tree, spelled, held) = record { short = short; tree = tree; spelled = spelled; held = held }
+  what_is_read_is_held (Err fault) reads = tt
 
-pub told_is_true : (bytes : List ℕ) (d : Data) (result : Result History FileFault) → ReadsAs history_in bytes result → IsUtf8 bytes → read bytes ≡ Some d
-    → IfErr result (λ f. (f ≡ fault.NoMemory) ⊎ IsTrueFault d f)
-told_is_true bytes d (Ok h) reads utf8 is = tt
-told_is_true bytes d (Err f) reads utf8 is =
-    ⊎_elim (λ none. inl none) (⊎_elim
-    (λ no. absurd (none-some d (sym (no.1 utf8) ∙ is)))
-    (λ found. inr (fault_is_true d f (subst (λ x. history_in x ≡ Err f) (same_Some found.0 d (sym found.1.1 ∙ is)) found.2)))) reads
+  pub what_is_told_is_first : (result : Result History FileFault) → ReadsAs history_in bytes result → IfErr result (λ fault. fault ≢ NoMemory → IsFileFault bytes fault)
+  what_is_told_is_first (Ok history) reads = tt
+  what_is_told_is_first (Err fault) reads = λ real.
+      of_format short (⊎_elim (λ none. absurd (real none)) (⊎_elim (λ no. no_text no.1 no.0) (λ found. no_history found.0 found.1 found.2)) reads)

@@ -11,3 +11,4 @@ pub mod PlaceShape
 pub mod FaultOf
 pub mod Tree
 pub mod FileRead
+pub mod HistoryFile

@@ -1,15 +1,12 @@
 //! Reading a history file.
 
-ghost use Rattle.std.specs.Prelude.{◌≡◌, ◌≢◌, ◌⊎◌, ◌≤◌, ◌<◌, length, Ok, Err, Some, IfOk, IfErr, MatchResult};
-ghost use Rattle.std.specs.Prelude.{IsUtf8};
+ghost use Rattle.std.specs.Prelude.{◌≡◌, ◌≢◌, ◌<◌, length, Err, IfOk, IfErr};
 ghost use Rattle.serde_json.specs.View.{view};
-ghost use Rattle.serde_json.specs.Data.{Data};
-ghost use Rattle.serde_json.specs.Read.{read as read_text};
 ghost use Rattle.lab_history.specs.Faults.{Gives};
-ghost use Rattle.lab_history_file.specs.FaultOf.{IsTrueFault};
-ghost use Rattle.lab_history_file.specs.FileRead.{ReadsAs};
 ghost use Rattle.lab_history.specs.Limits.{max_file_bytes};
+ghost use Rattle.lab_history_file.specs.FileRead.{ReadsAs};
 ghost use Rattle.lab_history_file.specs.Format.{format_in, version_in, parts_in, history_in};
+ghost use Rattle.lab_history_file.specs.HistoryFile.{HoldsHistory, IsFileFault};
 
 mod earlier;
 mod keys;
@@ -111,17 +108,11 @@ fn history_in_file(alloc: Global, bytes: &[u8]) -> Result<History, FileFault>
 /// The history that a file holds, or the first fault in the order of the file: `OverLimit` of its bytes, `NotJson`,
 /// what is wrong with its parts, and at last `OverLimit` of ids and then of entries. `NoMemory` where an allocation was
 /// refused.
-#[tactic(auto, using(crate::proofs::TextFaults::no_text_fault, crate::proofs::FaultsAreTrue::fault_is_true))]
+#[tactic(auto, using(crate::proofs::TextFaults::what_is_read_is_held))]
 pub fn read_history(alloc: Global, bytes: &[u8]) -> Result<History, FileFault>
-    ensures found { IfOk result (λ history. (d : Data) × IsUtf8 bytes.now × (read_text bytes.now ≡ Some d) × (history_in d ≡ Ok history)) }
-    ensures short { IfOk result (λ history. length bytes.now ≤ max_file_bytes) }
-    ensures only { (d : Data) → length bytes.now ≤ max_file_bytes → IsUtf8 bytes.now → read_text bytes.now ≡ Some d
-        → MatchResult result (λ history. history_in d ≡ Ok history) (λ fault. (fault ≡ FileFault.NoMemory) ⊎ (history_in d ≡ Err fault)) }
-    ensures bytes { max_file_bytes < length bytes.now → result ≡ Err (FileFault.OverLimit Limit.Bytes) }
-    ensures not_json { result ≡ Err FileFault.NotJson → (d : Data) → IsUtf8 bytes.now → read_text bytes.now ≢ Some d }
-    ensures true_fault { (d : Data) → length bytes.now ≤ max_file_bytes → IsUtf8 bytes.now → read_text bytes.now ≡ Some d → IfErr result (λ fault. (fault ≡ FileFault.NoMemory) ⊎ IsTrueFault d fault) }
-    ensures no_text { length bytes.now ≤ max_file_bytes → ((d : Data) → IsUtf8 bytes.now → read_text bytes.now ≢ Some d)
-        → IfErr result (λ fault. (fault ≡ FileFault.NoMemory) ⊎ (fault ≡ FileFault.NotJson)) }
+    ensures held { IfOk result (HoldsHistory bytes.now) }
+    ensures fault { IfErr result (λ fault. fault ≢ FileFault.NoMemory → IsFileFault bytes.now fault) }
+    ensures long { max_file_bytes < length bytes.now → result ≡ Err (FileFault.OverLimit Limit.Bytes) }
 {
     if bytes.len() > MAX_FILE_BYTES {
         return Err(FileFault::OverLimit {

@@ -1,12 +1,18 @@
--- When a report is a judgement of the history that a file's bytes spell.
-use Rattle.std.specs.Prelude.{◌≡◌, ℕ, List, Ok}
-use Rattle.serde_json.specs.Data.{Data}
+-- What is answered of a file's bytes.
+use Rattle.std.specs.Prelude.{ℕ, List, Result, Ok, Err}
 use Rattle.lab_history.specs.History.{History}
-use Rattle.lab_history_file.specs.FileRead.{IsTextOf}
-use Rattle.lab_history_file.specs.Format.{history_in}
+use Rattle.lab_history.specs.declared.fault.FileFault.{FileFault}
+use Rattle.lab_history_file.specs.HistoryFile.{HoldsHistory, IsFileFault}
 use Rattle.lab_judge.specs.Judgement.{IsExactJudgement}
 use Rattle.lab_judge.specs.declared.report.Report.{Report}
 
--- the bytes are the text of a JSON value that gives a history, and the report is a judgement of that
-abbrev pub IsFileJudgement : List ℕ → Report → Type 0
-IsFileJudgement bytes report = (d : Data) × (h : History) × IsTextOf bytes d × (history_in d ≡ Ok h) × IsExactJudgement h report
+-- the report is a judgement of the history that the bytes hold
+pub record IsFileJudgement (bytes : List ℕ) (report : Report) : Type 0 where
+  pub history : History
+  pub held : HoldsHistory bytes history
+  pub judgement : IsExactJudgement history report
+
+-- a judgement of the history that the bytes hold, or the first fault that they have
+abbrev pub IsFileAnswer : List ℕ → Result Report FileFault → Type 0
+IsFileAnswer bytes (Ok report) = IsFileJudgement bytes report
+IsFileAnswer bytes (Err fault) = IsFileFault bytes fault

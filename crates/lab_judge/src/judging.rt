@@ -1,13 +1,9 @@
 //! The judgement of a history.
 
-ghost use Rattle.std.specs.Prelude.{◌≡◌, ◌≢◌, ◌⊎◌, ◌↔◌, ◌≤◌, ◌<◌, length, Ok, Err, Some, IfOk, IfErr, IsUtf8};
-ghost use Rattle.serde_json.specs.Data.{Data};
-ghost use Rattle.serde_json.specs.Read.{read as read_text};
-ghost use Rattle.lab_history_file.specs.FaultOf.{IsTrueFault};
-ghost use Rattle.lab_history_file.specs.FileRead.{IsTextOf};
-ghost use Rattle.lab_history_file.specs.Format.{history_in};
+ghost use Rattle.std.specs.Prelude.{◌≡◌, ◌≢◌, ◌↔◌, ◌<◌, length, Err, IfOk, IfErr};
 ghost use Rattle.lab_history.specs.History.{History as Spells};
 ghost use Rattle.lab_history.specs.Limits.{max_file_bytes};
+ghost use Rattle.lab_history_file.specs.HistoryFile.{HoldsHistory, IsFileFault};
 ghost use Rattle.lab_history.specs.declared.fault.Limit.TheVariants.{Bytes};
 ghost use Rattle.lab_deps.specs.FaultOrder.{IsFirst};
 ghost use Rattle.lab_deps.specs.Refusal.{IsAnswer};
@@ -70,16 +66,10 @@ pub fn judge(alloc: Global, history: &History) -> Result<Report, NoMemory>
 /// Judges the history of a file's bytes; refused as [`read_history`] refuses it.
 pub fn judge_bytes(alloc: Global, bytes: &[u8]) -> Result<Report, FileFault>
     ensures judged { IfOk result (IsFileJudgement bytes.now) }
-    ensures yes { (d : Data) (h : Spells) → IsTextOf bytes.now d → history_in d ≡ Ok h → IfOk result (λ report. IsYes report.serial ↔ (IsSound h × NoWalk (IsClosedWalk h))) }
-    ensures placed { (d : Data) (h : Spells) → IsTextOf bytes.now d → history_in d ≡ Ok h → IfOk result (λ report. IsPlaced report.snapshot ↔ (IsSound h × NoCircle h)) }
-    ensures short { IfOk result (λ report. length bytes.now ≤ max_file_bytes) }
-    ensures only { (d : Data) → length bytes.now ≤ max_file_bytes → IsUtf8 bytes.now → read_text bytes.now ≡ Some d
-        → IfErr result (λ fault. (fault ≡ FileFault.NoMemory) ⊎ (history_in d ≡ Err fault)) }
-    ensures bytes { max_file_bytes < length bytes.now → result ≡ Err (FileFault.OverLimit Bytes) }
-    ensures not_json { result ≡ Err FileFault.NotJson → (d : Data) → IsUtf8 bytes.now → read_text bytes.now ≢ Some d }
-    ensures true_fault { (d : Data) → length bytes.now ≤ max_file_bytes → IsUtf8 bytes.now → read_text bytes.now ≡ Some d → IfErr result (λ fault. (fault ≡ FileFault.NoMemory) ⊎ IsTrueFault d fault) }
-    ensures no_text { length bytes.now ≤ max_file_bytes → ((d : Data) → IsUtf8 bytes.now → read_text bytes.now ≢ Some d)
-        → IfErr result (λ fault. (fault ≡ FileFault.NoMemory) ⊎ (fault ≡ FileFault.NotJson)) }
+    ensures yes { (h : Spells) → HoldsHistory bytes.now h → IfOk result (λ report. IsYes report.serial ↔ (IsSound h × NoWalk (IsClosedWalk h))) }
+    ensures placed { (h : Spells) → HoldsHistory bytes.now h → IfOk result (λ report. IsPlaced report.snapshot ↔ (IsSound h × NoCircle h)) }
+    ensures fault { IfErr result (λ fault. fault ≢ FileFault.NoMemory → IsFileFault bytes.now fault) }
+    ensures long { max_file_bytes < length bytes.now → result ≡ Err (FileFault.OverLimit Bytes) }
 {
     let history = read_history(alloc, bytes)?;
     match judge(alloc, &history) {

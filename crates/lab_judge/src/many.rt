@@ -2,7 +2,7 @@
 
 ghost use Rattle.std.specs.Prelude.{IfOk};
 ghost use Rattle.std.specs.List.{AllZip};
-ghost use Rattle.lab_judge.specs.FileAnswer.{IsFileAnswer};
+ghost use Rattle.lab_judge.specs.FileJudgement.{IsFileAnswer};
 
 use crate::judging::judge_bytes;
 use crate::report::Report;
@@ -17,8 +17,9 @@ fn judged(alloc: Global, bytes: &[u8]) -> Result<Result<Report, FileFault>, NoMe
     ensures { IfOk result (IsFileAnswer bytes.now) }
 {
     match judge_bytes(alloc, bytes) {
+        Ok(report) => Ok(Ok(report)),
         Err(FileFault::NoMemory) => Err(AllocError),
-        answer => Ok(answer),
+        Err(fault) => Ok(Err(fault)),
     }
 }
 

@@ -165,7 +165,7 @@ fn put_points(out: &mut Vec<u8>, points: &[Point]) -> Result<(), NoMemory>
     Ok(())
 }
 
-/// Appends a cycle.
+/// Appends a cycle of starts and commits: each with the space before it, and the first of them again.
 pub fn put_circle(out: &mut Vec<u8>, circle: &[Point]) -> Result<(), NoMemory>
     ensures { OnOk result (out.new.items ≡ out.old.items ++ circle_text circle.now) }
 {

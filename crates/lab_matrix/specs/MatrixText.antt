@@ -1,5 +1,7 @@
 -- The text of the matrix.
-use Rattle.std.specs.Prelude.{ℕ, ◌-◌, List, [], ◌++◌, length, replicate, codes}
+use Rattle.std.specs.Prelude.{ℕ, ◌-◌, List, [], ◌∷◌, ◌++◌, Option, length, replicate, codes}
+use Rattle.std.specs.List.{find}
+use Rattle.std.specs.Str.{bytes_eq}
 use Rattle.lab_statement.specs.Printed.{newline}
 use Rattle.lab_engine.specs.declared.event.Level.TheVariants as level
 use Rattle.lab_judge.specs.ReportText.{grade_name}
@@ -24,6 +26,18 @@ case_name name.P4 = codes "P4"
 case_name name.GSingle = codes "G-single"
 case_name name.G2Item = codes "G2-item"
 case_name name.G2 = codes "G2"
+
+-- all cases, in the order in which they are printed
+abbrev pub all_cases : List CaseName
+all_cases = name.G0 ∷ name.G1a ∷ name.G1b ∷ name.G1c ∷ name.Otv ∷ name.Pmp ∷ name.P4 ∷ name.GSingle ∷ name.G2Item ∷ name.G2 ∷ []
+
+-- the first of some cases that has this name
+abbrev pub first_named : List ℕ → List CaseName → Option CaseName
+first_named given among = find (λ case. bytes_eq (case_name case) given) among
+
+-- the case of a name, if there is one
+abbrev pub case_named : List ℕ → Option CaseName
+case_named given = first_named given all_cases
 
 -- so many spaces
 abbrev pub spaces : ℕ → List ℕ

@@ -1,9 +1,10 @@
 //! The names of the cases.
 
 ghost use Rattle.std.specs.Prelude.{◌≡◌, IfOk};
+ghost use Rattle.std.specs.Str.{bytes_eq};
 ghost use Rattle.lab_script.specs.Limits.{ScriptPrints};
 ghost use Rattle.lab_matrix.specs.Listings.{case_script};
-ghost use Rattle.lab_matrix.specs.MatrixText.{case_name};
+ghost use Rattle.lab_matrix.specs.MatrixText.{case_name, first_named, case_named};
 ghost use Rattle.lab_matrix.specs.declared.name.CaseName.{CaseName as Spelled};
 
 use crate::cases;
@@ -38,6 +39,27 @@ pub enum CaseName {
 }
 
 impl CaseName {
+    /// All cases, in the order in which they are printed.
+    pub const ALL: [CaseName; 10] = [
+        CaseName::G0,
+        CaseName::G1a,
+        CaseName::G1b,
+        CaseName::G1c,
+        CaseName::Otv,
+        CaseName::Pmp,
+        CaseName::P4,
+        CaseName::GSingle,
+        CaseName::G2Item,
+        CaseName::G2,
+    ];
+
+    /// The case of this name; None where no case has it.
+    pub fn named(name: &str) -> Option<CaseName>
+        ensures { result ≡ case_named name.now }
+    {
+        first_named(&CaseName::ALL, name)
+    }
+
     /// The name as it is printed and given: `G0`, `G1a`, `G1b`, `G1c`, `OTV`, `PMP`, `P4`, `G-single`, `G2-item`, `G2`.
     pub fn name(self) -> &'static str
         ensures { result.now ≡ case_name self }
@@ -55,6 +77,25 @@ impl CaseName {
             CaseName::G2 => "G2",
         }
     }
+}
+
+/// Whether a case has this name.
+fn has_name(case: CaseName, name: &str) -> bool
+    ensures { result ≡ bytes_eq (case_name case) name.now }
+{
+    case.name().as_bytes() == name.as_bytes()
+}
+
+/// The first of some cases that has this name.
+fn first_named(among: &[CaseName], name: &str) -> Option<CaseName>
+    ensures { result ≡ first_named name.now among.now }
+{
+    for case in among {
+        if has_name(*case, name) {
+            return Some(*case);
+        }
+    }
+    None
 }
 
 /// The script of a case: a listing of commands, one on each text line from line 2 on, over the table (1, 10), (2, 20).

@@ -142,18 +142,7 @@ fn case_is_kept_at_each<T: Threads + Wait + Sync>(
 #[test]
 fn free_plays_of_the_cases_keep_what_is_promised(rt: HostRuntime) -> Result<(), Fail> {
     let alloc = rt.alloc();
-    for name in [
-        CaseName::G0,
-        CaseName::G1a,
-        CaseName::G1b,
-        CaseName::G1c,
-        CaseName::Otv,
-        CaseName::Pmp,
-        CaseName::P4,
-        CaseName::GSingle,
-        CaseName::G2Item,
-        CaseName::G2,
-    ] {
+    for name in CaseName::ALL {
         assert_eq!(rt;
             case_is_kept_at_each(&rt, alloc, name),
             Some([Some(true); 3]),

@@ -4,7 +4,6 @@
 #[cfg(test)]
 mod comparing;
 #[cfg(test)]
-mod refusal;
 #[cfg(test)]
 mod refused;
 #[cfg(test)]

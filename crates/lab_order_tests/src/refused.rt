@@ -5,8 +5,8 @@ ghost use Rattle.std.specs.Prelude.{◌≡◌};
 ghost use Rattle.lab_order.specs.Arrows.{nodes_of};
 
 use crate::comparing::{graph_of, parts};
-use crate::refusal::{refuse, was_refused};
 use lab_order::{Graph, NoMemory, Ways, order, path};
+use lab_refusal_tests::{refuse, was_refused};
 use std::alloc::Global;
 use std::process::Abort;
 use std::test::Fail;

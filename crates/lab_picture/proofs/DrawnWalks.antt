@@ -15,11 +15,11 @@ use Rattle.lab_judge.specs.Phenomena.{IsWalk, IsClosedWalk, is_write}
 use Rattle.lab_judge.specs.declared.report.Report.{Report}
 use Rattle.lab_judge.proofs.ClosedWalks.{Through, none_forbidden, times_are}
 use Rattle.lab_picture.specs.ArrowLaws.{LeadsBetween, NamesWalk, DrawsArrow, DrawsWrites}
-use Rattle.lab_picture.specs.Asked.{phenomenon_name}
+use Rattle.lab_reports.specs.Phenomena.{phenomenon_name}
 use Rattle.lab_picture.specs.Making.{arrows_of, listed}
 use Rattle.lab_picture.specs.Sketch.{of_serial, of_finding, drawing_of}
-use Rattle.lab_picture.specs.declared.asked.Phenomenon.{Phenomenon}
-use Rattle.lab_picture.specs.declared.asked.Phenomenon.TheVariants.{G0}
+use Rattle.lab_reports.specs.declared.phenomenon.Phenomenon.{Phenomenon}
+use Rattle.lab_reports.specs.declared.phenomenon.Phenomenon.TheVariants.{G0}
 use Rattle.lab_picture.specs.declared.drawing.Arrow.{Arrow}
 use Rattle.lab_picture.proofs.JudgedWalks.{is_found, is_g0}
 use Rattle.lab_picture.proofs.MadeArrows.{has_arrow}

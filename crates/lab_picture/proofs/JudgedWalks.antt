@@ -19,9 +19,9 @@ use Rattle.lab_judge.specs.declared.report.Report.{Report}
 use Rattle.lab_judge.specs.declared.serial.Serial.{Serial}
 use Rattle.lab_judge.specs.declared.serial.Serial.TheVariants as serial
 use Rattle.lab_picture.specs.ArrowLaws.{NamesWalk}
-use Rattle.lab_picture.specs.Asked.{finding_of}
-use Rattle.lab_picture.specs.declared.asked.Phenomenon.{Phenomenon}
-use Rattle.lab_picture.specs.declared.asked.Phenomenon.TheVariants.{G0, G1a, G1b, G1c, GSingle, G2Item, G2}
+use Rattle.lab_reports.specs.Phenomena.{finding_of}
+use Rattle.lab_reports.specs.declared.phenomenon.Phenomenon.{Phenomenon}
+use Rattle.lab_reports.specs.declared.phenomenon.Phenomenon.TheVariants.{G0, G1a, G1b, G1c, GSingle, G2Item, G2}
 
 -- something was judged
 abbrev WasJudged : Finding → Type 0

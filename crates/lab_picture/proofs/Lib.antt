@@ -6,7 +6,6 @@ pub mod JudgedWalks
 pub mod DrawnWalks
 mod NamedInstalls
 pub mod Escapes
-mod HeldFiles
 mod OnePicture
 mod LeastOfPairs
 mod TitledWalks

@@ -1,15 +1,13 @@
--- Of one input `picture` says one thing.
-use Rattle.std.proofs.Common.{◌≡◌, inl, inr, ℕ, List, Option, sym, ap, subst, ◌∙◌}
+-- A history has one picture.
+use Rattle.std.proofs.Common.{◌≡◌, ℕ, List, Option, sym, ap, subst, ◌∙◌}
 use Rattle.lab_history.specs.History.{History}
-use Rattle.lab_judge.specs.FileFaultText.{file_fault_text}
 use Rattle.lab_judge.proofs.OneJudgement.{one_judgement}
 use Rattle.lab_streams.specs.declared.ending.Ending.{Ending}
-use Rattle.lab_streams.proofs.OneFile.{one_history, no_file_fault, one_fault}
-use Rattle.lab_picture.specs.declared.asked.Phenomenon.{Phenomenon}
+use Rattle.lab_reports.specs.declared.phenomenon.Phenomenon.{Phenomenon}
 use Rattle.lab_picture.specs.declared.drawing.Arrow.{Arrow}
 use Rattle.lab_picture.specs.Forward.{AreForward, arrows_in, near_pairs, yes_columns, with_forward}
 use Rattle.lab_picture.proofs.LeastOfPairs.{one_list}
-use Rattle.lab_picture.specs.Picture.{IsPictureOf, IsPictured, IsPictureAnswer}
+use Rattle.lab_picture.specs.Picture.{IsPictureOf, Pictures}
 use Rattle.lab_picture.specs.Sketch.{drawing_of}
 use Rattle.lab_picture.specs.Svg.{svg_of}
 
@@ -26,13 +24,6 @@ one_of_history history asked one other p q =
     p.text_is ∙ ap (λ r. svg_of history (with_forward p.forward (drawing_of history r asked))) same
     ∙ ap (λ xs. svg_of history (with_forward xs (drawing_of history q.report asked))) arrows ∙ sym q.text_is
 
-module _ (input : List ℕ) (asked : Option Phenomenon) (one other : List ℕ) (first again : Ending) where
-  one_pictured : IsPictured input asked one first → IsPictured input asked other again → one ≡ other
-  one_pictured p q =
-      one_of_history p.history asked one other p.pictured (subst (λ h. IsPictureOf h asked other) (one_history input q.history p.history q.held p.held) q.pictured)
-
-  pub one_picture : IsPictureAnswer input asked one first → IsPictureAnswer input asked other again → (one ≡ other) × (first ≡ again)
-  one_picture (inl p) (inl q) = (one_pictured p q, p.done ∙ sym q.done)
-  one_picture (inl p) (inr n) = absurd (no_file_fault input p.history n.fault p.held n.faulty)
-  one_picture (inr n) (inl p) = absurd (no_file_fault input p.history n.fault p.held n.faulty)
-  one_picture (inr n) (inr m) = (n.text_is ∙ ap file_fault_text (one_fault input n.fault m.fault n.faulty m.faulty) ∙ sym m.text_is, n.refused ∙ sym m.refused)
+pub one_picture : (asked : Option Phenomenon) (history : History) (one other : List ℕ) (first again : Ending) → Pictures asked history one first → Pictures asked history other again
+    → (one ≡ other) × (first ≡ again)
+one_picture asked history one other first again p q = (one_of_history history asked one other p.0 q.0, p.1 ∙ sym q.1)

@@ -10,7 +10,7 @@ use Rattle.lab_judge.specs.declared.report.Report.{Report}
 use Rattle.lab_judge.specs.declared.serial.Serial.TheVariants.{NoCycle}
 use Rattle.lab_picture.specs.TitleLaws.{HasPhenomenon, TellsWalk}
 use Rattle.lab_picture.specs.Titles.{serial_title, walk_phenomenon}
-use Rattle.lab_picture.specs.declared.asked.Phenomenon.TheVariants.{G0, G1c, GSingle, G2Item, G2}
+use Rattle.lab_reports.specs.declared.phenomenon.Phenomenon.TheVariants.{G0, G1c, GSingle, G2Item, G2}
 
 some : (n : ℕ) → (n == 0) ≡ false → 1 ≤ n
 some zero is = absurd (false≢true (sym is))

@@ -11,9 +11,9 @@ use Rattle.lab_deps.specs.declared.edge.Kind.TheVariants.{Write, ItemRead, Predi
 use Rattle.lab_judge.specs.declared.report.Finding.TheVariants.{Walk}
 use Rattle.lab_judge.specs.declared.report.Report.{Report}
 use Rattle.lab_judge.specs.declared.serial.Serial.TheVariants.{NoCycle}
-use Rattle.lab_picture.specs.Asked.{finding_of}
+use Rattle.lab_reports.specs.Phenomena.{finding_of}
 use Rattle.lab_picture.specs.Sketch.{Sketch}
-use Rattle.lab_picture.specs.declared.asked.Phenomenon.{Phenomenon}
+use Rattle.lab_reports.specs.declared.phenomenon.Phenomenon.{Phenomenon}
 use Rattle.lab_picture.specs.declared.drawing.Arrow.{Arrow}
 use Rattle.lab_picture.specs.declared.drawing.Tie.TheVariants.{Dependency}
 

@@ -10,7 +10,7 @@ use Rattle.lab_judge.specs.declared.serial.Serial.{Serial}
 use Rattle.lab_judge.specs.declared.serial.Serial.TheVariants as serial
 use Rattle.lab_picture.specs.Making.{arrows_of}
 use Rattle.lab_picture.specs.Sketch.{Sketch}
-use Rattle.lab_picture.specs.declared.asked.Phenomenon.{Phenomenon}
+use Rattle.lab_reports.specs.declared.phenomenon.Phenomenon.{Phenomenon}
 use Rattle.lab_picture.specs.declared.drawing.Arrow.{Arrow}
 use Rattle.lab_picture.specs.declared.forward.Pair.{Pair}
 

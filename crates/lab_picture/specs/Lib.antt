@@ -1,4 +1,3 @@
-pub mod Asked
 pub mod Titles
 pub mod TitleLaws
 pub mod Making

@@ -22,9 +22,9 @@ use Rattle.lab_judge.specs.declared.serial.Serial.TheVariants as serial
 use Rattle.lab_picture.specs.declared.drawing.Spot.{Spot}
 use Rattle.lab_picture.specs.declared.drawing.Arrow.{Arrow}
 use Rattle.lab_picture.specs.declared.drawing.Tie.TheVariants.{Version}
-use Rattle.lab_picture.specs.declared.asked.Phenomenon.{Phenomenon}
+use Rattle.lab_reports.specs.declared.phenomenon.Phenomenon.{Phenomenon}
 use Rattle.lab_picture.specs.declared.installs.Misplaced.{Misplaced}
-use Rattle.lab_picture.specs.Asked.{phenomenon_name, finding_of}
+use Rattle.lab_reports.specs.Phenomena.{phenomenon_name, finding_of}
 use Rattle.lab_picture.specs.Installs.{misplaced_of, misplaced_text}
 use Rattle.lab_picture.specs.Making.{arrows_of}
 use Rattle.lab_picture.specs.Titles.{serial_title, finding_title}

@@ -4,8 +4,8 @@ use Rattle.lab_history.specs.History.{History}
 use Rattle.lab_deps.specs.declared.edge.Edge.{Edge}
 use Rattle.lab_judge.specs.Phenomena.{IsG0, IsG1c, IsGSingle, IsG2Item, IsG2}
 use Rattle.lab_picture.specs.Titles.{full_name}
-use Rattle.lab_picture.specs.declared.asked.Phenomenon.{Phenomenon}
-use Rattle.lab_picture.specs.declared.asked.Phenomenon.TheVariants.{G0, G1a, G1b, G1c, GSingle, G2Item, G2}
+use Rattle.lab_reports.specs.declared.phenomenon.Phenomenon.{Phenomenon}
+use Rattle.lab_reports.specs.declared.phenomenon.Phenomenon.TheVariants.{G0, G1a, G1b, G1c, GSingle, G2Item, G2}
 
 -- a cycle is one of this phenomenon
 abbrev pub HasPhenomenon : History → List Edge → Phenomenon → Type 0

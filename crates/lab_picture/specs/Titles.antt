@@ -16,9 +16,9 @@ use Rattle.lab_judge.specs.declared.report.Finding.{Finding}
 use Rattle.lab_judge.specs.declared.report.Finding.TheVariants as finding
 use Rattle.lab_judge.specs.declared.serial.Serial.{Serial}
 use Rattle.lab_judge.specs.declared.serial.Serial.TheVariants as serial
-use Rattle.lab_picture.specs.Asked.{phenomenon_name}
-use Rattle.lab_picture.specs.declared.asked.Phenomenon.{Phenomenon}
-use Rattle.lab_picture.specs.declared.asked.Phenomenon.TheVariants.{G0, G1a, G1b, G1c, GSingle, G2Item, G2}
+use Rattle.lab_reports.specs.Phenomena.{phenomenon_name}
+use Rattle.lab_reports.specs.declared.phenomenon.Phenomenon.{Phenomenon}
+use Rattle.lab_reports.specs.declared.phenomenon.Phenomenon.TheVariants.{G0, G1a, G1b, G1c, GSingle, G2Item, G2}
 
 -- the textbook name of a phenomenon
 abbrev pub phenomenon_words : Phenomenon → List ℕ

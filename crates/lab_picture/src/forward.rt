@@ -9,13 +9,13 @@ ghost use Rattle.lab_judge.specs.Judgement.{IsExactJudgement, RestsOnOrder};
 ghost use Rattle.lab_picture.specs.Making.{listed};
 ghost use Rattle.lab_picture.specs.Forward.{arrows_at, next_pairs, near_pairs, IsLeastOf, AreLeastOf, arrows_in, AreForward, order_of, yes_columns, with_forward};
 
-use crate::asked::Phenomenon;
 use crate::drawing::{Arrow, Drawing};
 use crate::layout::MAX_COLUMNS;
 use crate::making::arrow_of;
 use lab_deps::{Dependencies, Edge, Kinds, Sound, Unsound, check_local};
 use lab_history::History;
 use lab_judge::{Report, Serial};
+use lab_reports::Phenomenon;
 use lab_table::{NoMemory, TxnNo};
 use std::alloc::Global;
 

@@ -20,8 +20,8 @@ ghost use Rattle.lab_picture.specs.Picture.{IsPictureAnswer};
 ghost use Rattle.lab_picture.specs.Sketch.{drawing_of};
 ghost use Rattle.lab_picture.specs.Text.{escaped, is_plain};
 ghost use Rattle.lab_picture.specs.TitleLaws.{TellsWalk};
-ghost use Rattle.lab_picture.specs.declared.asked.Phenomenon.{Phenomenon};
-ghost use Rattle.lab_picture.specs.declared.asked.Phenomenon.TheVariants.{G0};
+ghost use Rattle.lab_reports.specs.declared.phenomenon.Phenomenon.{Phenomenon};
+ghost use Rattle.lab_reports.specs.declared.phenomenon.Phenomenon.TheVariants.{G0};
 ghost use Rattle.lab_picture.specs.declared.drawing.Arrow.{Arrow as Drawn};
 ghost use Rattle.lab_picture.specs.declared.installs.Misplaced.{Misplaced};
 

@@ -11,7 +11,6 @@
 #![tactic(auto)]
 
 mod arrows;
-mod asked;
 mod boxes;
 mod columns;
 mod drawing;
@@ -31,7 +30,6 @@ mod svg;
 mod text;
 mod titles;
 
-pub use asked::Phenomenon;
 pub use drawing::{Arrow, Drawing, Spot, Tie};
 pub use installs::{Misplaced, Why, installers_of, misplaced_of, put_misplaced};
 pub use laws::{
@@ -40,7 +38,7 @@ pub use laws::{
     picture_answer_unique, who_is_out_of_place_is_named,
 };
 pub use making::arrow_of;
-pub use picturing::{history_of, picture};
+pub use picturing::picture;
 pub use sketch::draw;
 pub use states::{ops_of, state_at};
 pub use svg::print_drawing;

@@ -1,20 +1,17 @@
 //! The subcommand `picture`: from the bytes of a history file to its picture.
 
-ghost use Rattle.std.specs.Prelude.{◌≡◌, ◌≢◌, ◌⊎◌, List, ℕ, IfOk, IfErr, IfSome, OnErr};
+ghost use Rattle.std.specs.Prelude.{◌≡◌, ◌⊎◌, List, ℕ, IfOk, IfErr, IfSome, OnErr};
 ghost use Rattle.std.specs.Io.KnownBytes.{Appends, Keeps};
-ghost use Rattle.lab_streams.specs.HistoryFile.{HoldsHistory, IsFileFault};
 ghost use Rattle.lab_streams.specs.Input.{ReadsFirst};
-ghost use Rattle.lab_picture.specs.Picture.{IsPictureOf, IsPictureAnswer};
+ghost use Rattle.lab_picture.specs.Picture.{IsPictureOf, Pictures, IsPictureAnswer};
 
-use crate::asked::Phenomenon;
 use crate::forward::{forward_arrows, with_forward};
 use crate::sketch::draw;
 use crate::svg::print_drawing;
-use lab_hints::note_file;
-use lab_history::{FileFault, History};
-use lab_history_file::read_history;
-use lab_judge::{judge, print_file_fault};
-use lab_streams::{Answer, Ending, RunFault, read_input, write_text};
+use lab_history::History;
+use lab_judge::judge;
+use lab_reports::Phenomenon;
+use lab_streams::{Answer, Ending, Format, RunFault, Teller, tell_history};
 use lab_table::NoMemory;
 use std::alloc::{AllocError, Global};
 use std::io::{Read, Write};
@@ -35,39 +32,27 @@ fn picture_of(
     print_drawing(alloc, history, &drawing)
 }
 
-/// The history that a file holds, or the file's first fault.
-pub fn history_of(alloc: Global, bytes: &[u8]) -> Result<History, FileFault>
-    ensures held { IfOk result (HoldsHistory bytes.now) }
-    ensures fault { IfErr result (λ fault. fault ≢ FileFault.NoMemory → IsFileFault bytes.now fault) }
-{
-    read_history(alloc, bytes)
+/// What tells the picture of a judgement.
+#[derive(Drop)]
+struct TellsPicture {
+    asked: Option<Phenomenon>,
 }
 
-/// What there is to say of an input: the picture of a judgement of the history that it holds, or the line of its first
-/// fault.
-fn answer(alloc: Global, input: &[u8], asked: Option<Phenomenon>) -> Result<Answer, NoMemory>
-    ensures { IfOk result (λ answer. IsPictureAnswer input.now asked answer.text.items answer.ending) }
-{
-    match history_of(alloc, input) {
-        Ok(history) => Ok(Answer {
-            text: picture_of(alloc, &history, asked)?,
+impl Teller for TellsPicture {
+    ghost Tells = { λ p. Pictures p.asked };
+
+    fn tell(&mut self, alloc: Global, history: &History) -> Result<Answer, NoMemory> {
+        Ok(Answer {
+            text: picture_of(alloc, history, self.asked)?,
             ending: Ending::Done,
-        }),
-        Err(FileFault::NoMemory) => Err(AllocError),
-        Err(fault) => Ok(Answer {
-            text: print_file_fault(alloc, &fault)?,
-            ending: Ending::Refused,
-        }),
+        })
     }
+
+    fn note<N: Write>(&self, _notes: &mut N) {}
 }
 
 /// Reads a history file, and writes the picture of a judgement of its history: of its serial verdict, or of what is found
-/// of a phenomenon. Or the line of the file's first fault. A file of more than 8,388,608 bytes is refused, whatever it
-/// holds.
-///
-/// The input is read before the first write. `Unread` where it can't be read, `NoMemory` where an allocation was
-/// refused, and then nothing is written; `Unwritten` where a write fails. Behind the answer `notes` is given a hint
-/// where the file is refused; what fails there is let go.
+/// of a phenomenon. Or the line of the file's first fault. It reads, writes and ends as [`tell_history`] does.
 pub fn picture<R: Read, W: Write, N: Write>(
     alloc: Global,
     reader: &mut R,
@@ -81,14 +66,12 @@ pub fn picture<R: Read, W: Write, N: Write>(
     ensures silent { IfErr result (λ fault. (fault ≡ RunFault.Unwritten) ⊎ Keeps (W.contents writer.old) (W.contents writer.new)) }
     ensures hint_last { OnErr result (Keeps (N.contents notes.old) (N.contents notes.new)) }
 {
-    let input = read_input(alloc, reader)?;
-    let answer = answer(alloc, input.as_slice(), asked)?;
-    write_text(writer, answer.text.as_slice())?;
-    note_file(
+    tell_history(
         alloc,
-        input.as_slice(),
-        answer.ending == Ending::Refused,
+        TellsPicture { asked },
+        Format::Lines,
+        reader,
+        writer,
         notes,
-    );
-    Ok(answer.ending)
+    )
 }

@@ -4,7 +4,6 @@ ghost use Rattle.std.specs.Prelude.{◌≡◌, flat_map, IfOk};
 ghost use Rattle.lab_picture.specs.Making.{arrows_of};
 ghost use Rattle.lab_picture.specs.Sketch.{of_serial, of_finding, of_walk, entitled, drawing_of};
 
-use crate::asked::Phenomenon;
 use crate::drawing::{Arrow, Drawing};
 use crate::fault_drawing::{add_column, blank, of_fault, of_place};
 use crate::making::arrow_of;
@@ -12,6 +11,7 @@ use crate::titles::{put_finding_title, put_serial_title};
 use lab_deps::Edge;
 use lab_history::History;
 use lab_judge::{Finding, Report, Serial, put_finding, put_serial};
+use lab_reports::Phenomenon;
 use lab_table::NoMemory;
 use std::alloc::Global;
 

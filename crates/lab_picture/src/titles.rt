@@ -1,13 +1,28 @@
 //! The titles of drawings, in words. Each function appends; after NoMemory, part of what was to be appended may stand there.
 
 ghost use Rattle.std.specs.Prelude.{◌≡◌, ◌++◌, flat_map, OnOk};
-ghost use Rattle.lab_picture.specs.Titles.{full_name, by_counts, walk_phenomenon, next_text, txns_text, op_fault_words, row_fault_words, with_code, fault_words, serial_title, finding_word, finding_title};
+ghost use Rattle.lab_picture.specs.Titles.{phenomenon_words, full_name, by_counts, walk_phenomenon, next_text, txns_text, op_fault_words, row_fault_words, with_code, fault_words, serial_title, finding_word, finding_title};
 
-use crate::asked::Phenomenon;
 use crate::text::put_number;
 use lab_deps::{Edge, FaultParts, Kind, LocalFault, OpFault, RowFault};
 use lab_judge::{Finding, Serial};
+use lab_reports::Phenomenon;
 use lab_table::{NoMemory, TxnNo};
+
+/// The textbook name of a phenomenon, in words.
+fn phenomenon_words(phenomenon: Phenomenon) -> &'static str
+    ensures { result.now ≡ phenomenon_words phenomenon }
+{
+    match phenomenon {
+        Phenomenon::G0 => "dirty write",
+        Phenomenon::G1a => "aborted read",
+        Phenomenon::G1b => "intermediate read",
+        Phenomenon::G1c => "circular information flow",
+        Phenomenon::GSingle => "read skew",
+        Phenomenon::G2Item => "write skew",
+        Phenomenon::G2 => "anti-dependency cycle",
+    }
+}
 
 /// Appends a phenomenon by its code, and its textbook name behind it.
 fn put_full_name(out: &mut Vec<u8>, phenomenon: Phenomenon) -> Result<(), NoMemory>
@@ -15,7 +30,7 @@ fn put_full_name(out: &mut Vec<u8>, phenomenon: Phenomenon) -> Result<(), NoMemo
 {
     out.extend_from_slice(phenomenon.name().as_bytes())?;
     out.extend_from_slice(b" (")?;
-    out.extend_from_slice(phenomenon.words().as_bytes())?;
+    out.extend_from_slice(phenomenon_words(phenomenon).as_bytes())?;
     out.extend_from_slice(b")")
 }
 

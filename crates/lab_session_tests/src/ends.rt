@@ -2,10 +2,10 @@
 
 ghost use Rattle.std.specs.Prelude.{◌≡◌, []};
 
-use crate::refusal::{refuse, was_refused};
 use crate::refused::lines_submitted;
 use lab_engine::{Engine, EngineFault, Level, Outcome};
 use lab_locking::LockEngine;
+use lab_refusal_tests::{refuse, was_refused};
 use lab_script::{Line, parse_script};
 use lab_session::{Bench, Lab, Seat};
 use lab_table::{Command, Session, Table};

@@ -21,7 +21,6 @@ mod instrumented;
 #[cfg(test)]
 mod meeting;
 #[cfg(test)]
-mod refusal;
 #[cfg(test)]
 mod refused;
 #[cfg(test)]

@@ -1,9 +1,9 @@
 //! Calls with each of their allocations refused in turn: they answer want of memory and nothing else, what they would
 //! change is as it was, and the same call with memory answers as if nothing had been.
 
-use crate::refusal::{refuse, was_refused};
 use lab_engine::Recording;
 use lab_locking::LockEngine;
+use lab_refusal_tests::{refuse, was_refused};
 use lab_script::{Line, parse_script};
 use lab_session::{Bench, BenchFault, CloseFault, Lab, LabFault, Seat, print_log};
 use lab_statement::parse_statement;

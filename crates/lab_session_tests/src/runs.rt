@@ -3,9 +3,9 @@
 
 ghost use Rattle.std.specs.Prelude.{◌≡◌, []};
 
-use crate::refusal::{refuse, was_refused};
 use lab_engine::{Engine, Level, Recording};
 use lab_locking::LockEngine;
+use lab_refusal_tests::{refuse, was_refused};
 use lab_script::{Line, Script, parse_script};
 use lab_session::{CloseFault, Lab, LabFault, Seat, print_log};
 use lab_table::{Command, Table};

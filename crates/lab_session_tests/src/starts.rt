@@ -1,6 +1,6 @@
 //! A free play with each allocation refused in turn: that a thread wasn't given is told apart from want of memory.
 
-use crate::refusal::{refuse, was_refused};
+use lab_refusal_tests::{refuse, was_refused};
 use lab_script::parse_script;
 use lab_session::{Gate, PlayFault, play_free};
 use lab_table::Session;

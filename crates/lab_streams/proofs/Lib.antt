@@ -1,5 +1,3 @@
 pub mod Taken
-pub mod FileFaults
-pub mod OneFile
-pub mod ScriptsPrint
+pub mod ToldFiles
 pub mod Unchanged

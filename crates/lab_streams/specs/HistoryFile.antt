@@ -1,37 +1,28 @@
--- Which bytes are a file of which history, which fault they have, and what is said of that.
-use Rattle.std.specs.Prelude.{◌≡◌, ℕ, ◌≤◌, ◌<◌, List, length, Ok, Err}
-use Rattle.serde_json.specs.Data.{Data}
+-- What is said of an input that is to be a history file.
+use Rattle.std.specs.Prelude.{◌≡◌, ◌⊎◌, ℕ, None, List}
 use Rattle.lab_history.specs.History.{History}
-use Rattle.lab_history_file.specs.Format.{history_in}
-use Rattle.lab_history.specs.Limits.{max_file_bytes}
-use Rattle.lab_history_file.specs.FileRead.{IsTextOf, IsNoText}
 use Rattle.lab_history.specs.declared.fault.FileFault.{FileFault}
-use Rattle.lab_history.specs.declared.fault.FileFault.TheVariants.{NotJson, OverLimit}
-use Rattle.lab_history.specs.declared.fault.Limit.TheVariants.{Bytes}
-use Rattle.lab_judge.specs.FileFaultText.{file_fault_text}
+use Rattle.lab_history_file.specs.HistoryFile.{HoldsHistory, IsFileFault}
 use Rattle.lab_streams.specs.declared.ending.Ending.{Ending}
 use Rattle.lab_streams.specs.declared.ending.Ending.TheVariants.{Refused}
+use Rattle.lab_streams.specs.declared.reporting.Format.{Format}
+use Rattle.lab_streams.specs.Reports.{refused_text}
 
--- the bytes are a file of the history
-pub record HoldsHistory (bytes : List ℕ) (history : History) : Type 0 where
-  pub short : length bytes ≤ max_file_bytes
-  pub tree : Data
-  pub spelled : IsTextOf bytes tree
-  pub held : history_in tree ≡ Ok history
-
--- bytes that aren't too many have a fault: they are the text of no value, or of one that has this fault first
-pub data IsFormatFault (bytes : List ℕ) (fault : FileFault) : Type 0 where
-  no_text : IsNoText bytes → fault ≡ NotJson → IsFormatFault bytes fault
-  no_history : (tree : Data) → IsTextOf bytes tree → history_in tree ≡ Err fault → IsFormatFault bytes fault
-
--- the fault is the first that the bytes have
-pub data IsFileFault (bytes : List ℕ) (fault : FileFault) : Type 0 where
-  too_long : max_file_bytes < length bytes → fault ≡ OverLimit Bytes → IsFileFault bytes fault
-  of_format : length bytes ≤ max_file_bytes → IsFormatFault bytes fault → IsFileFault bytes fault
-
--- the input is no history file, and the text is the line of its first fault
-pub record IsNoFile (input text : List ℕ) (ending : Ending) : Type 0 where
+-- the input is no history file, and the text tells its first fault
+pub record IsNoFile (format : Format) (input text : List ℕ) (ending : Ending) : Type 0 where
   pub fault : FileFault
   pub faulty : IsFileFault input fault
-  pub text_is : text ≡ file_fault_text fault
+  pub text_is : text ≡ refused_text format None fault
   pub refused : ending ≡ Refused
+
+-- What is said of a history file, by what is told of a history.
+module _ (format : Format) (Tells : History → List ℕ → Ending → Type 0) where
+  -- the input is a file of a history, and the text and the ending tell of that
+  pub record IsTold (input text : List ℕ) (ending : Ending) : Type 0 where
+    pub history : History
+    pub held : HoldsHistory input history
+    pub told : Tells history text ending
+
+  -- the text is what is to be said of the input, and the ending is the one due
+  abbrev pub IsToldOf : List ℕ → List ℕ → Ending → Type 0
+  IsToldOf input text ending = IsTold input text ending ⊎ IsNoFile format input text ending

@@ -1,3 +1,5 @@
 pub mod Input
 pub mod Status
+pub mod Reports
 pub mod HistoryFile
+pub mod ReadWhole

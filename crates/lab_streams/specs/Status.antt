@@ -1,13 +1,14 @@
 -- The program's exit statuses.
 use Rattle.std.specs.Prelude.{ℕ}
 use Rattle.lab_streams.specs.declared.ending.Ending.{Ending}
-use Rattle.lab_streams.specs.declared.ending.Ending.TheVariants.{Done, Refused}
+use Rattle.lab_streams.specs.declared.ending.Ending.TheVariants.{Done, Unmet, Refused}
 use Rattle.lab_streams.specs.declared.ending.RunFault.{RunFault}
 use Rattle.lab_streams.specs.declared.ending.RunFault.TheVariants.{NoMemory, Unread, Unwritten}
 
 -- the status of a run whose text was written
 abbrev pub ending_status : Ending → ℕ
 ending_status Done = 0
+ending_status Unmet = 1
 ending_status Refused = 2
 
 -- the status of a run that wrote no text, or not all of it

@@ -10,6 +10,8 @@ use std::alloc::AllocError;
 pub enum Ending {
     /// The text is the answer.
     Done,
+    /// The text is the answer, and it doesn't meet what was required of it.
+    Unmet,
     /// The input was refused, and the text says why.
     Refused,
 }
@@ -36,12 +38,14 @@ impl From<AllocError> for RunFault {
     }
 }
 
-/// The exit status of a run: 0 done, 2 input refused, 3 a read, an open or a write failed, 4 want of memory.
+/// The exit status of a run: 0 done, 1 done and a requirement isn't met, 2 input refused, 3 a read, an open or a write
+/// failed, 4 want of memory.
 pub fn status(run: Result<Ending, RunFault>) -> u8
     ensures { MatchResult run (λ ending. result ≡ ending_status ending) (λ fault. result ≡ fault_status fault) }
 {
     match run {
         Ok(Ending::Done) => 0,
+        Ok(Ending::Unmet) => 1,
         Ok(Ending::Refused) => 2,
         Err(RunFault::Unread | RunFault::Unwritten) => 3,
         Err(RunFault::NoMemory) => 4,

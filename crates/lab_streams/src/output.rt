@@ -23,3 +23,10 @@ pub fn write_text<W: Write>(writer: &mut W, text: &[u8]) -> Result<(), RunFault>
     }
     Ok(())
 }
+
+/// Gives `notes` a text, if it isn't empty; what fails there is let go.
+pub fn note_text<N: Write>(text: &[u8], notes: &mut N) {
+    if !text.is_empty() {
+        let _ = write_text(notes, text);
+    }
+}

@@ -1,11 +1,11 @@
 //! Histories of parts.
 
 use crate::alike::alike_parts;
-use crate::refusal::{refuse, was_refused};
 use lab_history::{
     FileFault, History, Installed, Installers, Limit, ListPlace, Op, Ops, Outcome, Parts, Path,
     Rows, State, Txn, Txns, VersionName, View, Writes,
 };
+use lab_refusal_tests::{refuse, was_refused};
 use lab_table::{Expr, RowId, RowName, Statement, StatementKind, Table, TableName, TxnNo, Value};
 use std::alloc::Global;
 use std::process::Abort;

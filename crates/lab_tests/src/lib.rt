@@ -10,7 +10,6 @@ mod histories;
 #[cfg(test)]
 mod limits;
 #[cfg(test)]
-mod refusal;
 #[cfg(test)]
 mod refused;
 #[cfg(test)]

@@ -2,9 +2,9 @@
 //! it was; or, where they could do without, they answer as ever.
 
 use crate::alike::alike_operations;
-use crate::refusal::{refuse, was_refused};
 use lab_history::{FileFault, History, Op};
 use lab_history_file::{WriteFault, read_history, write_history};
+use lab_refusal_tests::{refuse, was_refused};
 use lab_script::{Script, parse_script, print_script, print_transcript, run_serial};
 use lab_statement::{
     PrintFault, ScriptFault, parse_statement, print_script_fault, print_statement,

@@ -1,7 +1,7 @@
 use Rattle.std.proofs.Common.{Err, ap, sym, subst}
 use Rattle.lab_script.specs.Limits.{ScriptPrints}
 use Rattle.lab_matrix.specs.Listings.{case_script}
-use Rattle.lab_streams.proofs.ScriptsPrint.{keeps_depth, keeps_length, keeps_tables}
+use Rattle.lab_session.proofs.ScriptsPrint.{keeps_depth, keeps_length, keeps_tables}
 use Rattle.lab_case_commands.proofs.listing.text_of.Goals as goal
 
 pub unreachable-requires : goal.unreachable-requires

@@ -1,8 +1,10 @@
-use Rattle.lab_commands.proofs.OneAnswer.{one_answer}
+use Rattle.lab_streams.proofs.ToldFiles.{one_told}
+use Rattle.lab_commands.specs.Judging.{IsReportOf}
+use Rattle.lab_commands.proofs.OneReport.{one_report}
 use Rattle.lab_commands.proofs.laws.judge_answer_unique.Goals as goal
 
 pub returns : goal.returns
 returns c = record {
-  text = λ input one other first again a b. (one_answer input one other first again a b).0;
-  ending = λ input one other first again a b. (one_answer input one other first again a b).1;
+  text = λ wanted input one other first again a b. (one_told wanted.format (IsReportOf wanted) (one_report wanted) input one other first again a b).0;
+  ending = λ wanted input one other first again a b. (one_told wanted.format (IsReportOf wanted) (one_report wanted) input one other first again a b).1;
 }

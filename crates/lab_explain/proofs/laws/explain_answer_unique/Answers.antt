@@ -1,8 +1,11 @@
+use Rattle.lab_streams.proofs.ToldFiles.{one_told}
+use Rattle.lab_streams.specs.declared.reporting.Format.TheVariants.{Lines}
+use Rattle.lab_explain.specs.Answer.{Explains}
 use Rattle.lab_explain.proofs.OneExplanation.{one_explanation}
 use Rattle.lab_explain.proofs.laws.explain_answer_unique.Goals as goal
 
 pub returns : goal.returns
 returns c = record {
-  text = λ input one other asked first again a b. (one_explanation input asked one other first again a b).0;
-  ending = λ input one other asked first again a b. (one_explanation input asked one other first again a b).1;
+  text = λ input one other asked first again a b. (one_told Lines (Explains asked) (one_explanation asked) input one other first again a b).0;
+  ending = λ input one other asked first again a b. (one_told Lines (Explains asked) (one_explanation asked) input one other first again a b).1;
 }

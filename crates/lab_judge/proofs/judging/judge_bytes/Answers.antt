@@ -1,12 +1,10 @@
-use Rattle.lab_judge.proofs.SpelledHistories.{spelled_yes, spelled_placed}
+use Rattle.lab_judge.proofs.SpelledHistories.{held_yes, held_placed}
 use Rattle.lab_judge.proofs.judging.judge_bytes.Goals as goal
 
 pub returns-in-Ok-clause-yes : goal.returns-in-Ok-clause-yes
-returns-in-Ok-clause-yes c =
-    let f = c.in_ok-history.ensures.found in
-    spelled_yes c.args.bytes.now c.in-Ok.report (f.0, _, (f.1, f.2), f.3, c.in-Ok.ensures.exact)
+returns-in-Ok-clause-yes c = λ h held.
+    held_yes c.args.bytes.now c.in-Ok.report h (record { history = _; held = c.in_ok-history.ensures.held; judgement = c.in-Ok.ensures.exact }) held
 
 pub returns-in-Ok-clause-placed : goal.returns-in-Ok-clause-placed
-returns-in-Ok-clause-placed c =
-    let f = c.in_ok-history.ensures.found in
-    spelled_placed c.args.bytes.now c.in-Ok.report (f.0, _, (f.1, f.2), f.3, c.in-Ok.ensures.exact)
+returns-in-Ok-clause-placed c = λ h held.
+    held_placed c.args.bytes.now c.in-Ok.report h (record { history = _; held = c.in_ok-history.ensures.held; judgement = c.in-Ok.ensures.exact }) held

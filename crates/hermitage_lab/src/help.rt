@@ -1,0 +1,152 @@
+//! What help says.
+
+pub const ABOUT: &str = "A laboratory for transaction isolation, whose answers are proved.";
+
+pub const STATUSES: &str = "\
+Exit status:
+  0  done
+  1  done, and a report doesn't meet what --require asks of it; standard error says which, and why
+  2  the input was refused
+  3  a read, an open or a write failed; standard error says which
+  4  there was no memory for it; nothing was written, and standard error says so
+  5  the command line was refused; nothing was written to standard output";
+
+pub const SERIAL: &str = "Runs a script's transactions one after another";
+
+pub const SERIAL_WHOLE: &str = "\
+Runs a script's transactions one after another, each whole, in the order of their begins.
+
+Reads a script from standard input. It has a line with rows, each an id and a value, and then lines of
+statements, each with its session behind two dashes:
+
+    setup (1, 10), (2, 20);
+    begin; -- T1
+    select * from test where value = 20; -- T1
+    update test set value = value + 10 where id = 1; -- T1
+    commit; -- T1
+
+Rows may be of up to four named tables: `setup (1, 10), stock (1, 5);` has a row of `test`, which needn't
+be named, and one of `stock`. A name is 1 to 16 letters and underscores, and no word of scripts.
+
+Writes the transcript to standard output: for each transaction a line with its number and its
+session, as `txn 1 T1`, each statement with the rows that it lists, as `-> (2, 20)`, and `commit`
+or `abort`; then the rows in the end. Where the input is no script, writes one line that names its
+first fault, as `line 3: NoSession`.";
+
+pub const RUN: &str = "Plays a script on an engine, and judges what its recording shows";
+
+pub const RUN_WHOLE: &str = "\
+Plays a script's sessions on one of three engines, and judges what its recording shows.
+
+Reads a script of up to four tables from standard input, as `serial` does. Writes the log to standard
+output, a line for each event, as `T1 begin: begun 1` or `T2 commit: refused WriteConflict row 1 by 1`;
+and then the ten lines of the report, as `judge` writes them. Where the input is no script, or its play
+is refused, writes one line that says so, as `line 3: NoSession` or `play: OverLimit entries`. With
+`--history` it writes a history file, of version 2, in place of log and report; with `--json` the report
+alone, as one line of JSON.
+
+    hermitage_lab run --engine snapshot < examples/both_doctors_leave.txt
+
+The engines are `locking` (strict locks of rows and predicates), `committed` (each statement sees what
+has committed) and `snapshot` (each transaction sees what had committed at its begin; the first committer
+wins).";
+
+pub const ENGINE: &str = "The engine that plays the script";
+
+pub const FREE: &str = "Plays each session by a thread of its own, in whichever order they come";
+
+pub const HISTORY: &str = "Writes the history file of the play in place of its log and report";
+
+pub const REQUIRE: &str =
+    "Asks for a level, or for a snapshot run, and ends with 1 where a report doesn't meet it";
+
+pub const JSON: &str = "Writes the report as one line of JSON";
+
+pub const JUDGE: &str = "Judges a history file";
+
+pub const JUDGE_WHOLE: &str = "\
+Judges the history of a file, from any source: whether it is serializable, and in which order; whether
+it is a snapshot run, and with which starts and commits; which phenomena it has, and which level it meets.
+
+Reads a history file from standard input, and writes the ten lines of the report to standard output, as
+`serializable: yes T2 T1` or `G-single: present T1 wr(1) T2 rw(stock 1) T1`. Where the input is no history
+file, writes one line that names its first fault, as `file: NotJson`. With `--json` the report is one line of
+JSON, and so is the fault. With `--require PL-2` the exit status is 1 where the history doesn't meet PL-2.
+
+A file of version 2 has rows of up to four named tables, and one of version 1 rows of the table `test`
+alone; `run` writes version 2. Rows of `test` are told without their table.
+
+    hermitage_lab run --engine committed --history < examples/both_doctors_leave.txt > history.json
+    hermitage_lab judge < history.json";
+
+pub const BATCH: &str = "Judges many history files";
+
+pub const BATCH_WHOLE: &str = "\
+Judges the histories of files, as many at once as there are processors.
+
+Writes for each file, in the order given, a line `== FILE` and then what `judge` writes of it, or
+`file: unreadable` where it can't be opened or read; with `--json` one line for each file, with its name.
+All files are read and judged before the first line is written. The exit status is the greatest that a file
+calls for. `-` is a file of that name, and not standard input. Where a name isn't UTF-8, the whole command
+line is refused.
+
+    hermitage_lab batch examples/g1a_aborted_read.json examples/serializable.json
+    find runs -name '*.json' -print0 | hermitage_lab batch --require PL-3 --files-from - -0";
+
+pub const FILES_FROM: &str =
+    "A file with the names of the files, one a line; `-` is standard input";
+
+pub const NULL: &str = "The names of the list are parted by NUL";
+
+pub const PROGRESS: &str =
+    "Says on standard error how many files are done, also where that is no terminal";
+
+pub const FILE: &str = "A history file";
+
+pub const CASE: &str = "Writes the script of a case";
+
+pub const CASE_WHOLE: &str = "\
+Writes the script of one of the ten cases, written after those of Martin Kleppmann's Hermitage: each is
+an interleaving that shows one anomaly, where an engine lets it happen.
+
+    hermitage_lab case G-single | hermitage_lab run --engine committed";
+
+pub const NAME: &str = "The name of the case";
+
+pub const MATRIX: &str = "Plays and judges each case on each engine";
+
+pub const MATRIX_WHOLE: &str = "\
+Plays each of the ten cases on each engine, judges the recordings, and writes a line for each case: the
+level that its history meets on the engine, and `SI` where it is a snapshot run. The last line,
+`promised  PL-3  PL-2  SI`, is what each engine promises of every run.";
+
+pub const PICTURE: &str = "Draws a judgement of a history file";
+
+pub const PICTURE_WHOLE: &str = "\
+Draws a judgement of the history of a file, which it judges as `judge` does.
+
+Reads a history file from standard input, and writes a picture in SVG to standard output: a column for
+each transaction of the serial verdict, in its order or along the walk that leads back, its operations
+with the rows that they listed, and an arrow for each dependency of the walk between the operations that
+make it, dashed for an anti-dependency; or the operation and the version that a fault names. Where the
+input is no history file, writes one line that names its first fault.
+
+    hermitage_lab picture < examples/g2_item_write_skew.json > picture.svg";
+
+pub const PHENOMENON: &str = "Draws what is found of a phenomenon in place of the serial verdict";
+
+pub const EXPLAIN: &str = "Says in sentences what a judgement of a history file says";
+
+pub const EXPLAIN_WHOLE: &str = "\
+Says in sentences what a judgement of the history of a file says, which it judges as `judge` does.
+
+Reads a history file from standard input, and writes to standard output, in at most 100 lines of at most
+100 columns: the serial verdict, with a sentence for each dependency of the walk that leads back, which
+tells the statements that make it, the row, and the version and the value that was seen or left; or what
+is recorded where a fault is, what is due there, and the recorder's mistake that most often makes it; the
+snapshot verdict; each phenomenon, with its textbook name; and the level. Where the input is no history
+file, writes one line that names its first fault.
+
+    hermitage_lab explain < examples/g2_item_write_skew.json";
+
+pub const EXPLAINED: &str = "Explains what is found of a phenomenon in place of the whole report";

@@ -1,0 +1,162 @@
+//! The subcommand `run`: a script played on an engine, and what its recording is judged to be.
+
+ghost use Rattle.std.specs.Prelude.{◌≡◌, ◌⊎◌, List, ℕ, IfOk, IfErr, IfSome, OnErr};
+ghost use Rattle.std.specs.Io.KnownBytes.{Appends, Keeps};
+ghost use Rattle.lab_streams.specs.Input.{ReadsFirst};
+ghost use Rattle.lab_script.specs.Limits.{ScriptPrints};
+ghost use Rattle.lab_engine.specs.RecordedLog.{RecordedLog};
+ghost use Rattle.lab_commands.specs.Playing.{IsScriptedPlay, IsScriptedRefusal, IsFreePlay, IsFreeRefusal, IsRunAnswer, IsRecordingAnswer};
+ghost use Rattle.lab_commands.specs.ReadScripts.{run_whole};
+
+use crate::free::Free;
+use crate::player::Player;
+use crate::recording_answer::recording_answer;
+use crate::refusals::{print_play_refusal, print_script_refusal};
+use crate::scripted::Scripted;
+use lab_engine::Level;
+use lab_hints::note_play;
+use lab_script::{Script, parse_script};
+use lab_session::PlayFault;
+use lab_statement::ScriptFault;
+use lab_streams::{Answer, Ending, RunFault, Subcommand, Wanted, answer_input, note_text};
+use lab_table::NoMemory;
+use std::alloc::{AllocError, Global};
+use std::io::{Read, Write};
+use std::sync::Wait;
+use std::thread::Threads;
+
+/// What tells of a play of a script: with `history` its history file, else its log and the report of a judgement.
+#[derive(Drop)]
+struct TellsPlay<P: Player> {
+    player: P,
+    history: bool,
+    wanted: Wanted,
+    /// Why the report doesn't meet what is required, if it doesn't.
+    shortfall: Vec<u8>,
+    /// Why a play was refused.
+    why: Option<PlayFault>,
+}
+
+/// What a play of a script that prints tells, or why there is nothing to tell; why the report doesn't meet what is required
+/// is noted.
+fn play_answer<P: Player>(
+    alloc: Global,
+    player: &P,
+    script: &Script,
+    history: bool,
+    wanted: Wanted,
+    shortfall: &mut Vec<u8>,
+) -> Result<Answer, PlayFault>
+    requires prints { ScriptPrints script.now }
+    requires needs { P.Needs }
+    ensures tells { IfOk result (λ answer. (recording : RecordedLog) × P.Plays player.now script.now recording × IsRecordingAnswer history wanted recording answer.text.items answer.ending) }
+    ensures fault { IfErr result (P.Refuses player.now script.now) }
+{
+    let recording = player.play(alloc, script)?;
+    recording_answer(alloc, &recording, history, wanted, shortfall)
+}
+
+impl<P: Player> Subcommand for TellsPlay<P> {
+    ghost Needs = { P.Needs };
+
+    ghost Says = { λ s. IsRunAnswer (P.Plays s.player) (P.Refuses s.player) s.history s.wanted };
+
+    fn answer(&mut self, alloc: Global, input: &[u8]) -> Result<Answer, NoMemory> {
+        let script = match parse_script(alloc, input) {
+            Ok(script) => script,
+            Err(ScriptFault::NoMemory) => return Err(AllocError),
+            Err(fault) => {
+                return Ok(Answer {
+                    text: print_script_refusal(alloc, self.wanted.format, &fault)?,
+                    ending: Ending::Refused,
+                });
+            }
+        };
+        let played = play_answer(
+            alloc,
+            &self.player,
+            &script,
+            self.history,
+            self.wanted,
+            &mut self.shortfall,
+        );
+        match played {
+            Ok(answer) => Ok(answer),
+            Err(PlayFault::NoMemory) => Err(AllocError),
+            Err(fault) => {
+                self.why = Some(fault);
+                Ok(Answer {
+                    text: print_play_refusal(alloc, self.wanted.format, &fault)?,
+                    ending: Ending::Refused,
+                })
+            }
+        }
+    }
+
+    fn note<N: Write>(&self, alloc: Global, input: &[u8], ending: Ending, notes: &mut N) {
+        note_play(alloc, input, ending == Ending::Refused, self.why, notes);
+        note_text(&self.shortfall, notes);
+    }
+
+    ghost whole = { λ s. run_whole (P.Plays s.player) (P.Refuses s.player) s.history s.wanted };
+}
+
+/// Reads a script, plays it by one thread on an engine of this level, and writes the log and then the report of a
+/// judgement of its recording; in JSON the report alone; with `history` the history file of the recording and a newline
+/// instead. Where the input is no script, or its play is refused, or its history has no file, it tells that fault alone.
+///
+/// It reads, writes and ends as [`answer_input`] does, with `Unmet` where the report doesn't meet what is required; `notes`
+/// is told why. It is given a hint where the input or its play is refused, or no transaction begins in it.
+pub fn run<R: Read, W: Write, N: Write>(
+    alloc: Global,
+    reader: &mut R,
+    writer: &mut W,
+    notes: &mut N,
+    level: Level,
+    history: bool,
+    wanted: Wanted,
+) -> Result<Ending, RunFault>
+    ensures written { IfOk result (λ ending. IfSome (R.remaining reader.old) (λ input.
+        (text : List ℕ) × Appends (W.contents writer.old) (W.contents writer.new) text
+        × IsRunAnswer (IsScriptedPlay level) (IsScriptedRefusal level) history wanted input text ending)) }
+    ensures read_first { ReadsFirst result (R.remaining reader.old) (R.remaining reader.new) }
+    ensures silent { IfErr result (λ fault. (fault ≡ RunFault.Unwritten) ⊎ Keeps (W.contents writer.old) (W.contents writer.new)) }
+    ensures hint_last { OnErr result (Keeps (N.contents notes.old) (N.contents notes.new)) }
+{
+    let scripted = TellsPlay {
+        player: Scripted { level },
+        history,
+        wanted,
+        shortfall: Vec::new(alloc),
+        why: None,
+    };
+    answer_input(alloc, scripted, reader, writer, notes)
+}
+
+/// As [`run`], by one thread for each session that has lines, in whichever order they come; it waits for its threads.
+pub fn run_free<T: Threads + Wait + Sync, R: Read, W: Write, N: Write>(
+    rt: &T,
+    alloc: Global,
+    reader: &mut R,
+    writer: &mut W,
+    notes: &mut N,
+    level: Level,
+    history: bool,
+    wanted: Wanted,
+) -> Result<Ending, RunFault>
+    ensures written { IfOk result (λ ending. IfSome (R.remaining reader.old) (λ input.
+        (text : List ℕ) × Appends (W.contents writer.old) (W.contents writer.new) text
+        × IsRunAnswer (IsFreePlay level) (IsFreeRefusal level) history wanted input text ending)) }
+    ensures read_first { ReadsFirst result (R.remaining reader.old) (R.remaining reader.new) }
+    ensures silent { IfErr result (λ fault. (fault ≡ RunFault.Unwritten) ⊎ Keeps (W.contents writer.old) (W.contents writer.new)) }
+    ensures hint_last { OnErr result (Keeps (N.contents notes.old) (N.contents notes.new)) }
+{
+    let free = TellsPlay {
+        player: Free { rt, level },
+        history,
+        wanted,
+        shortfall: Vec::new(alloc),
+        why: None,
+    };
+    answer_input(alloc, free, reader, writer, notes)
+}

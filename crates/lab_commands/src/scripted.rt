@@ -1,0 +1,38 @@
+//! Plays of scripts by one thread.
+
+ghost use Rattle.std.specs.Prelude.{⊤};
+ghost use Rattle.lab_commands.specs.Playing.{IsScriptedPlay, IsScriptedRefusal};
+ghost use Rattle.lab_commands.specs.Untold.{scripted_untold};
+
+use crate::player::Player;
+use lab_engine::{Level, Recording};
+use lab_locking::LockEngine;
+use lab_script::Script;
+use lab_session::{PlayFault, play_script};
+use lab_versions::{CommittedEngine, SnapshotEngine};
+use std::alloc::Global;
+
+/// Plays scripts by one thread, each on a fresh engine of this level.
+#[derive(Drop)]
+pub struct Scripted {
+    pub level: Level,
+}
+
+impl Player for Scripted {
+    ghost Needs = { ⊤ };
+
+    ghost Plays = { λ p. IsScriptedPlay p.level };
+
+    ghost Refuses = { λ p. IsScriptedRefusal p.level };
+
+    fn play(&self, alloc: Global, script: &Script) -> Result<Recording, PlayFault> {
+        let setup = script.setup.copy(alloc)?;
+        match self.level {
+            Level::Locking => play_script(alloc, LockEngine::new(alloc, setup), script),
+            Level::Committed => play_script(alloc, CommittedEngine::new(alloc, setup), script),
+            Level::Snapshot => play_script(alloc, SnapshotEngine::new(alloc, setup), script),
+        }
+    }
+
+    ghost untold = { λ p. scripted_untold p.level };
+}

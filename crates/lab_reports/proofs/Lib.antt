@@ -1,0 +1,6 @@
+pub mod AsciiTexts
+pub mod CutTexts
+pub mod Paths
+pub mod Spans
+pub mod WritableTree
+pub mod RequiredLevels

@@ -1,0 +1,6 @@
+pub mod Phenomena
+pub mod Requirements
+pub mod RequirementLaws
+pub mod Shortfall
+pub mod Tree
+pub mod RefusalTree
