@@ -57,7 +57,7 @@ fn batch_tells_a_file_of_which_a_read_fails(rt: HostRuntime) -> Result<(), Fail>
             assert_eq!(rt; run, Ok(3), "at call {fails_at}");
             assert_eq!(rt;
                 shown.text.as_slice(),
-                b"\r3 of 3 files\r\x1b[K",
+                b"\r3 of 3 files\r\x1b[K".as_slice(),
                 "at call {fails_at}"
             );
         }
