@@ -11,6 +11,17 @@ from recording import Unreachable
 
 CHUNK = 65_536
 NUMBER = re.compile(r"-?[0-9]+")
+SHORT = 4  # characters of a text that is kept
+
+
+class Values(dict):
+    """What texts of answers stand for. Short ones come again and again, and are looked at once."""
+
+    def __missing__(self, text):
+        found = int(text) if NUMBER.fullmatch(text) else text
+        if len(text) <= SHORT:
+            self[text] = found
+        return found
 
 
 class Client:
@@ -25,7 +36,7 @@ class Client:
     id = None  # the connection's number at the server, once it is known
 
     def __init__(self, words):
-        self.lock = threading.RLock()
+        self.lock, self.values = threading.RLock(), Values({self.NULL: None})
         streams = {"stdin": subprocess.PIPE, "stdout": subprocess.PIPE, "stderr": subprocess.STDOUT}
         try:
             self.process = subprocess.Popen([*self.PROGRAM, *words], start_new_session=True, **streams)
@@ -46,12 +57,7 @@ class Client:
                 read += more
                 if not more or self.LOST.search(read):
                     raise Unreachable(self.last_said(read.decode(errors="replace")))
-        return [list(map(self.value, line.split(self.BETWEEN))) for line in self.answered(read.decode())]
-
-    def value(self, text):
-        if text == self.NULL:
-            return None
-        return int(text) if NUMBER.fullmatch(text) else text
+        return [list(map(self.values.__getitem__, line.split(self.BETWEEN))) for line in self.answered(read.decode())]
 
     def answered(self, text):
         """The lines of an answer that have rows; Refused."""

@@ -10,6 +10,8 @@ from importlib.util import module_from_spec, spec_from_loader
 import script
 from recording import Unreachable, Untold, record
 
+HERE = os.path.dirname(os.path.abspath(__file__))
+DATABASES = "postgres", "mariadb", "sqlite", "toy"
 REFUSED, FAILED = 2, 3
 PATIENCE = 30
 
@@ -42,6 +44,15 @@ def parser_of(path):
     module = module_from_spec(spec_from_loader(loader.name, loader))
     loader.exec_module(module)
     return module.parser()
+
+
+def recorder_of(parser, database):
+    """The words of a recorder, which is named or stands at a path."""
+    path = database if os.path.dirname(database) else f"{HERE}/{database}"
+    try:
+        return parser_of(path)
+    except (OSError, SyntaxError, AttributeError):
+        return parser.error(f"argument DATABASE: {database} is no recorder (there are {', '.join(DATABASES)})")
 
 
 def end(*_):
@@ -94,6 +105,7 @@ def ending(parser, errors):
     except OSError as error:
         # (nothing more can be written, and Python would try to)
         os.dup2(os.open(os.devnull, os.O_WRONLY), sys.stdout.fileno())
-        parser.exit(FAILED, f"{parser.prog}: {error.strerror}\n")
+        where = f"{error.filename}: " if error.filename else ""
+        parser.exit(FAILED, f"{parser.prog}: {where}{error.strerror}\n")
     except KeyboardInterrupt:
         parser.exit(128 + signal.SIGINT, f"{parser.prog}: interrupted\n")

@@ -14,8 +14,8 @@ A recorder is a dialect, a class over Database that has (docs/RECORDING.md, "A r
     commit(connection), rollback(connection)
     close()                         puts away what was made
 
-and, where a transaction has a snapshot that can be read from outside, OF_SNAPSHOTS and snapshot(connection). Calls for
-two sessions may come at once, each from its session's thread.
+and, where a transaction has a snapshot that can be read from outside, OF_SNAPSHOTS and snapshot(connection); and, for
+recorders/load, clear(). Calls for two sessions may come at once, each from its session's thread.
 """
 import threading
 import time
@@ -53,6 +53,10 @@ class Database:
     def waits(self, _):
         """A database that lets nobody wait has none; its `do` raises Waits."""
         return False
+
+    def clear(self):
+        """Takes away what names versions, while no transaction is open: what is committed counts as initial then."""
+        raise NotImplementedError
 
     def close(self):
         """Puts away what was made, also where connections wait or were interrupted."""

@@ -51,6 +51,13 @@ class Statement:
         sign, number = self.change
         return value + (-number if sign == "-" else number) if sign else number
 
+    def among(self, ids):
+        """Those of some ids whose rows it may match, whatever their values are."""
+        if self.row:
+            return {self.row[0]}.intersection(ids)
+        found = self.where and of_ids(self.where)
+        return {id for id in ids if holds(found, {"id": id})} if found else set(ids)
+
     def ids(self):
         """A condition in SQL on ids alone, which every row that it matches meets."""
         found = self.where and of_ids(self.where)

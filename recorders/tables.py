@@ -15,6 +15,8 @@ COLUMNS = (
     " txn integer, op integer, old_value integer, old_txn integer, old_op integer"
 )
 
+CLEARED = "txn = null, op = null, old_value = null, old_txn = null, old_op = null"
+
 
 def version(no, op):
     return (no, op) if no else None
@@ -97,6 +99,13 @@ class Tables(Database):
         parts = [f"select '{name}', id, value from {self.table(name)} {which}" for name in self.script.tables]
         listed = self.look(" union all ".join(parts)) if parts else []
         return {(name, id): value for name, id, value in listed}
+
+    def clear(self):
+        for name in self.script.tables:
+            self.look(f"delete from {self.table(name)} where not ({self.PRESENT})")
+            self.look(f"update {self.table(name)} set {CLEARED} where txn is not null")
+        for name in ("gone1", "commit1"):
+            self.look(f"delete from {self.ROOM}{name}")
 
     def seeing(self, statement=None):
         """A question for the versions of all rows, present and gone, and which of them the statement matches. Of the
