@@ -167,3 +167,17 @@ def text_of(value, about="file"):
         f"level: {value['level']}",
     ]
     return "\n".join(lines) + "\n"
+
+
+def said_of_run(found):
+    """What a line says of a run in parts."""
+    part = f" {found['file']}" if "file" in found else ""
+    return found["verdict"] + part + (f": {found['reason']}" if "reason" in found else "")
+
+
+def run_text(value):
+    """The eleven lines of a run in parts."""
+    lines = [f"=== parts {value['parts']}"]
+    lines += [f"{name}: {said_of_run(value[name])}" for name in ("serializable", "snapshot")]
+    lines += [f"{name}: {said_of_run(value['phenomena'][name])}" for name in PHENOMENA]
+    return "".join(f"{line}\n" for line in [*lines, f"level: {value['level']}"])

@@ -125,8 +125,12 @@ fn judge_command<'a>(alloc: Global, names: &'a Names) -> Result<Command<'a>, All
         .arg(flag(alloc, "json", help::JSON))
 }
 
-/// The subcommand `batch`. NoMemory where an allocation was refused.
-fn batch_command<'a>(alloc: Global, names: &'a Names) -> Result<Command<'a>, AllocError> {
+/// A subcommand over files. NoMemory where an allocation was refused.
+fn files_command<'a>(
+    alloc: Global,
+    command: Command<'a>,
+    names: &'a Names,
+) -> Result<Command<'a>, AllocError> {
     let files = Arg::new(alloc, "FILE")
         .help(help::FILE)
         .num_args(1..)
@@ -142,13 +146,28 @@ fn batch_command<'a>(alloc: Global, names: &'a Names) -> Result<Command<'a>, All
         .short('0')
         .requires_arg("files-from")?
         .conflicts_with("FILE")?;
-    plain_command(alloc, "batch", help::BATCH, help::BATCH_WHOLE)
+    command
         .arg(files)?
         .arg(list)?
         .arg(null)?
         .arg(requirement(alloc, names))?
         .arg(flag(alloc, "json", help::JSON))?
         .arg(flag(alloc, "progress", help::PROGRESS))
+}
+
+/// The subcommand `batch`. NoMemory where an allocation was refused.
+fn batch_command<'a>(alloc: Global, names: &'a Names) -> Result<Command<'a>, AllocError> {
+    let command = plain_command(alloc, "batch", help::BATCH, help::BATCH_WHOLE);
+    files_command(alloc, command, names)
+}
+
+/// The subcommand `chain`. NoMemory where an allocation was refused.
+fn chain_command<'a>(alloc: Global, names: &'a Names) -> Result<Command<'a>, AllocError> {
+    let command = plain_command(alloc, "chain", help::CHAIN, help::CHAIN_WHOLE);
+    let join = flag(alloc, "join", help::JOIN).conflicts_with("reports")?;
+    files_command(alloc, command, names)?
+        .arg(flag(alloc, "reports", help::REPORTS))?
+        .arg(join)
 }
 
 /// The subcommand `case`. NoMemory where an allocation was refused.
@@ -207,6 +226,7 @@ pub fn command<'a>(alloc: Global, names: &'a Names) -> Result<Command<'a>, Alloc
     let command = with(command, run_command(alloc, names))?;
     let command = with(command, judge_command(alloc, names))?;
     let command = with(command, batch_command(alloc, names))?;
+    let command = with(command, chain_command(alloc, names))?;
     let command = with(command, case_command(alloc, names))?;
     let matrix = plain_command(alloc, "matrix", help::MATRIX, help::MATRIX_WHOLE);
     let command = command.subcommand(matrix)?;

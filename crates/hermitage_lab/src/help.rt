@@ -8,7 +8,7 @@ Exit status:
   1  done, and a report doesn't meet what --require asks of it; standard error says which, and why
   2  the input was refused
   3  a read, an open or a write failed; standard error says which
-  4  there was no memory for it; nothing was written, and standard error says so
+  4  there was no memory for it; nothing was written, but by `chain` its beginning; standard error says so
   5  the command line was refused; nothing was written to standard output";
 
 pub const SERIAL: &str = "Runs a script's transactions one after another";
@@ -92,6 +92,31 @@ line is refused.
 
     hermitage_lab batch examples/g1a_aborted_read.json examples/serializable.json
     find runs -name '*.json' -print0 | hermitage_lab batch --require PL-3 --files-from - -0";
+
+pub const CHAIN: &str = "Judges a run that was recorded in parts";
+
+pub const CHAIN_WHOLE: &str = "\
+Judges a run whose parts are files, given in their order, each recorded when nobody was in a transaction
+before it and behind it. The rows in a part's `initial` have to be those in the `end` of the one before.
+
+Writes `=== parts N` and ten lines as `judge` writes them, of the whole run: `yes` where each part says
+yes and all fit; a phenomenon that a part shows, with the first such part, as `present part7.json: T1 rw(2)
+T2 rw(1) T1`; the least level of the parts. A part that doesn't fit is told as `no part8.json: seam row
+stock 3`. A part that is refused, or can't be read, is told before that as `batch` tells it, and the others
+are judged; with `--reports` so is each part's report, as it comes. With `--json` all of it is lines of JSON,
+and that of the run has the rows at its beginning and in its end besides.
+
+Any number of parts takes the memory of some: 16 are held at a time.
+
+With `--join` the files are answers of `chain --json` about consecutive pieces of a run, and what is written
+is the answer about the whole of it.
+
+    hermitage_lab chain part1.json part2.json part3.json
+    find parts -name '*.json' -print0 | sort -zV | hermitage_lab chain --files-from - -0";
+
+pub const REPORTS: &str = "Writes the report of each part before what is said of the run";
+
+pub const JOIN: &str = "Joins what `chain --json` said of consecutive pieces of a run";
 
 pub const FILES_FROM: &str =
     "A file with the names of the files, one a line; `-` is standard input";

@@ -1,8 +1,8 @@
 //! `hermitage_lab`: scripts of transactions in, and proved answers out.
 #![tactic(auto)]
 
-mod batching;
 mod command_line;
+mod files;
 mod help;
 mod streams;
 mod told;
@@ -12,8 +12,8 @@ ghost use Rattle.std.specs.Prelude.{◌≡◌, ◌≢◌, Ok, Err};
 ghost use Rattle.clap.specs.Values.{kind_of};
 ghost use Rattle.clap.specs.declared.error.kind.ErrorKind.TheVariants.{DisplayHelp, DisplayVersion, OutOfMemory};
 
-use crate::batching::run_batch;
 use crate::command_line::Names;
+use crate::files::{Task, run_files};
 use crate::streams::Streams;
 use crate::told::told;
 use crate::wanting::wanted;
@@ -128,7 +128,10 @@ fn run_subcommand<T: Files + Threads + Wait + Sync, R: Read, W: Write, N: Write>
         return run_play(rt, alloc, streams, more);
     }
     if subcommand == "batch" {
-        return run_batch(rt, alloc, streams, more);
+        return run_files(rt, alloc, streams, more, Task::Batch);
+    }
+    if subcommand == "chain" {
+        return run_files(rt, alloc, streams, more, Task::Chain);
     }
     let Streams {
         reader,

@@ -22,7 +22,7 @@ mod scripted;
 mod transcribing;
 
 pub use batching::batch;
-pub use files::{Inputs, read_files};
+pub use files::{Inputs, note_files, read_files};
 pub use judged_files::{BatchAnswer, batch_answer};
 pub use judging::judge;
 pub use laws::{judge_answer_unique, run_answer_unique, serial_answer_unique};

@@ -25,7 +25,7 @@ use Rattle.lab_reports.specs.declared.phenomenon.Phenomenon.TheVariants.{G0, G1a
 
 -- ---- no float
 
-list_whole : {X : Type 0} (tree : X → Data) → ((x : X) → has_float (tree x) ≡ false) → (xs : List X) → has_float (list_tree tree xs) ≡ false
+pub list_whole : {X : Type 0} (tree : X → Data) → ((x : X) → has_float (tree x) ≡ false) → (xs : List X) → has_float (list_tree tree xs) ≡ false
 list_whole tree whole [] = refl
 list_whole tree whole (x ∷ xs) = rw (whole x) (list_whole tree whole xs)
 
@@ -85,7 +85,7 @@ refused_whole (Some file) f = rw (file_fault_whole f) refl
 
 -- ---- five levels
 
-list_flat : {X : Type 0} (n : ℕ) (tree : X → Data) → ((x : X) → depth (tree x) ≤ n) → (xs : List X) → depth (list_tree tree xs) ≤ suc n
+pub list_flat : {X : Type 0} (n : ℕ) (tree : X → Data) → ((x : X) → depth (tree x) ≤ n) → (xs : List X) → depth (list_tree tree xs) ≤ suc n
 list_flat n tree flat [] = omega arith
 list_flat n tree flat (x ∷ xs) = omega (arith, flat x, list_flat n tree flat xs)
 

@@ -15,6 +15,7 @@ mod phenomenon;
 mod refusal_json;
 mod report_json;
 mod requirement;
+mod rows;
 mod shortfall;
 mod to_json;
 
@@ -24,4 +25,5 @@ pub use phenomenon::{PHENOMENA, Phenomenon};
 pub use refusal_json::{print_refusal_json, print_unreadable_json};
 pub use report_json::print_report_json;
 pub use requirement::{REQUIREMENTS, Requirement};
+pub use rows::rows_json;
 pub use shortfall::put_shortfall;

@@ -1,11 +1,13 @@
 -- What is written of a report or of a file without one, and how that ends.
-use Rattle.std.specs.Prelude.{ℕ, List, Option, Some, None, cond}
+use Rattle.std.specs.Prelude.{ℕ, List, [], ◌++◌, Option, Some, None, cond, codes}
 use Rattle.lab_history.specs.declared.fault.FileFault.{FileFault}
 use Rattle.lab_judge.specs.FileFaultText.{file_fault_text}
 use Rattle.lab_judge.specs.ReportText.{report_text}
 use Rattle.lab_judge.specs.declared.report.Report.{Report}
 use Rattle.lab_reports.specs.RefusalTree.{refused_tree}
 use Rattle.lab_reports.specs.Requirements.{meets}
+use Rattle.lab_reports.specs.Shortfall.{shortfall_text}
+use Rattle.lab_statement.specs.Printed.{newline}
 use Rattle.lab_reports.specs.Tree.{tree_of, line_of}
 use Rattle.lab_reports.specs.declared.requirement.Requirement.{Requirement}
 use Rattle.lab_streams.specs.declared.ending.Ending.{Ending}
@@ -27,3 +29,8 @@ refused_text Json file fault = line_of (refused_tree file fault)
 abbrev pub ending_due : Option Requirement → Report → Ending
 ending_due None report = Done
 ending_due (Some requirement) report = cond (meets requirement report) Done Unmet
+
+-- a line with a file's name that says why its report doesn't meet what is required; nothing where it does
+abbrev pub shortfall_line : List ℕ → Option Requirement → Report → List ℕ
+shortfall_line file None report = []
+shortfall_line file (Some requirement) report = cond (meets requirement report) [] (file ++ codes ": " ++ shortfall_text requirement report ++ newline)

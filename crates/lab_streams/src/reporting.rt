@@ -2,7 +2,7 @@
 
 ghost use Rattle.std.specs.Prelude.{◌≡◌, IfOk};
 ghost use Rattle.std.specs.Option.{option_copied};
-ghost use Rattle.lab_streams.specs.Reports.{said_of, refused_text, ending_due};
+ghost use Rattle.lab_streams.specs.Reports.{said_of, refused_text, ending_due, shortfall_line};
 
 use crate::ending::Ending;
 use lab_history::FileFault;
@@ -75,7 +75,9 @@ pub fn shortfall_line(
     file: &str,
     requirement: Option<Requirement>,
     report: &Report,
-) -> Result<Vec<u8>, NoMemory> {
+) -> Result<Vec<u8>, NoMemory>
+    ensures { IfOk result (λ line. line.items ≡ shortfall_line file.now requirement report.now) }
+{
     let mut line = Vec::new(alloc);
     match requirement {
         Some(requirement) if !requirement.is_met(report) => {

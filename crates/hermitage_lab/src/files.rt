@@ -1,9 +1,10 @@
-//! The files of a batch: those that the arguments name, or those of a list.
+//! The subcommands over files: those that the arguments name, or those of a list.
 
 use crate::ARGUMENTS_REFUSED;
 use crate::streams::Streams;
 use crate::wanting::wanted;
 use clap::ArgMatches;
+use lab_chain_commands::{Asked, chain, join};
 use lab_commands::{Progress, batch, listed_names};
 use lab_history::MAX_FILE_BYTES;
 use lab_streams::{RunFault, note_text, read_input};
@@ -11,6 +12,13 @@ use std::alloc::{AllocError, Global};
 use std::io::{ErrorKind, Read, Write};
 use std::rt::Files;
 use std::thread::Threads;
+
+/// What is done with files.
+#[derive(Clone, Copy)]
+pub enum Task {
+    Batch,
+    Chain,
+}
 
 /// The bytes of a list of names; `-` is the input.
 fn read_list<T: Files, R: Read>(
@@ -58,33 +66,77 @@ fn given_names<'a>(alloc: Global, matches: &'a ArgMatches<'_>) -> Result<Vec<&'a
     Ok(names)
 }
 
-/// Runs `batch`, and answers the exit status. A list of names that is too long, or isn't UTF-8, is refused.
-pub fn run_batch<T: Files + Threads + Sync, R: Read, W: Write, N: Write>(
+/// What is asked of `chain`.
+fn asked(matches: &ArgMatches<'_>) -> Asked {
+    let wanted = wanted(matches);
+    Asked {
+        format: wanted.format,
+        requirement: wanted.requirement,
+        reports: matches.get_flag("reports"),
+    }
+}
+
+/// Runs `batch`, `chain` or `chain --join` over the files of these names, and answers the exit status.
+fn run_named<T: Files + Threads + Sync, R: Read, W: Write, N: Write>(
     rt: &T,
     alloc: Global,
     streams: Streams<'_, R, W, N>,
     matches: &ArgMatches<'_>,
+    task: Task,
+    names: &[&str],
 ) -> Result<u8, RunFault> {
     let Streams {
-        reader,
         writer,
         notes,
         progress,
         is_watched,
+        ..
     } = streams;
     let mut progress = Progress {
         to: progress,
         is_shown: is_watched || matches.get_flag("progress"),
     };
-    let wanted = wanted(matches);
+    match task {
+        Task::Batch => batch(
+            rt,
+            alloc,
+            names,
+            writer,
+            notes,
+            wanted(matches),
+            &mut progress,
+        ),
+        Task::Chain if matches.get_flag("join") => {
+            join(rt, alloc, names, writer, notes, asked(matches))
+        }
+        Task::Chain => chain(
+            rt,
+            alloc,
+            names,
+            writer,
+            notes,
+            asked(matches),
+            &mut progress,
+        ),
+    }
+}
+
+/// Runs a subcommand over files, and answers the exit status. A list of names that is too long, or isn't UTF-8, is refused.
+pub fn run_files<T: Files + Threads + Sync, R: Read, W: Write, N: Write>(
+    rt: &T,
+    alloc: Global,
+    streams: Streams<'_, R, W, N>,
+    matches: &ArgMatches<'_>,
+    task: Task,
+) -> Result<u8, RunFault> {
     let Some(list) = matches.get_str("files-from") else {
         let names = given_names(alloc, matches)?;
-        return batch(rt, alloc, &names, writer, notes, wanted, &mut progress);
+        return run_named(rt, alloc, streams, matches, task, &names);
     };
-    let bytes = read_list(rt, alloc, reader, list)?;
-    let Some(text) = text_of(&bytes, notes) else {
+    let bytes = read_list(rt, alloc, streams.reader, list)?;
+    let Some(text) = text_of(&bytes, streams.notes) else {
         return Ok(ARGUMENTS_REFUSED);
     };
     let names = listed_names(alloc, text, matches.get_flag("null"))?;
-    batch(rt, alloc, &names, writer, notes, wanted, &mut progress)
+    run_named(rt, alloc, streams, matches, task, &names)
 }

@@ -1,0 +1,10 @@
+pub mod Heavier
+pub mod Levels
+pub mod Lines
+pub mod Difference
+pub mod Summary
+pub mod Parts
+pub mod ChainText
+pub mod ChainTree
+pub mod Chain
+pub mod ChainLaws

@@ -1,0 +1,213 @@
+//! What is said of one part of a run.
+
+ghost use Rattle.std.specs.Prelude.{◌≡◌, drop, IfOk};
+ghost use Rattle.lab_judge.specs.ReportText.{fault_text, walk_text, circle_text, place_text};
+ghost use Rattle.lab_chain.specs.Parts as spec;
+
+use crate::level::Level;
+use crate::line::{Line, Text};
+use crate::summary::{Ends, Lines, Summary};
+use lab_deps::{Edge, LocalFault};
+use lab_history::FileFault;
+use lab_judge::{Finding, Places, Point, Report, Serial, put_circle, put_fault, put_walk};
+use lab_table::{NoMemory, RowName, Table, TxnNo};
+use std::alloc::Global;
+
+/// What became of a part.
+#[derive(Drop)]
+pub enum Outcome {
+    /// It was judged; it begins and ends with these rows.
+    Judged {
+        report: Report,
+        initial: Table,
+        last: Table,
+    },
+    /// It was refused.
+    Refused(FileFault),
+    /// It can't be opened or read.
+    Unreadable,
+}
+
+/// A text without its first bytes. NoMemory where an allocation was refused.
+#[tactic(auto, using(crate::proofs::Behind::behind_front))]
+fn behind(alloc: Global, text: &[u8], count: usize) -> Result<Text, NoMemory>
+    ensures { IfOk result (λ made. made ≡ drop count text.now) }
+{
+    let start = text.len().min(count);
+    Ok(Text::new(Vec::from_slice(alloc, &text[start..])?))
+}
+
+fn text_of(alloc: Global, text: &str) -> Result<Text, NoMemory>
+    ensures { IfOk result (λ made. made ≡ text.now) }
+{
+    Ok(Text::new(Vec::from_slice(alloc, text.as_bytes())?))
+}
+
+fn found(alloc: Global, part: &str, reason: Text) -> Result<Line, NoMemory>
+    ensures { IfOk result (λ line. line ≡ Line.Found part.now reason) }
+{
+    Ok(Line::Found {
+        part: text_of(alloc, part)?,
+        reason,
+    })
+}
+
+fn unjudged(alloc: Global, part: &str) -> Result<Line, NoMemory>
+    ensures { IfOk result (λ line. line ≡ Line.Unjudged part.now) }
+{
+    Ok(Line::Unjudged {
+        part: text_of(alloc, part)?,
+    })
+}
+
+fn fault_reason(alloc: Global, fault: LocalFault) -> Result<Text, NoMemory>
+    ensures { IfOk result (λ text. text ≡ fault_text fault) }
+{
+    let mut text = Vec::new(alloc);
+    put_fault(&mut text, fault)?;
+    Ok(Text::new(text))
+}
+
+fn walk_reason(alloc: Global, walk: &[Edge]) -> Result<Text, NoMemory>
+    ensures { IfOk result (λ text. text ≡ drop 1 (walk_text walk.now)) }
+{
+    let mut text = Vec::new(alloc);
+    put_walk(&mut text, walk)?;
+    behind(alloc, &text, 1)
+}
+
+fn circle_reason(alloc: Global, circle: &[Point]) -> Result<Text, NoMemory>
+    ensures { IfOk result (λ text. text ≡ drop 1 (circle_text circle.now)) }
+{
+    let mut text = Vec::new(alloc);
+    put_circle(&mut text, circle)?;
+    behind(alloc, &text, 1)
+}
+
+/// The place of a read, which stands behind the name of a fault there.
+fn place_reason(alloc: Global, txn: TxnNo, op: u32, row: RowName) -> Result<Text, NoMemory>
+    ensures { IfOk result (λ text. text ≡ drop 1 (place_text txn op row)) }
+{
+    let mut text = Vec::new(alloc);
+    put_fault(&mut text, LocalFault::AbortedRead { txn, op, row })?;
+    behind(alloc, &text, "F2 AbortedRead ".len())
+}
+
+fn serial_line(alloc: Global, part: &str, serial: &Serial) -> Result<Line, NoMemory>
+    ensures { IfOk result (λ line. line ≡ spec.serial_line part.now serial.now) }
+{
+    match serial {
+        Serial::Yes(_) => Ok(Line::Clear),
+        Serial::NoFault(fault) => found(alloc, part, fault_reason(alloc, *fault)?),
+        Serial::NoCycle(walk) => found(alloc, part, walk_reason(alloc, walk.as_slice())?),
+    }
+}
+
+fn snapshot_line(alloc: Global, part: &str, snapshot: &Places) -> Result<Line, NoMemory>
+    ensures { IfOk result (λ line. line ≡ spec.snapshot_line part.now snapshot.now) }
+{
+    match snapshot {
+        Places::Yes(_) => Ok(Line::Clear),
+        Places::NoFault(fault) => found(alloc, part, fault_reason(alloc, *fault)?),
+        Places::NoCycle(circle) => found(alloc, part, circle_reason(alloc, circle.as_slice())?),
+    }
+}
+
+fn finding_line(alloc: Global, part: &str, finding: &Finding) -> Result<Line, NoMemory>
+    ensures { IfOk result (λ line. line ≡ spec.finding_line part.now finding.now) }
+{
+    match finding {
+        Finding::Absent => Ok(Line::Clear),
+        Finding::NotJudged => unjudged(alloc, part),
+        Finding::Walk(walk) => found(alloc, part, walk_reason(alloc, walk.as_slice())?),
+        Finding::At { txn, op, row } => {
+            found(alloc, part, place_reason(alloc, *txn, *op, *row)?)
+        }
+    }
+}
+
+fn report_lines(alloc: Global, part: &str, report: &Report) -> Result<Lines, NoMemory>
+    ensures { IfOk result (λ lines. lines ≡ spec.report_lines part.now report.now) }
+{
+    Ok(Lines {
+        serial: serial_line(alloc, part, &report.serial)?,
+        snapshot: snapshot_line(alloc, part, &report.snapshot)?,
+        g0: finding_line(alloc, part, report.g0())?,
+        g1a: finding_line(alloc, part, report.g1a())?,
+        g1b: finding_line(alloc, part, report.g1b())?,
+        g1c: finding_line(alloc, part, report.g1c())?,
+        g_single: finding_line(alloc, part, report.g_single())?,
+        g2_item: finding_line(alloc, part, report.g2_item())?,
+        g2: finding_line(alloc, part, report.g2())?,
+    })
+}
+
+fn unjudged_lines(alloc: Global, part: &str) -> Result<Lines, NoMemory>
+    ensures { IfOk result (λ lines. lines ≡ spec.unjudged_lines part.now) }
+{
+    Ok(Lines {
+        serial: unjudged(alloc, part)?,
+        snapshot: unjudged(alloc, part)?,
+        g0: unjudged(alloc, part)?,
+        g1a: unjudged(alloc, part)?,
+        g1b: unjudged(alloc, part)?,
+        g1c: unjudged(alloc, part)?,
+        g_single: unjudged(alloc, part)?,
+        g2_item: unjudged(alloc, part)?,
+        g2: unjudged(alloc, part)?,
+    })
+}
+
+/// What is said of a run that has one part alone, of which there is no report. NoMemory where an allocation was refused.
+fn unjudged_summary(alloc: Global, part: &str) -> Result<Summary, NoMemory>
+    ensures { IfOk result (λ summary. summary ≡ spec.unjudged_summary part.now) }
+{
+    Ok(Summary {
+        parts: 1,
+        lines: unjudged_lines(alloc, part)?,
+        level: Level::NotJudged,
+        ends: Some(Ends {
+            first: text_of(alloc, part)?,
+            initial: None,
+            last: None,
+        }),
+    })
+}
+
+/// What is said of a run that was judged and has one part alone. NoMemory where an allocation was refused.
+fn judged_summary(
+    alloc: Global,
+    part: &str,
+    report: &Report,
+    initial: Table,
+    last: Table,
+) -> Result<Summary, NoMemory>
+    ensures { IfOk result (λ summary. summary ≡ spec.judged_summary part.now report.now initial last) }
+{
+    let lines = report_lines(alloc, part, report)?;
+    let first = text_of(alloc, part)?;
+    Ok(Summary {
+        parts: 1,
+        lines,
+        level: Level::of(report.level),
+        ends: Some(Ends {
+            first,
+            initial: Some(initial),
+            last: Some(last),
+        }),
+    })
+}
+
+/// What is said of a run that has the part of this name alone. NoMemory where an allocation was refused.
+pub fn part_summary(alloc: Global, part: &str, outcome: Outcome) -> Result<Summary, NoMemory>
+    ensures { IfOk result (λ summary. summary ≡ spec.part_summary part.now outcome) }
+{
+    match outcome {
+        Outcome::Judged {
+            report,
+            initial,
+            last,
+        } => judged_summary(alloc, part, &report, initial, last),
+        Outcome::Refused(_) | Outcome::Unreadable => unjudged_summary(alloc, part),
+    }
+}

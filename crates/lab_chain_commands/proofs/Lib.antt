@@ -1,0 +1,3 @@
+mod PartLists
+mod ChainWindows
+mod PiecesRead

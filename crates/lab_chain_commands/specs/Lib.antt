@@ -1,0 +1,3 @@
+pub mod ChainAnswers
+pub mod JudgedParts
+pub mod JoinAnswers

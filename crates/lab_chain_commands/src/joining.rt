@@ -1,0 +1,148 @@
+//! The subcommand `chain --join`.
+
+ghost use Rattle.std.specs.Prelude.{◌≡◌, ◌≢◌, ◌⊎◌, List, ℕ, map, IfOk, IfErr, OnErr};
+ghost use Rattle.std.specs.List.{All};
+ghost use Rattle.std.specs.Io.KnownBytes.{Appends, Keeps};
+ghost use Rattle.lab_chain_commands.specs.ChainAnswers.{whole_text, whole_status};
+ghost use Rattle.lab_chain_commands.specs.JoinAnswers.{Named, IsNamed, IsJoinAnswer, with_piece, joined_pieces, refusals_text, pieces_status};
+
+use crate::asked::Asked;
+use crate::chaining::note_shortfall;
+use crate::part_text::{print_whole, whole_status};
+use crate::piece::{Piece, piece_status, put_refusal, read_piece};
+use lab_chain::Summary;
+use lab_streams::{Format, RunFault, note_text, write_text};
+use lab_table::NoMemory;
+use std::alloc::Global;
+use std::io::Write;
+use std::rt::Files;
+
+/// What the files tell of a run, which of them tell nothing, and the greatest exit status that one of them calls for.
+#[derive(Drop)]
+struct Joined {
+    summary: Summary,
+    refusals: Vec<u8>,
+    status: u8,
+    hints: Vec<u8>,
+}
+
+/// What is said of a run with another piece behind it. NoMemory where an allocation was refused.
+fn with_piece(alloc: Global, summary: Summary, piece: Piece) -> Result<Summary, NoMemory>
+    ensures { IfOk result (λ next. next ≡ with_piece summary piece) }
+{
+    match piece {
+        Piece::Said(next) => summary.joined(alloc, next),
+        Piece::NoAnswer | Piece::Unreadable => Ok(summary),
+    }
+}
+
+/// Reads the files, and joins what they tell. NoMemory where an allocation was refused.
+fn read_pieces<T: Files>(
+    rt: &T,
+    alloc: Global,
+    names: &[&str],
+    format: Format,
+) -> Result<Joined, NoMemory>
+    ensures { IfOk result (λ made. (pieces : List Named) × (map (λ p. p.name) pieces ≡ map (λ name. name.now) names.now) × All IsNamed pieces
+        × (made.summary ≡ joined_pieces pieces) × (made.refusals.items ≡ refusals_text format pieces) × (made.status ≡ pieces_status pieces)) }
+{
+    let mut summary = Summary::nothing();
+    let mut refusals = Vec::new(alloc);
+    let mut status = 0u8;
+    let mut hints = Vec::new(alloc);
+    for name in names {
+        let piece = read_piece(rt, alloc, name, &mut hints)?;
+        put_refusal(alloc, &mut refusals, format, name, &piece)?;
+        status = status.max(piece_status(&piece));
+        summary = with_piece(alloc, summary, piece)?;
+    }
+    Ok(Joined {
+        summary,
+        refusals,
+        status,
+        hints,
+    })
+}
+
+/// Writes what is said of a run, and answers the exit status that it calls for.
+fn write_whole<W: Write, N: Write>(
+    alloc: Global,
+    summary: Summary,
+    asked: Asked,
+    writer: &mut W,
+    notes: &mut N,
+) -> Result<u8, RunFault>
+    ensures written { IfOk result (λ status. (status ≡ whole_status asked.requirement summary)
+        × Appends (W.contents writer.old) (W.contents writer.new) (whole_text asked.format summary)) }
+    ensures unread { IfErr result (λ fault. fault ≢ RunFault.Unread) }
+    ensures silent { IfErr result (λ fault. (fault ≡ RunFault.Unwritten) ⊎ Keeps (W.contents writer.old) (W.contents writer.new)) }
+    ensures hint_last { OnErr result (Keeps (N.contents notes.old) (N.contents notes.new)) }
+{
+    let Ok(text) = print_whole(alloc, asked.format, &summary) else {
+        drop(summary);
+        return Err(RunFault::NoMemory);
+    };
+    if let Err(fault) = write_text(writer, &text) {
+        drop(summary);
+        return Err(fault);
+    }
+    note_shortfall(alloc, asked, &summary, notes);
+    let status = whole_status(asked.requirement, &summary);
+    drop(summary);
+    Ok(status)
+}
+
+/// Writes which files tell nothing of a run, and answers the exit status that they call for.
+fn write_refusals<W: Write, N: Write>(
+    joined: Joined,
+    writer: &mut W,
+    notes: &mut N,
+) -> Result<u8, RunFault>
+    ensures written { IfOk result (λ status. (status ≡ joined.status) × Appends (W.contents writer.old) (W.contents writer.new) joined.refusals.items) }
+    ensures unread { IfErr result (λ fault. fault ≢ RunFault.Unread) }
+    ensures silent { IfErr result (λ fault. (fault ≡ RunFault.Unwritten) ⊎ Keeps (W.contents writer.old) (W.contents writer.new)) }
+    ensures hint_last { OnErr result (Keeps (N.contents notes.old) (N.contents notes.new)) }
+{
+    let Joined {
+        summary,
+        refusals,
+        status,
+        hints,
+    } = joined;
+    drop(summary);
+    write_text(writer, &refusals)?;
+    note_text(&hints, notes);
+    Ok(status)
+}
+
+/// Reads what [`chain`](crate::chain) said in JSON of consecutive pieces of a run, in their order, and writes what it says
+/// of the whole run. Where a file has no such line at its end, or can't be opened or read, that is written in its place,
+/// and nothing of the run. Answers the exit status: 1 where the run doesn't meet what is required of it, 2 where a file
+/// has no such line, 3 where one can't be opened or read.
+///
+/// `NoMemory` where an allocation was refused, and then nothing is written; `Unwritten` where a write fails. Behind the
+/// answer `notes` is given why a file can't be opened or read, or why the run doesn't meet what is required; what fails
+/// there is let go.
+pub fn join<T: Files, W: Write, N: Write>(
+    rt: &T,
+    alloc: Global,
+    names: &[&str],
+    writer: &mut W,
+    notes: &mut N,
+    asked: Asked,
+) -> Result<u8, RunFault>
+    ensures written { IfOk result (λ status. (text : List ℕ) × Appends (W.contents writer.old) (W.contents writer.new) text
+        × IsJoinAnswer asked (map (λ name. name.now) names.now) text status) }
+    ensures unread { IfErr result (λ fault. fault ≢ RunFault.Unread) }
+    ensures silent { IfErr result (λ fault. (fault ≡ RunFault.Unwritten) ⊎ Keeps (W.contents writer.old) (W.contents writer.new)) }
+    ensures hint_last { OnErr result (Keeps (N.contents notes.old) (N.contents notes.new)) }
+{
+    let Ok(joined) = read_pieces(rt, alloc, names, asked.format) else {
+        return Err(RunFault::NoMemory);
+    };
+    if joined.refusals.is_empty() {
+        write_whole(alloc, joined.summary, asked, writer, notes)
+    } else {
+        write_refusals(joined, writer, notes)
+    }
+}

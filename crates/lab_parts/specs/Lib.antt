@@ -1,0 +1,4 @@
+pub mod Whole
+pub mod WholeRuns
+pub mod WholeEdges
+pub mod WholeFindings
