@@ -32,6 +32,13 @@ def report(serial, snapshot, found, level):
     return "\n".join([*lines, f"level: {level}", ""]).encode()
 
 
+def after_each_other(count):
+    """The report on transactions that run one after another."""
+    order = "".join(f" T{no}" for no in range(1, count + 1))
+    places = "".join(f" T{no} {2 * no - 2}-{2 * no - 1}" for no in range(1, count + 1))
+    return report(f"yes{order}", f"yes{places}", {}, "PL-3")
+
+
 def before(no, count):
     """The transaction from which a ring leads to this one."""
     return no - 1 if no > 1 else count

@@ -5,7 +5,7 @@ ghost use Rattle.lab_judge.specs.ReportText.{fault_text, walk_text, circle_text,
 ghost use Rattle.lab_chain.specs.Parts as spec;
 
 use crate::level::Level;
-use crate::line::{Line, Text};
+use crate::line::{Line, Text, text_of};
 use crate::summary::{Ends, Lines, Summary};
 use lab_deps::{Edge, LocalFault};
 use lab_history::FileFault;
@@ -34,30 +34,7 @@ fn behind(alloc: Global, text: &[u8], count: usize) -> Result<Text, NoMemory>
     ensures { IfOk result (λ made. made ≡ drop count text.now) }
 {
     let start = text.len().min(count);
-    Ok(Text::new(Vec::from_slice(alloc, &text[start..])?))
-}
-
-fn text_of(alloc: Global, text: &str) -> Result<Text, NoMemory>
-    ensures { IfOk result (λ made. made ≡ text.now) }
-{
-    Ok(Text::new(Vec::from_slice(alloc, text.as_bytes())?))
-}
-
-fn found(alloc: Global, part: &str, reason: Text) -> Result<Line, NoMemory>
-    ensures { IfOk result (λ line. line ≡ Line.Found part.now reason) }
-{
-    Ok(Line::Found {
-        part: text_of(alloc, part)?,
-        reason,
-    })
-}
-
-fn unjudged(alloc: Global, part: &str) -> Result<Line, NoMemory>
-    ensures { IfOk result (λ line. line ≡ Line.Unjudged part.now) }
-{
-    Ok(Line::Unjudged {
-        part: text_of(alloc, part)?,
-    })
+    text_of(alloc, &text[start..])
 }
 
 fn fault_reason(alloc: Global, fault: LocalFault) -> Result<Text, NoMemory>
@@ -93,40 +70,44 @@ fn place_reason(alloc: Global, txn: TxnNo, op: u32, row: RowName) -> Result<Text
     behind(alloc, &text, "F2 AbortedRead ".len())
 }
 
-fn serial_line(alloc: Global, part: &str, serial: &Serial) -> Result<Line, NoMemory>
+fn serial_line(alloc: Global, part: &[u8], serial: &Serial) -> Result<Line, NoMemory>
     ensures { IfOk result (λ line. line ≡ spec.serial_line part.now serial.now) }
 {
     match serial {
         Serial::Yes(_) => Ok(Line::Clear),
-        Serial::NoFault(fault) => found(alloc, part, fault_reason(alloc, *fault)?),
-        Serial::NoCycle(walk) => found(alloc, part, walk_reason(alloc, walk.as_slice())?),
+        Serial::NoFault(fault) => Line::found_in(alloc, part, fault_reason(alloc, *fault)?),
+        Serial::NoCycle(walk) => Line::found_in(alloc, part, walk_reason(alloc, walk.as_slice())?),
     }
 }
 
-fn snapshot_line(alloc: Global, part: &str, snapshot: &Places) -> Result<Line, NoMemory>
+fn snapshot_line(alloc: Global, part: &[u8], snapshot: &Places) -> Result<Line, NoMemory>
     ensures { IfOk result (λ line. line ≡ spec.snapshot_line part.now snapshot.now) }
 {
     match snapshot {
         Places::Yes(_) => Ok(Line::Clear),
-        Places::NoFault(fault) => found(alloc, part, fault_reason(alloc, *fault)?),
-        Places::NoCycle(circle) => found(alloc, part, circle_reason(alloc, circle.as_slice())?),
+        Places::NoFault(fault) => Line::found_in(alloc, part, fault_reason(alloc, *fault)?),
+        Places::NoCycle(circle) => Line::found_in(
+            alloc,
+            part,
+            circle_reason(alloc, circle.as_slice())?,
+        ),
     }
 }
 
-fn finding_line(alloc: Global, part: &str, finding: &Finding) -> Result<Line, NoMemory>
+fn finding_line(alloc: Global, part: &[u8], finding: &Finding) -> Result<Line, NoMemory>
     ensures { IfOk result (λ line. line ≡ spec.finding_line part.now finding.now) }
 {
     match finding {
         Finding::Absent => Ok(Line::Clear),
-        Finding::NotJudged => unjudged(alloc, part),
-        Finding::Walk(walk) => found(alloc, part, walk_reason(alloc, walk.as_slice())?),
+        Finding::NotJudged => Line::unjudged_from(alloc, part),
+        Finding::Walk(walk) => Line::found_in(alloc, part, walk_reason(alloc, walk.as_slice())?),
         Finding::At { txn, op, row } => {
-            found(alloc, part, place_reason(alloc, *txn, *op, *row)?)
+            Line::found_in(alloc, part, place_reason(alloc, *txn, *op, *row)?)
         }
     }
 }
 
-fn report_lines(alloc: Global, part: &str, report: &Report) -> Result<Lines, NoMemory>
+fn report_lines(alloc: Global, part: &[u8], report: &Report) -> Result<Lines, NoMemory>
     ensures { IfOk result (λ lines. lines ≡ spec.report_lines part.now report.now) }
 {
     Ok(Lines {
@@ -142,24 +123,15 @@ fn report_lines(alloc: Global, part: &str, report: &Report) -> Result<Lines, NoM
     })
 }
 
-fn unjudged_lines(alloc: Global, part: &str) -> Result<Lines, NoMemory>
+fn unjudged_lines(alloc: Global, part: &[u8]) -> Result<Lines, NoMemory>
     ensures { IfOk result (λ lines. lines ≡ spec.unjudged_lines part.now) }
 {
-    Ok(Lines {
-        serial: unjudged(alloc, part)?,
-        snapshot: unjudged(alloc, part)?,
-        g0: unjudged(alloc, part)?,
-        g1a: unjudged(alloc, part)?,
-        g1b: unjudged(alloc, part)?,
-        g1c: unjudged(alloc, part)?,
-        g_single: unjudged(alloc, part)?,
-        g2_item: unjudged(alloc, part)?,
-        g2: unjudged(alloc, part)?,
-    })
+    let line = Line::unjudged_from(alloc, part)?;
+    Lines::of(alloc, &line, &line)
 }
 
 /// What is said of a run that has one part alone, of which there is no report. NoMemory where an allocation was refused.
-fn unjudged_summary(alloc: Global, part: &str) -> Result<Summary, NoMemory>
+fn unjudged_summary(alloc: Global, part: &[u8]) -> Result<Summary, NoMemory>
     ensures { IfOk result (λ summary. summary ≡ spec.unjudged_summary part.now) }
 {
     Ok(Summary {
@@ -177,7 +149,7 @@ fn unjudged_summary(alloc: Global, part: &str) -> Result<Summary, NoMemory>
 /// What is said of a run that was judged and has one part alone. NoMemory where an allocation was refused.
 fn judged_summary(
     alloc: Global,
-    part: &str,
+    part: &[u8],
     report: &Report,
     initial: Table,
     last: Table,
@@ -202,6 +174,7 @@ fn judged_summary(
 pub fn part_summary(alloc: Global, part: &str, outcome: Outcome) -> Result<Summary, NoMemory>
     ensures { IfOk result (λ summary. summary ≡ spec.part_summary part.now outcome) }
 {
+    let part = part.as_bytes();
     match outcome {
         Outcome::Judged {
             report,

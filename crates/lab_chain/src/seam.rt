@@ -76,25 +76,6 @@ fn seam_reason(alloc: Global, row: RowName) -> Result<Text, NoMemory>
     Ok(Text::new(reason))
 }
 
-/// A phenomenon that wasn't judged, from this part on. NoMemory where an allocation was refused.
-fn unjudged(alloc: Global, part: &Text) -> Result<Line, NoMemory>
-    ensures { IfOk result (λ line. line ≡ Line.Unjudged part.now) }
-{
-    Ok(Line::Unjudged {
-        part: part.copy(alloc)?,
-    })
-}
-
-/// A verdict that is no because of a seam. NoMemory where an allocation was refused.
-fn parting(alloc: Global, part: &Text, row: RowName) -> Result<Line, NoMemory>
-    ensures { IfOk result (λ line. line ≡ Line.Found part.now (spec.seam_reason row)) }
-{
-    Ok(Line::Found {
-        part: part.copy(alloc)?,
-        reason: seam_reason(alloc, row)?,
-    })
-}
-
 /// What the seam in front of a part says. NoMemory where an allocation was refused.
 fn seam_at(alloc: Global, part: &Text, row: Option<RowName>) -> Result<Seam, NoMemory>
     ensures { IfOk result (λ seam. seam ≡ spec.seam_at part.now row) }
@@ -105,18 +86,11 @@ fn seam_at(alloc: Global, part: &Text, row: Option<RowName>) -> Result<Seam, NoM
             level: Level::Pl3,
         });
     };
+    let name = part.as_slice();
+    let verdict = Line::found_in(alloc, name, seam_reason(alloc, row)?)?;
+    let found = Line::unjudged_from(alloc, name)?;
     Ok(Seam {
-        lines: Lines {
-            serial: parting(alloc, part, row)?,
-            snapshot: parting(alloc, part, row)?,
-            g0: unjudged(alloc, part)?,
-            g1a: unjudged(alloc, part)?,
-            g1b: unjudged(alloc, part)?,
-            g1c: unjudged(alloc, part)?,
-            g_single: unjudged(alloc, part)?,
-            g2_item: unjudged(alloc, part)?,
-            g2: unjudged(alloc, part)?,
-        },
+        lines: Lines::of(alloc, &verdict, &found)?,
         level: Level::Unsound,
     })
 }

@@ -63,6 +63,23 @@ impl Lines {
         }
     }
 
+    /// Lines that say the same of both verdicts, and the same of each phenomenon. NoMemory where an allocation was refused.
+    pub(crate) fn of(alloc: Global, verdict: &Line, found: &Line) -> Result<Lines, NoMemory>
+        ensures { IfOk result (λ lines. lines ≡ spec.lines_of verdict.now found.now) }
+    {
+        Ok(Lines {
+            serial: verdict.copy(alloc)?,
+            snapshot: verdict.copy(alloc)?,
+            g0: found.copy(alloc)?,
+            g1a: found.copy(alloc)?,
+            g1b: found.copy(alloc)?,
+            g1c: found.copy(alloc)?,
+            g_single: found.copy(alloc)?,
+            g2_item: found.copy(alloc)?,
+            g2: found.copy(alloc)?,
+        })
+    }
+
     /// The lines of two pieces of a run, one behind the other.
     pub fn joined(self, next: Lines) -> Lines
         ensures { result ≡ spec.lines_joined self next }

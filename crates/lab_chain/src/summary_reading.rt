@@ -4,7 +4,7 @@ ghost use Rattle.std.specs.Prelude.{◌≡◌, IsTrue, IfOk, IfSome};
 ghost use Rattle.lab_chain.specs.ChainTree.{IsLines, IsLastLine, IsAnswerOf};
 
 use crate::level::Level;
-use crate::line::{Line, Text};
+use crate::line::{Line, Text, text_of};
 use crate::summary::{Ends, Lines, Summary};
 use crate::summary_json::print_summary_json;
 use lab_table::{NoMemory, RowId, RowName, Table, TableName, Value};
@@ -20,7 +20,7 @@ fn is_text(json: Option<&Json>, text: &str) -> bool {
 
 fn text_in(alloc: Global, json: Option<&Json>) -> Result<Text, NoMemory> {
     match json.and_then(Json::as_str) {
-        Some(text) => Ok(Text::new(Vec::from_slice(alloc, text.as_bytes())?)),
+        Some(text) => text_of(alloc, text.as_bytes()),
         None => Ok(Text::new(Vec::new(alloc))),
     }
 }

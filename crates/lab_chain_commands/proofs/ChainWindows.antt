@@ -14,7 +14,7 @@ use Rattle.lab_chain.proofs.PartSummaries.{run_of_pieces}
 use Rattle.lab_chain_commands.specs.ChainAnswers.{AreParts, IsTold, IsBegun, IsChainAnswer, outcome_text, outcome_status, parts_text, parts_status, whole_text, whole_status}
 use Rattle.lab_chain_commands.specs.JudgedParts.{IsWindow}
 use Rattle.lab_chain_commands.specs.declared.asked.Asked.{Asked}
-use Rattle.lab_chain_commands.specs.declared.chaining.Window.{Window}
+use Rattle.lab_chain_commands.specs.declared.window.Window.{Window}
 
 -- ---- two lists of parts
 
@@ -71,6 +71,14 @@ module _ (asked : Asked) where
           subst (Appends old new) (sym (flat_map-append (λ (p : Part). outcome_text asked p.name p.outcome) a.parts b.parts))
           (Appends-trans old mid new (parts_text asked a.parts) (parts_text asked b.parts) a.written (subst (Appends mid new) b.text_is written));
     }
+
+  module _ {X : Type 0} (name : X → List ℕ) (names : List X) (done end : ℕ) (old mid new : Option (List ℕ)) (s next : Summary) (status total : ℕ) (window : Window) where
+    -- what was told of the first parts, and then of those of a window, is told of both
+    pub told_further : done ≤ end → IsTold asked (map name (take done names)) old mid s status → IsWindow asked (map name (take (end - done) (drop done names))) window
+        → Appends mid new window.text.items → next ≡ joined s window.summary → total ≡ max status window.status → IsTold asked (map name (take end names)) old new next total
+    told_further few told is written same_summary same_status =
+        let more = told_more (map name (take done names)) (map name (take (end - done) (drop done names))) old mid new s status window told is written in
+        rw same_summary (rw same_status (rw (front_and_window name names done end few) at more))
 
   module _ {X : Type 0} (name : X → List ℕ) (names : List X) (done : ℕ) (old mid new : Option (List ℕ)) (s : Summary) (status : ℕ) where
     -- what was told of the first parts is what there is to say of these

@@ -10,7 +10,7 @@ use Rattle.lab_chain.specs.declared.summary.Summary.{Summary}
 use Rattle.lab_chain_commands.specs.ChainAnswers.{AreParts, outcome_text, outcome_status, parts_text}
 use Rattle.lab_chain_commands.specs.JudgedParts.{part_of, IsWindow}
 use Rattle.lab_chain_commands.specs.declared.asked.Asked.{Asked}
-use Rattle.lab_chain_commands.specs.declared.chaining.Window.{Window}
+use Rattle.lab_chain_commands.specs.declared.window.Window.{Window}
 use Rattle.lab_chain_commands.specs.declared.judged_part.Input.{Input}
 use Rattle.lab_chain_commands.specs.declared.judged_part.JudgedPart.{JudgedPart}
 

@@ -3,7 +3,7 @@ use Rattle.std.specs.Prelude.{◌≡◌, ℕ, List}
 use Rattle.lab_chain.specs.Chain.{Part, summary_of}
 use Rattle.lab_chain_commands.specs.ChainAnswers.{AreParts, parts_text, parts_status}
 use Rattle.lab_chain_commands.specs.declared.asked.Asked.{Asked}
-use Rattle.lab_chain_commands.specs.declared.chaining.Window.{Window}
+use Rattle.lab_chain_commands.specs.declared.window.Window.{Window}
 use Rattle.lab_chain_commands.specs.declared.judged_part.JudgedPart.{JudgedPart}
 
 -- a part's name, and what became of it

@@ -1,104 +1,24 @@
 //! The subcommand `chain`.
 
-ghost use Rattle.std.specs.Prelude.{◌≡◌, ◌≢◌, ◌⊎◌, ◌++◌, List, ℕ, map, fold, max, IfOk, IfErr, OnOk};
-ghost use Rattle.std.specs.List.{flat_map};
+ghost use Rattle.std.specs.Prelude.{◌≡◌, ◌≢◌, ◌⊎◌, List, ℕ, map, max, IfOk, IfErr, OnOk};
 ghost use Rattle.std.specs.Io.KnownBytes.{Appends, Keeps};
-ghost use Rattle.lab_chain.specs.Chain.{with_part};
-ghost use Rattle.lab_chain.specs.Summary.{joined, nothing};
-ghost use Rattle.lab_chain_commands.specs.ChainAnswers.{IsChainAnswer, IsBegun, IsTold, outcome_text, outcome_status};
-ghost use Rattle.lab_chain_commands.specs.JudgedParts.{part_of, IsWindow};
+ghost use Rattle.lab_chain.specs.Summary.{joined};
+ghost use Rattle.lab_chain_commands.specs.ChainAnswers.{IsChainAnswer, IsBegun, IsTold};
 
 use crate::asked::Asked;
-use crate::judged_part::{JudgedPart, judge_parts, read_parts};
-use crate::part_text::{outcome_status, print_whole, put_outcome, whole_status};
-use lab_chain::{Summary, part_summary, put_chain_shortfall};
+use crate::judged_part::read_parts;
+use crate::part_text::{print_whole, whole_status};
+use crate::window::{Window, judge_and_read};
+use lab_chain::{Summary, put_chain_shortfall};
 use lab_commands::Progress;
 use lab_streams::{RunFault, note_text, write_text};
-use lab_table::NoMemory;
 use std::alloc::Global;
 use std::io::Write;
 use std::rt::Files;
 use std::thread::Threads;
 
-/// How many parts are held at a time.
+/// How many parts are judged at a time, while as many are read.
 const WINDOW: usize = 16;
-
-/// What is said of some consecutive parts, what there is to write of each, the hints on them, and the greatest exit status
-/// that one of them calls for.
-#[derive(Drop)]
-struct Window {
-    summary: Summary,
-    status: u8,
-    text: Vec<u8>,
-    hints: Vec<u8>,
-}
-
-/// Adds a part to a window. NoMemory where an allocation was refused.
-fn with_part(
-    alloc: Global,
-    window: Window,
-    asked: Asked,
-    part: JudgedPart<'_>,
-) -> Result<Window, NoMemory>
-    ensures summary { IfOk result (λ next. next.summary ≡ with_part window.summary (part_of part.entry)) }
-    ensures status { IfOk result (λ next. next.status ≡ max window.status (outcome_status part.entry.outcome)) }
-    ensures text { IfOk result (λ next. next.text.items ≡ window.text.items ++ outcome_text asked part.entry.name.now part.entry.outcome) }
-{
-    let Window {
-        summary,
-        status,
-        mut text,
-        mut hints,
-    } = window;
-    let JudgedPart {
-        name,
-        outcome,
-        hint,
-    } = part;
-    put_outcome(alloc, &mut text, asked, name, &outcome)?;
-    hints.extend_from_slice(&hint)?;
-    let status = status.max(outcome_status(&outcome));
-    let next = part_summary(alloc, name, outcome)?;
-    let summary = summary.joined(alloc, next)?;
-    Ok(Window {
-        summary,
-        status,
-        text,
-        hints,
-    })
-}
-
-/// What is said of some parts. NoMemory where an allocation was refused.
-fn tell_parts(alloc: Global, asked: Asked, parts: Vec<JudgedPart<'_>>) -> Result<Window, NoMemory>
-    ensures { IfOk result (λ window. (window.summary ≡ fold (λ s p. with_part s (part_of p)) nothing parts.entry.items)
-        × (window.status ≡ fold (λ s p. max s (outcome_status p.outcome)) 0 parts.entry.items)
-        × (window.text.items ≡ flat_map (λ p. outcome_text asked p.name.now p.outcome) parts.entry.items)) }
-{
-    let mut window = Window {
-        summary: Summary::nothing(),
-        status: 0,
-        text: Vec::new(alloc),
-        hints: Vec::new(alloc),
-    };
-    for part in parts {
-        window = with_part(alloc, window, asked, part)?;
-    }
-    Ok(window)
-}
-
-/// Reads and judges some parts. NoMemory where an allocation was refused.
-fn judge_window<T: Files + Threads + Sync>(
-    rt: &T,
-    alloc: Global,
-    asked: Asked,
-    names: &[&str],
-) -> Result<Window, NoMemory>
-    ensures { IfOk result (IsWindow asked (map (λ name. name.now) names.now)) }
-{
-    let inputs = read_parts(rt, alloc, names)?;
-    let parts = judge_parts(rt, alloc, &inputs)?;
-    tell_parts(alloc, asked, parts)
-}
 
 /// What is said of a run so far, and the greatest exit status that one of its parts calls for.
 #[derive(Drop)]
@@ -131,7 +51,8 @@ fn write_window<W: Write, N: Write>(
     Ok(SoFar { summary, status })
 }
 
-/// Reads and judges the parts, and writes what there is to say of each.
+/// Reads and judges the parts, and writes what there is to say of each. While those of a window are judged, those of the
+/// next one are read.
 fn chain_windows<T: Files + Threads + Sync, W: Write, N: Write, P: Write>(
     rt: &T,
     alloc: Global,
@@ -150,9 +71,15 @@ fn chain_windows<T: Files + Threads + Sync, W: Write, N: Write, P: Write>(
         status: 0,
     };
     let mut done = 0;
+    let mut end = names.len().min(WINDOW);
+    let Ok(mut inputs) = read_parts(rt, alloc, &names[..end]) else {
+        drop(so_far);
+        return Err(RunFault::NoMemory);
+    };
     while done < names.len() {
-        let end = names.len().min(done + WINDOW);
-        let Ok(window) = judge_window(rt, alloc, asked, &names[done..end]) else {
+        let next = names.len().min(end + WINDOW);
+        let (window, read) = judge_and_read(rt, alloc, asked, &inputs, &names[end..next]);
+        let Ok(window) = window else {
             drop(so_far);
             return Err(RunFault::NoMemory);
         };
@@ -160,7 +87,13 @@ fn chain_windows<T: Files + Threads + Sync, W: Write, N: Write, P: Write>(
             Ok(next) => next,
             Err(fault) => return Err(fault),
         };
+        let Ok(read) = read else {
+            drop(so_far);
+            return Err(RunFault::NoMemory);
+        };
+        inputs = read;
         done = end;
+        end = next;
         progress.show(done, names.len());
     }
     Ok(so_far)
@@ -185,7 +118,7 @@ pub fn note_shortfall<N: Write>(alloc: Global, asked: Asked, summary: &Summary, 
 /// greatest exit status met: 1 where the run doesn't meet what is required of it, 2 where a part is refused, 3 where one
 /// can't be opened or read.
 ///
-/// At most 16 parts are held at a time. `NoMemory` where an
+/// Parts are read while others are judged, and at most 32 are held at a time. `NoMemory` where an
 /// allocation was refused, and then what there is to say of the first parts may be written; `Unwritten` where a write fails.
 /// `notes` is given a hint on each part that is refused, why one can't be opened or read, and why the run doesn't meet what
 /// is required; what fails there is let go.

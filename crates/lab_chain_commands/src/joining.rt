@@ -121,8 +121,8 @@ fn write_refusals<W: Write, N: Write>(
 /// has no such line, 3 where one can't be opened or read.
 ///
 /// `NoMemory` where an allocation was refused, and then nothing is written; `Unwritten` where a write fails. Behind the
-/// answer `notes` is given why a file can't be opened or read, or why the run doesn't meet what is required; what fails
-/// there is let go.
+/// answer `notes` is given why a file can't be opened or read, what a file has in place of an answer, or why the run doesn't
+/// meet what is required; what fails there is let go.
 pub fn join<T: Files, W: Write, N: Write>(
     rt: &T,
     alloc: Global,

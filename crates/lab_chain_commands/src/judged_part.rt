@@ -85,7 +85,9 @@ fn outcome_in(alloc: Global, read: &Inputs) -> Result<Outcome, NoMemory>
 }
 
 /// Judges a part. NoMemory where an allocation was refused.
-fn judge_part<'n>(alloc: Global, input: &'n Input<'n>) -> Result<JudgedPart<'n>, NoMemory>
+fn judge_part<'i, 'n>(alloc: Global, input: &'i Input<'n>) -> Result<JudgedPart<'i>, NoMemory>
+where
+    'n: 'i,
     ensures name { IfOk result (λ part. part.name.now ≡ input.now.name.now) }
     ensures judged { IfOk result (λ part. IsPart (part_of part)) }
 {
@@ -104,11 +106,13 @@ fn judge_part<'n>(alloc: Global, input: &'n Input<'n>) -> Result<JudgedPart<'n>,
 /// allocation was refused.
 ///
 /// It starts threads, as many as there are processors, and waits for them.
-pub fn judge_parts<'n, T: Threads + Sync>(
+pub fn judge_parts<'i, 'n, T: Threads + Sync>(
     rt: &T,
     alloc: Global,
-    inputs: &'n [Input<'n>],
-) -> Result<Vec<JudgedPart<'n>>, NoMemory>
+    inputs: &'i [Input<'n>],
+) -> Result<Vec<JudgedPart<'i>>, NoMemory>
+where
+    'n: 'i,
     ensures { IfOk result (λ parts. AllZip (λ input part. (part.name.now ≡ input.name.now) × IsPart (part_of part)) inputs.now parts.items) }
 {
     let all = inputs

@@ -4,12 +4,14 @@
 //! whole run. [`join`] does so of what `chain` wrote of consecutive pieces of one.
 #![tactic(auto)]
 
+mod answer_hint;
 mod asked;
 mod chaining;
 mod joining;
 mod judged_part;
 mod part_text;
 mod piece;
+mod window;
 
 pub use asked::Asked;
 pub use chaining::chain;

@@ -4,6 +4,7 @@ ghost use Rattle.std.specs.Prelude.{◌≡◌, ◌++◌, Option, List, ℕ, IfOk
 ghost use Rattle.serde_json.specs.View.{view};
 ghost use Rattle.lab_chain_commands.specs.JoinAnswers.{IsPiece, no_answer_tree, no_answer_text, refusal_text, piece_status};
 
+use crate::answer_hint::note_piece;
 use crate::part_text::{put_name, put_unreadable};
 use lab_chain::{Summary, read_summary};
 use lab_commands::{Inputs, note_files, read_files};
@@ -38,8 +39,8 @@ fn piece_in(alloc: Global, inputs: &Inputs) -> Result<Piece, NoMemory>
     }
 }
 
-/// Reads what a file tells of a piece of a run, and appends a hint why it can't be opened or read. NoMemory where an
-/// allocation was refused.
+/// Reads what a file tells of a piece of a run, and appends a hint why it can't be opened or read, or what was found in it
+/// in place of an answer. NoMemory where an allocation was refused.
 pub fn read_piece<T: Files>(
     rt: &T,
     alloc: Global,
@@ -50,7 +51,9 @@ pub fn read_piece<T: Files>(
 {
     let inputs = read_files(rt, alloc, &[name])?;
     note_files(alloc, &[name], &inputs, &[false], hints);
-    piece_in(alloc, &inputs)
+    let piece = piece_in(alloc, &inputs)?;
+    note_piece(alloc, name, &inputs, &piece, hints);
+    Ok(piece)
 }
 
 fn no_answer_json(alloc: Global, name: &str) -> Result<Json, NoMemory>

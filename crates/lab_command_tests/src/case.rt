@@ -2,6 +2,7 @@
 
 use crate::streams::{Sink, Source};
 use lab_case_commands::{case as case_script, matrix};
+use lab_chain_commands::{Asked, chain, join};
 use lab_commands::{Progress, batch, judge, run, run_free, serial};
 use lab_engine::Level;
 use lab_explain::explain;
@@ -21,23 +22,62 @@ use std::thread::Threads;
 #[derive(Clone, Copy, Debug)]
 pub enum Subcommand {
     Serial,
-    Run { level: Level, history: bool },
-    RunFree { level: Level, history: bool },
+    Run {
+        level: Level,
+        history: bool,
+    },
+    RunFree {
+        level: Level,
+        history: bool,
+    },
     Judge,
     /// `judge` with its options.
-    JudgeFor { wanted: Wanted },
-    Picture { asked: Option<Phenomenon> },
-    Explain { asked: Option<Phenomenon> },
-    Case { name: CaseName },
+    JudgeFor {
+        wanted: Wanted,
+    },
+    Picture {
+        asked: Option<Phenomenon>,
+    },
+    Explain {
+        asked: Option<Phenomenon>,
+    },
+    Case {
+        name: CaseName,
+    },
     Matrix,
-    /// Of these files, which `Files` opens; it has no reader.
-    Batch { names: &'static [&'static str] },
+    /// Of files, which `Files` opens; it has no reader.
+    OfFiles {
+        task: Task,
+        names: &'static [&'static str],
+    },
+}
+
+/// What is done with files.
+#[derive(Clone, Copy, Debug)]
+pub enum Task {
+    Batch,
+    Chain(Asked),
+    Join(Asked),
 }
 
 /// A report as lines, of which nothing is required.
 pub const PLAIN: Wanted = Wanted {
     format: Format::Lines,
     requirement: None,
+};
+
+/// What is said of a run, as lines.
+pub const LINES: Asked = Asked {
+    format: Format::Lines,
+    requirement: None,
+    reports: false,
+};
+
+/// The same as JSON.
+pub const JSON: Asked = Asked {
+    format: Format::Json,
+    requirement: None,
+    reports: false,
 };
 
 /// A subcommand, its input, what it writes, and the exit status.
@@ -47,6 +87,27 @@ pub struct Case {
     pub input: &'static [u8],
     pub text: &'static [u8],
     pub status: u8,
+}
+
+/// Does something with files, and answers the exit status of what it wrote.
+pub fn with_files<T: Files + Threads + Wait + Sync, W: Write, N: Write>(
+    rt: &T,
+    alloc: Global,
+    task: Task,
+    names: &[&str],
+    writer: &mut W,
+    notes: &mut N,
+    shown: &mut Sink,
+) -> Result<u8, RunFault> {
+    let mut progress = Progress {
+        to: shown,
+        is_shown: true,
+    };
+    match task {
+        Task::Batch => batch(rt, alloc, names, writer, notes, PLAIN, &mut progress),
+        Task::Chain(asked) => chain(rt, alloc, names, writer, notes, asked, &mut progress),
+        Task::Join(asked) => join(rt, alloc, names, writer, notes, asked),
+    }
 }
 
 /// Runs a subcommand, and answers the exit status of what it wrote.
@@ -72,13 +133,9 @@ pub fn given<T: Files + Threads + Wait + Sync, R: Read, W: Write, N: Write>(
         Subcommand::Explain { asked } => explain(alloc, reader, writer, notes, asked),
         Subcommand::Case { name } => case_script(alloc, name, writer),
         Subcommand::Matrix => matrix(alloc, writer),
-        Subcommand::Batch { names } => {
-            let mut shown = Sink::new(alloc, 1, 0);
-            let mut progress = Progress {
-                to: &mut shown,
-                is_shown: false,
-            };
-            return batch(rt, alloc, names, writer, notes, PLAIN, &mut progress);
+        Subcommand::OfFiles { task, names } => {
+            let mut shown = Sink::new(alloc, 9_000, 0);
+            return with_files(rt, alloc, task, names, writer, notes, &mut shown);
         }
     };
     match ending {
@@ -107,6 +164,7 @@ pub fn check(
             let mut reader = Source::new(case.input, step, interrupted, 0);
             reader.interrupted_between = interrupted > 0;
             let mut writer = Sink::new(alloc, most, 0);
+            writer.is_interrupted = interrupted > 0;
             let mut notes = Sink::new(alloc, 9_000, 0);
             let subcommand = case.subcommand;
             let run = given(rt, alloc, subcommand, &mut reader, &mut writer, &mut notes);

@@ -1,8 +1,10 @@
 //! Streams that fail or never end, and memory that is refused, for one case of each way that a subcommand ends.
 
-use crate::case::{Case, Subcommand, given, status_of};
-use crate::files::HeldFiles;
-use crate::judge::{ABORTED_READ, CUT, CUT_FILE};
+use crate::case::{Case, LINES, Subcommand, Task, given, status_of};
+use crate::chain::REPORTS;
+use crate::files::{Held, HeldFiles};
+use crate::judge::{ABORTED_READ, CUT, CUT_FILE, EMPTY};
+use crate::parts::ANSWER;
 use crate::run::{FREE_HISTORY, FREE_LEFT_OPEN, FREE_NO_SESSION, HISTORY, LEFT_OPEN};
 use crate::serial::{NO_SESSION, TWO_SESSIONS};
 use crate::streams::{Endless, FAULTS, Sink, Source};
@@ -10,10 +12,9 @@ use crate::words::{EXPLANATION, LISTING, MATRIX, NO_EXPLANATION, NO_PICTURE, PIC
 use lab_refusal_tests::{refuse, was_refused};
 use lab_streams::RunFault;
 use std::alloc::Global;
-use std::io::ErrorKind;
 use std::process::Abort;
 use std::sync::Wait;
-use std::sync::atomic::AtomicBool;
+use std::sync::atomic::{AtomicBool, AtomicU32};
 use std::test::Fail;
 use std::thread::Threads;
 
@@ -77,16 +78,49 @@ fn writes_nothing_after_a_failed_read(rt: HostRuntime) -> Result<(), Fail> {
     Ok(())
 }
 
-/// Of a file that stands in memory.
+/// Of files that stand in memory.
 const BATCH: Case = Case {
-    subcommand: Subcommand::Batch { names: &["whole"] },
+    subcommand: Subcommand::OfFiles {
+        task: Task::Batch,
+        names: &["whole"],
+    },
     input: CUT,
     text: b"== whole\nfile: NotJson\n",
     status: 2,
 };
 
+const CHAIN: Case = Case {
+    subcommand: Subcommand::OfFiles {
+        task: Task::Chain(REPORTS),
+        names: &["whole", "whole"],
+    },
+    input: EMPTY,
+    text: b"== whole\nserializable: yes\nsnapshot: yes\nG0: absent\nG1a: absent\nG1b: absent\nG1c: absent\nG-single: absent\nG2-item: absent\nG2: absent\nlevel: PL-3\n== whole\nserializable: yes\nsnapshot: yes\nG0: absent\nG1a: absent\nG1b: absent\nG1c: absent\nG-single: absent\nG2-item: absent\nG2: absent\nlevel: PL-3\n=== parts 2\nserializable: yes\nsnapshot: yes\nG0: absent\nG1a: absent\nG1b: absent\nG1c: absent\nG-single: absent\nG2-item: absent\nG2: absent\nlevel: PL-3\n",
+    status: 0,
+};
+
+const JOIN: Case = Case {
+    subcommand: Subcommand::OfFiles {
+        task: Task::Join(LINES),
+        names: &["whole", "whole"],
+    },
+    input: ANSWER,
+    text: b"=== parts 2\nserializable: yes\nsnapshot: yes\nG0: absent\nG1a: absent\nG1b: absent\nG1c: absent\nG-single: absent\nG2-item: absent\nG2: absent\nlevel: PL-3\n",
+    status: 0,
+};
+
+const NO_JOIN: Case = Case {
+    subcommand: Subcommand::OfFiles {
+        task: Task::Join(LINES),
+        names: &["whole", "none"],
+    },
+    input: CUT,
+    text: b"== whole\nfile: NoAnswer\n== none\nfile: unreadable\n",
+    status: 3,
+};
+
 /// Cases that write: all.
-const WRITING: [Case; 16] = [
+const WRITING: [Case; 19] = [
     TWO_SESSIONS,
     NO_SESSION,
     LEFT_OPEN,
@@ -103,6 +137,9 @@ const WRITING: [Case; 16] = [
     LISTING,
     MATRIX,
     BATCH,
+    CHAIN,
+    JOIN,
+    NO_JOIN,
 ];
 
 /// Runs a case whose writes are cut to ten bytes, one of which fails, or each flush alone. There is no hint then.
@@ -112,12 +149,15 @@ fn cut<T: Threads + Wait + Sync + Abort>(
     case: &Case,
     writer: &mut Sink,
 ) -> Result<u8, RunFault> {
+    let openings = AtomicU32::new(0);
     let is_written = AtomicBool::new(false);
+    let held = [Held::new("whole", case.input)];
     let files = HeldFiles {
         rt,
-        bytes: case.input,
-        fails_at: 0,
-        fault: ErrorKind::Other,
+        held: &held,
+        step: 9_000,
+        is_interrupted: false,
+        openings: &openings,
         is_written: &is_written,
     };
     let mut reader = Source::new(case.input, 9_000, 0, 0);
@@ -132,6 +172,16 @@ fn cut<T: Threads + Wait + Sync + Abort>(
     );
     assert!(rt; run.is_ok() || notes.calls == 0);
     run
+}
+
+fn is_chain(case: &Case) -> bool {
+    matches!(
+        case.subcommand,
+        Subcommand::OfFiles {
+            task: Task::Chain(_),
+            ..
+        }
+    )
 }
 
 #[test]
@@ -156,7 +206,9 @@ fn tells_a_failed_write(rt: HostRuntime) -> Result<(), Fail> {
         let run = cut(&rt, rt.alloc(), case, &mut writer);
         assert_eq!(rt; run, Err(RunFault::Unwritten));
         assert_eq!(rt; status_of(run), 3);
-        assert_eq!(rt; writer.text.as_slice(), case.text);
+        assert!(rt; case.text.starts_with(writer.text.as_slice()));
+        // What `chain` says of parts is flushed before what it says of the run.
+        assert_eq!(rt; writer.text.as_slice() == case.text, !is_chain(case));
     }
     Ok(())
 }

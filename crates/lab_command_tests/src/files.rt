@@ -1,12 +1,12 @@
 //! Files that stand in memory.
 
-use crate::streams::{Sink, Source};
+use crate::streams::Sink;
 use std::alloc::Allocator;
 use std::fs::{Metadata, OpenFile, OpenOptions};
 use std::io::{Error, ErrorKind, Read, Result as IoResult, Seek, SeekFrom, Write};
 use std::rt::Files;
 use std::sync::Wait;
-use std::sync::atomic::{AtomicBool, Ordering};
+use std::sync::atomic::{AtomicBool, AtomicU32, Ordering};
 use std::thread::Threads;
 
 /// What a call is refused with that nobody is to make.
@@ -32,30 +32,102 @@ impl<'a> Write for Telling<'a> {
     }
 }
 
-/// Two files of the same bytes, `whole`, which is read to its end, and `failing`, of which one read fails. Neither is
-/// opened or read any more once something was written.
+/// A file that stands in memory. Its opening and then each read of it count as calls: one of them may fail, and from one
+/// on the file holds another text.
+#[derive(Clone, Copy)]
+pub struct Held {
+    pub name: &'static str,
+    pub text: &'static [u8],
+    pub other: &'static [u8],
+    pub turns_at: u32,
+    pub fails_at: u32,
+    pub fault: ErrorKind,
+}
+
+impl Held {
+    /// A file that holds one text, and of which no call fails.
+    pub fn new(name: &'static str, text: &'static [u8]) -> Held {
+        Held {
+            name,
+            text,
+            other: text,
+            turns_at: u32::MAX,
+            fails_at: 0,
+            fault: ErrorKind::Other,
+        }
+    }
+}
+
+/// Files that stand in memory. A read gives so many bytes at the most, and each second one may be interrupted. None is
+/// opened or read any more once `is_written` tells that something was written.
 #[derive(Drop)]
 pub struct HeldFiles<'a, R> {
     pub rt: &'a R,
-    pub bytes: &'static [u8],
-    pub fails_at: u32,
-    pub fault: ErrorKind,
+    pub held: &'a [Held],
+    pub step: usize,
+    pub is_interrupted: bool,
+    /// How many times one of them was opened.
+    pub openings: &'a AtomicU32,
     pub is_written: &'a AtomicBool,
+}
+
+impl<'a, R> HeldFiles<'a, R> {
+    /// The file of a name.
+    fn named(&self, name: &str) -> Option<Held> {
+        for held in self.held {
+            if held.name == name {
+                return Some(*held);
+            }
+        }
+        None
+    }
 }
 
 /// One of them that was opened.
 #[derive(Drop)]
 pub struct HeldFile<'a> {
-    source: Source<'static>,
+    held: Held,
+    place: usize,
+    calls: u32,
+    step: usize,
+    is_interrupted: bool,
     is_written: &'a AtomicBool,
+}
+
+impl<'a> HeldFile<'a> {
+    /// Whether the call that is made is an interrupted one.
+    fn is_call_interrupted(&self) -> bool {
+        self.is_interrupted && self.calls % 2 == 0
+    }
+
+    /// What the file holds from the place on to which it was read.
+    fn rest(&self) -> &'static [u8] {
+        let text = if self.calls < self.held.turns_at {
+            self.held.text
+        } else {
+            self.held.other
+        };
+        &text[self.place.min(text.len())..]
+    }
 }
 
 impl<'a> Read for HeldFile<'a> {
     fn read(&mut self, buf: &mut [u8]) -> IoResult<usize> {
+        self.calls = self.calls.saturating_add(1);
         if self.is_written.load(Ordering::SeqCst) {
             return Err(unsupported());
         }
-        self.source.read(buf)
+        if self.is_call_interrupted() {
+            return Err(Error::from(ErrorKind::Interrupted));
+        }
+        if self.calls == self.held.fails_at {
+            return Err(Error::from(self.held.fault));
+        }
+        let rest = self.rest();
+        let count = self.step.min(rest.len()).min(buf.len());
+        buf[..count].copy_from_slice(&rest[..count]);
+        self.place = self.place.saturating_add(count);
+        Ok(count)
     }
 }
 
@@ -103,18 +175,22 @@ impl<'a, R> Files for HeldFiles<'a, R> {
     type Dir = HeldFile<'a>;
 
     fn open_file(&self, _how: &OpenOptions, path: &str) -> IoResult<HeldFile<'a>> {
-        let fails_at = match path {
-            "whole" => 0,
-            "failing" => self.fails_at,
-            _ => return Err(Error::from(ErrorKind::NotFound)),
-        };
+        self.openings.fetch_add(1, Ordering::SeqCst);
         if self.is_written.load(Ordering::SeqCst) {
             return Err(unsupported());
         }
-        let mut source = Source::new(self.bytes, 10, 0, fails_at);
-        source.fault = self.fault;
+        let Some(held) = self.named(path) else {
+            return Err(Error::from(ErrorKind::NotFound));
+        };
+        if held.fails_at == 1 {
+            return Err(Error::from(held.fault));
+        }
         Ok(HeldFile {
-            source,
+            held,
+            place: 0,
+            calls: 1,
+            step: self.step,
+            is_interrupted: self.is_interrupted,
             is_written: self.is_written,
         })
     }

@@ -68,13 +68,15 @@ impl Read for Endless {
     }
 }
 
-/// A writer that takes so many bytes at a call; one call fails, where a flush is a call too, or each flush alone does.
+/// A writer that takes so many bytes at a call; one call fails, where a flush is a call too, or each flush alone does; each
+/// second call that isn't a flush may be interrupted.
 #[derive(Drop)]
 pub struct Sink {
     pub text: Vec<u8>,
     step: usize,
     fails_at: u32,
     pub flush_fails: bool,
+    pub is_interrupted: bool,
     pub calls: u32,
 }
 
@@ -85,6 +87,7 @@ impl Sink {
             step,
             fails_at,
             flush_fails: false,
+            is_interrupted: false,
             calls: 0,
         }
     }
@@ -101,6 +104,9 @@ impl Sink {
 impl Write for Sink {
     fn write(&mut self, buf: &[u8]) -> IoResult<usize> {
         self.call()?;
+        if self.is_interrupted && self.calls % 2 == 0 {
+            return Err(Error::from(ErrorKind::Interrupted));
+        }
         let count = self.step.min(buf.len());
         self.text.extend_from_slice(&buf[..count])?;
         Ok(count)

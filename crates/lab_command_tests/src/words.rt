@@ -1,6 +1,6 @@
 //! What `picture`, `explain`, `case` and `matrix` write, and `batch` of one file.
 
-use crate::case::{Case, Subcommand, check};
+use crate::case::{Case, Subcommand, Task, check};
 use crate::judge::{CUT, CUT_FAULT, EMPTY, INTERMEDIATE};
 use lab_matrix::CaseName;
 use lab_reports::Phenomenon;
@@ -63,7 +63,8 @@ pub const MATRIX: Case = Case {
 
 /// Of a file that isn't there.
 pub const UNREADABLE: Case = Case {
-    subcommand: Subcommand::Batch {
+    subcommand: Subcommand::OfFiles {
+        task: Task::Batch,
         names: &["no/such file"],
     },
     input: b"",

@@ -5,7 +5,7 @@ use Rattle.lab_chain.specs.Chain.{with_part}
 use Rattle.lab_chain.specs.Summary.{nothing}
 use Rattle.lab_chain_commands.specs.ChainAnswers.{outcome_text, outcome_status}
 use Rattle.lab_chain_commands.specs.JudgedParts.{part_of}
-use Rattle.lab_chain_commands.proofs.chaining.tell_parts.Given as goal
+use Rattle.lab_chain_commands.proofs.window.tell_parts.Given as goal
 
 abbrev pub invariant-loop-part : goal.invariant-loop-part
 invariant-loop-part l =

@@ -1,0 +1,270 @@
+//! What `batch`, `chain` and `chain --join` write of files that can't be opened, of which a read fails, or that change while
+//! they are read.
+
+use crate::case::{JSON, LINES, Task, status_of, with_files};
+use crate::files::{Held, HeldFiles, Telling};
+use crate::parts::{ANSWER, FRONT, OTHER, OTHER_ANSWER, STILL};
+use crate::streams::{FAULTS, Sink};
+use lab_streams::RunFault;
+use std::io::ErrorKind;
+use std::sync::atomic::{AtomicBool, AtomicU32, Ordering};
+use std::test::Fail;
+
+/// What is done with a file, one like it on which a call fails, and the first again; what it holds, and what is written.
+/// Neither `batch` nor `chain --join` reads any more once something is written.
+#[derive(Clone, Copy)]
+struct Failing {
+    task: Task,
+    text: &'static [u8],
+    due: &'static [u8],
+}
+
+const FAILURES: [Failing; 5] = [
+    Failing {
+        task: Task::Batch,
+        text: FRONT,
+        due: b"== whole\nfile: NotJson\n== failing\nfile: unreadable\n== whole\nfile: NotJson\n",
+    },
+    Failing {
+        task: Task::Chain(LINES),
+        text: STILL,
+        due: b"== failing\nfile: unreadable\n=== parts 3\nserializable: not judged failing\nsnapshot: not judged failing\nG0: not judged failing\nG1a: not judged failing\nG1b: not judged failing\nG1c: not judged failing\nG-single: not judged failing\nG2-item: not judged failing\nG2: not judged failing\nlevel: not judged\n",
+    },
+    Failing {
+        task: Task::Chain(JSON),
+        text: STILL,
+        due: b"{\"file\":\"failing\",\"unreadable\":true}\n{\"end\":[[\"test\",1,10]],\"first\":\"whole\",\"initial\":[[\"test\",1,10]],\"level\":\"not judged\",\"parts\":3,\"phenomena\":{\"G-single\":{\"file\":\"failing\",\"verdict\":\"not judged\"},\"G0\":{\"file\":\"failing\",\"verdict\":\"not judged\"},\"G1a\":{\"file\":\"failing\",\"verdict\":\"not judged\"},\"G1b\":{\"file\":\"failing\",\"verdict\":\"not judged\"},\"G1c\":{\"file\":\"failing\",\"verdict\":\"not judged\"},\"G2\":{\"file\":\"failing\",\"verdict\":\"not judged\"},\"G2-item\":{\"file\":\"failing\",\"verdict\":\"not judged\"}},\"serializable\":{\"file\":\"failing\",\"verdict\":\"not judged\"},\"snapshot\":{\"file\":\"failing\",\"verdict\":\"not judged\"}}\n",
+    },
+    Failing {
+        task: Task::Join(LINES),
+        text: ANSWER,
+        due: b"== failing\nfile: unreadable\n",
+    },
+    Failing {
+        task: Task::Join(JSON),
+        text: ANSWER,
+        due: b"{\"file\":\"failing\",\"unreadable\":true}\n",
+    },
+];
+
+/// Bytes that a read gives.
+const STEP: usize = 10;
+
+/// Calls on a file that is read to its end: its opening, and reads, the last of which gives nothing.
+fn calls_on(text: &[u8]) -> u32 {
+    let reads = text.len().saturating_add(STEP - 1) / STEP;
+    u32::try_from(reads).unwrap_or(u32::MAX).saturating_add(2)
+}
+
+#[test]
+fn a_file_on_which_a_call_fails_is_told(rt: HostRuntime) -> Result<(), Fail> {
+    for failing in &FAILURES {
+        for fails_at in 1..=calls_on(failing.text) {
+            for fault in FAULTS {
+                let openings = AtomicU32::new(0);
+                let is_written = AtomicBool::new(false);
+                let is_chain_written = AtomicBool::new(false);
+                let whole = Held::new("whole", failing.text);
+                let mut held = [whole, Held::new("failing", failing.text)];
+                held[1].fails_at = fails_at;
+                held[1].fault = fault;
+                let files = HeldFiles {
+                    rt: &rt,
+                    held: &held,
+                    step: STEP,
+                    is_interrupted: false,
+                    openings: &openings,
+                    is_written: &is_written,
+                };
+                let mut writer = Telling {
+                    sink: Sink::new(rt.alloc(), 10, 0),
+                    is_called: if matches!(failing.task, Task::Chain(_)) {
+                        &is_chain_written
+                    } else {
+                        &is_written
+                    },
+                };
+                let mut notes = Sink::new(rt.alloc(), 9_000, 0);
+                let mut shown = Sink::new(rt.alloc(), 9_000, 0);
+                let run = with_files(
+                    &files,
+                    rt.alloc(),
+                    failing.task,
+                    &["whole", "failing", "whole"],
+                    &mut writer,
+                    &mut notes,
+                    &mut shown,
+                );
+                assert_eq!(rt;
+                    writer.sink.text.as_slice(),
+                    failing.due,
+                    "{fault:?} at call {fails_at}"
+                );
+                assert_eq!(rt; run, Ok(3), "{fault:?} at call {fails_at}");
+                assert!(rt; !notes.text.is_empty(), "{fault:?} at call {fails_at}");
+            }
+        }
+    }
+    Ok(())
+}
+
+/// What is done with files of which one changes, from a text to another, and the places where these differ; and what is
+/// written where all of the first text is read, all before the second of the places, and less.
+#[derive(Clone, Copy)]
+struct Turning {
+    task: Task,
+    names: &'static [&'static str],
+    text: &'static [u8],
+    other: &'static [u8],
+    places: [usize; 2],
+    whole: &'static [u8],
+    mixed: &'static [u8],
+    less: &'static [u8],
+}
+
+const CHANGES: [Turning; 4] = [
+    Turning {
+        task: Task::Chain(JSON),
+        names: &["turning", "still"],
+        text: STILL,
+        other: OTHER,
+        places: [12, 60],
+        whole: b"{\"end\":[[\"test\",1,10]],\"first\":\"turning\",\"initial\":[[\"test\",1,10]],\"level\":\"PL-3\",\"parts\":2,\"phenomena\":{\"G-single\":{\"verdict\":\"absent\"},\"G0\":{\"verdict\":\"absent\"},\"G1a\":{\"verdict\":\"absent\"},\"G1b\":{\"verdict\":\"absent\"},\"G1c\":{\"verdict\":\"absent\"},\"G2\":{\"verdict\":\"absent\"},\"G2-item\":{\"verdict\":\"absent\"}},\"serializable\":{\"verdict\":\"yes\"},\"snapshot\":{\"verdict\":\"yes\"}}\n",
+        mixed: b"{\"end\":[[\"test\",1,10]],\"first\":\"turning\",\"initial\":[[\"test\",1,11]],\"level\":\"unsound\",\"parts\":2,\"phenomena\":{\"G-single\":{\"file\":\"turning\",\"verdict\":\"not judged\"},\"G0\":{\"file\":\"turning\",\"verdict\":\"not judged\"},\"G1a\":{\"file\":\"turning\",\"verdict\":\"not judged\"},\"G1b\":{\"file\":\"turning\",\"verdict\":\"not judged\"},\"G1c\":{\"file\":\"turning\",\"verdict\":\"not judged\"},\"G2\":{\"file\":\"turning\",\"verdict\":\"not judged\"},\"G2-item\":{\"file\":\"turning\",\"verdict\":\"not judged\"}},\"serializable\":{\"file\":\"turning\",\"reason\":\"F9 EndDiffers row 1\",\"verdict\":\"no\"},\"snapshot\":{\"file\":\"turning\",\"reason\":\"F9 EndDiffers row 1\",\"verdict\":\"no\"}}\n",
+        less: b"{\"end\":[[\"test\",1,10]],\"first\":\"turning\",\"initial\":[[\"test\",1,11]],\"level\":\"unsound\",\"parts\":2,\"phenomena\":{\"G-single\":{\"file\":\"still\",\"verdict\":\"not judged\"},\"G0\":{\"file\":\"still\",\"verdict\":\"not judged\"},\"G1a\":{\"file\":\"still\",\"verdict\":\"not judged\"},\"G1b\":{\"file\":\"still\",\"verdict\":\"not judged\"},\"G1c\":{\"file\":\"still\",\"verdict\":\"not judged\"},\"G2\":{\"file\":\"still\",\"verdict\":\"not judged\"},\"G2-item\":{\"file\":\"still\",\"verdict\":\"not judged\"}},\"serializable\":{\"file\":\"still\",\"reason\":\"seam row 1\",\"verdict\":\"no\"},\"snapshot\":{\"file\":\"still\",\"reason\":\"seam row 1\",\"verdict\":\"no\"}}\n",
+    },
+    Turning {
+        task: Task::Join(JSON),
+        names: &["turning"],
+        text: ANSWER,
+        other: OTHER_ANSWER,
+        places: [19, 57],
+        whole: b"{\"end\":[[\"test\",1,10]],\"first\":\"a\",\"initial\":[[\"test\",1,10]],\"level\":\"PL-3\",\"parts\":1,\"phenomena\":{\"G-single\":{\"verdict\":\"absent\"},\"G0\":{\"verdict\":\"absent\"},\"G1a\":{\"verdict\":\"absent\"},\"G1b\":{\"verdict\":\"absent\"},\"G1c\":{\"verdict\":\"absent\"},\"G2\":{\"verdict\":\"absent\"},\"G2-item\":{\"verdict\":\"absent\"}},\"serializable\":{\"verdict\":\"yes\"},\"snapshot\":{\"verdict\":\"yes\"}}\n",
+        mixed: b"{\"end\":[[\"test\",1,10]],\"first\":\"a\",\"initial\":[[\"test\",1,11]],\"level\":\"PL-3\",\"parts\":1,\"phenomena\":{\"G-single\":{\"verdict\":\"absent\"},\"G0\":{\"verdict\":\"absent\"},\"G1a\":{\"verdict\":\"absent\"},\"G1b\":{\"verdict\":\"absent\"},\"G1c\":{\"verdict\":\"absent\"},\"G2\":{\"verdict\":\"absent\"},\"G2-item\":{\"verdict\":\"absent\"}},\"serializable\":{\"verdict\":\"yes\"},\"snapshot\":{\"verdict\":\"yes\"}}\n",
+        less: b"{\"end\":[[\"test\",1,11]],\"first\":\"a\",\"initial\":[[\"test\",1,11]],\"level\":\"PL-3\",\"parts\":1,\"phenomena\":{\"G-single\":{\"verdict\":\"absent\"},\"G0\":{\"verdict\":\"absent\"},\"G1a\":{\"verdict\":\"absent\"},\"G1b\":{\"verdict\":\"absent\"},\"G1c\":{\"verdict\":\"absent\"},\"G2\":{\"verdict\":\"absent\"},\"G2-item\":{\"verdict\":\"absent\"}},\"serializable\":{\"verdict\":\"yes\"},\"snapshot\":{\"verdict\":\"yes\"}}\n",
+    },
+    Turning {
+        task: Task::Chain(LINES),
+        names: &["turning"],
+        text: STILL,
+        other: b"",
+        places: [108, 108],
+        whole: b"=== parts 1\nserializable: yes\nsnapshot: yes\nG0: absent\nG1a: absent\nG1b: absent\nG1c: absent\nG-single: absent\nG2-item: absent\nG2: absent\nlevel: PL-3\n",
+        mixed: b"",
+        less: b"== turning\nfile: NotJson\n=== parts 1\nserializable: not judged turning\nsnapshot: not judged turning\nG0: not judged turning\nG1a: not judged turning\nG1b: not judged turning\nG1c: not judged turning\nG-single: not judged turning\nG2-item: not judged turning\nG2: not judged turning\nlevel: not judged\n",
+    },
+    Turning {
+        task: Task::Join(LINES),
+        names: &["turning"],
+        text: ANSWER,
+        other: b"",
+        places: [358, 358],
+        whole: b"=== parts 1\nserializable: yes\nsnapshot: yes\nG0: absent\nG1a: absent\nG1b: absent\nG1c: absent\nG-single: absent\nG2-item: absent\nG2: absent\nlevel: PL-3\n",
+        mixed: b"",
+        less: b"== turning\nfile: NoAnswer\n",
+    },
+];
+
+impl Turning {
+    /// What is written where the file changes at this call.
+    fn due(&self, turns_at: u32) -> &'static [u8] {
+        let read = STEP.saturating_mul(turns_at.saturating_sub(2) as usize);
+        let [first, second] = self.places;
+        if read > second {
+            self.whole
+        } else if read > first {
+            self.mixed
+        } else {
+            self.less
+        }
+    }
+}
+
+#[test]
+fn a_file_that_changes_is_told_as_it_was_read(rt: HostRuntime) -> Result<(), Fail> {
+    for turning in &CHANGES {
+        for turns_at in 1..=calls_on(turning.text).saturating_add(1) {
+            let openings = AtomicU32::new(0);
+            let is_written = AtomicBool::new(false);
+            let mut held = [
+                Held::new("turning", turning.text),
+                Held::new("still", STILL),
+            ];
+            held[0].other = turning.other;
+            held[0].turns_at = turns_at;
+            let files = HeldFiles {
+                rt: &rt,
+                held: &held,
+                step: STEP,
+                is_interrupted: false,
+                openings: &openings,
+                is_written: &is_written,
+            };
+            let mut writer = Sink::new(rt.alloc(), 9_000, 0);
+            let mut notes = Sink::new(rt.alloc(), 9_000, 0);
+            let mut shown = Sink::new(rt.alloc(), 9_000, 0);
+            let run = with_files(
+                &files,
+                rt.alloc(),
+                turning.task,
+                turning.names,
+                &mut writer,
+                &mut notes,
+                &mut shown,
+            );
+            let due = turning.due(turns_at);
+            // Each file is read once, so what is said of it is of one text.
+            assert_eq!(rt;
+                openings.load(Ordering::SeqCst) as usize,
+                turning.names.len()
+            );
+            assert_eq!(rt; writer.text.as_slice(), due, "at call {turns_at}");
+            assert!(rt;
+                status_of(run) == if due.starts_with(b"== ") { 2 } else { 0 },
+                "at call {turns_at}"
+            );
+        }
+    }
+    Ok(())
+}
+
+/// The front of what there is to say where the opening of a second file is refused memory.
+const BEFORE: [(Task, &[u8]); 3] = [
+    (Task::Batch, b""),
+    (Task::Chain(LINES), b"== whole\nfile: NotJson\n"),
+    (Task::Join(LINES), b""),
+];
+
+#[test]
+fn an_opening_without_memory_ends_the_run(rt: HostRuntime) -> Result<(), Fail> {
+    for (task, front) in &BEFORE {
+        let openings = AtomicU32::new(0);
+        let is_written = AtomicBool::new(false);
+        let mut held = [Held::new("whole", FRONT), Held::new("failing", FRONT)];
+        held[1].fails_at = 1;
+        held[1].fault = ErrorKind::OutOfMemory;
+        let files = HeldFiles {
+            rt: &rt,
+            held: &held,
+            step: STEP,
+            is_interrupted: false,
+            openings: &openings,
+            is_written: &is_written,
+        };
+        let mut writer = Sink::new(rt.alloc(), 9_000, 0);
+        let mut notes = Sink::new(rt.alloc(), 9_000, 0);
+        let mut shown = Sink::new(rt.alloc(), 9_000, 0);
+        let run = with_files(
+            &files,
+            rt.alloc(),
+            *task,
+            &["whole", "failing"],
+            &mut writer,
+            &mut notes,
+            &mut shown,
+        );
+        assert_eq!(rt; run, Err(RunFault::NoMemory));
+        assert!(rt; front.starts_with(writer.text.as_slice()));
+    }
+    Ok(())
+}
