@@ -9,3 +9,4 @@ pub mod Escapes
 mod OnePicture
 mod LeastOfPairs
 mod TitledWalks
+mod NicknameForms
