@@ -3,7 +3,7 @@
 ghost use Rattle.std.specs.Prelude.{◌≡◌, IfOk};
 ghost use Rattle.std.specs.Str.{bytes_eq};
 ghost use Rattle.lab_judge.specs.ReportText.{walk_text};
-ghost use Rattle.lab_explain.specs.Told.{serial_walk, is_cycle, first_present, is_verdicts, other_than_verdicts, told_of, is_told};
+ghost use Rattle.lab_explain.specs.Told.{serial_walk, is_cycle, first_present, is_verdicts, told_of, is_told};
 
 use lab_deps::Edge;
 use lab_judge::{Finding, Report, Serial, put_walk};

@@ -1,12 +1,10 @@
 //! Nicknames of cycles: which ones a cycle has, by the form of its dependencies.
 
-ghost use Rattle.std.specs.Prelude.{◌≡◌, ◌++◌, ◌==◌, length, filter, OnOk};
-ghost use Rattle.std.specs.List.{list_all};
-ghost use Rattle.std.specs.FinMap as map;
+ghost use Rattle.std.specs.Prelude.{◌≡◌, ◌++◌, filter, OnOk};
 ghost use Rattle.lab_table.specs.Row.{row_test};
 ghost use Rattle.lab_history.specs.Version.{writes_row};
 ghost use Rattle.lab_deps.specs.KindSets.{is_anti, is_item_anti, is_write};
-ghost use Rattle.lab_picture.specs.Nicknames.{nickname_name, loses, is_lost_update, skews, is_write_skew, is_g_single, is_g2_item, writes_none, only_reads, is_read_skew, wrote_nothing, is_read_only, is_read_only_anomaly, is_predicate_anti, is_phantom, has_form, nicknames_of, names_behind, in_parentheses};
+ghost use Rattle.lab_picture.specs.Nicknames.{nickname_name, loses, is_lost_update, skews, is_write_skew, is_g_single, is_g2_item, writes_none, only_reads, is_read_skew, wrote_nothing, is_read_only, is_read_only_anomaly, is_predicate_anti, is_phantom, has_form, nicknames_of, in_parentheses};
 
 use crate::cycles::walk_phenomenon;
 use crate::states::ops_of;
