@@ -103,9 +103,11 @@ so_lost_update walk (write, anti, inr same, a, b, rows) = ap is_lost_update same
 skews_so : (one other : Edge) → skews one other ≡ true → (one.kind ≡ ItemAnti) × (other.kind ≡ ItemAnti) × (one.row ≡ other.row → ⊥)
 skews_so one other is =
     let kinds : (is_item_anti one.kind ≡ true) × ((is_item_anti other.kind && not (row_test one.row other.row)) ≡ true) = and_parts (is_item_anti one.kind) (is_item_anti other.kind && not (row_test one.row other.row)) is in
-    let rest : (is_item_anti other.kind ≡ true) × (not (row_test one.row other.row) ≡ true) = and_parts (is_item_anti other.kind) (not (row_test one.row other.row)) kinds.1 in
-    (only_item_anti one.kind kinds.0, only_item_anti other.kind rest.0,
-     λ rows. false≢true (sym (not-true (row_test one.row other.row) rest.1) ∙ subst (λ row. row_test one.row row ≡ true) rows (tests_itself one.row)))
+    let rest : (is_item_anti other.kind ≡ true) × (not (row_test one.row other.row) ≡ true) = and_parts (is_item_anti other.kind) (not (row_test one.row other.row)) kinds.1 in (
+      only_item_anti one.kind kinds.0,
+      only_item_anti other.kind rest.0,
+      λ rows. false≢true (sym (not-true (row_test one.row other.row) rest.1) ∙ subst (λ row. row_test one.row row ≡ true) rows (tests_itself one.row)),
+    )
 
 so_skews : (one other : Edge) → one.kind ≡ ItemAnti → other.kind ≡ ItemAnti → (one.row ≡ other.row → ⊥) → skews one other ≡ true
 so_skews one other a b rows =
@@ -147,20 +149,21 @@ module _ (h : History) where
   -- read skews
   read_skew_so : (walk : List Edge) → is_read_skew h walk ≡ true → IsReadSkew h walk
   read_skew_so walk is =
-      let parts : (is_g_single (walk_phenomenon walk) ≡ true) × (list_any (only_reads h walk) walk ≡ true) = and_parts (is_g_single (walk_phenomenon walk)) (list_any (only_reads h walk) walk) is in
-      (only_g_single (walk_phenomenon walk) parts.0,
-       any_so (λ e. only_reads h walk e ≡ true) (λ e. (is_anti e.kind ≡ true) × All (λ d. ¬ Wrote h e.from d.row) walk) walk
-       (λ e reads.
-         let both : (is_anti e.kind ≡ true) × (writes_none h walk e.from ≡ true) = and_parts (is_anti e.kind) (writes_none h walk e.from) reads in
-         (both.0, none_written_so walk e.from both.1))
-       (Any-from_list_any (only_reads h walk) walk parts.1))
+      let parts : (is_g_single (walk_phenomenon walk) ≡ true) × (list_any (only_reads h walk) walk ≡ true) = and_parts (is_g_single (walk_phenomenon walk)) (list_any (only_reads h walk) walk) is in (
+        only_g_single (walk_phenomenon walk) parts.0,
+        any_so (λ e. only_reads h walk e ≡ true) (λ e. (is_anti e.kind ≡ true) × All (λ d. ¬ Wrote h e.from d.row) walk) walk
+            (λ e reads.
+            let both : (is_anti e.kind ≡ true) × (writes_none h walk e.from ≡ true) = and_parts (is_anti e.kind) (writes_none h walk e.from) reads in
+            (both.0, none_written_so walk e.from both.1))
+            (Any-from_list_any (only_reads h walk) walk parts.1),
+      )
 
   so_read_skew : (walk : List Edge) → IsReadSkew h walk → is_read_skew h walk ≡ true
   so_read_skew walk (single, some) =
       and_from (is_g_single (walk_phenomenon walk)) (list_any (only_reads h walk) walk) (ap is_g_single single)
       (list_any-from_Any (only_reads h walk) walk
-       (any_so (λ e. (is_anti e.kind ≡ true) × All (λ d. ¬ Wrote h e.from d.row) walk) (λ e. only_reads h walk e ≡ true) walk
-        (λ e both. and_from (is_anti e.kind) (writes_none h walk e.from) both.0 (so_none_written walk e.from both.1)) some))
+      (any_so (λ e. (is_anti e.kind ≡ true) × All (λ d. ¬ Wrote h e.from d.row) walk) (λ e. only_reads h walk e ≡ true) walk
+      (λ e both. and_from (is_anti e.kind) (writes_none h walk e.from) both.0 (so_none_written walk e.from both.1)) some))
 
 -- no entries have nothing of a row
 none_found : (es : List (Row × State)) (row : Row) → length es ≡ 0 → find row_cmp row es ≡ None
@@ -195,16 +198,17 @@ module _ (h : History) where
   -- read-only anomalies
   read_only_anomaly_so : (walk : List Edge) → is_read_only_anomaly h walk ≡ true → IsReadOnlyAnomaly h walk
   read_only_anomaly_so walk is =
-      let parts : (is_g2_item (walk_phenomenon walk) ≡ true) × (list_any (λ (e : Edge). is_read_only h e.from) walk ≡ true) = and_parts (is_g2_item (walk_phenomenon walk)) (list_any (λ (e : Edge). is_read_only h e.from) walk) is in
-      (only_g2_item (walk_phenomenon walk) parts.0,
-       any_so (λ e. is_read_only h e.from ≡ true) (λ e. (row : Row) → ¬ Wrote h e.from row) walk (λ e only. read_only_so e.from only)
-       (Any-from_list_any (λ (e : Edge). is_read_only h e.from) walk parts.1))
+      let parts : (is_g2_item (walk_phenomenon walk) ≡ true) × (list_any (λ (e : Edge). is_read_only h e.from) walk ≡ true) = and_parts (is_g2_item (walk_phenomenon walk)) (list_any (λ (e : Edge). is_read_only h e.from) walk) is in (
+        only_g2_item (walk_phenomenon walk) parts.0,
+        any_so (λ e. is_read_only h e.from ≡ true) (λ e. (row : Row) → ¬ Wrote h e.from row) walk (λ e only. read_only_so e.from only)
+            (Any-from_list_any (λ (e : Edge). is_read_only h e.from) walk parts.1),
+      )
 
   so_read_only_anomaly : (walk : List Edge) → IsReadOnlyAnomaly h walk → is_read_only_anomaly h walk ≡ true
   so_read_only_anomaly walk (item, some) =
       and_from (is_g2_item (walk_phenomenon walk)) (list_any (λ (e : Edge). is_read_only h e.from) walk) (ap is_g2_item item)
       (list_any-from_Any (λ (e : Edge). is_read_only h e.from) walk
-       (any_so (λ e. (row : Row) → ¬ Wrote h e.from row) (λ e. is_read_only h e.from ≡ true) walk (λ e only. so_read_only e.from only) some))
+      (any_so (λ e. (row : Row) → ¬ Wrote h e.from row) (λ e. is_read_only h e.from ≡ true) walk (λ e only. so_read_only e.from only) some))
 
 -- phantoms
 phantom_so : (walk : List Edge) → is_phantom walk ≡ true → IsPhantom walk
@@ -238,12 +242,12 @@ kept test [] x there is = absurd (no_member x there)
 kept test (y ∷ xs) x there is =
     elim (Contains-append_cases (y ∷ []) xs x there) [
       | inl here ↦
-        let same : y ≡ x = only_member y x here in
-        subst (λ z. Contains (cond (test z) (z ∷ filter test xs) (filter test xs)) x) (sym same)
-        (subst (λ b. Contains (cond b (x ∷ filter test xs) (filter test xs)) x) (sym is) (first_member x (filter test xs)))
+          let same : y ≡ x = only_member y x here in
+          subst (λ z. Contains (cond (test z) (z ∷ filter test xs) (filter test xs)) x) (sym same)
+          (subst (λ b. Contains (cond b (x ∷ filter test xs) (filter test xs)) x) (sym is) (first_member x (filter test xs)))
       | inr later ↦
-        let rest : Contains (filter test xs) x = kept test xs x later is in
-        elim (test y) as (λ b. Contains (cond b (y ∷ filter test xs) (filter test xs)) x) [ true ↦ later_member y (filter test xs) x rest | false ↦ rest ]
+          let rest : Contains (filter test xs) x = kept test xs x later is in
+          elim (test y) as (λ b. Contains (cond b (y ∷ filter test xs) (filter test xs)) x) [ true ↦ later_member y (filter test xs) x rest | false ↦ rest ]
     ]
 
 -- each nickname is one of all

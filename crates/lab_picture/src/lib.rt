@@ -36,9 +36,10 @@ pub use cycles::cycle_of;
 pub use drawing::{Arrow, Drawing, Spot, Tie};
 pub use installs::{Misplaced, Why, installers_of, misplaced_of, put_misplaced};
 pub use laws::{
-    a_nickname_is_said_of_its_form, a_title_names_what_a_walk_is, an_escaped_text_has_no_markup, each_dependency_has_its_arrow,
-    each_dependency_of_a_walk_is_drawn, each_dependency_of_installed_rows_has_its_arrow,
-    picture_answer_unique, who_is_out_of_place_is_named,
+    a_nickname_is_said_of_its_form, a_title_names_what_a_walk_is, an_escaped_text_has_no_markup,
+    each_dependency_has_its_arrow, each_dependency_of_a_walk_is_drawn,
+    each_dependency_of_installed_rows_has_its_arrow, picture_answer_unique,
+    who_is_out_of_place_is_named,
 };
 pub use making::arrow_of;
 pub use nicknames::Nickname;

@@ -224,11 +224,7 @@ fn put_those_of(
 
 /// Appends the nicknames of a cycle in parentheses, each whose form it has; nothing where it has none. After NoMemory, part
 /// of what was to be appended may stand there.
-pub fn put_nicknames(
-    out: &mut Vec<u8>,
-    history: &History,
-    walk: &[Edge],
-) -> Result<(), NoMemory>
+pub fn put_nicknames(out: &mut Vec<u8>, history: &History, walk: &[Edge]) -> Result<(), NoMemory>
     ensures { OnOk result (out.new.items ≡ out.old.items ++ in_parentheses (nicknames_of history.now walk.now)) }
 {
     put_those_of(out, history, walk, &Nickname::ALL)
