@@ -10,3 +10,4 @@ mod OnePicture
 mod LeastOfPairs
 mod TitledWalks
 mod NicknameForms
+pub mod SaidNames

@@ -4,7 +4,7 @@
 -- read-only anomaly is that of Fekete, O'Neil and O'Neil, A Read-Only Transaction Anomaly Under Snapshot Isolation (2004);
 -- phantoms are those of Eswaran et al., The Notions of Consistency and Predicate Locks in a Database System (1976), and of
 -- Adya, Weak Consistency (1999).
-use Rattle.std.specs.Prelude.{◌≡◌, ◌≢◌, ◌⊎◌, ℕ, ◌==◌, Bool, true, false, ◌&&◌, ◌||◌, not, List, [], ◌∷◌, ◌++◌, length, filter, codes}
+use Rattle.std.specs.Prelude.{◌≡◌, ◌≢◌, ◌⊎◌, ℕ, ◌==◌, Bool, true, false, ◌&&◌, ◌||◌, not, List, [], ◌∷◌, ◌++◌, length, filter, flat_map, codes}
 use Rattle.std.specs.List.{list_any, list_all, Any, All}
 use Rattle.std.specs.FinMap as map
 use Rattle.lab_table.specs.Row.{Row, row_test}
@@ -156,11 +156,11 @@ has_form h walk Phantom = is_phantom walk
 abbrev pub nicknames_of : History → List Edge → List Nickname
 nicknames_of h walk = filter (has_form h walk) all_nicknames
 
--- nicknames, the first behind one text and each other behind a comma and a blank; and at their end a parenthesis, if there are any
-abbrev pub names_behind : List ℕ → List ℕ → List Nickname → List ℕ
-names_behind lead end [] = end
-names_behind lead end (n ∷ ns) = lead ++ nickname_name n ++ names_behind (codes ", ") (codes ")") ns
+-- a nickname behind another
+abbrev pub next_name : Nickname → List ℕ
+next_name n = codes ", " ++ nickname_name n
 
 -- nicknames in parentheses, with a comma and a blank between two; nothing where there are none
 abbrev pub in_parentheses : List Nickname → List ℕ
-in_parentheses ns = names_behind (codes " (") [] ns
+in_parentheses [] = []
+in_parentheses (n ∷ ns) = codes " (" ++ nickname_name n ++ flat_map next_name ns ++ codes ")"

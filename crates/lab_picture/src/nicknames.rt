@@ -201,6 +201,7 @@ fn has_form(history: &History, walk: &[Edge], nickname: Nickname) -> bool
 }
 
 /// Appends those of some nicknames whose form a cycle has, in parentheses.
+#[tactic(auto, using(crate::proofs::SaidNames::all_behind))]
 fn put_those_of(
     out: &mut Vec<u8>,
     history: &History,
