@@ -90,8 +90,12 @@ lost_update_so [] is = absurd (false≢true is)
 lost_update_so (one ∷ []) is = absurd (false≢true is)
 lost_update_so (one ∷ other ∷ []) is =
     elim (or_cases (loses one other) (loses other one) is) [
-      | inl here ↦ (one, other, inl refl, loses_so one other here)
-      | inr there ↦ (other, one, inr refl, loses_so other one there)
+      | inl here ↦
+          let rest : (one.kind ≡ Write) × (other.kind ≡ ItemAnti) × (one.row ≡ other.row) = loses_so one other here in
+          (one, other, inl refl, rest.0, rest.1, rest.2)
+      | inr there ↦
+          let rest : (other.kind ≡ Write) × (one.kind ≡ ItemAnti) × (other.row ≡ one.row) = loses_so other one there in
+          (other, one, inr refl, rest.0, rest.1, rest.2)
     ]
 lost_update_so (one ∷ other ∷ next ∷ rest) is = absurd (false≢true is)
 
@@ -117,7 +121,9 @@ so_skews one other a b rows =
 write_skew_so : (walk : List Edge) → is_write_skew walk ≡ true → IsWriteSkew walk
 write_skew_so [] is = absurd (false≢true is)
 write_skew_so (one ∷ []) is = absurd (false≢true is)
-write_skew_so (one ∷ other ∷ []) is = (one, other, refl, skews_so one other is)
+write_skew_so (one ∷ other ∷ []) is =
+    let rest : (one.kind ≡ ItemAnti) × (other.kind ≡ ItemAnti) × (one.row ≡ other.row → ⊥) = skews_so one other is in
+    (one, other, refl, rest.0, rest.1, rest.2)
 write_skew_so (one ∷ other ∷ next ∷ rest) is = absurd (false≢true is)
 
 so_write_skew : (walk : List Edge) → IsWriteSkew walk → is_write_skew walk ≡ true

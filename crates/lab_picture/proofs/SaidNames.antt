@@ -18,4 +18,5 @@ next_behind (n ∷ ns) =
 -- all of them
 pub all_behind : (ns : List Nickname) → names_behind (codes " (") [] ns ≡ in_parentheses ns
 all_behind [] = refl
-all_behind (n ∷ ns) = ap (λ text. codes " (" ++ nickname_name n ++ text) (next_behind ns)
+all_behind (n ∷ ns) =
+    ap (λ text. codes " (" ++ nickname_name n ++ text) (next_behind ns) ∙ sym (append_assoc (codes " (" ++ nickname_name n) (flat_map next_name ns) (codes ")"))

@@ -8,6 +8,7 @@ use Rattle.std.specs.Prelude.{◌≡◌, ◌≢◌, ◌⊎◌, ℕ, ◌==◌, Bo
 use Rattle.std.specs.List.{list_any, list_all, Any, All}
 use Rattle.std.specs.FinMap as map
 use Rattle.lab_table.specs.Row.{Row, row_test}
+use Rattle.lab_table.specs.Table.{Writes}
 use Rattle.lab_history.specs.History.{History}
 use Rattle.lab_history.specs.Version.{ops_of, WritesAt, writes_row}
 use Rattle.lab_history.specs.declared.operation.Op.{Op}
@@ -116,21 +117,33 @@ writes_none h walk n = list_all (λ e. not (writes_row h n e.row)) walk
 abbrev pub only_reads : History → List Edge → Edge → Bool
 only_reads h walk e = is_anti e.kind && writes_none h walk e.from
 
+-- whether some dependency of a cycle is one
+abbrev pub some_only_reads : History → List Edge → Bool
+some_only_reads h walk = list_any (only_reads h walk) walk
+
 -- whether a cycle is a read skew
 abbrev pub is_read_skew : History → List Edge → Bool
-is_read_skew h walk = is_g_single (walk_phenomenon walk) && list_any (only_reads h walk) walk
+is_read_skew h walk = is_g_single (walk_phenomenon walk) && some_only_reads h walk
+
+-- whether nothing is written
+abbrev pub is_nothing : Writes → Bool
+is_nothing writes = length (map.entries writes) == 0
 
 -- whether an operation wrote no row
 abbrev pub wrote_nothing : Op → Bool
-wrote_nothing op = length (map.entries op.writes) == 0
+wrote_nothing op = is_nothing op.writes
 
 -- whether none of a transaction's operations wrote a row
 abbrev pub is_read_only : History → ℕ → Bool
 is_read_only h n = list_all wrote_nothing (ops_of h n)
 
+-- whether some transaction of a cycle wrote no row
+abbrev pub some_read_only : History → List Edge → Bool
+some_read_only h walk = list_any (λ e. is_read_only h e.from) walk
+
 -- whether a cycle is a read-only anomaly
 abbrev pub is_read_only_anomaly : History → List Edge → Bool
-is_read_only_anomaly h walk = is_g2_item (walk_phenomenon walk) && list_any (λ e. is_read_only h e.from) walk
+is_read_only_anomaly h walk = is_g2_item (walk_phenomenon walk) && some_read_only h walk
 
 -- whether a dependency is from a reader to a later writer that changes its matches
 abbrev pub is_predicate_anti : Kind → Bool

@@ -4,12 +4,12 @@ ghost use Rattle.std.specs.Prelude.{◌≡◌, ◌++◌, filter, OnOk};
 ghost use Rattle.lab_table.specs.Row.{row_test};
 ghost use Rattle.lab_history.specs.Version.{writes_row};
 ghost use Rattle.lab_deps.specs.KindSets.{is_anti, is_item_anti, is_write};
-ghost use Rattle.lab_picture.specs.Nicknames.{nickname_name, loses, is_lost_update, skews, is_write_skew, is_g_single, is_g2_item, writes_none, only_reads, is_read_skew, wrote_nothing, is_read_only, is_read_only_anomaly, is_predicate_anti, is_phantom, has_form, nicknames_of, in_parentheses};
+ghost use Rattle.lab_picture.specs.Nicknames.{nickname_name, loses, is_lost_update, skews, is_write_skew, is_g_single, is_g2_item, writes_none, only_reads, some_only_reads, is_read_skew, is_nothing, wrote_nothing, is_read_only, some_read_only, is_read_only_anomaly, is_predicate_anti, is_phantom, has_form, nicknames_of, in_parentheses};
 
 use crate::cycles::walk_phenomenon;
 use crate::states::ops_of;
 use lab_deps::{Edge, Kind};
-use lab_history::{History, Op};
+use lab_history::{History, Op, Writes};
 use lab_reports::Phenomenon;
 use lab_table::{NoMemory, RowName, TxnNo};
 
@@ -152,18 +152,32 @@ fn only_reads(history: &History, walk: &[Edge], edge: &Edge) -> bool
     is_anti(edge.kind) && writes_none(history, walk, edge.from)
 }
 
+/// Whether some dependency of a cycle is one.
+fn some_only_reads(history: &History, walk: &[Edge]) -> bool
+    ensures { result ≡ some_only_reads history.now walk.now }
+{
+    walk.iter().any(|edge| only_reads(history, walk, edge))
+}
+
 /// Whether a cycle is a read skew.
 fn is_read_skew(history: &History, walk: &[Edge]) -> bool
     ensures { result ≡ is_read_skew history.now walk.now }
 {
-    is_g_single(walk_phenomenon(walk)) && walk.iter().any(|edge| only_reads(history, walk, edge))
+    is_g_single(walk_phenomenon(walk)) && some_only_reads(history, walk)
+}
+
+/// Whether nothing is written.
+fn is_nothing(writes: &Writes) -> bool
+    ensures { result ≡ is_nothing writes.now }
+{
+    writes.entries().len() == 0
 }
 
 /// Whether an operation wrote no row.
 fn wrote_nothing(op: &Op) -> bool
     ensures { result ≡ wrote_nothing op.now }
 {
-    op.writes.entries().len() == 0
+    is_nothing(&op.writes)
 }
 
 /// Whether none of a transaction's operations wrote a row.
@@ -173,11 +187,18 @@ fn is_read_only(history: &History, txn: TxnNo) -> bool
     ops_of(history, txn).iter().all(|op| wrote_nothing(op))
 }
 
+/// Whether some transaction of a cycle wrote no row.
+fn some_read_only(history: &History, walk: &[Edge]) -> bool
+    ensures { result ≡ some_read_only history.now walk.now }
+{
+    walk.iter().any(|edge| is_read_only(history, edge.from))
+}
+
 /// Whether a cycle is a read-only anomaly.
 fn is_read_only_anomaly(history: &History, walk: &[Edge]) -> bool
     ensures { result ≡ is_read_only_anomaly history.now walk.now }
 {
-    is_g2_item(walk_phenomenon(walk)) && walk.iter().any(|edge| is_read_only(history, edge.from))
+    is_g2_item(walk_phenomenon(walk)) && some_read_only(history, walk)
 }
 
 /// Whether a cycle is a phantom.

@@ -1,6 +1,7 @@
 //! The titles of drawings, in words. Each function appends; after NoMemory, part of what was to be appended may stand there.
 
 ghost use Rattle.std.specs.Prelude.{◌≡◌, ◌++◌, flat_map, OnOk};
+ghost use Rattle.lab_picture.specs.Cycles.{walk_phenomenon};
 ghost use Rattle.lab_picture.specs.Titles.{words_behind, full_name, next_text, txns_text, op_fault_words, row_fault_words, with_code, fault_words, serial_title, finding_word, finding_title};
 
 use crate::cycles::{cycle_of, walk_phenomenon};
@@ -117,6 +118,13 @@ fn put_fault_words(out: &mut Vec<u8>, fault: LocalFault) -> Result<(), NoMemory>
     }
 }
 
+/// Appends the most particular phenomenon that a cycle is.
+fn put_cycle_name(out: &mut Vec<u8>, history: &History, walk: &[Edge]) -> Result<(), NoMemory>
+    ensures { OnOk result (out.new.items ≡ out.old.items ++ full_name history.now (walk_phenomenon walk.now) walk.now) }
+{
+    put_full_name(out, history, walk_phenomenon(walk), walk)
+}
+
 /// Appends the title of a serial verdict on a history.
 pub fn put_serial_title(
     out: &mut Vec<u8>,
@@ -136,8 +144,7 @@ pub fn put_serial_title(
         }
         Serial::NoCycle(walk) => {
             out.extend_from_slice(b"Not serializable: ")?;
-            let walk = walk.as_slice();
-            put_full_name(out, history, walk_phenomenon(walk), walk)
+            put_cycle_name(out, history, walk.as_slice())
         }
     }
 }
