@@ -22,6 +22,7 @@ mod phrases;
 mod places;
 mod sections;
 mod steps;
+mod told;
 
 pub use explaining::explain;
 pub use laws::{

@@ -1,3 +1,5 @@
+pub mod Cycles
+pub mod Nicknames
 pub mod Titles
 pub mod TitleLaws
 pub mod Making

@@ -180,5 +180,5 @@ entitled title d = record { columns = d.columns; arrows = d.arrows; marked = d.m
 
 -- the drawing of a report: its serial verdict, or what it finds of a phenomenon
 abbrev pub drawing_of : History → Report → Option Phenomenon → Sketch
-drawing_of h report None = entitled (serial_title report.serial) (of_serial h report.serial)
-drawing_of h report (Some phenomenon) = entitled (finding_title phenomenon (finding_of phenomenon report)) (of_finding h (phenomenon_name phenomenon) (finding_of phenomenon report))
+drawing_of h report None = entitled (serial_title h report.serial) (of_serial h report.serial)
+drawing_of h report (Some phenomenon) = entitled (finding_title h phenomenon (finding_of phenomenon report)) (of_finding h (phenomenon_name phenomenon) (finding_of phenomenon report))

@@ -13,6 +13,7 @@
 mod arrows;
 mod boxes;
 mod columns;
+mod cycles;
 mod drawing;
 mod effect;
 mod fault_drawing;
@@ -22,6 +23,7 @@ mod installs;
 mod laws;
 mod layout;
 mod making;
+mod nicknames;
 mod picturing;
 mod route;
 mod sketch;
@@ -30,15 +32,19 @@ mod svg;
 mod text;
 mod titles;
 
+pub use cycles::cycle_of;
 pub use drawing::{Arrow, Drawing, Spot, Tie};
 pub use installs::{Misplaced, Why, installers_of, misplaced_of, put_misplaced};
 pub use laws::{
-    a_title_names_what_a_walk_is, an_escaped_text_has_no_markup, each_dependency_has_its_arrow,
-    each_dependency_of_a_walk_is_drawn, each_dependency_of_installed_rows_has_its_arrow,
-    picture_answer_unique, who_is_out_of_place_is_named,
+    a_nickname_is_said_of_its_form, a_title_names_what_a_walk_is, an_escaped_text_has_no_markup,
+    each_dependency_has_its_arrow, each_dependency_of_a_walk_is_drawn,
+    each_dependency_of_installed_rows_has_its_arrow, picture_answer_unique,
+    who_is_out_of_place_is_named,
 };
 pub use making::arrow_of;
+pub use nicknames::Nickname;
 pub use picturing::picture;
 pub use sketch::draw;
 pub use states::{ops_of, state_at};
 pub use svg::print_drawing;
+pub use titles::put_full_name;

@@ -28,14 +28,14 @@ pub fn draw(
     match asked {
         None => {
             let mut title = Vec::new(alloc);
-            put_serial_title(&mut title, &report.serial)?;
+            put_serial_title(&mut title, history, &report.serial)?;
             let drawing = of_serial(alloc, history, &report.serial)?;
             Ok(entitled(title, drawing))
         }
         Some(phenomenon) => {
             let found = phenomenon.found_in(report);
             let mut title = Vec::new(alloc);
-            put_finding_title(&mut title, phenomenon, found)?;
+            put_finding_title(&mut title, history, phenomenon, found)?;
             let drawing = of_finding(alloc, history, phenomenon.name(), found)?;
             Ok(entitled(title, drawing))
         }
