@@ -9,6 +9,11 @@ pub mod ArrowLaws
 pub mod Text
 pub mod Layout
 pub mod Effect
+pub mod Named
+pub mod Kept
+pub mod Lines
+pub mod Growth
+pub mod Values
 pub mod Boxes
 pub mod Columns
 pub mod Arrows

@@ -12,16 +12,21 @@
 
 mod arrows;
 mod boxes;
+mod column_notes;
 mod columns;
 mod drawing;
 mod effect;
 mod fault_drawing;
 mod forward;
+mod growth;
 mod heading;
 mod installs;
+mod kept;
 mod laws;
 mod layout;
+mod lines;
 mod making;
+mod named;
 mod picturing;
 mod route;
 mod sketch;
@@ -29,6 +34,7 @@ mod states;
 mod svg;
 mod text;
 mod titles;
+mod values;
 
 pub use drawing::{Arrow, Drawing, Spot, Tie};
 pub use installs::{Misplaced, Why, installers_of, misplaced_of, put_misplaced};
