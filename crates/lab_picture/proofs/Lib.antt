@@ -9,3 +9,5 @@ pub mod Escapes
 mod OnePicture
 mod LeastOfPairs
 mod TitledWalks
+mod TextLines
+mod KeptRows

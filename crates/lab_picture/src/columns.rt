@@ -62,11 +62,7 @@ fn title_of(alloc: Global, history: &History, txn: TxnNo) -> Result<Vec<u8>, NoM
 fn title_weight(thin: bool) -> &'static [u8]
     ensures { result.now ≡ title_weight thin }
 {
-    if thin {
-        b""
-    } else {
-        b" font-weight=\"bold\""
-    }
+    if thin { b"" } else { b" font-weight=\"bold\"" }
 }
 
 /// Appends what stands above a column.

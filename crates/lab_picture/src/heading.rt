@@ -1,16 +1,13 @@
 //! What stands above the columns of a picture, and where.
 
 ghost use Rattle.std.specs.Prelude.{◌≡◌, ◌++◌, ◌≤◌, IfOk, OnOk};
-ghost use Rattle.lab_picture.specs.Heading.{title_bytes, line_bytes, more_text, more_lines, far_text, far_lines, first_tie, legend_lines, marked_lines, about_y, note_y, more_y, far_y, legend_y, marked_y, thin_y, beside_y, head_y, title_style, title_lines, notes_text, sample_end, sample_path, sample_text, dependencies_text, legend_text, marked_text, columns_note, heading_text};
+ghost use Rattle.lab_picture.specs.Heading.{title_bytes, line_bytes, more_text, more_lines, far_text, far_lines, first_tie, legend_lines, marked_lines, about_y, note_y, more_y, far_y, legend_y, marked_y, thin_y, beside_y, head_y, title_style, title_lines, notes_text, columns_note, heading_text};
 
 use crate::column_notes::{beside_lines, beside_text, thin_lines, thin_text};
 use crate::drawing::{Arrow, Drawing, Spot, Tie};
 use crate::layout::MAX_COLUMNS;
-use crate::route::put_style;
-use crate::text::{
-    in_four, in_one, in_two, put_four_lines, put_line, put_number, put_pixels, put_text,
-    put_two_lines,
-};
+use crate::legend::{put_legend, put_marked};
+use crate::text::{in_four, in_one, in_two, put_four_lines, put_line, put_number, put_two_lines};
 use lab_table::NoMemory;
 use std::alloc::Global;
 
@@ -234,78 +231,6 @@ fn put_notes(alloc: Global, out: &mut Vec<u8>, drawing: &Drawing) -> Result<(), 
     put_line(out, b"", 26, more_y(drawing), &more)?;
     let far = far_text(drawing.columns.len(), &drawing.forward);
     put_line(out, b"", 26, far_y(drawing), far)
-}
-
-/// Appends the end of an arrow as it is drawn.
-#[tactic(auto, unfolding(crate::specs::Heading::sample_end))]
-fn put_sample_end(out: &mut Vec<u8>, y: u128, dashed: bool) -> Result<(), NoMemory>
-    ensures { OnOk result (out.new.items ≡ out.old.items ++ sample_end y dashed) }
-{
-    put_pixels(out, y.saturating_sub(4))?;
-    out.extend_from_slice(b" H58")?;
-    put_style(out, false, dashed)
-}
-
-/// Appends an arrow as it is drawn.
-fn put_sample_path(out: &mut Vec<u8>, y: u128, dashed: bool) -> Result<(), NoMemory>
-    ensures { OnOk result (out.new.items ≡ out.old.items ++ sample_path y dashed) }
-{
-    out.extend_from_slice(b"<path d=\"M26 ")?;
-    put_sample_end(out, y, dashed)
-}
-
-/// Appends an arrow as it is drawn, and what it says.
-#[tactic(auto, unfolding(crate::specs::Heading::sample_text))]
-fn put_sample(out: &mut Vec<u8>, y: u128, dashed: bool, says: &[u8]) -> Result<(), NoMemory>
-    ensures { OnOk result (out.new.items ≡ out.old.items ++ sample_text y dashed says.now) }
-{
-    put_sample_path(out, y, dashed)?;
-    put_text(out, b"", 66, y, says)
-}
-
-/// Appends what the arrows of dependencies say.
-fn put_dependencies(out: &mut Vec<u8>, y: u128) -> Result<(), NoMemory>
-    requires { y ≤ 1000 }
-    ensures { OnOk result (out.new.items ≡ out.old.items ++ dependencies_text y) }
-{
-    put_sample(
-        out,
-        y,
-        false,
-        b"dependency: the second saw or overwrote what the first wrote",
-    )?;
-    put_sample(
-        out,
-        y + 14,
-        true,
-        b"anti-dependency: the first didn't see what the second wrote",
-    )
-}
-
-/// Appends what the arrows say.
-#[tactic(auto, unfolding(crate::specs::Heading::legend_text))]
-fn put_legend(out: &mut Vec<u8>, y: u128, tie: Option<Tie>) -> Result<(), NoMemory>
-    requires { y ≤ 1000 }
-    ensures { OnOk result (out.new.items ≡ out.old.items ++ legend_text y tie) }
-{
-    match tie {
-        None => Ok(()),
-        Some(Tie::Version) => {
-            put_sample(out, y, false, b"sees: the second saw what the first wrote")
-        }
-        Some(Tie::Dependency(_)) => put_dependencies(out, y),
-    }
-}
-
-/// Appends what a thick edge says.
-#[tactic(auto, unfolding(crate::specs::Heading::marked_text))]
-fn put_marked(out: &mut Vec<u8>, y: u128, marked: &Option<Spot>) -> Result<(), NoMemory>
-    ensures { OnOk result (out.new.items ≡ out.old.items ++ marked_text y marked.now) }
-{
-    match marked {
-        None => Ok(()),
-        Some(_) => put_text(out, b"", 26, y, b"thick edge: the operation in question"),
-    }
 }
 
 /// Appends what thin columns and boxes side by side say.

@@ -24,6 +24,7 @@ mod installs;
 mod kept;
 mod laws;
 mod layout;
+mod legend;
 mod lines;
 mod making;
 mod named;
@@ -39,7 +40,8 @@ mod values;
 pub use drawing::{Arrow, Drawing, Spot, Tie};
 pub use installs::{Misplaced, Why, installers_of, misplaced_of, put_misplaced};
 pub use laws::{
-    a_title_names_what_a_walk_is, an_escaped_text_has_no_markup, each_dependency_has_its_arrow,
+    a_title_names_what_a_walk_is, an_escaped_text_has_no_markup,
+    each_arrow_has_its_row_at_both_ends, each_dependency_has_its_arrow,
     each_dependency_of_a_walk_is_drawn, each_dependency_of_installed_rows_has_its_arrow,
     picture_answer_unique, who_is_out_of_place_is_named,
 };
