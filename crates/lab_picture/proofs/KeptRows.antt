@@ -17,7 +17,8 @@ use Rattle.lab_picture.specs.Effect.{behind, or_none, is_unlisted, listed_row, w
 use Rattle.lab_picture.specs.Kept.{told_listed, told_written, listed_rows, written_rows, told_rows, tells_named, kept_row, kept_from, kept_lead, kept_text, before_row, before_dots, next_behind, behind_all}
 use Rattle.lab_picture.specs.Lines.{all_lines}
 use Rattle.lab_picture.specs.Named.{is_at, touches, rows_at, is_named}
-use Rattle.lab_picture.specs.RowLaws.{StandsIn, Have, BoxHas, HasRow}
+use Rattle.lab_picture.specs.RowLaws.{BoxHas, HasRow}
+use Rattle.lab_picture.specs.TextLaws.{StandsIn}
 use Rattle.lab_picture.specs.declared.drawing.Arrow.{Arrow}
 use Rattle.lab_picture.specs.declared.drawing.Spot.{Spot}
 use Rattle.lab_picture.specs.declared.kept.Behind.{Behind}

@@ -1,9 +1,9 @@
 -- The lines of a text are the text, and part no parentheses where they can end outside of them.
 use Rattle.std.proofs.Common.{◌≡◌, ◌⊎◌, ℕ, zero, suc, ◌+◌, ◌-◌, ◌==◌, ◌≤◌, ◌<◌, nat_le, Bool, true, false, ◌&&◌, cond, List, [], ◌∷◌, ◌++◌, take, drop, length, min, refl, sym, ap, ◌∙◌, subst, inl, inr, arith}
-use Rattle.std.proofs.lemmas.Bool.{false≢true, eqb-true, eqb-false, and_parts}
+use Rattle.std.proofs.lemmas.Bool.{false≢true, eqb-true, eqb-false, ne_eqb, and_parts}
 use Rattle.std.proofs.lemmas.List.{append-nil, take-append-drop, take-take, length-take, length-drop}
 use Rattle.lab_picture.specs.Lines.{lines_from}
-use Rattle.lab_picture.specs.RowLaws.{joined, depth_of, AreUnparted}
+use Rattle.lab_picture.specs.TextLaws.{joined, depth_of, AreUnparted}
 use Rattle.lab_picture.specs.Text.{depth_behind, outside_from, last_outside, last_blank, first_place, cut, front, back}
 
 -- a blank outside parentheses leaves none open
@@ -109,6 +109,13 @@ module _ (width : ℕ) where
     no_lines [] = refl
     no_lines (b ∷ room) = refl
 
+    -- a text has a first line, and the lines of what is left
+    lines_of_some : (b : ℕ) (room : List ℕ) (c : ℕ) (cs : List ℕ)
+        → lines_from width (b ∷ room) (c ∷ cs) ≡ front width (c ∷ cs) ∷ lines_from width room (back width (c ∷ cs))
+    lines_of_some b room c cs =
+        let long : (length (c ∷ cs) == 0) ≡ false = ne_eqb (suc (length cs)) 0 (λ e. let none : suc (length cs) ≡ 0 = e in absurd (omega (arith, none))) in
+        ap (λ t. cond t [] (front width (c ∷ cs) ∷ lines_from width room (back width (c ∷ cs)))) long
+
     -- the lines of a text are the text
     pub lines_joined : (room text : List ℕ) → length text ≤ length room → joined (lines_from width room text) ≡ text
     lines_joined [] [] l = refl
@@ -119,7 +126,7 @@ module _ (width : ℕ) where
         let most : suc (length cs) ≤ suc (length room) = l in
         let shorter : length (back width text) < suc (length cs) = back_shorter text (let s : 1 ≤ suc (length cs) = omega arith in s) in
         let rest = lines_joined room (back width text) (omega (arith, most, shorter)) in
-        ap (λ r. front width text ++ r) rest ∙ front_back text
+        ap joined (lines_of_some b room c cs) ∙ (ap (λ r. front width text ++ r) rest ∙ front_back text)
 
     -- a line before others
     line_before : (line : List ℕ) (rest : List (List ℕ)) → ((depth_of 0 line ≡ 0) ⊎ (last_outside (take (width + 1) (joined (line ∷ rest))) ≡ 0)) ⊎ (rest ≡ [])
@@ -158,4 +165,6 @@ module _ (width : ℕ) where
         let most : suc (length cs) ≤ suc (length room) = l in
         let shorter : length (back width text) < suc (length cs) = back_shorter text (let s : 1 ≤ suc (length cs) = omega arith in s) in
         let fits : length (back width text) ≤ length room = omega (arith, most, shorter) in
-        line_before (front width text) (lines_from width room (back width text)) (front_ends room text fits) (lines_unparted room (back width text) fits)
+        subst (AreUnparted width) (sym (lines_of_some b room c cs))
+        (line_before (front width text) (lines_from width room (back width text)) (front_ends room text fits)
+        (lines_unparted room (back width text) fits))

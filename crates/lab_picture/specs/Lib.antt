@@ -6,6 +6,7 @@ pub mod InstallLaws
 pub mod Sketch
 pub mod Forward
 pub mod ArrowLaws
+pub mod TextLaws
 pub mod RowLaws
 pub mod Text
 pub mod Layout
