@@ -488,7 +488,10 @@ def picture(h, line, asked=None):
 def report_line(text, asked):
     out = subprocess.run([JUDGE, "judge"], input=text.encode(), capture_output=True).stdout.decode()
     name = asked or "serializable"
-    return next(l for l in out.splitlines() if l.startswith(name + ": "))
+    for l in out.splitlines():
+        if l.startswith(name + ": "):
+            return l
+    raise ValueError(out)
 
 
 def reckoned(text, asked=None):
