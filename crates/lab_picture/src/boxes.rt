@@ -240,8 +240,8 @@ fn put_box(
 }
 
 /// The edge of a column's box: thick where it is marked, thin in a thin column.
-fn stroke_of(column: Column, op: u32) -> Stroke
-    ensures { result ≡ stroke_of column op }
+fn stroke_of(column: &Column, op: u32) -> Stroke
+    ensures { result ≡ stroke_of column.now op }
 {
     if op == column.marked {
         Stroke::Thick
@@ -258,12 +258,12 @@ fn put_op(
     out: &mut Vec<u8>,
     frame: Frame,
     arrows: &[Arrow],
-    column: Column,
+    column: &Column,
     number: u32,
     op: &Op,
 ) -> Result<(), NoMemory>
-    requires { column.place ≤ 40 }
-    ensures { OnOk result (out.new.items ≡ out.old.items ++ op_text frame arrows.now column number op.now) }
+    requires { column.now.place ≤ 40 }
+    ensures { OnOk result (out.new.items ≡ out.old.items ++ op_text frame arrows.now column.now number op.now) }
 {
     let named = rows_at(alloc, arrows, column.txn, number)?;
     let told = telling(alloc, &named, op)?;
@@ -279,12 +279,12 @@ pub fn put_boxes(
     out: &mut Vec<u8>,
     frame: Frame,
     arrows: &[Arrow],
-    column: Column,
+    column: &Column,
     ops: &[Op],
 ) -> Result<(), NoMemory>
-    requires column { column.place ≤ 40 }
+    requires column { column.now.place ≤ 40 }
     requires few { length ops.now ≤ 10000 }
-    ensures { OnOk result (out.new.items ≡ out.old.items ++ boxes_text frame arrows.now column 0 ops.now) }
+    ensures { OnOk result (out.new.items ≡ out.old.items ++ boxes_text frame arrows.now column.now 0 ops.now) }
 {
     for (index, op) in ops.iter().enumerate() {
         let number = index as u32 + 1;

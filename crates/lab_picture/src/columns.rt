@@ -109,10 +109,10 @@ fn put_column(
     history: &History,
     frame: Frame,
     arrows: &[Arrow],
-    column: Column,
+    column: &Column,
 ) -> Result<(), NoMemory>
-    requires { column.place ≤ 40 }
-    ensures { OnOk result (out.new.items ≡ out.old.items ++ column_text history.now frame arrows.now column) }
+    requires { column.now.place ≤ 40 }
+    ensures { OnOk result (out.new.items ≡ out.old.items ++ column_text history.now frame arrows.now column.now) }
 {
     let x = left(column.place);
     let y = top(frame, column.place);
@@ -137,7 +137,7 @@ pub fn put_columns(
 {
     for (place, txn) in columns.iter().enumerate() {
         let column = column_at(marked, thin, place, *txn);
-        put_column(alloc, out, history, frame, arrows, column)?;
+        put_column(alloc, out, history, frame, arrows, &column)?;
     }
     Ok(())
 }

@@ -3,6 +3,7 @@
 ghost use Rattle.std.specs.Prelude.{◌≡◌, ◌≤◌, length, IfOk};
 ghost use Rattle.lab_history.specs.Limits.{max_operations};
 ghost use Rattle.lab_picture.specs.Boxes.{box_lines};
+ghost use Rattle.lab_picture.specs.Named.{rows_at};
 ghost use Rattle.lab_picture.specs.Growth.{fullest_box, fullest, extra_lines};
 
 use crate::boxes::lines_in_box;

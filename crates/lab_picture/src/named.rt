@@ -16,12 +16,12 @@ fn has_ends(columns: &[TxnNo], arrow: &Arrow) -> bool
 }
 
 /// Appends the arrows that are drawn between columns of these transactions.
-fn add_drawn(drawn: &mut Vec<Arrow>, columns: &[TxnNo], arrows: &[Arrow]) -> Result<(), NoMemory>
-    ensures { OnOk result (drawn.new.items ≡ drawn.old.items ++ drawn columns.now arrows.now) }
+fn add_drawn(found: &mut Vec<Arrow>, columns: &[TxnNo], arrows: &[Arrow]) -> Result<(), NoMemory>
+    ensures { OnOk result (found.new.items ≡ found.old.items ++ drawn columns.now arrows.now) }
 {
     for arrow in arrows {
         if has_ends(columns, arrow) {
-            drawn.push(*arrow)?;
+            found.push(*arrow)?;
         }
     }
     Ok(())
