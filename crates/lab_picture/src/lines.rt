@@ -8,7 +8,8 @@ use lab_table::NoMemory;
 
 /// How many lines a text has.
 pub fn count_lines(width: usize, text: &[u8]) -> u64
-    ensures { result ≡ length (all_lines width text.now) }
+    ensures value { result ≡ length (all_lines width text.now) }
+    ensures within { result ≤ length text.now }
 {
     let mut count = 0;
     let mut rest = text;
