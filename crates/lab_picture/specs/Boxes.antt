@@ -47,8 +47,7 @@ lines_of told = cond told.is_cut 4 (in_three 28 told.statement + length (all_lin
 
 -- how many lines a box needs; where no row is named, no more than four
 abbrev pub box_lines : List Row → Op → ℕ
-box_lines [] op = 4
-box_lines (row ∷ named) op = lines_of (telling (row ∷ named) op)
+box_lines named op = cond (length named == 0) 4 (lines_of (telling named op))
 
 -- a whole statement and what it did, as a title
 abbrev pub whole_text : List ℕ → List ℕ → List ℕ

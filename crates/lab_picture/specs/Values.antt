@@ -33,9 +33,13 @@ values_at h y (row ∷ rows) = text_at [] 26 y (value_text h row) ++ values_at h
 abbrev pub rest_text : ℕ → List ℕ
 rest_text rows = cond (nat_lt 40 rows) (codes ".. and " ++ decimal (rows - 40) ++ codes " rows more") []
 
+-- the rows that have a line: no more than forty
+abbrev pub first_rows : List Row → List Row
+first_rows rows = take (min (length rows) 40) rows
+
 -- a line for each of the first forty rows, and one that says how many more there are
 unfoldable pub values_text : History → ℕ → List Row → List ℕ
-values_text h y rows = values_at h y (take (min (length rows) 40) rows) ++ line_at [] 26 (y + 560) (rest_text (length rows))
+values_text h y rows = values_at h y (first_rows rows) ++ line_at [] 26 (y + 560) (rest_text (length rows))
 
 -- how many lines that are
 abbrev pub value_lines : List Row → ℕ

@@ -30,7 +30,7 @@ fn put_size(out: &mut Vec<u8>, width: u128, height: u128) -> Result<(), NoMemory
 
 /// Appends two numbers as the end of an attribute.
 #[tactic(auto, unfolding(crate::specs::Svg::numbers_text))]
-fn put_pixelss(out: &mut Vec<u8>, a: u128, b: u128) -> Result<(), NoMemory>
+fn put_numbers(out: &mut Vec<u8>, a: u128, b: u128) -> Result<(), NoMemory>
     ensures { OnOk result (out.new.items ≡ out.old.items ++ numbers_text a b) }
 {
     put_pixels(out, a)?;
@@ -44,7 +44,7 @@ fn put_view(out: &mut Vec<u8>, width: u128, height: u128) -> Result<(), NoMemory
     ensures { OnOk result (out.new.items ≡ out.old.items ++ view_text width height) }
 {
     out.extend_from_slice(b" viewBox=\"0 0 ")?;
-    put_pixelss(out, width, height)
+    put_numbers(out, width, height)
 }
 
 #[tactic(auto, unfolding(crate::specs::Svg::svg_text))]

@@ -2,7 +2,7 @@
 
 ghost use Rattle.std.specs.Prelude.{◌≡◌, ◌++◌, ◌≤◌, [], length, IfOk, OnOk};
 ghost use Rattle.lab_picture.specs.Text.{text_at};
-ghost use Rattle.lab_picture.specs.Values.{is_of, rows_of, value_text, values_at, rest_text, values_text, value_lines};
+ghost use Rattle.lab_picture.specs.Values.{is_of, rows_of, value_text, values_at, first_rows, rest_text, values_text, value_lines};
 
 use crate::effect::put_state;
 use crate::text::{put_line, put_number, put_text};
@@ -87,6 +87,14 @@ fn put_values_at(
     Ok(())
 }
 
+/// The rows that have a line: no more than forty.
+fn first_rows(rows: &[RowName]) -> &[RowName]
+    ensures value { result.now ≡ first_rows rows.now }
+    ensures few { length result.now ≤ 40 }
+{
+    &rows[..rows.len().min(MAX_VALUES)]
+}
+
 /// How many rows have no line, where there are any. NoMemory where an allocation was refused.
 fn rest_text(alloc: Global, rows: usize) -> Result<Vec<u8>, NoMemory>
     ensures { IfOk result (λ text. text.items ≡ rest_text rows) }
@@ -112,8 +120,7 @@ pub fn put_values(
     requires { y ≤ 1000000000000000000000000000000000 }
     ensures { OnOk result (out.new.items ≡ out.old.items ++ values_text history.now y rows.now) }
 {
-    let told = &rows[..rows.len().min(MAX_VALUES)];
-    put_values_at(alloc, out, history, y, told)?;
+    put_values_at(alloc, out, history, y, first_rows(rows))?;
     let rest = rest_text(alloc, rows.len())?;
     put_line(out, b"", 26, y + 560, &rest)
 }
