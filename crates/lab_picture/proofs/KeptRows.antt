@@ -18,7 +18,7 @@ use Rattle.lab_picture.specs.Kept.{told_listed, told_written, listed_rows, writt
 use Rattle.lab_picture.specs.Lines.{all_lines}
 use Rattle.lab_picture.specs.Named.{is_at, touches, rows_at, is_named}
 use Rattle.lab_picture.specs.RowLaws.{BoxHas, HasRow}
-use Rattle.lab_picture.specs.TextLaws.{StandsIn}
+use Rattle.lab_picture.specs.TextLaws.{StandsIn, Have}
 use Rattle.lab_picture.specs.declared.drawing.Arrow.{Arrow}
 use Rattle.lab_picture.specs.declared.drawing.Spot.{Spot}
 use Rattle.lab_picture.specs.declared.kept.Behind.{Behind}
@@ -106,6 +106,13 @@ in_or_none text t (b, a, e) =
       | false ↦ λ _. (b, a, e)
     ] refl
 
+-- all lines of a text have what stands in it
+whole_in_lines : (text shown : List ℕ) → StandsIn text shown → Have (all_lines 28 shown) text
+whole_in_lines text shown there =
+    let same : length shown ≤ length shown = omega arith in
+    let some : 1 ≤ 28 = omega arith in
+    (subst (StandsIn text) (sym (lines_joined 28 some shown shown same)) there, lines_unparted 28 some shown shown same)
+
 module _ (op : Op) (row : Row) (text : List ℕ) (there : Contains (told_rows op) (row, text)) where
   -- what is told of a row stands in the whole
   in_whole : StandsIn text (effect_text op)
@@ -158,11 +165,7 @@ module _ (op : Op) (row : Row) (text : List ℕ) (there : Contains (told_rows op
     uncut = ap not (or_right (fits (printed_statement op.statement) (effect_text op)) (tells_named named op) tells)
 
     pub in_box : BoxHas (telling named op) text
-    in_box =
-        let shown : List ℕ = shown_effect named op in
-        let same : length shown ≤ length shown = omega arith in
-        let some : 1 ≤ 28 = omega arith in
-        (uncut, subst (StandsIn text) (sym (lines_joined 28 some shown shown same)) in_shown, lines_unparted 28 some shown shown same)
+    in_box = (uncut, whole_in_lines text (shown_effect named op) in_shown)
 
 -- the rows at an end of an arrow have its row
 named_there : (arrows : List Arrow) (a : Arrow) (n k : ℕ) → Contains arrows a → touches n k a ≡ true → is_named (rows_at arrows n k) a.row ≡ true

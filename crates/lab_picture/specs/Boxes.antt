@@ -1,6 +1,5 @@
 -- The text of operations' boxes.
 use Rattle.std.specs.Prelude.{ℕ, ◌+◌, ◌*◌, ◌==◌, nat_le, Bool, not, ◌||◌, cond, List, [], ◌∷◌, ◌++◌, length, codes}
-use Rattle.std.specs.Fmt.{decimal}
 use Rattle.lab_statement.specs.Printed.{printed_statement}
 use Rattle.lab_table.specs.Row.{Row}
 use Rattle.lab_history.specs.declared.operation.Op.{Op}
@@ -14,6 +13,7 @@ use Rattle.lab_picture.specs.Kept.{tells_named, kept_text}
 use Rattle.lab_picture.specs.Layout.{left, upper, box_height}
 use Rattle.lab_picture.specs.Lines.{all_lines, lines_at}
 use Rattle.lab_picture.specs.Named.{rows_at}
+use Rattle.lab_picture.specs.Size.{size_text}
 use Rattle.lab_picture.specs.Text.{escaped, place_text, one_line, two_lines, three_lines, in_three, in_four}
 
 -- what a box tells: the statement, what it did, whether that is cut where there is no more room, and else what stands of it
@@ -55,13 +55,13 @@ whole_text statement effect = codes "<g><title>" ++ escaped statement ++ codes "
 
 -- the edge of a box
 unfoldable pub stroke_text : Stroke → List ℕ
-stroke_text Plain = codes "/>\n"
-stroke_text Thick = codes " stroke-width=\"4\"/>\n"
-stroke_text Thin = codes " stroke-width=\"0.5\"/>\n"
+stroke_text Plain = codes " fill=\"white\" stroke=\"black\"/>\n"
+stroke_text Thick = codes " fill=\"white\" stroke=\"black\" stroke-width=\"4\"/>\n"
+stroke_text Thin = codes " fill=\"white\" stroke=\"black\" stroke-width=\"0.5\"/>\n"
 
 -- a box's size and edge
 unfoldable pub edge_style : ℕ → Stroke → List ℕ
-edge_style height stroke = codes " width=\"196\" height=\"" ++ decimal height ++ codes "\" fill=\"white\" stroke=\"black\"" ++ stroke_text stroke
+edge_style height stroke = size_text 196 height ++ stroke_text stroke
 
 -- a box at a place
 unfoldable pub edge_text : ℕ → ℕ → ℕ → Stroke → List ℕ

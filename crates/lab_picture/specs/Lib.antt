@@ -10,6 +10,7 @@ pub mod TextLaws
 pub mod RowLaws
 pub mod Text
 pub mod Layout
+pub mod Size
 pub mod Effect
 pub mod Named
 pub mod Kept

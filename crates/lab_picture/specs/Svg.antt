@@ -9,14 +9,11 @@ use Rattle.lab_picture.specs.Heading.{head_y, heading_text}
 use Rattle.lab_picture.specs.declared.layout.Frame.{Frame}
 use Rattle.lab_picture.specs.Layout.{width, height}
 use Rattle.lab_picture.specs.Named.{drawn}
+use Rattle.lab_picture.specs.Size.{size_text}
 use Rattle.lab_picture.specs.Sketch.{Sketch}
 use Rattle.lab_picture.specs.Text.{escaped}
 use Rattle.lab_picture.specs.Values.{value_lines, values_text}
 use Rattle.lab_picture.specs.declared.drawing.Arrow.{Arrow}
-
--- a size, as attributes
-unfoldable pub size_text : ℕ → ℕ → List ℕ
-size_text width height = codes " width=\"" ++ decimal width ++ codes "\" height=\"" ++ decimal height ++ codes "\""
 
 -- two numbers, as the end of an attribute
 unfoldable pub numbers_text : ℕ → ℕ → List ℕ

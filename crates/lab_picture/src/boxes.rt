@@ -10,9 +10,9 @@ use crate::kept::{kept_text, tells_named};
 use crate::layout::{BOX_BYTES, Column, Frame, Stroke, box_height, left, upper};
 use crate::lines::{count_lines, put_all_lines};
 use crate::named::rows_at;
+use crate::size::put_size;
 use crate::text::{
-    in_four, in_three, put_escaped, put_one_line, put_pixels, put_place, put_three_lines,
-    put_two_lines,
+    in_four, in_three, put_escaped, put_one_line, put_place, put_three_lines, put_two_lines,
 };
 use lab_history::Op;
 use lab_statement::put_statement;
@@ -116,9 +116,13 @@ fn put_stroke(out: &mut Vec<u8>, stroke: Stroke) -> Result<(), NoMemory>
     ensures { OnOk result (out.new.items ≡ out.old.items ++ stroke_text stroke) }
 {
     match stroke {
-        Stroke::Plain => out.extend_from_slice(b"/>\n"),
-        Stroke::Thick => out.extend_from_slice(b" stroke-width=\"4\"/>\n"),
-        Stroke::Thin => out.extend_from_slice(b" stroke-width=\"0.5\"/>\n"),
+        Stroke::Plain => out.extend_from_slice(b" fill=\"white\" stroke=\"black\"/>\n"),
+        Stroke::Thick => out.extend_from_slice(
+            b" fill=\"white\" stroke=\"black\" stroke-width=\"4\"/>\n",
+        ),
+        Stroke::Thin => out.extend_from_slice(
+            b" fill=\"white\" stroke=\"black\" stroke-width=\"0.5\"/>\n",
+        ),
     }
 }
 
@@ -127,9 +131,7 @@ fn put_stroke(out: &mut Vec<u8>, stroke: Stroke) -> Result<(), NoMemory>
 fn put_edge_style(out: &mut Vec<u8>, height: u128, stroke: Stroke) -> Result<(), NoMemory>
     ensures { OnOk result (out.new.items ≡ out.old.items ++ edge_style height stroke) }
 {
-    out.extend_from_slice(b" width=\"196\" height=\"")?;
-    put_pixels(out, height)?;
-    out.extend_from_slice(b"\" fill=\"white\" stroke=\"black\"")?;
+    put_size(out, 196, height)?;
     put_stroke(out, stroke)
 }
 

@@ -30,6 +30,7 @@ mod making;
 mod named;
 mod picturing;
 mod route;
+mod size;
 mod sketch;
 mod states;
 mod svg;

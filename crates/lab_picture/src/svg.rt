@@ -1,7 +1,7 @@
 //! The text of a drawing, in SVG.
 
 ghost use Rattle.std.specs.Prelude.{◌≡◌, ◌++◌, ◌≤◌, IfOk, OnOk};
-ghost use Rattle.lab_picture.specs.Svg.{size_text, numbers_text, view_text, svg_text, letters_text, open_text, told_title, told_line, told_text, marker_text, ground_text, head_text, arrows_drawn, drawn_columns, drawn_arrows, values_y, whole_height, body_text, svg_with, svg_of, goes_below, frame_of};
+ghost use Rattle.lab_picture.specs.Svg.{numbers_text, view_text, svg_text, letters_text, open_text, told_title, told_line, told_text, marker_text, ground_text, head_text, arrows_drawn, drawn_columns, drawn_arrows, values_y, whole_height, body_text, svg_with, svg_of, goes_below, frame_of};
 
 use crate::arrows::{has_round, put_arrows};
 use crate::columns::{most_ops, put_columns, shown_columns};
@@ -10,23 +10,12 @@ use crate::growth::extra_lines;
 use crate::heading::{head_y, put_heading};
 use crate::layout::{Frame, height, width};
 use crate::named::drawn;
+use crate::size::put_size;
 use crate::text::{put_escaped, put_pixels};
 use crate::values::{put_values, value_lines};
 use lab_history::History;
 use lab_table::NoMemory;
 use std::alloc::Global;
-
-/// Appends a size as attributes.
-#[tactic(auto, unfolding(crate::specs::Svg::size_text))]
-fn put_size(out: &mut Vec<u8>, width: u128, height: u128) -> Result<(), NoMemory>
-    ensures { OnOk result (out.new.items ≡ out.old.items ++ size_text width height) }
-{
-    out.extend_from_slice(b" width=\"")?;
-    put_pixels(out, width)?;
-    out.extend_from_slice(b"\" height=\"")?;
-    put_pixels(out, height)?;
-    out.extend_from_slice(b"\"")
-}
 
 /// Appends two numbers as the end of an attribute.
 #[tactic(auto, unfolding(crate::specs::Svg::numbers_text))]
