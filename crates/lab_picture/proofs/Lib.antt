@@ -10,4 +10,5 @@ mod OnePicture
 mod LeastOfPairs
 mod TitledWalks
 mod TextLines
+mod LineSteps
 mod KeptRows

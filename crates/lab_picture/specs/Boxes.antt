@@ -46,7 +46,7 @@ abbrev pub lines_of : Telling → ℕ
 lines_of told = cond told.is_cut 4 (in_three 28 told.statement + length (all_lines 28 told.shown))
 
 -- how many lines a box needs; where no row is named, no more than four
-abbrev pub box_lines : List Row → Op → ℕ
+unfoldable pub box_lines : List Row → Op → ℕ
 box_lines named op = cond (length named == 0) 4 (lines_of (telling named op))
 
 -- a whole statement and what it did, as a title

@@ -5,6 +5,7 @@ use Rattle.std.specs.List.{list_any}
 use Rattle.std.specs.FinMap as finite
 use Rattle.lab_statement.specs.Printed.{printed_row_name}
 use Rattle.lab_table.specs.Row.{Row, row_test}
+use Rattle.lab_table.specs.Table.{State}
 use Rattle.lab_history.specs.History.{History}
 use Rattle.lab_deps.specs.declared.edge.Edge.{Edge}
 use Rattle.lab_picture.specs.Effect.{state_text}
@@ -18,11 +19,17 @@ is_of walk row = list_any (λ e. row_test e.row row) walk
 abbrev pub rows_of : History → List Edge → List Row
 rows_of h walk = filter (is_of walk) (map (λ entry. entry.0) (finite.entries h.installed))
 
+-- a row's name before its values
+unfoldable pub value_lead : Row → List ℕ
+value_lead row = codes "row " ++ printed_row_name row ++ codes ": "
+
+-- a first and a last value
+unfoldable pub first_and_last : State → State → List ℕ
+first_and_last first last = state_text first ++ codes " at first, " ++ state_text last ++ codes " at the end"
+
 -- a row's first and last value
 abbrev pub value_text : History → Row → List ℕ
-value_text h row =
-    codes "row " ++ printed_row_name row ++ codes ": " ++ state_text (finite.get h.initial row) ++ codes " at first, "
-    ++ state_text (finite.get h.end_table row) ++ codes " at the end"
+value_text h row = value_lead row ++ first_and_last (finite.get h.initial row) (finite.get h.end_table row)
 
 -- a line for each of these rows
 abbrev pub values_at : History → ℕ → List Row → List ℕ

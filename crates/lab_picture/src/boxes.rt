@@ -100,6 +100,7 @@ fn lines_of(told: &BoxText) -> u64
 }
 
 /// How many lines an operation's box needs where these rows are named. NoMemory where an allocation was refused.
+#[tactic(auto, unfolding(crate::specs::Boxes::box_lines))]
 pub fn lines_in_box(alloc: Global, named: &[RowName], op: &Op) -> Result<u64, NoMemory>
     ensures { IfOk result (λ lines. lines ≡ box_lines named.now op.now) }
 {

@@ -2,14 +2,14 @@
 
 ghost use Rattle.std.specs.Prelude.{◌≡◌, ◌++◌, ◌≤◌, [], length, IfOk, OnOk};
 ghost use Rattle.lab_picture.specs.Text.{text_at};
-ghost use Rattle.lab_picture.specs.Values.{is_of, rows_of, value_text, values_at, first_rows, rest_text, values_text, value_lines};
+ghost use Rattle.lab_picture.specs.Values.{is_of, rows_of, value_lead, first_and_last, value_text, values_at, first_rows, rest_text, values_text, value_lines};
 
 use crate::effect::put_state;
 use crate::text::{put_line, put_number, put_text};
 use lab_deps::Edge;
 use lab_history::History;
 use lab_statement::put_row_name;
-use lab_table::{NoMemory, RowName};
+use lab_table::{NoMemory, RowName, Value};
 use std::alloc::Global;
 
 /// The most rows whose values are told.
@@ -40,17 +40,39 @@ pub fn rows_of(alloc: Global, history: &History, walk: &[Edge]) -> Result<Vec<Ro
     Ok(rows)
 }
 
+/// Appends a row's name before its values.
+#[tactic(auto, unfolding(crate::specs::Values::value_lead))]
+fn put_lead(out: &mut Vec<u8>, row: RowName) -> Result<(), NoMemory>
+    ensures { OnOk result (out.new.items ≡ out.old.items ++ value_lead row) }
+{
+    out.extend_from_slice(b"row ")?;
+    put_row_name(out, row)?;
+    out.extend_from_slice(b": ")
+}
+
+/// Appends a first and a last value.
+#[tactic(auto, unfolding(crate::specs::Values::first_and_last))]
+fn put_first_and_last(
+    out: &mut Vec<u8>,
+    first: Option<Value>,
+    last: Option<Value>,
+) -> Result<(), NoMemory>
+    ensures { OnOk result (out.new.items ≡ out.old.items ++ first_and_last first last) }
+{
+    put_state(out, first)?;
+    out.extend_from_slice(b" at first, ")?;
+    put_state(out, last)?;
+    out.extend_from_slice(b" at the end")
+}
+
 /// A row's first and last value. NoMemory where an allocation was refused.
 fn value_text(alloc: Global, history: &History, row: RowName) -> Result<Vec<u8>, NoMemory>
     ensures { IfOk result (λ text. text.items ≡ value_text history.now row) }
 {
-    let mut text = Vec::from_slice(alloc, b"row ")?;
-    put_row_name(&mut text, row)?;
-    text.extend_from_slice(b": ")?;
-    put_state(&mut text, history.initial().get(row))?;
-    text.extend_from_slice(b" at first, ")?;
-    put_state(&mut text, history.end_table().get(row))?;
-    text.extend_from_slice(b" at the end")?;
+    let mut text = Vec::new(alloc);
+    put_lead(&mut text, row)?;
+    let first = history.initial().get(row);
+    put_first_and_last(&mut text, first, history.end_table().get(row))?;
     Ok(text)
 }
 

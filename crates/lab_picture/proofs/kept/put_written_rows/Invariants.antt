@@ -7,4 +7,4 @@ use Rattle.lab_picture.proofs.kept.put_written_rows.Given as goal
 abbrev pub invariant-loop-row : goal.invariant-loop-row
 invariant-loop-row l =
     l.out.items ++ kept_from l.named l.behind (map told_written (filter (is_unlisted l.op.rows) (new_states (drop l.row-index l.row-items))))
-    ≡ l.initial.out.items ++ kept_from l.named l.first (map told_written (filter (is_unlisted l.op.rows) (new_states l.row-items)))
+    ≡ l.initial.out.items ++ kept_from l.named l.initial.behind (map told_written (filter (is_unlisted l.op.rows) (new_states l.row-items)))
