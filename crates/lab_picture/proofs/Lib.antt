@@ -11,3 +11,6 @@ mod LeastOfPairs
 mod TitledWalks
 mod NicknameForms
 pub mod SaidNames
+mod TextLines
+mod LineSteps
+mod KeptRows

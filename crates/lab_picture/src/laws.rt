@@ -18,7 +18,9 @@ ghost use Rattle.lab_picture.specs.Installs.{misplaced_text};
 ghost use Rattle.lab_picture.specs.Making.{arrow_of};
 ghost use Rattle.lab_picture.specs.Nicknames.{HasForm, nicknames_of};
 ghost use Rattle.lab_picture.specs.Picture.{IsPictureAnswer};
-ghost use Rattle.lab_picture.specs.Sketch.{drawing_of};
+ghost use Rattle.lab_picture.specs.RowLaws.{HasRow};
+ghost use Rattle.lab_picture.specs.Sketch.{Sketch, drawing_of};
+ghost use Rattle.lab_picture.specs.Svg.{arrows_drawn};
 ghost use Rattle.lab_picture.specs.Text.{escaped, is_plain};
 ghost use Rattle.lab_picture.specs.TitleLaws.{TellsWalk};
 ghost use Rattle.lab_reports.specs.declared.phenomenon.Phenomenon.{Phenomenon};
@@ -45,6 +47,12 @@ pub fn each_dependency_of_a_walk_is_drawn()
         → (e : Dependency) → Contains walk e → DrawsArrow h (drawing_of h report asked) e }
     ensures writes { (h : Held) (report : Report) (walk : List Dependency) → IsExactJudgement h report → NamesWalk report (Some G0) walk
         → (e : Dependency) → Contains walk e → DrawsWrites h (drawing_of h report (Some G0)) e }
+{}
+
+/// Where an arrow is drawn between two operations, the box of each has all that is told of the arrow's row, if the
+/// operation tells of it: nothing of it is cut, and its parentheses aren't parted, unless they are wider than a line.
+pub fn each_arrow_has_its_row_at_both_ends()
+    ensures { (h : Held) (d : Sketch) (a : Drawn) → Contains (arrows_drawn d) a → HasRow h (arrows_drawn d) a.row a.from × HasRow h (arrows_drawn d) a.row a.to }
 {}
 
 /// The picture of a row whose installers aren't its committed writers names one that is out of place, and how: a writer

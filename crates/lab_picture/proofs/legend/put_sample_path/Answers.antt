@@ -2,7 +2,7 @@ use Rattle.std.proofs.Common.{◌++◌, refl}
 use Rattle.std.specs.Prelude.{codes}
 use Rattle.lab_statement.proofs.Appended.{rest_appended}
 use Rattle.lab_picture.specs.Heading.{sample_end, sample_path}
-use Rattle.lab_picture.proofs.heading.put_sample_path.Goals as goal
+use Rattle.lab_picture.proofs.legend.put_sample_path.Goals as goal
 
 pub returns : goal.returns
 unfolding sample_path

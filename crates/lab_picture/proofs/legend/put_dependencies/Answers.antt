@@ -2,7 +2,7 @@ use Rattle.std.proofs.Common.{◌++◌, ◌+◌, true, false, refl}
 use Rattle.std.specs.Prelude.{codes}
 use Rattle.lab_statement.proofs.Appended.{rest_appended}
 use Rattle.lab_picture.specs.Heading.{sample_text, dependencies_text}
-use Rattle.lab_picture.proofs.heading.put_dependencies.Goals as goal
+use Rattle.lab_picture.proofs.legend.put_dependencies.Goals as goal
 
 pub returns : goal.returns
 unfolding dependencies_text
