@@ -1,0 +1,2 @@
+pub mod PartOf
+pub mod Left
