@@ -1,0 +1,2 @@
+pub mod Sublists
+pub mod PartLaws

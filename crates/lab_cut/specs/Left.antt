@@ -1,13 +1,17 @@
--- What masks leave of lists. A mask says of each member, by its place, whether it is kept.
-use Rattle.std.specs.Prelude.{ℕ, Bool, cond, List, [], ◌∷◌, map, length, drop}
+-- What masks leave of lists. A mask says of each member in turn whether it is kept; those beyond it are.
+use Rattle.std.specs.Prelude.{ℕ, Bool, true, cond, List, [], ◌∷◌, map, length, drop}
 use Rattle.lab_table.specs.declared.statement.Statement.{Statement}
 use Rattle.lab_history.specs.declared.transaction.Txn.{Txn}
 
--- the members that are kept; those beyond the mask are
+-- whether the next member is kept
+abbrev pub next_kept : List Bool → Bool
+next_kept [] = true
+next_kept (kept ∷ mask) = kept
+
+-- the members that are kept
 abbrev pub left_of : {A : Type 0} → List Bool → List A → List A
-left_of [] xs = xs
-left_of (kept ∷ mask) [] = []
-left_of (kept ∷ mask) (x ∷ xs) = cond kept (x ∷ left_of mask xs) (left_of mask xs)
+left_of mask [] = []
+left_of mask (x ∷ xs) = cond (next_kept mask) (x ∷ left_of (drop 1 mask) xs) (left_of (drop 1 mask) xs)
 
 -- a transaction's statements, in order
 abbrev pub statements : Txn → List Statement

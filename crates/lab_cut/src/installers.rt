@@ -1,0 +1,92 @@
+//! The installers of rows that stay.
+
+ghost use Rattle.std.specs.Prelude.{◌≡◌, IfOk, None};
+ghost use Rattle.lab_cut.specs.Cut as cut;
+ghost use Rattle.lab_cut.specs.Kept.{kept_in};
+
+use crate::kept::Moves;
+use lab_history::{History, Installed, Installers};
+use lab_table::{NoMemory, RowName, TxnNo};
+use std::alloc::Global;
+
+/// Whether a transaction goes from the installers of a row: it wrote the row and doesn't any more.
+pub fn goes(history: &History, moves: &Moves, row: RowName, txn: TxnNo) -> bool
+    ensures { result ≡ cut.goes (kept_in moves.now) history.now row txn }
+{
+    moves.last_left(txn, row).is_none() && history.last_write(txn, row).is_some()
+}
+
+/// Those that stay. NoMemory where an allocation was refused.
+fn staying(
+    alloc: Global,
+    history: &History,
+    moves: &Moves,
+    row: RowName,
+    installers: &[TxnNo],
+) -> Result<Vec<TxnNo>, NoMemory>
+    ensures { IfOk result (λ left. left.items ≡ cut.staying (kept_in moves.now) history.now row installers.now) }
+{
+    let mut left = Vec::new(alloc);
+    for txn in installers {
+        if !goes(history, moves, row, *txn) {
+            left.push(*txn)?;
+        }
+    }
+    Ok(left)
+}
+
+/// The last that stays, if one does.
+pub fn last_staying(
+    history: &History,
+    moves: &Moves,
+    row: RowName,
+    installers: &[TxnNo],
+) -> Option<TxnNo>
+    ensures { result ≡ cut.last_staying (kept_in moves.now) history.now row None installers.now }
+{
+    let mut last = None;
+    for txn in installers {
+        if !goes(history, moves, row, *txn) {
+            last = Some(*txn);
+        }
+    }
+    last
+}
+
+/// The last of the first ones, which go, if the first does.
+pub fn base(
+    history: &History,
+    moves: &Moves,
+    row: RowName,
+    installers: &[TxnNo],
+) -> Option<TxnNo>
+    ensures { result ≡ cut.last_of_front (cut.goes (kept_in moves.now) history.now row) None installers.now }
+{
+    let mut last = None;
+    for txn in installers {
+        if !goes(history, moves, row, *txn) {
+            return last;
+        }
+        last = Some(*txn);
+    }
+    last
+}
+
+/// The installers of each row that stay. NoMemory where an allocation was refused.
+pub fn left_installed(
+    alloc: Global,
+    history: &History,
+    moves: &Moves,
+) -> Result<Installed, NoMemory>
+    ensures { IfOk result (λ left. left ≡ cut.left_installed (kept_in moves.now) history.now) }
+{
+    let entries = history.installed().entries();
+    let mut left = Vec::with_capacity(alloc, entries.len())?;
+    for (row, installers) in entries {
+        let staying = staying(alloc, history, moves, *row, installers.as_slice())?;
+        if !staying.is_empty() {
+            left.push((*row, Installers::new(staying)))?;
+        }
+    }
+    Ok(Installed::new(left))
+}

@@ -1,0 +1,106 @@
+//! Transactions with the operations that are kept, which are counted anew.
+
+ghost use Rattle.std.specs.Prelude.{◌≡◌, ◌≤◌, IfOk, OnOk, length, drop, map};
+ghost use Rattle.lab_cut.specs.Cut as cut;
+ghost use Rattle.lab_cut.specs.Left.{left_of};
+ghost use Rattle.lab_cut.specs.Kept.{kept_in};
+
+use crate::kept::Moves;
+use crate::mask::Mask;
+use lab_history::{Op, Ops, Txn, VersionName, View};
+use lab_table::NoMemory;
+use std::alloc::Global;
+
+/// The new number of an operation that had this one, or None where it goes. One that isn't there keeps its own.
+fn number_after(operation: u32, number: Option<u32>) -> Option<u32>
+    ensures { result ≡ cut.number_after operation number }
+{
+    match number {
+        None => Some(operation),
+        Some(0) => None,
+        Some(number) => Some(number),
+    }
+}
+
+/// A version under its new name, or None where its operation goes.
+fn renamed(moves: &Moves, version: VersionName) -> Option<VersionName>
+    ensures { result ≡ cut.renamed (kept_in moves.now) version }
+{
+    match version {
+        VersionName::Initial => Some(VersionName::Initial),
+        VersionName::Of { txn, op } => {
+            let op = number_after(op, moves.number_of(txn, op))?;
+            Some(VersionName::Of { txn, op })
+        }
+    }
+}
+
+/// What is left of a view. NoMemory where an allocation was refused.
+fn left_view(alloc: Global, moves: &Moves, view: &View) -> Result<View, NoMemory>
+    ensures { IfOk result (λ left. left ≡ cut.left_view (kept_in moves.now) view.now) }
+{
+    let entries = view.entries();
+    let mut left = Vec::with_capacity(alloc, entries.len())?;
+    for (row, version) in entries {
+        if let Some(renamed) = renamed(moves, *version) {
+            left.push((*row, renamed))?;
+        }
+    }
+    Ok(View::new(left))
+}
+
+/// An operation with what is left of its view. NoMemory where an allocation was refused.
+fn left_op(alloc: Global, moves: &Moves, op: &Op) -> Result<Op, NoMemory>
+    ensures { IfOk result (λ left. left ≡ cut.left_op (kept_in moves.now) op.now) }
+{
+    Ok(Op {
+        statement: op.statement.copy(alloc)?,
+        view: left_view(alloc, moves, &op.view)?,
+        rows: op.rows.copy(alloc)?,
+        writes: op.writes.copy(alloc)?,
+    })
+}
+
+/// The operations of a transaction that a mask keeps. NoMemory where an allocation was refused.
+fn left_ops(
+    alloc: Global,
+    moves: &Moves,
+    mask: &mut Mask,
+    ops: &[Op],
+) -> Result<Vec<Op>, NoMemory>
+    ensures left { IfOk result (λ left. left.items ≡ map (cut.left_op (kept_in moves.now)) (left_of mask.old ops.now)) }
+    ensures rest { OnOk result (mask.new ≡ drop (length ops.now) mask.old) }
+{
+    let mut left = Vec::new(alloc);
+    for op in ops {
+        if mask.next() {
+            left.push(left_op(alloc, moves, op)?)?;
+        }
+    }
+    Ok(left)
+}
+
+/// The transactions with the operations that are kept, but for those that have none. NoMemory where an allocation was
+/// refused.
+pub fn left_txns(
+    alloc: Global,
+    moves: &Moves,
+    kept: &[bool],
+    txns: &[Txn],
+) -> Result<Vec<Txn>, NoMemory>
+    ensures { IfOk result (λ left. left.items ≡ cut.left_txns (kept_in moves.now) kept.now txns.now) }
+{
+    let mut left = Vec::new(alloc);
+    let mut mask = Mask::new(kept);
+    for txn in txns {
+        let ops = left_ops(alloc, moves, &mut mask, txn.ops.as_slice())?;
+        if !ops.is_empty() {
+            left.push(Txn {
+                no: txn.no,
+                outcome: txn.outcome,
+                ops: Ops::new(ops),
+            })?;
+        }
+    }
+    Ok(left)
+}

@@ -1,0 +1,159 @@
+//! The tables before and behind the operations that are kept.
+
+ghost use Rattle.std.specs.Prelude.{◌≡◌, IfOk, OnOk, option_map};
+ghost use Rattle.std.specs.FinMap as map;
+ghost use Rattle.lab_table.specs.Table.{overwritten};
+ghost use Rattle.lab_history.specs.VersionName.{state_value};
+ghost use Rattle.lab_cut.specs.Cut as cut;
+ghost use Rattle.lab_cut.specs.Kept.{kept_in};
+ghost use Rattle.lab_cut.specs.Overlaid as overlaid;
+
+use crate::installers::{base, last_staying};
+use crate::kept::Moves;
+use lab_history::{History, State, VersionName, Writes};
+use lab_table::{ByRow, NoMemory, RowName, Table, TxnNo, Value};
+use std::alloc::Global;
+
+/// The state of a row by this operation of a transaction; absent where there is none.
+fn state_by(history: &History, row: RowName, txn: TxnNo, operation: Option<u32>) -> State
+    ensures { state_value result ≡ cut.state_by history.now row txn operation }
+{
+    let Some(op) = operation else {
+        return State::Absent;
+    };
+    match history.version_state(row, VersionName::Of { txn, op }) {
+        Some(state) => state,
+        None => State::Absent,
+    }
+}
+
+/// The rows whose first installers go, with the states that the last of these left. NoMemory where an allocation was
+/// refused.
+fn bases(alloc: Global, history: &History, moves: &Moves) -> Result<Writes, NoMemory>
+    ensures { IfOk result (λ bases. bases ≡ cut.bases (kept_in moves.now) history.now) }
+{
+    let entries = history.installed().entries();
+    let mut bases = Vec::new(alloc);
+    for (row, installers) in entries {
+        if let Some(txn) = base(history, moves, *row, installers.as_slice()) {
+            let state = state_by(history, *row, txn, history.last_write(txn, *row));
+            bases.push((*row, state))?;
+        }
+    }
+    Ok(Writes::new(bases))
+}
+
+/// The new state of a row in the end, or None where its last version is kept.
+fn new_end(
+    history: &History,
+    moves: &Moves,
+    initial: &Table,
+    row: RowName,
+    installers: &[TxnNo],
+) -> Option<State>
+    requires { initial.now ≡ cut.left_initial (kept_in moves.now) history.now }
+    ensures { option_map state_value result ≡ cut.new_end (kept_in moves.now) history.now row installers.now }
+{
+    let last = *installers.last()?;
+    if moves.last_left(last, row) == history.last_write(last, row) {
+        return None;
+    }
+    let state = match last_staying(history, moves, row, installers) {
+        Some(txn) => state_by(history, row, txn, moves.last_left(txn, row)),
+        None => state_in(initial, row),
+    };
+    Some(state)
+}
+
+/// The state of a row in a table.
+fn state_in(table: &Table, row: RowName) -> State
+    ensures { state_value result ≡ map.get table.now row }
+{
+    match table.get(row) {
+        Some(value) => State::Present(value),
+        None => State::Absent,
+    }
+}
+
+/// The rows whose last versions go, with their new states in the end. NoMemory where an allocation was refused.
+fn new_ends(
+    alloc: Global,
+    history: &History,
+    moves: &Moves,
+    initial: &Table,
+) -> Result<Writes, NoMemory>
+    requires { initial.now ≡ cut.left_initial (kept_in moves.now) history.now }
+    ensures { IfOk result (λ ends. ends ≡ cut.new_ends (kept_in moves.now) history.now) }
+{
+    let entries = history.installed().entries();
+    let mut ends = Vec::new(alloc);
+    for (row, installers) in entries {
+        if let Some(state) = new_end(history, moves, initial, *row, installers.as_slice()) {
+            ends.push((*row, state))?;
+        }
+    }
+    Ok(Writes::new(ends))
+}
+
+/// The rows of a table with the new states of those that are present in both. NoMemory where an allocation was refused.
+fn kept_rows(
+    alloc: Global,
+    table: &Table,
+    states: &Writes,
+) -> Result<Vec<(RowName, Value)>, NoMemory>
+    ensures { IfOk result (λ rows. rows.items ≡ overlaid.kept_rows states.now (map.entries table.now)) }
+{
+    let entries = table.rows();
+    let mut rows = Vec::with_capacity(alloc, entries.len())?;
+    for (row, value) in entries {
+        match states.get(*row) {
+            None => rows.push((*row, *value))?,
+            Some(State::Present(value)) => rows.push((*row, value))?,
+            Some(State::Absent) => {}
+        }
+    }
+    Ok(rows)
+}
+
+/// Gives rows that are present these states.
+fn put_present(rows: &mut ByRow<Value>, states: &Writes) -> Result<(), NoMemory>
+    ensures { OnOk result (rows.new ≡ overlaid.put_present rows.old (map.entries states.now)) }
+{
+    let entries = states.entries();
+    for (row, state) in entries {
+        if let State::Present(value) = state {
+            rows.put(*row, *value)?;
+        }
+    }
+    Ok(())
+}
+
+/// A table with rows in new states. NoMemory where an allocation was refused.
+fn with_states(alloc: Global, table: &Table, states: &Writes) -> Result<Table, NoMemory>
+    ensures { IfOk result (λ made. made ≡ overwritten states.now table.now) }
+{
+    let mut rows = ByRow::from_rising(kept_rows(alloc, table, states)?);
+    put_present(&mut rows, states)?;
+    Ok(Table::from_rising(rows.take(alloc)))
+}
+
+/// The table before the operations that are kept. NoMemory where an allocation was refused.
+pub fn left_initial(alloc: Global, history: &History, moves: &Moves) -> Result<Table, NoMemory>
+    ensures { IfOk result (λ initial. initial ≡ cut.left_initial (kept_in moves.now) history.now) }
+{
+    with_states(alloc, history.initial(), &bases(alloc, history, moves)?)
+}
+
+/// The table behind them, by the one before them. NoMemory where an allocation was refused.
+pub fn left_end(
+    alloc: Global,
+    history: &History,
+    moves: &Moves,
+    initial: &Table,
+) -> Result<Table, NoMemory>
+    requires { initial.now ≡ cut.left_initial (kept_in moves.now) history.now }
+    ensures { IfOk result (λ end. end ≡ cut.left_end (kept_in moves.now) history.now) }
+{
+    let ends = new_ends(alloc, history, moves, initial)?;
+    with_states(alloc, history.end_table(), &ends)
+}
