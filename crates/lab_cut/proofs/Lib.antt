@@ -1,2 +1,12 @@
 pub mod Sublists
 pub mod PartLaws
+pub mod MadeEntries
+pub mod Masks
+pub mod NewNumbers
+pub mod KeptTxns
+pub mod CutTxns
+pub mod FoundStates
+pub mod CutParts
+pub mod Overlays
+pub mod SameShape
+pub mod MadeParts

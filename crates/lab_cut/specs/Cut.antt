@@ -71,17 +71,24 @@ module _ (kept : ℕ → Option Kept) where
     abbrev pub staying : Row → List ℕ → List ℕ
     staying row ns = filter (λ n. not (goes row n)) ns
 
+    abbrev pub left_list : Row → List ℕ → Option (List ℕ)
+    left_list row ns = if_any (staying row ns)
+
     abbrev pub left_installed : Installed
-    left_installed = rows.from_sorted (made_entries (λ row ns. if_any (staying row ns)) (rows.entries h.installed))
+    left_installed = rows.from_sorted (made_entries left_list (rows.entries h.installed))
 
     -- the last of some that stays, else one before them
     abbrev pub last_staying : Row → Option ℕ → List ℕ → Option ℕ
     last_staying row last [] = last
     last_staying row last (n ∷ ns) = last_staying row (cond (goes row n) last (Some n)) ns
 
-    -- the rows whose first installers go, with the states that the last of these left
+    -- the state that the last of a row's first installers left, which go
+    abbrev pub base : Row → List ℕ → Option State
+    base row ns = option_map (λ n. state_by h row n (last_write (ops_of h n) row)) (last_of_front (goes row) None ns)
+
+    -- the rows whose first installers go, with those states
     abbrev pub bases : Writes
-    bases = rows.from_sorted (made_entries (λ row ns. option_map (λ n. state_by h row n (last_write (ops_of h n) row)) (last_of_front (goes row) None ns)) (rows.entries h.installed))
+    bases = rows.from_sorted (made_entries base (rows.entries h.installed))
 
     abbrev pub left_initial : Table
     left_initial = overwritten bases h.initial

@@ -6,3 +6,4 @@ pub mod Cut
 pub mod InRows
 pub mod Seen
 pub mod Overlaid
+pub mod Chosen

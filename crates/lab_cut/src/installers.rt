@@ -3,6 +3,7 @@
 ghost use Rattle.std.specs.Prelude.{◌≡◌, IfOk, None};
 ghost use Rattle.lab_cut.specs.Cut as cut;
 ghost use Rattle.lab_cut.specs.Kept.{kept_in};
+ghost use Rattle.lab_cut.specs.MadeEntries.{made_entries};
 
 use crate::kept::Moves;
 use lab_history::{History, Installed, Installers};
@@ -54,7 +55,7 @@ pub fn last_staying(
 }
 
 /// The last of the first ones, which go, if the first does.
-pub fn base(
+pub fn last_of_front(
     history: &History,
     moves: &Moves,
     row: RowName,
@@ -72,6 +73,26 @@ pub fn base(
     last
 }
 
+/// The rows of a list with their installers that stay, but for those that have none. NoMemory where an allocation was
+/// refused.
+fn left_lists(
+    alloc: Global,
+    history: &History,
+    moves: &Moves,
+    entries: &[(RowName, Installers)],
+) -> Result<Vec<(RowName, Installers)>, NoMemory>
+    ensures { IfOk result (λ left. left.items ≡ made_entries (cut.left_list (kept_in moves.now) history.now) entries.now) }
+{
+    let mut left = Vec::with_capacity(alloc, entries.len())?;
+    for (row, installers) in entries {
+        let staying = staying(alloc, history, moves, *row, installers.as_slice())?;
+        if !staying.is_empty() {
+            left.push((*row, Installers::new(staying)))?;
+        }
+    }
+    Ok(left)
+}
+
 /// The installers of each row that stay. NoMemory where an allocation was refused.
 pub fn left_installed(
     alloc: Global,
@@ -80,13 +101,6 @@ pub fn left_installed(
 ) -> Result<Installed, NoMemory>
     ensures { IfOk result (λ left. left ≡ cut.left_installed (kept_in moves.now) history.now) }
 {
-    let entries = history.installed().entries();
-    let mut left = Vec::with_capacity(alloc, entries.len())?;
-    for (row, installers) in entries {
-        let staying = staying(alloc, history, moves, *row, installers.as_slice())?;
-        if !staying.is_empty() {
-            left.push((*row, Installers::new(staying)))?;
-        }
-    }
+    let left = left_lists(alloc, history, moves, history.installed().entries())?;
     Ok(Installed::new(left))
 }

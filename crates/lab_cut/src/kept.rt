@@ -1,13 +1,13 @@
 //! The operations of transactions that are kept.
 
 ghost use Rattle.std.specs.Prelude.{◌≡◌, ◌≤◌, ℕ, None, IfOk, OnOk, length, drop};
-ghost use Rattle.std.specs.FinMap as map;
 ghost use Rattle.lab_history.specs.HistoryRules.{operations};
 ghost use Rattle.lab_history.specs.Limits.{max_operations};
+ghost use Rattle.lab_history.specs.VersionName.{new_states};
 ghost use Rattle.lab_cut.specs.Kept.{kept_of, kept_in, all_kept, last_given, last_left, number_at, number_of, with_writes};
 
 use crate::mask::Mask;
-use lab_history::{Op, Txn, Writes};
+use lab_history::{Op, State, Txn};
 use lab_table::{ByRow, NoMemory, RowName, Sequence, TxnNo};
 use std::alloc::Global;
 use std::collections::BTreeMap;
@@ -31,12 +31,11 @@ pub struct Moves {
 fn note_writes(
     writes: &mut ByRow<u32>,
     operation: u32,
-    written: &Writes,
+    written: &[(RowName, State)],
 ) -> Result<(), NoMemory>
-    ensures { OnOk result (writes.new ≡ with_writes writes.old operation (map.entries written.now)) }
+    ensures { OnOk result (writes.new ≡ with_writes writes.old operation (new_states written.now)) }
 {
-    let entries = written.entries();
-    for (row, _) in entries {
+    for (row, _) in written {
         writes.put(*row, operation)?;
     }
     Ok(())
@@ -56,7 +55,7 @@ impl Kept {
             if mask.next() {
                 last += 1;
                 numbers.push(last)?;
-                note_writes(&mut writes, index as u32 + 1, &op.writes)?;
+                note_writes(&mut writes, index as u32 + 1, op.writes.entries())?;
             } else {
                 numbers.push(0)?;
             }
@@ -87,8 +86,8 @@ impl Moves {
         };
         let mut mask = Mask::new(kept);
         for txn in txns {
-            let kept = Kept::of(alloc, &mut mask, txn.ops.as_slice())?;
-            moves.by_txn.insert(txn.no, kept)?;
+            let own = Kept::of(alloc, &mut mask, txn.ops.as_slice())?;
+            moves.by_txn.insert(txn.no, own)?;
         }
         Ok(moves)
     }

@@ -8,6 +8,7 @@
 //! Whether a part shows what the whole shows isn't looked at here.
 #![tactic(auto)]
 
+mod entries;
 mod installers;
 mod kept;
 mod laws;
@@ -15,7 +16,10 @@ mod made;
 mod mask;
 mod moved;
 mod operations;
+mod rows;
 mod tables;
 
+pub use entries::without_entries;
 pub use laws::{part_of_a_part_is_a_part, whole_is_a_part};
 pub use operations::without_operations;
+pub use rows::with_rows;

@@ -4,11 +4,12 @@ ghost use Rattle.std.specs.Prelude.{◌≡◌, ◌≤◌, IfOk, OnOk, length, dr
 ghost use Rattle.lab_cut.specs.Cut as cut;
 ghost use Rattle.lab_cut.specs.Left.{left_of};
 ghost use Rattle.lab_cut.specs.Kept.{kept_in};
+ghost use Rattle.lab_cut.specs.MadeEntries.{made_entries};
 
 use crate::kept::Moves;
 use crate::mask::Mask;
 use lab_history::{Op, Ops, Txn, VersionName, View};
-use lab_table::NoMemory;
+use lab_table::{NoMemory, RowName};
 use std::alloc::Global;
 
 /// The new number of an operation that had this one, or None where it goes. One that isn't there keeps its own.
@@ -35,17 +36,28 @@ fn renamed(moves: &Moves, version: VersionName) -> Option<VersionName>
     }
 }
 
-/// What is left of a view. NoMemory where an allocation was refused.
-fn left_view(alloc: Global, moves: &Moves, view: &View) -> Result<View, NoMemory>
-    ensures { IfOk result (λ left. left ≡ cut.left_view (kept_in moves.now) view.now) }
+/// The entries of a view under their new names. NoMemory where an allocation was refused.
+fn left_entries(
+    alloc: Global,
+    moves: &Moves,
+    entries: &[(RowName, VersionName)],
+) -> Result<Vec<(RowName, VersionName)>, NoMemory>
+    ensures { IfOk result (λ left. left.items ≡ made_entries (λ row version. cut.renamed (kept_in moves.now) version) entries.now) }
 {
-    let entries = view.entries();
     let mut left = Vec::with_capacity(alloc, entries.len())?;
     for (row, version) in entries {
         if let Some(renamed) = renamed(moves, *version) {
             left.push((*row, renamed))?;
         }
     }
+    Ok(left)
+}
+
+/// What is left of a view. NoMemory where an allocation was refused.
+fn left_view(alloc: Global, moves: &Moves, view: &View) -> Result<View, NoMemory>
+    ensures { IfOk result (λ left. left ≡ cut.left_view (kept_in moves.now) view.now) }
+{
+    let left = left_entries(alloc, moves, view.entries())?;
     Ok(View::new(left))
 }
 

@@ -3,14 +3,15 @@
 ghost use Rattle.std.specs.Prelude.{◌≡◌, IfOk, OnOk, option_map};
 ghost use Rattle.std.specs.FinMap as map;
 ghost use Rattle.lab_table.specs.Table.{overwritten};
-ghost use Rattle.lab_history.specs.VersionName.{state_value};
+ghost use Rattle.lab_history.specs.VersionName.{new_states, state_value};
 ghost use Rattle.lab_cut.specs.Cut as cut;
 ghost use Rattle.lab_cut.specs.Kept.{kept_in};
+ghost use Rattle.lab_cut.specs.MadeEntries.{made_entries};
 ghost use Rattle.lab_cut.specs.Overlaid as overlaid;
 
-use crate::installers::{base, last_staying};
+use crate::installers::{last_of_front, last_staying};
 use crate::kept::Moves;
-use lab_history::{History, State, VersionName, Writes};
+use lab_history::{History, Installers, State, VersionName, Writes};
 use lab_table::{ByRow, NoMemory, RowName, Table, TxnNo, Value};
 use std::alloc::Global;
 
@@ -27,19 +28,37 @@ fn state_by(history: &History, row: RowName, txn: TxnNo, operation: Option<u32>)
     }
 }
 
-/// The rows whose first installers go, with the states that the last of these left. NoMemory where an allocation was
-/// refused.
-fn bases(alloc: Global, history: &History, moves: &Moves) -> Result<Writes, NoMemory>
-    ensures { IfOk result (λ bases. bases ≡ cut.bases (kept_in moves.now) history.now) }
+/// The state that the last of a row's first installers left, where these go.
+fn base(history: &History, moves: &Moves, row: RowName, installers: &[TxnNo]) -> Option<State>
+    ensures { option_map state_value result ≡ cut.base (kept_in moves.now) history.now row installers.now }
 {
-    let entries = history.installed().entries();
+    let txn = last_of_front(history, moves, row, installers)?;
+    Some(state_by(history, row, txn, history.last_write(txn, row)))
+}
+
+/// The rows of a list whose first installers go, with those states. NoMemory where an allocation was refused.
+fn bases_of(
+    alloc: Global,
+    history: &History,
+    moves: &Moves,
+    entries: &[(RowName, Installers)],
+) -> Result<Vec<(RowName, State)>, NoMemory>
+    ensures { IfOk result (λ bases. new_states bases.items ≡ made_entries (cut.base (kept_in moves.now) history.now) entries.now) }
+{
     let mut bases = Vec::new(alloc);
     for (row, installers) in entries {
-        if let Some(txn) = base(history, moves, *row, installers.as_slice()) {
-            let state = state_by(history, *row, txn, history.last_write(txn, *row));
+        if let Some(state) = base(history, moves, *row, installers.as_slice()) {
             bases.push((*row, state))?;
         }
     }
+    Ok(bases)
+}
+
+/// The rows whose first installers go, with those states. NoMemory where an allocation was refused.
+fn bases(alloc: Global, history: &History, moves: &Moves) -> Result<Writes, NoMemory>
+    ensures { IfOk result (λ bases. bases ≡ cut.bases (kept_in moves.now) history.now) }
+{
+    let bases = bases_of(alloc, history, moves, history.installed().entries())?;
     Ok(Writes::new(bases))
 }
 
@@ -75,6 +94,26 @@ fn state_in(table: &Table, row: RowName) -> State
     }
 }
 
+/// The rows of a list whose last versions go, with their new states in the end. NoMemory where an allocation was refused.
+fn ends_of(
+    alloc: Global,
+    history: &History,
+    moves: &Moves,
+    initial: &Table,
+    entries: &[(RowName, Installers)],
+) -> Result<Vec<(RowName, State)>, NoMemory>
+    requires { initial.now ≡ cut.left_initial (kept_in moves.now) history.now }
+    ensures { IfOk result (λ ends. new_states ends.items ≡ made_entries (cut.new_end (kept_in moves.now) history.now) entries.now) }
+{
+    let mut ends = Vec::new(alloc);
+    for (row, installers) in entries {
+        if let Some(state) = new_end(history, moves, initial, *row, installers.as_slice()) {
+            ends.push((*row, state))?;
+        }
+    }
+    Ok(ends)
+}
+
 /// The rows whose last versions go, with their new states in the end. NoMemory where an allocation was refused.
 fn new_ends(
     alloc: Global,
@@ -85,25 +124,18 @@ fn new_ends(
     requires { initial.now ≡ cut.left_initial (kept_in moves.now) history.now }
     ensures { IfOk result (λ ends. ends ≡ cut.new_ends (kept_in moves.now) history.now) }
 {
-    let entries = history.installed().entries();
-    let mut ends = Vec::new(alloc);
-    for (row, installers) in entries {
-        if let Some(state) = new_end(history, moves, initial, *row, installers.as_slice()) {
-            ends.push((*row, state))?;
-        }
-    }
+    let ends = ends_of(alloc, history, moves, initial, history.installed().entries())?;
     Ok(Writes::new(ends))
 }
 
-/// The rows of a table with the new states of those that are present in both. NoMemory where an allocation was refused.
+/// The rows of a list with the new states of those that are present in both. NoMemory where an allocation was refused.
 fn kept_rows(
     alloc: Global,
-    table: &Table,
+    entries: &[(RowName, Value)],
     states: &Writes,
 ) -> Result<Vec<(RowName, Value)>, NoMemory>
-    ensures { IfOk result (λ rows. rows.items ≡ overlaid.kept_rows states.now (map.entries table.now)) }
+    ensures { IfOk result (λ rows. rows.items ≡ overlaid.kept_rows states.now entries.now) }
 {
-    let entries = table.rows();
     let mut rows = Vec::with_capacity(alloc, entries.len())?;
     for (row, value) in entries {
         match states.get(*row) {
@@ -115,12 +147,11 @@ fn kept_rows(
     Ok(rows)
 }
 
-/// Gives rows that are present these states.
-fn put_present(rows: &mut ByRow<Value>, states: &Writes) -> Result<(), NoMemory>
-    ensures { OnOk result (rows.new ≡ overlaid.put_present rows.old (map.entries states.now)) }
+/// Gives rows those of these states in which they are present.
+fn put_present(rows: &mut ByRow<Value>, states: &[(RowName, State)]) -> Result<(), NoMemory>
+    ensures { OnOk result (rows.new ≡ overlaid.put_present rows.old (new_states states.now)) }
 {
-    let entries = states.entries();
-    for (row, state) in entries {
+    for (row, state) in states {
         if let State::Present(value) = state {
             rows.put(*row, *value)?;
         }
@@ -132,8 +163,9 @@ fn put_present(rows: &mut ByRow<Value>, states: &Writes) -> Result<(), NoMemory>
 fn with_states(alloc: Global, table: &Table, states: &Writes) -> Result<Table, NoMemory>
     ensures { IfOk result (λ made. made ≡ overwritten states.now table.now) }
 {
-    let mut rows = ByRow::from_rising(kept_rows(alloc, table, states)?);
-    put_present(&mut rows, states)?;
+    let kept = kept_rows(alloc, table.rows(), states)?;
+    let mut rows = ByRow::from_rising(kept);
+    put_present(&mut rows, states.entries())?;
     Ok(Table::from_rising(rows.take(alloc)))
 }
 
