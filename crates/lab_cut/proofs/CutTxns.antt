@@ -1,5 +1,5 @@
 -- The transactions of a cut are parts of the whole's.
-use Rattle.std.proofs.Common.{◌≡◌, inl, inr, ℕ, zero, suc, ◌+◌, Bool, true, false, cond, List, [], ◌∷◌, map, length, Option, Some, None, refl, sym, ap, ◌∙◌, subst, arith, add-one, zero-add}
+use Rattle.std.proofs.Common.{◌≡◌, inl, inr, ℕ, zero, suc, ◌+◌, Bool, true, false, cond, List, [], ◌∷◌, map, length, Option, Some, None, refl, sym, ap, ◌∙◌, subst, arith, add-one, zero-add, eq-eqb, ne_eqb}
 use Rattle.std.specs.Prelude.{option_map, option_and_then, unwrap_or, drop, slice_get}
 use Rattle.std.specs.FinMap as finite
 use Rattle.std.proofs.lemmas.Option.{same_Some, none-some}
@@ -42,9 +42,9 @@ number_back (suc k) new (Some own) leads e = at (slice_get own.numbers k) refl e
     at None w e =
         let same : suc k ≡ new = same_Some (suc k) new e in
         subst (λ n. old_number n (Some own) ≡ suc k) same (ap (λ o. unwrap_or o (suc k)) ((leads own refl).past k w))
-    at (Some zero) w e = absurd (none-some new e)
+    at (Some zero) w e = absurd (none-some new (sym (ap (λ b. cond b None (Some 0)) (eq-eqb 0 0 refl)) ∙ e))
     at (Some (suc m)) w e =
-        let same : suc m ≡ new = same_Some (suc m) new e in
+        let same : suc m ≡ new = same_Some (suc m) new (sym (ap (λ b. cond b None (Some (suc m))) (ne_eqb (suc m) 0 (λ is. omega arith))) ∙ e) in
         subst (λ n. old_number n (Some own) ≡ suc k) same (ap (λ o. unwrap_or o (suc m)) ((leads own refl).back k m w))
 
 module _ (kept : ℕ → Option Kept) (leads : (n : ℕ) (own : Kept) → kept n ≡ Some own → LeadBack own.numbers) where

@@ -1,5 +1,5 @@
 -- A history without the operations that aren't kept.
-use Rattle.std.specs.Prelude.{ℕ, zero, suc, ◌&&◌, Bool, true, not, cond, nat_eq, ◌-◌, Option, Some, None, is_some, is_none, option_map, unwrap_or, option_and_then, List, [], ◌∷◌, map, filter, length, drop, slice_get}
+use Rattle.std.specs.Prelude.{ℕ, ◌==◌, ◌&&◌, Bool, true, not, cond, nat_eq, ◌-◌, Option, Some, None, is_some, is_none, option_map, unwrap_or, option_and_then, List, [], ◌∷◌, map, filter, length, drop, slice_get}
 use Rattle.std.specs.Option.{option_eq}
 use Rattle.std.specs.FinMap as rows
 use Rattle.lab_table.specs.Row.{Row}
@@ -21,8 +21,7 @@ use Rattle.lab_cut.specs.declared.kept.Kept.{Kept}
 -- the number of an operation where it had another: one that goes has none, and one that isn't there keeps its own
 abbrev pub number_after : ℕ → Option ℕ → Option ℕ
 number_after k None = Some k
-number_after k (Some zero) = None
-number_after k (Some (suc new)) = Some (suc new)
+number_after k (Some new) = cond (new == 0) None (Some new)
 
 -- a list of installers, if it has one
 abbrev pub if_any : List ℕ → Option (List ℕ)

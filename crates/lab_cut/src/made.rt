@@ -12,7 +12,12 @@ pub fn made(alloc: Global, parts: Parts) -> Result<Option<History>, NoMemory>
 {
     match History::from_parts(alloc, parts) {
         Ok(history) => Ok(Some(history)),
-        Err((_, FileFault::NoMemory)) => Err(AllocError),
-        Err(_) => Ok(None),
+        Err((parts, fault)) => {
+            drop(parts);
+            match fault {
+                FileFault::NoMemory => Err(AllocError),
+                _ => Ok(None),
+            }
+        }
     }
 }

@@ -18,8 +18,13 @@ fn number_after(operation: u32, number: Option<u32>) -> Option<u32>
 {
     match number {
         None => Some(operation),
-        Some(0) => None,
-        Some(number) => Some(number),
+        Some(number) => {
+            if number == 0 {
+                None
+            } else {
+                Some(number)
+            }
+        }
     }
 }
 

@@ -37,7 +37,8 @@ pub fn without_operations(
 
 /// The parts of what is left. NoMemory where an allocation was refused.
 fn left_parts(alloc: Global, history: &History, kept: &[bool]) -> Result<Parts, NoMemory>
-    ensures { IfOk result (λ parts. parts ≡ cut kept.now history.now) }
+    ensures exact { IfOk result (λ parts. parts ≡ cut kept.now history.now) }
+    ensures part { IfOk result (λ parts. IsPartOf parts history.now) }
 {
     let txns = history.txns().as_slice();
     let moves = Moves::of(alloc, kept, txns)?;

@@ -128,6 +128,26 @@ fn new_ends(
     Ok(Writes::new(ends))
 }
 
+/// The value of a row in a state, if it is present.
+fn value_in(state: State) -> Option<Value>
+    ensures { result ≡ state_value state }
+{
+    match state {
+        State::Absent => None,
+        State::Present(value) => Some(value),
+    }
+}
+
+/// The new value of a row that had this one, if it is present.
+fn new_value(states: &Writes, row: RowName, value: Value) -> Option<Value>
+    ensures { result ≡ overlaid.new_value (map.get states.now row) value }
+{
+    match states.get(row) {
+        None => Some(value),
+        Some(state) => value_in(state),
+    }
+}
+
 /// The rows of a list with the new states of those that are present in both. NoMemory where an allocation was refused.
 fn kept_rows(
     alloc: Global,
@@ -138,10 +158,8 @@ fn kept_rows(
 {
     let mut rows = Vec::with_capacity(alloc, entries.len())?;
     for (row, value) in entries {
-        match states.get(*row) {
-            None => rows.push((*row, *value))?,
-            Some(State::Present(value)) => rows.push((*row, value))?,
-            Some(State::Absent) => {}
+        if let Some(value) = new_value(states, *row, *value) {
+            rows.push((*row, value))?;
         }
     }
     Ok(rows)
@@ -152,8 +170,8 @@ fn put_present(rows: &mut ByRow<Value>, states: &[(RowName, State)]) -> Result<(
     ensures { OnOk result (rows.new ≡ overlaid.put_present rows.old (new_states states.now)) }
 {
     for (row, state) in states {
-        if let State::Present(value) = state {
-            rows.put(*row, *value)?;
+        if let Some(value) = value_in(*state) {
+            rows.put(*row, value)?;
         }
     }
     Ok(())
