@@ -80,30 +80,36 @@ module _ (kept : ℕ → Option Kept) (leads : (n : ℕ) (own : Kept) → kept n
     writes = λ row s e. e;
   }
 
+  -- numbers lead on from these: the new ones to the old
+  abbrev LeadsFrom : ℕ → ℕ → List ℕ → Type 0
+  LeadsFrom n base news = (m p : ℕ) → place_in news (suc m) ≡ Some p → number n (suc m) ≡ base + p
+
   -- operations that are left stand for those with their old numbers
-  ops_back : (n : ℕ) (ops : List Op) (last base : ℕ) (mask : List Bool) → ((m p : ℕ) → place_in (new_numbers last mask ops) (suc m) ≡ Some p → number n (suc m) ≡ base + p)
-      → IsSublistBy (IsOpAt number n) (numbered (last + 1) (map (left_op kept) (left_of mask ops))) (numbered (base + 1) ops)
-  ops_back n [] last base mask leads = tt
-  ops_back n (op ∷ ops) last base mask leads = at (next_kept mask) leads
-    where
-      on_kept : ((m p : ℕ) → place_in ((last + 1) ∷ new_numbers (last + 1) (drop 1 mask) ops) (suc m) ≡ Some p → number n (suc m) ≡ base + p)
-          → IsSublistBy (IsOpAt number n) ((last + 1, left_op kept op) ∷ numbered (last + 1 + 1) (map (left_op kept) (left_of (drop 1 mask) ops))) ((base + 1, op) ∷ numbered (base + 1 + 1) ops)
-      on_kept leads =
-          let own : number n (last + 1) ≡ base + 1 = ap (number n) (add-one last) ∙ leads last 1 (place_first (last + 1) (suc last) (new_numbers (last + 1) (drop 1 mask) ops) (add-one last)) in
-          inl ((sym own, op_back op), ops_back n ops (last + 1) (base + 1) (drop 1 mask) (λ m p e.
-            let more : last + 1 ≤ m = placed_above ops (last + 1) (drop 1 mask) m p e in
-            leads m (suc p) (place_behind (last + 1) (suc m) p (new_numbers (last + 1) (drop 1 mask) ops) (λ same. omega arith) e) ∙ omega arith))
+  abbrev OpsBack : ℕ → ℕ → ℕ → List Op → List Op → Type 0
+  OpsBack n last base left ops = IsSublistBy (IsOpAt number n) (numbered (last + 1) (map (left_op kept) left)) (numbered (base + 1) ops)
 
-      on_gone : ((m p : ℕ) → place_in (0 ∷ new_numbers last (drop 1 mask) ops) (suc m) ≡ Some p → number n (suc m) ≡ base + p)
-          → IsSublistBy (IsOpAt number n) (numbered (last + 1) (map (left_op kept) (left_of (drop 1 mask) ops))) ((base + 1, op) ∷ numbered (base + 1 + 1) ops)
-      on_gone leads =
-          skipped (IsOpAt number n) (base + 1, op) (numbered (base + 1 + 1) ops) (numbered (last + 1) (map (left_op kept) (left_of (drop 1 mask) ops)))
-          (ops_back n ops last (base + 1) (drop 1 mask) (λ m p e. leads m (suc p) (place_behind 0 (suc m) p (new_numbers last (drop 1 mask) ops) (λ same. omega arith) e) ∙ omega arith))
+  op_kept : (n : ℕ) (op : Op) (ops : List Op) (last base : ℕ) (mask : List Bool) → (LeadsFrom n (base + 1) (new_numbers (last + 1) mask ops) → OpsBack n (last + 1) (base + 1) (left_of mask ops) ops)
+      → LeadsFrom n base ((last + 1) ∷ new_numbers (last + 1) mask ops) → OpsBack n last base (op ∷ left_of mask ops) (op ∷ ops)
+  op_kept n op ops last base mask rest leads =
+      let own : number n (last + 1) ≡ base + 1 = ap (number n) (add-one last) ∙ leads last 1 (place_first (last + 1) (suc last) (new_numbers (last + 1) mask ops) (add-one last)) in
+      inl ((sym own, op_back op), rest (λ m p e.
+        let more : last + 1 ≤ m = placed_above ops (last + 1) mask m p e in
+        leads m (suc p) (place_behind (last + 1) (suc m) p (new_numbers (last + 1) mask ops) (λ same. omega arith) e) ∙ omega arith))
 
-      at : (b : Bool) → ((m p : ℕ) → place_in (cond b ((last + 1) ∷ new_numbers (last + 1) (drop 1 mask) ops) (0 ∷ new_numbers last (drop 1 mask) ops)) (suc m) ≡ Some p → number n (suc m) ≡ base + p)
-          → IsSublistBy (IsOpAt number n) (numbered (last + 1) (map (left_op kept) (cond b (op ∷ left_of (drop 1 mask) ops) (left_of (drop 1 mask) ops)))) ((base + 1, op) ∷ numbered (base + 1 + 1) ops)
-      at true leads = on_kept leads
-      at false leads = on_gone leads
+  op_gone : (n : ℕ) (op : Op) (ops : List Op) (last base : ℕ) (mask : List Bool) → (LeadsFrom n (base + 1) (new_numbers last mask ops) → OpsBack n last (base + 1) (left_of mask ops) ops)
+      → LeadsFrom n base (0 ∷ new_numbers last mask ops) → OpsBack n last base (left_of mask ops) (op ∷ ops)
+  op_gone n op ops last base mask rest leads =
+      skipped (IsOpAt number n) (base + 1, op) (numbered (base + 1 + 1) ops) (numbered (last + 1) (map (left_op kept) (left_of mask ops)))
+      (rest (λ m p e. leads m (suc p) (place_behind 0 (suc m) p (new_numbers last mask ops) (λ same. omega arith) e) ∙ omega arith))
+
+  ops_back : (n : ℕ) (ops : List Op) (last base : ℕ) (mask : List Bool) → LeadsFrom n base (new_numbers last mask ops) → OpsBack n last base (left_of mask ops) ops
+  ops_back n [] last base mask = λ leads. tt
+  ops_back n (op ∷ ops) last base mask =
+      elim (next_kept mask) as (λ b. LeadsFrom n base (cond b ((last + 1) ∷ new_numbers (last + 1) (drop 1 mask) ops) (0 ∷ new_numbers last (drop 1 mask) ops))
+          → OpsBack n last base (cond b (op ∷ left_of (drop 1 mask) ops) (left_of (drop 1 mask) ops)) (op ∷ ops)) [
+        | true ↦ op_kept n op ops last base (drop 1 mask) (ops_back n ops (last + 1) (base + 1) (drop 1 mask))
+        | false ↦ op_gone n op ops last base (drop 1 mask) (ops_back n ops last (base + 1) (drop 1 mask))
+      ]
 
   -- those of a transaction of which this is kept
   own_ops : (n : ℕ) (mask : List Bool) (ops : List Op) → kept n ≡ Some (kept_of mask ops) → IsSublistBy (IsOpAt number n) (numbered 1 (map (left_op kept) (left_of mask ops))) (numbered 1 ops)

@@ -15,12 +15,12 @@ use Rattle.lab_cut.specs.Cut.{state_by}
 
 -- a transaction that is found by its number is one of them
 txn_there : (ts : List Txn) (n : ℕ) (t : Txn) → find_txn ts n ≡ Some t → Contains ts t
-txn_there [] n t e = absurd (none-some t e)
-txn_there (u ∷ ts) n t = at (u.no == n)
+txn_there [] n t = λ e. absurd (none-some t e)
+txn_there (u ∷ ts) n t = at (txn_there ts n t) (u.no == n)
   where
-    at : (b : Bool) → cond b (Some u) (find_txn ts n) ≡ Some t → Contains (u ∷ ts) t
-    at true e = subst (Contains (u ∷ ts)) (same_Some u t e) (first_member u ts)
-    at false e = later_member u ts t (txn_there ts n t e)
+    at : (find_txn ts n ≡ Some t → Contains ts t) → (b : Bool) → cond b (Some u) (find_txn ts n) ≡ Some t → Contains (u ∷ ts) t
+    at rest true e = subst (Contains (u ∷ ts)) (same_Some u t e) (first_member u ts)
+    at rest false e = later_member u ts t (rest e)
 
 -- an operation that is found by its number is one of them
 op_there : (ops : List Op) (k : ℕ) (op : Op) → op_at ops k ≡ Some op → Contains ops op

@@ -1,3 +1,4 @@
+pub mod Steps
 pub mod Sublists
 pub mod PartLaws
 pub mod MadeEntries

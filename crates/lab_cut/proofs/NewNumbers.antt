@@ -1,11 +1,10 @@
 -- New numbers of members that a mask keeps.
 use Rattle.std.proofs.Common.{◌≡◌, ℕ, zero, suc, ◌+◌, ◌≤◌, ◌<◌, Bool, true, false, cond, ◌==◌, List, [], ◌∷◌, length, Option, Some, None, refl, sym, ap, ◌∙◌, arith, ne_eqb, eq-eqb}
-use Rattle.std.specs.Prelude.{option_map, unwrap_or, drop, slice_get}
+use Rattle.std.specs.Prelude.{option_map, drop, slice_get}
 use Rattle.std.proofs.lemmas.Option.{same_Some, none-some}
-use Rattle.lab_table.proofs.Tests.{mapped_some}
 use Rattle.lab_history.specs.Version.{place_in}
 use Rattle.lab_history.proofs.Greatest.{place_is_least}
-use Rattle.lab_cut.specs.Left.{next_kept, left_of}
+use Rattle.lab_cut.specs.Left.{next_kept}
 use Rattle.lab_cut.specs.Kept.{new_numbers}
 
 -- numbers that lead back: each that isn't 0 stands once, and none is above how many there are
@@ -30,22 +29,25 @@ pub place_first : (head n : ℕ) (ns : List ℕ) → head ≡ n → place_in (he
 place_first head n ns same = ap (λ b. cond b (Some 1) (option_map (λ q. suc q) (place_in ns n))) (eq-eqb head n same)
 
 module _ {A : Type 0} where
+  -- what they are above, where one is kept and where one goes
+  above_kept : (xs : List A) (last : ℕ) (mask : List Bool) (i m : ℕ) → ((j : ℕ) → slice_get (new_numbers (last + 1) mask xs) j ≡ Some (suc m) → last + 1 ≤ m)
+      → slice_get ((last + 1) ∷ new_numbers (last + 1) mask xs) i ≡ Some (suc m) → last ≤ m
+  above_kept xs last mask zero m rest e = let same = same_Some (last + 1) (suc m) e in omega arith
+  above_kept xs last mask (suc i) m rest e = let more = rest i e in omega arith
+
+  above_gone : (xs : List A) (last : ℕ) (mask : List Bool) (i m : ℕ) → ((j : ℕ) → slice_get (new_numbers last mask xs) j ≡ Some (suc m) → last ≤ m)
+      → slice_get (0 ∷ new_numbers last mask xs) i ≡ Some (suc m) → last ≤ m
+  above_gone xs last mask zero m rest e = let same = same_Some 0 (suc m) e in absurd (omega arith)
+  above_gone xs last mask (suc i) m rest e = rest i e
+
   -- they count on
   pub above : (xs : List A) (last : ℕ) (mask : List Bool) (i m : ℕ) → slice_get (new_numbers last mask xs) i ≡ Some (suc m) → last ≤ m
-  above [] last mask i m e = absurd (none-some (suc m) e)
+  above [] last mask i m = λ e. absurd (none-some (suc m) e)
   above (x ∷ xs) last mask i m =
       elim (next_kept mask) as (λ b. slice_get (cond b ((last + 1) ∷ new_numbers (last + 1) (drop 1 mask) xs) (0 ∷ new_numbers last (drop 1 mask) xs)) i ≡ Some (suc m) → last ≤ m) [
-        | true ↦ on_kept i
-        | false ↦ on_gone i
+        | true ↦ above_kept xs last (drop 1 mask) i m (λ j. above xs (last + 1) (drop 1 mask) j m)
+        | false ↦ above_gone xs last (drop 1 mask) i m (λ j. above xs last (drop 1 mask) j m)
       ]
-    where
-      on_kept : (i : ℕ) → slice_get ((last + 1) ∷ new_numbers (last + 1) (drop 1 mask) xs) i ≡ Some (suc m) → last ≤ m
-      on_kept zero e = let same = same_Some (last + 1) (suc m) e in omega arith
-      on_kept (suc i) e = let more = above xs (last + 1) (drop 1 mask) i m e in omega arith
-
-      on_gone : (i : ℕ) → slice_get (0 ∷ new_numbers last (drop 1 mask) xs) i ≡ Some (suc m) → last ≤ m
-      on_gone zero e = let same = same_Some 0 (suc m) e in absurd (omega arith)
-      on_gone (suc i) e = above xs last (drop 1 mask) i m e
 
   -- one that has a place is above the last
   pub placed_above : (xs : List A) (last : ℕ) (mask : List Bool) (m p : ℕ) → place_in (new_numbers last mask xs) (suc m) ≡ Some p → last ≤ m
@@ -62,25 +64,28 @@ module _ {A : Type 0} where
         | false ↦ ap (λ n. suc n) (length-new_numbers xs last (drop 1 mask))
       ]
 
+  -- one that is kept stands once, and so do those behind it
+  once_kept : (xs : List A) (last : ℕ) (mask : List Bool) (k m : ℕ) → ((j : ℕ) → slice_get (new_numbers (last + 1) mask xs) j ≡ Some (suc m) → place_in (new_numbers (last + 1) mask xs) (suc m) ≡ Some (suc j))
+      → slice_get ((last + 1) ∷ new_numbers (last + 1) mask xs) k ≡ Some (suc m) → place_in ((last + 1) ∷ new_numbers (last + 1) mask xs) (suc m) ≡ Some (suc k)
+  once_kept xs last mask zero m rest e = place_first (last + 1) (suc m) (new_numbers (last + 1) mask xs) (same_Some (last + 1) (suc m) e)
+  once_kept xs last mask (suc k) m rest e =
+      let more : last + 1 ≤ m = above xs (last + 1) mask k m e in
+      place_behind (last + 1) (suc m) (suc k) (new_numbers (last + 1) mask xs) (λ same. omega arith) (rest k e)
+
+  once_gone : (xs : List A) (last : ℕ) (mask : List Bool) (k m : ℕ) → ((j : ℕ) → slice_get (new_numbers last mask xs) j ≡ Some (suc m) → place_in (new_numbers last mask xs) (suc m) ≡ Some (suc j))
+      → slice_get (0 ∷ new_numbers last mask xs) k ≡ Some (suc m) → place_in (0 ∷ new_numbers last mask xs) (suc m) ≡ Some (suc k)
+  once_gone xs last mask zero m rest e = let same = same_Some 0 (suc m) e in absurd (omega arith)
+  once_gone xs last mask (suc k) m rest e = place_behind 0 (suc m) (suc k) (new_numbers last mask xs) (λ same. omega arith) (rest k e)
+
   -- each stands once
   stands_once : (xs : List A) (last : ℕ) (mask : List Bool) (k m : ℕ) → slice_get (new_numbers last mask xs) k ≡ Some (suc m) → place_in (new_numbers last mask xs) (suc m) ≡ Some (suc k)
-  stands_once [] last mask k m e = absurd (none-some (suc m) e)
+  stands_once [] last mask k m = λ e. absurd (none-some (suc m) e)
   stands_once (x ∷ xs) last mask k m =
       elim (next_kept mask) as (λ b. slice_get (cond b ((last + 1) ∷ new_numbers (last + 1) (drop 1 mask) xs) (0 ∷ new_numbers last (drop 1 mask) xs)) k ≡ Some (suc m)
           → place_in (cond b ((last + 1) ∷ new_numbers (last + 1) (drop 1 mask) xs) (0 ∷ new_numbers last (drop 1 mask) xs)) (suc m) ≡ Some (suc k)) [
-        | true ↦ on_kept k
-        | false ↦ on_gone k
+        | true ↦ once_kept xs last (drop 1 mask) k m (λ j. stands_once xs (last + 1) (drop 1 mask) j m)
+        | false ↦ once_gone xs last (drop 1 mask) k m (λ j. stands_once xs last (drop 1 mask) j m)
       ]
-    where
-      on_kept : (k : ℕ) → slice_get ((last + 1) ∷ new_numbers (last + 1) (drop 1 mask) xs) k ≡ Some (suc m) → place_in ((last + 1) ∷ new_numbers (last + 1) (drop 1 mask) xs) (suc m) ≡ Some (suc k)
-      on_kept zero e = place_first (last + 1) (suc m) (new_numbers (last + 1) (drop 1 mask) xs) (same_Some (last + 1) (suc m) e)
-      on_kept (suc k) e =
-          let more : last + 1 ≤ m = above xs (last + 1) (drop 1 mask) k m e in
-          place_behind (last + 1) (suc m) (suc k) (new_numbers (last + 1) (drop 1 mask) xs) (λ same. omega arith) (stands_once xs (last + 1) (drop 1 mask) k m e)
-
-      on_gone : (k : ℕ) → slice_get (0 ∷ new_numbers last (drop 1 mask) xs) k ≡ Some (suc m) → place_in (0 ∷ new_numbers last (drop 1 mask) xs) (suc m) ≡ Some (suc k)
-      on_gone zero e = let same = same_Some 0 (suc m) e in absurd (omega arith)
-      on_gone (suc k) e = place_behind 0 (suc m) (suc k) (new_numbers last (drop 1 mask) xs) (λ same. omega arith) (stands_once xs last (drop 1 mask) k m e)
 
   -- none is above how many there are
   none_above : (xs : List A) (last : ℕ) (mask : List Bool) (n : ℕ) → last + length xs < n → place_in (new_numbers last mask xs) n ≡ None

@@ -67,6 +67,7 @@ fn installed_copy(alloc: Global, installed: &Installed) -> Result<Installed, NoM
 }
 
 /// The entries that a mask keeps. NoMemory where an allocation was refused.
+#[tactic(auto, using(crate::proofs::Steps::drop_one_more))]
 fn left_entries(
     alloc: Global,
     mask: &mut Mask,

@@ -43,6 +43,7 @@ fn note_writes(
 
 impl Kept {
     /// What a mask keeps of a transaction's operations. NoMemory where an allocation was refused.
+    #[tactic(auto, using(crate::proofs::Steps::drop_one_more))]
     fn of(alloc: Global, mask: &mut Mask, ops: &[Op]) -> Result<Kept, NoMemory>
         requires { length ops.now ≤ max_operations }
         ensures kept { IfOk result (λ kept. kept ≡ kept_of mask.old ops.now) }

@@ -79,6 +79,7 @@ fn left_op(alloc: Global, moves: &Moves, op: &Op) -> Result<Op, NoMemory>
 }
 
 /// The operations of a transaction that a mask keeps. NoMemory where an allocation was refused.
+#[tactic(auto, using(crate::proofs::Steps::drop_one_more))]
 fn left_ops(
     alloc: Global,
     moves: &Moves,

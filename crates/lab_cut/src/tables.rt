@@ -37,6 +37,7 @@ fn base(history: &History, moves: &Moves, row: RowName, installers: &[TxnNo]) ->
 }
 
 /// The rows of a list whose first installers go, with those states. NoMemory where an allocation was refused.
+#[tactic(auto, using(crate::proofs::Steps::new_states_push))]
 fn bases_of(
     alloc: Global,
     history: &History,
@@ -95,6 +96,7 @@ fn state_in(table: &Table, row: RowName) -> State
 }
 
 /// The rows of a list whose last versions go, with their new states in the end. NoMemory where an allocation was refused.
+#[tactic(auto, using(crate::proofs::Steps::new_states_push))]
 fn ends_of(
     alloc: Global,
     history: &History,
