@@ -1,6 +1,7 @@
 -- The transactions of a cut are parts of the whole's.
 use Rattle.std.proofs.Common.{◌≡◌, inl, inr, ℕ, zero, suc, ◌+◌, Bool, true, false, cond, List, [], ◌∷◌, map, length, Option, Some, None, refl, sym, ap, ◌∙◌, subst, arith, add-one, zero-add, eq-eqb, ne_eqb}
 use Rattle.std.specs.Prelude.{option_map, option_and_then, unwrap_or, drop, slice_get}
+use Rattle.std.specs.List.{cons_option}
 use Rattle.std.specs.FinMap as finite
 use Rattle.std.proofs.lemmas.Option.{same_Some, none-some}
 use Rattle.lab_table.specs.Row.{Row, row_cmp}
@@ -15,7 +16,7 @@ use Rattle.lab_history.specs.declared.operation.VersionName.TheVariants.{Initial
 use Rattle.lab_cut.specs.PartOf.{IsSublistBy, numbered, named_in_whole, IsOpPart, IsOpAt, IsTxnPart}
 use Rattle.lab_cut.specs.Left.{next_kept, left_of}
 use Rattle.lab_cut.specs.Kept.{kept_of, new_numbers, number_at, number_of}
-use Rattle.lab_cut.specs.Cut.{number_after, renamed, left_view, left_op, with_txn, left_txns}
+use Rattle.lab_cut.specs.Cut.{number_after, renamed, left_view, left_op, txn_of, left_txns}
 use Rattle.lab_cut.specs.MadeEntries.{made_entries}
 use Rattle.lab_cut.specs.declared.kept.Kept.{Kept}
 use Rattle.lab_cut.proofs.Sublists.{skipped}
@@ -118,7 +119,7 @@ module _ (kept : ℕ → Option Kept) (leads : (n : ℕ) (own : Kept) → kept n
 
   -- a transaction before others that stand for some
   txn_before : (t : Txn) (ts left : List Txn) (ops : List Op) → IsSublistBy (IsOpAt number t.no) (numbered 1 ops) (numbered 1 t.ops) → IsSublistBy (IsTxnPart number) left ts
-      → IsSublistBy (IsTxnPart number) (with_txn t.no t.outcome ops left) (t ∷ ts)
+      → IsSublistBy (IsTxnPart number) (cons_option (txn_of t.no t.outcome ops) left) (t ∷ ts)
   txn_before t ts left [] own rest = skipped (IsTxnPart number) t ts left rest
   txn_before t ts left (op ∷ ops) own rest = inl (record { no = refl; outcome = refl; ops = own }, rest)
 

@@ -50,3 +50,12 @@ given_leads_back mask (t ∷ ts) n value leads some e =
     either : (b : Bool) (some : Kept) → cond b (Some (kept_of mask t.ops)) value ≡ Some some → LeadBack some.numbers
     either true some e = own some e
     either false some e = leads some e
+
+-- one transaction more, in a map of what is kept
+pub given_step : (n : ℕ) (old new : Option Kept) (own : Kept) (mask behind : List Bool) (ts rest : List Txn) (t : Txn) (whole : Option Kept) → ts ≡ t ∷ rest → own ≡ kept_of mask t.ops → behind ≡ drop (length t.ops) mask
+    → new ≡ cond (t.no == n) (Some own) old → last_given old (all_kept mask ts) n ≡ whole → last_given new (all_kept behind rest) n ≡ whole
+given_step n old new own mask behind ts rest t whole is kept on update inv =
+    ap (λ o. last_given o (all_kept behind rest) n) (update ∙ ap (λ k. cond (t.no == n) (Some k) old) kept)
+    ∙ ap (λ m. last_given (cond (t.no == n) (Some (kept_of mask t.ops)) old) (all_kept m rest) n) on
+    ∙ sym (ap (λ us. last_given old (all_kept mask us) n) is)
+    ∙ inv

@@ -11,3 +11,5 @@ pub mod CutParts
 pub mod Overlays
 pub mod SameShape
 pub mod MadeParts
+pub mod ChosenRows
+pub mod Lists

@@ -1,13 +1,14 @@
 -- What masks leave of lists.
 use Rattle.std.proofs.Common.{◌≡◌, ℕ, Bool, true, false, cond, Option, List, [], ◌∷◌, map, length, refl, sym, ap, ◌∙◌}
 use Rattle.std.specs.Prelude.{drop}
+use Rattle.std.specs.List.{cons_option}
 use Rattle.lab_table.specs.declared.statement.Statement.{Statement}
 use Rattle.lab_history.specs.declared.operation.Op.{Op}
 use Rattle.lab_history.specs.declared.transaction.Outcome.{Outcome}
 use Rattle.lab_history.specs.declared.transaction.Txn.{Txn}
 use Rattle.lab_cut.specs.Left.{next_kept, left_of, statements, with_statements, left_statements}
 use Rattle.lab_cut.specs.declared.kept.Kept.{Kept}
-use Rattle.lab_cut.specs.Cut.{left_op, with_txn, left_txns}
+use Rattle.lab_cut.specs.Cut.{left_op, txn_of, left_txns}
 
 -- what is made of the members that are left
 pub left_of-map : {A B : Type 0} (f : A → B) (mask : List Bool) (xs : List A) → left_of mask (map f xs) ≡ map f (left_of mask xs)
@@ -26,7 +27,7 @@ module _ (kept : ℕ → Option Kept) where
   same_statements (op ∷ ops) = ap (λ ss. op.statement ∷ ss) (same_statements ops)
 
   with_own : (n : ℕ) (outcome : Outcome) (ops : List Op) (ts : List Txn)
-      → map (λ t. (t.no, statements t)) (with_txn n outcome ops ts) ≡ with_statements n (map (λ op. op.statement) ops) (map (λ t. (t.no, statements t)) ts)
+      → map (λ t. (t.no, statements t)) (cons_option (txn_of n outcome ops) ts) ≡ with_statements n (map (λ op. op.statement) ops) (map (λ t. (t.no, statements t)) ts)
   with_own n outcome [] ts = refl
   with_own n outcome (op ∷ ops) ts = refl
 

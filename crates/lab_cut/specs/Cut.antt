@@ -1,5 +1,6 @@
 -- A history without the operations that aren't kept.
 use Rattle.std.specs.Prelude.{ℕ, ◌==◌, ◌&&◌, Bool, true, not, cond, nat_eq, ◌-◌, Option, Some, None, is_some, is_none, option_map, unwrap_or, option_and_then, List, [], ◌∷◌, map, filter, length, drop, slice_get}
+use Rattle.std.specs.List.{cons_option}
 use Rattle.std.specs.Option.{option_eq}
 use Rattle.std.specs.FinMap as rows
 use Rattle.lab_table.specs.Row.{Row}
@@ -33,10 +34,10 @@ abbrev pub last_of_front : (ℕ → Bool) → Option ℕ → List ℕ → Option
 last_of_front test last [] = last
 last_of_front test last (n ∷ ns) = cond (test n) (last_of_front test (Some n) ns) last
 
--- a transaction with these operations before others; nothing of one that has none
-abbrev pub with_txn : ℕ → Outcome → List Op → List Txn → List Txn
-with_txn n outcome [] rest = rest
-with_txn n outcome (op ∷ ops) rest = record { no = n; outcome = outcome; ops = op ∷ ops } ∷ rest
+-- a transaction with these operations, if it has one
+abbrev pub txn_of : ℕ → Outcome → List Op → Option Txn
+txn_of n outcome [] = None
+txn_of n outcome (op ∷ ops) = Some (record { no = n; outcome = outcome; ops = op ∷ ops })
 
 -- the state of a row by an operation of a transaction, absent where there is none
 abbrev pub state_by : History → Row → ℕ → Option ℕ → State
@@ -58,7 +59,7 @@ module _ (kept : ℕ → Option Kept) where
   -- the transactions with the operations that a mask keeps
   abbrev pub left_txns : List Bool → List Txn → List Txn
   left_txns mask [] = []
-  left_txns mask (t ∷ ts) = with_txn t.no t.outcome (map left_op (left_of mask t.ops)) (left_txns (drop (length t.ops) mask) ts)
+  left_txns mask (t ∷ ts) = cons_option (txn_of t.no t.outcome (map left_op (left_of mask t.ops))) (left_txns (drop (length t.ops) mask) ts)
 
   -- Of the whole.
   module _ (h : History) where

@@ -73,6 +73,18 @@ pub fn last_of_front(
     last
 }
 
+/// A list of installers, if it has one.
+#[tactic(auto, using(crate::proofs::Lists::no_installer, crate::proofs::Lists::some_installer))]
+fn if_any(installers: Installers) -> Option<Installers>
+    ensures { result ≡ cut.if_any installers }
+{
+    if installers.as_slice().is_empty() {
+        None
+    } else {
+        Some(installers)
+    }
+}
+
 /// The rows of a list with their installers that stay, but for those that have none. NoMemory where an allocation was
 /// refused.
 fn left_lists(
@@ -86,8 +98,8 @@ fn left_lists(
     let mut left = Vec::with_capacity(alloc, entries.len())?;
     for (row, installers) in entries {
         let staying = staying(alloc, history, moves, *row, installers.as_slice())?;
-        if !staying.is_empty() {
-            left.push((*row, Installers::new(staying)))?;
+        if let Some(staying) = if_any(Installers::new(staying)) {
+            left.push((*row, staying))?;
         }
     }
     Ok(left)

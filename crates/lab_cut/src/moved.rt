@@ -98,6 +98,18 @@ fn left_ops(
     Ok(left)
 }
 
+/// A transaction, if it has an operation.
+#[tactic(auto, using(crate::proofs::Lists::no_operation, crate::proofs::Lists::some_operation))]
+fn if_any(txn: Txn) -> Option<Txn>
+    ensures { result ≡ cut.txn_of txn.no txn.outcome txn.ops }
+{
+    if txn.ops.as_slice().is_empty() {
+        None
+    } else {
+        Some(txn)
+    }
+}
+
 /// The transactions with the operations that are kept, but for those that have none. NoMemory where an allocation was
 /// refused.
 pub fn left_txns(
@@ -112,12 +124,13 @@ pub fn left_txns(
     let mut mask = Mask::new(kept);
     for txn in txns {
         let ops = left_ops(alloc, moves, &mut mask, txn.ops.as_slice())?;
-        if !ops.is_empty() {
-            left.push(Txn {
-                no: txn.no,
-                outcome: txn.outcome,
-                ops: Ops::new(ops),
-            })?;
+        let txn = Txn {
+            no: txn.no,
+            outcome: txn.outcome,
+            ops: Ops::new(ops),
+        };
+        if let Some(txn) = if_any(txn) {
+            left.push(txn)?;
         }
     }
     Ok(left)
