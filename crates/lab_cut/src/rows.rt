@@ -29,7 +29,7 @@ pub fn with_rows(
 
 /// Rows that are chosen.
 #[derive(Drop)]
-struct Chosen {
+pub struct Chosen {
     rows: ByRow<()>,
 }
 

@@ -1,6 +1,6 @@
 //! The tables before and behind the operations that are kept.
 
-ghost use Rattle.std.specs.Prelude.{◌≡◌, IfOk, OnOk, option_map};
+ghost use Rattle.std.specs.Prelude.{◌≡◌, None, Some, MatchOption, IfOk, OnOk, option_map};
 ghost use Rattle.std.specs.FinMap as map;
 ghost use Rattle.lab_table.specs.Table.{overwritten};
 ghost use Rattle.lab_history.specs.VersionName.{new_states, state_value};
@@ -30,7 +30,8 @@ fn state_by(history: &History, row: RowName, txn: TxnNo, operation: Option<u32>)
 
 /// The state that the last of a row's first installers left, where these go.
 fn base(history: &History, moves: &Moves, row: RowName, installers: &[TxnNo]) -> Option<State>
-    ensures { option_map state_value result ≡ cut.base (kept_in moves.now) history.now row installers.now }
+    ensures value { option_map state_value result ≡ cut.base (kept_in moves.now) history.now row installers.now }
+    ensures cases { MatchOption result (cut.base (kept_in moves.now) history.now row installers.now ≡ None) (λ state. cut.base (kept_in moves.now) history.now row installers.now ≡ Some (state_value state)) }
 {
     let txn = last_of_front(history, moves, row, installers)?;
     Some(state_by(history, row, txn, history.last_write(txn, row)))
@@ -72,7 +73,8 @@ fn new_end(
     installers: &[TxnNo],
 ) -> Option<State>
     requires { initial.now ≡ cut.left_initial (kept_in moves.now) history.now }
-    ensures { option_map state_value result ≡ cut.new_end (kept_in moves.now) history.now row installers.now }
+    ensures value { option_map state_value result ≡ cut.new_end (kept_in moves.now) history.now row installers.now }
+    ensures cases { MatchOption result (cut.new_end (kept_in moves.now) history.now row installers.now ≡ None) (λ state. cut.new_end (kept_in moves.now) history.now row installers.now ≡ Some (state_value state)) }
 {
     let last = *installers.last()?;
     if moves.last_left(last, row) == history.last_write(last, row) {

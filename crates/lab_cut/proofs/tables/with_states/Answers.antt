@@ -7,12 +7,12 @@ use Rattle.lab_cut.proofs.MadeEntries.{sorted_of}
 use Rattle.lab_cut.proofs.Overlays.{kept_sorted, overlaid, same_map_again}
 use Rattle.lab_cut.proofs.tables.with_states.Goals as goal
 
-pub from_rising-requires : goal.from_rising-requires
-from_rising-requires c =
+pub from_rising-rows-requires : goal.from_rising-rows-requires
+from_rising-rows-requires c =
     subst (λ l. T (is_sorted row_cmp l)) (sym (c.in_ok-kept.ensures ∙ ap (kept_rows c.args.states.now) c.rows.ensures)) (kept_sorted c.args.states.now (entries c.args.table.now) (entries_sorted c.args.table.now))
 
-pub from_rising-requires-2 : goal.from_rising-requires-2
-from_rising-requires-2 c = subst (λ l. T (is_sorted row_cmp l)) (sym c.take.ensures.entries) (entries_sorted c.put_present.new.rows)
+pub from_rising-requires : goal.from_rising-requires
+from_rising-requires c = subst (λ l. T (is_sorted row_cmp l)) (sym c.take.ensures.entries) (entries_sorted c.put_present.new.rows)
 
 pub returns : goal.returns
 returns c =
