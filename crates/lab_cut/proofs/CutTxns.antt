@@ -1,5 +1,5 @@
 -- The transactions of a cut are parts of the whole's.
-use Rattle.std.proofs.Common.{◌≡◌, inl, inr, ℕ, zero, suc, ◌+◌, Bool, true, false, cond, List, [], ◌∷◌, map, length, Option, Some, None, refl, sym, ap, ◌∙◌, subst, arith, add-one, zero-add, eq-eqb, ne_eqb}
+use Rattle.std.proofs.Common.{◌≡◌, inl, inr, ℕ, zero, suc, ◌+◌, ◌≤◌, Bool, true, false, cond, List, [], ◌∷◌, map, length, Option, Some, None, refl, sym, ap, ◌∙◌, subst, arith, add-one, zero-add, eq-eqb, ne_eqb}
 use Rattle.std.specs.Prelude.{option_map, option_and_then, unwrap_or, drop, slice_get}
 use Rattle.std.specs.List.{cons_option}
 use Rattle.std.specs.FinMap as finite

@@ -77,7 +77,7 @@ module _ {V : Type 0} where
 
   -- what is found among those that are left was found
   pub find_left : (q : Row) (v : V) (mask : List Bool) (es : List (Row × V)) → T (is_sorted row_cmp es) → find row_cmp q (left_of mask es) ≡ Some v → find row_cmp q es ≡ Some v
-  find_left q v mask [] h e = e
+  find_left q v mask [] h = λ e. e
   find_left q v mask (e ∷ es) h =
       let parts = both (below_all row_cmp e.0 es) (is_sorted row_cmp es) h in
       let rest : find row_cmp q (left_of (drop 1 mask) es) ≡ Some v → find row_cmp q es ≡ Some v = find_left q v (drop 1 mask) es parts.1 in
