@@ -1,4 +1,6 @@
 pub mod Steps
+pub mod OneMore
+pub mod KeptSteps
 pub mod Sublists
 pub mod PartLaws
 pub mod MadeEntries

@@ -1,6 +1,6 @@
 //! Histories whose statements are recorded to have seen less.
 
-ghost use Rattle.std.specs.Prelude.{◌≡◌, IfOk, OnOk, IfSome, length, drop};
+ghost use Rattle.std.specs.Prelude.{◌≡◌, cond, ◌∷◌, [], ◌++◌, IfOk, OnOk, IfSome, length, drop};
 ghost use Rattle.std.specs.FinMap as map;
 ghost use Rattle.lab_cut.specs.PartOf.{IsPartOf};
 ghost use Rattle.lab_cut.specs.Left.{left_of};
@@ -66,8 +66,22 @@ fn installed_copy(alloc: Global, installed: &Installed) -> Result<Installed, NoM
     Ok(Installed::new(copy))
 }
 
+/// Appends an entry, if it is kept. NoMemory where an allocation was refused.
+fn push_kept(
+    left: &mut Vec<(RowName, VersionName)>,
+    kept: bool,
+    entry: &(RowName, VersionName),
+) -> Result<(), NoMemory>
+    ensures { OnOk result (left.new.items ≡ left.old.items ++ cond kept (entry.now ∷ []) []) }
+{
+    if !kept {
+        return Ok(());
+    }
+    left.push(*entry)?;
+    Ok(())
+}
+
 /// The entries that a mask keeps. NoMemory where an allocation was refused.
-#[tactic(auto, using(crate::proofs::Steps::drop_one_more))]
 fn left_entries(
     alloc: Global,
     mask: &mut Mask,
@@ -78,9 +92,7 @@ fn left_entries(
 {
     let mut left = Vec::with_capacity(alloc, entries.len())?;
     for entry in entries {
-        if mask.next() {
-            left.push(*entry)?;
-        }
+        push_kept(&mut left, mask.next(), entry)?;
     }
     Ok(left)
 }

@@ -1,6 +1,7 @@
 //! The operations of transactions that are kept.
 
-ghost use Rattle.std.specs.Prelude.{◌≡◌, ◌≤◌, ℕ, None, IfOk, OnOk, length, drop};
+ghost use Rattle.std.specs.Prelude.{◌≡◌, ◌≤◌, ◌+◌, ℕ, cond, ◌∷◌, [], ◌++◌, None, IfOk, OnOk, length, drop};
+ghost use Rattle.std.specs.FinMap.{entries};
 ghost use Rattle.lab_history.specs.HistoryRules.{operations};
 ghost use Rattle.lab_history.specs.Limits.{max_operations};
 ghost use Rattle.lab_history.specs.VersionName.{new_states};
@@ -41,9 +42,32 @@ fn note_writes(
     Ok(())
 }
 
+/// Notes whether an operation of this number is kept, behind `last` others that are. The answer is how many are then kept.
+/// NoMemory where an allocation was refused.
+fn note(
+    numbers: &mut Vec<u32>,
+    writes: &mut ByRow<u32>,
+    last: u32,
+    kept: bool,
+    operation: u32,
+    op: &Op,
+) -> Result<u32, NoMemory>
+    requires { last ≤ max_operations }
+    ensures count { IfOk result (λ count. count ≡ cond kept (last + 1) last) }
+    ensures numbers { OnOk result (numbers.new.items ≡ numbers.old.items ++ cond kept (last + 1) 0 ∷ []) }
+    ensures writes { OnOk result (writes.new ≡ cond kept (with_writes writes.old operation (entries op.now.writes)) writes.old) }
+{
+    if !kept {
+        numbers.push(0)?;
+        return Ok(last);
+    }
+    numbers.push(last + 1)?;
+    note_writes(writes, operation, op.writes.entries())?;
+    Ok(last + 1)
+}
+
 impl Kept {
     /// What a mask keeps of a transaction's operations. NoMemory where an allocation was refused.
-    #[tactic(auto, using(crate::proofs::Steps::drop_one_more))]
     fn of(alloc: Global, mask: &mut Mask, ops: &[Op]) -> Result<Kept, NoMemory>
         requires { length ops.now ≤ max_operations }
         ensures kept { IfOk result (λ kept. kept ≡ kept_of mask.old ops.now) }
@@ -53,13 +77,8 @@ impl Kept {
         let mut writes = ByRow::new(alloc);
         let mut last = 0;
         for (index, op) in ops.iter().enumerate() {
-            if mask.next() {
-                last += 1;
-                numbers.push(last)?;
-                note_writes(&mut writes, index as u32 + 1, op.writes.entries())?;
-            } else {
-                numbers.push(0)?;
-            }
+            let operation = index as u32 + 1;
+            last = note(&mut numbers, &mut writes, last, mask.next(), operation, op)?;
         }
         Ok(Kept {
             numbers: Sequence::new(numbers),

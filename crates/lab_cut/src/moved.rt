@@ -1,6 +1,6 @@
 //! Transactions with the operations that are kept, which are counted anew.
 
-ghost use Rattle.std.specs.Prelude.{◌≡◌, ◌≤◌, IfOk, OnOk, length, drop, map};
+ghost use Rattle.std.specs.Prelude.{◌≡◌, cond, ◌∷◌, [], ◌++◌, IfOk, OnOk, length, drop, map};
 ghost use Rattle.lab_cut.specs.Cut as cut;
 ghost use Rattle.lab_cut.specs.Left.{left_of};
 ghost use Rattle.lab_cut.specs.Kept.{kept_in};
@@ -78,8 +78,24 @@ fn left_op(alloc: Global, moves: &Moves, op: &Op) -> Result<Op, NoMemory>
     })
 }
 
+/// Appends what is left of an operation, if it is kept. NoMemory where an allocation was refused.
+fn push_kept(
+    alloc: Global,
+    moves: &Moves,
+    left: &mut Vec<Op>,
+    kept: bool,
+    op: &Op,
+) -> Result<(), NoMemory>
+    ensures { OnOk result (left.new.items ≡ left.old.items ++ cond kept (cut.left_op (kept_in moves.now) op.now ∷ []) []) }
+{
+    if !kept {
+        return Ok(());
+    }
+    left.push(left_op(alloc, moves, op)?)?;
+    Ok(())
+}
+
 /// The operations of a transaction that a mask keeps. NoMemory where an allocation was refused.
-#[tactic(auto, using(crate::proofs::Steps::drop_one_more))]
 fn left_ops(
     alloc: Global,
     moves: &Moves,
@@ -91,9 +107,7 @@ fn left_ops(
 {
     let mut left = Vec::new(alloc);
     for op in ops {
-        if mask.next() {
-            left.push(left_op(alloc, moves, op)?)?;
-        }
+        push_kept(alloc, moves, &mut left, mask.next(), op)?;
     }
     Ok(left)
 }

@@ -1,12 +1,12 @@
 //! The tables before and behind the operations that are kept.
 
-ghost use Rattle.std.specs.Prelude.{◌≡◌, None, Some, MatchOption, IfOk, OnOk, option_map};
+ghost use Rattle.std.specs.Prelude.{◌≡◌, [], ◌++◌, None, Some, MatchOption, IfOk, OnOk, option_map};
 ghost use Rattle.std.specs.FinMap as map;
 ghost use Rattle.lab_table.specs.Table.{overwritten};
 ghost use Rattle.lab_history.specs.VersionName.{new_states, state_value};
 ghost use Rattle.lab_cut.specs.Cut as cut;
 ghost use Rattle.lab_cut.specs.Kept.{kept_in};
-ghost use Rattle.lab_cut.specs.MadeEntries.{made_entries};
+ghost use Rattle.lab_cut.specs.MadeEntries.{with_value, made_entries};
 ghost use Rattle.lab_cut.specs.Overlaid as overlaid;
 
 use crate::installers::{last_of_front, last_staying};
@@ -37,8 +37,23 @@ fn base(history: &History, moves: &Moves, row: RowName, installers: &[TxnNo]) ->
     Some(state_by(history, row, txn, history.last_write(txn, row)))
 }
 
-/// The rows of a list whose first installers go, with those states. NoMemory where an allocation was refused.
+/// Appends a row with its new state, if it has one. NoMemory where an allocation was refused.
 #[tactic(auto, using(crate::proofs::Steps::new_states_push))]
+fn push_state(
+    list: &mut Vec<(RowName, State)>,
+    row: RowName,
+    state: Option<State>,
+) -> Result<(), NoMemory>
+    ensures { OnOk result (new_states list.new.items ≡ new_states list.old.items ++ with_value row (option_map state_value state) []) }
+{
+    let Some(state) = state else {
+        return Ok(());
+    };
+    list.push((row, state))?;
+    Ok(())
+}
+
+/// The rows of a list whose first installers go, with those states. NoMemory where an allocation was refused.
 fn bases_of(
     alloc: Global,
     history: &History,
@@ -49,9 +64,8 @@ fn bases_of(
 {
     let mut bases = Vec::new(alloc);
     for (row, installers) in entries {
-        if let Some(state) = base(history, moves, *row, installers.as_slice()) {
-            bases.push((*row, state))?;
-        }
+        let state = base(history, moves, *row, installers.as_slice());
+        push_state(&mut bases, *row, state)?;
     }
     Ok(bases)
 }
@@ -98,7 +112,6 @@ fn state_in(table: &Table, row: RowName) -> State
 }
 
 /// The rows of a list whose last versions go, with their new states in the end. NoMemory where an allocation was refused.
-#[tactic(auto, using(crate::proofs::Steps::new_states_push))]
 fn ends_of(
     alloc: Global,
     history: &History,
@@ -111,9 +124,8 @@ fn ends_of(
 {
     let mut ends = Vec::new(alloc);
     for (row, installers) in entries {
-        if let Some(state) = new_end(history, moves, initial, *row, installers.as_slice()) {
-            ends.push((*row, state))?;
-        }
+        let state = new_end(history, moves, initial, *row, installers.as_slice());
+        push_state(&mut ends, *row, state)?;
     }
     Ok(ends)
 }
