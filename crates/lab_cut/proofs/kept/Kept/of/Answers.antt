@@ -13,10 +13,10 @@ loop-index-preserved c =
     let ops = c.args.ops.now in
     let i = c.loop-index.index in
     record {
-      numbers = one_number c.loop-index.mask c.next.new.self c.next.result ops i c.index-ops-index.result c.loop-index.last c.in_ok-note.field-0 c.loop-index.numbers.items c.note.new.numbers.items (new_numbers 0 mask ops)
-          c.loop-index-test.true c.index-ops-index.is c.next.ensures.kept c.next.ensures.rest c.in_ok-note.ensures.count c.in_ok-note.ensures.numbers c.loop-index.invariant.numbers;
+      numbers = one_number c.loop-index.mask c.next.new.self c.next.result ops i c.index-ops-index.result c.loop-index.last c.in_ok-last.last c.loop-index.numbers.items c.note.new.numbers.items (new_numbers 0 mask ops)
+          c.loop-index-test.true c.index-ops-index.is c.next.ensures.kept c.next.ensures.rest c.in_ok-last.ensures.count c.in_ok-last.ensures.numbers c.loop-index.invariant.numbers;
       writes = one_write c.loop-index.mask c.next.new.self c.next.result ops i c.index-ops-index.result c.loop-index.writes c.note.new.writes (last_writes empty (left_of mask (numbered 1 ops)))
-          c.loop-index-test.true c.index-ops-index.is c.next.ensures.kept c.next.ensures.rest c.in_ok-note.ensures.writes c.loop-index.invariant.writes;
+          c.loop-index-test.true c.index-ops-index.is c.next.ensures.kept c.next.ensures.rest c.in_ok-last.ensures.writes c.loop-index.invariant.writes;
       mask = c.next.ensures.rest ∙ ap (drop 1) c.loop-index.invariant.mask ∙ drop_one_more mask i;
-      few = one_counted c.next.result c.loop-index.last c.in_ok-note.field-0 i c.in_ok-note.ensures.count c.loop-index.invariant.few;
+      few = one_counted c.next.result c.loop-index.last c.in_ok-last.last i c.in_ok-last.ensures.count c.loop-index.invariant.few;
     }
