@@ -204,12 +204,7 @@ fn explain_command<'a>(alloc: Global, names: &'a Names) -> Result<Command<'a>, A
 
 /// The subcommand `shrink`. NoMemory where an allocation was refused.
 fn shrink_command<'a>(alloc: Global, names: &'a Names) -> Result<Command<'a>, AllocError> {
-    let phenomenon = choice(
-        alloc,
-        "phenomenon",
-        help::SHOWN,
-        names.phenomena.as_slice(),
-    );
+    let phenomenon = choice(alloc, "phenomenon", help::SHOWN, names.phenomena.as_slice());
     plain_command(alloc, "shrink", help::SHRINK, help::SHRINK_WHOLE)
         .arg(phenomenon)?
         .arg(flag(alloc, "progress", help::LEFT))

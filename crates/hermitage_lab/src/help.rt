@@ -193,5 +193,4 @@ standard error says so. Where the input is no history file, writes one line that
 
 pub const SHOWN: &str = "Keeps a phenomenon in place of the serial verdict's no";
 
-pub const LEFT: &str =
-    "Says on standard error how much is left, also where that is no terminal";
+pub const LEFT: &str = "Says on standard error how much is left, also where that is no terminal";

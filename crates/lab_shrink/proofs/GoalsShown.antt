@@ -1,5 +1,6 @@
 -- What it is of a history that it shows a goal.
 use Rattle.std.proofs.Common.{◌≡◌, ◌⊎◌, inl, inr, ℕ, Bool, true, false, cond, Option, Some, None, List, refl, sym, ap, ◌∙◌, subst}
+use Rattle.std.specs.Prelude.{◌↔◌}
 use Rattle.lab_table.specs.Row.{Row}
 use Rattle.lab_history.specs.History.{History}
 use Rattle.lab_deps.specs.FaultOrder.{IsFirst}
@@ -109,6 +110,10 @@ present_is_so h p in_sound shows =
     there_in h shows.report p (exact_in h shows.report.serial shows.report.phenomena shows.report.level shows.judgement.judgement.found) shows.shown.0
 
 -- ---- goals of judgements
+
+-- a goal is shown where a test of the judgement says so
+pub shown_where : (h : History) (goal : Goal) (report : Report) (test : Bool) → IsExactJudgement h report → (test ≡ true ↔ IsShownBy goal report) → test ≡ true → Shows h goal
+shown_where h goal report test exact tests says = record { report = report; judgement = exact; shown = tests.0 says }
 
 -- the goal of a verdict is shown by it
 verdict_shows : (report : Report) (s : Serial) (aim : Goal) → report.serial ≡ s → verdict_goal s ≡ Some aim → IsShownBy aim report

@@ -36,11 +36,7 @@ impl Block {
     }
 
     /// A history without them, where that is one. NoMemory where an allocation was refused.
-    pub fn taken_from(
-        self,
-        alloc: Global,
-        history: &History,
-    ) -> Result<Option<History>, NoMemory>
+    pub fn taken_from(self, alloc: Global, history: &History) -> Result<Option<History>, NoMemory>
         ensures { IfOk result (λ left. IfSome left (λ part. IsPartOf part history.now)) }
     {
         match self.sort {
@@ -94,13 +90,10 @@ fn push_times(kept: &mut Vec<bool>, times: usize, item: bool) -> Result<(), NoMe
 }
 
 /// The rows that a history names, but those of a block.
-fn rows_outside(
-    alloc: Global,
-    history: &History,
-    block: Block,
-) -> Result<Vec<RowName>, NoMemory> {
+fn rows_outside(alloc: Global, history: &History, block: Block) -> Result<Vec<RowName>, NoMemory> {
+    let named = named_rows(alloc, history)?;
     let mut rows = Vec::new(alloc);
-    for (place, row) in named_rows(alloc, history)?.iter().enumerate() {
+    for (place, row) in named.iter().enumerate() {
         if !block.has(place) {
             rows.push(*row)?;
         }

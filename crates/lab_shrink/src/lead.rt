@@ -35,25 +35,63 @@ fn touches(op: &Op, row: RowName) -> bool {
         || op.statement.may_match(row)
 }
 
-/// Whether an operation touches one of some rows.
-fn touches_any(op: &Op, rows: &[RowName]) -> bool {
-    rows.iter().any(|row| touches(op, *row))
+/// A row of a dependency that begins or ends at a transaction, and whether an operation of that touched it, or wrote it.
+#[derive(Clone, Copy)]
+struct RowBeside {
+    row: RowName,
+    is_touched: bool,
+    is_written: bool,
+}
+
+impl RowBeside {
+    /// Notes what an operation did with the row, and answers whether it did that as the first one, or at all where
+    /// `is_each` says so.
+    fn names(&mut self, op: &Op, is_each: bool) -> bool {
+        let touched = touches(op, self.row);
+        let wrote = op.writes.get(self.row).is_some();
+        let is_new = (touched && !self.is_touched) || (wrote && !self.is_written);
+        self.is_touched = self.is_touched || touched;
+        self.is_written = self.is_written || wrote;
+        is_new || (is_each && touched)
+    }
+}
+
+/// Whether an operation is named by one of some rows.
+fn is_named(beside: &mut Vec<RowBeside>, op: &Op, is_each: bool) -> bool {
+    let mut is_named = false;
+    for place in 0..beside.len() {
+        if let Some(row) = beside.get_mut(place)
+            && row.names(op, is_each)
+        {
+            is_named = true;
+        }
+    }
+    is_named
 }
 
 /// The rows of the dependencies that begin or end at a transaction. NoMemory where an allocation was refused.
-fn rows_beside(alloc: Global, walk: &[Edge], txn: TxnNo) -> Result<Vec<RowName>, NoMemory> {
+fn rows_beside(alloc: Global, walk: &[Edge], txn: TxnNo) -> Result<Vec<RowBeside>, NoMemory> {
     let mut rows = Vec::new(alloc);
     for edge in walk {
         if edge.from == txn || edge.to == txn {
-            rows.push(edge.row)?;
+            rows.push(RowBeside {
+                row: edge.row,
+                is_touched: false,
+                is_written: false,
+            })?;
         }
     }
     Ok(rows)
 }
 
-/// What a walk names: the rows of its dependencies, and what its transactions did with them. NoMemory where an allocation
-/// was refused.
-fn lead_of_walk(alloc: Global, history: &History, walk: &[Edge]) -> Result<Lead, NoMemory> {
+/// What a walk names: the rows of its dependencies, and what its transactions did first with them, or all that they did
+/// with them where `is_each` says so. NoMemory where an allocation was refused.
+fn lead_of_walk(
+    alloc: Global,
+    history: &History,
+    walk: &[Edge],
+    is_each: bool,
+) -> Result<Lead, NoMemory> {
     let mut rows = Vec::new(alloc);
     for edge in walk {
         rows.push(edge.row)?;
@@ -61,9 +99,9 @@ fn lead_of_walk(alloc: Global, history: &History, walk: &[Edge]) -> Result<Lead,
     put_in_order(&mut rows)?;
     let mut named = Vec::new(alloc);
     for txn in history.txns().as_slice() {
-        let beside = rows_beside(alloc, walk, txn.no)?;
+        let mut beside = rows_beside(alloc, walk, txn.no)?;
         for op in txn.ops.as_slice() {
-            named.push(touches_any(op, &beside))?;
+            named.push(is_named(&mut beside, op, is_each))?;
         }
     }
     Ok(Lead { rows, named })
@@ -151,9 +189,10 @@ fn lead_of_finding(
     alloc: Global,
     history: &History,
     finding: &Finding,
+    is_each: bool,
 ) -> Result<Option<Lead>, NoMemory> {
     match finding {
-        Finding::Walk(walk) => Ok(Some(lead_of_walk(alloc, history, walk.as_slice())?)),
+        Finding::Walk(walk) => Ok(Some(lead_of_walk(alloc, history, walk.as_slice(), is_each)?)),
         Finding::At { txn, op, row } => {
             let place = op.saturating_sub(1) as usize;
             let at = OpPlace { txn: *txn, place };
@@ -169,25 +208,21 @@ fn lead_of(
     history: &History,
     report: &Report,
     goal: Goal,
+    is_each: bool,
 ) -> Result<Option<Lead>, NoMemory> {
     if let Goal::Present { phenomenon, .. } = goal {
-        return lead_of_finding(alloc, history, phenomenon.found_in(report));
+        return lead_of_finding(alloc, history, phenomenon.found_in(report), is_each);
     }
     match &report.serial {
         Serial::Yes(_) => Ok(None),
         Serial::NoFault(fault) => Ok(Some(lead_of_fault(alloc, history, *fault)?)),
-        Serial::NoCycle(walk) => Ok(Some(lead_of_walk(alloc, history, walk.as_slice())?)),
+        Serial::NoCycle(walk) => Ok(Some(lead_of_walk(alloc, history, walk.as_slice(), is_each)?)),
     }
-}
-
-/// What a judgement of a history names. NoMemory where an allocation was refused.
-fn judged_lead(alloc: Global, history: &History, goal: Goal) -> Result<Option<Lead>, NoMemory> {
-    let report = judge(alloc, history)?;
-    lead_of(alloc, history, &report, goal)
 }
 
 /// What is left of a history where a lead is followed: the named rows alone, the named operations, and those that these
 /// need; with `from_start` none of a row's first writers goes. NoMemory where an allocation was refused.
+#[tactic(auto, using(crate::proofs::SmallerStill::left_still))]
 fn followed(
     alloc: Global,
     history: &History,
@@ -203,17 +238,19 @@ fn followed(
     }
 }
 
-/// What is left of a history where the lead of its judgement is followed, if that shows the goal. NoMemory where an
-/// allocation was refused.
-fn led_once(
+/// What is left of a history where what its report names is kept, if that shows the goal: with the first of its rows' writers
+/// gone, or with them all. NoMemory where an allocation was refused.
+fn led_by(
     alloc: Global,
     goal: Goal,
     whole: &History,
+    report: &Report,
+    is_each: bool,
     work: &mut Work,
 ) -> Result<Option<History>, NoMemory>
     ensures { IfOk result (λ found. IfSome found (IsSmaller whole.now goal)) }
 {
-    let Some(lead) = judged_lead(alloc, whole, goal)? else {
+    let Some(lead) = lead_of(alloc, whole, report, goal, is_each)? else {
         return Ok(None);
     };
     let near = followed(alloc, whole, &lead, false)?;
@@ -224,8 +261,26 @@ fn led_once(
     tried(alloc, goal, whole, far, work)
 }
 
+/// What is left of a history where what its judgement names is kept, if that shows the goal. NoMemory where an allocation was
+/// refused.
+fn led_once(
+    alloc: Global,
+    goal: Goal,
+    whole: &History,
+    work: &mut Work,
+) -> Result<Option<History>, NoMemory>
+    ensures { IfOk result (λ found. IfSome found (IsSmaller whole.now goal)) }
+{
+    let report = judge(alloc, whole)?;
+    if let Some(part) = led_by(alloc, goal, whole, &report, false, work)? {
+        return Ok(Some(part));
+    }
+    led_by(alloc, goal, whole, &report, true, work)
+}
+
 /// What is left of a history where the leads of judgements are followed, one after another. NoMemory where an allocation
 /// was refused.
+#[tactic(auto, using(crate::proofs::SmallerStill::smaller_still))]
 pub fn led(
     alloc: Global,
     goal: Goal,

@@ -7,6 +7,7 @@
 #![tactic(auto)]
 
 mod block;
+mod gathering;
 mod goal;
 mod laws;
 mod lead;
@@ -15,7 +16,10 @@ mod named;
 mod onward;
 mod pass;
 mod shrinking;
+mod sieve;
+mod touch;
 mod trial;
+mod ways_round;
 mod window;
 mod work;
 

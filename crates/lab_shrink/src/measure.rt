@@ -25,7 +25,7 @@ fn count_listed(op: &Op) -> usize {
 }
 
 /// How many entries the views of a history have.
-fn count_viewed(history: &History) -> usize {
+pub fn count_viewed(history: &History) -> usize {
     let mut count = 0usize;
     for txn in history.txns().as_slice() {
         for op in txn.ops.as_slice() {

@@ -13,8 +13,9 @@ use lab_history::History;
 use lab_table::NoMemory;
 use std::alloc::Global;
 
-/// Takes away blocks of so many things of a sort, from the last to the first, each that can go. What is left, where one
-/// went. NoMemory where an allocation was refused.
+/// Takes away blocks of so many things of a sort, from the last to the first, each that can go; behind one that went a block
+/// of twice the length is tried, and so on. What is left, where one went. NoMemory where an allocation was refused.
+#[tactic(auto, using(crate::proofs::SmallerStill::smaller_still))]
 pub fn pass(
     alloc: Global,
     goal: Goal,
@@ -27,16 +28,27 @@ pub fn pass(
 {
     let mut found = None;
     let mut to = count(alloc, whole, sort)?;
-    while to > 0 {
-        if work.is_over() {
-            return Ok(found);
+    let mut next = length;
+    for _ in 0..to.saturating_mul(2) {
+        if to == 0 || work.is_over() {
+            break;
         }
-        let from = to.saturating_sub(length.max(1));
+        let from = to.saturating_sub(next.max(1));
         let block = Block { sort, from, to };
-        if let Some(part) = tried_without(alloc, goal, smallest(&found, whole), block, work)? {
-            found = Some(part);
+        match tried_without(alloc, goal, smallest(&found, whole), block, work)? {
+            Some(part) => {
+                found = Some(part);
+                to = from;
+                next = next.saturating_mul(2);
+            }
+            None => {
+                if next > length {
+                    next = length;
+                } else {
+                    to = from;
+                }
+            }
         }
-        to = from;
     }
     Ok(found)
 }

@@ -51,6 +51,7 @@ fn half(count: usize) -> usize {
 }
 
 /// Takes away blocks of a sort, of this length at first and then of half as many, down to one.
+#[tactic(auto, using(crate::proofs::SmallerStill::smaller_still))]
 fn take_sort<W: Watcher>(
     alloc: Global,
     goal: Goal,
@@ -76,6 +77,7 @@ fn take_sort<W: Watcher>(
 }
 
 /// Takes away what can go of each sort: in the first round long blocks at first, later one thing at a time.
+#[tactic(auto, using(crate::proofs::SmallerStill::smaller_still))]
 fn take_round<W: Watcher>(
     alloc: Global,
     goal: Goal,
@@ -108,6 +110,7 @@ fn take_round<W: Watcher>(
 /// First it looks at what a judgement of the history names, a cycle or a fault, and keeps that with what it needs; then it
 /// takes away halves, quarters and so on, of transactions, of operations, of rows and of what views list, until nothing
 /// more can go.
+#[tactic(auto, using(crate::proofs::SmallerStill::smaller_still))]
 pub fn shrink<W: Watcher>(
     alloc: Global,
     history: &History,
@@ -116,14 +119,14 @@ pub fn shrink<W: Watcher>(
 ) -> Result<Shrunk, NoMemory>
     ensures { IfOk result (λ shrunk. IfSome shrunk.history (IsSmaller history.now goal)) }
 {
-    let mut work = Work::none();
+    let mut work = Work::none(goal);
     let mut found = led(alloc, goal, history, &mut work)?;
     for round in 0..ROUNDS {
         let current = smallest(&found, history);
-        let Some(part) = take_round(alloc, goal, current, round == 0, &mut work, watcher)? else {
-            break;
-        };
-        found = Some(part);
+        match take_round(alloc, goal, current, round == 0, &mut work, watcher)? {
+            Some(part) => found = Some(part),
+            None => break,
+        }
     }
     Ok(Shrunk {
         history: found,

@@ -1,6 +1,6 @@
 //! Trying whether a smaller history shows the goal.
 
-ghost use Rattle.std.specs.Prelude.{◌≡◌, ◌×◌, true, IfOk, IfSome};
+ghost use Rattle.std.specs.Prelude.{◌≡◌, true, IfOk, IfSome};
 ghost use Rattle.lab_cut.specs.PartOf.{IsPartOf};
 ghost use Rattle.lab_shrink.specs.Goals.{Shows};
 ghost use Rattle.lab_shrink.specs.Smaller.{IsSmaller};
@@ -15,6 +15,7 @@ use lab_table::NoMemory;
 use std::alloc::Global;
 
 /// Whether a history shows a goal. NoMemory where an allocation was refused.
+#[tactic(auto, using(crate::proofs::GoalsShown::shown_where))]
 fn shows(alloc: Global, history: &History, goal: Goal) -> Result<bool, NoMemory>
     ensures { IfOk result (λ shown. shown ≡ true → Shows history.now goal) }
 {
@@ -23,6 +24,7 @@ fn shows(alloc: Global, history: &History, goal: Goal) -> Result<bool, NoMemory>
 }
 
 /// A part of a history, where it has less than that and shows the goal. NoMemory where an allocation was refused.
+#[tactic(auto, using(crate::proofs::SmallerStill::smaller_part))]
 pub fn tried(
     alloc: Global,
     goal: Goal,
@@ -40,12 +42,12 @@ pub fn tried(
         drop(part);
         return Ok(None);
     }
-    work.add(&part);
-    if shows(alloc, &part, goal)? {
-        Ok(Some(part))
-    } else {
-        Ok(None)
+    work.add_judgement(&part);
+    if !shows(alloc, &part, goal)? {
+        drop(part);
+        return Ok(None);
     }
+    Ok(Some(part))
 }
 
 /// A history without a block, where that shows the goal. NoMemory where an allocation was refused.
@@ -58,6 +60,19 @@ pub fn tried_without(
 ) -> Result<Option<History>, NoMemory>
     ensures { IfOk result (λ found. IfSome found (IsSmaller history.now goal)) }
 {
+    work.add_sifting();
+    if !work.sieve.lets_through(alloc, block)? {
+        return Ok(None);
+    }
     let part = block.taken_from(alloc, history)?;
-    tried(alloc, goal, history, part, work)
+    match tried(alloc, goal, history, part, work)? {
+        Some(part) => {
+            work.sieve.forget();
+            Ok(Some(part))
+        }
+        None => {
+            work.sieve.learn(alloc, history)?;
+            Ok(None)
+        }
+    }
 }

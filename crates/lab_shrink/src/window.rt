@@ -1,22 +1,16 @@
 //! Which operations the named ones need, so that each sees what it is recorded to have seen.
 //!
-//! A row's first writers aren't needed: where all of them go, the row begins as they left it. Between the least version of a
-//! row that is seen and the greatest that is seen or written, its writers stay.
+//! A row's first writers aren't needed: where all of them go, the row begins as they left it. So the least version of a row that
+//! is seen needs no writer, if the writer of the next one stays.
 
 use crate::lead::Lead;
+use crate::touch::NONE;
 use lab_history::{History, Op, VersionName};
 use lab_table::{NoMemory, RowName, TxnNo};
 use std::alloc::Global;
 
 /// The most times that operations are added for those that stay.
 const TURNS: usize = 64;
-
-/// The places of a row's versions, the initial one's being 0, that are seen or written: the least and the greatest.
-#[derive(Clone, Copy)]
-struct Span {
-    least: usize,
-    most: usize,
-}
 
 /// An operation, by its number from 1.
 #[derive(Clone, Copy, PartialEq, Eq, PartialOrd, Ord)]
@@ -25,10 +19,23 @@ struct OpName {
     op: u32,
 }
 
-/// What operations that stay need: the span of each of some rows, and operations by their names.
+/// A version of the row at a place among some rows, by its own place, the initial one's being 0, and who wrote it.
+#[derive(Clone, Copy)]
+struct Version {
+    row: usize,
+    place: usize,
+    writer: OpName,
+}
+
+/// What operations that stay need.
 #[derive(Drop)]
 struct Needs {
-    spans: Vec<Span>,
+    /// Of each row, the place of the least version that is seen; NONE where none is.
+    least: Vec<usize>,
+    /// The versions that are seen, but the initial ones, and those that are written.
+    seen: Vec<Version>,
+    written: Vec<Version>,
+    /// The operations that are needed.
     ops: Vec<OpName>,
 }
 
@@ -37,120 +44,171 @@ fn number_at(place: usize) -> u32 {
     u32::try_from(place).unwrap_or(u32::MAX).saturating_add(1)
 }
 
+/// The last operation of a row's installer at a place, counted from 0.
+fn last_of(history: &History, row: RowName, place: usize) -> Option<OpName> {
+    let txn = *history.installed().get(row)?.as_slice().get(place)?;
+    let op = history.last_write(txn, row)?;
+    Some(OpName { txn, op })
+}
+
 impl Needs {
     /// No needs, of so many rows. NoMemory where an allocation was refused.
     fn none(alloc: Global, rows: usize) -> Result<Needs, NoMemory> {
-        let mut spans = Vec::new(alloc);
-        for _ in 0..rows {
-            spans.push(Span {
-                least: usize::MAX,
-                most: 0,
-            })?;
-        }
         Ok(Needs {
-            spans,
+            least: vec![in alloc; NONE; rows]?,
+            seen: Vec::new(alloc),
+            written: Vec::new(alloc),
             ops: Vec::new(alloc),
         })
     }
 
-    /// Adds a version's place to the span of the row at a place.
-    fn add_place(&mut self, row: usize, version: usize) {
-        if let Some(span) = self.spans.get_mut(row) {
-            span.least = span.least.min(version);
-            span.most = span.most.max(version);
+    /// Notes that a version of a row is seen.
+    fn see(&mut self, row: usize, place: usize) {
+        if let Some(least) = self.least.get_mut(row) {
+            *least = (*least).min(place);
         }
     }
 
-    /// Adds what an operation needs at the row at a place. NoMemory where an allocation was refused.
-    fn add_row(
+    /// Notes which version of the row at a place an operation saw. NoMemory where an allocation was refused.
+    fn add_seen(
         &mut self,
         history: &History,
-        txn: TxnNo,
+        name: OpName,
         op: &Op,
         at: usize,
         row: RowName,
     ) -> Result<(), NoMemory> {
-        match op.view.get(row) {
-            Some(VersionName::Of {
-                txn: writer,
-                op: number,
-            }) => match history.installer_place(row, writer) {
-                Some(place) if writer != txn => self.add_place(at, place),
-                _ => self.ops.push(OpName {
-                    txn: writer,
-                    op: number,
-                })?,
-            },
-            Some(VersionName::Initial) | None => self.add_place(at, 0),
-        }
-        if op.writes.get(row).is_some()
-            && let Some(place) = history.installer_place(row, txn)
-        {
-            self.add_place(at, place);
+        let Some(VersionName::Of { txn, op: number }) = op.view.get(row) else {
+            self.see(at, 0);
+            return Ok(());
+        };
+        let writer = OpName { txn, op: number };
+        match history.installer_place(row, txn) {
+            Some(place) if txn != name.txn => {
+                self.see(at, place);
+                self.seen.push(Version {
+                    row: at,
+                    place,
+                    writer,
+                })?;
+            }
+            _ => self.ops.push(writer)?,
         }
         Ok(())
     }
 
-    /// Adds what an operation needs at the rows of entries, where they are among some rows. NoMemory where an allocation
+    /// Notes what an operation saw and wrote of the row at a place. NoMemory where an allocation was refused.
+    fn add_row(
+        &mut self,
+        history: &History,
+        name: OpName,
+        op: &Op,
+        at: usize,
+        row: RowName,
+    ) -> Result<(), NoMemory> {
+        self.add_seen(history, name, op, at, row)?;
+        if op.writes.get(row).is_some()
+            && let Some(place) = history.installer_place(row, name.txn)
+        {
+            self.written.push(Version {
+                row: at,
+                place,
+                writer: name,
+            })?;
+        }
+        Ok(())
+    }
+
+    /// Notes what an operation did with the rows of entries, where they are among some rows. NoMemory where an allocation
     /// was refused.
     fn add_entries<X>(
         &mut self,
         history: &History,
-        txn: TxnNo,
+        name: OpName,
         op: &Op,
         rows: &[RowName],
         entries: &[(RowName, X)],
     ) -> Result<(), NoMemory> {
         for (row, _) in entries {
             if let Ok(at) = rows.binary_search(row) {
-                self.add_row(history, txn, op, at, *row)?;
+                self.add_row(history, name, op, at, *row)?;
             }
         }
         Ok(())
     }
 
-    /// Adds what an operation needs at some rows. NoMemory where an allocation was refused.
+    /// Notes what an operation did with some rows. NoMemory where an allocation was refused.
     fn add_op(
         &mut self,
-        history: &History,
-        txn: TxnNo,
-        op: &Op,
-        rows: &[RowName],
-    ) -> Result<(), NoMemory> {
-        self.add_entries(history, txn, op, rows, op.view.entries())?;
-        self.add_entries(history, txn, op, rows, op.rows.entries())?;
-        self.add_entries(history, txn, op, rows, op.writes.entries())
-    }
-
-    /// Whether the version at a place of a row's versions is needed.
-    fn has_version(&self, row: usize, version: usize, from_start: bool) -> bool {
-        match self.spans.get(row) {
-            Some(span) => (from_start || span.least < version) && version <= span.most,
-            None => false,
-        }
-    }
-
-    /// Whether an operation is needed.
-    fn has_op(
-        &self,
         history: &History,
         name: OpName,
         op: &Op,
         rows: &[RowName],
-        from_start: bool,
-    ) -> bool {
-        if self.ops.binary_search(&name).is_ok() {
-            return true;
+    ) -> Result<(), NoMemory> {
+        self.add_entries(history, name, op, rows, op.view.entries())?;
+        self.add_entries(history, name, op, rows, op.rows.entries())?;
+        self.add_entries(history, name, op, rows, op.writes.entries())
+    }
+
+    /// The place of the version of the row at a place with which the row begins.
+    fn first_of(&self, row: usize, from_start: bool) -> usize {
+        match self.least.get(row) {
+            Some(least) if !from_start => *least,
+            _ => 0,
         }
-        for (row, _) in op.writes.entries() {
-            if let Ok(at) = rows.binary_search(row)
-                && let Some(place) = history.installer_place(*row, name.txn)
-                && self.has_version(at, place, from_start)
+    }
+
+    /// Adds the writers of the versions that are seen, but those with which rows begin. NoMemory where an allocation was
+    /// refused.
+    fn add_writers(&mut self, from_start: bool) -> Result<(), NoMemory> {
+        for place in 0..self.seen.len() {
+            if let Some(version) = self.seen.get(place).copied()
+                && version.place > self.first_of(version.row, from_start)
             {
-                return true;
+                self.ops.push(version.writer)?;
             }
         }
-        false
+        Ok(())
+    }
+
+    /// Of each of so many rows, whether an operation stays that wrote the version next after the one with which the row
+    /// begins. NoMemory where an allocation was refused.
+    fn followed(
+        &self,
+        alloc: Global,
+        rows: usize,
+        from_start: bool,
+    ) -> Result<Vec<bool>, NoMemory> {
+        let mut followed = vec![in alloc; false; rows]?;
+        for version in self.written.iter() {
+            let first = self.first_of(version.row, from_start);
+            if version.place == first.saturating_add(1)
+                && let Some(is_followed) = followed.get_mut(version.row)
+            {
+                *is_followed = true;
+            }
+        }
+        Ok(followed)
+    }
+
+    /// Adds the writer of the version next after the one with which a row begins, where none of its operations that wrote
+    /// the row stays. NoMemory where an allocation was refused.
+    fn add_next(
+        &mut self,
+        alloc: Global,
+        history: &History,
+        rows: &[RowName],
+        from_start: bool,
+    ) -> Result<(), NoMemory> {
+        let followed = self.followed(alloc, rows.len(), from_start)?;
+        for (at, row) in rows.iter().enumerate() {
+            if !followed.get(at).copied().unwrap_or(true)
+                && let Some(name) = last_of(history, *row, self.first_of(at, from_start))
+            {
+                self.ops.push(name)?;
+            }
+        }
+        Ok(())
     }
 }
 
@@ -160,16 +218,23 @@ fn needs_of(
     history: &History,
     rows: &[RowName],
     kept: &[bool],
+    from_start: bool,
 ) -> Result<Needs, NoMemory> {
     let mut needs = Needs::none(alloc, rows.len())?;
     let mut stays = kept.iter();
     for txn in history.txns().as_slice() {
-        for op in txn.ops.as_slice() {
-            if let Some(true) = stays.next() {
-                needs.add_op(history, txn.no, op, rows)?;
+        for (place, op) in txn.ops.as_slice().iter().enumerate() {
+            if stays.next().copied().unwrap_or(false) {
+                let name = OpName {
+                    txn: txn.no,
+                    op: number_at(place),
+                };
+                needs.add_op(history, name, op, rows)?;
             }
         }
     }
+    needs.add_writers(from_start)?;
+    needs.add_next(alloc, history, rows, from_start)?;
     needs.ops.sort()?;
     Ok(needs)
 }
@@ -182,17 +247,17 @@ fn kept_more(
     kept: &[bool],
     from_start: bool,
 ) -> Result<Vec<bool>, NoMemory> {
-    let needs = needs_of(alloc, history, &lead.rows, kept)?;
+    let needs = needs_of(alloc, history, &lead.rows, kept, from_start)?;
     let mut more = Vec::new(alloc);
     let mut stays = kept.iter();
     for txn in history.txns().as_slice() {
-        for (place, op) in txn.ops.as_slice().iter().enumerate() {
+        for place in 0..txn.ops.as_slice().len() {
             let name = OpName {
                 txn: txn.no,
                 op: number_at(place),
             };
-            let stayed = matches!(stays.next(), Some(true));
-            more.push(stayed || needs.has_op(history, name, op, &lead.rows, from_start))?;
+            let stayed = stays.next().copied().unwrap_or(false);
+            more.push(stayed || needs.ops.binary_search(&name).is_ok())?;
         }
     }
     Ok(more)

@@ -16,7 +16,7 @@ use lab_history::{FileFault, History};
 use lab_history_file::{WriteFault, read_history, write_history};
 use lab_judge::judge;
 use lab_reports::Phenomenon;
-use lab_shrink::Goal;
+use lab_shrink::{Goal, Shrunk};
 use lab_streams::{Answer, Ending, Format, RunFault, Subcommand, answer_input, print_refused};
 use lab_table::NoMemory;
 use std::alloc::{AllocError, Global};
@@ -27,6 +27,15 @@ fn nothing_shown(asked: Option<Phenomenon>) -> Remark {
     match asked {
         None => Remark::Serializable,
         Some(phenomenon) => Remark::NotShown(phenomenon),
+    }
+}
+
+/// What is said where nothing went, and it is known that nothing can, or isn't.
+fn nothing_went(is_least: bool) -> Remark {
+    if is_least {
+        Remark::AlreadyLeast
+    } else {
+        Remark::Ended
     }
 }
 
@@ -59,18 +68,17 @@ fn smaller_file<P: Write>(
     };
     let shrunk = lab_shrink::shrink(alloc, history, goal, progress);
     progress.clear();
-    let shrunk = shrunk?;
-    *remark = if shrunk.is_least {
-        Remark::Nothing
-    } else {
-        Remark::Ended
-    };
-    let Some(part) = shrunk.history else {
-        if shrunk.is_least {
-            *remark = Remark::AlreadyLeast;
-        }
+    let Shrunk {
+        history: smaller,
+        is_least,
+    } = shrunk?;
+    let Some(part) = smaller else {
+        *remark = nothing_went(is_least);
         return Ok(None);
     };
+    if !is_least {
+        *remark = Remark::Ended;
+    }
     match write_history(alloc, &part) {
         Ok(text) => Ok(Some(text)),
         Err(WriteFault::NoMemory) => Err(AllocError),
