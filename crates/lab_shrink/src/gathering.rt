@@ -2,6 +2,7 @@
 
 use crate::measure::{count_operations, count_viewed};
 use crate::named::named_rows;
+use crate::standing::Standings;
 use crate::touch::{NONE, Touch, Touched, fits};
 use lab_deps::state_of;
 use lab_history::{History, Op, Outcome, Txn, VersionName};
@@ -12,18 +13,11 @@ use std::alloc::Global;
 /// depend on them.
 const MOST_STATES: usize = 8;
 
-/// The most tests of operations on rows, and the most touches.
+/// The most tests of operations on rows.
 const MOST_TESTS: usize = 4_000_000;
 
-/// Where a transaction stands.
-#[derive(Clone, Copy)]
-struct Standing {
-    txn: TxnNo,
-    /// Its place in the history.
-    place: usize,
-    /// The number of its first operation, counted from 0 over the whole history.
-    first: usize,
-}
+/// The most touches; each takes 72 bytes.
+const MOST_TOUCHES: usize = 200_000;
 
 /// What is known of a row.
 #[derive(Drop)]
@@ -104,29 +98,13 @@ fn push_state(states: &mut Vec<Option<Value>>, state: Option<Value>) -> Result<(
     Ok(())
 }
 
-/// Where the transactions of a history stand, by rising number. NoMemory where an allocation was refused.
-fn standings(alloc: Global, history: &History) -> Result<Vec<Standing>, NoMemory> {
-    let mut standings = Vec::new(alloc);
-    let mut first = 0usize;
-    for (place, txn) in history.txns().as_slice().iter().enumerate() {
-        standings.push(Standing {
-            txn: txn.no,
-            place,
-            first,
-        })?;
-        first = first.saturating_add(txn.ops.as_slice().len());
-    }
-    standings.sort_by_key(|standing| standing.txn)?;
-    Ok(standings)
-}
-
 /// What is known of a history while its touches are gathered.
 #[derive(Drop)]
 struct Known {
     rows: Vec<RowStates>,
     /// The places of rows that have several states.
     changing: Vec<usize>,
-    standings: Vec<Standing>,
+    standings: Standings,
 }
 
 impl Known {
@@ -145,7 +123,7 @@ impl Known {
         Ok(Known {
             rows,
             changing,
-            standings: standings(alloc, history)?,
+            standings: Standings::of(alloc, history)?,
         })
     }
 
@@ -154,17 +132,6 @@ impl Known {
         let place = self.rows.partition_point(|other| other.row < row);
         if self.rows.get(place)?.row == row {
             Some(place)
-        } else {
-            None
-        }
-    }
-
-    /// Where a transaction stands.
-    fn standing(&self, txn: TxnNo) -> Option<&Standing> {
-        let place = self.standings.partition_point(|other| other.txn < txn);
-        let standing = self.standings.get(place)?;
-        if standing.txn == txn {
-            Some(standing)
         } else {
             None
         }
@@ -244,11 +211,9 @@ impl Known {
             touch.entry = here.entry.saturating_add(before);
             touch.is_own = txn == here.txn;
             touch.touched.version = history.installer_place(row, txn).unwrap_or(0);
-            if let Some(standing) = self.standing(txn) {
+            if let Some(standing) = self.standings.find(txn) {
                 touch.seen_txn = standing.place;
-                touch.seen_op = standing
-                    .first
-                    .saturating_add(number.saturating_sub(1) as usize);
+                touch.seen_op = standing.number_of(number);
             }
         }
         touch
@@ -266,6 +231,9 @@ impl Known {
         let Some(row) = self.rows.get(at) else {
             return Ok(());
         };
+        if found.touches.len() > MOST_TOUCHES {
+            return Ok(());
+        }
         let row = row.row;
         let reader = self.reader(history, here, op, at, row);
         found.touches.push(reader)?;
@@ -363,6 +331,9 @@ pub fn touches_of(alloc: Global, history: &History) -> Result<Option<Touches>, N
         let next = known.push_txn(alloc, &mut found, history, txn, here)?;
         op = next.op;
         entry = next.entry;
+    }
+    if found.touches.len() > MOST_TOUCHES {
+        return Ok(None);
     }
     found.touches.sort_by_key(|touch| touch.touched)?;
     found.inserted.sort()?;

@@ -17,6 +17,7 @@ mod onward;
 mod pass;
 mod shrinking;
 mod sieve;
+mod standing;
 mod touch;
 mod trial;
 mod ways_round;

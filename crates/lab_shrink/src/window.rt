@@ -4,16 +4,18 @@
 //! is seen needs no writer, if the writer of the next one stays.
 
 use crate::lead::Lead;
+use crate::measure::size_of;
+use crate::standing::Standings;
 use crate::touch::NONE;
 use lab_history::{History, Op, VersionName};
 use lab_table::{NoMemory, RowName, TxnNo};
 use std::alloc::Global;
 
 /// The most times that operations are added for those that stay.
-const TURNS: usize = 64;
+const TURNS: usize = 16;
 
 /// An operation, by its number from 1.
-#[derive(Clone, Copy, PartialEq, Eq, PartialOrd, Ord)]
+#[derive(Clone, Copy)]
 struct OpName {
     txn: TxnNo,
     op: u32,
@@ -42,6 +44,21 @@ struct Needs {
 /// The number from 1 of an operation at a place.
 fn number_at(place: usize) -> u32 {
     u32::try_from(place).unwrap_or(u32::MAX).saturating_add(1)
+}
+
+/// Notes that the operation of a name stays; false where it did, or where there is none.
+fn add_name(kept: &mut Vec<bool>, standings: &Standings, name: OpName) -> bool {
+    let Some(standing) = standings.find(name.txn) else {
+        return false;
+    };
+    match kept.get_mut(standing.number_of(name.op)) {
+        Some(stays) => {
+            let is_new = !*stays;
+            *stays = true;
+            is_new
+        }
+        None => false,
+    }
 }
 
 /// The last operation of a row's installer at a place, counted from 0.
@@ -171,6 +188,23 @@ impl Needs {
         Ok(())
     }
 
+    /// Whether what a transaction wrote of the row at a place isn't the version with which the row begins, as another one sees
+    /// it; its own writes, and those that aren't installed, never are.
+    fn is_after(
+        &self,
+        history: &History,
+        reader: TxnNo,
+        writer: TxnNo,
+        at: usize,
+        row: RowName,
+        from_start: bool,
+    ) -> bool {
+        match history.installer_place(row, writer) {
+            Some(place) if writer != reader => place > self.first_of(at, from_start),
+            _ => true,
+        }
+    }
+
     /// Of each of so many rows, whether an operation stays that wrote the version next after the one with which the row
     /// begins. NoMemory where an allocation was refused.
     fn followed(
@@ -235,8 +269,37 @@ fn needs_of(
     }
     needs.add_writers(from_start)?;
     needs.add_next(alloc, history, rows, from_start)?;
-    needs.ops.sort()?;
     Ok(needs)
+}
+
+/// Adds the writers of what an operation saw of some rows, but of the versions with which rows begin. NoMemory where an
+/// allocation was refused.
+fn push_writers(
+    needed: &mut Vec<OpName>,
+    needs: &Needs,
+    history: &History,
+    name: OpName,
+    rows: &[RowName],
+    from_start: bool,
+) -> Result<(), NoMemory> {
+    let Some(op) = op_named(history, name) else {
+        return Ok(());
+    };
+    for (row, version) in op.view.entries() {
+        if let Ok(at) = rows.binary_search(row)
+            && let VersionName::Of { txn, op: number } = *version
+            && needs.is_after(history, name.txn, txn, at, *row, from_start)
+        {
+            needed.push(OpName { txn, op: number })?;
+        }
+    }
+    Ok(())
+}
+
+/// The operation of this name, if there is one.
+fn op_named(history: &History, name: OpName) -> Option<&Op> {
+    let place = name.op.checked_sub(1)? as usize;
+    history.txn(name.txn)?.ops.as_slice().get(place)
 }
 
 /// Which operations stay once those that are needed do. NoMemory where an allocation was refused.
@@ -248,16 +311,18 @@ fn kept_more(
     from_start: bool,
 ) -> Result<Vec<bool>, NoMemory> {
     let needs = needs_of(alloc, history, &lead.rows, kept, from_start)?;
+    let standings = Standings::of(alloc, history)?;
     let mut more = Vec::new(alloc);
-    let mut stays = kept.iter();
-    for txn in history.txns().as_slice() {
-        for place in 0..txn.ops.as_slice().len() {
-            let name = OpName {
-                txn: txn.no,
-                op: number_at(place),
-            };
-            let stayed = stays.next().copied().unwrap_or(false);
-            more.push(stayed || needs.ops.binary_search(&name).is_ok())?;
+    more.extend_from_slice(kept)?;
+    let mut needed = Vec::new(alloc);
+    needed.extend_from_slice(&needs.ops)?;
+    // Each operation is added once, and then the writers of what it saw are looked at.
+    for _ in 0..size_of(history).saturating_mul(2) {
+        let Some(name) = needed.pop() else {
+            break;
+        };
+        if add_name(&mut more, &standings, name) {
+            push_writers(&mut needed, &needs, history, name, &lead.rows, from_start)?;
         }
     }
     Ok(more)
