@@ -190,7 +190,8 @@ impl Known {
     }
 
     /// What an operation saw of the row at a place.
-    fn reader(&self, history: &History, here: Here, op: &Op, at: usize, row: RowName) -> Touch {
+    fn reader(&self, history: &History, here: &Here, op: &Op, at: usize, row: RowName) -> Touch {
+        let initial = history.initial().get(row);
         let mut touch = Touch {
             touched: Touched {
                 row: at,
@@ -203,7 +204,7 @@ impl Known {
             seen_op: NONE,
             seen_txn: NONE,
             is_own: false,
-            fits_initial: fits(op, row, history.initial().get(row)),
+            fits_initial: fits(op, row, &initial),
         };
         if let Some(VersionName::Of { txn, op: number }) = op.view.get(row) {
             let entries = op.view.entries();
@@ -224,7 +225,7 @@ impl Known {
         &self,
         found: &mut Touches,
         history: &History,
-        here: Here,
+        here: &Here,
         op: &Op,
         at: usize,
     ) -> Result<(), NoMemory> {
@@ -267,7 +268,7 @@ impl Known {
         alloc: Global,
         found: &mut Touches,
         history: &History,
-        here: Here,
+        here: &Here,
         op: &Op,
     ) -> Result<(), NoMemory> {
         let places = self.touched(alloc, op)?;
@@ -295,7 +296,7 @@ impl Known {
         let mut here = first;
         for op in txn.ops.as_slice() {
             if txn.outcome == Outcome::Committed {
-                self.push_op(alloc, found, history, here, op)?;
+                self.push_op(alloc, found, history, &here, op)?;
             }
             here.op = here.op.saturating_add(1);
             here.entry = here.entry.saturating_add(op.view.entries().len());

@@ -115,7 +115,7 @@ struct OpPlace {
 }
 
 /// The operation that wrote what an operation saw of a row, unless that is the initial version.
-fn seen_op(history: &History, at: OpPlace, row: RowName) -> Option<OpPlace> {
+fn seen_op(history: &History, at: &OpPlace, row: RowName) -> Option<OpPlace> {
     let op = history.txn(at.txn)?.ops.as_slice().get(at.place)?;
     match op.view.get(row)? {
         VersionName::Initial => None,
@@ -128,7 +128,7 @@ fn seen_op(history: &History, at: OpPlace, row: RowName) -> Option<OpPlace> {
 
 /// Whether an operation at a place is named by a fault at another: it is that one, or came before it in its transaction and
 /// touched the row; or it is the one that was seen, or wrote the row in that one's transaction.
-fn is_beside(op: &Op, here: OpPlace, at: OpPlace, seen: Option<OpPlace>, row: RowName) -> bool {
+fn is_beside(op: &Op, here: &OpPlace, at: &OpPlace, seen: &Option<OpPlace>, row: RowName) -> bool {
     if here.txn == at.txn && here.place <= at.place {
         return here.place == at.place || touches(op, row);
     }
@@ -144,7 +144,7 @@ fn is_beside(op: &Op, here: OpPlace, at: OpPlace, seen: Option<OpPlace>, row: Ro
 fn lead_of_op(
     alloc: Global,
     history: &History,
-    at: OpPlace,
+    at: &OpPlace,
     row: RowName,
 ) -> Result<Lead, NoMemory> {
     let seen = seen_op(history, at, row);
@@ -152,7 +152,7 @@ fn lead_of_op(
     for txn in history.txns().as_slice() {
         for (place, op) in txn.ops.as_slice().iter().enumerate() {
             let here = OpPlace { txn: txn.no, place };
-            named.push(is_beside(op, here, at, seen, row))?;
+            named.push(is_beside(op, &here, at, &seen, row))?;
         }
     }
     let mut rows = Vec::new(alloc);
@@ -178,7 +178,8 @@ fn lead_of_fault(alloc: Global, history: &History, fault: LocalFault) -> Result<
     match fault.parts() {
         FaultParts::Operation { txn, op, row, .. } => {
             let place = op.saturating_sub(1) as usize;
-            lead_of_op(alloc, history, OpPlace { txn, place }, row)
+            let at = OpPlace { txn, place };
+            lead_of_op(alloc, history, &at, row)
         }
         FaultParts::Row { row, .. } => lead_of_row(alloc, history, row),
     }
@@ -196,7 +197,7 @@ fn lead_of_finding(
         Finding::At { txn, op, row } => {
             let place = op.saturating_sub(1) as usize;
             let at = OpPlace { txn: *txn, place };
-            Ok(Some(lead_of_op(alloc, history, at, *row)?))
+            Ok(Some(lead_of_op(alloc, history, &at, *row)?))
         }
         Finding::Absent | Finding::NotJudged => Ok(None),
     }

@@ -66,16 +66,16 @@ impl Touch {
 }
 
 /// Whether an operation would have listed and written the same of a row in this state.
-pub fn fits(op: &Op, row: RowName, state: Option<Value>) -> bool {
+pub fn fits(op: &Op, row: RowName, state: &Option<Value>) -> bool {
     let statement = &op.statement;
-    if statement.fails_at(row, state) || statement.listed(row, state) != op.rows.get(row) {
+    if statement.fails_at(row, *state) || statement.listed(row, *state) != op.rows.get(row) {
         return false;
     }
     match op.writes.get(row) {
-        None => !statement.would_write(row, state),
+        None => !statement.would_write(row, *state),
         Some(written) => {
-            statement.would_write(row, state)
-                && statement.new_state(row, state) == value_of(written)
+            statement.would_write(row, *state)
+                && statement.new_state(row, *state) == value_of(written)
         }
     }
 }

@@ -21,11 +21,17 @@ struct OpName {
     op: u32,
 }
 
-/// A version of the row at a place among some rows, by its own place, the initial one's being 0, and who wrote it.
+/// A version of a row: the row's place among some rows, and the version's among the row's versions, the initial one's being 0.
 #[derive(Clone, Copy)]
 struct Version {
     row: usize,
     place: usize,
+}
+
+/// A version that is seen, and the operation that wrote it.
+#[derive(Clone, Copy)]
+struct Seen {
+    version: Version,
     writer: OpName,
 }
 
@@ -34,10 +40,11 @@ struct Version {
 struct Needs {
     /// Of each row, the place of the least version that is seen; NONE where none is.
     least: Vec<usize>,
-    /// The versions that are seen, but the initial ones, and those that are written.
-    seen: Vec<Version>,
+    /// The versions that are seen, but the initial ones.
+    seen: Vec<Seen>,
+    /// The versions that are written.
     written: Vec<Version>,
-    /// The operations that are needed.
+    /// Operations of the same transaction that are seen, and those that installed nothing.
     ops: Vec<OpName>,
 }
 
@@ -47,7 +54,7 @@ fn number_at(place: usize) -> u32 {
 }
 
 /// Notes that the operation of a name stays; false where it did, or where there is none.
-fn add_name(kept: &mut Vec<bool>, standings: &Standings, name: OpName) -> bool {
+fn add_name(kept: &mut Vec<bool>, standings: &Standings, name: &OpName) -> bool {
     let Some(standing) = standings.find(name.txn) else {
         return false;
     };
@@ -90,7 +97,7 @@ impl Needs {
     fn add_seen(
         &mut self,
         history: &History,
-        name: OpName,
+        name: &OpName,
         op: &Op,
         at: usize,
         row: RowName,
@@ -103,11 +110,8 @@ impl Needs {
         match history.installer_place(row, txn) {
             Some(place) if txn != name.txn => {
                 self.see(at, place);
-                self.seen.push(Version {
-                    row: at,
-                    place,
-                    writer,
-                })?;
+                let version = Version { row: at, place };
+                self.seen.push(Seen { version, writer })?;
             }
             _ => self.ops.push(writer)?,
         }
@@ -118,7 +122,7 @@ impl Needs {
     fn add_row(
         &mut self,
         history: &History,
-        name: OpName,
+        name: &OpName,
         op: &Op,
         at: usize,
         row: RowName,
@@ -127,11 +131,7 @@ impl Needs {
         if op.writes.get(row).is_some()
             && let Some(place) = history.installer_place(row, name.txn)
         {
-            self.written.push(Version {
-                row: at,
-                place,
-                writer: name,
-            })?;
+            self.written.push(Version { row: at, place })?;
         }
         Ok(())
     }
@@ -141,7 +141,7 @@ impl Needs {
     fn add_entries<X>(
         &mut self,
         history: &History,
-        name: OpName,
+        name: &OpName,
         op: &Op,
         rows: &[RowName],
         entries: &[(RowName, X)],
@@ -158,7 +158,7 @@ impl Needs {
     fn add_op(
         &mut self,
         history: &History,
-        name: OpName,
+        name: &OpName,
         op: &Op,
         rows: &[RowName],
     ) -> Result<(), NoMemory> {
@@ -173,19 +173,6 @@ impl Needs {
             Some(least) if !from_start => *least,
             _ => 0,
         }
-    }
-
-    /// Adds the writers of the versions that are seen, but those with which rows begin. NoMemory where an allocation was
-    /// refused.
-    fn add_writers(&mut self, from_start: bool) -> Result<(), NoMemory> {
-        for place in 0..self.seen.len() {
-            if let Some(version) = self.seen.get(place).copied()
-                && version.place > self.first_of(version.row, from_start)
-            {
-                self.ops.push(version.writer)?;
-            }
-        }
-        Ok(())
     }
 
     /// Whether what a transaction wrote of the row at a place isn't the version with which the row begins, as another one sees
@@ -225,25 +212,44 @@ impl Needs {
         Ok(followed)
     }
 
-    /// Adds the writer of the version next after the one with which a row begins, where none of its operations that wrote
-    /// the row stays. NoMemory where an allocation was refused.
-    fn add_next(
-        &mut self,
+    /// The operations that are needed: the writers of the versions that are seen, but of those with which rows begin, and of
+    /// each row the writer of the version next after that one, where none of its operations that wrote the row stays.
+    /// NoMemory where an allocation was refused.
+    fn needed(
+        &self,
         alloc: Global,
         history: &History,
         rows: &[RowName],
         from_start: bool,
-    ) -> Result<(), NoMemory> {
+    ) -> Result<Vec<OpName>, NoMemory> {
+        let mut needed = Vec::new(alloc);
+        for name in self.ops.iter() {
+            push_name(&mut needed, name)?;
+        }
+        for seen in self.seen.iter() {
+            if seen.version.place > self.first_of(seen.version.row, from_start) {
+                push_name(&mut needed, &seen.writer)?;
+            }
+        }
         let followed = self.followed(alloc, rows.len(), from_start)?;
         for (at, row) in rows.iter().enumerate() {
             if !followed.get(at).copied().unwrap_or(true)
                 && let Some(name) = last_of(history, *row, self.first_of(at, from_start))
             {
-                self.ops.push(name)?;
+                needed.push(name)?;
             }
         }
-        Ok(())
+        Ok(needed)
     }
+}
+
+/// Adds a name.
+fn push_name(names: &mut Vec<OpName>, name: &OpName) -> Result<(), NoMemory> {
+    names.push(OpName {
+        txn: name.txn,
+        op: name.op,
+    })?;
+    Ok(())
 }
 
 /// What the operations that stay need at some rows. NoMemory where an allocation was refused.
@@ -252,7 +258,6 @@ fn needs_of(
     history: &History,
     rows: &[RowName],
     kept: &[bool],
-    from_start: bool,
 ) -> Result<Needs, NoMemory> {
     let mut needs = Needs::none(alloc, rows.len())?;
     let mut stays = kept.iter();
@@ -263,12 +268,10 @@ fn needs_of(
                     txn: txn.no,
                     op: number_at(place),
                 };
-                needs.add_op(history, name, op, rows)?;
+                needs.add_op(history, &name, op, rows)?;
             }
         }
     }
-    needs.add_writers(from_start)?;
-    needs.add_next(alloc, history, rows, from_start)?;
     Ok(needs)
 }
 
@@ -278,7 +281,7 @@ fn push_writers(
     needed: &mut Vec<OpName>,
     needs: &Needs,
     history: &History,
-    name: OpName,
+    name: &OpName,
     rows: &[RowName],
     from_start: bool,
 ) -> Result<(), NoMemory> {
@@ -297,7 +300,7 @@ fn push_writers(
 }
 
 /// The operation of this name, if there is one.
-fn op_named(history: &History, name: OpName) -> Option<&Op> {
+fn op_named<'h>(history: &'h History, name: &OpName) -> Option<&'h Op> {
     let place = name.op.checked_sub(1)? as usize;
     history.txn(name.txn)?.ops.as_slice().get(place)
 }
@@ -310,19 +313,18 @@ fn kept_more(
     kept: &[bool],
     from_start: bool,
 ) -> Result<Vec<bool>, NoMemory> {
-    let needs = needs_of(alloc, history, &lead.rows, kept, from_start)?;
+    let needs = needs_of(alloc, history, &lead.rows, kept)?;
     let standings = Standings::of(alloc, history)?;
     let mut more = Vec::new(alloc);
     more.extend_from_slice(kept)?;
-    let mut needed = Vec::new(alloc);
-    needed.extend_from_slice(&needs.ops)?;
+    let mut needed = needs.needed(alloc, history, &lead.rows, from_start)?;
     // Each operation is added once, and then the writers of what it saw are looked at.
     for _ in 0..size_of(history).saturating_mul(2) {
         let Some(name) = needed.pop() else {
             break;
         };
-        if add_name(&mut more, &standings, name) {
-            push_writers(&mut needed, &needs, history, name, &lead.rows, from_start)?;
+        if add_name(&mut more, &standings, &name) {
+            push_writers(&mut needed, &needs, history, &name, &lead.rows, from_start)?;
         }
     }
     Ok(more)
