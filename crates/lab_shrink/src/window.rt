@@ -194,7 +194,7 @@ impl Needs {
 
     /// Of each of so many rows, whether an operation stays that wrote the version next after the one with which the row
     /// begins. NoMemory where an allocation was refused.
-    fn followed(
+    fn are_followed(
         &self,
         alloc: Global,
         rows: usize,
@@ -231,7 +231,7 @@ impl Needs {
                 push_name(&mut needed, &seen.writer)?;
             }
         }
-        let followed = self.followed(alloc, rows.len(), from_start)?;
+        let followed = self.are_followed(alloc, rows.len(), from_start)?;
         for (at, row) in rows.iter().enumerate() {
             if !followed.get(at).copied().unwrap_or(true)
                 && let Some(name) = last_of(history, *row, self.first_of(at, from_start))
