@@ -202,6 +202,14 @@ fn explain_command<'a>(alloc: Global, names: &'a Names) -> Result<Command<'a>, A
     plain_command(alloc, "explain", help::EXPLAIN, help::EXPLAIN_WHOLE).arg(phenomenon)
 }
 
+/// The subcommand `shrink`. NoMemory where an allocation was refused.
+fn shrink_command<'a>(alloc: Global, names: &'a Names) -> Result<Command<'a>, AllocError> {
+    let phenomenon = choice(alloc, "phenomenon", help::SHOWN, names.phenomena.as_slice());
+    plain_command(alloc, "shrink", help::SHRINK, help::SHRINK_WHOLE)
+        .arg(phenomenon)?
+        .arg(flag(alloc, "progress", help::LEFT))
+}
+
 /// The program's command, without its subcommands.
 fn program<'a>(alloc: Global) -> Command<'a> {
     Command::new(alloc, "hermitage_lab")
@@ -231,5 +239,6 @@ pub fn command<'a>(alloc: Global, names: &'a Names) -> Result<Command<'a>, Alloc
     let matrix = plain_command(alloc, "matrix", help::MATRIX, help::MATRIX_WHOLE);
     let command = command.subcommand(matrix)?;
     let command = with(command, picture_command(alloc, names))?;
-    with(command, explain_command(alloc, names))
+    let command = with(command, explain_command(alloc, names))?;
+    with(command, shrink_command(alloc, names))
 }

@@ -175,3 +175,22 @@ file, writes one line that names its first fault.
     hermitage_lab explain < examples/g2_item_write_skew.json";
 
 pub const EXPLAINED: &str = "Explains what is found of a phenomenon in place of the whole report";
+
+pub const SHRINK: &str = "Makes a history file smaller that shows the same";
+
+pub const SHRINK_WHOLE: &str = "\
+Makes the history of a file smaller, as long as it shows the same: that it isn't serializable, or, where the
+record is unsound, a fault of the same kind. What is left is a part of the history of which no transaction,
+no operation, no row and no entry of a view can go.
+
+Reads a history file from standard input, and writes one, of version 2, to standard output. Transactions
+keep their numbers; operations are counted anew. Where the first transactions that wrote a row go, the row
+begins as they left it. A serializable history, and one of which nothing can go, is written as it is, and
+standard error says so. Where the input is no history file, writes one line that names its first fault.
+
+    hermitage_lab shrink < examples/both_doctors_leave.json > smaller.json
+    hermitage_lab explain < smaller.json";
+
+pub const SHOWN: &str = "Keeps a phenomenon in place of the serial verdict's no";
+
+pub const LEFT: &str = "Says on standard error how much is left, also where that is no terminal";

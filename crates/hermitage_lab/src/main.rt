@@ -25,6 +25,7 @@ use lab_hints::{Choices, note_words};
 use lab_matrix::CaseName;
 use lab_picture::picture;
 use lab_reports::Phenomenon;
+use lab_shrink_commands::{Progress, shrink};
 use lab_streams::{Ending, RunFault, status};
 use std::alloc::Global;
 use std::io::{ErrorKind, IsTerminal, Read, Write};
@@ -114,6 +115,26 @@ fn run_case<W: Write>(
     ended(case(alloc, name, writer))
 }
 
+/// Runs `shrink`, and answers the exit status.
+fn run_shrink<R: Read, W: Write, N: Write>(
+    alloc: Global,
+    streams: Streams<'_, R, W, N>,
+    matches: &ArgMatches<'_>,
+) -> Result<u8, RunFault> {
+    let Streams {
+        reader,
+        writer,
+        notes,
+        progress,
+        is_watched,
+    } = streams;
+    let progress = Progress {
+        to: progress,
+        is_shown: is_watched || matches.get_flag("progress"),
+    };
+    ended(shrink(alloc, reader, writer, notes, asked(matches), progress))
+}
+
 /// Runs a subcommand, and answers the exit status.
 fn run_subcommand<T: Files + Threads + Wait + Sync, R: Read, W: Write, N: Write>(
     rt: &T,
@@ -132,6 +153,9 @@ fn run_subcommand<T: Files + Threads + Wait + Sync, R: Read, W: Write, N: Write>
     }
     if subcommand == "chain" {
         return run_files(rt, alloc, streams, more, Task::Chain);
+    }
+    if subcommand == "shrink" {
+        return run_shrink(alloc, streams, more);
     }
     let Streams {
         reader,

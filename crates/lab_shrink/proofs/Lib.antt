@@ -1,0 +1,2 @@
+mod SmallerStill
+mod GoalsShown

@@ -1,0 +1,301 @@
+//! What a judgement names, and what that needs: mostly all of a history that has to stay.
+
+ghost use Rattle.std.specs.Prelude.{IfOk, IfSome};
+ghost use Rattle.lab_cut.specs.PartOf.{IsPartOf};
+ghost use Rattle.lab_shrink.specs.Smaller.{IsSmaller};
+
+use crate::goal::Goal;
+use crate::named::put_in_order;
+use crate::onward::smallest;
+use crate::trial::tried;
+use crate::window::kept_with;
+use crate::work::Work;
+use lab_cut::{with_rows, without_operations};
+use lab_deps::{Edge, FaultParts, LocalFault};
+use lab_history::{History, Op, VersionName};
+use lab_judge::{Finding, Report, Serial, judge};
+use lab_table::{NoMemory, RowName, TxnNo};
+use std::alloc::Global;
+
+/// The most times that a lead is followed; each takes something away.
+const LEADS: usize = 8;
+
+/// What is named: rows, which rise, and of each operation of a history, whether it is.
+#[derive(Drop)]
+pub struct Lead {
+    pub rows: Vec<RowName>,
+    pub named: Vec<bool>,
+}
+
+/// Whether an operation saw, listed or wrote a row, or may have looked at it.
+fn touches(op: &Op, row: RowName) -> bool {
+    op.writes.get(row).is_some()
+        || op.rows.get(row).is_some()
+        || op.view.get(row).is_some()
+        || op.statement.may_match(row)
+}
+
+/// A row of a dependency that begins or ends at a transaction, and whether an operation of that touched it, or wrote it.
+#[derive(Clone, Copy)]
+struct RowBeside {
+    row: RowName,
+    is_touched: bool,
+    is_written: bool,
+}
+
+impl RowBeside {
+    /// Notes what an operation did with the row, and answers whether it did that as the first one, or at all where
+    /// `is_each` says so.
+    fn names(&mut self, op: &Op, is_each: bool) -> bool {
+        let touched = touches(op, self.row);
+        let wrote = op.writes.get(self.row).is_some();
+        let is_new = (touched && !self.is_touched) || (wrote && !self.is_written);
+        self.is_touched = self.is_touched || touched;
+        self.is_written = self.is_written || wrote;
+        is_new || (is_each && touched)
+    }
+}
+
+/// Whether an operation is named by one of some rows.
+fn is_named(beside: &mut Vec<RowBeside>, op: &Op, is_each: bool) -> bool {
+    let mut is_named = false;
+    for place in 0..beside.len() {
+        if let Some(row) = beside.get_mut(place)
+            && row.names(op, is_each)
+        {
+            is_named = true;
+        }
+    }
+    is_named
+}
+
+/// The rows of the dependencies that begin or end at a transaction. NoMemory where an allocation was refused.
+fn rows_beside(alloc: Global, walk: &[Edge], txn: TxnNo) -> Result<Vec<RowBeside>, NoMemory> {
+    let mut rows = Vec::new(alloc);
+    for edge in walk {
+        if edge.from == txn || edge.to == txn {
+            rows.push(RowBeside {
+                row: edge.row,
+                is_touched: false,
+                is_written: false,
+            })?;
+        }
+    }
+    Ok(rows)
+}
+
+/// What a walk names: the rows of its dependencies, and what its transactions did first with them, or all that they did
+/// with them where `is_each` says so. NoMemory where an allocation was refused.
+fn lead_of_walk(
+    alloc: Global,
+    history: &History,
+    walk: &[Edge],
+    is_each: bool,
+) -> Result<Lead, NoMemory> {
+    let mut rows = Vec::new(alloc);
+    for edge in walk {
+        rows.push(edge.row)?;
+    }
+    put_in_order(&mut rows)?;
+    let mut named = Vec::new(alloc);
+    for txn in history.txns().as_slice() {
+        let mut beside = rows_beside(alloc, walk, txn.no)?;
+        for op in txn.ops.as_slice() {
+            named.push(is_named(&mut beside, op, is_each))?;
+        }
+    }
+    Ok(Lead { rows, named })
+}
+
+/// A transaction and the place of one of its operations, counted from 0.
+#[derive(Clone, Copy)]
+struct OpPlace {
+    txn: TxnNo,
+    place: usize,
+}
+
+/// The operation that wrote what an operation saw of a row, unless that is the initial version.
+fn seen_op(history: &History, at: &OpPlace, row: RowName) -> Option<OpPlace> {
+    let op = history.txn(at.txn)?.ops.as_slice().get(at.place)?;
+    match op.view.get(row)? {
+        VersionName::Initial => None,
+        VersionName::Of { txn, op } => Some(OpPlace {
+            txn,
+            place: op.saturating_sub(1) as usize,
+        }),
+    }
+}
+
+/// Whether an operation at a place is named by a fault at another: it is that one, or came before it in its transaction and
+/// touched the row; or it is the one that was seen, or wrote the row in that one's transaction.
+fn is_beside(op: &Op, here: &OpPlace, at: &OpPlace, seen: &Option<OpPlace>, row: RowName) -> bool {
+    if here.txn == at.txn && here.place <= at.place {
+        return here.place == at.place || touches(op, row);
+    }
+    match seen {
+        Some(seen) if seen.txn == here.txn => {
+            seen.place == here.place || op.writes.get(row).is_some()
+        }
+        _ => false,
+    }
+}
+
+/// What a fault at an operation and a row names. NoMemory where an allocation was refused.
+fn lead_of_op(
+    alloc: Global,
+    history: &History,
+    at: &OpPlace,
+    row: RowName,
+) -> Result<Lead, NoMemory> {
+    let seen = seen_op(history, at, row);
+    let mut named = Vec::new(alloc);
+    for txn in history.txns().as_slice() {
+        for (place, op) in txn.ops.as_slice().iter().enumerate() {
+            let here = OpPlace { txn: txn.no, place };
+            named.push(is_beside(op, &here, at, &seen, row))?;
+        }
+    }
+    let mut rows = Vec::new(alloc);
+    rows.push(row)?;
+    Ok(Lead { rows, named })
+}
+
+/// What a fault at a row names: whoever wrote it. NoMemory where an allocation was refused.
+fn lead_of_row(alloc: Global, history: &History, row: RowName) -> Result<Lead, NoMemory> {
+    let mut named = Vec::new(alloc);
+    for txn in history.txns().as_slice() {
+        for op in txn.ops.as_slice() {
+            named.push(op.writes.get(row).is_some())?;
+        }
+    }
+    let mut rows = Vec::new(alloc);
+    rows.push(row)?;
+    Ok(Lead { rows, named })
+}
+
+/// What a fault names. NoMemory where an allocation was refused.
+fn lead_of_fault(alloc: Global, history: &History, fault: LocalFault) -> Result<Lead, NoMemory> {
+    match fault.parts() {
+        FaultParts::Operation { txn, op, row, .. } => {
+            let place = op.saturating_sub(1) as usize;
+            let at = OpPlace { txn, place };
+            lead_of_op(alloc, history, &at, row)
+        }
+        FaultParts::Row { row, .. } => lead_of_row(alloc, history, row),
+    }
+}
+
+/// What a finding names, if it is one. NoMemory where an allocation was refused.
+fn lead_of_finding(
+    alloc: Global,
+    history: &History,
+    finding: &Finding,
+    is_each: bool,
+) -> Result<Option<Lead>, NoMemory> {
+    match finding {
+        Finding::Walk(walk) => Ok(Some(lead_of_walk(alloc, history, walk.as_slice(), is_each)?)),
+        Finding::At { txn, op, row } => {
+            let place = op.saturating_sub(1) as usize;
+            let at = OpPlace { txn: *txn, place };
+            Ok(Some(lead_of_op(alloc, history, &at, *row)?))
+        }
+        Finding::Absent | Finding::NotJudged => Ok(None),
+    }
+}
+
+/// What a report names where it shows a goal. NoMemory where an allocation was refused.
+fn lead_of(
+    alloc: Global,
+    history: &History,
+    report: &Report,
+    goal: Goal,
+    is_each: bool,
+) -> Result<Option<Lead>, NoMemory> {
+    if let Goal::Present { phenomenon, .. } = goal {
+        return lead_of_finding(alloc, history, phenomenon.found_in(report), is_each);
+    }
+    match &report.serial {
+        Serial::Yes(_) => Ok(None),
+        Serial::NoFault(fault) => Ok(Some(lead_of_fault(alloc, history, *fault)?)),
+        Serial::NoCycle(walk) => Ok(Some(lead_of_walk(alloc, history, walk.as_slice(), is_each)?)),
+    }
+}
+
+/// What is left of a history where a lead is followed: the named rows alone, the named operations, and those that these
+/// need; with `from_start` none of a row's first writers goes. NoMemory where an allocation was refused.
+#[tactic(auto, using(crate::proofs::SmallerStill::left_still))]
+fn followed(
+    alloc: Global,
+    history: &History,
+    lead: &Lead,
+    from_start: bool,
+) -> Result<Option<History>, NoMemory>
+    ensures { IfOk result (λ left. IfSome left (λ part. IsPartOf part history.now)) }
+{
+    let kept = kept_with(alloc, history, lead, from_start)?;
+    match with_rows(alloc, history, &lead.rows)? {
+        Some(fewer) => without_operations(alloc, &fewer, &kept),
+        None => Ok(None),
+    }
+}
+
+/// What is left of a history where what its report names is kept, if that shows the goal: with the first of its rows' writers
+/// gone, or with them all. NoMemory where an allocation was refused.
+fn led_by(
+    alloc: Global,
+    goal: Goal,
+    whole: &History,
+    report: &Report,
+    is_each: bool,
+    work: &mut Work,
+) -> Result<Option<History>, NoMemory>
+    ensures { IfOk result (λ found. IfSome found (IsSmaller whole.now goal)) }
+{
+    let Some(lead) = lead_of(alloc, whole, report, goal, is_each)? else {
+        return Ok(None);
+    };
+    let near = followed(alloc, whole, &lead, false)?;
+    if let Some(part) = tried(alloc, goal, whole, near, work)? {
+        return Ok(Some(part));
+    }
+    let far = followed(alloc, whole, &lead, true)?;
+    tried(alloc, goal, whole, far, work)
+}
+
+/// What is left of a history where what its judgement names is kept, if that shows the goal. NoMemory where an allocation was
+/// refused.
+fn led_once(
+    alloc: Global,
+    goal: Goal,
+    whole: &History,
+    work: &mut Work,
+) -> Result<Option<History>, NoMemory>
+    ensures { IfOk result (λ found. IfSome found (IsSmaller whole.now goal)) }
+{
+    let report = judge(alloc, whole)?;
+    if let Some(part) = led_by(alloc, goal, whole, &report, false, work)? {
+        return Ok(Some(part));
+    }
+    led_by(alloc, goal, whole, &report, true, work)
+}
+
+/// What is left of a history where the leads of judgements are followed, one after another. NoMemory where an allocation
+/// was refused.
+#[tactic(auto, using(crate::proofs::SmallerStill::smaller_still))]
+pub fn led(
+    alloc: Global,
+    goal: Goal,
+    whole: &History,
+    work: &mut Work,
+) -> Result<Option<History>, NoMemory>
+    ensures { IfOk result (λ found. IfSome found (IsSmaller whole.now goal)) }
+{
+    let mut found = None;
+    for _ in 0..LEADS {
+        match led_once(alloc, goal, smallest(&found, whole), work)? {
+            Some(part) => found = Some(part),
+            None => break,
+        }
+    }
+    Ok(found)
+}

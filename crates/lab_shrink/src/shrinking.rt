@@ -1,0 +1,135 @@
+//! Making a history smaller, until nothing more can go.
+
+ghost use Rattle.std.specs.Prelude.{IfOk, IfSome};
+ghost use Rattle.lab_shrink.specs.Smaller.{IsSmaller};
+
+use crate::block::Sort;
+use crate::goal::Goal;
+use crate::lead::led;
+use crate::measure::{count, count_operations};
+use crate::onward::smallest;
+use crate::pass::pass;
+use crate::work::Work;
+use lab_history::History;
+use lab_table::NoMemory;
+use std::alloc::Global;
+
+/// The sorts of things, in the order in which they are taken away.
+const SORTS: [Sort; 4] = [
+    Sort::Transactions,
+    Sort::Operations,
+    Sort::Rows,
+    Sort::Entries,
+];
+
+/// The most rounds; each takes something away.
+const ROUNDS: usize = 1_000;
+
+/// Who is told how far it is.
+pub trait Watcher {
+    /// So many transactions and operations are left.
+    fn left(&mut self, transactions: usize, operations: usize);
+}
+
+/// What a history was made.
+#[derive(Drop)]
+pub struct Shrunk {
+    /// What is left; None where nothing could go.
+    pub history: Option<History>,
+    /// Whether nothing more can go; else the work ended before that was known.
+    pub is_least: bool,
+}
+
+/// Tells the watcher how much is left.
+fn tell<W: Watcher>(watcher: &mut W, history: &History) {
+    watcher.left(history.txns().as_slice().len(), count_operations(history));
+}
+
+/// The length of the blocks that are tried first: half of a count, rounded up.
+fn half(count: usize) -> usize {
+    count / 2 + count % 2
+}
+
+/// Takes away blocks of a sort, of this length at first and then of half as many, down to one.
+#[tactic(auto, using(crate::proofs::SmallerStill::smaller_still))]
+fn take_sort<W: Watcher>(
+    alloc: Global,
+    goal: Goal,
+    whole: &History,
+    sort: Sort,
+    first: usize,
+    work: &mut Work,
+    watcher: &mut W,
+) -> Result<Option<History>, NoMemory>
+    ensures { IfOk result (λ found. IfSome found (IsSmaller whole.now goal)) }
+{
+    let mut found = None;
+    let mut length = first;
+    while length > 0 {
+        let current = smallest(&found, whole);
+        tell(watcher, current);
+        if let Some(part) = pass(alloc, goal, current, sort, length, work)? {
+            found = Some(part);
+        }
+        length /= 2;
+    }
+    Ok(found)
+}
+
+/// Takes away what can go of each sort: in the first round long blocks at first, later one thing at a time.
+#[tactic(auto, using(crate::proofs::SmallerStill::smaller_still))]
+fn take_round<W: Watcher>(
+    alloc: Global,
+    goal: Goal,
+    whole: &History,
+    is_first: bool,
+    work: &mut Work,
+    watcher: &mut W,
+) -> Result<Option<History>, NoMemory>
+    ensures { IfOk result (λ found. IfSome found (IsSmaller whole.now goal)) }
+{
+    let mut found = None;
+    for sort in SORTS {
+        let current = smallest(&found, whole);
+        let first = if is_first {
+            half(count(alloc, current, sort)?)
+        } else {
+            1
+        };
+        if let Some(part) = take_sort(alloc, goal, current, sort, first, work, watcher)? {
+            found = Some(part);
+        }
+    }
+    Ok(found)
+}
+
+/// Makes a history smaller: a part of it that shows the goal, and of which no transaction, no operation, no row and no entry
+/// of a view can go, unless the work ended before that was known. None where nothing of the history could go. NoMemory
+/// where an allocation was refused.
+///
+/// First it looks at what a judgement of the history names, a cycle or a fault, and keeps that with what it needs; then it
+/// takes away halves, quarters and so on, of transactions, of operations, of rows and of what views list, until nothing
+/// more can go.
+#[tactic(auto, using(crate::proofs::SmallerStill::smaller_still))]
+pub fn shrink<W: Watcher>(
+    alloc: Global,
+    history: &History,
+    goal: Goal,
+    watcher: &mut W,
+) -> Result<Shrunk, NoMemory>
+    ensures { IfOk result (λ shrunk. IfSome shrunk.history (IsSmaller history.now goal)) }
+{
+    let mut work = Work::none(goal);
+    let mut found = led(alloc, goal, history, &mut work)?;
+    for round in 0..ROUNDS {
+        let current = smallest(&found, history);
+        match take_round(alloc, goal, current, round == 0, &mut work, watcher)? {
+            Some(part) => found = Some(part),
+            None => break,
+        }
+    }
+    Ok(Shrunk {
+        history: found,
+        is_least: !work.is_over(),
+    })
+}
