@@ -6,10 +6,6 @@ from itertools import product
 LISTS = "view", "rows", "writes"
 
 
-class Unsaid(Exception):
-    """A cut of which the rules don't say what it leaves."""
-
-
 def named(member):
     """The row that a member of a list is about."""
     return tuple(member[:2])
@@ -18,6 +14,17 @@ def named(member):
 def states(operations, row):
     """The states in which operations left a row, None where it is absent, the last one last."""
     return [member[2] for op in operations for member in op["writes"] if named(member) == row]
+
+
+def writer(operations, row):
+    """The last of some operations that wrote a row, None where none did."""
+    return next((op for op in reversed(operations) if states([op], row)), None)
+
+
+def left(operations, no, row):
+    """The state in which a transaction leaves a row by these operations of transactions; absent where it wrote none."""
+    op = writer(operations.get(no, ()), row)
+    return op and states([op], row)[0]
 
 
 def rows_of(history):
@@ -58,20 +65,12 @@ def without_operations(history, is_cut):
         first = next((place for place, no in enumerate(by) if no in stays), len(by))
         if first:
             initial[row] = states(before[by[first - 1]], row)[-1]
-        if by[-1] not in stays:
-            end[row] = left(before, after, stays[-1], row) if stays else initial.get(row)
+        if writer(after.get(by[-1], ()), row) is not writer(before.get(by[-1], ()), row):
+            end[row] = left(after, stays[-1], row) if stays else initial.get(row)
         if stays:
             installed[row] = stays
     return history | {"transactions": transactions, "initial": listed(initial), "end": listed(end),
                       "installed": listed(installed)}
-
-
-def left(before, after, no, row):
-    """The state in which a transaction leaves a row. One that no longer makes its last version leaves what isn't said."""
-    old, new = states(before.get(no, ()), row), states(after.get(no, ()), row)
-    if not old or old[-1] != new[-1]:
-        raise Unsaid
-    return new[-1]
 
 
 def with_rows(history, is_kept):
@@ -97,10 +96,7 @@ def single_cuts(history):
     cuts = [(f"T{txn['no']}", lambda no, place, of=txn["no"]: no == of) for txn in history["transactions"]]
     cuts += [(f"T{of} op {at}", lambda no, place, it=(of, at): (no, place) == it) for of, at, _ in operations]
     for name, is_cut in cuts:
-        try:
-            yield name, without_operations(history, is_cut)
-        except Unsaid:
-            pass
+        yield name, without_operations(history, is_cut)
     for row in rows_of(history):
         yield f"row {row}", with_rows(history, lambda it, row=row: it != row)
     for no, place, op in operations:
@@ -132,9 +128,13 @@ class Comparison:
         lost = [f"T{no}" for no, of in ways.items() if not of]
         if lost:
             return f"operations of {', '.join(lost)}"
-        if not any(self.are_seen(dict(zip(ways, chosen))) for chosen in product(*ways.values())):
-            return "the views"
-        return next((f"row {row}: {what}" for row in sorted(self.rows) for what in self.wrong_at(row)), "")
+        wrong = "the views"
+        for places in (dict(zip(ways, chosen)) for chosen in product(*ways.values())):
+            if self.are_seen(places):
+                wrong = next((f"row {row}: {it}" for row in sorted(self.rows) for it in self.wrong_at(places, row)), "")
+            if not wrong:
+                break
+        return wrong
 
     def ways(self, ops, old, place=0, found=()):
         """The places, in the whole's transaction, that a part's operations may have: they list the same of the rows that
@@ -147,10 +147,10 @@ class Comparison:
                 yield from self.ways(ops[1:], old, at + 1, (*found, at + 1))
 
     def is_of(self, op, old):
-        """Whether an operation is another one's but for its view, of which the rows and the transactions are looked at."""
+        """Whether an operation is another one's, as far as the versions that it sees are their transactions'."""
         lists = all(op[key] == [it for it in old[key] if named(it) in self.rows] for key in ("rows", "writes"))
-        return lists and op["statement"] == old["statement"] and is_sublist([it[:3] for it in op["view"]],
-                                                                            [it[:3] for it in old["view"]])
+        seen, before = ([it[:3] for it in of["view"]] for of in (op, old))
+        return lists and op["statement"] == old["statement"] and is_sublist(seen, before)
 
     def are_seen(self, places):
         """Whether views name the versions that they did, where operations had these places."""
@@ -167,7 +167,7 @@ class Comparison:
             return places[no][place - 1]
         return place if not 1 <= place <= len(self.old.get(no, ())) else None
 
-    def wrong_at(self, row):
+    def wrong_at(self, places, row):
         """What is wrong with the installers, the beginning and the end of a row."""
         by = by_row(self.whole["installed"]).get(row, [])
         stays = [no for no in by if states(self.ops.get(no, ()), row) or not states(self.old.get(no, ()), row)]
@@ -178,9 +178,10 @@ class Comparison:
         first = [state for no in by[:gone] for state in states(self.old[no], row)] if gone else initial[1:]
         if initial[0] not in first:
             yield f"it begins as {initial[0]}, and not as one of {first}"
-        if not by or by[-1] in stays:
-            last = end[1:]
+        kept = {no: [self.old[no][place - 1] for place in of] for no, of in places.items()}
+        if not by or writer(kept.get(by[-1], ()), row) is writer(self.old.get(by[-1], ()), row):
+            last = end[1]
         else:
-            last = states(self.old.get(stays[-1], ()), row) if stays else initial[:1]
-        if last and end[0] not in last:
-            yield f"it ends as {end[0]}, and not as one of {last}"
+            last = left(self.ops, stays[-1], row) if stays else initial[0]
+        if end[0] != last:
+            yield f"it ends as {end[0]}, and not as {last}"
