@@ -32,7 +32,7 @@ class Interleaving:
         self.numbers = draw.sample(range(1, NUMBERS * count + 1), count)
         self.is_kept = {no: draw.random() < 0.85 for no in self.numbers}
         self.own, self.ops = ({no: of() for no in self.numbers} for of in (dict, list))
-        turns = [no for no in self.numbers for _ in range(draw.randint(1, most))]
+        turns = [no for no in self.numbers for _ in range(draw.randint(1, most) if draw.random() < 0.95 else 0)]
         if not is_serial:
             draw.shuffle(turns)
         for no in turns:
