@@ -1,9 +1,10 @@
 """What may be cut of a history, and whether one is a part of another, by the rules of docs/FORMATS.md, "A smaller history".
 
 A history is the value of a file of version 2. These bodies are plain and slow."""
-from itertools import product
+from itertools import islice, product
 
 LISTS = "view", "rows", "writes"
+MOST_WAYS = 10_000  # that operations are matched in, so that a wrong history of many alike ones takes no hours
 
 
 def named(member):
@@ -129,7 +130,8 @@ class Comparison:
         if lost:
             return f"operations of {', '.join(lost)}"
         wrong = "the views"
-        for places in (dict(zip(ways, chosen)) for chosen in product(*ways.values())):
+        for chosen in islice(product(*ways.values()), MOST_WAYS):
+            places = dict(zip(ways, chosen))
             if self.are_seen(places):
                 wrong = next((f"row {row}: {it}" for row in sorted(self.rows) for it in self.wrong_at(places, row)), "")
             if not wrong:
