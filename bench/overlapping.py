@@ -126,7 +126,8 @@ def with_fault(kind, count, each):
     it = by_locks((), count, each)
     middle = it.transactions[count // 2]["ops"]
     if kind == "F1":
-        middle[-1]["view"] = sorted([member for member in middle[-1]["view"] if member[1] != ROWS] + [["test", ROWS, count, each + 1]])
+        others = [member for member in middle[-1]["view"] if member[1] != ROWS]
+        middle[-1]["view"] = [*others, ["test", ROWS, count, each + 1]]
     elif kind == "F6":
         middle[-1]["rows"][0][-1] += 1
     else:

@@ -123,8 +123,8 @@ class Comparison:
         heads, old = ([(txn["no"], txn["outcome"]) for txn in it["transactions"]] for it in (self.part, self.whole))
         if not is_sublist(heads, old):
             return f"the transactions {heads}"
-        if not all(self.ops.values()):
-            return "a transaction without an operation"
+        if any(not ops and self.old[no] for no, ops in self.ops.items()):
+            return "a transaction that has no operation left"
         ways = {no: list(self.ways(ops, self.old[no])) for no, ops in self.ops.items()}
         lost = [f"T{no}" for no, of in ways.items() if not of]
         if lost:
