@@ -9,6 +9,7 @@ use lab_explain::explain;
 use lab_matrix::CaseName;
 use lab_picture::picture;
 use lab_reports::Phenomenon;
+use lab_shrink_commands::{Progress as Left, shrink};
 use lab_streams::{Format, RunFault, Wanted, status};
 use std::alloc::Global;
 use std::io::{Read, Write};
@@ -39,6 +40,9 @@ pub enum Subcommand {
         asked: Option<Phenomenon>,
     },
     Explain {
+        asked: Option<Phenomenon>,
+    },
+    Shrink {
         asked: Option<Phenomenon>,
     },
     Case {
@@ -131,6 +135,14 @@ pub fn given<T: Files + Threads + Wait + Sync, R: Read, W: Write, N: Write>(
         Subcommand::JudgeFor { wanted } => judge(alloc, reader, writer, notes, wanted),
         Subcommand::Picture { asked } => picture(alloc, reader, writer, notes, asked),
         Subcommand::Explain { asked } => explain(alloc, reader, writer, notes, asked),
+        Subcommand::Shrink { asked } => {
+            let mut shown = Sink::new(alloc, 9_000, 0);
+            let left = Left {
+                to: &mut shown,
+                is_shown: true,
+            };
+            shrink(alloc, reader, writer, notes, asked, left)
+        }
         Subcommand::Case { name } => case_script(alloc, name, writer),
         Subcommand::Matrix => matrix(alloc, writer),
         Subcommand::OfFiles { task, names } => {

@@ -1,4 +1,4 @@
-//! What `picture`, `explain`, `case` and `matrix` write, and `batch` of one file.
+//! What `picture`, `explain`, `shrink`, `case` and `matrix` write, and `batch` of one file.
 
 use crate::case::{Case, Subcommand, Task, check};
 use crate::judge::{CUT, CUT_FAULT, EMPTY, INTERMEDIATE};
@@ -47,6 +47,31 @@ pub const NO_EXPLANATION: Case = Case {
     status: 2,
 };
 
+/// Row 2 goes, which no statement needs; the two writes and the read of the first of them stay.
+pub const SMALLER: Case = Case {
+    subcommand: Subcommand::Shrink {
+        asked: Some(Phenomenon::G1b),
+    },
+    input: INTERMEDIATE,
+    text: br#"{"end":[["test",1,11]],"format":"hermitage-history","initial":[["test",1,10]],"installed":[["test",1,[1]]],"transactions":[{"no":1,"ops":[{"rows":[["test",1,10]],"statement":"update test set value = 101 where id = 1","view":[],"writes":[["test",1,101]]},{"rows":[["test",1,101]],"statement":"update test set value = 11 where id = 1","view":[["test",1,1,1]],"writes":[["test",1,11]]}],"outcome":"committed"},{"no":2,"ops":[{"rows":[["test",1,101]],"statement":"select * from test","view":[["test",1,1,1]],"writes":[]}],"outcome":"committed"}],"version":2}"#,
+    status: 0,
+};
+
+/// Of a serializable history, which is given back.
+const NOT_SMALLER: Case = Case {
+    subcommand: Subcommand::Shrink { asked: None },
+    input: EMPTY,
+    text: EMPTY,
+    status: 0,
+};
+
+pub const NO_SMALLER: Case = Case {
+    subcommand: Subcommand::Shrink { asked: None },
+    input: CUT,
+    text: CUT_FAULT,
+    status: 2,
+};
+
 pub const LISTING: Case = Case {
     subcommand: Subcommand::Case { name: CaseName::P4 },
     input: b"",
@@ -72,11 +97,14 @@ pub const UNREADABLE: Case = Case {
     status: 3,
 };
 
-const CASES: [Case; 7] = [
+const CASES: [Case; 10] = [
     PICTURE,
     NO_PICTURE,
     EXPLANATION,
     NO_EXPLANATION,
+    SMALLER,
+    NOT_SMALLER,
+    NO_SMALLER,
     LISTING,
     MATRIX,
     UNREADABLE,
