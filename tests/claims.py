@@ -24,10 +24,12 @@ class Promise(NamedTuple):
 
 
 class Claim(NamedTuple):
-    """A claim: its clauses, and the names that aren't followed, since a law among the clauses tells of them."""
+    """A claim: its clauses; the names that aren't followed, since a law among the clauses tells of them; and by the names
+    of records the parts of them that another claim is about."""
 
     promises: list
     told: frozenset = frozenset()
+    aside: dict = {}
 
 
 def judged(clause, case=None):
@@ -36,6 +38,8 @@ def judged(clause, case=None):
 
 
 HELD = [Promise(READING, "read_history", "held"), Promise(FILE_LAWS, "history_is_read_from_its_file", "ensures")]
+# What a file keeps besides: limits, and that no transaction has the number of another.
+RULES = {"HoldsHistory": {"short"}, "IsFileIn": {"keeps"}, "SpellsStatement": {"bytes", "printed"}}
 REFUSED = [Promise(READING, "read_history", "fault"), Promise(READING, "read_history", "long")]
 CLAIMS = {
     "serial": Claim([judged("serial", "Yes")]),
@@ -43,7 +47,8 @@ CLAIMS = {
     "fault": Claim([judged("serial", "NoFault"), judged("snapshot", "NoFault"), judged("fault")]),
     "cycle": Claim([judged("serial", "NoCycle"), judged("snapshot", "NoCycle")]),
     "phenomena": Claim([judged("found")]),
-    "file": Claim(HELD, frozenset({"history_in"})),
+    "file": Claim(HELD, frozenset({"history_in"}), RULES),
+    "rules": Claim(HELD, frozenset({"history_in"})),
     "refusal": Claim(REFUSED),
 }
 # What the counts are of: a title, and the parts that it is made of.
@@ -53,7 +58,7 @@ COUNTS = {
     "a no by a fault": ["fault"],
     "a no by a cycle": ["cycle"],
     "each phenomenon": ["phenomena"],
-    "the reader": ["file", "refusal"],
+    "the reader": ["file", "rules", "refusal"],
     "a yes of serializable, with what a file holds": ["serial", "file"],
 }
 
@@ -83,6 +88,8 @@ def reached(part):
             return
         if case is not None and case in what.variants and what.case is None:
             what = what.only(case)
+        if what.name in claim.aside:
+            what = what.without(claim.aside[what.name])
         if what.name in claim.told or what.key() in passed:
             return
         passed.add(what.key())
@@ -93,7 +100,12 @@ def reached(part):
     for promise in claim.promises:
         for what in named_in(promise):
             follow(what, None)
-    return found, words
+    return whole(found), words
+
+
+def whole(found):
+    """Definitions without the parts of those that are there as a whole."""
+    return {key: what for key, what in found.items() if what.case is None or (*key[:2], None) not in found}
 
 
 @functools.lru_cache(maxsize=None)
@@ -123,4 +135,4 @@ def joined(parts):
     for part in parts:
         found.update(reached(part)[0])
         words |= reached(part)[1]
-    return found, words
+    return whole(found), words

@@ -62,8 +62,8 @@ class Clause(NamedTuple):
 
 
 class Definition:
-    """A definition: its file, its name, its comment or else that of its section, its clauses, the cases that it has of
-    its own, and its line where order counts."""
+    """A definition: its file, its name, its comment, its clauses, the cases that it has of its own, and its line where
+    order counts."""
 
     def __init__(self, file, name, comment, clauses, variants, scope, place=0):
         self.file, self.name, self.comment, self.clauses, self.variants = file, name, comment, clauses, variants
@@ -129,6 +129,13 @@ class Definition:
         part.case = case
         return part
 
+    def without(self, fields):
+        """A record without some of its fields."""
+        part = type(self)(self.file, self.name, self.comment, [], self.variants, self.scope, self.place)
+        part.clauses = [clause for clause in self.clauses if not (found := PART.match(clause.text)) or found["name"] not in fields]
+        part.case = "aside"
+        return part
+
     def is_of(self, clause, case):
         """Whether a clause speaks of a case."""
         return case in re.findall(r"\w+", clause.text.partition(" = ")[0])
@@ -167,21 +174,18 @@ def module(file):
     with open(f"{TOP}/{file}", encoding="utf-8") as source:
         lines = source.read().splitlines()
     scope = Scope(found.group(1) for line in lines if (found := USE.match(line)))
-    comment, section, definition = [], [], None
+    comment, definition = [], None
     for number, line in enumerate(lines, 1):
         head = HEAD.match(line)
-        if line.startswith("-- ----"):
-            comment, section = [], [line]
-            continue
         if line.startswith("--"):
-            comment = [*comment, line]
+            comment = [] if line.startswith("-- ----") else [*comment, line]
             continue
         if not line or USE.match(line) or line.startswith(("infix", "pub mod ")):
             comment = comment if line.startswith("infix") else []
             continue
         text = re.sub(r"(^| )--( .*)?$", "", QUOTED.sub('""', line))
         if head:
-            definition = Definition(file, head["name"], comment or section, [], set(), scope, number)
+            definition = Definition(file, head["name"], comment, [], set(), scope, number)
             scope.bring(head["name"], scope.defined, definition)
         part = PART.match(text)
         if part and re.match(r"(pub )?data ", definition.clauses[0].text):
