@@ -28,8 +28,10 @@ QUOTED = re.compile(r'"[^"]*"')
 TYPE = re.compile(r"\b[A-Z]\w*")
 # Types of the code that need no word here.
 PLAIN = {"Option"}
+# Signs that stand for what a name does.
+SIGNS = {"←": ">>="}
 # What the language has, and no `use` brings in.
-WORDS = set("→ × ¬ λ : = ← _ Type Unit tt ⊥ abbrev unfoldable pub record data where do".split())
+WORDS = set("→ × ¬ λ : = _ Type Unit tt ⊥ abbrev unfoldable pub record data where do".split())
 
 
 class Word(NamedTuple):
@@ -106,6 +108,7 @@ class Definition:
             bound.update(token for token in TOKEN.findall(pattern) if not self.is_case(token))
         for token in TOKEN.findall(FIELD.sub(" ", text)):
             token = token.strip("λ").rstrip(".") if token.strip(".") else token
+            token = SIGNS.get(token, token)
             if not token or token[0] in ".0123456789\"" or token in WORDS or token in own:
                 continue
             if token.partition(".")[0] in bound:
