@@ -12,6 +12,7 @@ MEANINGS = f"{TOP}/tests/theorem.tsv"
 JUDGING = "crates/lab_judge/src/judging.rt"
 READING = "crates/lab_history_file/src/reading.rt"
 FILE_LAWS = "crates/lab_history_file/src/laws.rt"
+STATEMENT_LAWS = "crates/lab_statement/src/laws.rt"
 
 
 class Promise(NamedTuple):
@@ -40,7 +41,11 @@ def judged(clause, case=None):
 HELD = [Promise(READING, "read_history", "held"), Promise(FILE_LAWS, "history_is_read_from_its_file", "ensures")]
 # What a file keeps besides: limits, and that no transaction has the number of another.
 RULES = {"HoldsHistory": {"short"}, "IsFileIn": {"keeps"}, "SpellsStatement": {"bytes", "printed"}}
-REFUSED = [Promise(READING, "read_history", "fault"), Promise(READING, "read_history", "long")]
+REFUSED = [
+    Promise(READING, "read_history", "fault"),
+    Promise(READING, "read_history", "long"),
+    Promise(STATEMENT_LAWS, "statement_is_read_from_its_text", "ensures"),
+]
 CLAIMS = {
     "serial": Claim([judged("serial", "Yes")]),
     "snapshot": Claim([judged("snapshot", "Yes")]),
@@ -49,7 +54,7 @@ CLAIMS = {
     "phenomena": Claim([judged("found")]),
     "file": Claim(HELD, frozenset({"history_in"}), RULES),
     "rules": Claim(HELD, frozenset({"history_in"})),
-    "refusal": Claim(REFUSED),
+    "refusal": Claim(REFUSED, frozenset({"statement_in"})),
 }
 # What the counts are of: a title, and the parts that it is made of.
 COUNTS = {
