@@ -127,16 +127,17 @@ class Definition:
 
     def only(self, case):
         """As much of it as speaks of one case: what is declared, and the clauses whose pattern has the case."""
-        part = type(self)(self.file, self.name, self.comment, [], self.variants, self.scope, self.place)
-        part.clauses = [*self.clauses[:1], *(clause for clause in self.clauses[1:] if self.is_of(clause, case))]
-        part.case = case
-        return part
+        return self.part(case, [*self.clauses[:1], *(clause for clause in self.clauses[1:] if self.is_of(clause, case))])
 
     def without(self, fields):
         """A record without some of its fields."""
-        part = type(self)(self.file, self.name, self.comment, [], self.variants, self.scope, self.place)
-        part.clauses = [clause for clause in self.clauses if not (found := PART.match(clause.text)) or found["name"] not in fields]
-        part.case = "aside"
+        found = [(PART.match(clause.text), clause) for clause in self.clauses]
+        return self.part("aside", [clause for part, clause in found if not part or part["name"] not in fields])
+
+    def part(self, case, clauses):
+        """Some clauses of it."""
+        part = type(self)(self.file, self.name, self.comment, clauses, self.variants, self.scope, self.place)
+        part.case = case
         return part
 
     def is_of(self, clause, case):
@@ -148,7 +149,7 @@ class Scope:
     """What the names of a file stand for: what it defines, and the paths that its `use`s bring in."""
 
     def __init__(self, uses):
-        self.defined, self.paths, self.signs = {}, {}, {}
+        self.defined, self.paths = {}, {}
         for tree in uses:
             for name, path in names_in(tree):
                 self.bring(name, self.paths, path)
