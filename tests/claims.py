@@ -25,8 +25,8 @@ class Promise(NamedTuple):
 
 
 class Claim(NamedTuple):
-    """A claim: its clauses; the names that aren't followed, since a law among the clauses tells of them; and by the names
-    of records the parts of them that another claim is about."""
+    """A claim: its clauses; the names that aren't followed, since a law among the clauses tells of them; and by names of
+    records the parts of them that another claim is about."""
 
     promises: list
     told: frozenset = frozenset()

@@ -127,7 +127,8 @@ class Definition:
 
     def only(self, case):
         """As much of it as speaks of one case: what is declared, and the clauses whose pattern has the case."""
-        return self.part(case, [*self.clauses[:1], *(clause for clause in self.clauses[1:] if self.is_of(clause, case))])
+        head, *others = self.clauses
+        return self.part(case, [head, *(clause for clause in others if self.is_of(clause, case))])
 
     def without(self, fields):
         """A record without some of its fields."""
