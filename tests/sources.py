@@ -4,6 +4,9 @@ import re
 # Comments, strings and characters, which may hold braces.
 NO_CODE = re.compile(r"//[^\n]*|b?r#\".*?\"#|b?\"(?:\\.|[^\"\\])*\"|b?'(?:\\[^']*|[^'\\\n])'", re.S)
 
+# What parts the names of a path, in code and in clauses.
+SEPARATOR = re.compile(r"::|\.")
+
 
 def blank(text, pattern=NO_CODE):
     """A text without what a pattern finds, line for line."""
@@ -23,3 +26,27 @@ def behind(text, place, opening="{", closing="}"):
         depth += (text[place] == opening) - (text[place] == closing)
         place += 1
     return place
+
+
+def members(text):
+    """The members of a list between braces."""
+    depth, first = 0, 0
+    for place, sign in enumerate(text):
+        depth += (sign == "{") - (sign == "}")
+        if sign == "," and depth == 0:
+            yield text[first:place]
+            first = place + 1
+    yield text[first:]
+
+
+def names_in(tree, above=""):
+    """The names that a tree of uses brings in, each with its path."""
+    tree = tree.strip()
+    if tree.endswith("}"):
+        head, _, listed = tree[:-1].partition("{")
+        for member in filter(str.strip, members(listed)):
+            yield from names_in(member, above + head)
+        return
+    path, _, other = tree.partition(" as ")
+    path = above.rstrip(":") if path == "self" else above + path
+    yield other.strip() or SEPARATOR.split(path)[-1], path

@@ -1,0 +1,49 @@
+"""How contracts of functions are read: the promised clauses of each function of a source, by its name."""
+import re
+
+from sources import behind, code_of
+
+ITEM = re.compile(r"\bfn ([a-z_0-9]+)\b")
+OWNER = re.compile(r"^(?:pub )?(impl|trait)\b([^{;]*)\{", re.M)
+CLAUSE = re.compile(r"\b(requires|ensures)\s*(\w*)\s*\{")
+
+
+def owner_name(kind, head):
+    """The name of the type that an `impl` is of, of a tuple that of its first, or of a trait."""
+    head = re.sub(r"^<[^{]*?>\s", "", head.strip()) if kind == "impl" else head.strip()
+    return re.search(r"\w+", head.split(" for ")[-1]).group()
+
+
+def contract(text, place):
+    """The promised clauses of the function whose head begins at a place: (name, text) each."""
+    clauses, depth = [], 0
+    while place < len(text):
+        clause = CLAUSE.match(text, place) if depth == 0 else None
+        if clause:
+            end = behind(text, clause.end())
+            if clause.group(1) == "ensures":
+                clauses.append((clause.group(2) or "ensures", text[clause.end() : end - 1]))
+            place = end
+            continue
+        depth += {"(": 1, "[": 1, ")": -1, "]": -1}.get(text[place], 0)
+        if depth == 0 and text[place] in "{;":
+            break
+        place += 1
+    return clauses
+
+
+def owners_in(text):
+    """The types' and traits' parts of a text: kind, name, and the places between which each stands."""
+    return [(m.group(1), owner_name(*m.groups()), m.start(), behind(text, m.end())) for m in OWNER.finditer(text)]
+
+
+def functions_of(path):
+    """The functions of a file by name, those of a type or trait as `Type::name`, each with its clauses."""
+    text = code_of(path)
+    owners = owners_in(text)
+    found = {}
+    for item in ITEM.finditer(text):
+        within = [name for _, name, start, end in owners if start < item.start() < end]
+        name = "::".join(within[-1:] + [item.group(1)])
+        found.setdefault(name, []).extend(contract(text, item.end()))
+    return found
