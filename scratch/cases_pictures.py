@@ -116,15 +116,46 @@ both = (3, [op("update test set value = 7", [], two, [t(1, 7), t(2, 7)])])
 case(WALKS, "one who wrote both versions that the cycle saw", skew(1, see1=(3, 1), see2=(3, 1), extra=[both], installed=[["test", 1, [3, 1]], ["test", 2, [3, 2]]], val={1: 7, 2: 7}),
      must=[thin])
 case(WALKS, "no thin column where the cycle saw initial versions", skew(1, installed=[["test", 1, [1]], ["test", 2, [2]]]), never=[thin, "0.5"])
-# the version that is seen is by one of the cycle: T1 wrote row 2, T2 saw it and T1's is overwritten by T3
-three = [t(1, 10), t(2, 20), t(3, 30)]
-text = history(three, [
-    (1, [op("update test set value = 1 where id = 1", [], [t(1, 10)], [t(1, 1)])]),
-    (2, [op("select * from test where id = 1", [["test", 1, 1, 1]], [t(1, 1)]), op("select * from test where id = 2", [], [t(2, 20)])]),
-    (3, [op("update test set value = 2 where id = 1", [["test", 1, 1, 1]], [t(1, 1)], [t(1, 2)]), op("select * from test where id = 3", [], [t(3, 30)])]),
-    (4, [op("update test set value = 3 where id = 3", [], [t(3, 30)], [t(3, 3)]), op("select * from test where id = 1", [], [t(1, 10)])])],
-    [["test", 1, [1, 3]], ["test", 3, [4]]], [t(1, 2), t(2, 20), t(3, 3)])
-case(WALKS, "who wrote a version that the cycle saw is of the cycle", text, never=[thin])
+# the version that the cycle saw is by one of it: T1 saw what T3 left of row 1, and T2 overwrote that, which saw row 3 as it was
+# before T3
+text = history([t(1, 10), t(3, 30)], [
+    (1, [op("select * from test where id = 1", [["test", 1, 3, 1]], [t(1, 11)])]),
+    (2, [op("select * from test where id = 3", [], [t(3, 30)]), op("update test set value = 12 where id = 1", [["test", 1, 3, 1]], [t(1, 11)], [t(1, 12)])]),
+    (3, [op("update test set value = 11 where id = 1", [], [t(1, 10)], [t(1, 11)]), op("update test set value = 33 where id = 3", [["test", 1, 3, 1]], [t(3, 30)], [t(3, 33)])])],
+    [["test", 1, [3, 2]], ["test", 3, [3]]], [t(1, 12), t(3, 33)])
+case(WALKS, "who wrote a version that the cycle saw is of the cycle", text, never=[thin],
+     must=["serializable: no T1 rw(1) T2 rw(3) T3 wr(1) T1\n", "Not serializable: G2-item (read-only anomaly)</title>"])
+# nicknames in titles: accounts 1 and 2 of one owner, T2 withdraws where both have none, and T3 only looks (Fekete et al., 2004)
+text = history([["accounts", 1, 0], ["accounts", 2, 0]], [
+    (1, [op("update accounts set value = value + 20 where id = 2", [], [["accounts", 2, 0]], [["accounts", 2, 20]])]),
+    (2, [op("select * from accounts", [], [["accounts", 1, 0], ["accounts", 2, 0]]),
+         op("update accounts set value = value - 11 where id = 1", [], [["accounts", 1, 0]], [["accounts", 1, -11]])]),
+    (3, [op("select * from accounts", [["accounts", 2, 1, 1]], [["accounts", 1, 0], ["accounts", 2, 20]])])],
+    [["accounts", 1, [2]], ["accounts", 2, [1]]], [["accounts", 1, -11], ["accounts", 2, 20]])
+case(WALKS, "a read-only anomaly", text,
+     must=["serializable: no T1 wr(accounts 2) T3 rw(accounts 1) T2 rw(accounts 2) T1\n", "Not serializable: G2-item (read-only anomaly)</title>"])
+case(WALKS, "a read-only anomaly, of a phenomenon", text, "G2", must=["<title>G2 (read-only anomaly): present</title>"])
+case(WALKS, "a phenomenon that is absent", text, "G-single", must=["<title>G-single: absent</title>", "<desc>G-single: absent\n</desc>"], never=["<rect x="])
+# T1 finds no row above 25, and then sees row 3 as T2 left it, which raised row 1 above 25
+text = history([t(1, 10), t(2, 20), t(3, 3)], [
+    (1, [op("select * from test where value > 25"), op("select * from test where id = 3", [["test", 3, 2, 2]], [t(3, 4)])]),
+    (2, [op("update test set value = 30 where id = 1", [], [t(1, 10)], [t(1, 30)]), op("update test set value = 4 where id = 3", [["test", 1, 2, 1]], [t(3, 3)], [t(3, 4)])])],
+    [["test", 1, [2]], ["test", 3, [2]]], [t(1, 30), t(2, 20), t(3, 4)])
+case(WALKS, "a cycle with two nicknames", text,
+     must=["serializable: no T1 rw-p(1) T2 wr(3) T1\n", "Not serializable: G-single (read skew, phantom)</title>"])
+case(WALKS, "a cycle with two nicknames, of a phenomenon", text, "G-single", must=["<title>G-single (read skew, phantom): present</title>"])
+case(WALKS, "a phenomenon that is absent beside one that is present", text, "G2-item", must=["<title>G2-item: absent</title>"], never=["<rect x="])
+# T1 finds no row above 25, T2 raises row 2 above that, and didn't see what T1 left of row 1
+text = history([t(1, 10), t(2, 20)], [
+    (1, [op("select * from test where value > 25"), op("update test set value = 11 where id = 1", [], [t(1, 10)], [t(1, 11)])]),
+    (2, [op("select * from test where id = 1", [], [t(1, 10)]), op("update test set value = 30 where id = 2", [], [t(2, 20)], [t(2, 30)])]),
+    (3, [op("select * from test", [["test", 1, 1, 2]], [t(1, 11), t(2, 20)])])],
+    [["test", 1, [1]], ["test", 2, [2]]], [t(1, 11), t(2, 30)])
+case(WALKS, "a write skew that is none, since one of its dependencies is of a condition", text,
+     must=["serializable: no T1 rw-p(2) T2 rw(1) T1\n", "Not serializable: G2-item (phantom)</title>"], never=["write skew"])
+case(WALKS, "a phenomenon that isn't judged", history([t(1, 10)], [
+    (1, [op("select * from test where id = 1", [], [t(1, 11)])])], [], [t(1, 10)]), "G2",
+     must=["<title>G2: not judged</title>"])
 # in the finding of a phenomenon
 case(WALKS, "thin columns of a phenomenon", skew(1, see1=(3, 1), extra=[up1], installed=[["test", 1, [3, 1]], ["test", 2, [2]]], val={1: 11}), "G2-item", must=[thin])
 # first and last values

@@ -9,7 +9,7 @@ JUDGE = f"{TOP}/programs/x86_64-linux/hermitage_lab"
 OLD = "--old" in sys.argv
 
 WORDS = {"G0": "dirty write", "G1a": "aborted read", "G1b": "intermediate read", "G1c": "circular information flow",
-         "G-single": "read skew", "G2-item": "write skew", "G2": "anti-dependency cycle"}
+         "G-single": None, "G2-item": None, "G2": None}  # these have the nicknames of their cycles
 FAULTS = {"F1": "a version is seen that isn't there", "F2": "aborted read, G1a", "F3": "intermediate read, G1b",
           "F4": "an own write isn't seen", "F5": "a version behind the own one is seen",
           "F6": "rows differ from what the statement lists", "F7": "writes differ from what the statement makes",
@@ -251,6 +251,31 @@ def cycle_name(cycle):
     return "G2-item" if "rw" in anti else "G2"
 
 
+def nicknames(h, cycle):
+    """The nicknames of a cycle, in the order of the page's table."""
+    kinds, rows = [k for k, *_ in cycle], {row for _, row, _, _ in cycle}
+    txns = {a for _, _, a, _ in cycle}
+    def wrote(n, row=None):
+        return any(row is None or row == r for o in h.ops(n) for r in o["writes"])
+    if sorted(kinds) == ["rw", "ww"] and len(rows) == 1:
+        yield "lost update"
+    if cycle_name(cycle) == "G-single":
+        reader = next(a for k, _, a, _ in cycle if k.startswith("rw"))
+        if not any(wrote(reader, row) for row in rows):
+            yield "read skew"
+    if kinds == ["rw", "rw"] and len(rows) == 2:
+        yield "write skew"
+    if cycle_name(cycle) == "G2-item" and not all(wrote(n) for n in txns):
+        yield "read-only anomaly"
+    if "rw-p" in kinds:
+        yield "phantom"
+
+
+def full_name(h, name, cycle):
+    told = WORDS[name] or ", ".join(nicknames(h, cycle))
+    return f"{name} ({told})" if told else name
+
+
 class Drawing:
     def __init__(self):
         self.columns, self.thin, self.arrows, self.forward = [], [], [], []
@@ -323,8 +348,9 @@ def drawing(h, line, asked):
     d = Drawing()
     said = line.split(": ", 1)[1]
     if asked:
-        name = f"{asked} ({WORDS[asked]})"
         word = said.split()[0]
+        walk = said[len("present "):] if word == "present" else ""
+        name = full_name(h, asked, [] if " op " in walk else parse_cycle(walk) if walk else [])
         d.title = f"{name}: {'not judged' if said.startswith('not judged') else word}"
         if word == "present":
             rest = said[len("present "):]
@@ -359,7 +385,7 @@ def drawing(h, line, asked):
         return d
     cycle = parse_cycle(rest)
     name = cycle_name(cycle)
-    d.title = f"Not serializable: {name} ({WORDS[name]})"
+    d.title = f"Not serializable: {full_name(h, name, cycle)}"
     of_cycle(h, d, cycle)
     return d
 

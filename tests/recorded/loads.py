@@ -11,11 +11,13 @@ import tempfile
 import time
 from concurrent.futures import ThreadPoolExecutor
 
+from cutting import Comparison
 from harness import TOP, run
 from recorded.mutations import edited
 from recorded.records import AT_ONCE, PROMISES, SECONDS
 
 SESSIONS, ROWS, CUT = 4, 20, 30
+SHRUNK = 10  # parts of a load, the first ones
 TOLD = re.compile(
     r"recorders/load: (\d+) transactions, (\d+) committed, (\d+) refused, (\d+) parts(?:, (\d+) left out)?,"
     r" (\d+\.\d) seconds, \d+ transactions a second"
@@ -130,8 +132,20 @@ def try_parts(tally, name, load, promise, status=0):
     kept = len(outcomes), outcomes.count("committed"), outcomes.count("aborted")
     is_whole = kept == (count, committed, refused) or left_out and kept[0] < count
     tally.note(is_whole and len(found) == parts >= 2, f"{name}: {parts} parts with {kept}, and said was {load.said}")
+    try_shrunk(tally, name, load)
     is_cut = all(len(history["transactions"]) <= CUT for history in found.values())
     tally.note(is_cut and committed, f"{name}: a part has more transactions than asked for, or none committed")
+
+
+def try_shrunk(tally, name, load):
+    """Of parts that aren't serializable `shrink` leaves a part of each that isn't either."""
+    for number in sorted(load.texts)[:SHRUNK]:
+        text, no = load.texts[number], b"serializable: no T"
+        if run([tally.program, "judge"], text).stdout.startswith(no):
+            left = run([tally.program, "shrink"], text).stdout
+            is_no = run([tally.program, "judge"], left).stdout.startswith(no)
+            wrong = Comparison(json.loads(left), json.loads(text)).wrong() if is_no else "it is serializable"
+            tally.note(not wrong, f"{name}: what is left of part {number}: {wrong}; {left[:300]}")
 
 
 def try_loads(tally, name, levels, environment=None):

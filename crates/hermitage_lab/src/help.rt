@@ -188,7 +188,7 @@ keep their numbers; operations are counted anew. Where the first transactions th
 begins as they left it. A serializable history, and one of which nothing can go, is written as it is, and
 standard error says so. Where the input is no history file, writes one line that names its first fault.
 
-    hermitage_lab shrink < examples/both_doctors_leave.json > smaller.json
+    hermitage_lab shrink < examples/shrinking/withdrawals.json > smaller.json
     hermitage_lab explain < smaller.json";
 
 pub const SHOWN: &str = "Keeps a phenomenon in place of the serial verdict's no";

@@ -7,17 +7,21 @@
 #![tactic(auto)]
 
 mod block;
+mod following;
 mod gathering;
 mod goal;
+mod known;
 mod laws;
 mod lead;
 mod measure;
 mod named;
+mod needs;
 mod onward;
 mod pass;
 mod shrinking;
 mod sieve;
 mod standing;
+mod states;
 mod touch;
 mod trial;
 mod ways_round;
