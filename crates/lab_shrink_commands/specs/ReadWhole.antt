@@ -1,5 +1,5 @@
 -- What is said of as much of an input as is read is said of all of it.
-use Rattle.std.proofs.Common.{◌≡◌, inl, inr, ℕ, ◌≤◌, List, Option, length, take_all, subst, arith}
+use Rattle.std.proofs.Common.{inl, inr, ℕ, ◌≤◌, List, Option, length, take_all, subst, arith}
 use Rattle.lab_history.specs.Limits.{max_file_bytes}
 use Rattle.lab_reports.specs.declared.phenomenon.Phenomenon.{Phenomenon}
 use Rattle.lab_streams.specs.HistoryFile.{IsToldOf}
