@@ -15,16 +15,24 @@ use Rattle.lab_streams.specs.declared.ending.Ending.{Ending}
 use Rattle.lab_streams.specs.declared.ending.Ending.TheVariants.{Done}
 use Rattle.lab_streams.specs.declared.reporting.Format.TheVariants.{Lines}
 
--- the text is the file of a part of the history that shows what a judgement of the history shows; it is read as that part
-pub record IsSmallerFile (asked : Option Phenomenon) (history : History) (text : List ℕ) : Type 0 where
+-- what a judgement of a history shows of what is asked for
+pub record IsGoalOf (asked : Option Phenomenon) (history : History) (goal : Option Goal) : Type 0 where
   pub report : Report
   pub judgement : IsExactJudgement history report
+  pub shown : goal_of report asked ≡ goal
+
+-- the text is the file of a history, and is read as that history
+pub record IsFileOf (history : History) (text : List ℕ) : Type 0 where
+  pub text_is : text ≡ compact_text (tree_of history)
+  pub held : HoldsHistory text history
+
+-- the text is the file of a part of the history that shows what a judgement of the history shows
+pub record IsSmallerFile (asked : Option Phenomenon) (history : History) (text : List ℕ) : Type 0 where
   pub goal : Goal
-  pub shown : goal_of report asked ≡ Some goal
+  pub shown : IsGoalOf asked history (Some goal)
   pub part : History
   pub smaller : IsSmaller history goal part
-  pub text_is : text ≡ compact_text (tree_of part)
-  pub held : HoldsHistory text part
+  pub file : IsFileOf part text
 
 -- the text is such a file, or the input itself
 pub data IsShrunk (asked : Option Phenomenon) (input : List ℕ) (history : History) (text : List ℕ) : Type 0 where

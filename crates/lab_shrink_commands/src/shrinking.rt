@@ -2,12 +2,9 @@
 
 ghost use Rattle.std.specs.Prelude.{◌≡◌, ◌⊎◌, List, ℕ, IfOk, IfErr, IfSome, OnErr};
 ghost use Rattle.std.specs.Io.KnownBytes.{Appends, Keeps};
-ghost use Rattle.lab_shrink.specs.Goals.{goal_of};
 ghost use Rattle.lab_shrink.specs.Smaller.{IsSmaller};
-ghost use Rattle.lab_judge.specs.Judgement.{IsExactJudgement};
-ghost use Rattle.lab_judge.specs.declared.report.Report.{Report as Spelled};
 ghost use Rattle.lab_streams.specs.Input.{ReadsFirst};
-ghost use Rattle.lab_shrink_commands.specs.Answer.{IsSmallerFile, IsShrunk, IsShrinkAnswer};
+ghost use Rattle.lab_shrink_commands.specs.Answer.{IsGoalOf, IsFileOf, IsSmallerFile, Shrinks, IsShrinkAnswer};
 
 use crate::progress::Progress;
 use crate::remark::Remark;
@@ -30,12 +27,14 @@ fn nothing_shown(asked: Option<Phenomenon>) -> Remark {
     }
 }
 
-/// What is said where nothing went, and it is known that nothing can, or isn't.
-fn nothing_went(is_least: bool) -> Remark {
-    if is_least {
+/// What is said of a history that was made smaller.
+fn of_shrunk(shrunk: &Shrunk) -> Remark {
+    if !shrunk.is_least {
+        Remark::Ended
+    } else if shrunk.history.is_none() {
         Remark::AlreadyLeast
     } else {
-        Remark::Ended
+        Remark::Nothing
     }
 }
 
@@ -45,10 +44,46 @@ fn goal_in(
     history: &History,
     asked: Option<Phenomenon>,
 ) -> Result<Option<Goal>, NoMemory>
-    ensures { IfOk result (λ goal. (report : Spelled) × IsExactJudgement history.now report × (goal_of report asked ≡ goal)) }
+    ensures { IfOk result (IsGoalOf asked history.now) }
 {
     let report = judge(alloc, history)?;
     Ok(Goal::of(&report, asked))
+}
+
+/// A part of a history that shows the goal, of which nothing more can go; None where nothing can. NoMemory where an
+/// allocation was refused.
+fn smaller_part<P: Write>(
+    alloc: Global,
+    history: &History,
+    goal: Goal,
+    progress: &mut Progress<'_, P>,
+    remark: &mut Remark,
+) -> Result<Option<History>, NoMemory>
+    ensures { IfOk result (λ part. IfSome part (IsSmaller history.now goal)) }
+{
+    let shrunk = lab_shrink::shrink(alloc, history, goal, progress);
+    progress.clear();
+    let shrunk = shrunk?;
+    *remark = of_shrunk(&shrunk);
+    Ok(shrunk.history)
+}
+
+/// The file of a history; None where it would be too long. NoMemory where an allocation was refused.
+fn file_of(
+    alloc: Global,
+    history: &History,
+    remark: &mut Remark,
+) -> Result<Option<Vec<u8>>, NoMemory>
+    ensures { IfOk result (λ file. IfSome file (λ text. IsFileOf history.now text.items)) }
+{
+    match write_history(alloc, history) {
+        Ok(text) => Ok(Some(text)),
+        Err(WriteFault::NoMemory) => Err(AllocError),
+        Err(WriteFault::TooLong) => {
+            *remark = Remark::TooLong;
+            Ok(None)
+        }
+    }
 }
 
 /// The file of a part of a history that shows what the history shows; None where nothing is shown, where nothing can go, or
@@ -66,61 +101,46 @@ fn smaller_file<P: Write>(
         *remark = nothing_shown(asked);
         return Ok(None);
     };
-    let shrunk = lab_shrink::shrink(alloc, history, goal, progress);
-    progress.clear();
-    let Shrunk {
-        history: smaller,
-        is_least,
-    } = shrunk?;
-    let Some(part) = smaller else {
-        *remark = nothing_went(is_least);
+    let Some(part) = smaller_part(alloc, history, goal, progress, remark)? else {
         return Ok(None);
     };
-    if !is_least {
-        *remark = Remark::Ended;
-    }
-    match write_history(alloc, &part) {
-        Ok(text) => Ok(Some(text)),
-        Err(WriteFault::NoMemory) => Err(AllocError),
-        Err(WriteFault::TooLong) => {
-            *remark = Remark::TooLong;
-            Ok(None)
-        }
-    }
+    file_of(alloc, &part, remark)
 }
 
 /// What makes the history of an input smaller.
 #[derive(Drop)]
-struct Shrinks<'p, P: Write> {
+struct Shrinker<'p, P: Write> {
     asked: Option<Phenomenon>,
     progress: Progress<'p, P>,
     remark: Remark,
 }
 
-impl<'p, P: Write> Shrinks<'p, P> {
+impl<'p, P: Write> Shrinker<'p, P> {
     /// The file of a smaller history, or the input. NoMemory where an allocation was refused.
-    fn text_of(
-        &mut self,
-        alloc: Global,
-        input: &[u8],
-        history: &History,
-    ) -> Result<Vec<u8>, NoMemory>
-        ensures { IfOk result (λ text. IsShrunk self.old.asked input.now history.now text.items) }
+    fn shrunk(&mut self, alloc: Global, input: &[u8], history: &History) -> Result<Answer, NoMemory>
+        ensures { IfOk result (λ answer. Shrinks self.old.asked input.now history.now answer.text.items answer.ending) }
     {
-        match smaller_file(
+        let file = smaller_file(
             alloc,
             history,
             self.asked,
             &mut self.progress,
             &mut self.remark,
-        )? {
-            Some(text) => Ok(text),
-            None => Vec::from_slice(alloc, input),
+        );
+        match file? {
+            Some(text) => Ok(Answer {
+                text,
+                ending: Ending::Done,
+            }),
+            None => Ok(Answer {
+                text: Vec::from_slice(alloc, input)?,
+                ending: Ending::Done,
+            }),
         }
     }
 }
 
-impl<'p, P: Write> Subcommand for Shrinks<'p, P> {
+impl<'p, P: Write> Subcommand for Shrinker<'p, P> {
     ghost use Rattle.std.specs.Prelude.{⊤};
     ghost use Rattle.lab_shrink_commands.specs.Answer.{IsShrinkAnswer};
     ghost use Rattle.lab_shrink_commands.specs.ReadWhole.{shrinks_whole};
@@ -131,10 +151,7 @@ impl<'p, P: Write> Subcommand for Shrinks<'p, P> {
 
     fn answer(&mut self, alloc: Global, input: &[u8]) -> Result<Answer, NoMemory> {
         match read_history(alloc, input) {
-            Ok(history) => Ok(Answer {
-                text: self.text_of(alloc, input, &history)?,
-                ending: Ending::Done,
-            }),
+            Ok(history) => self.shrunk(alloc, input, &history),
             Err(FileFault::NoMemory) => Err(AllocError),
             Err(fault) => Ok(Answer {
                 text: print_refused(alloc, Format::Lines, None, &fault)?,
@@ -169,10 +186,10 @@ pub fn shrink<R: Read, W: Write, N: Write, P: Write>(
     ensures silent { IfErr result (λ fault. (fault ≡ RunFault.Unwritten) ⊎ Keeps (W.contents writer.old) (W.contents writer.new)) }
     ensures hint_last { OnErr result (Keeps (N.contents notes.old) (N.contents notes.new)) }
 {
-    let shrinks = Shrinks {
+    let shrinker = Shrinker {
         asked,
         progress,
         remark: Remark::Nothing,
     };
-    answer_input(alloc, shrinks, reader, writer, notes)
+    answer_input(alloc, shrinker, reader, writer, notes)
 }

@@ -1,0 +1,6 @@
+use Rattle.std.proofs.Common.{inl}
+use Rattle.std.proofs.lemmas.Result.{IfOk-weaker}
+use Rattle.lab_shrink_commands.proofs.shrinking.ShrinkerSubcommand.answer.Goals as goal
+
+pub returns-in-Ok : goal.returns-in-Ok
+returns-in-Ok g c = IfOk-weaker c.shrunk.result _ _ (λ answer told. inl (record { history = c.in-Ok.history; held = c.in-Ok.ensures.held; told = told })) c.shrunk.ensures
