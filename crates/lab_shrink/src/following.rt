@@ -20,7 +20,6 @@ const LEADS: usize = 8;
 
 /// What is left of a history with these rows alone, and of its operations those that are kept. NoMemory where an allocation
 /// was refused.
-#[tactic(auto, using(crate::proofs::SmallerStill::left_still))]
 fn followed(
     alloc: Global,
     history: &History,
