@@ -80,7 +80,6 @@ fn led_once(
 
 /// What is left of a history where the leads of judgements are followed, one after another. NoMemory where an allocation
 /// was refused.
-#[tactic(auto, using(crate::proofs::SmallerStill::smaller_still))]
 pub fn led(
     alloc: Global,
     goal: Goal,
