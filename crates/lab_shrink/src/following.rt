@@ -20,7 +20,6 @@ const LEADS: usize = 8;
 
 /// What is left of a history with these rows alone, and of its operations those that are kept. NoMemory where an allocation
 /// was refused.
-#[tactic(auto, using(crate::proofs::SmallerStill::left_still))]
 fn followed(
     alloc: Global,
     history: &History,
@@ -81,7 +80,6 @@ fn led_once(
 
 /// What is left of a history where the leads of judgements are followed, one after another. NoMemory where an allocation
 /// was refused.
-#[tactic(auto, using(crate::proofs::SmallerStill::smaller_still))]
 pub fn led(
     alloc: Global,
     goal: Goal,

@@ -2,8 +2,9 @@
 
 use crate::known::Known;
 use crate::measure::{count_operations, count_viewed};
+use crate::op_name::writer_seen;
 use crate::touch::{NONE, Touch, Touched, fits};
-use lab_history::{History, Op, Outcome, Txn, VersionName};
+use lab_history::{History, Op, Outcome, Txn};
 use lab_table::{NoMemory, RowName, TxnNo};
 use std::alloc::Global;
 
@@ -66,15 +67,15 @@ fn reader(
         is_seen: true,
     };
     let mut touch = here.touch(touched, fits(op, row, &history.initial().get(row)));
-    if let Some(VersionName::Of { txn, op: number }) = op.view.get(row) {
+    if let Some(writer) = writer_seen(op, row) {
         let entries = op.view.entries();
         let before = entries.partition_point(|entry| entry.0 < row);
         touch.entry = here.entry.saturating_add(before);
-        touch.is_own = txn == here.txn;
-        touch.touched.version = history.installer_place(row, txn).unwrap_or(0);
-        if let Some(standing) = known.standings.find(txn) {
+        touch.is_own = writer.txn == here.txn;
+        touch.touched.version = history.installer_place(row, writer.txn).unwrap_or(0);
+        if let Some(standing) = known.standings.find(writer.txn) {
             touch.seen_txn = standing.place;
-            touch.seen_op = standing.number_of(number);
+            touch.seen_op = standing.number_of(writer.op);
         }
     }
     touch

@@ -17,6 +17,7 @@ mod measure;
 mod named;
 mod needs;
 mod onward;
+mod op_name;
 mod pass;
 mod shrinking;
 mod sieve;

@@ -3,17 +3,11 @@
 //! A row's first writers aren't needed: where all of them go, the row begins as they left it. So the least version of a row that
 //! is seen needs no writer, if the writer of the next one stays.
 
+use crate::op_name::{OpName, writer_seen};
 use crate::touch::NONE;
-use lab_history::{History, Op, VersionName};
+use lab_history::{History, Op};
 use lab_table::{NoMemory, RowName, TxnNo};
 use std::alloc::Global;
-
-/// An operation, by its number from 1.
-#[derive(Clone, Copy)]
-pub struct OpName {
-    pub txn: TxnNo,
-    pub op: u32,
-}
 
 /// A version of a row: the row's place among some rows, and the version's among the row's versions, the initial one's being 0.
 #[derive(Clone, Copy)]
@@ -49,6 +43,15 @@ fn last_of(history: &History, row: RowName, place: usize) -> Option<OpName> {
     Some(OpName { txn, op })
 }
 
+/// The place of the version of a row that a transaction wrote, as another one sees it. Its own writes, and those that aren't
+/// installed, have none.
+fn place_for(history: &History, reader: TxnNo, writer: TxnNo, row: RowName) -> Option<usize> {
+    if writer == reader {
+        return None;
+    }
+    history.installer_place(row, writer)
+}
+
 impl Needs {
     /// No needs, of so many rows. NoMemory where an allocation was refused.
     pub fn none(alloc: Global, rows: usize) -> Result<Needs, NoMemory> {
@@ -76,19 +79,27 @@ impl Needs {
         at: usize,
         row: RowName,
     ) -> Result<(), NoMemory> {
-        let Some(VersionName::Of { txn, op: number }) = op.view.get(row) else {
+        let Some(writer) = writer_seen(op, row) else {
             self.see(at, 0);
             return Ok(());
         };
-        let writer = OpName { txn, op: number };
-        match history.installer_place(row, txn) {
-            Some(place) if txn != name.txn => {
-                self.see(at, place);
-                let version = Version { row: at, place };
-                self.seen.push(Seen { version, writer })?;
-            }
-            _ => self.ops.push(writer)?,
+        match place_for(history, name.txn, writer.txn, row) {
+            Some(place) => self.push_seen(at, place, &writer),
+            None => push_name(&mut self.ops, &writer),
         }
+    }
+
+    /// Notes that another transaction's version of the row at a place is seen, and who wrote it. NoMemory where an allocation
+    /// was refused.
+    fn push_seen(&mut self, row: usize, place: usize, writer: &OpName) -> Result<(), NoMemory> {
+        self.see(row, place);
+        self.seen.push(Seen {
+            version: Version { row, place },
+            writer: OpName {
+                txn: writer.txn,
+                op: writer.op,
+            },
+        })?;
         Ok(())
     }
 
@@ -160,9 +171,9 @@ impl Needs {
         row: RowName,
         from_start: bool,
     ) -> bool {
-        match history.installer_place(row, writer) {
-            Some(place) if writer != reader => place > self.first_of(at, from_start),
-            _ => true,
+        match place_for(history, reader, writer, row) {
+            Some(place) => place > self.first_of(at, from_start),
+            None => true,
         }
     }
 

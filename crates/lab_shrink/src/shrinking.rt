@@ -110,7 +110,6 @@ fn take_round<W: Watcher>(
 /// First it looks at what a judgement of the history names, a cycle or a fault, and keeps that with what it needs; then it
 /// takes away halves, quarters and so on, of transactions, of operations, of rows and of what views list, until nothing
 /// more can go.
-#[tactic(auto, using(crate::proofs::SmallerStill::smaller_still))]
 pub fn shrink<W: Watcher>(
     alloc: Global,
     history: &History,

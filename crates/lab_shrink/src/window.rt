@@ -2,7 +2,8 @@
 
 use crate::lead::Lead;
 use crate::measure::size_of;
-use crate::needs::{Needs, OpName};
+use crate::needs::Needs;
+use crate::op_name::OpName;
 use crate::standing::Standings;
 use lab_history::{History, Op, VersionName};
 use lab_table::{NoMemory, RowName};
