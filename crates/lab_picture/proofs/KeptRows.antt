@@ -1,5 +1,5 @@
 -- A row that an arrow names stands in the boxes at both its ends.
-use Rattle.std.proofs.Common.{◌≡◌, ℕ, ℤ, zero, ◌==◌, ◌≤◌, ◌+◌, Bool, true, false, not, ◌&&◌, ◌||◌, cond, List, [], ◌∷◌, ◌++◌, length, map, filter, refl, sym, ap, ◌∙◌, subst, append_assoc, inl, inr, arith}
+use Rattle.std.proofs.Common.{◌≡◌, ℕ, ◌==◌, ◌≤◌, ◌+◌, Bool, true, false, not, ◌||◌, cond, List, [], ◌∷◌, ◌++◌, length, map, filter, refl, sym, ap, ◌∙◌, subst, append_assoc, inl, inr, arith}
 use Rattle.std.specs.Prelude.{Contains, codes}
 use Rattle.std.specs.FinMap as finite
 use Rattle.std.specs.List.{list_any}
@@ -9,11 +9,10 @@ use Rattle.std.proofs.lemmas.List.Elements.{Contains-append_cases}
 use Rattle.lab_table.proofs.Members.{no_member, only_member}
 use Rattle.lab_table.specs.Row.{Row, row_test, rows_equiv}
 use Rattle.lab_history.specs.History.{History}
-use Rattle.lab_history.specs.Version.{IsOp}
 use Rattle.lab_history.specs.declared.operation.Op.{Op}
 use Rattle.lab_statement.specs.Printed.{printed_statement}
 use Rattle.lab_picture.specs.Boxes.{fits, shown_effect, telling}
-use Rattle.lab_picture.specs.Effect.{behind, or_none, is_unlisted, listed_row, written_row, listed_text, written_text, written_lead, effect_text}
+use Rattle.lab_picture.specs.Effect.{behind, or_none, is_unlisted, listed_text, written_text, written_lead, effect_text}
 use Rattle.lab_picture.specs.Kept.{told_listed, told_written, listed_rows, written_rows, told_rows, tells_named, kept_row, kept_from, kept_lead, kept_text, before_row, before_dots, next_behind, behind_all}
 use Rattle.lab_picture.specs.Lines.{all_lines}
 use Rattle.lab_picture.specs.Named.{is_at, touches, rows_at, is_named}

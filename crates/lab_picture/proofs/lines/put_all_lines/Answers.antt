@@ -1,4 +1,4 @@
-use Rattle.std.proofs.Common.{◌≡◌, ◌+◌, ◌*◌, ◌≤◌, ◌<◌, drop, length, arith}
+use Rattle.std.proofs.Common.{◌≡◌, ◌<◌, drop, length, arith}
 use Rattle.lab_picture.proofs.LineSteps.{written, all_written}
 use Rattle.lab_picture.proofs.lines.put_all_lines.Goals as goal
 
