@@ -1,6 +1,6 @@
 //! Laws of goals. The functions have nothing to do: their contracts are the laws.
 
-ghost use Rattle.std.specs.Prelude.{◌≡◌, true, Bool, Some, Option};
+ghost use Rattle.std.specs.Prelude.{◌≡◌, Bool, Some, Option};
 ghost use Rattle.lab_history.specs.History.{History as Held};
 ghost use Rattle.lab_deps.specs.FaultOrder.{IsFirst};
 ghost use Rattle.lab_deps.specs.Soundness.{IsSound};
