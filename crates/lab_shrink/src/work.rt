@@ -7,7 +7,7 @@ use lab_history::History;
 
 /// The most work of a run: what is judged, by size, and by the square of its transactions, which are told apart two by two;
 /// and what is sifted.
-const MOST: usize = 12_000_000;
+const MOST: usize = 6_000_000;
 
 /// How many touches are sifted while one thing is judged.
 const SIFTED: usize = 16;
