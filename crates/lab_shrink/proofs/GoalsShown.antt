@@ -1,16 +1,16 @@
 -- What it is of a history that it shows a goal.
-use Rattle.std.proofs.Common.{◌≡◌, ◌⊎◌, inl, inr, ℕ, Bool, true, false, cond, Option, Some, None, List, refl, sym, ap, ◌∙◌, subst}
+use Rattle.std.proofs.Common.{◌≡◌, ◌⊎◌, inl, inr, ℕ, Bool, true, false, cond, Option, Some, None, List, refl, sym, subst}
 use Rattle.std.specs.Prelude.{◌↔◌}
 use Rattle.lab_table.specs.Row.{Row}
 use Rattle.lab_history.specs.History.{History}
 use Rattle.lab_deps.specs.FaultOrder.{IsFirst}
 use Rattle.lab_deps.specs.Refusal.{is_uncommitted_read}
-use Rattle.lab_deps.specs.Soundness.{Stands, IsSound}
+use Rattle.lab_deps.specs.Soundness.{IsSound}
 use Rattle.lab_deps.specs.declared.edge.Edge.{Edge}
 use Rattle.lab_deps.specs.declared.fault.LocalFault.{LocalFault}
 use Rattle.lab_deps.specs.declared.fault.LocalFault.TheVariants as fault
 use Rattle.lab_judge.specs.Findings as found
-use Rattle.lab_judge.specs.Judgement.{FindsWalk, FindsFault, JudgesAll, JudgesReads, JudgesNothing, JudgesAtRead, Judges, IsExactJudgement, IsSerialVerdict, RestsOnOrder}
+use Rattle.lab_judge.specs.Judgement.{FindsWalk, FindsFault, JudgesAll, JudgesAtRead, Judges, IsExactJudgement, IsSerialVerdict, RestsOnOrder}
 use Rattle.lab_judge.specs.Phenomena.{IsClosedWalk, IsG0, IsG1c, IsGSingle, IsG2Item, IsG2}
 use Rattle.lab_judge.specs.declared.report.Finding.{Finding}
 use Rattle.lab_judge.specs.declared.report.Finding.TheVariants.{Absent, Walk, At, NotJudged}

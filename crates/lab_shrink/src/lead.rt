@@ -1,24 +1,12 @@
-//! What a judgement names, and what that needs: mostly all of a history that has to stay.
-
-ghost use Rattle.std.specs.Prelude.{IfOk, IfSome};
-ghost use Rattle.lab_cut.specs.PartOf.{IsPartOf};
-ghost use Rattle.lab_shrink.specs.Smaller.{IsSmaller};
+//! What a judgement names: mostly, with what that needs, all of a history that has to stay.
 
 use crate::goal::Goal;
 use crate::named::put_in_order;
-use crate::onward::smallest;
-use crate::trial::tried;
-use crate::window::kept_with;
-use crate::work::Work;
-use lab_cut::{with_rows, without_operations};
 use lab_deps::{Edge, FaultParts, LocalFault};
 use lab_history::{History, Op, VersionName};
 use lab_judge::{Finding, Report, Serial, judge};
 use lab_table::{NoMemory, RowName, TxnNo};
 use std::alloc::Global;
-
-/// The most times that a lead is followed; each takes something away.
-const LEADS: usize = 8;
 
 /// What is named: rows, which rise, and of each operation of a history, whether it is.
 #[derive(Drop)]
@@ -59,10 +47,8 @@ impl RowBeside {
 /// Whether an operation is named by one of some rows.
 fn is_named(beside: &mut Vec<RowBeside>, op: &Op, is_each: bool) -> bool {
     let mut is_named = false;
-    for place in 0..beside.len() {
-        if let Some(row) = beside.get_mut(place)
-            && row.names(op, is_each)
-        {
+    for row in beside.iter_mut() {
+        if row.names(op, is_each) {
             is_named = true;
         }
     }
@@ -221,81 +207,30 @@ fn lead_of(
     }
 }
 
-/// What is left of a history where a lead is followed: the named rows alone, the named operations, and those that these
-/// need; with `from_start` none of a row's first writers goes. NoMemory where an allocation was refused.
-#[tactic(auto, using(crate::proofs::SmallerStill::left_still))]
-fn followed(
-    alloc: Global,
-    history: &History,
-    lead: &Lead,
-    from_start: bool,
-) -> Result<Option<History>, NoMemory>
-    ensures { IfOk result (λ left. IfSome left (λ part. IsPartOf part history.now)) }
-{
-    let kept = kept_with(alloc, history, lead, from_start)?;
-    match with_rows(alloc, history, &lead.rows)? {
-        Some(fewer) => without_operations(alloc, &fewer, &kept),
-        None => Ok(None),
-    }
-}
-
-/// What is left of a history where what its report names is kept, if that shows the goal: with the first of its rows' writers
-/// gone, or with them all. NoMemory where an allocation was refused.
-fn led_by(
-    alloc: Global,
-    goal: Goal,
-    whole: &History,
-    report: &Report,
-    is_each: bool,
-    work: &mut Work,
-) -> Result<Option<History>, NoMemory>
-    ensures { IfOk result (λ found. IfSome found (IsSmaller whole.now goal)) }
-{
-    let Some(lead) = lead_of(alloc, whole, report, goal, is_each)? else {
-        return Ok(None);
+/// Adds a lead, if there is one and it names other operations than the last one.
+fn push_lead(leads: &mut Vec<Lead>, lead: Option<Lead>) -> Result<(), NoMemory> {
+    let Some(lead) = lead else {
+        return Ok(());
     };
-    let near = followed(alloc, whole, &lead, false)?;
-    if let Some(part) = tried(alloc, goal, whole, near, work)? {
-        return Ok(Some(part));
+    let is_known = match leads.last() {
+        Some(last) => last.named.as_slice() == lead.named.as_slice(),
+        None => false,
+    };
+    if is_known {
+        drop(lead);
+        return Ok(());
     }
-    let far = followed(alloc, whole, &lead, true)?;
-    tried(alloc, goal, whole, far, work)
+    leads.push(lead)?;
+    Ok(())
 }
 
-/// What is left of a history where what its judgement names is kept, if that shows the goal. NoMemory where an allocation was
-/// refused.
-fn led_once(
-    alloc: Global,
-    goal: Goal,
-    whole: &History,
-    work: &mut Work,
-) -> Result<Option<History>, NoMemory>
-    ensures { IfOk result (λ found. IfSome found (IsSmaller whole.now goal)) }
-{
-    let report = judge(alloc, whole)?;
-    if let Some(part) = led_by(alloc, goal, whole, &report, false, work)? {
-        return Ok(Some(part));
-    }
-    led_by(alloc, goal, whole, &report, true, work)
-}
-
-/// What is left of a history where the leads of judgements are followed, one after another. NoMemory where an allocation
-/// was refused.
-#[tactic(auto, using(crate::proofs::SmallerStill::smaller_still))]
-pub fn led(
-    alloc: Global,
-    goal: Goal,
-    whole: &History,
-    work: &mut Work,
-) -> Result<Option<History>, NoMemory>
-    ensures { IfOk result (λ found. IfSome found (IsSmaller whole.now goal)) }
-{
-    let mut found = None;
-    for _ in 0..LEADS {
-        match led_once(alloc, goal, smallest(&found, whole), work)? {
-            Some(part) => found = Some(part),
-            None => break,
-        }
-    }
-    Ok(found)
+/// What a judgement of a history names where it shows a goal: what is named of what transactions did first, and then, where
+/// that is more, what is named of all that they did. NoMemory where an allocation was refused.
+pub fn leads_of(alloc: Global, history: &History, goal: Goal) -> Result<Vec<Lead>, NoMemory> {
+    let report = judge(alloc, history)?;
+    let mut leads = Vec::new(alloc);
+    push_lead(&mut leads, lead_of(alloc, history, &report, goal, false)?)?;
+    push_lead(&mut leads, lead_of(alloc, history, &report, goal, true)?)?;
+    drop(report);
+    Ok(leads)
 }

@@ -7,17 +7,22 @@
 #![tactic(auto)]
 
 mod block;
+mod following;
 mod gathering;
 mod goal;
+mod known;
 mod laws;
 mod lead;
 mod measure;
 mod named;
+mod needs;
 mod onward;
+mod op_name;
 mod pass;
 mod shrinking;
 mod sieve;
 mod standing;
+mod states;
 mod touch;
 mod trial;
 mod ways_round;

@@ -4,8 +4,8 @@ ghost use Rattle.std.specs.Prelude.{IfOk, IfSome};
 ghost use Rattle.lab_shrink.specs.Smaller.{IsSmaller};
 
 use crate::block::Sort;
+use crate::following::led;
 use crate::goal::Goal;
-use crate::lead::led;
 use crate::measure::{count, count_operations};
 use crate::onward::smallest;
 use crate::pass::pass;
@@ -110,7 +110,6 @@ fn take_round<W: Watcher>(
 /// First it looks at what a judgement of the history names, a cycle or a fault, and keeps that with what it needs; then it
 /// takes away halves, quarters and so on, of transactions, of operations, of rows and of what views list, until nothing
 /// more can go.
-#[tactic(auto, using(crate::proofs::SmallerStill::smaller_still))]
 pub fn shrink<W: Watcher>(
     alloc: Global,
     history: &History,
@@ -121,15 +120,19 @@ pub fn shrink<W: Watcher>(
 {
     let mut work = Work::none(goal);
     let mut found = led(alloc, goal, history, &mut work)?;
+    let mut is_done = false;
     for round in 0..ROUNDS {
         let current = smallest(&found, history);
         match take_round(alloc, goal, current, round == 0, &mut work, watcher)? {
             Some(part) => found = Some(part),
-            None => break,
+            None => {
+                is_done = true;
+                break;
+            }
         }
     }
     Ok(Shrunk {
         history: found,
-        is_least: !work.is_over(),
+        is_least: is_done && !work.is_over(),
     })
 }
