@@ -1,13 +1,12 @@
 -- What is cut out of a history is a part of it.
 use Rattle.std.proofs.Common.{◌≡◌, ℕ, ℤ, Bool, true, false, cond, List, [], ◌∷◌, Option, Some, None, refl, sym, ap, ◌∙◌, subst}
-use Rattle.std.specs.Prelude.{option_map, option_and_then, unwrap_or, nat_eq, filter, not, slice_get, length, ◌-◌}
+use Rattle.std.specs.Prelude.{option_map, option_and_then, unwrap_or, nat_eq, not, slice_get, length, ◌-◌}
 use Rattle.std.specs.Option.{option_eq}
 use Rattle.std.specs.FinMap as map
 use Rattle.std.proofs.lemmas.Option.{same_Some, none-some}
 use Rattle.lab_table.specs.Row.{Row, row_cmp}
 use Rattle.lab_table.specs.Table.{State, Table, Writes, overwritten}
 use Rattle.lab_table.proofs.Maps.{state_after, get-overwritten}
-use Rattle.lab_table.proofs.Tests.{mapped_some}
 use Rattle.lab_history.specs.History.{History}
 use Rattle.lab_history.specs.HistoryRules.{Keeps}
 use Rattle.lab_history.specs.Version.{installers, ops_of, last_write}

@@ -1,6 +1,6 @@
 -- The transactions of a cut are parts of the whole's.
-use Rattle.std.proofs.Common.{◌≡◌, inl, inr, ℕ, zero, suc, ◌+◌, ◌≤◌, Bool, true, false, cond, List, [], ◌∷◌, map, length, Option, Some, None, refl, sym, ap, ◌∙◌, subst, arith, add-one, zero-add, eq-eqb, ne_eqb}
-use Rattle.std.specs.Prelude.{option_map, option_and_then, unwrap_or, drop, slice_get}
+use Rattle.std.proofs.Common.{◌≡◌, inl, ℕ, zero, suc, ◌+◌, ◌≤◌, Bool, true, false, cond, List, [], ◌∷◌, map, length, Option, Some, None, refl, sym, ap, ◌∙◌, subst, arith, add-one, zero-add, eq-eqb, ne_eqb}
+use Rattle.std.specs.Prelude.{option_and_then, unwrap_or, drop, slice_get}
 use Rattle.std.specs.List.{cons_option}
 use Rattle.std.specs.FinMap as finite
 use Rattle.std.proofs.lemmas.Option.{same_Some, none-some}
@@ -8,7 +8,6 @@ use Rattle.lab_table.specs.Row.{Row, row_cmp}
 use Rattle.lab_table.proofs.Tests.{mapped_some}
 use Rattle.lab_history.specs.Version.{place_in}
 use Rattle.lab_history.specs.VersionName.{View}
-use Rattle.lab_history.specs.declared.transaction.Outcome.{Outcome}
 use Rattle.lab_history.specs.declared.transaction.Txn.{Txn}
 use Rattle.lab_history.specs.declared.operation.Op.{Op}
 use Rattle.lab_history.specs.declared.operation.VersionName.{VersionName}
@@ -66,7 +65,7 @@ module _ (kept : ℕ → Option Kept) (leads : (n : ℕ) (own : Kept) → kept n
       let make = λ (row : Row) (v : VersionName). renamed kept v in
       let sorted = made_sorted make (finite.entries view) (finite.entries_sorted view) in
       let found : option_and_then (make row) (finite.find row_cmp row (finite.entries view)) ≡ Some version =
-          sym (find_made make row (finite.entries view) (finite.entries_sorted view)) ∙ sym (finite.get-from_sorted row_cmp (made_entries make (finite.entries view)) row sorted) ∙ e in
+      sym (find_made make row (finite.entries view) (finite.entries_sorted view)) ∙ sym (finite.get-from_sorted row_cmp (made_entries make (finite.entries view)) row sorted) ∙ e in
       finite.get-entries view row ∙ at (finite.find row_cmp row (finite.entries view)) found
     where
       at : (o : Option VersionName) → option_and_then (renamed kept) o ≡ Some version → o ≡ Some (named_in_whole number version)
@@ -93,9 +92,12 @@ module _ (kept : ℕ → Option Kept) (leads : (n : ℕ) (own : Kept) → kept n
       → LeadsFrom n base ((last + 1) ∷ new_numbers (last + 1) mask ops) → OpsBack n last base (op ∷ left_of mask ops) (op ∷ ops)
   op_kept n op ops last base mask rest leads =
       let own : number n (last + 1) ≡ base + 1 = ap (number n) (add-one last) ∙ leads last 1 (place_first (last + 1) (suc last) (new_numbers (last + 1) mask ops) (add-one last)) in
-      inl ((sym own, op_back op), rest (λ m p e.
-        let more : last + 1 ≤ m = placed_above ops (last + 1) mask m p e in
-        leads m (suc p) (place_behind (last + 1) (suc m) p (new_numbers (last + 1) mask ops) (λ same. omega arith) e) ∙ omega arith))
+      inl (
+        (sym own, op_back op),
+        rest (λ m p e.
+            let more : last + 1 ≤ m = placed_above ops (last + 1) mask m p e in
+            leads m (suc p) (place_behind (last + 1) (suc m) p (new_numbers (last + 1) mask ops) (λ same. omega arith) e) ∙ omega arith),
+      )
 
   op_gone : (n : ℕ) (op : Op) (ops : List Op) (last base : ℕ) (mask : List Bool) → (LeadsFrom n (base + 1) (new_numbers last mask ops) → OpsBack n last (base + 1) (left_of mask ops) ops)
       → LeadsFrom n base (0 ∷ new_numbers last mask ops) → OpsBack n last base (left_of mask ops) (op ∷ ops)
@@ -107,7 +109,7 @@ module _ (kept : ℕ → Option Kept) (leads : (n : ℕ) (own : Kept) → kept n
   ops_back n [] last base mask = λ leads. tt
   ops_back n (op ∷ ops) last base mask =
       elim (next_kept mask) as (λ b. LeadsFrom n base (cond b ((last + 1) ∷ new_numbers (last + 1) (drop 1 mask) ops) (0 ∷ new_numbers last (drop 1 mask) ops))
-          → OpsBack n last base (cond b (op ∷ left_of (drop 1 mask) ops) (left_of (drop 1 mask) ops)) (op ∷ ops)) [
+      → OpsBack n last base (cond b (op ∷ left_of (drop 1 mask) ops) (left_of (drop 1 mask) ops)) (op ∷ ops)) [
         | true ↦ op_kept n op ops last base (drop 1 mask) (ops_back n ops (last + 1) (base + 1) (drop 1 mask))
         | false ↦ op_gone n op ops last base (drop 1 mask) (ops_back n ops last (base + 1) (drop 1 mask))
       ]

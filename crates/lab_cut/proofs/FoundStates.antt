@@ -1,12 +1,11 @@
 -- States that are found in a history are states that its rows have.
 use Rattle.std.proofs.Common.{◌≡◌, ℕ, zero, suc, ℤ, Bool, true, false, cond, ◌==◌, List, [], ◌∷◌, Option, Some, None, refl, ap, ◌∙◌, subst}
-use Rattle.std.specs.Prelude.{Contains, option_and_then, unwrap_or, slice_get}
-use Rattle.std.specs.FinMap as map
+use Rattle.std.specs.Prelude.{Contains, option_and_then, unwrap_or}
 use Rattle.std.proofs.lemmas.Option.{same_Some, none-some}
 use Rattle.lab_table.specs.Row.{Row}
 use Rattle.lab_table.proofs.Members.{first_member, later_member, member_at}
 use Rattle.lab_history.specs.History.{History}
-use Rattle.lab_history.specs.Version.{find_txn, ops_in, ops_of, op_at, new_state, version_state}
+use Rattle.lab_history.specs.Version.{find_txn, ops_in, op_at, new_state, version_state}
 use Rattle.lab_history.specs.declared.operation.Op.{Op}
 use Rattle.lab_history.specs.declared.operation.VersionName.TheVariants.{Of}
 use Rattle.lab_history.specs.declared.transaction.Txn.{Txn}

@@ -1,13 +1,12 @@
 -- What a mask of all operations keeps of each transaction.
-use Rattle.std.proofs.Common.{◌≡◌, ◌⊎◌, inl, inr, ℕ, zero, suc, ◌+◌, Bool, true, false, cond, ◌==◌, ◌||◌, List, [], ◌∷◌, map, length, Option, Some, None, refl, sym, ap, ◌∙◌, subst, eq-eqb}
+use Rattle.std.proofs.Common.{◌≡◌, ℕ, Bool, true, false, cond, ◌==◌, ◌||◌, List, [], ◌∷◌, map, length, Option, Some, refl, sym, ap, ◌∙◌, subst, eq-eqb}
 use Rattle.std.specs.Prelude.{drop}
 use Rattle.std.specs.List.{list_any}
-use Rattle.std.proofs.lemmas.Option.{same_Some, none-some}
+use Rattle.std.proofs.lemmas.Option.{same_Some}
 use Rattle.lab_table.proofs.Tests.{true_and_false}
 use Rattle.lab_history.specs.HistoryRules.{AllDistinct}
-use Rattle.lab_history.specs.declared.operation.Op.{Op}
 use Rattle.lab_history.specs.declared.transaction.Txn.{Txn}
-use Rattle.lab_cut.specs.Kept.{kept_of, all_kept, last_given, new_numbers}
+use Rattle.lab_cut.specs.Kept.{kept_of, all_kept, last_given}
 use Rattle.lab_cut.specs.declared.kept.Kept.{Kept}
 use Rattle.lab_cut.proofs.NewNumbers.{LeadBack, lead_back}
 
@@ -33,9 +32,10 @@ pub kept_of_each : (value : ℕ → Option Kept) (mask : List Bool) (ts : List T
 kept_of_each value mask [] apart = tt
 kept_of_each value mask (t ∷ ts) apart =
     let behind = drop (length t.ops) mask in
-    let own = kept_of mask t.ops in
-    (given_else behind ts t.no (cond (t.no == t.no) (Some own) (value t.no)) apart.0 ∙ ap (λ b. cond b (Some own) (value t.no)) (eq-eqb t.no t.no refl),
-    kept_of_each (λ n. cond (t.no == n) (Some own) (value n)) behind ts apart.1)
+    let own = kept_of mask t.ops in (
+      given_else behind ts t.no (cond (t.no == t.no) (Some own) (value t.no)) apart.0 ∙ ap (λ b. cond b (Some own) (value t.no)) (eq-eqb t.no t.no refl),
+      kept_of_each (λ n. cond (t.no == n) (Some own) (value n)) behind ts apart.1,
+    )
 
 -- whatever is given leads back
 pub given_leads_back : (mask : List Bool) (ts : List Txn) (n : ℕ) (value : Option Kept) → ((some : Kept) → value ≡ Some some → LeadBack some.numbers)

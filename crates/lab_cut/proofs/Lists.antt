@@ -1,5 +1,5 @@
 -- Lists that have a member, and those that have none.
-use Rattle.std.proofs.Common.{◌≡◌, ℕ, Bool, true, false, ◌==◌, List, [], ◌∷◌, length, Some, None, refl, eqb-true, arith}
+use Rattle.std.proofs.Common.{◌≡◌, ℕ, true, false, ◌==◌, List, [], ◌∷◌, length, Some, None, refl, eqb-true, arith}
 use Rattle.lab_table.proofs.Tests.{true_and_false}
 use Rattle.lab_history.specs.declared.operation.Op.{Op}
 use Rattle.lab_history.specs.declared.transaction.Outcome.{Outcome}

@@ -2,7 +2,6 @@
 use Rattle.std.proofs.Common.{◌≡◌, ℕ, Bool, true, false, cond, Option, List, [], ◌∷◌, map, length, refl, sym, ap, ◌∙◌}
 use Rattle.std.specs.Prelude.{drop}
 use Rattle.std.specs.List.{cons_option}
-use Rattle.lab_table.specs.declared.statement.Statement.{Statement}
 use Rattle.lab_history.specs.declared.operation.Op.{Op}
 use Rattle.lab_history.specs.declared.transaction.Outcome.{Outcome}
 use Rattle.lab_history.specs.declared.transaction.Txn.{Txn}

@@ -1,5 +1,5 @@
 -- New numbers of members that a mask keeps.
-use Rattle.std.proofs.Common.{◌≡◌, ℕ, zero, suc, ◌+◌, ◌≤◌, ◌<◌, Bool, true, false, cond, ◌==◌, List, [], ◌∷◌, length, Option, Some, None, refl, sym, ap, ◌∙◌, arith, ne_eqb, eq-eqb}
+use Rattle.std.proofs.Common.{◌≡◌, ℕ, zero, suc, ◌+◌, ◌≤◌, ◌<◌, Bool, true, false, cond, List, [], ◌∷◌, length, Some, None, refl, sym, ap, ◌∙◌, arith, ne_eqb, eq-eqb}
 use Rattle.std.specs.Prelude.{option_map, drop, slice_get}
 use Rattle.std.proofs.lemmas.Option.{same_Some, none-some}
 use Rattle.lab_history.specs.Version.{place_in}
@@ -82,7 +82,7 @@ module _ {A : Type 0} where
   stands_once [] last mask k m = λ e. absurd (none-some (suc m) e)
   stands_once (x ∷ xs) last mask k m =
       elim (next_kept mask) as (λ b. slice_get (cond b ((last + 1) ∷ new_numbers (last + 1) (drop 1 mask) xs) (0 ∷ new_numbers last (drop 1 mask) xs)) k ≡ Some (suc m)
-          → place_in (cond b ((last + 1) ∷ new_numbers (last + 1) (drop 1 mask) xs) (0 ∷ new_numbers last (drop 1 mask) xs)) (suc m) ≡ Some (suc k)) [
+      → place_in (cond b ((last + 1) ∷ new_numbers (last + 1) (drop 1 mask) xs) (0 ∷ new_numbers last (drop 1 mask) xs)) (suc m) ≡ Some (suc k)) [
         | true ↦ once_kept xs last (drop 1 mask) k m (λ j. stands_once xs (last + 1) (drop 1 mask) j m)
         | false ↦ once_gone xs last (drop 1 mask) k m (λ j. stands_once xs last (drop 1 mask) j m)
       ]

@@ -46,12 +46,18 @@ name_through inner outer (Of n k) = refl
 whole_ops : (n j : ℕ) (ops : List Op) → IsSublistBy (IsOpAt (λ n k. k) n) (numbered j ops) (numbered j ops)
 whole_ops n j [] = tt
 whole_ops n j (op ∷ ops) =
-    inl ((refl, record {
-      statement = refl;
-      view = λ row v e. e ∙ ap Some (sym (same_name v));
-      rows = λ row v e. e;
-      writes = λ row s e. e;
-    }), whole_ops n (j + 1) ops)
+    inl (
+      (
+        refl,
+        record {
+          statement = refl;
+          view = λ row v e. e ∙ ap Some (sym (same_name v));
+          rows = λ row v e. e;
+          writes = λ row s e. e;
+        },
+      ),
+      whole_ops n (j + 1) ops,
+    )
 
 whole_txns : (ts : List Txn) → IsSublistBy (IsTxnPart (λ n k. k)) ts ts
 whole_txns [] = tt

@@ -1,19 +1,16 @@
 -- Parts with the same transactions and operations, whose lists are shorter.
-use Rattle.std.proofs.Common.{◌≡◌, inl, ℕ, ◌+◌, ℤ, Bool, true, false, cond, T, List, [], ◌∷◌, map, length, Option, Some, None, refl, sym, ap, ◌∙◌, subst}
+use Rattle.std.proofs.Common.{◌≡◌, inl, ℕ, ◌+◌, Bool, true, false, cond, List, [], ◌∷◌, map, length, Some, None, refl, sym, ap, ◌∙◌, subst}
 use Rattle.std.specs.Prelude.{drop, unwrap_or}
 use Rattle.std.specs.FinMap as finite
 use Rattle.std.specs.FinMap.Entries.{where_key, is_sorted-where_key, find-where_key}
-use Rattle.std.proofs.lemmas.Option.{none-some}
 use Rattle.std.specs.declared.cmp.Ordering.TheVariants.{Equal}
 use Rattle.lab_table.specs.Row.{Row, row_cmp, rows_apart}
 use Rattle.lab_table.proofs.Maps.{same_rows}
 use Rattle.lab_table.proofs.Tests.{under_condition}
 use Rattle.lab_history.specs.History.{History}
 use Rattle.lab_history.specs.Version.{installers}
-use Rattle.lab_history.specs.VersionName.{View}
 use Rattle.lab_history.specs.declared.transaction.Txn.{Txn}
 use Rattle.lab_history.specs.declared.operation.Op.{Op}
-use Rattle.lab_history.specs.declared.operation.VersionName.{VersionName}
 use Rattle.lab_cut.specs.PartOf.{IsSublistBy, IsSublist, numbered, IsOpPart, IsOpAt, IsTxnPart, initial, in_the_end, IsPartOf}
 use Rattle.lab_cut.specs.Left.{left_of}
 use Rattle.lab_cut.specs.InRows.{op_in_rows, txn_in_rows, in_rows}

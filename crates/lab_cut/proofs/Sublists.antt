@@ -1,10 +1,9 @@
 -- Lists whose members stand for some of another list.
-use Rattle.std.proofs.Common.{◌≡◌, ◌⊎◌, inl, inr, ℕ, zero, suc, Bool, true, false, cond, List, [], ◌∷◌, map, Some, refl, sym, ap, ◌∙◌, subst}
-use Rattle.std.specs.Prelude.{Contains, filter, slice_get, drop}
+use Rattle.std.proofs.Common.{◌≡◌, inl, inr, ℕ, zero, suc, Bool, true, false, cond, List, [], ◌∷◌, map, Some, refl, ◌∙◌, subst}
+use Rattle.std.specs.Prelude.{Contains, filter, slice_get}
 use Rattle.std.proofs.lemmas.Option.{same_Some, none-some}
 use Rattle.lab_table.proofs.Members.{first_member, later_member}
 use Rattle.lab_cut.specs.PartOf.{IsSublistBy, IsSublist}
-use Rattle.lab_cut.specs.Left.{next_kept, left_of}
 
 module _ {A B : Type 0} (R : A → B → Type 0) where
   -- one more that nothing stands for

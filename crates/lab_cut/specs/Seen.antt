@@ -1,5 +1,5 @@
 -- A history whose statements are recorded to have seen less.
-use Rattle.std.specs.Prelude.{ℕ, ◌+◌, Bool, List, [], ◌∷◌, length, drop}
+use Rattle.std.specs.Prelude.{Bool, List, [], ◌∷◌, length, drop}
 use Rattle.std.specs.FinMap.{entries, from_sorted}
 use Rattle.lab_history.specs.History.{History}
 use Rattle.lab_history.specs.declared.operation.Op.{Op}

@@ -8,9 +8,7 @@ ghost use Rattle.lab_cut.specs.Seen as spec;
 
 use crate::made::made;
 use crate::mask::Mask;
-use lab_history::{
-    History, Installed, Installers, Op, Ops, Parts, Txn, Txns, VersionName, View,
-};
+use lab_history::{History, Installed, Installers, Op, Ops, Parts, Txn, Txns, VersionName, View};
 use lab_table::{NoMemory, RowName, Table};
 use std::alloc::Global;
 

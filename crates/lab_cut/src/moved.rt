@@ -18,13 +18,7 @@ fn number_after(operation: u32, number: Option<u32>) -> Option<u32>
 {
     match number {
         None => Some(operation),
-        Some(number) => {
-            if number == 0 {
-                None
-            } else {
-                Some(number)
-            }
-        }
+        Some(number) => { if number == 0 { None } else { Some(number) } }
     }
 }
 
@@ -96,12 +90,7 @@ fn push_kept(
 }
 
 /// The operations of a transaction that a mask keeps. NoMemory where an allocation was refused.
-fn left_ops(
-    alloc: Global,
-    moves: &Moves,
-    mask: &mut Mask,
-    ops: &[Op],
-) -> Result<Vec<Op>, NoMemory>
+fn left_ops(alloc: Global, moves: &Moves, mask: &mut Mask, ops: &[Op]) -> Result<Vec<Op>, NoMemory>
     ensures left { IfOk result (λ left. left.items ≡ map (cut.left_op (kept_in moves.now)) (left_of mask.old ops.now)) }
     ensures rest { OnOk result (mask.new ≡ drop (length ops.now) mask.old) }
 {

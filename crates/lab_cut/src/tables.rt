@@ -140,7 +140,13 @@ fn new_ends(
     requires { initial.now ≡ cut.left_initial (kept_in moves.now) history.now }
     ensures { IfOk result (λ ends. ends ≡ cut.new_ends (kept_in moves.now) history.now) }
 {
-    let ends = ends_of(alloc, history, moves, initial, history.installed().entries())?;
+    let ends = ends_of(
+        alloc,
+        history,
+        moves,
+        initial,
+        history.installed().entries(),
+    )?;
     Ok(Writes::new(ends))
 }
 

@@ -1,4 +1,4 @@
-use Rattle.std.proofs.Common.{◌≡◌, ◌∙◌, ap, drop}
+use Rattle.std.proofs.Common.{◌∙◌, ap, drop}
 use Rattle.lab_cut.specs.Left.{left_of}
 use Rattle.lab_cut.proofs.OneMore.{one_left}
 use Rattle.lab_cut.proofs.Steps.{drop_one_more}

@@ -1,5 +1,4 @@
 use Rattle.std.proofs.Common.{◌≡◌, sym, subst}
-use Rattle.lab_history.specs.History.{History}
 use Rattle.lab_cut.specs.Seen.{seeing}
 use Rattle.lab_cut.specs.PartOf.{IsPartOf}
 use Rattle.lab_cut.proofs.MadeParts.{so_made}

@@ -1,4 +1,4 @@
-use Rattle.std.proofs.Common.{◌≡◌, ◌∙◌, ap, drop, map}
+use Rattle.std.proofs.Common.{◌∙◌, ap, drop, map}
 use Rattle.lab_cut.specs.Cut.{left_op}
 use Rattle.lab_cut.specs.Kept.{kept_in}
 use Rattle.lab_cut.specs.Left.{left_of}

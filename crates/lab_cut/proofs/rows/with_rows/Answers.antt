@@ -1,5 +1,4 @@
 use Rattle.std.proofs.Common.{◌≡◌, ◌∙◌, sym, ap, subst}
-use Rattle.lab_history.specs.History.{History}
 use Rattle.lab_cut.specs.Chosen.{has}
 use Rattle.lab_cut.specs.InRows.{is_among, in_rows}
 use Rattle.lab_cut.specs.PartOf.{IsPartOf}

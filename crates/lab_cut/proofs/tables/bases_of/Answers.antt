@@ -1,4 +1,4 @@
-use Rattle.std.proofs.Common.{◌≡◌, ◌∙◌, ◌++◌, [], ap}
+use Rattle.std.proofs.Common.{◌∙◌, ◌++◌, [], ap}
 use Rattle.lab_history.specs.VersionName.{new_states}
 use Rattle.lab_cut.specs.Cut.{base}
 use Rattle.lab_cut.specs.Kept.{kept_in}

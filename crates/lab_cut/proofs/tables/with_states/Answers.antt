@@ -3,7 +3,6 @@ use Rattle.std.specs.FinMap.{from_sorted, entries, is_sorted, entries_sorted}
 use Rattle.lab_table.specs.Row.{row_cmp}
 use Rattle.lab_table.specs.Table.{Table}
 use Rattle.lab_cut.specs.Overlaid.{kept_rows, put_present}
-use Rattle.lab_cut.proofs.MadeEntries.{sorted_of}
 use Rattle.lab_cut.proofs.Overlays.{kept_sorted, overlaid, same_map_again}
 use Rattle.lab_cut.proofs.tables.with_states.Goals as goal
 
@@ -20,5 +19,5 @@ returns c =
     let table = c.args.table.now in
     let kept = c.from_rising-rows.ensures ∙ ap (λ l. from_sorted {R = row_cmp} l) (c.in_ok-kept.ensures ∙ ap (kept_rows states) c.rows.ensures) in
     let put : c.put_present.new.rows ≡ put_present (from_sorted (kept_rows states (entries table))) (entries states) =
-        c.in_ok-put_present.ensures ∙ ap (put_present c.from_rising-rows.result) c.entries.ensures ∙ ap (λ (m : Table). put_present m (entries states)) kept in
+    c.in_ok-put_present.ensures ∙ ap (put_present c.from_rising-rows.result) c.entries.ensures ∙ ap (λ (m : Table). put_present m (entries states)) kept in
     c.from_rising.ensures ∙ ap (λ l. from_sorted {R = row_cmp} l) c.take.ensures.entries ∙ same_map_again c.put_present.new.rows ∙ put ∙ overlaid states table

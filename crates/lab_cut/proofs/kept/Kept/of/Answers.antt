@@ -1,4 +1,4 @@
-use Rattle.std.proofs.Common.{◌≡◌, ◌∙◌, ap, drop}
+use Rattle.std.proofs.Common.{◌∙◌, ap, drop}
 use Rattle.std.specs.FinMap.{empty}
 use Rattle.lab_cut.specs.PartOf.{numbered}
 use Rattle.lab_cut.specs.Left.{left_of}
