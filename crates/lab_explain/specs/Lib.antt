@@ -7,4 +7,5 @@ pub mod Names
 pub mod Phrases
 pub mod Findings
 pub mod Explanation
+pub mod Sentences
 pub mod Answer

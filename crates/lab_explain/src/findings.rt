@@ -74,7 +74,7 @@ fn put_walk_beside(
 
 /// Appends an operation that saw what it is not to see.
 #[tactic(auto, unfolding(crate::specs::Findings::seen_flaw))]
-fn put_seen_flaw(
+pub fn put_seen_flaw(
     out: &mut Vec<u8>,
     history: &History,
     phenomenon: Phenomenon,
@@ -90,7 +90,7 @@ fn put_seen_flaw(
 }
 
 /// Appends what is said of a finding beside a serial verdict.
-fn put_found_beside(
+pub fn put_found_beside(
     alloc: Global,
     out: &mut Vec<u8>,
     history: &History,

@@ -14,4 +14,5 @@ pub mod Columns
 pub mod Arrows
 pub mod Heading
 pub mod Svg
+pub mod Drawn
 pub mod Picture

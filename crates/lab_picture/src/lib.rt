@@ -14,6 +14,7 @@ mod arrows;
 mod boxes;
 mod columns;
 mod drawing;
+mod drawn;
 mod effect;
 mod fault_drawing;
 mod forward;
@@ -31,6 +32,7 @@ mod text;
 mod titles;
 
 pub use drawing::{Arrow, Drawing, Spot, Tie};
+pub use drawn::picture_with;
 pub use installs::{Misplaced, Why, installers_of, misplaced_of, put_misplaced};
 pub use laws::{
     a_title_names_what_a_walk_is, an_escaped_text_has_no_markup, each_dependency_has_its_arrow,
@@ -42,3 +44,5 @@ pub use picturing::picture;
 pub use sketch::draw;
 pub use states::{ops_of, state_at};
 pub use svg::print_drawing;
+pub use text::put_escaped;
+pub use titles::{put_finding_title, put_serial_title, walk_phenomenon};

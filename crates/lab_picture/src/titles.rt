@@ -55,7 +55,7 @@ fn by_counts(antis: usize, items: usize, others: usize) -> Phenomenon
 }
 
 /// The most particular phenomenon that a cycle is.
-fn walk_phenomenon(walk: &[Edge]) -> Phenomenon
+pub fn walk_phenomenon(walk: &[Edge]) -> Phenomenon
     ensures { result ≡ walk_phenomenon walk.now }
 {
     let mut antis = 0;

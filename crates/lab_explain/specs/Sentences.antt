@@ -1,0 +1,55 @@
+-- The sentences of an explanation, before they are laid out in lines.
+use Rattle.std.specs.Prelude.{ℕ, Option, Some, None, List, [], ◌++◌, codes}
+use Rattle.lab_history.specs.History.{History}
+use Rattle.lab_deps.specs.FaultKinds.{parts_of}
+use Rattle.lab_deps.specs.declared.edge.Edge.{Edge}
+use Rattle.lab_deps.specs.declared.fault.LocalFault.{LocalFault}
+use Rattle.lab_judge.specs.declared.report.Finding.{Finding}
+use Rattle.lab_judge.specs.declared.report.Finding.TheVariants.{Absent, Walk, At, NotJudged}
+use Rattle.lab_judge.specs.declared.report.Report.{Report}
+use Rattle.lab_judge.specs.declared.serial.Serial.{Serial}
+use Rattle.lab_judge.specs.declared.serial.Serial.TheVariants as serial
+use Rattle.lab_picture.specs.Making.{arrow_of}
+use Rattle.lab_picture.specs.declared.drawing.Arrow.{Arrow}
+use Rattle.lab_reports.specs.Phenomena.{finding_of}
+use Rattle.lab_reports.specs.declared.phenomenon.Phenomenon.{Phenomenon}
+use Rattle.lab_explain.specs.Explanation.{order_sentence}
+use Rattle.lab_explain.specs.Faults.{recorded_text, due_text, most_often, mistake}
+use Rattle.lab_explain.specs.Findings.{serial_walk, found_beside, seen_flaw}
+use Rattle.lab_explain.specs.Names.{title_of}
+use Rattle.lab_explain.specs.Phrases.{no_order, unsound_text, round_text, not_judged}
+use Rattle.lab_explain.specs.Steps.{edge_text}
+
+-- the first sentence of a serial verdict
+abbrev pub serial_sentence : Serial → List ℕ
+serial_sentence (serial.Yes order) = order_sentence order
+serial_sentence (serial.NoFault f) = unsound_text
+serial_sentence (serial.NoCycle walk) = no_order
+
+-- the sentence of a dependency, where there are operations that make it
+abbrev pub sentence_by : History → Edge → Option Arrow → List ℕ
+sentence_by h e None = []
+sentence_by h e (Some a) = edge_text h e a
+
+-- the sentence of a dependency, by the operations between which the picture has its arrow
+abbrev pub edge_sentence : History → Edge → List ℕ
+edge_sentence h e = sentence_by h e (arrow_of h e)
+
+-- how a recorder most often comes to a fault
+abbrev pub mistake_text : LocalFault → List ℕ
+mistake_text f = most_often (mistake (parts_of f))
+
+-- the sentence of what is found of a phenomenon, beside the serial verdict
+unfoldable pub finding_sentence : History → Report → Phenomenon → List ℕ
+finding_sentence h report p = title_of p ++ found_beside h p (serial_walk report.serial) (finding_of p report)
+
+-- what is found of a phenomenon that is explained by itself
+abbrev pub found_text : History → Phenomenon → Finding → List ℕ
+found_text h p Absent = codes "absent."
+found_text h p (Walk walk) = codes "present: " ++ round_text
+found_text h p (At n k row) = seen_flaw h p n k row
+found_text h p NotJudged = not_judged
+
+-- its first sentence
+unfoldable pub found_sentence : History → Phenomenon → Finding → List ℕ
+found_sentence h p found = title_of p ++ found_text h p found
