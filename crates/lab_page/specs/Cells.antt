@@ -1,0 +1,103 @@
+-- The cells of an operation: what it saw, listed and wrote.
+use Rattle.std.specs.Prelude.{ℕ, ℤ, nat_le, min, Bool, cond, Option, Some, None, List, [], ◌∷◌, ◌++◌, length, take, drop, map, flat_map, codes}
+use Rattle.std.specs.List.{list_any}
+use Rattle.std.specs.Fmt.{decimal}
+use Rattle.std.specs.FinMap as finite
+use Rattle.lab_table.specs.Row.{Row, row_test}
+use Rattle.lab_table.specs.Table.{State}
+use Rattle.lab_history.specs.History.{History}
+use Rattle.lab_history.specs.Version.{version_state}
+use Rattle.lab_history.specs.declared.operation.Op.{Op}
+use Rattle.lab_history.specs.declared.operation.VersionName.{VersionName}
+use Rattle.lab_history.specs.declared.operation.VersionName.TheVariants.{Initial, Of}
+use Rattle.lab_page.specs.Chains.{state_text}
+use Rattle.lab_page.specs.Markup.{op_text, row_text}
+use Rattle.lab_page.specs.Scope.{Scope}
+use Rattle.lab_page.specs.declared.entries.Entry.{Entry}
+use Rattle.lab_page.specs.declared.entries.Told.{Told}
+use Rattle.lab_page.specs.declared.entries.Told.TheVariants.{Seen, Held}
+
+-- the versions that an operation saw, the rows that it listed, and those that it wrote, as entries of a cell
+abbrev pub seen_entry : Row × VersionName → Entry
+seen_entry e = record { row = e.0; told = Seen e.1 }
+
+abbrev pub listed_entry : Row × ℤ → Entry
+listed_entry e = record { row = e.0; told = Held (Some e.1) }
+
+abbrev pub written_entry : Row × Option ℤ → Entry
+written_entry e = record { row = e.0; told = Held e.1 }
+
+-- whether an entry is of one of these rows
+abbrev pub is_of : List Row → Entry → Bool
+is_of rows e = list_any (λ row. row_test row e.row) rows
+
+-- a version's state
+abbrev pub known_text : Option State → List ℕ
+known_text None = codes "no such version"
+known_text (Some state) = state_text state
+
+-- whose version it is
+abbrev pub whose_text : History → Scope → VersionName → List ℕ
+whose_text h s Initial = codes " at first"
+whose_text h s (Of n k) = codes " by " ++ op_text h s n k
+
+-- a version of a row that was seen
+unfoldable pub seen_text : History → Scope → Row → VersionName → List ℕ
+seen_text h s row version = codes "row " ++ row_text row ++ codes " as " ++ known_text (version_state h row version) ++ whose_text h s version
+
+-- a row and its state
+unfoldable pub held_text : Row → State → List ℕ
+held_text row state = codes "(" ++ row_text row ++ codes ", " ++ state_text state ++ codes ")"
+
+abbrev pub told_text : History → Scope → Row → Told → List ℕ
+told_text h s row (Seen version) = seen_text h s row version
+told_text h s row (Held state) = held_text row state
+
+-- the beginning of an entry, by whether it is in question
+abbrev pub entry_open : Bool → List ℕ
+entry_open bold = cond bold (codes "<span class=\"e b\">") (codes "<span class=\"e\">")
+
+-- an entry, where these rows are in question
+unfoldable pub entry_text : History → Scope → List Row → Entry → List ℕ
+entry_text h s rows e = entry_open (is_of rows e) ++ told_text h s e.row e.told ++ codes "</span>"
+
+-- an entry, if it is in question
+abbrev pub asked_entry : History → Scope → List Row → Entry → List ℕ
+asked_entry h s rows e = cond (is_of rows e) (entry_text h s rows e) []
+
+-- the first entries: eight
+abbrev pub first_entries : List Entry → List Entry
+first_entries es = take (min (length es) 8) es
+
+-- those behind them
+abbrev pub later_entries : List Entry → List Entry
+later_entries es = drop (min (length es) 8) es
+
+-- how many entries there are, where there are more
+unfoldable pub more_text : ℕ → List ℕ
+more_text count = codes "<span class=\"e\">of " ++ decimal count ++ codes " in all</span>"
+
+abbrev pub in_all : ℕ → List ℕ
+in_all count = cond (nat_le count 8) [] (more_text count)
+
+-- the entries of a cell: the first, those in question, and how many there are
+unfoldable pub entries_text : History → Scope → List Row → List Entry → List ℕ
+entries_text h s rows es =
+    flat_map (entry_text h s rows) (first_entries es) ++ flat_map (asked_entry h s rows) (later_entries es) ++ in_all (length es)
+
+-- a cell, with what stands in one without entries
+abbrev pub cell_text : History → Scope → List Row → List ℕ → List Entry → List ℕ
+cell_text h s rows empty [] = empty
+cell_text h s rows empty (e ∷ es) = entries_text h s rows (e ∷ es)
+
+-- what an operation saw
+abbrev pub seen_cell : History → Scope → List Row → Op → List ℕ
+seen_cell h s rows op = cell_text h s rows (codes "all at first") (map seen_entry (finite.entries op.view))
+
+-- what it listed
+abbrev pub listed_cell : History → Scope → List Row → Op → List ℕ
+listed_cell h s rows op = cell_text h s rows (codes "none") (map listed_entry (finite.entries op.rows))
+
+-- what it wrote
+abbrev pub written_cell : History → Scope → List Row → Op → List ℕ
+written_cell h s rows op = cell_text h s rows [] (map written_entry (finite.entries op.writes))

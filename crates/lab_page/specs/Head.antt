@@ -1,0 +1,153 @@
+-- The head of a page: its title, the verdict in a line and in a sentence, and four tiles.
+use Rattle.std.specs.Prelude.{ℕ, ◌==◌, Bool, true, false, cond, Option, Some, None, List, [], ◌∷◌, ◌++◌, length, flat_map, count_by, not, codes}
+use Rattle.std.specs.Fmt.{decimal}
+use Rattle.lab_history.specs.History.{History}
+use Rattle.lab_history.specs.declared.transaction.Txn.{Txn}
+use Rattle.lab_history.specs.declared.transaction.Outcome.{Outcome}
+use Rattle.lab_history.specs.declared.transaction.Outcome.TheVariants.{Committed, Aborted}
+use Rattle.lab_deps.specs.FaultKinds.{parts_of}
+use Rattle.lab_judge.specs.declared.places.Places.{Places}
+use Rattle.lab_judge.specs.declared.places.Places.TheVariants as places
+use Rattle.lab_judge.specs.declared.report.Finding.{Finding}
+use Rattle.lab_judge.specs.declared.report.Finding.TheVariants as finding
+use Rattle.lab_judge.specs.declared.report.Grade.{Grade}
+use Rattle.lab_judge.specs.declared.report.Grade.TheVariants as grade
+use Rattle.lab_judge.specs.declared.report.Report.{Report}
+use Rattle.lab_judge.specs.declared.serial.Serial.{Serial}
+use Rattle.lab_judge.specs.declared.serial.Serial.TheVariants as serial
+use Rattle.lab_picture.specs.Text.{escaped}
+use Rattle.lab_picture.specs.Titles.{serial_title, finding_title, walk_phenomenon}
+use Rattle.lab_reports.specs.Phenomena.{phenomena, phenomenon_name, finding_of}
+use Rattle.lab_reports.specs.declared.phenomenon.Phenomenon.{Phenomenon}
+use Rattle.lab_page.specs.Meanings.{meaning_of, fault_meaning, level_words, rung_of}
+use Rattle.lab_page.specs.Phrases.{yes_lede, nav_text}
+use Rattle.lab_page.specs.Style.{style_text}
+
+-- the verdict in a line: the picture's title, without the order of a yes
+abbrev pub serial_headline : Serial → List ℕ
+serial_headline (serial.Yes order) = codes "Serializable"
+serial_headline (serial.NoFault f) = serial_title (serial.NoFault f)
+serial_headline (serial.NoCycle walk) = serial_title (serial.NoCycle walk)
+
+abbrev pub headline_of : Report → Option Phenomenon → List ℕ
+headline_of report None = serial_headline report.serial
+headline_of report (Some p) = finding_title p (finding_of p report)
+
+-- what it means, in a sentence
+abbrev pub serial_lede : Serial → List ℕ
+serial_lede (serial.Yes order) = yes_lede
+serial_lede (serial.NoFault f) = fault_meaning (parts_of f)
+serial_lede (serial.NoCycle walk) = meaning_of (walk_phenomenon walk)
+
+abbrev pub lede_of : Report → Option Phenomenon → List ℕ
+lede_of report None = serial_lede report.serial
+lede_of report (Some p) = meaning_of p
+
+-- what the user says of the page, behind the title
+unfoldable pub behind_title : List ℕ → List ℕ
+behind_title title = codes ". " ++ escaped title
+
+abbrev pub title_behind : List ℕ → List ℕ
+title_behind title = cond (length title == 0) [] (behind_title title)
+
+-- the same, above the headline
+unfoldable pub above_headline : List ℕ → List ℕ
+above_headline title = codes "<p class=\"of\">" ++ escaped title ++ codes "</p>\n"
+
+abbrev pub title_above : List ℕ → List ℕ
+title_above title = cond (length title == 0) [] (above_headline title)
+
+-- what every page begins with
+unfoldable pub page_open : List ℕ
+page_open = codes "<!DOCTYPE html>\n<html lang=\"en\">\n<head>\n<meta charset=\"utf-8\">\n<meta http-equiv=\"Content-Security-Policy\" content=\"default-src 'none'; style-src 'unsafe-inline'\">\n<meta name=\"viewport\" content=\"width=device-width, initial-scale=1\">\n<title>"
+
+-- the title and the style
+unfoldable pub title_text : List ℕ → Grade → List ℕ → List ℕ
+title_text headline level title = escaped headline ++ codes ". Level: " ++ level_words level ++ title_behind title ++ codes "</title>\n<style>\n"
+
+-- the headline and the sentence below it
+unfoldable pub headline_text : List ℕ → List ℕ → List ℕ
+headline_text headline lede = codes "<h1>" ++ escaped headline ++ codes "</h1>\n<p class=\"lede\">" ++ escaped lede ++ codes "</p>\n<ul class=\"v\">\n"
+
+-- the beginning of a tile, by whether it is bad news
+abbrev pub tile_open : Bool → List ℕ
+tile_open bad = cond bad (codes "<li class=\"no\">") (codes "<li>")
+
+-- a tile
+unfoldable pub tile_text : Bool → List ℕ → List ℕ → List ℕ
+tile_text bad term said = tile_open bad ++ term ++ codes " <b>" ++ said ++ codes "</b></li>\n"
+
+-- whether a history is serializable
+abbrev pub is_serial : Serial → Bool
+is_serial (serial.Yes order) = true
+is_serial (serial.NoFault f) = false
+is_serial (serial.NoCycle walk) = false
+
+-- whether it is a snapshot run
+abbrev pub is_placed : Places → Bool
+is_placed (places.Yes spans) = true
+is_placed (places.NoFault f) = false
+is_placed (places.NoCycle points) = false
+
+abbrev pub yes_word : Bool → List ℕ
+yes_word yes = cond yes (codes "yes") (codes "no")
+
+-- whether a phenomenon is present
+abbrev pub is_present : Finding → Bool
+is_present finding.Absent = false
+is_present (finding.Walk walk) = true
+is_present (finding.At n k row) = true
+is_present finding.NotJudged = false
+
+-- its name, if it is
+abbrev pub present_name : Report → Phenomenon → List ℕ
+present_name report p = cond (is_present (finding_of p report)) (codes " " ++ phenomenon_name p) []
+
+-- the names of those that are
+abbrev pub present_names : Report → List ℕ
+present_names report = flat_map (present_name report) phenomena
+
+-- what is said where none is
+abbrev pub none_words : Grade → List ℕ
+none_words grade.BelowPl1 = codes "none"
+none_words grade.Pl1 = codes "none"
+none_words grade.Pl2 = codes "none"
+none_words grade.Pl299 = codes "none"
+none_words grade.Pl3 = codes "none"
+none_words grade.Unsound = codes "not judged"
+
+-- the tile of the phenomena with these names
+abbrev pub names_tile : Grade → List ℕ → List ℕ
+names_tile level names =
+    cond (length names == 0) (tile_text false (codes "Phenomena") (none_words level)) (tile_text true (codes "Phenomena") names)
+
+-- the tiles of the verdicts
+unfoldable pub verdict_tiles : Report → List ℕ
+verdict_tiles report =
+    tile_text (not (is_serial report.serial)) (codes "Serializable") (yes_word (is_serial report.serial))
+    ++ tile_text (not (is_placed report.snapshot)) (codes "Snapshot isolation") (yes_word (is_placed report.snapshot))
+
+-- the four tiles
+unfoldable pub tiles_text : Report → List ℕ
+tiles_text report =
+    verdict_tiles report ++ tile_text (not (rung_of report.level == 4)) (codes "Level") (level_words report.level)
+    ++ names_tile report.level (present_names report) ++ codes "</ul>\n"
+
+-- whether an outcome is a commit
+abbrev pub is_commit : Outcome → Bool
+is_commit Committed = true
+is_commit Aborted = false
+
+-- how many transactions there are, and how many committed
+unfoldable pub counts_text : List Txn → List ℕ
+counts_text txns =
+    codes "<p>Judged by <code>hermitage_lab</code>. Transactions: " ++ decimal (length txns) ++ codes ", of which " ++ decimal (count_by (λ t. is_commit t.outcome) txns) ++ codes " committed.</p>\n"
+
+-- what the browser doesn't show
+unfoldable pub head_text : Report → Option Phenomenon → List ℕ → List ℕ
+head_text report asked title = page_open ++ title_text (headline_of report asked) report.level title ++ style_text ++ codes "</style>\n</head>\n<body>\n"
+
+-- the header
+unfoldable pub header_text : History → Report → Option Phenomenon → List ℕ → List ℕ
+header_text h report asked title =
+    codes "<header>\n" ++ title_above title ++ headline_text (headline_of report asked) (lede_of report asked) ++ tiles_text report ++ counts_text h.txns ++ nav_text

@@ -1,0 +1,76 @@
+-- The levels and the phenomena.
+use Rattle.std.specs.Prelude.{ℕ, ◌==◌, nat_le, Bool, cond, List, [], ◌++◌, flat_map, codes}
+use Rattle.lab_history.specs.History.{History}
+use Rattle.lab_judge.specs.declared.report.Grade.{Grade}
+use Rattle.lab_judge.specs.declared.report.Grade.TheVariants as grade
+use Rattle.lab_judge.specs.declared.report.Report.{Report}
+use Rattle.lab_explain.specs.Names.{level_line}
+use Rattle.lab_explain.specs.Places.{places_sentence}
+use Rattle.lab_explain.specs.Sentences.{finding_sentence}
+use Rattle.lab_reports.specs.Phenomena.{phenomena}
+use Rattle.lab_reports.specs.declared.phenomenon.Phenomenon.{Phenomenon}
+use Rattle.lab_page.specs.Markup.{led_text, paragraph_text}
+use Rattle.lab_page.specs.Meanings.{meaning_of, forbidden_from, rung_of}
+use Rattle.lab_page.specs.Phrases.{ladder_open, phenomena_open}
+
+-- the beginning of a rung, by whether the history stands on it
+abbrev pub rung_open : Bool → List ℕ
+rung_open here = cond here (codes "<tr class=\"here\">") (codes "<tr>")
+
+-- whether it is met
+abbrev pub rung_said : Bool → List ℕ
+rung_said met = cond met (codes "<td>met</td></tr>\n") (codes "<td>not met</td></tr>\n")
+
+-- a rung of the ladder, where the history stands on one
+unfoldable pub rung_text : ℕ → ℕ → List ℕ → List ℕ
+rung_text own rung words = rung_open (own == rung) ++ words ++ rung_said (nat_le rung own)
+
+-- the rungs
+unfoldable pub upper_rungs : ℕ → List ℕ
+upper_rungs own =
+    rung_text own 4 (codes "<th scope=\"row\">PL-3 (serializable)</th><td data-l=\"forbids\">G1a, G1b, G1c, G2</td>")
+    ++ rung_text own 3 (codes "<th scope=\"row\">PL-2.99 (repeatable read)</th><td data-l=\"forbids\">G1a, G1b, G1c, G2-item</td>")
+
+unfoldable pub lower_rungs : ℕ → List ℕ
+lower_rungs own =
+    rung_text own 2 (codes "<th scope=\"row\">PL-2 (read committed)</th><td data-l=\"forbids\">G1a, G1b, G1c</td>")
+    ++ rung_text own 1 (codes "<th scope=\"row\">PL-1 (read uncommitted)</th><td data-l=\"forbids\">G0</td>")
+    ++ rung_text own 0 (codes "<th scope=\"row\">below PL-1</th><td data-l=\"forbids\">nothing</td>")
+
+-- the ladder
+unfoldable pub ladder_text : ℕ → List ℕ
+ladder_text own = ladder_open ++ upper_rungs own ++ lower_rungs own ++ codes "</tbody>\n</table>\n"
+
+-- the ladder of a level, where one is looked for
+abbrev pub ladder_of : Grade → List ℕ
+ladder_of grade.BelowPl1 = ladder_text 0
+ladder_of grade.Pl1 = ladder_text 1
+ladder_of grade.Pl2 = ladder_text 2
+ladder_of grade.Pl299 = ladder_text 3
+ladder_of grade.Pl3 = ladder_text 4
+ladder_of grade.Unsound = []
+
+-- what is found of a phenomenon
+unfoldable pub finding_cell : List ℕ → List ℕ
+finding_cell sentence = codes "<tr><th scope=\"row\">" ++ led_text sentence ++ codes "</th><td>"
+
+-- what it is, and the lowest level that forbids it
+unfoldable pub meaning_cells : Phenomenon → List ℕ
+meaning_cells p = meaning_of p ++ codes "</td><td data-l=\"forbidden from\">" ++ forbidden_from p ++ codes "</td></tr>\n"
+
+-- a phenomenon
+unfoldable pub phenomenon_line : History → Report → Phenomenon → List ℕ
+phenomenon_line h report p = finding_cell (finding_sentence h report p) ++ meaning_cells p
+
+-- the phenomena
+unfoldable pub phenomena_text : History → Report → List ℕ
+phenomena_text h report = phenomena_open ++ flat_map (phenomenon_line h report) phenomena ++ codes "</tbody>\n</table>\n</section>\n"
+
+-- the beginning
+unfoldable pub levels_open : List ℕ
+levels_open = codes "<section aria-labelledby=\"levels\">\n<h2 id=\"levels\">Levels and phenomena</h2>\n"
+
+-- the whole part
+unfoldable pub levels_text : History → Report → List ℕ
+levels_text h report =
+    levels_open ++ paragraph_text (level_line report.level) ++ paragraph_text (places_sentence report.snapshot) ++ ladder_of report.level ++ phenomena_text h report

@@ -1,0 +1,82 @@
+//! The evidence of a page: the report, and the history itself. Each function that takes bytes appends to them; after
+//! NoMemory, part of what was to be appended may stand there.
+
+ghost use Rattle.std.specs.Prelude.{◌≡◌, ◌++◌, OnOk};
+ghost use Rattle.lab_page.specs.Check.{report_part, file_of, file_text, no_file, shown_file, history_part};
+
+use lab_history::History;
+use lab_history_file::{WriteFault, write_history};
+use lab_judge::{Report, print_report};
+use lab_picture::put_escaped;
+use lab_table::NoMemory;
+use std::alloc::{AllocError, Global};
+
+/// The most bytes of a history that is put in.
+const MAX_FILE: usize = 65_536;
+
+/// Appends the ten lines of the report.
+#[tactic(auto, unfolding(crate::specs::Check::report_part))]
+pub fn put_report(alloc: Global, out: &mut Vec<u8>, report: &Report) -> Result<(), NoMemory>
+    ensures { OnOk result (out.new.items ≡ out.old.items ++ report_part report.now) }
+{
+    let text = print_report(alloc, report)?;
+    out.extend_from_slice(
+        b"<section aria-labelledby=\"report\">\n<h2 id=\"report\">The report</h2>\n<pre tabindex=\"0\">",
+    )?;
+    put_escaped(out, &text)?;
+    out.extend_from_slice(b"</pre>\n</section>\n")
+}
+
+/// Appends a file.
+#[tactic(auto, unfolding(crate::specs::Check::file_text))]
+fn put_file(out: &mut Vec<u8>, file: &[u8]) -> Result<(), NoMemory>
+    ensures { OnOk result (out.new.items ≡ out.old.items ++ file_text file.now) }
+{
+    out.extend_from_slice(
+        b"<details>\n<summary>All that was judged, as JSON</summary>\n<pre tabindex=\"0\">",
+    )?;
+    put_escaped(out, file)?;
+    out.extend_from_slice(b"</pre>\n</details>\n")
+}
+
+/// What stands in place of a file that is too long.
+#[tactic(auto, unfolding(crate::specs::Check::no_file))]
+fn no_file() -> &'static [u8]
+    ensures { result.now ≡ no_file }
+{
+    b"<p>It has more than 65,536 bytes of JSON, and isn't here: attach the file.</p>\n"
+}
+
+/// Appends a file, if it isn't too long.
+fn put_shown_file(out: &mut Vec<u8>, file: &[u8]) -> Result<(), NoMemory>
+    ensures { OnOk result (out.new.items ≡ out.old.items ++ shown_file file.now) }
+{
+    if file.len() <= MAX_FILE {
+        put_file(out, file)
+    } else {
+        out.extend_from_slice(no_file())
+    }
+}
+
+/// Appends the file of a history, if it isn't too long.
+fn put_file_of(alloc: Global, out: &mut Vec<u8>, history: &History) -> Result<(), NoMemory>
+    ensures { OnOk result (out.new.items ≡ out.old.items ++ shown_file (file_of history.now)) }
+{
+    match write_history(alloc, history) {
+        Ok(file) => put_shown_file(out, &file),
+        Err(WriteFault::TooLong) => out.extend_from_slice(no_file()),
+        Err(WriteFault::NoMemory) => Err(AllocError),
+    }
+}
+
+/// Appends the history itself, and the end of the page.
+#[tactic(auto, unfolding(crate::specs::Check::history_part))]
+pub fn put_history(alloc: Global, out: &mut Vec<u8>, history: &History) -> Result<(), NoMemory>
+    ensures { OnOk result (out.new.items ≡ out.old.items ++ history_part (file_of history.now)) }
+{
+    out.extend_from_slice(
+        b"<section aria-labelledby=\"history\">\n<h2 id=\"history\">The history</h2>\n",
+    )?;
+    put_file_of(alloc, out, history)?;
+    out.extend_from_slice(b"</section>\n</main>\n</body>\n</html>\n")
+}

@@ -1,0 +1,132 @@
+//! Words of a page that are links, or have markup round them. Each function that takes bytes appends to them; after
+//! NoMemory, part of what was to be appended may stand there.
+
+ghost use Rattle.std.specs.Prelude.{◌≡◌, ◌++◌, ◌≤◌, length, OnOk};
+ghost use Rattle.std.specs.Fmt.{decimal};
+ghost use Rattle.lab_page.specs.Markup.{txn_name, op_name, op_anchor, op_link, op_text, row_text, lead_length, led_text, paragraph_text, bold_open, bold_close};
+
+use crate::scope::{Scope, has_line};
+use itoa::Buffer;
+use lab_history::History;
+use lab_picture::put_escaped;
+use lab_statement::put_row_name;
+use lab_table::{NoMemory, RowName, TxnNo};
+use std::alloc::Global;
+
+/// Appends a number in decimal.
+pub fn put_natural(out: &mut Vec<u8>, number: u64) -> Result<(), NoMemory>
+    ensures { OnOk result (out.new.items ≡ out.old.items ++ decimal number) }
+{
+    out.extend_from_slice(Buffer::new().format(number).as_bytes())
+}
+
+/// Appends the name of a transaction.
+pub fn put_txn_name(out: &mut Vec<u8>, txn: TxnNo) -> Result<(), NoMemory>
+    ensures { OnOk result (out.new.items ≡ out.old.items ++ txn_name txn) }
+{
+    out.extend_from_slice(b"T")?;
+    put_natural(out, u64::from(txn.number()))
+}
+
+/// Appends the name of an operation.
+#[tactic(auto, unfolding(crate::specs::Markup::op_name))]
+pub fn put_op_name(out: &mut Vec<u8>, txn: TxnNo, op: u32) -> Result<(), NoMemory>
+    ensures { OnOk result (out.new.items ≡ out.old.items ++ op_name txn op) }
+{
+    put_txn_name(out, txn)?;
+    out.extend_from_slice(b".")?;
+    put_natural(out, u64::from(op))
+}
+
+/// Appends the name of its line in the page.
+#[tactic(auto, unfolding(crate::specs::Markup::op_anchor))]
+pub fn put_op_anchor(out: &mut Vec<u8>, txn: TxnNo, op: u32) -> Result<(), NoMemory>
+    ensures { OnOk result (out.new.items ≡ out.old.items ++ op_anchor txn op) }
+{
+    out.extend_from_slice(b"t")?;
+    put_natural(out, u64::from(txn.number()))?;
+    out.extend_from_slice(b"-")?;
+    put_natural(out, u64::from(op))
+}
+
+/// Appends a link to that line.
+#[tactic(auto, unfolding(crate::specs::Markup::op_link))]
+fn put_op_link(out: &mut Vec<u8>, txn: TxnNo, op: u32) -> Result<(), NoMemory>
+    ensures { OnOk result (out.new.items ≡ out.old.items ++ op_link txn op) }
+{
+    out.extend_from_slice(b"<a href=\"#")?;
+    put_op_anchor(out, txn, op)?;
+    out.extend_from_slice(b"\">")?;
+    put_op_name(out, txn, op)?;
+    out.extend_from_slice(b"</a>")
+}
+
+/// Appends an operation: a link where its line is in the page.
+pub fn put_op(
+    out: &mut Vec<u8>,
+    history: &History,
+    scope: &Scope,
+    txn: TxnNo,
+    op: u32,
+) -> Result<(), NoMemory>
+    ensures { OnOk result (out.new.items ≡ out.old.items ++ op_text history.now scope.now txn op) }
+{
+    if has_line(history, scope, txn, op) {
+        put_op_link(out, txn, op)
+    } else {
+        put_op_name(out, txn, op)
+    }
+}
+
+/// Appends the name of a row.
+pub fn put_row(alloc: Global, out: &mut Vec<u8>, row: RowName) -> Result<(), NoMemory>
+    ensures { OnOk result (out.new.items ≡ out.old.items ++ row_text row) }
+{
+    let mut text = Vec::new(alloc);
+    put_row_name(&mut text, row)?;
+    put_escaped(out, &text)
+}
+
+/// How many bytes of a sentence stand before its first colon.
+fn lead_length(text: &[u8]) -> usize
+    ensures value { result ≡ lead_length text.now }
+    ensures within { result ≤ length text.now }
+{
+    text.iter().take_while(|byte| **byte != b':').count()
+}
+
+/// Appends a sentence, with what stands before its first colon in bold letters.
+#[tactic(auto, unfolding(crate::specs::Markup::led_text))]
+pub fn put_led(out: &mut Vec<u8>, text: &[u8]) -> Result<(), NoMemory>
+    ensures { OnOk result (out.new.items ≡ out.old.items ++ led_text text.now) }
+{
+    let (lead, rest) = text.split_at(lead_length(text));
+    out.extend_from_slice(b"<b>")?;
+    put_escaped(out, lead)?;
+    out.extend_from_slice(b"</b>")?;
+    put_escaped(out, rest)
+}
+
+/// Appends a sentence as a paragraph.
+#[tactic(auto, unfolding(crate::specs::Markup::paragraph_text))]
+pub fn put_paragraph(out: &mut Vec<u8>, text: &[u8]) -> Result<(), NoMemory>
+    ensures { OnOk result (out.new.items ≡ out.old.items ++ paragraph_text text.now) }
+{
+    out.extend_from_slice(b"<p>")?;
+    put_escaped(out, text)?;
+    out.extend_from_slice(b"</p>\n")
+}
+
+/// The beginning of bold letters.
+pub fn bold_open(bold: bool) -> &'static [u8]
+    ensures { result.now ≡ bold_open bold }
+{
+    if bold { b"<b>" } else { b"" }
+}
+
+/// Their end.
+pub fn bold_close(bold: bool) -> &'static [u8]
+    ensures { result.now ≡ bold_close bold }
+{
+    if bold { b"</b>" } else { b"" }
+}

@@ -1,0 +1,200 @@
+//! The rows of a page. Each function that takes bytes appends to them; after NoMemory, part of what was to be appended may
+//! stand there.
+
+ghost use Rattle.std.specs.Prelude.{◌≡◌, ◌++◌, ◌≤◌, ◌+◌, length, is_some, IfOk, OnOk};
+ghost use Rattle.std.specs.FinMap as finite;
+ghost use Rattle.lab_page.specs.Rows.{is_row_among, other_rows, room, shown_rows, row_open, row_name_cell, versions_cell, end_cell, row_line, rows_lines, rows_open, rows_with, rows_part};
+
+use crate::chains::{put_chain, put_state};
+use crate::markup::put_row;
+use crate::phrases::rows_caption;
+use crate::scope::Scope;
+use crate::transactions::put_shown;
+use lab_history::History;
+use lab_table::{NoMemory, RowName};
+use std::alloc::Global;
+
+/// The most rows that are shown.
+const MAX_ROWS: usize = 40;
+
+/// Whether a row is among these.
+fn is_row_among(rows: &[RowName], row: RowName) -> bool
+    ensures { result ≡ is_row_among rows.now row }
+{
+    rows.contains(&row)
+}
+
+/// Whether a row was there at first.
+fn is_initial(history: &History, row: RowName) -> bool
+    ensures { result ≡ is_some (finite.get history.now.initial row) }
+{
+    history.initial().get(row).is_some()
+}
+
+/// The rows that aren't in question. NoMemory where an allocation was refused.
+fn other_rows(
+    alloc: Global,
+    history: &History,
+    rows: &[RowName],
+) -> Result<Vec<RowName>, NoMemory>
+    ensures { IfOk result (λ others. others.items ≡ other_rows history.now rows.now) }
+{
+    let mut others = Vec::new(alloc);
+    for (row, _) in history.initial().entries() {
+        if !is_row_among(rows, *row) {
+            others.push(*row)?;
+        }
+    }
+    for (row, _) in history.installed().entries() {
+        if !(is_row_among(rows, *row) || is_initial(history, *row)) {
+            others.push(*row)?;
+        }
+    }
+    Ok(others)
+}
+
+/// How many others are shown beside so many in question.
+fn room(asked: usize, others: usize) -> usize
+    requires { (asked ≤ 4000000000) × (others ≤ 4000000000) }
+    ensures { result ≡ room asked others }
+{
+    if asked + others <= MAX_ROWS {
+        others
+    } else if asked == 0 {
+        MAX_ROWS
+    } else {
+        0
+    }
+}
+
+/// The others that are shown.
+fn shown_rows(asked: usize, rows: &[RowName]) -> &[RowName]
+    requires { (asked ≤ 4000000000) × (length rows.now ≤ 4000000000) }
+    ensures { result.now ≡ shown_rows asked rows.now }
+{
+    &rows[..rows.len().min(room(asked, rows.len()))]
+}
+
+/// The beginning of a row's line.
+fn row_open(bold: bool) -> &'static [u8]
+    ensures { result.now ≡ row_open bold }
+{
+    if bold { b"<tr class=\"b\">" } else { b"<tr>" }
+}
+
+/// Appends a row's name.
+#[tactic(auto, unfolding(crate::specs::Rows::row_name_cell))]
+fn put_name_cell(
+    alloc: Global,
+    out: &mut Vec<u8>,
+    bold: bool,
+    row: RowName,
+) -> Result<(), NoMemory>
+    ensures { OnOk result (out.new.items ≡ out.old.items ++ row_name_cell bold row) }
+{
+    out.extend_from_slice(row_open(bold))?;
+    out.extend_from_slice(b"<th scope=\"row\" class=\"m\">")?;
+    put_row(alloc, out, row)?;
+    out.extend_from_slice(b"</th>")
+}
+
+/// Appends its versions.
+#[tactic(auto, unfolding(crate::specs::Rows::versions_cell))]
+fn put_versions_cell(
+    out: &mut Vec<u8>,
+    history: &History,
+    scope: &Scope,
+    row: RowName,
+) -> Result<(), NoMemory>
+    ensures { OnOk result (out.new.items ≡ out.old.items ++ versions_cell history.now scope.now row) }
+{
+    out.extend_from_slice(b"<td class=\"m\">")?;
+    put_chain(out, history, scope, row, None, None)?;
+    out.extend_from_slice(b"</td>")
+}
+
+/// Appends how it is in the end.
+#[tactic(auto, unfolding(crate::specs::Rows::end_cell))]
+fn put_end_cell(out: &mut Vec<u8>, history: &History, row: RowName) -> Result<(), NoMemory>
+    ensures { OnOk result (out.new.items ≡ out.old.items ++ end_cell history.now row) }
+{
+    out.extend_from_slice(b"<td class=\"m\" data-l=\"in the end\">")?;
+    put_state(out, history.end_table().get(row))?;
+    out.extend_from_slice(b"</td></tr>\n")
+}
+
+/// Appends a row's line.
+#[tactic(auto, unfolding(crate::specs::Rows::row_line))]
+fn put_row_line(
+    alloc: Global,
+    out: &mut Vec<u8>,
+    history: &History,
+    scope: &Scope,
+    bold: bool,
+    row: RowName,
+) -> Result<(), NoMemory>
+    ensures { OnOk result (out.new.items ≡ out.old.items ++ row_line history.now scope.now bold row) }
+{
+    put_name_cell(alloc, out, bold, row)?;
+    put_versions_cell(out, history, scope, row)?;
+    put_end_cell(out, history, row)
+}
+
+/// Appends the lines of rows.
+fn put_row_lines(
+    alloc: Global,
+    out: &mut Vec<u8>,
+    history: &History,
+    scope: &Scope,
+    bold: bool,
+    rows: &[RowName],
+) -> Result<(), NoMemory>
+    ensures { OnOk result (out.new.items ≡ out.old.items ++ rows_lines history.now scope.now bold rows.now) }
+{
+    for row in rows {
+        put_row_line(alloc, out, history, scope, bold, *row)?;
+    }
+    Ok(())
+}
+
+/// The beginning.
+#[tactic(auto, unfolding(crate::specs::Rows::rows_open))]
+fn rows_open() -> &'static [u8]
+    ensures { result.now ≡ rows_open }
+{
+    b"<section aria-labelledby=\"rows\">\n<h2 id=\"rows\">The rows</h2>\n<table class=\"s\">\n<caption>"
+}
+
+/// Appends the part, where these are the rows that aren't in question.
+#[tactic(auto, unfolding(crate::specs::Rows::rows_with))]
+fn put_rows_with(
+    alloc: Global,
+    out: &mut Vec<u8>,
+    history: &History,
+    scope: &Scope,
+    others: &[RowName],
+) -> Result<(), NoMemory>
+    ensures { OnOk result (out.new.items ≡ out.old.items ++ rows_with history.now scope.now others.now) }
+{
+    let asked = scope.rows.len();
+    let shown = shown_rows(asked, others);
+    out.extend_from_slice(rows_open())?;
+    put_shown(out, (asked + shown.len()) as u64, (asked + others.len()) as u64)?;
+    out.extend_from_slice(rows_caption())?;
+    put_row_lines(alloc, out, history, scope, true, &scope.rows)?;
+    put_row_lines(alloc, out, history, scope, false, shown)?;
+    out.extend_from_slice(b"</tbody>\n</table>\n</section>\n")
+}
+
+/// Appends the whole part.
+pub fn put_rows(
+    alloc: Global,
+    out: &mut Vec<u8>,
+    history: &History,
+    scope: &Scope,
+) -> Result<(), NoMemory>
+    ensures { OnOk result (out.new.items ≡ out.old.items ++ rows_part history.now scope.now) }
+{
+    let others = other_rows(alloc, history, &scope.rows)?;
+    put_rows_with(alloc, out, history, scope, &others)
+}

@@ -1,0 +1,172 @@
+//! The transactions of a page. Each function that takes bytes appends to them; after NoMemory, part of what was to be
+//! appended may stand there.
+
+ghost use Rattle.std.specs.Prelude.{◌≡◌, ◌++◌, ◌≤◌, length, flat_map, OnOk};
+ghost use Rattle.lab_history.specs.Version.{outcome_of};
+ghost use Rattle.lab_page.specs.Transactions.{shown_line, lines_text, untold_ops, ops_count, outcome_words, txn_open, txn_text, shown_text, transactions_open, transactions_text};
+
+use crate::lines::put_line;
+use crate::markup::{put_natural, put_txn_name};
+use crate::phrases::transactions_caption;
+use crate::scope::{Scope, shows_op};
+use lab_history::{History, Op, Outcome};
+use lab_picture::ops_of;
+use lab_table::{NoMemory, TxnNo};
+use std::alloc::Global;
+
+/// Appends the line of an operation, if it is shown.
+fn put_shown_line(
+    alloc: Global,
+    out: &mut Vec<u8>,
+    history: &History,
+    scope: &Scope,
+    txn: TxnNo,
+    number: u32,
+    op: &Op,
+) -> Result<(), NoMemory>
+    ensures { OnOk result (out.new.items ≡ out.old.items ++ shown_line history.now scope.now txn number op.now) }
+{
+    if shows_op(&scope.asked, txn, number) {
+        put_line(alloc, out, history, scope, txn, number, op)
+    } else {
+        Ok(())
+    }
+}
+
+/// Appends the lines of a transaction's operations.
+fn put_lines(
+    alloc: Global,
+    out: &mut Vec<u8>,
+    history: &History,
+    scope: &Scope,
+    txn: TxnNo,
+    ops: &[Op],
+) -> Result<(), NoMemory>
+    requires { length ops.now ≤ 10000 }
+    ensures { OnOk result (out.new.items ≡ out.old.items ++ lines_text history.now scope.now txn 0 ops.now) }
+{
+    for (index, op) in ops.iter().enumerate() {
+        let number = index as u32 + 1;
+        put_shown_line(alloc, out, history, scope, txn, number, op)?;
+    }
+    Ok(())
+}
+
+/// Appends how many statements there are.
+#[tactic(auto, unfolding(crate::specs::Transactions::untold_ops))]
+fn put_untold_ops(out: &mut Vec<u8>, count: u64) -> Result<(), NoMemory>
+    ensures { OnOk result (out.new.items ≡ out.old.items ++ untold_ops count) }
+{
+    out.extend_from_slice(b"<tr><td colspan=\"5\">Of ")?;
+    put_natural(out, count)?;
+    out.extend_from_slice(b" statements the first twelve are here, and those in question.</td></tr>\n")
+}
+
+/// Appends the same, where not all are shown.
+fn put_ops_count(out: &mut Vec<u8>, count: usize) -> Result<(), NoMemory>
+    ensures { OnOk result (out.new.items ≡ out.old.items ++ ops_count count) }
+{
+    if 12 < count {
+        put_untold_ops(out, count as u64)
+    } else {
+        Ok(())
+    }
+}
+
+/// How a transaction ended.
+fn outcome_words(history: &History, txn: TxnNo) -> &'static [u8]
+    ensures { result.now ≡ outcome_words (outcome_of history.now txn) }
+{
+    match history.txn(txn) {
+        None => b" isn't there",
+        Some(found) => match found.outcome {
+            Outcome::Committed => b" committed",
+            Outcome::Aborted => b" aborted",
+        },
+    }
+}
+
+/// Appends the head of a transaction.
+#[tactic(auto, unfolding(crate::specs::Transactions::txn_open))]
+fn put_txn_open(out: &mut Vec<u8>, history: &History, txn: TxnNo) -> Result<(), NoMemory>
+    ensures { OnOk result (out.new.items ≡ out.old.items ++ txn_open txn (outcome_of history.now txn)) }
+{
+    out.extend_from_slice(b"<tbody>\n<tr class=\"t\" id=\"t")?;
+    put_natural(out, u64::from(txn.number()))?;
+    out.extend_from_slice(b"\"><th scope=\"rowgroup\" colspan=\"5\">")?;
+    put_txn_name(out, txn)?;
+    out.extend_from_slice(outcome_words(history, txn))?;
+    out.extend_from_slice(b"</th></tr>\n")
+}
+
+/// Appends a transaction.
+#[tactic(auto, unfolding(crate::specs::Transactions::txn_text))]
+fn put_txn(
+    alloc: Global,
+    out: &mut Vec<u8>,
+    history: &History,
+    scope: &Scope,
+    txn: TxnNo,
+) -> Result<(), NoMemory>
+    ensures { OnOk result (out.new.items ≡ out.old.items ++ txn_text history.now scope.now txn) }
+{
+    let ops = ops_of(history, txn);
+    put_txn_open(out, history, txn)?;
+    put_lines(alloc, out, history, scope, txn, ops)?;
+    put_ops_count(out, ops.len())?;
+    out.extend_from_slice(b"</tbody>\n")
+}
+
+/// Appends transactions.
+fn put_txns(
+    alloc: Global,
+    out: &mut Vec<u8>,
+    history: &History,
+    scope: &Scope,
+    txns: &[TxnNo],
+) -> Result<(), NoMemory>
+    ensures { OnOk result (out.new.items ≡ out.old.items ++ flat_map (txn_text history.now scope.now) txns.now) }
+{
+    for txn in txns {
+        put_txn(alloc, out, history, scope, *txn)?;
+    }
+    Ok(())
+}
+
+/// Appends how many are shown of how many.
+#[tactic(auto, unfolding(crate::specs::Transactions::shown_text))]
+pub fn put_shown(out: &mut Vec<u8>, shown: u64, all: u64) -> Result<(), NoMemory>
+    ensures { OnOk result (out.new.items ≡ out.old.items ++ shown_text shown all) }
+{
+    out.extend_from_slice(b"Here: ")?;
+    put_natural(out, shown)?;
+    out.extend_from_slice(b" of ")?;
+    put_natural(out, all)?;
+    out.extend_from_slice(b".")
+}
+
+/// The beginning.
+#[tactic(auto, unfolding(crate::specs::Transactions::transactions_open))]
+fn transactions_open() -> &'static [u8]
+    ensures { result.now ≡ transactions_open }
+{
+    b"<section aria-labelledby=\"transactions\">\n<h2 id=\"transactions\">The transactions</h2>\n<table class=\"s\">\n<caption>"
+}
+
+/// Appends the whole part.
+#[tactic(auto, unfolding(crate::specs::Transactions::transactions_text))]
+pub fn put_transactions(
+    alloc: Global,
+    out: &mut Vec<u8>,
+    history: &History,
+    scope: &Scope,
+) -> Result<(), NoMemory>
+    ensures { OnOk result (out.new.items ≡ out.old.items ++ transactions_text history.now scope.now) }
+{
+    let all = history.txns().as_slice().len();
+    out.extend_from_slice(transactions_open())?;
+    put_shown(out, scope.txns.len() as u64, all as u64)?;
+    out.extend_from_slice(transactions_caption())?;
+    put_txns(alloc, out, history, scope, &scope.txns)?;
+    out.extend_from_slice(b"</table>\n</section>\n")
+}
