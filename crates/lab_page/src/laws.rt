@@ -18,7 +18,7 @@ ghost use Rattle.lab_reports.specs.declared.phenomenon.Phenomenon.{Phenomenon};
 ghost use Rattle.lab_page.specs.Answer.{IsPageAnswer};
 ghost use Rattle.lab_page.specs.Markup.{led_text};
 ghost use Rattle.lab_page.specs.Questions.{cycle_of, shown_steps};
-ghost use Rattle.lab_page.specs.Untagged.{Shows, Holds, untagged, read_back, has_bare_and};
+ghost use Rattle.lab_page.specs.Untagged.{Shows, Holds, untagged, read_back, names_bytes};
 ghost use Rattle.lab_page.specs.Why.{opening_of};
 ghost use Rattle.lab_page.specs.Whole.{page_text};
 
@@ -57,7 +57,7 @@ pub fn without_tags_a_sentence_is_as_it_was()
 /// where it begins the name of a byte.
 pub fn what_is_escaped_has_no_markup()
     ensures markup { (text : List ℕ) → list_all is_plain (escaped text) ≡ true }
-    ensures ands { (text : List ℕ) → has_bare_and (escaped text) ≡ false }
+    ensures ands { (text : List ℕ) → names_bytes (escaped text) ≡ true }
 {}
 
 /// Of one input `page` says one thing, byte for byte: two pages of one file are equal.
