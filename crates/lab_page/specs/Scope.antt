@@ -26,13 +26,13 @@ abbrev pub other_txns : List ℕ → List Txn → List ℕ
 other_txns named [] = []
 other_txns named (t ∷ ts) = cond (is_among named t.no) (other_txns named ts) (t.no ∷ other_txns named ts)
 
--- the transactions that a verdict names: no more than forty
+-- the transactions that a verdict names: no more than twenty-five
 abbrev pub named_txns : List ℕ → List ℕ
-named_txns columns = take (min (length columns) 40) columns
+named_txns columns = take (min (length columns) 25) columns
 
--- the transactions that are shown: those that the verdict names, and all others of a history of no more than forty
+-- the transactions that are shown: those that the verdict names, and all others of a history of no more than twenty-five
 abbrev pub shown_txns : List ℕ → List Txn → List ℕ
-shown_txns named txns = named ++ cond (nat_le (length txns) 40) (other_txns named txns) []
+shown_txns named txns = named ++ cond (nat_le (length txns) 25) (other_txns named txns) []
 
 -- what a page shows where these are in question
 abbrev pub scope_with : History → List ℕ → List Question → List Row → Scope
@@ -51,9 +51,9 @@ is_at n k q = (q.spot.txn == n) && (q.spot.op == k)
 abbrev pub is_asked : List Question → ℕ → ℕ → Bool
 is_asked asked n k = list_any (is_at n k) asked
 
--- whether an operation of a transaction that is shown is: it is one of the first twelve, or in question
+-- whether an operation of a transaction that is shown is: it is one of the first eight, or in question
 abbrev pub shows_op : List Question → ℕ → ℕ → Bool
-shows_op asked n k = nat_le k 12 || is_asked asked n k
+shows_op asked n k = nat_le k 8 || is_asked asked n k
 
 -- whether there is an operation of this number, and it is shown
 abbrev pub has_line : History → Scope → ℕ → ℕ → Bool

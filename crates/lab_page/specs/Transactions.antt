@@ -94,10 +94,10 @@ lines_text h s n before (op ∷ ops) = shown_line h s n (before + 1) op ++ lines
 
 -- how many statements there are, where not all are shown
 unfoldable pub untold_ops : ℕ → List ℕ
-untold_ops count = codes "<tr><td colspan=\"5\">Of " ++ decimal count ++ codes " statements the first twelve are here, and those in question.</td></tr>\n"
+untold_ops count = codes "<tr><td colspan=\"5\">Of " ++ decimal count ++ codes " statements the first eight are here, and those in question.</td></tr>\n"
 
 abbrev pub ops_count : ℕ → List ℕ
-ops_count count = cond (nat_lt 12 count) (untold_ops count) []
+ops_count count = cond (nat_lt 8 count) (untold_ops count) []
 
 -- how a transaction ended
 abbrev pub outcome_words : Option Outcome → List ℕ

@@ -33,10 +33,10 @@ impl Model for Scope {
 }
 
 /// The most transactions that are shown.
-const MAX_TXNS: usize = 40;
+const MAX_TXNS: usize = 25;
 
 /// The first operations of a transaction that are shown.
-const MAX_OPS: u32 = 12;
+const MAX_OPS: u32 = 8;
 
 /// Whether a transaction is among these.
 fn is_among(txns: &[TxnNo], txn: TxnNo) -> bool
@@ -61,7 +61,7 @@ fn put_other_txns(
     Ok(())
 }
 
-/// The transactions that a verdict names: no more than forty.
+/// The transactions that a verdict names: no more than twenty-five.
 fn named_txns(columns: &[TxnNo]) -> &[TxnNo]
     ensures { result.now ≡ named_txns columns.now }
 {
@@ -117,7 +117,7 @@ fn is_asked(asked: &[Question], txn: TxnNo, op: u32) -> bool
     asked.iter().any(|question| is_at(question, txn, op))
 }
 
-/// Whether an operation of a transaction that is shown is: it is one of the first twelve, or in question.
+/// Whether an operation of a transaction that is shown is: it is one of the first eight, or in question.
 pub fn shows_op(asked: &[Question], txn: TxnNo, op: u32) -> bool
     ensures { result ≡ shows_op asked.now txn op }
 {

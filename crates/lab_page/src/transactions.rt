@@ -59,14 +59,14 @@ fn put_untold_ops(out: &mut Vec<u8>, count: u64) -> Result<(), NoMemory>
 {
     out.extend_from_slice(b"<tr><td colspan=\"5\">Of ")?;
     put_natural(out, count)?;
-    out.extend_from_slice(b" statements the first twelve are here, and those in question.</td></tr>\n")
+    out.extend_from_slice(b" statements the first eight are here, and those in question.</td></tr>\n")
 }
 
 /// Appends the same, where not all are shown.
 fn put_ops_count(out: &mut Vec<u8>, count: usize) -> Result<(), NoMemory>
     ensures { OnOk result (out.new.items ≡ out.old.items ++ ops_count count) }
 {
-    if 12 < count {
+    if 8 < count {
         put_untold_ops(out, count as u64)
     } else {
         Ok(())
