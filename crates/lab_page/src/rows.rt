@@ -1,17 +1,17 @@
 //! The rows of a page. Each function that takes bytes appends to them; after NoMemory, part of what was to be appended may
 //! stand there.
 
-ghost use Rattle.std.specs.Prelude.{◌≡◌, ◌++◌, ◌≤◌, ◌+◌, length, is_some, IfOk, OnOk};
+ghost use Rattle.std.specs.Prelude.{◌≡◌, ◌++◌, ◌≤◌, length, is_some, flat_map, IfOk, OnOk};
 ghost use Rattle.std.specs.FinMap as finite;
-ghost use Rattle.lab_page.specs.Rows.{is_row_among, other_rows, room, shown_rows, row_open, row_name_cell, versions_cell, end_cell, row_line, rows_lines, rows_open, rows_with, rows_part};
+ghost use Rattle.lab_page.specs.Rows.{is_row_among, initial_row, later_row, other_rows, room, shown_rows, row_open, row_name_cell, versions_cell, end_cell, row_line, rows_lines, rows_open, rows_with, rows_part};
 
 use crate::chains::{put_chain, put_state};
 use crate::markup::put_row;
 use crate::phrases::rows_caption;
 use crate::scope::Scope;
 use crate::transactions::put_shown;
-use lab_history::History;
-use lab_table::{NoMemory, RowName};
+use lab_history::{History, Installers};
+use lab_table::{NoMemory, RowName, Value};
 use std::alloc::Global;
 
 /// The most rows that are shown.
@@ -31,6 +31,39 @@ fn is_initial(history: &History, row: RowName) -> bool
     history.initial().get(row).is_some()
 }
 
+/// Appends those of rows that were there at first that aren't among others.
+fn put_initial_rows(
+    out: &mut Vec<RowName>,
+    rows: &[RowName],
+    entries: &[(RowName, Value)],
+) -> Result<(), NoMemory>
+    ensures { OnOk result (out.new.items ≡ out.old.items ++ flat_map (initial_row rows.now) entries.now) }
+{
+    for (row, _) in entries {
+        if !is_row_among(rows, *row) {
+            out.push(*row)?;
+        }
+    }
+    Ok(())
+}
+
+/// Appends those of installed rows that came later and aren't among others.
+fn put_later_rows(
+    out: &mut Vec<RowName>,
+    history: &History,
+    rows: &[RowName],
+    entries: &[(RowName, Installers)],
+) -> Result<(), NoMemory>
+    ensures { OnOk result (out.new.items ≡ out.old.items ++ flat_map (later_row history.now rows.now) entries.now) }
+{
+    for (row, _) in entries {
+        if !(is_row_among(rows, *row) || is_initial(history, *row)) {
+            out.push(*row)?;
+        }
+    }
+    Ok(())
+}
+
 /// The rows that aren't in question. NoMemory where an allocation was refused.
 fn other_rows(
     alloc: Global,
@@ -40,16 +73,8 @@ fn other_rows(
     ensures { IfOk result (λ others. others.items ≡ other_rows history.now rows.now) }
 {
     let mut others = Vec::new(alloc);
-    for (row, _) in history.initial().entries() {
-        if !is_row_among(rows, *row) {
-            others.push(*row)?;
-        }
-    }
-    for (row, _) in history.installed().entries() {
-        if !(is_row_among(rows, *row) || is_initial(history, *row)) {
-            others.push(*row)?;
-        }
-    }
+    put_initial_rows(&mut others, rows, history.initial().entries())?;
+    put_later_rows(&mut others, history, rows, history.installed().entries())?;
     Ok(others)
 }
 
