@@ -1,0 +1,5 @@
+mod Held
+mod Untagging
+mod ReadBack
+mod InPages
+mod OnePage

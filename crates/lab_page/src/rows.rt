@@ -73,7 +73,7 @@ fn other_rows(
     ensures { IfOk result (λ others. others.items ≡ other_rows history.now rows.now) }
 {
     let mut others = Vec::new(alloc);
-    put_initial_rows(&mut others, rows, history.initial().entries())?;
+    put_initial_rows(&mut others, rows, history.initial().rows())?;
     put_later_rows(&mut others, history, rows, history.installed().entries())?;
     Ok(others)
 }
