@@ -202,6 +202,24 @@ fn explain_command<'a>(alloc: Global, names: &'a Names) -> Result<Command<'a>, A
     plain_command(alloc, "explain", help::EXPLAIN, help::EXPLAIN_WHOLE).arg(phenomenon)
 }
 
+/// The subcommand `page`. NoMemory where an allocation was refused.
+fn page_command<'a>(alloc: Global, names: &'a Names) -> Result<Command<'a>, AllocError> {
+    let phenomenon = choice(
+        alloc,
+        "phenomenon",
+        help::PAGED,
+        names.phenomena.as_slice(),
+    );
+    let title = Arg::new(alloc, "title")
+        .long("title")
+        .help(help::TITLE)
+        .value_name("TEXT")
+        .action(ArgAction::Set);
+    plain_command(alloc, "page", help::PAGE, help::PAGE_WHOLE)
+        .arg(phenomenon)?
+        .arg(title)
+}
+
 /// The program's command, without its subcommands.
 fn program<'a>(alloc: Global) -> Command<'a> {
     Command::new(alloc, "hermitage_lab")
@@ -231,5 +249,6 @@ pub fn command<'a>(alloc: Global, names: &'a Names) -> Result<Command<'a>, Alloc
     let matrix = plain_command(alloc, "matrix", help::MATRIX, help::MATRIX_WHOLE);
     let command = command.subcommand(matrix)?;
     let command = with(command, picture_command(alloc, names))?;
-    with(command, explain_command(alloc, names))
+    let command = with(command, explain_command(alloc, names))?;
+    with(command, page_command(alloc, names))
 }
