@@ -1,5 +1,5 @@
 -- The cells of an operation: what it saw, listed and wrote.
-use Rattle.std.specs.Prelude.{ℕ, ℤ, nat_le, min, Bool, cond, Option, Some, None, List, [], ◌∷◌, ◌++◌, length, take, drop, map, flat_map, codes}
+use Rattle.std.specs.Prelude.{ℕ, ℤ, ◌==◌, nat_le, min, Bool, cond, Option, Some, None, List, [], ◌∷◌, ◌++◌, length, take, drop, map, flat_map, codes}
 use Rattle.std.specs.List.{list_any}
 use Rattle.std.specs.Fmt.{decimal}
 use Rattle.std.specs.FinMap as finite
@@ -87,8 +87,7 @@ entries_text h s rows es =
 
 -- a cell, with what stands in one without entries
 abbrev pub cell_text : History → Scope → List Row → List ℕ → List Entry → List ℕ
-cell_text h s rows empty [] = empty
-cell_text h s rows empty (e ∷ es) = entries_text h s rows (e ∷ es)
+cell_text h s rows empty es = cond (length es == 0) empty (entries_text h s rows es)
 
 -- what an operation saw
 abbrev pub seen_cell : History → Scope → List Row → Op → List ℕ

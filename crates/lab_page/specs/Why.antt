@@ -1,5 +1,5 @@
 -- Why: the sentences of the verdict, and below each step the versions of its row.
-use Rattle.std.specs.Prelude.{ℕ, ◌+◌, ◌-◌, nat_lt, cond, Option, Some, None, List, [], ◌∷◌, ◌++◌, length, codes}
+use Rattle.std.specs.Prelude.{ℕ, ◌+◌, ◌-◌, ◌==◌, nat_lt, cond, Option, Some, None, List, [], ◌∷◌, ◌++◌, length, codes}
 use Rattle.std.specs.Fmt.{decimal}
 use Rattle.lab_history.specs.History.{History}
 use Rattle.lab_deps.specs.declared.edge.Edge.{Edge}
@@ -92,8 +92,7 @@ unfoldable pub behind_cycle : ℕ → List ℕ
 behind_cycle count = untold_steps count ++ kinds_text
 
 abbrev pub behind_steps : List Edge → List ℕ
-behind_steps [] = []
-behind_steps (e ∷ es) = behind_cycle (length (e ∷ es))
+behind_steps walk = cond (length walk == 0) [] (behind_cycle (length walk))
 
 -- the steps
 unfoldable pub steps_text : History → Scope → Report → Option Phenomenon → List ℕ

@@ -7,11 +7,11 @@ ghost use Rattle.lab_page.specs.Chains.{version_place, asked_place, is_place, is
 
 use crate::markup::{bold_close, bold_open, put_natural, put_op, put_txn_name};
 use crate::questions::Did;
-use crate::scope::Scope;
+use crate::scope::{Scope, op_of};
 use itoa::Buffer;
 use lab_deps::viewed;
 use lab_history::{History, VersionName};
-use lab_picture::{Spot, installers_of, ops_of, state_at};
+use lab_picture::{Spot, installers_of, state_at};
 use lab_table::{NoMemory, RowName, TxnNo, Value};
 
 /// The installers that are shown behind one another.
@@ -32,10 +32,10 @@ pub fn asked_place(history: &History, row: RowName, spot: Spot, did: Did) -> Opt
     ensures { result ≡ asked_place history.now row spot did }
 {
     match did {
-        Did::Saw => {
-            let op = ops_of(history, spot.txn).get(spot.op.checked_sub(1)? as usize)?;
-            version_place(history, row, viewed(op, row))
-        }
+        Did::Saw => match op_of(history, spot.txn, spot.op) {
+            None => None,
+            Some(op) => version_place(history, row, viewed(op, row)),
+        },
         Did::Wrote => history.installer_place(row, spot.txn),
     }
 }

@@ -80,7 +80,7 @@ fn other_rows(
 
 /// How many others are shown beside so many in question.
 fn room(asked: usize, others: usize) -> usize
-    requires { (asked ≤ 4000000000) × (others ≤ 4000000000) }
+    requires { (asked ≤ 9223372036854775807) × (others ≤ 9223372036854775807) }
     ensures { result ≡ room asked others }
 {
     if asked + others <= MAX_ROWS {
@@ -94,7 +94,7 @@ fn room(asked: usize, others: usize) -> usize
 
 /// The others that are shown.
 fn shown_rows(asked: usize, rows: &[RowName]) -> &[RowName]
-    requires { (asked ≤ 4000000000) × (length rows.now ≤ 4000000000) }
+    requires { asked ≤ 9223372036854775807 }
     ensures { result.now ≡ shown_rows asked rows.now }
 {
     &rows[..rows.len().min(room(asked, rows.len()))]

@@ -1,11 +1,12 @@
 //! What a page shows of a history.
 
 ghost use Rattle.std.specs.Prelude.{◌≡◌, ◌≤◌, ◌++◌, length, is_some, IfOk, OnOk};
+ghost use Rattle.std.specs.Option.{option_copied};
 ghost use Rattle.lab_history.specs.Version.{ops_of, op_at};
 ghost use Rattle.lab_page.specs.Scope.{is_among, other_txns, named_txns, shown_txns, scope_of, is_at, is_asked, shows_op, has_line};
 
 use crate::questions::{Question, questions_of, rows_of};
-use lab_history::{History, Txn};
+use lab_history::{History, Op, Txn};
 use lab_judge::Report;
 use lab_picture::{draw, ops_of};
 use lab_reports::Phenomenon;
@@ -124,14 +125,24 @@ pub fn shows_op(asked: &[Question], txn: TxnNo, op: u32) -> bool
     op <= MAX_OPS || is_asked(asked, txn, op)
 }
 
+fn op_in(ops: &[Op], number: u32) -> Option<&Op>
+    ensures { option_copied result ≡ op_at ops.now number }
+{
+    ops.get(number.checked_sub(1)? as usize)
+}
+
+/// The operation of a transaction with this number, if there is one.
+pub fn op_of(history: &History, txn: TxnNo, op: u32) -> Option<&Op>
+    ensures { option_copied result ≡ op_at (ops_of history.now txn) op }
+{
+    op_in(ops_of(history, txn), op)
+}
+
 /// Whether a transaction has an operation of this number.
 fn has_op(history: &History, txn: TxnNo, op: u32) -> bool
     ensures { result ≡ is_some (op_at (ops_of history.now txn) op) }
 {
-    match op.checked_sub(1) {
-        None => false,
-        Some(index) => ops_of(history, txn).get(index as usize).is_some(),
-    }
+    op_of(history, txn, op).is_some()
 }
 
 /// Whether there is an operation of this number, and it is shown.
