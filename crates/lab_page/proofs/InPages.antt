@@ -88,6 +88,13 @@ picture_in_figure : (columns picture : List ℕ) → nat_le (length picture) 655
 picture_in_figure columns picture short =
     subst (λ b. Holds (cond b (drawn_text (is_wide columns) picture) no_picture) picture) (sym short) (drawn_held (is_wide columns) picture)
 
+-- a sentence stands in its cell
+led_in_cell : (sentence : List ℕ) → Holds (finding_cell sentence) (led_text sentence)
+unfolding finding_cell
+led_in_cell sentence =
+    let close : List ℕ = codes "</th><td>" in
+    behind_it (codes "<tr><th scope=\"row\">") (led_text sentence ++ close) (led_text sentence) (in_front (led_text sentence) close (led_text sentence) (itself (led_text sentence)))
+
 module _ (h : History) (report : Report) where
   level_in_levels : Holds (levels_text h report) (paragraph_text (level_line report.level))
   unfolding levels_text
@@ -140,12 +147,10 @@ module _ (h : History) (report : Report) where
       (lines_held (phenomena_open ++ all ++ close) phenomena (behind_it phenomena_open (all ++ close) all (in_front all close all (itself all))))
 
   led_in_line : (p : Phenomenon) → Holds (phenomenon_line h report p) (led_text (finding_sentence h report p))
-  unfolding phenomenon_line, finding_cell
+  unfolding phenomenon_line
   led_in_line p =
       let led : List ℕ = led_text (finding_sentence h report p) in
-      let open_tag : List ℕ = codes "<tr><th scope=\"row\">" in
-      let close : List ℕ = codes "</th><td>" in
-      in_front (open_tag ++ led ++ close) (meaning_cells p) led (behind_it open_tag (led ++ close) led (in_front led close led (itself led)))
+      in_front (finding_cell (finding_sentence h report p)) (meaning_cells p) led (led_in_cell (finding_sentence h report p))
 
 -- the sentences of a fault
 module _ (h : History) (report : Report) (f : LocalFault) (is : report.serial ≡ NoFault f) where
