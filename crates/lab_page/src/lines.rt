@@ -165,10 +165,9 @@ fn put_row_at(
     ensures { OnOk result (rows.new.items ≡ rows.old.items ++ row_at txn op question.now) }
 {
     if is_at(question, txn, op) {
-        rows.push(question.row)
-    } else {
-        Ok(())
+        rows.push(question.row)?;
     }
+    Ok(())
 }
 
 /// The rows that are in question at an operation. NoMemory where an allocation was refused.

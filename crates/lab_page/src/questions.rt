@@ -104,7 +104,8 @@ fn put_of_edge(
                 spot: arrow.to,
                 row: arrow.row,
                 did: second_did(edge.kind),
-            })
+            })?;
+            Ok(())
         }
     }
 }
@@ -134,7 +135,8 @@ fn put_of_place(
         spot: Spot { txn, op },
         row,
         did: Did::Saw,
-    })
+    })?;
+    Ok(())
 }
 
 /// Appends the question of a fault, where it is at an operation.
@@ -225,7 +227,10 @@ fn put_parts_row(out: &mut Vec<RowName>, fault: FaultParts) -> Result<(), NoMemo
 {
     match fault {
         FaultParts::Operation { .. } => Ok(()),
-        FaultParts::Row { row, .. } => out.push(row),
+        FaultParts::Row { row, .. } => {
+            out.push(row)?;
+            Ok(())
+        }
     }
 }
 
