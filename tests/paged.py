@@ -3,6 +3,7 @@
 The sentences are taken from what `explain` writes, whose lines are joined, and the picture is taken as it is; so of a
 history whose explanation is cut there is no page here (`Cut`). Texts that stand in fences of docs/PAGE.md are taken from
 there."""
+import itertools
 import json
 import re
 
@@ -147,8 +148,8 @@ class Page:
     # ---- what is shown
 
     def steps(self):
-        """The sentences of the steps."""
-        return [it[2:] for it in self.sentences if it.startswith("  ")]
+        """The sentences of the steps, which stand right behind the first one."""
+        return [it[2:] for it in itertools.takewhile(lambda it: it.startswith("  "), self.sentences[1:])]
 
     def asked_of(self):
         """Each question: step, transaction, operation, row, and what it did."""
