@@ -12,7 +12,7 @@ byte_by b ys true more amp quote e f g h = ap (λ n. n ∷ read_from false [] ys
 byte_by b ys false true amp quote e f g h = ap (λ n. n ∷ read_from false [] ys) (sym (eqb-true b 62 f))
 byte_by b ys false false true quote e f g h = ap (λ n. n ∷ read_from false [] ys) (sym (eqb-true b 38 g))
 byte_by b ys false false false true e f g h = ap (λ n. n ∷ read_from false [] ys) (sym (eqb-true b 34 h))
-byte_by b ys false false false false e f g h = ap (λ t. cond t (read_from true [] ys) (b ∷ read_from false [] ys)) g
+byte_by b ys false false false false e f g h = ap (λ t. cond t [] (b ∷ []) ++ read_from t [] ys) g
 
 -- so is a text
 pub text_back : (text : List ℕ) → read_back (escaped text) ≡ text
@@ -26,7 +26,7 @@ named_by b ys true more amp quote g = refl
 named_by b ys false true amp quote g = refl
 named_by b ys false false true quote g = refl
 named_by b ys false false false true g = refl
-named_by b ys false false false false g = ap (λ t. cond t (named_from true [] ys) (named_from false [] ys)) g
+named_by b ys false false false false g = ap (λ t. named_from t [] ys) g
 
 pub all_named : (text : List ℕ) → names_bytes (escaped text) ≡ true
 all_named [] = refl

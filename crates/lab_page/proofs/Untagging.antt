@@ -7,7 +7,7 @@ use Rattle.std.proofs.lemmas.List.{flat_map-append, take-append-drop, append-nil
 use Rattle.lab_picture.specs.Text.{escaped, escaped_byte, is_plain}
 use Rattle.lab_picture.proofs.Escapes.{no_markup}
 use Rattle.lab_page.specs.Markup.{lead_length, led_text, paragraph_text}
-use Rattle.lab_page.specs.Untagged.{untagged, Holds, Shows}
+use Rattle.lab_page.specs.Untagged.{is_inside, kept, untagged, Holds, Shows}
 
 is_true : (b : Bool) → not b ≡ true → b ≡ false
 is_true true e = sym e
@@ -22,7 +22,7 @@ plain_stays : (xs ys : List ℕ) → list_all is_plain xs ≡ true → untagged 
 plain_stays [] ys e = refl
 plain_stays (x ∷ xs) ys e =
     let parts = and_parts (is_plain x) (list_all is_plain xs) e in
-    ap (λ b. cond b (untagged true (xs ++ ys)) (x ∷ untagged false (xs ++ ys))) (no_tag x parts.0) ∙ ap (λ l. x ∷ l) (plain_stays xs ys parts.1)
+    ap (λ b. cond b [] (x ∷ []) ++ untagged b (xs ++ ys)) (no_tag x parts.0) ∙ ap (λ l. x ∷ l) (plain_stays xs ys parts.1)
 
 pub escaped_stays : (text ys : List ℕ) → untagged false (escaped text ++ ys) ≡ escaped text ++ untagged false ys
 escaped_stays text ys = plain_stays (escaped text) ys (no_markup text)
@@ -33,13 +33,9 @@ Passed inside xs ys = (front : List ℕ) × (then : Bool) × (untagged inside (x
 
 passes : (inside : Bool) (xs ys : List ℕ) → Passed inside xs ys
 passes inside [] ys = ([], inside, refl)
-passes true (x ∷ xs) ys = passes (not (x == 62)) xs ys
-passes false (x ∷ xs) ys =
-    let more : Passed false xs ys = passes false xs ys in
-    elim (x == 60) as (λ b. (front : List ℕ) × (then : Bool) × (cond b (untagged true (xs ++ ys)) (x ∷ untagged false (xs ++ ys)) ≡ front ++ untagged then ys)) [
-    | true ↦ passes true xs ys
-    | false ↦ (x ∷ more.0, more.1, ap (λ l. x ∷ l) more.2)
-    ]
+passes inside (x ∷ xs) ys =
+    let more : Passed (is_inside inside x) xs ys = passes (is_inside inside x) xs ys in
+    (kept inside x ++ more.0, more.1, ap (λ l. kept inside x ++ l) more.2 ∙ sym (append_assoc (kept inside x) more.0 (untagged more.1 ys)))
 
 -- a text that ends with a tag: what stands behind it is outside, wherever the text was begun
 abbrev pub Closes : List ℕ → Type 0
