@@ -39,15 +39,15 @@ fn put_whose(
     out: &mut Vec<u8>,
     history: &History,
     scope: &Scope,
-    version: VersionName,
+    version: &VersionName,
 ) -> Result<(), NoMemory>
-    ensures { OnOk result (out.new.items ≡ out.old.items ++ whose_text history.now scope.now version) }
+    ensures { OnOk result (out.new.items ≡ out.old.items ++ whose_text history.now scope.now version.now) }
 {
     match version {
         VersionName::Initial => out.extend_from_slice(b" at first"),
         VersionName::Of { txn, op } => {
             out.extend_from_slice(b" by ")?;
-            put_op(out, history, scope, txn, op)
+            put_op(out, history, scope, *txn, *op)
         }
     }
 }
@@ -60,14 +60,14 @@ fn put_seen(
     history: &History,
     scope: &Scope,
     row: RowName,
-    version: VersionName,
+    version: &VersionName,
 ) -> Result<(), NoMemory>
-    ensures { OnOk result (out.new.items ≡ out.old.items ++ seen_text history.now scope.now row version) }
+    ensures { OnOk result (out.new.items ≡ out.old.items ++ seen_text history.now scope.now row version.now) }
 {
     out.extend_from_slice(b"row ")?;
     put_row(alloc, out, row)?;
     out.extend_from_slice(b" as ")?;
-    put_known(out, history.version_state(row, version))?;
+    put_known(out, history.version_state(row, *version))?;
     put_whose(out, history, scope, version)
 }
 
@@ -95,13 +95,13 @@ fn put_told(
     history: &History,
     scope: &Scope,
     row: RowName,
-    told: Told,
+    told: &Told,
 ) -> Result<(), NoMemory>
-    ensures { OnOk result (out.new.items ≡ out.old.items ++ told_text history.now scope.now row told) }
+    ensures { OnOk result (out.new.items ≡ out.old.items ++ told_text history.now scope.now row told.now) }
 {
     match told {
         Told::Seen(version) => put_seen(alloc, out, history, scope, row, version),
-        Told::Held(state) => put_held(alloc, out, row, state),
+        Told::Held(state) => put_held(alloc, out, row, *state),
     }
 }
 
@@ -129,7 +129,7 @@ fn put_entry(
     ensures { OnOk result (out.new.items ≡ out.old.items ++ entry_text history.now scope.now rows.now entry.now) }
 {
     out.extend_from_slice(entry_open(is_of(rows, entry)))?;
-    put_told(alloc, out, history, scope, entry.row, entry.told)?;
+    put_told(alloc, out, history, scope, entry.row, &entry.told)?;
     out.extend_from_slice(b"</span>")
 }
 
