@@ -3,7 +3,8 @@ use Rattle.std.proofs.Common.{◌≡◌, ℕ, ◌==◌, Bool, true, false, not, 
 use Rattle.std.specs.Prelude.{codes, flat_map}
 use Rattle.std.specs.List.{list_all}
 use Rattle.std.proofs.lemmas.Bool.{and_parts}
-use Rattle.std.proofs.lemmas.List.{flat_map-append, take-append-drop, append-nil}
+use Rattle.std.proofs.lemmas.Grind.{flat_map-append}
+use Rattle.std.proofs.lemmas.List.{take-append-drop, append-nil}
 use Rattle.lab_picture.specs.Text.{escaped, escaped_byte, is_plain}
 use Rattle.lab_picture.proofs.Escapes.{no_markup}
 use Rattle.lab_page.specs.Markup.{lead_length, led_text, paragraph_text}
@@ -45,7 +46,7 @@ Closes tag = (inside : Bool) (ys : List ℕ) → (front : List ℕ) × (untagged
 pub shown_behind : (page tag text : List ℕ) → Closes tag → Holds page (tag ++ escaped text) → Shows page text
 shown_behind page tag text closes (before, behind, is) =
     let passed : Passed false before ((tag ++ escaped text) ++ behind) = passes false before ((tag ++ escaped text) ++ behind) in
-    let closed : (front : List ℕ) × (untagged passed.1 (tag ++ escaped text ++ behind) ≡ front ++ untagged false (escaped text ++ behind)) = closes passed.1 (escaped text ++ behind) in
+    let closed : (front : List ℕ) × (untagged passed.1 (tag ++ (escaped text ++ behind)) ≡ front ++ untagged false (escaped text ++ behind)) = closes passed.1 (escaped text ++ behind) in
     (passed.0 ++ closed.0, untagged false behind,
     ap (untagged false) is ∙ passed.2
     ∙ ap (λ l. passed.0 ++ l) (ap (untagged passed.1) (append_assoc tag (escaped text) behind) ∙ closed.1 ∙ ap (λ l. closed.0 ++ l) (escaped_stays text behind))

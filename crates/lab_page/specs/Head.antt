@@ -90,7 +90,7 @@ is_placed (places.NoFault f) = false
 is_placed (places.NoCycle points) = false
 
 abbrev pub yes_word : Bool → List ℕ
-yes_word yes = cond yes (codes "yes") (codes "no")
+yes_word said = cond said (codes "yes") (codes "no")
 
 -- whether a phenomenon is present
 abbrev pub is_present : Finding → Bool

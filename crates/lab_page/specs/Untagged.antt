@@ -20,7 +20,7 @@ untagged inside (b ∷ bs) = kept inside b ++ untagged (is_inside inside b) bs
 
 -- a text holds another, byte for byte
 abbrev pub Holds : List ℕ → List ℕ → Type 0
-Holds whole part = (before behind : List ℕ) × (whole ≡ before ++ part ++ behind)
+Holds whole part = (before behind : List ℕ) × (whole ≡ before ++ (part ++ behind))
 
 -- a page shows a text: it stands there, escaped, once the tags are taken away
 abbrev pub Shows : List ℕ → List ℕ → Type 0

@@ -51,10 +51,10 @@ fn is_placed(snapshot: &Places) -> bool
     }
 }
 
-fn yes_word(yes: bool) -> &'static [u8]
-    ensures { result.now ≡ yes_word yes }
+fn yes_word(said: bool) -> &'static [u8]
+    ensures { result.now ≡ yes_word said }
 {
-    if yes { b"yes" } else { b"no" }
+    if said { b"yes" } else { b"no" }
 }
 
 /// Whether a phenomenon is present.
