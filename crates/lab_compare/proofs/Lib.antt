@@ -1,0 +1,2 @@
+mod FirstRefusals
+mod OneComparison
