@@ -4,6 +4,7 @@ use crate::streams::{Sink, Source};
 use lab_case_commands::{case as case_script, matrix};
 use lab_chain_commands::{Asked, chain, join};
 use lab_commands::{Progress, Shown, batch, judge, run, run_free, serial};
+use lab_compare::{Engines, compare};
 use lab_engine::Level;
 use lab_explain::explain;
 use lab_matrix::CaseName;
@@ -29,6 +30,9 @@ pub enum Subcommand {
     RunFree {
         level: Level,
         shown: Shown,
+    },
+    Compare {
+        engines: Engines,
     },
     Judge,
     /// `judge` with its options.
@@ -127,6 +131,7 @@ pub fn given<T: Files + Threads + Wait + Sync, R: Read, W: Write, N: Write>(
         Subcommand::RunFree { level, shown } => {
             run_free(rt, alloc, reader, writer, notes, level, shown, PLAIN)
         }
+        Subcommand::Compare { engines } => compare(alloc, reader, writer, notes, engines),
         Subcommand::Judge => judge(alloc, reader, writer, notes, PLAIN),
         Subcommand::JudgeFor { wanted } => judge(alloc, reader, writer, notes, wanted),
         Subcommand::Picture { asked } => picture(alloc, reader, writer, notes, asked),

@@ -8,7 +8,9 @@ use crate::parts::ANSWER;
 use crate::run::{FREE_HISTORY, FREE_LEFT_OPEN, FREE_NO_SESSION, HISTORY, LEFT_OPEN};
 use crate::serial::{NO_SESSION, TWO_SESSIONS};
 use crate::streams::{Endless, FAULTS, Sink, Source};
-use crate::words::{EXPLANATION, LISTING, MATRIX, NO_EXPLANATION, NO_PICTURE, PICTURE};
+use crate::words::{
+    COMPARISON, EXPLANATION, LISTING, MATRIX, NO_COMPARISON, NO_EXPLANATION, NO_PICTURE, PICTURE,
+};
 use lab_refusal_tests::{refuse, was_refused};
 use lab_streams::RunFault;
 use std::alloc::Global;
@@ -19,7 +21,7 @@ use std::test::Fail;
 use std::thread::Threads;
 
 /// Cases that read.
-const READING: [Case; 13] = [
+const READING: [Case; 15] = [
     TWO_SESSIONS,
     NO_SESSION,
     LEFT_OPEN,
@@ -33,6 +35,8 @@ const READING: [Case; 13] = [
     NO_PICTURE,
     EXPLANATION,
     NO_EXPLANATION,
+    COMPARISON,
+    NO_COMPARISON,
 ];
 
 #[test]

@@ -112,9 +112,30 @@ fn history_answer(
     }
 }
 
-/// What there is to tell of a recording: its history where that is asked for, else its log and the report, which in JSON
-/// stands alone; why the report doesn't meet what is required is noted. A log of which a statement doesn't print is a play
-/// that is over that limit.
+/// A recording's log, and the report; a log of which a statement doesn't print is a play that is over that limit.
+fn told_log(
+    alloc: Global,
+    rows: bool,
+    recording: &Recording,
+    wanted: Wanted,
+    shortfall: &mut Vec<u8>,
+) -> Result<Answer, PlayFault>
+    ensures tells { IfOk result (λ answer. IsLogAnswer rows wanted recording.now answer.text.items answer.ending) }
+    ensures fault { IfErr result (IsUntold recording.now) }
+{
+    match log_answer(alloc, rows, recording, wanted, shortfall) {
+        Ok(answer) => Ok(answer),
+        Err(PrintFault::NoMemory) => Err(PlayFault::NoMemory),
+        Err(PrintFault::TooDeep | PrintFault::TooLong) => Err(PlayFault::OverLimit {
+            which: Limit::Statement,
+        }),
+        Err(PrintFault::TooManyTables) => unreachable!(),
+    }
+}
+
+/// What there is to tell of a recording: its log, with the committed rows or without, and the report, which in JSON stands
+/// alone; or its history. Why the report doesn't meet what is required is noted. A log of which a statement doesn't print is
+/// a play that is over that limit.
 pub fn recording_answer(
     alloc: Global,
     recording: &Recording,
@@ -125,17 +146,9 @@ pub fn recording_answer(
     ensures tells { IfOk result (λ answer. IsRecordingAnswer shown wanted recording.now answer.text.items answer.ending) }
     ensures fault { IfErr result (IsUntold recording.now) }
 {
-    let rows = match shown {
-        Shown::History => return Ok(history_answer(alloc, recording, wanted, shortfall)?),
-        Shown::Rows => true,
-        Shown::Log => false,
-    };
-    match log_answer(alloc, rows, recording, wanted, shortfall) {
-        Ok(answer) => Ok(answer),
-        Err(PrintFault::NoMemory) => Err(PlayFault::NoMemory),
-        Err(PrintFault::TooDeep | PrintFault::TooLong) => Err(PlayFault::OverLimit {
-            which: Limit::Statement,
-        }),
-        Err(PrintFault::TooManyTables) => unreachable!(),
+    match shown {
+        Shown::Log => told_log(alloc, false, recording, wanted, shortfall),
+        Shown::Rows => told_log(alloc, true, recording, wanted, shortfall),
+        Shown::History => Ok(history_answer(alloc, recording, wanted, shortfall)?),
     }
 }

@@ -22,7 +22,7 @@ fn put_remark(out: &mut Vec<u8>, outcome: &Outcome, rows: &Table) -> Result<(), 
     }
     out.extend_from_slice(b"-- rows ")?;
     put_table(out, rows)?;
-    out.push(b'\n')
+    out.extend_from_slice(b"\n")
 }
 
 /// Appends the line of an event, and the remark behind it. TooDeep and TooLong only where its statement breaks that limit.
@@ -43,15 +43,15 @@ fn put_remarked_log(
     alloc: Global,
     out: &mut Vec<u8>,
     history: &History,
-    standing: Standing,
+    first: Standing,
     log: &[LogEvent],
 ) -> Result<(), PrintFault>
-    ensures text { OnOk result (out.new.items ≡ out.old.items ++ remarked_log history.now standing log.now) }
+    ensures text { OnOk result (out.new.items ≡ out.old.items ++ remarked_log history.now first log.now) }
     ensures too_deep { result ≡ Err PrintFault.TooDeep → SomeEvent IsDeep log.now }
     ensures too_long { result ≡ Err PrintFault.TooLong → SomeEvent IsLong log.now }
     ensures few_tables { result ≢ Err PrintFault.TooManyTables }
 {
-    let mut standing = standing;
+    let mut standing = first;
     for event in log {
         standing.take_in(alloc, history, event)?;
         put_remarked(out, event, &standing.rows)?;

@@ -10,10 +10,11 @@ use Rattle.lab_session.specs.declared.fault.PlayFault.TheVariants.{NoMemory}
 use Rattle.lab_session.proofs.OnePlay.{no_fault}
 use Rattle.lab_matrix.specs.Matrix.{level_place}
 use Rattle.lab_commands.specs.Playing.{IsScriptedRefusal}
-use Rattle.lab_compare.specs.Answer.{IsSide, IsAskedSide, HasPlay}
+use Rattle.lab_compare.specs.Answer.{IsAskedSide, AreSides, HasPlay, IsFirstRefusal}
 use Rattle.lab_compare.specs.Engines.{is_among}
 use Rattle.lab_compare.specs.declared.engines.Engines.{Engines}
 use Rattle.lab_compare.specs.declared.side.Side.{Side}
+use Rattle.lab_compare.specs.declared.side.Sides.{Sides}
 
 -- a side that is asked for has its play
 pub asked_play : (asked : Bool) (at : Level) (script : Script) (side : Option Side) → IsAskedSide asked at script side → asked ≡ true → HasPlay at script
@@ -43,3 +44,15 @@ module _ (engines : Engines) (script : Script) (locking : Option Side) (first : 
   two_before committed second level.Locking before yes = asked_play engines.locking level.Locking script locking first yes
   two_before committed second level.Committed before yes = asked_play engines.committed level.Committed script committed second yes
   two_before committed second level.Snapshot before yes = absurd (omega (arith, before))
+
+-- a refusal at a level is the first, where the plays before it have recordings
+pub first_refusal : (engines : Engines) (script : Script) (at : Level) (fault : PlayFault) → PlayedBefore engines script (level_place at) → (is_among engines at ≡ true) × IsScriptedRefusal at script fault
+    → IsFirstRefusal engines script fault
+first_refusal engines script at fault before (asked, faulty) = record { level = at; asked = asked; faulty = faulty; first = before }
+
+-- the sides at the three levels are those of the engines that are asked for
+pub each_side : (engines : Engines) (script : Script) (sides : Sides) → IsAskedSide engines.locking level.Locking script sides.locking
+    → IsAskedSide engines.committed level.Committed script sides.committed → IsAskedSide engines.snapshot level.Snapshot script sides.snapshot → AreSides engines script sides
+each_side engines script sides locking committed snapshot level.Locking = locking
+each_side engines script sides locking committed snapshot level.Committed = committed
+each_side engines script sides locking committed snapshot level.Snapshot = snapshot

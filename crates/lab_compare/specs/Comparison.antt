@@ -76,13 +76,21 @@ has_line lines session = list_any (λ line. line.session == session) lines
 abbrev pub session_count : List Line → ℕ
 session_count lines = count_by (has_line lines) all_sessions
 
+-- what the text begins with
+unfoldable pub opening : List ℕ
+opening = codes "compare: script of "
+
+-- what the line of the rows to begin with does
+unfoldable pub start_words : List ℕ
+start_words = codes "start: rows "
+
 -- the first line: of how many lines and sessions the script is
 abbrev pub heading : List Line → List ℕ
-heading lines = codes "compare: script of " ++ counted (length lines) (codes " line") ++ codes ", " ++ counted (session_count lines) (codes " session") ++ newline
+heading lines = opening ++ counted (length lines) (codes " line") ++ codes ", " ++ counted (session_count lines) (codes " session") ++ newline
 
 -- the rows to begin with
 abbrev pub start_text : Script → List ℕ
-start_text script = codes "start: rows " ++ printed_table script.setup ++ newline
+start_text script = start_words ++ printed_table script.setup ++ newline
 
 -- the committed rows in the end
 abbrev pub ends_text : List Side → List ℕ

@@ -100,7 +100,7 @@ fn put_led(
         return Ok(());
     }
     put_group(out, of, mark, sides, side.tell(of))?;
-    out.push(b'\n')
+    out.extend_from_slice(b"\n")
 }
 
 /// Appends what is explained of a side, where something is and it is the first of which that is.
@@ -149,14 +149,14 @@ fn all_tell(of: Topic, text: &[u8], sides: &[Side]) -> bool
 pub fn put_alike(out: &mut Vec<u8>, of: Topic, sides: &[Side]) -> Result<(), NoMemory>
     ensures { OnOk result (out.new.items ≡ out.old.items ++ alike_text of sides.now) }
 {
-    let Some(first) = sides.first() else {
-        return out.push(b'\n');
+    let Some((first, _rest)) = sides.split_first() else {
+        return out.extend_from_slice(b"\n");
     };
     let text = first.tell(of);
     if all_tell(of, text, sides) {
         out.extend_from_slice(b": ")?;
         out.extend_from_slice(text)?;
-        out.push(b'\n')
+        out.extend_from_slice(b"\n")
     } else {
         out.push(b'\n')?;
         put_groups(out, of, b": ", sides)
@@ -172,7 +172,7 @@ pub fn put_differing(
 ) -> Result<(), NoMemory>
     ensures { OnOk result (out.new.items ≡ out.old.items ++ differing_text of mark.now sides.now) }
 {
-    let Some(first) = sides.first() else {
+    let Some((first, _rest)) = sides.split_first() else {
         return Ok(());
     };
     if all_tell(of, first.tell(of), sides) {
@@ -196,17 +196,17 @@ fn put_spaces(out: &mut Vec<u8>, used: usize) -> Result<(), NoMemory>
 pub fn put_columns(
     out: &mut Vec<u8>,
     of: Topic,
-    used: usize,
+    lead: usize,
     sides: &[Side],
 ) -> Result<(), NoMemory>
-    ensures { OnOk result (out.new.items ≡ out.old.items ++ columns_behind of used sides.now) }
+    ensures { OnOk result (out.new.items ≡ out.old.items ++ columns_behind of lead sides.now) }
 {
-    let mut used = used;
+    let mut used = lead;
     for side in sides {
         let text = side.tell(of);
         put_spaces(out, used)?;
         out.extend_from_slice(text)?;
         used = text.len();
     }
-    out.push(b'\n')
+    out.extend_from_slice(b"\n")
 }

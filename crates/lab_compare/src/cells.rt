@@ -1,6 +1,6 @@
 //! What each line of a script came to in a play.
 
-ghost use Rattle.std.specs.Prelude.{◌≡◌, ◌++◌, ◌≤◌, codes, false, length, IfOk, OnOk};
+ghost use Rattle.std.specs.Prelude.{◌≡◌, ◌++◌, ◌≤◌, [], cond, codes, false, length, IfOk, OnOk};
 ghost use Rattle.std.specs.Option.{option_copied};
 ghost use Rattle.lab_compare.specs.Cells.{answer_text, last_after, answers_text, answers, answer_place, rows_behind, cell_of, left_after, left_behind, cells_from, cells_of};
 
@@ -18,6 +18,17 @@ pub struct Cell {
     pub rows: Sequence<u8>,
 }
 
+/// Appends what ended a transaction last, where a command waited.
+fn put_lead(out: &mut Vec<u8>, waited: bool, last: &[u8]) -> Result<(), NoMemory>
+    ensures { OnOk result (out.new.items ≡ out.old.items ++ cond waited last.now []) }
+{
+    if waited {
+        out.extend_from_slice(last)
+    } else {
+        Ok(())
+    }
+}
+
 /// Appends an event's own answer, behind what ended a transaction last where its command waited.
 fn put_answer(
     out: &mut Vec<u8>,
@@ -27,9 +38,7 @@ fn put_answer(
 ) -> Result<(), NoMemory>
     ensures { OnOk result (out.new.items ≡ out.old.items ++ answer_text waited last.now event.now) }
 {
-    if waited {
-        out.extend_from_slice(last)?;
-    }
+    put_lead(out, waited, last)?;
     out.extend_from_slice(event.said.as_slice())
 }
 
@@ -50,13 +59,15 @@ fn put_answers(out: &mut Vec<u8>, session: Session, told: &[ToldEvent]) -> Resul
     let mut waited = false;
     let mut last: &[u8] = b"; ";
     for event in told {
-        if event.session == session {
-            put_answer(out, waited, last, event)?;
-            if event.is_answer {
-                return Ok(());
-            }
-            waited = true;
+        if event.session != session {
+            last = last_after(event, last);
+            continue;
         }
+        put_answer(out, waited, last, event)?;
+        if event.is_answer {
+            return Ok(());
+        }
+        waited = true;
         last = last_after(event, last);
     }
     Ok(())
@@ -115,8 +126,8 @@ fn left_of<'t>(
 ) -> &'t [ToldEvent]
     ensures { result.now ≡ left_behind told.now places.now session }
 {
-    let place = places.get(session).min(told.len());
-    told.split_at(place).1
+    let (_read, left) = told.split_at(places.get(session).min(told.len()));
+    left
 }
 
 /// Notes that a session's next command is answered at this place of those that it has left.
@@ -133,12 +144,12 @@ fn note(told: &[ToldEvent], places: &mut PerSession<usize>, session: Session, pl
 fn cells_from(
     alloc: Global,
     told: &[ToldEvent],
-    places: PerSession<usize>,
+    begun: PerSession<usize>,
     lines: &[Line],
 ) -> Result<Vec<Cell>, NoMemory>
-    ensures { IfOk result (λ cells. cells.items ≡ cells_from (left_behind told.now places) lines.now) }
+    ensures { IfOk result (λ cells. cells.items ≡ cells_from (left_behind told.now begun) lines.now) }
 {
-    let mut places = places;
+    let mut places = begun;
     let mut cells = Vec::with_capacity(alloc, lines.len())?;
     for line in lines {
         let left = left_of(told, &places, line.session);

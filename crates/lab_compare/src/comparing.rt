@@ -1,6 +1,6 @@
 //! The subcommand `compare`: a script on the engines side by side.
 
-ghost use Rattle.std.specs.Prelude.{◌≡◌, ◌⊎◌, ⊤, List, ℕ, IfOk, IfErr, IfSome, OnErr};
+ghost use Rattle.std.specs.Prelude.{◌≡◌, ◌≢◌, ◌⊎◌, ⊤, List, ℕ, IfOk, IfErr, IfSome, OnErr};
 ghost use Rattle.std.specs.Io.KnownBytes.{Appends, Keeps};
 ghost use Rattle.lab_streams.specs.Input.{ReadsFirst};
 ghost use Rattle.lab_compare.specs.Answer.{AreSides, IsFirstRefusal, IsCompareAnswer, all_sides};
@@ -24,7 +24,7 @@ use std::io::{Read, Write};
 /// The comparison of what a script comes to on these engines, or the first fault that one of them refuses it for.
 fn compared(alloc: Global, engines: Engines, script: &Script) -> Result<Vec<u8>, PlayFault>
     ensures text { IfOk result (λ text. (sides : SidesOf) × AreSides engines script.now sides × (text.items ≡ comparison_text script.now (all_sides sides))) }
-    ensures fault { IfErr result (IsFirstRefusal engines script.now) }
+    ensures fault { IfErr result (λ fault. fault ≢ PlayFault.NoMemory → IsFirstRefusal engines script.now fault) }
 {
     let sides = sides_of(alloc, engines, script)?;
     let sides = all_sides(alloc, sides)?;

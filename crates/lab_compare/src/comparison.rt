@@ -2,7 +2,7 @@
 //! may stand there.
 
 ghost use Rattle.std.specs.Prelude.{◌≡◌, ◌++◌, IfOk, OnOk};
-ghost use Rattle.lab_compare.specs.Comparison.{line_text, lines_text, counted, has_line, session_count, heading, start_text, ends_text, levels_text, front_text, back_text, comparison_text};
+ghost use Rattle.lab_compare.specs.Comparison.{line_text, lines_text, counted, has_line, session_count, opening, start_words, heading, start_text, ends_text, levels_text, front_text, back_text, comparison_text};
 
 use crate::alike::{put_alike, put_columns, put_differing, put_explanations};
 use crate::side::{Side, Topic};
@@ -38,7 +38,11 @@ fn put_counted(out: &mut Vec<u8>, count: usize, name: &[u8]) -> Result<(), NoMem
 {
     out.extend_from_slice(Buffer::new().format(count).as_bytes())?;
     out.extend_from_slice(name)?;
-    if count == 1 { Ok(()) } else { out.push(b's') }
+    if count == 1 {
+        Ok(())
+    } else {
+        out.extend_from_slice(b"s")
+    }
 }
 
 /// Whether a session has a line.
@@ -59,24 +63,40 @@ fn session_count(lines: &[Line]) -> usize
         .count()
 }
 
+/// What the text begins with.
+#[tactic(auto, unfolding(crate::specs::Comparison::opening))]
+fn opening() -> &'static [u8]
+    ensures { result.now ≡ opening }
+{
+    b"compare: script of "
+}
+
+/// What the line of the rows to begin with does.
+#[tactic(auto, unfolding(crate::specs::Comparison::start_words))]
+fn start_words() -> &'static [u8]
+    ensures { result.now ≡ start_words }
+{
+    b"start: rows "
+}
+
 /// Appends the first line: of how many lines and sessions the script is.
 fn put_heading(out: &mut Vec<u8>, lines: &[Line]) -> Result<(), NoMemory>
     ensures { OnOk result (out.new.items ≡ out.old.items ++ heading lines.now) }
 {
-    out.extend_from_slice(b"compare: script of ")?;
+    out.extend_from_slice(opening())?;
     put_counted(out, lines.len(), b" line")?;
     out.extend_from_slice(b", ")?;
     put_counted(out, session_count(lines), b" session")?;
-    out.push(b'\n')
+    out.extend_from_slice(b"\n")
 }
 
 /// Appends the rows to begin with.
 fn put_start(out: &mut Vec<u8>, script: &Script) -> Result<(), NoMemory>
     ensures { OnOk result (out.new.items ≡ out.old.items ++ start_text script.now) }
 {
-    out.extend_from_slice(b"start: rows ")?;
+    out.extend_from_slice(start_words())?;
     put_table(out, &script.setup)?;
-    out.push(b'\n')
+    out.extend_from_slice(b"\n")
 }
 
 /// Appends what stands before the lines.

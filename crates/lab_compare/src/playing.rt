@@ -1,6 +1,6 @@
 //! Plays of a script on the engines that are asked for.
 
-ghost use Rattle.std.specs.Prelude.{◌≡◌, ◌++◌, true, IfOk, IfErr, OnOk};
+ghost use Rattle.std.specs.Prelude.{◌≡◌, ◌≢◌, ◌++◌, true, IfOk, IfErr, OnOk};
 ghost use Rattle.lab_commands.specs.Playing.{IsScriptedRefusal};
 ghost use Rattle.lab_compare.specs.Answer.{IsSide, IsAskedSide, AreSides, IsFirstRefusal, one_side, all_sides};
 
@@ -43,7 +43,7 @@ fn side_if(
 /// What there is to say of the plays of a script on these engines, or the first fault that one of them refuses it for.
 pub fn sides_of(alloc: Global, engines: Engines, script: &Script) -> Result<Sides, PlayFault>
     ensures sides { IfOk result (AreSides engines script.now) }
-    ensures fault { IfErr result (IsFirstRefusal engines script.now) }
+    ensures fault { IfErr result (λ fault. fault ≢ PlayFault.NoMemory → IsFirstRefusal engines script.now fault) }
 {
     Ok(Sides {
         locking: side_if(alloc, engines.locking, Level::Locking, script)?,

@@ -79,15 +79,22 @@ fn end(alloc: Global, event: &LogEvent) -> Result<Option<Sequence<u8>>, NoMemory
     Ok(Some(behind(alloc, event)?))
 }
 
+/// Appends the committed rows behind a commit.
+fn put_rows(out: &mut Vec<u8>, command: &Command, rows: &Table) -> Result<(), NoMemory>
+    ensures { OnOk result (out.new.items ≡ out.old.items ++ rows_text command.now rows.now) }
+{
+    match command {
+        Command::Commit => put_table(out, rows),
+        Command::Begin | Command::Abort | Command::Run(_) => Ok(()),
+    }
+}
+
 /// The committed rows behind a commit. NoMemory where an allocation was refused.
 fn rows_text(alloc: Global, command: &Command, rows: &Table) -> Result<Sequence<u8>, NoMemory>
     ensures { IfOk result (λ text. text ≡ rows_text command.now rows.now) }
 {
     let mut text = Vec::new(alloc);
-    match command {
-        Command::Commit => put_table(&mut text, rows)?,
-        Command::Begin | Command::Abort | Command::Run(_) => {}
-    }
+    put_rows(&mut text, command, rows)?;
     Ok(Sequence::new(text))
 }
 
@@ -108,12 +115,12 @@ fn told_of(alloc: Global, event: &LogEvent, rows: &Table) -> Result<ToldEvent, N
 fn told_each(
     alloc: Global,
     history: &History,
-    standing: Standing,
+    first: Standing,
     log: &[LogEvent],
 ) -> Result<Vec<ToldEvent>, NoMemory>
-    ensures { IfOk result (λ told. told.items ≡ told_each history.now standing log.now) }
+    ensures { IfOk result (λ told. told.items ≡ told_each history.now first log.now) }
 {
-    let mut standing = standing;
+    let mut standing = first;
     let mut told = Vec::with_capacity(alloc, log.len())?;
     for event in log {
         standing.take_in(alloc, history, event)?;
