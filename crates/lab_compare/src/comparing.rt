@@ -27,8 +27,8 @@ fn compared(alloc: Global, engines: Engines, script: &Script) -> Result<Vec<u8>,
     ensures fault { IfErr result (λ fault. fault ≢ PlayFault.NoMemory → IsFirstRefusal engines script.now fault) }
 {
     let sides = sides_of(alloc, engines, script)?;
-    let sides = all_sides(alloc, sides)?;
-    Ok(print_comparison(alloc, script, &sides)?)
+    let all = all_sides(alloc, sides)?;
+    Ok(print_comparison(alloc, script, &all)?)
 }
 
 /// What tells a comparison on some engines.
@@ -55,7 +55,8 @@ impl Subcommand for TellsComparison {
                 });
             }
         };
-        match compared(alloc, self.engines, &script) {
+        let compared = compared(alloc, self.engines, &script);
+        match compared {
             Ok(text) => Ok(Answer {
                 text,
                 ending: Ending::Done,
