@@ -18,9 +18,9 @@ use Rattle.lab_compare.specs.declared.side.Sides.{Sides}
 
 -- a side that is asked for has its play
 pub asked_play : (asked : Bool) (at : Level) (script : Script) (side : Option Side) → IsAskedSide asked at script side → asked ≡ true → HasPlay at script
-asked_play false at script side is yes = absurd (false≢true yes)
-asked_play true at script None is yes = absurd is
-asked_play true at script (Some side) is yes = record { recording = is.recording; played = is.played }
+asked_play false at script side is so = absurd (false≢true so)
+asked_play true at script None is so = absurd is
+asked_play true at script (Some side) is so = record { recording = is.recording; played = is.played }
 
 -- a play that has a recording isn't refused
 pub not_refused : (at : Level) (script : Script) (fault : PlayFault) → fault ≢ NoMemory → IsScriptedRefusal at script fault → HasPlay at script → ⊥
@@ -32,18 +32,18 @@ abbrev pub PlayedBefore : Engines → Script → ℕ → Type 0
 PlayedBefore engines script place = (other : Level) → level_place other < place → is_among engines other ≡ true → HasPlay other script
 
 pub none_before : (engines : Engines) (script : Script) → PlayedBefore engines script 0
-none_before engines script other before yes = absurd (omega (arith, before))
+none_before engines script other before so = absurd (omega (arith, before))
 
 module _ (engines : Engines) (script : Script) (locking : Option Side) (first : IsAskedSide engines.locking level.Locking script locking) where
   pub one_before : PlayedBefore engines script 1
-  one_before level.Locking before yes = asked_play engines.locking level.Locking script locking first yes
-  one_before level.Committed before yes = absurd (omega (arith, before))
-  one_before level.Snapshot before yes = absurd (omega (arith, before))
+  one_before level.Locking before so = asked_play engines.locking level.Locking script locking first so
+  one_before level.Committed before so = absurd (omega (arith, before))
+  one_before level.Snapshot before so = absurd (omega (arith, before))
 
   pub two_before : (committed : Option Side) → IsAskedSide engines.committed level.Committed script committed → PlayedBefore engines script 2
-  two_before committed second level.Locking before yes = asked_play engines.locking level.Locking script locking first yes
-  two_before committed second level.Committed before yes = asked_play engines.committed level.Committed script committed second yes
-  two_before committed second level.Snapshot before yes = absurd (omega (arith, before))
+  two_before committed second level.Locking before so = asked_play engines.locking level.Locking script locking first so
+  two_before committed second level.Committed before so = asked_play engines.committed level.Committed script committed second so
+  two_before committed second level.Snapshot before so = absurd (omega (arith, before))
 
 -- a refusal at a level is the first, where the plays before it have recordings
 pub first_refusal : (engines : Engines) (script : Script) (at : Level) (fault : PlayFault) → PlayedBefore engines script (level_place at) → (is_among engines at ≡ true) × IsScriptedRefusal at script fault
