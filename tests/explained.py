@@ -19,10 +19,12 @@ SNAPSHOT = (
     "A snapshot run: each transaction sees what had committed before its start, and its own writes; no row is written "
     "by two that overlap."
 )
+# The names that phenomena have, whatever their cycles; those of the others are nicknames of the cycles.
 TITLES = {
     "G0": "dirty write", "G1a": "aborted read", "G1b": "intermediate read", "G1c": "circular information flow",
-    "G-single": "read skew", "G2-item": "write skew", "G2": "anti-dependency cycle",
+    "G-single": None, "G2-item": None, "G2": None,
 }
+CYCLES = "G0", "G1c", "G-single", "G2-item", "G2"  # the phenomena that are present by a cycle
 LEVELS = {
     "below PL-1": "Below level PL-1, which forbids G0.",
     "PL-1": "Level PL-1. PL-2 (read committed) forbids G1a, G1b and G1c.",
@@ -52,6 +54,27 @@ def capped(most, lines):
     if len(lines) <= most:
         return lines
     return [*lines[: most - 1], f"  .. and {len(lines) - (most - 1)} lines more"]
+
+
+def dependencies(walk):
+    """The dependencies of a cycle as the report prints it: who comes first, of which kind, the row, and who comes next."""
+    return re.findall(r"T(\d+) ([a-z-]+)\(([^)]*)\)(?= T(\d+))", walk)
+
+
+def most_particular(cycle):
+    """The most particular name that a cycle has."""
+    kinds = [kind for _, kind, _, _ in cycle]
+    antis = [kind for kind in kinds if kind.startswith("rw")]
+    if not antis:
+        return "G0" if set(kinds) == {"ww"} else "G1c"
+    if len(antis) == 1:
+        return "G-single"
+    return "G2-item" if "rw" in antis else "G2"
+
+
+def row_of(name):
+    """The row of a printed name: its table, and its number."""
+    return ("test", int(name)) if " " not in name else (name.split()[0], int(name.split()[1]))
 
 
 class Explained:
@@ -105,7 +128,7 @@ class Explained:
 
     def step(self, first, kind, name, second):
         """The sentence of a dependency."""
-        row = ("test", int(name)) if " " not in name else (name.split()[0], int(name.split()[1]))
+        row = row_of(name)
         if kind.startswith("rw"):
             place = self.place_of(row, second)
             fits = (lambda seen: seen == place - 1) if kind == "rw" else (lambda seen: seen < place)
@@ -127,8 +150,51 @@ class Explained:
         return wrapped(f"T{first} comes before T{second}: {did}{then}. [{kind}({name})]", "  ")
 
     def steps(self, walk):
-        found = re.findall(r"T(\d+) ([a-z-]+)\(([^)]*)\)(?= T(\d+))", walk)
+        found = dependencies(walk)
         return [line for first, kind, row, second in found for line in self.step(int(first), kind, row, int(second))]
+
+    def rows_written(self, no):
+        """The rows that a transaction wrote."""
+        return {tuple(it[:2]) for operation in self.operations[no] for it in operation["writes"]}
+
+    def nicknames(self, walk):
+        """The nicknames of a cycle, by its form."""
+        cycle = dependencies(walk)
+        kinds = sorted(kind for _, kind, _, _ in cycle)
+        rows = {row_of(name) for _, _, name, _ in cycle}
+        wrote = {int(first): self.rows_written(int(first)) for first, _, _, _ in cycle}
+        readers = [int(first) for first, kind, _, _ in cycle if kind.startswith("rw")]
+        name = most_particular(cycle)
+        forms = {
+            "lost update": kinds == ["rw", "ww"] and len(rows) == 1,
+            "read skew": name == "G-single" and not wrote[readers[0]] & rows,
+            "write skew": kinds == ["rw", "rw"] and len(rows) == 2,
+            "read-only anomaly": name == "G2-item" and any(not written for written in wrote.values()),
+            "phantom": "rw-p" in kinds,
+        }
+        return [nickname for nickname, has in forms.items() if has]
+
+    def name(self, phenomenon, walk):
+        """A phenomenon with its textbook name, or with the nicknames of the cycle by which it is present, if it is."""
+        words = TITLES[phenomenon] or (", ".join(self.nicknames(walk)) if walk else "")
+        return f"{phenomenon} ({words})" if words else phenomenon
+
+    def alone(self, phenomenon, found):
+        """The lines of a phenomenon that is explained by itself."""
+        if found == "absent":
+            return wrapped(f"{self.name(phenomenon, None)}: absent.")
+        walk = found.removeprefix("present ")
+        return wrapped(f"{self.name(phenomenon, walk)}: present: {ROUND}") + self.steps(walk)
+
+    def beside(self, phenomenon, found, of_serial):
+        """The lines of a phenomenon beside a serial verdict with this cycle."""
+        if found == "absent":
+            return self.alone(phenomenon, found)
+        walk = found.removeprefix("present ")
+        said = "present, by the same cycle."
+        if walk != of_serial:
+            said = f"present, by another cycle: {walk}. (--phenomenon {phenomenon} explains it.)"
+        return wrapped(f"{self.name(phenomenon, walk)}: {said}")
 
 
 def state(value):
@@ -152,26 +218,30 @@ def told_places(verdict):
     return text + (f" The report has the places of {more} more." if more > 0 else "")
 
 
+def told_beside(found, walk):
+    """The phenomenon whose cycle is told beside a serial verdict with this walk: the first that is present by a cycle, if
+    that is another one; None where there is none."""
+    present = [name for name in CYCLES if found[name] not in ("absent", "not judged")]
+    return present[0] if present and found[present[0]] != f"present {walk}" else None
+
+
 def explanation(history, report, phenomenon=None):
     """What `explain` writes of a sound history with this report, or of one of its phenomena."""
-    told = Explained(history)
+    explained = Explained(history)
     serial, snapshot, *found, level = (line.split(": ", 1)[1] for line in report.decode().splitlines())
     found = dict(zip(TITLES, found))
     if phenomenon:
-        walk = found[phenomenon].removeprefix("present ")
-        lead = f"{phenomenon} ({TITLES[phenomenon]}): "
-        lines = wrapped(f"{lead}absent.") if walk == "absent" else wrapped(f"{lead}present: {ROUND}") + told.steps(walk)
-        return "\n".join([*capped(90, lines), LAST, ""]).encode()
-    answer, walk = serial.split(" ", 1)
-    lines = wrapped(f"{ORDER} {walk}.") if answer == "yes" else wrapped(f"Not serializable: {ROUND}") + told.steps(walk)
-    lines = capped(60, lines) + capped(14, wrapped(told_places(snapshot)))
-    for name, title in TITLES.items():
-        if found[name] == "absent":
-            said = "absent."
-        elif found[name] == f"present {walk}":
-            said = "present, by the same cycle."
+        return "\n".join([*capped(90, explained.alone(phenomenon, found[phenomenon])), LAST, ""]).encode()
+    answer, _, walk = serial.partition(" ")
+    told = told_beside(found, walk)
+    if answer == "yes":
+        lines = wrapped(f"{ORDER} {walk or 'none'}.")
+    else:
+        lines = wrapped(f"Not serializable: {ROUND}") + explained.steps(walk)
+    lines = capped(40 if told else 60, lines) + capped(14, wrapped(told_places(snapshot)))
+    for name, said in found.items():
+        if name == told:
+            lines += capped(23, explained.alone(name, said))
         else:
-            said = f"present, by another cycle: {found[name].removeprefix('present ')}."
-            said += f" (--phenomenon {name} explains it.)"
-        lines += capped(3, wrapped(f"{name} ({title}): {said}"))
+            lines += capped(3, explained.beside(name, said, walk))
     return "\n".join([*lines, LEVELS[level], LAST, ""]).encode()

@@ -1,5 +1,5 @@
 -- An explanation has few lines.
-use Rattle.std.proofs.Common.{ℕ, ◌+◌, ◌≤◌, Option, Some, None, List, ◌++◌, arith}
+use Rattle.std.proofs.Common.{ℕ, ◌+◌, ◌≤◌, Bool, true, false, cond, Option, Some, None, List, ◌++◌, arith}
 use Rattle.lab_history.specs.History.{History}
 use Rattle.lab_judge.specs.declared.report.Grade.{Grade}
 use Rattle.lab_judge.specs.declared.report.Grade.TheVariants as grade
@@ -7,12 +7,13 @@ use Rattle.lab_judge.specs.declared.report.Report.{Report}
 use Rattle.lab_reports.specs.Phenomena.{finding_of}
 use Rattle.lab_reports.specs.declared.phenomenon.Phenomenon.{Phenomenon}
 use Rattle.lab_reports.specs.declared.phenomenon.Phenomenon.TheVariants.{G0, G1a, G1b, G1c, GSingle, G2Item, G2}
-use Rattle.lab_explain.specs.Lines.{lines, paragraph, capped}
-use Rattle.lab_explain.specs.Explanation.{serial_lines, findings_lines, whole_text, one_text, explanation_of}
-use Rattle.lab_explain.specs.Findings.{finding_lines, found_beside, serial_walk, found_alone}
-use Rattle.lab_explain.specs.Names.{level_line, title_of}
+use Rattle.lab_explain.specs.Lines.{lines, capped}
+use Rattle.lab_explain.specs.Explanation.{serial_lines, findings_lines, verdict_lines, whole_text, one_text, explanation_of}
+use Rattle.lab_explain.specs.Findings.{finding_lines, found_alone, beside}
+use Rattle.lab_explain.specs.Names.{level_line}
 use Rattle.lab_explain.specs.Phrases.{last_line}
 use Rattle.lab_explain.specs.Places.{places_lines}
+use Rattle.lab_explain.specs.Told.{serial_walk, told_of, is_told}
 use Rattle.lab_explain.proofs.Capped.{lines_append, few_lines}
 
 -- two texts behind each other have no more lines than both
@@ -31,40 +32,78 @@ level_short grade.Pl299 = omega arith
 level_short grade.Pl3 = omega arith
 level_short grade.Unsound = omega arith
 
-module _ (h : History) (report : Report) where
-  finding_short : (p : Phenomenon) → lines (finding_lines h report p) ≤ 3
-  finding_short p = few_lines 3 (paragraph (title_of p ++ found_beside h p (serial_walk report.serial) (finding_of p report))) (omega arith)
+-- how many lines a phenomenon's part may have
+most_of : Option Phenomenon → Phenomenon → ℕ
+most_of told p = cond (is_told told p) 23 3
 
-  -- the lines of a phenomenon
+-- and all of them together: one part at most is the one that is told
+most : Option Phenomenon → ℕ
+most told = most_of told G0 + (most_of told G1a + (most_of told G1b + (most_of told G1c + (most_of told GSingle + (most_of told G2Item + most_of told G2)))))
+
+-- a serial verdict, and what is found of each phenomenon
+few_most : (told : Option Phenomenon) → verdict_lines told + most told ≤ 81
+few_most None = omega arith
+few_most (Some G0) = omega arith
+few_most (Some G1a) = omega arith
+few_most (Some G1b) = omega arith
+few_most (Some G1c) = omega arith
+few_most (Some GSingle) = omega arith
+few_most (Some G2Item) = omega arith
+few_most (Some G2) = omega arith
+
+some_verdict : (told : Option Phenomenon) → 1 ≤ verdict_lines told
+some_verdict None = omega arith
+some_verdict (Some p) = omega arith
+
+module _ (h : History) (report : Report) (told : Option Phenomenon) where
+  finding_short : (p : Phenomenon) → lines (finding_lines h report told p) ≤ most_of told p
+  finding_short p = at (is_told told p)
+    where
+      at : (b : Bool) → lines (cond b (capped 23 (found_alone h p (finding_of p report))) (capped 3 (beside h p (serial_walk report.serial) (finding_of p report)))) ≤ cond b 23 3
+      at true = few_lines 23 (found_alone h p (finding_of p report)) (omega arith)
+      at false = few_lines 3 (beside h p (serial_walk report.serial) (finding_of p report)) (omega arith)
+
+  -- the lines of a phenomenon, and how many they may be
   abbrev of : Phenomenon → List ℕ
-  of p = finding_lines h report p
+  of p = finding_lines h report told p
 
-  findings_short : lines (findings_lines h report) ≤ 21
+  abbrev up : Phenomenon → ℕ
+  up p = most_of told p
+
+  findings_short : lines (findings_lines h report told) ≤ most told
   unfolding findings_lines
   findings_short =
-      both 18 3 (of G0 ++ of G1a ++ of G1b ++ of G1c ++ of GSingle ++ of G2Item) (of G2)
-      (both 15 3 (of G0 ++ of G1a ++ of G1b ++ of G1c ++ of GSingle) (of G2Item)
-      (both 12 3 (of G0 ++ of G1a ++ of G1b ++ of G1c) (of GSingle)
-      (both 9 3 (of G0 ++ of G1a ++ of G1b) (of G1c)
-      (both 6 3 (of G0 ++ of G1a) (of G1b) (both 3 3 (of G0) (of G1a) (finding_short G0) (finding_short G1a)) (finding_short G1b)) (finding_short G1c)) (finding_short GSingle)) (finding_short G2Item)) (finding_short G2)
+      both (up G0) (up G1a + (up G1b + (up G1c + (up GSingle + (up G2Item + up G2))))) (of G0) (of G1a ++ of G1b ++ of G1c ++ of GSingle ++ of G2Item ++ of G2) (finding_short G0)
+      (both (up G1a) (up G1b + (up G1c + (up GSingle + (up G2Item + up G2)))) (of G1a) (of G1b ++ of G1c ++ of GSingle ++ of G2Item ++ of G2) (finding_short G1a)
+      (both (up G1b) (up G1c + (up GSingle + (up G2Item + up G2))) (of G1b) (of G1c ++ of GSingle ++ of G2Item ++ of G2) (finding_short G1b)
+      (both (up G1c) (up GSingle + (up G2Item + up G2)) (of G1c) (of GSingle ++ of G2Item ++ of G2) (finding_short G1c)
+      (both (up GSingle) (up G2Item + up G2) (of GSingle) (of G2Item ++ of G2) (finding_short GSingle)
+      (both (up G2Item) (up G2) (of G2Item) (of G2) (finding_short G2Item) (finding_short G2))))))
 
+module _ (h : History) (report : Report) where
   -- the parts of a whole text
+  abbrev told : Option Phenomenon
+  told = told_of report
+
   abbrev first : List ℕ
-  first = capped 60 (serial_lines h report.serial)
+  first = capped (verdict_lines told) (serial_lines h report.serial)
 
   abbrev second : List ℕ
   second = capped 14 (places_lines report.snapshot)
 
   abbrev third : List ℕ
-  third = findings_lines h report
+  third = findings_lines h report told
+
+  parts_short : lines (first ++ second ++ third ++ level_line report.level ++ last_line) ≤ verdict_lines told + (14 + (most told + (1 + 1)))
+  parts_short =
+      both (verdict_lines told) (14 + (most told + (1 + 1))) first (second ++ third ++ level_line report.level ++ last_line) (few_lines (verdict_lines told) (serial_lines h report.serial) (some_verdict told))
+      (both 14 (most told + (1 + 1)) second (third ++ level_line report.level ++ last_line) (few_lines 14 (places_lines report.snapshot) (omega arith))
+      (both (most told) (1 + 1) third (level_line report.level ++ last_line) (findings_short h report told)
+      (both 1 1 (level_line report.level) last_line (level_short report.level) last_short)))
 
   whole_short : lines (whole_text h report) ≤ 97
   unfolding whole_text
-  whole_short =
-      both 96 1 (first ++ second ++ third ++ level_line report.level) last_line
-      (both 95 1 (first ++ second ++ third) (level_line report.level)
-      (both 74 21 (first ++ second) third
-      (both 60 14 first second (few_lines 60 (serial_lines h report.serial) (omega arith)) (few_lines 14 (places_lines report.snapshot) (omega arith))) findings_short) (level_short report.level)) last_short
+  whole_short = omega (arith, parts_short, few_most told)
 
   one_short : (p : Phenomenon) → lines (one_text h report p) ≤ 91
   unfolding one_text

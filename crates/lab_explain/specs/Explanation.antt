@@ -14,6 +14,7 @@ use Rattle.lab_explain.specs.Names.{level_line}
 use Rattle.lab_explain.specs.Phrases.{no_order, unsound_text, order_head, last_line}
 use Rattle.lab_explain.specs.Places.{places_lines}
 use Rattle.lab_explain.specs.Steps.{walk_steps}
+use Rattle.lab_explain.specs.Told.{told_of}
 
 -- the sentence of an order
 unfoldable pub order_sentence : List ℕ → List ℕ
@@ -25,15 +26,22 @@ serial_lines h (serial.Yes order) = paragraph (order_sentence order)
 serial_lines h (serial.NoFault f) = paragraph unsound_text ++ fault_steps h f
 serial_lines h (serial.NoCycle walk) = paragraph no_order ++ walk_steps h walk
 
--- the lines of what is found of each phenomenon
-unfoldable pub findings_lines : History → Report → List ℕ
-findings_lines h report =
-    finding_lines h report G0 ++ finding_lines h report G1a ++ finding_lines h report G1b ++ finding_lines h report G1c
-    ++ finding_lines h report GSingle ++ finding_lines h report G2Item ++ finding_lines h report G2
+-- the lines of what is found of each phenomenon, of which the cycle of this one is told
+unfoldable pub findings_lines : History → Report → Option Phenomenon → List ℕ
+findings_lines h report told =
+    finding_lines h report told G0 ++ finding_lines h report told G1a ++ finding_lines h report told G1b ++ finding_lines h report told G1c
+    ++ finding_lines h report told GSingle ++ finding_lines h report told G2Item ++ finding_lines h report told G2
+
+-- how many lines a serial verdict may have: fewer where a phenomenon's cycle is told beside it
+abbrev pub verdict_lines : Option Phenomenon → ℕ
+verdict_lines None = 60
+verdict_lines (Some p) = 40
 
 -- the whole explanation of a report: its serial verdict, its snapshot verdict, its phenomena and its level
 unfoldable pub whole_text : History → Report → List ℕ
-whole_text h report = capped 60 (serial_lines h report.serial) ++ capped 14 (places_lines report.snapshot) ++ findings_lines h report ++ level_line report.level ++ last_line
+whole_text h report =
+    capped (verdict_lines (told_of report)) (serial_lines h report.serial) ++ capped 14 (places_lines report.snapshot)
+    ++ findings_lines h report (told_of report) ++ level_line report.level ++ last_line
 
 -- the explanation of what is found of a phenomenon
 unfoldable pub one_text : History → Report → Phenomenon → List ℕ

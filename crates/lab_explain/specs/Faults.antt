@@ -19,6 +19,8 @@ use Rattle.lab_deps.specs.declared.kind.RowFault.TheVariants.{InstallOrder, EndD
 use Rattle.lab_judge.specs.ReportText.{fault_text, txn_text}
 use Rattle.lab_picture.specs.Installs.{misplaced_of, misplaced_text}
 use Rattle.lab_picture.specs.declared.installs.Misplaced.{Misplaced}
+use Rattle.lab_picture.specs.declared.installs.Why.{Why}
+use Rattle.lab_picture.specs.declared.installs.Why.TheVariants.{Missing, Unwritten, Repeated}
 use Rattle.lab_explain.specs.Lines.{step}
 use Rattle.lab_explain.specs.Phrases.{listed_words, wrote_words, lists_words, writes_words, last_words, installers_words, as_last_words, often_words}
 use Rattle.lab_explain.specs.Clauses.{op_text, row_name, state_text, version_text, saw_text, saw_with}
@@ -108,10 +110,16 @@ abbrev pub writes_due : History → Option Op → Row → List ℕ
 writes_due h None row = []
 writes_due h (Some op) row = due_writes op.statement row (viewed_state h op row)
 
+-- the article of who is out of place
+abbrev pub article : Why → List ℕ
+article Missing = codes "a "
+article Unwritten = codes "an "
+article Repeated = codes "an "
+
 -- who is out of place among a row's installers
 abbrev pub misplaced_note : Option Misplaced → List ℕ
 misplaced_note None = []
-misplaced_note (Some found) = codes "; a " ++ misplaced_text found
+misplaced_note (Some found) = codes "; " ++ article found.why ++ misplaced_text found
 
 -- the installers of a row
 unfoldable pub installers_text : History → Row → List ℕ

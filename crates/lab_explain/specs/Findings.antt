@@ -1,5 +1,5 @@
 -- The sentences of what is found of a phenomenon.
-use Rattle.std.specs.Prelude.{ℕ, cond, List, [], ◌++◌, codes}
+use Rattle.std.specs.Prelude.{ℕ, cond, Option, List, ◌++◌, codes}
 use Rattle.std.specs.Str.{bytes_eq}
 use Rattle.lab_table.specs.Row.{Row}
 use Rattle.lab_history.specs.History.{History}
@@ -7,21 +7,20 @@ use Rattle.lab_judge.specs.ReportText.{walk_text}
 use Rattle.lab_judge.specs.declared.report.Finding.{Finding}
 use Rattle.lab_judge.specs.declared.report.Finding.TheVariants.{Absent, Walk, At, NotJudged}
 use Rattle.lab_judge.specs.declared.report.Report.{Report}
-use Rattle.lab_judge.specs.declared.serial.Serial.{Serial}
-use Rattle.lab_judge.specs.declared.serial.Serial.TheVariants as serial
 use Rattle.lab_reports.specs.Phenomena.{phenomenon_name, finding_of}
 use Rattle.lab_reports.specs.declared.phenomenon.Phenomenon.{Phenomenon}
+use Rattle.lab_picture.specs.Cycles.{cycle_of}
+use Rattle.lab_picture.specs.Titles.{full_name}
 use Rattle.lab_explain.specs.Lines.{paragraph, capped}
 use Rattle.lab_explain.specs.Clauses.{saw_text}
-use Rattle.lab_explain.specs.Names.{title_of, flaw_of}
+use Rattle.lab_explain.specs.Names.{flaw_of}
 use Rattle.lab_explain.specs.Phrases.{round_text, not_judged, other_words, asked_words, explains_words}
 use Rattle.lab_explain.specs.Steps.{walk_steps}
+use Rattle.lab_explain.specs.Told.{serial_walk, is_told}
 
--- the walk of a serial verdict as the report prints it; nothing where it has none
-abbrev pub serial_walk : Serial → List ℕ
-serial_walk (serial.Yes order) = []
-serial_walk (serial.NoFault f) = []
-serial_walk (serial.NoCycle walk) = walk_text walk
+-- a phenomenon at the head of its part, by the cycle that is found of it
+abbrev pub head_of : History → Phenomenon → Finding → List ℕ
+head_of h p found = full_name h p (cycle_of found) ++ codes ": "
 
 -- a walk that isn't the serial verdict's, as the report prints it, and how to have it explained
 unfoldable pub other_walk : Phenomenon → List ℕ → List ℕ
@@ -42,13 +41,18 @@ found_beside h p of_serial (Walk walk) = walk_beside p of_serial (walk_text walk
 found_beside h p of_serial (At n k row) = seen_flaw h p n k row
 found_beside h p of_serial NotJudged = not_judged
 
--- the lines of a finding beside a serial verdict: three at most
-abbrev pub finding_lines : History → Report → Phenomenon → List ℕ
-finding_lines h report p = capped 3 (paragraph (title_of p ++ found_beside h p (serial_walk report.serial) (finding_of p report)))
-
 -- the lines of a finding that is explained by itself
 abbrev pub found_alone : History → Phenomenon → Finding → List ℕ
-found_alone h p Absent = paragraph (title_of p ++ codes "absent.")
-found_alone h p (Walk walk) = paragraph (title_of p ++ codes "present: " ++ round_text) ++ walk_steps h walk
-found_alone h p (At n k row) = paragraph (title_of p ++ seen_flaw h p n k row)
-found_alone h p NotJudged = paragraph (title_of p ++ not_judged)
+found_alone h p Absent = paragraph (head_of h p Absent ++ codes "absent.")
+found_alone h p (Walk walk) = paragraph (head_of h p (Walk walk) ++ codes "present: " ++ round_text) ++ walk_steps h walk
+found_alone h p (At n k row) = paragraph (head_of h p (At n k row) ++ seen_flaw h p n k row)
+found_alone h p NotJudged = paragraph (head_of h p NotJudged ++ not_judged)
+
+-- a finding beside a serial verdict whose walk is printed so
+abbrev pub beside : History → Phenomenon → List ℕ → Finding → List ℕ
+beside h p of_serial found = paragraph (head_of h p found ++ found_beside h p of_serial found)
+
+-- the lines of a finding beside a serial verdict: of the one whose cycle is told what it would have by itself, in 23 at most, of each other three at most
+abbrev pub finding_lines : History → Report → Option Phenomenon → Phenomenon → List ℕ
+finding_lines h report told p =
+    cond (is_told told p) (capped 23 (found_alone h p (finding_of p report))) (capped 3 (beside h p (serial_walk report.serial) (finding_of p report)))

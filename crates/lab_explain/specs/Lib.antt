@@ -5,6 +5,7 @@ pub mod Faults
 pub mod Places
 pub mod Names
 pub mod Phrases
+pub mod Told
 pub mod Findings
 pub mod Explanation
 pub mod Sentences

@@ -1,19 +1,9 @@
--- The names of phenomena and levels.
+-- What is said of phenomena of what is seen, and of levels.
 use Rattle.std.specs.Prelude.{ℕ, List, codes}
 use Rattle.lab_judge.specs.declared.report.Grade.{Grade}
 use Rattle.lab_judge.specs.declared.report.Grade.TheVariants as grade
 use Rattle.lab_reports.specs.declared.phenomenon.Phenomenon.{Phenomenon}
 use Rattle.lab_reports.specs.declared.phenomenon.Phenomenon.TheVariants.{G0, G1a, G1b, G1c, GSingle, G2Item, G2}
-
--- a phenomenon: the report's name and the textbook's
-abbrev pub title_of : Phenomenon → List ℕ
-title_of G0 = codes "G0 (dirty write): "
-title_of G1a = codes "G1a (aborted read): "
-title_of G1b = codes "G1b (intermediate read): "
-title_of G1c = codes "G1c (circular information flow): "
-title_of GSingle = codes "G-single (read skew): "
-title_of G2Item = codes "G2-item (write skew): "
-title_of G2 = codes "G2 (anti-dependency cycle): "
 
 -- what is wrong with the version that is seen, where a phenomenon is one of what is seen
 abbrev pub flaw_of : Phenomenon → List ℕ

@@ -4,7 +4,7 @@
 ghost use Rattle.std.specs.Prelude.{◌≡◌, ◌++◌, OnOk};
 ghost use Rattle.lab_deps.specs.declared.fault.FaultParts.TheVariants as parts;
 ghost use Rattle.lab_picture.specs.Installs.{misplaced_of};
-ghost use Rattle.lab_explain.specs.Faults.{misplaced_note, installers_text, end_text, last_text, named_text, recorded, due, mistake, recorded_text, due_text, most_often, fault_steps};
+ghost use Rattle.lab_explain.specs.Faults.{article, misplaced_note, installers_text, end_text, last_text, named_text, recorded, due, mistake, recorded_text, due_text, most_often, fault_steps};
 
 use crate::clauses::{put_op, put_row, put_saw, put_saw_with, put_state};
 use crate::fault_parts::{
@@ -15,9 +15,19 @@ use crate::phrases::{as_last_words, installers_words, often_words};
 use lab_deps::{FaultParts, LocalFault, OpFault, RowFault};
 use lab_history::History;
 use lab_judge::put_fault;
-use lab_picture::{installers_of, misplaced_of, put_misplaced, state_at};
+use lab_picture::{Why, installers_of, misplaced_of, put_misplaced, state_at};
 use lab_table::{NoMemory, RowName, TxnNo};
 use std::alloc::Global;
+
+/// The article of who is out of place.
+fn article(why: Why) -> &'static str
+    ensures { result.now ≡ article why }
+{
+    match why {
+        Why::Missing => "a ",
+        Why::Unwritten | Why::Repeated => "an ",
+    }
+}
 
 /// Appends who is out of place among a row's installers.
 fn put_misplaced_note(out: &mut Vec<u8>, history: &History, row: RowName) -> Result<(), NoMemory>
@@ -26,7 +36,8 @@ fn put_misplaced_note(out: &mut Vec<u8>, history: &History, row: RowName) -> Res
     match misplaced_of(history, row) {
         None => Ok(()),
         Some(found) => {
-            out.extend_from_slice(b"; a ")?;
+            out.extend_from_slice(b"; ")?;
+            out.extend_from_slice(article(found.why).as_bytes())?;
             put_misplaced(out, found)
         }
     }

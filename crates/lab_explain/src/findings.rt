@@ -1,41 +1,34 @@
 //! The sentences of what is found of a phenomenon. Each function that takes bytes appends to them; after NoMemory, part of
 //! what was to be appended may stand there.
 
-ghost use Rattle.std.specs.Prelude.{◌≡◌, ◌++◌, IfOk, OnOk};
-ghost use Rattle.std.specs.Str.{bytes_eq};
-ghost use Rattle.lab_judge.specs.ReportText.{walk_text};
-ghost use Rattle.lab_explain.specs.Findings.{serial_walk, other_walk, walk_beside, seen_flaw, found_beside, finding_lines, found_alone};
+ghost use Rattle.std.specs.Prelude.{◌≡◌, ◌++◌, OnOk};
+ghost use Rattle.lab_explain.specs.Findings.{head_of, other_walk, walk_beside, seen_flaw, found_beside, found_alone, beside, finding_lines};
+ghost use Rattle.lab_explain.specs.Told.{serial_walk};
 
 use crate::clauses::put_saw;
 use crate::lines::{put_capped, put_paragraph};
-use crate::names::{flaw_of, title_of};
+use crate::names::flaw_of;
 use crate::phrases::{asked_words, explains_words, not_judged, other_words, round_text};
 use crate::steps::put_walk_steps;
-use lab_deps::Edge;
+use crate::told::{is_same, is_told, walk_text};
 use lab_history::History;
-use lab_judge::{Finding, Report, Serial, put_walk};
+use lab_judge::{Finding, Report};
+use lab_picture::{cycle_of, put_full_name};
 use lab_reports::Phenomenon;
 use lab_table::{NoMemory, RowName, TxnNo};
 use std::alloc::Global;
 
-/// A walk as the report prints it. NoMemory where an allocation was refused.
-fn walk_text(alloc: Global, walk: &[Edge]) -> Result<Vec<u8>, NoMemory>
-    ensures { IfOk result (λ text. text.items ≡ walk_text walk.now) }
+/// Appends a phenomenon at the head of its part, by the cycle that is found of it.
+fn put_head(
+    out: &mut Vec<u8>,
+    history: &History,
+    phenomenon: Phenomenon,
+    finding: &Finding,
+) -> Result<(), NoMemory>
+    ensures { OnOk result (out.new.items ≡ out.old.items ++ head_of history.now phenomenon finding.now) }
 {
-    let mut text = Vec::new(alloc);
-    put_walk(&mut text, walk)?;
-    Ok(text)
-}
-
-/// The walk of a serial verdict as the report prints it; empty where it has none. NoMemory where an allocation was
-/// refused.
-pub fn serial_walk(alloc: Global, serial: &Serial) -> Result<Vec<u8>, NoMemory>
-    ensures { IfOk result (λ text. text.items ≡ serial_walk serial.now) }
-{
-    match serial {
-        Serial::Yes(_) | Serial::NoFault(_) => Ok(Vec::new(alloc)),
-        Serial::NoCycle(walk) => walk_text(alloc, walk.as_slice()),
-    }
+    put_full_name(out, history, phenomenon, cycle_of(finding))?;
+    out.extend_from_slice(b": ")
 }
 
 /// Appends a walk that isn't the serial verdict's, and how to have it explained.
@@ -48,12 +41,6 @@ fn put_other_walk(out: &mut Vec<u8>, phenomenon: Phenomenon, walk: &[u8]) -> Res
     out.extend_from_slice(asked_words())?;
     out.extend_from_slice(phenomenon.name().as_bytes())?;
     out.extend_from_slice(explains_words())
-}
-
-fn is_same(a: &[u8], b: &[u8]) -> bool
-    ensures { result ≡ bytes_eq a.now b.now }
-{
-    a == b
 }
 
 /// Appends what is said of a walk beside a serial verdict.
@@ -111,26 +98,6 @@ pub fn put_found_beside(
     }
 }
 
-/// Appends the lines of a finding beside a serial verdict, whose walk is printed so: three at most.
-pub fn put_finding_lines(
-    alloc: Global,
-    out: &mut Vec<u8>,
-    history: &History,
-    report: &Report,
-    of_serial: &[u8],
-    phenomenon: Phenomenon,
-) -> Result<(), NoMemory>
-    requires { of_serial.now ≡ serial_walk report.now.serial }
-    ensures { OnOk result (out.new.items ≡ out.old.items ++ finding_lines history.now report.now phenomenon) }
-{
-    let mut text = Vec::from_slice(alloc, title_of(phenomenon).as_bytes())?;
-    let finding = phenomenon.found_in(report);
-    put_found_beside(alloc, &mut text, history, phenomenon, of_serial, finding)?;
-    let mut lines = Vec::new(alloc);
-    put_paragraph(&mut lines, &text)?;
-    put_capped(out, 3, &lines)
-}
-
 /// Appends the lines of a finding that is explained by itself.
 pub fn put_found_alone(
     alloc: Global,
@@ -141,7 +108,8 @@ pub fn put_found_alone(
 ) -> Result<(), NoMemory>
     ensures { OnOk result (out.new.items ≡ out.old.items ++ found_alone history.now phenomenon finding.now) }
 {
-    let mut text = Vec::from_slice(alloc, title_of(phenomenon).as_bytes())?;
+    let mut text = Vec::new(alloc);
+    put_head(&mut text, history, phenomenon, finding)?;
     match finding {
         Finding::Absent => {
             text.extend_from_slice(b"absent.")?;
@@ -161,5 +129,47 @@ pub fn put_found_alone(
             put_seen_flaw(&mut text, history, phenomenon, *txn, *op, *row)?;
             put_paragraph(out, &text)
         }
+    }
+}
+
+/// Appends a finding beside a serial verdict whose walk is printed so.
+fn put_beside(
+    alloc: Global,
+    out: &mut Vec<u8>,
+    history: &History,
+    phenomenon: Phenomenon,
+    of_serial: &[u8],
+    finding: &Finding,
+) -> Result<(), NoMemory>
+    ensures { OnOk result (out.new.items ≡ out.old.items ++ beside history.now phenomenon of_serial.now finding.now) }
+{
+    let mut text = Vec::new(alloc);
+    put_head(&mut text, history, phenomenon, finding)?;
+    put_found_beside(alloc, &mut text, history, phenomenon, of_serial, finding)?;
+    put_paragraph(out, &text)
+}
+
+/// Appends the lines of a finding beside a serial verdict, whose walk is printed so: of the one whose cycle is told what it
+/// would have by itself, in 23 at most, of each other three at most.
+pub fn put_finding_lines(
+    alloc: Global,
+    out: &mut Vec<u8>,
+    history: &History,
+    report: &Report,
+    of_serial: &[u8],
+    told: Option<Phenomenon>,
+    phenomenon: Phenomenon,
+) -> Result<(), NoMemory>
+    requires { of_serial.now ≡ serial_walk report.now.serial }
+    ensures { OnOk result (out.new.items ≡ out.old.items ++ finding_lines history.now report.now told phenomenon) }
+{
+    let finding = phenomenon.found_in(report);
+    let mut lines = Vec::new(alloc);
+    if is_told(told, phenomenon) {
+        put_found_alone(alloc, &mut lines, history, phenomenon, finding)?;
+        put_capped(out, 23, &lines)
+    } else {
+        put_beside(alloc, &mut lines, history, phenomenon, of_serial, finding)?;
+        put_capped(out, 3, &lines)
     }
 }

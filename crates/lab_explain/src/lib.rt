@@ -23,6 +23,7 @@ mod places;
 mod sections;
 mod sentences;
 mod steps;
+mod told;
 
 pub use explaining::explain;
 pub use laws::{

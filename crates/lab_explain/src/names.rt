@@ -1,25 +1,10 @@
-//! The names of phenomena and levels.
+//! What is said of phenomena of what is seen, and of levels.
 
 ghost use Rattle.std.specs.Prelude.{◌≡◌};
-ghost use Rattle.lab_explain.specs.Names.{title_of, flaw_of, level_line};
+ghost use Rattle.lab_explain.specs.Names.{flaw_of, level_line};
 
 use lab_judge::Grade;
 use lab_reports::Phenomenon;
-
-/// A phenomenon, by the report's name and the textbook's.
-pub fn title_of(phenomenon: Phenomenon) -> &'static str
-    ensures { result.now ≡ title_of phenomenon }
-{
-    match phenomenon {
-        Phenomenon::G0 => "G0 (dirty write): ",
-        Phenomenon::G1a => "G1a (aborted read): ",
-        Phenomenon::G1b => "G1b (intermediate read): ",
-        Phenomenon::G1c => "G1c (circular information flow): ",
-        Phenomenon::GSingle => "G-single (read skew): ",
-        Phenomenon::G2Item => "G2-item (write skew): ",
-        Phenomenon::G2 => "G2 (anti-dependency cycle): ",
-    }
-}
 
 /// What is wrong with the version that is seen, where a phenomenon is one of what is seen.
 pub fn flaw_of(phenomenon: Phenomenon) -> &'static str

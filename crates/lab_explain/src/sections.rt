@@ -1,16 +1,18 @@
 //! The text of an explanation.
 
-ghost use Rattle.std.specs.Prelude.{◌≡◌, ◌++◌, IfOk, OnOk};
-ghost use Rattle.lab_explain.specs.Explanation.{order_sentence, serial_lines, findings_lines, whole_text, one_text, explanation_of};
+ghost use Rattle.std.specs.Prelude.{◌≡◌, ◌≤◌, ◌++◌, IfOk, OnOk};
+ghost use Rattle.lab_explain.specs.Explanation.{order_sentence, serial_lines, findings_lines, verdict_lines, whole_text, one_text, explanation_of};
+ghost use Rattle.lab_explain.specs.Told.{serial_walk};
 
 use crate::fault_parts::put_txns;
 use crate::faults::put_fault_steps;
-use crate::findings::{put_finding_lines, put_found_alone, serial_walk};
+use crate::findings::{put_finding_lines, put_found_alone};
 use crate::lines::{put_capped, put_paragraph};
 use crate::names::level_line;
 use crate::phrases::{last_line, no_order, order_head, unsound_text};
 use crate::places::put_places_lines;
 use crate::steps::put_walk_steps;
+use crate::told::{serial_walk, told_of};
 use lab_history::History;
 use lab_judge::{Report, Serial};
 use lab_reports::Phenomenon;
@@ -50,24 +52,38 @@ fn serial_lines(alloc: Global, history: &History, serial: &Serial) -> Result<Vec
     Ok(out)
 }
 
-/// Appends the lines of what is found of each phenomenon.
+/// Appends the lines of what is found of each phenomenon, of which the cycle of this one is told, beside a serial verdict
+/// whose walk is printed so.
 #[tactic(auto, unfolding(crate::specs::Explanation::findings_lines))]
 fn put_findings(
     alloc: Global,
     out: &mut Vec<u8>,
     history: &History,
     report: &Report,
+    walk: &[u8],
+    told: Option<Phenomenon>,
 ) -> Result<(), NoMemory>
-    ensures { OnOk result (out.new.items ≡ out.old.items ++ findings_lines history.now report.now) }
+    requires { walk.now ≡ serial_walk report.now.serial }
+    ensures { OnOk result (out.new.items ≡ out.old.items ++ findings_lines history.now report.now told) }
 {
-    let walk = serial_walk(alloc, &report.serial)?;
-    put_finding_lines(alloc, out, history, report, &walk, Phenomenon::G0)?;
-    put_finding_lines(alloc, out, history, report, &walk, Phenomenon::G1a)?;
-    put_finding_lines(alloc, out, history, report, &walk, Phenomenon::G1b)?;
-    put_finding_lines(alloc, out, history, report, &walk, Phenomenon::G1c)?;
-    put_finding_lines(alloc, out, history, report, &walk, Phenomenon::GSingle)?;
-    put_finding_lines(alloc, out, history, report, &walk, Phenomenon::G2Item)?;
-    put_finding_lines(alloc, out, history, report, &walk, Phenomenon::G2)
+    put_finding_lines(alloc, out, history, report, walk, told, Phenomenon::G0)?;
+    put_finding_lines(alloc, out, history, report, walk, told, Phenomenon::G1a)?;
+    put_finding_lines(alloc, out, history, report, walk, told, Phenomenon::G1b)?;
+    put_finding_lines(alloc, out, history, report, walk, told, Phenomenon::G1c)?;
+    put_finding_lines(alloc, out, history, report, walk, told, Phenomenon::GSingle)?;
+    put_finding_lines(alloc, out, history, report, walk, told, Phenomenon::G2Item)?;
+    put_finding_lines(alloc, out, history, report, walk, told, Phenomenon::G2)
+}
+
+/// How many lines a serial verdict may have, where this phenomenon's cycle is told beside it.
+fn verdict_lines(told: Option<Phenomenon>) -> usize
+    ensures value { result ≡ verdict_lines told }
+    ensures some { 1 ≤ result }
+{
+    match told {
+        None => 60,
+        Some(_) => 40,
+    }
 }
 
 /// The whole explanation of a report. NoMemory where an allocation was refused.
@@ -76,12 +92,14 @@ fn whole_text(alloc: Global, history: &History, report: &Report) -> Result<Vec<u
     ensures { IfOk result (λ text. text.items ≡ whole_text history.now report.now) }
 {
     let mut out = Vec::new(alloc);
+    let walk = serial_walk(alloc, &report.serial)?;
+    let told = told_of(alloc, report, &walk)?;
     let serial = serial_lines(alloc, history, &report.serial)?;
-    put_capped(&mut out, 60, &serial)?;
+    put_capped(&mut out, verdict_lines(told), &serial)?;
     let mut places = Vec::new(alloc);
     put_places_lines(alloc, &mut places, &report.snapshot)?;
     put_capped(&mut out, 14, &places)?;
-    put_findings(alloc, &mut out, history, report)?;
+    put_findings(alloc, &mut out, history, report, &walk, told)?;
     out.extend_from_slice(level_line(report.level).as_bytes())?;
     out.extend_from_slice(last_line())?;
     Ok(out)

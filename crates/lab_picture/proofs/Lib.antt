@@ -9,3 +9,8 @@ pub mod Escapes
 pub mod OnePicture
 mod LeastOfPairs
 mod TitledWalks
+mod NicknameForms
+pub mod SaidNames
+mod TextLines
+mod LineSteps
+mod KeptRows

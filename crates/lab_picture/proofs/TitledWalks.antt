@@ -9,7 +9,8 @@ use Rattle.lab_judge.specs.Places.{is_anti}
 use Rattle.lab_judge.specs.declared.report.Report.{Report}
 use Rattle.lab_judge.specs.declared.serial.Serial.TheVariants.{NoCycle}
 use Rattle.lab_picture.specs.TitleLaws.{HasPhenomenon, TellsWalk}
-use Rattle.lab_picture.specs.Titles.{serial_title, walk_phenomenon}
+use Rattle.lab_picture.specs.Cycles.{walk_phenomenon}
+use Rattle.lab_picture.specs.Titles.{serial_title}
 use Rattle.lab_reports.specs.declared.phenomenon.Phenomenon.TheVariants.{G0, G1c, GSingle, G2Item, G2}
 
 some : (n : ℕ) → (n == 0) ≡ false → 1 ≤ n
@@ -54,7 +55,7 @@ module _ (h : History) (walk : List Edge) (closed : IsClosedWalk h walk) where
         | false ↦ λ is. with_one (some antis is)
       ] refl
 
-pub title_tells : (h : History) (report : Report) (walk : List Edge) → IsExactJudgement h report → report.serial ≡ NoCycle walk → TellsWalk h walk (serial_title report.serial)
+pub title_tells : (h : History) (report : Report) (walk : List Edge) → IsExactJudgement h report → report.serial ≡ NoCycle walk → TellsWalk h walk (serial_title h report.serial)
 title_tells h report walk exact is =
     let verdict = subst (IsSerialVerdict h) is exact.judgement.serial in
-    record { phenomenon = walk_phenomenon walk; there = is_one h walk verdict.1; title_is = ap serial_title is }
+    record { phenomenon = walk_phenomenon walk; there = is_one h walk verdict.1; title_is = ap (serial_title h) is }

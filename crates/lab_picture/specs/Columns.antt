@@ -1,11 +1,14 @@
 -- The text of a picture's columns.
-use Rattle.std.specs.Prelude.{ℕ, ◌+◌, ◌==◌, max, cond, Option, Some, None, List, [], ◌∷◌, ◌++◌, length, codes}
+use Rattle.std.specs.Prelude.{ℕ, ◌+◌, ◌==◌, min, max, Bool, cond, Option, Some, None, List, [], ◌∷◌, ◌++◌, length, take, codes}
 use Rattle.std.specs.Fmt.{decimal}
+use Rattle.std.specs.List.{list_any}
 use Rattle.lab_history.specs.History.{History}
 use Rattle.lab_history.specs.Version.{ops_of, outcome_of}
 use Rattle.lab_history.specs.declared.transaction.Outcome.{Outcome}
 use Rattle.lab_history.specs.declared.transaction.Outcome.TheVariants.{Committed, Aborted}
+use Rattle.lab_picture.specs.declared.drawing.Arrow.{Arrow}
 use Rattle.lab_picture.specs.declared.drawing.Spot.{Spot}
+use Rattle.lab_picture.specs.declared.layout.Column.{Column}
 use Rattle.lab_picture.specs.declared.layout.Frame.{Frame}
 use Rattle.lab_picture.specs.Layout.{left, top}
 use Rattle.lab_picture.specs.Text.{text_at}
@@ -20,6 +23,10 @@ most_from h most (n ∷ ns) = most_from h (max most (length (ops_of h n))) ns
 abbrev pub most_ops : History → List ℕ → ℕ
 most_ops h ns = most_from h 0 ns
 
+-- the transactions that are drawn: no more than forty
+abbrev pub shown_columns : List ℕ → List ℕ
+shown_columns columns = take (min (length columns) 40) columns
+
 -- how a transaction ended
 abbrev pub outcome_name : Option Outcome → List ℕ
 outcome_name None = codes "isn't there"
@@ -30,20 +37,34 @@ outcome_name (Some Aborted) = codes "aborted"
 abbrev pub title_of : History → ℕ → List ℕ
 title_of h n = codes "T" ++ decimal n ++ codes " " ++ outcome_name (outcome_of h n)
 
+-- the letters of what stands above a column
+abbrev pub title_weight : Bool → List ℕ
+title_weight thin = cond thin [] (codes " font-weight=\"bold\"")
+
 -- the line above a column
-unfoldable pub title_text : History → ℕ → ℕ → ℕ → List ℕ
-title_text h x y n = text_at (codes " font-weight=\"bold\"") x y (title_of h n)
+unfoldable pub title_text : History → ℕ → ℕ → Bool → ℕ → List ℕ
+title_text h x y thin n = text_at (title_weight thin) x y (title_of h n)
 
 -- the number of the marked operation, if it is of this transaction, else 0
 abbrev pub marked_in : Option Spot → ℕ → ℕ
 marked_in None n = 0
 marked_in (Some spot) n = cond (spot.txn == n) spot.op 0
 
+-- whether a transaction is among those whose columns are thin
+abbrev pub is_thin : List ℕ → ℕ → Bool
+is_thin thin n = list_any (λ m. m == n) thin
+
+-- the column of a transaction at a place
+abbrev pub column_at : Option Spot → List ℕ → ℕ → ℕ → Column
+column_at marked thin place n = record { place = place; txn = n; marked = marked_in marked n; thin = is_thin thin n }
+
 -- a column: the transaction and its operations
-abbrev pub column_text : History → Frame → ℕ → ℕ → ℕ → List ℕ
-column_text h frame column marked n = title_text h (left column) (top frame column) n ++ boxes_text frame column marked 0 (ops_of h n)
+abbrev pub column_text : History → Frame → List Arrow → Column → List ℕ
+column_text h frame arrows column =
+    title_text h (left column.place) (top frame column.place) column.thin column.txn ++ boxes_text frame arrows column 0 (ops_of h column.txn)
 
 -- columns, where so many come before these
-abbrev pub columns_text : History → Frame → Option Spot → ℕ → List ℕ → List ℕ
-columns_text h frame marked before [] = []
-columns_text h frame marked before (n ∷ ns) = column_text h frame before (marked_in marked n) n ++ columns_text h frame marked (before + 1) ns
+abbrev pub columns_text : History → Frame → List Arrow → Option Spot → List ℕ → ℕ → List ℕ → List ℕ
+columns_text h frame arrows marked thin before [] = []
+columns_text h frame arrows marked thin before (n ∷ ns) =
+    column_text h frame arrows (column_at marked thin before n) ++ columns_text h frame arrows marked thin (before + 1) ns

@@ -64,4 +64,4 @@ yes_columns report (Some phenomenon) = []
 
 -- a drawing with these arrows of a yes
 abbrev pub with_forward : List Arrow → Sketch → Sketch
-with_forward arrows d = record { columns = d.columns; arrows = d.arrows; marked = d.marked; about = d.about; note = d.note; title = d.title; forward = arrows }
+with_forward arrows d = record { columns = d.columns; arrows = d.arrows; marked = d.marked; about = d.about; note = d.note; title = d.title; forward = arrows; thin = d.thin; rows = d.rows }

@@ -1,7 +1,9 @@
 -- What stands above the columns of a picture, and where.
 use Rattle.std.specs.Prelude.{ℕ, ◌+◌, ◌-◌, ◌*◌, nat_lt, Bool, true, false, cond, Option, Some, None, List, [], ◌∷◌, ◌++◌, length, codes}
 use Rattle.std.specs.Fmt.{decimal}
+use Rattle.std.specs.List.{list_any}
 use Rattle.lab_picture.specs.Arrows.{style_text}
+use Rattle.lab_picture.specs.Columns.{is_thin, shown_columns}
 use Rattle.lab_picture.specs.Sketch.{Sketch}
 use Rattle.lab_picture.specs.Text.{line_at, text_at, two_lines, four_lines, in_one, in_two, in_four}
 use Rattle.lab_picture.specs.declared.drawing.Arrow.{Arrow}
@@ -52,7 +54,19 @@ abbrev pub marked_lines : Option Spot → ℕ
 marked_lines None = 0
 marked_lines (Some spot) = 1
 
--- the ground lines of what follows the title: the report's line, the note, how many transactions are drawn, which arrows aren't, the legend, and what a thick edge is
+-- whether a column that is drawn is thin
+abbrev pub has_thin : Sketch → Bool
+has_thin d = list_any (is_thin d.thin) (shown_columns d.columns)
+
+-- how many lines tell of thin columns
+abbrev pub thin_lines : Sketch → ℕ
+thin_lines d = cond (has_thin d) 1 0
+
+-- how many lines tell of boxes side by side
+abbrev pub beside_lines : ℕ → ℕ
+beside_lines columns = cond (nat_lt 1 columns) 1 0
+
+-- the ground lines of what follows the title: the report's line, the note, how many transactions are drawn, which arrows aren't, the legend, what a thick edge is, what a thin column is, and what boxes side by side say
 abbrev pub about_y : Sketch → ℕ
 about_y d = 30 + 18 * in_two (title_bytes (length d.columns)) d.title
 
@@ -71,9 +85,15 @@ legend_y d = far_y d + 14 * far_lines (length d.columns) d.forward
 abbrev pub marked_y : Sketch → ℕ
 marked_y d = legend_y d + 14 * legend_lines (first_tie d.arrows d.forward)
 
+abbrev pub thin_y : Sketch → ℕ
+thin_y d = marked_y d + 14 * marked_lines d.marked
+
+abbrev pub beside_y : Sketch → ℕ
+beside_y d = thin_y d + 14 * thin_lines d
+
 -- the ground line of what stands above the columns of the first band
 abbrev pub head_y : Sketch → ℕ
-head_y d = marked_y d + 14 * marked_lines d.marked + 14
+head_y d = beside_y d + 14 * beside_lines (length d.columns) + 14
 
 -- the title's letters
 abbrev pub title_style : List ℕ
@@ -118,6 +138,19 @@ unfoldable pub marked_text : ℕ → Option Spot → List ℕ
 marked_text y None = []
 marked_text y (Some spot) = text_at [] 26 y (codes "thick edge: the operation in question")
 
+-- what a thin column says
+abbrev pub thin_text : Sketch → List ℕ
+thin_text d = cond (has_thin d) (codes "thin column: who wrote a version that the cycle saw") []
+
+-- what boxes side by side say
+abbrev pub beside_text : ℕ → List ℕ
+beside_text columns = cond (nat_lt 1 columns) (codes "boxes side by side are in no order of time") []
+
+-- both
+unfoldable pub columns_note : Sketch → List ℕ
+columns_note d = line_at [] 26 (thin_y d) (thin_text d) ++ line_at [] 26 (beside_y d) (beside_text (length d.columns))
+
 -- all that stands above the columns
 unfoldable pub heading_text : Sketch → List ℕ
-heading_text d = title_lines d ++ notes_text d ++ legend_text (legend_y d) (first_tie d.arrows d.forward) ++ marked_text (marked_y d) d.marked
+heading_text d =
+    title_lines d ++ notes_text d ++ legend_text (legend_y d) (first_tie d.arrows d.forward) ++ marked_text (marked_y d) d.marked ++ columns_note d

@@ -1,3 +1,5 @@
+pub mod Cycles
+pub mod Nicknames
 pub mod Titles
 pub mod TitleLaws
 pub mod Making
@@ -6,9 +8,17 @@ pub mod InstallLaws
 pub mod Sketch
 pub mod Forward
 pub mod ArrowLaws
+pub mod TextLaws
+pub mod RowLaws
 pub mod Text
 pub mod Layout
+pub mod Size
 pub mod Effect
+pub mod Named
+pub mod Kept
+pub mod Lines
+pub mod Growth
+pub mod Values
 pub mod Boxes
 pub mod Columns
 pub mod Arrows

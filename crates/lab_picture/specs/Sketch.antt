@@ -1,5 +1,5 @@
 -- The drawing of a verdict or of a finding.
-use Rattle.std.specs.Prelude.{ℕ, ◌==◌, Bool, true, false, cond, Option, Some, None, option_map, is_some, List, [], ◌∷◌, ◌++◌, map, flat_map, codes}
+use Rattle.std.specs.Prelude.{ℕ, ◌==◌, Bool, true, false, not, cond, Option, Some, None, option_map, is_some, List, [], ◌∷◌, ◌++◌, map, filter, flat_map, codes}
 use Rattle.std.specs.List.{list_any}
 use Rattle.std.specs.Fmt.{decimal}
 use Rattle.lab_table.specs.Row.{Row}
@@ -26,10 +26,12 @@ use Rattle.lab_reports.specs.declared.phenomenon.Phenomenon.{Phenomenon}
 use Rattle.lab_picture.specs.declared.installs.Misplaced.{Misplaced}
 use Rattle.lab_reports.specs.Phenomena.{phenomenon_name, finding_of}
 use Rattle.lab_picture.specs.Installs.{misplaced_of, misplaced_text}
-use Rattle.lab_picture.specs.Making.{arrows_of}
+use Rattle.lab_picture.specs.Making.{arrows_of, listed}
+use Rattle.lab_picture.specs.Arrows.{is_dashed}
+use Rattle.lab_picture.specs.Values.{rows_of}
 use Rattle.lab_picture.specs.Titles.{serial_title, finding_title}
 
--- a drawing: transactions from left to right with all their operations, arrows between operations, the operation that a fault is at or about, the line of the report that is drawn, a note, a title in words, and the arrows of a yes
+-- a drawing: transactions from left to right with all their operations, arrows between operations, the operation that a fault is at or about, the line of the report that is drawn, a note, a title in words, the arrows of a yes, the transactions whose columns are thin, and the rows whose values stand below
 pub record Sketch : Type 0 where
   pub columns : List ℕ
   pub arrows : List Arrow
@@ -38,6 +40,8 @@ pub record Sketch : Type 0 where
   pub note : List ℕ
   pub title : List ℕ
   pub forward : List Arrow
+  pub thin : List ℕ
+  pub rows : List Row
 
 -- columns with one for this transaction
 abbrev pub with_column : List ℕ → ℕ → List ℕ
@@ -50,15 +54,11 @@ with_columns columns (n ∷ ns) = with_columns (with_column columns n) ns
 
 -- no transaction is drawn
 abbrev pub blank : List ℕ → Sketch
-blank about = record { columns = []; arrows = []; marked = None; about = about; note = []; title = []; forward = [] }
+blank about = record { columns = []; arrows = []; marked = None; about = about; note = []; title = []; forward = []; thin = []; rows = [] }
 
 -- an order: its transactions, from left to right
 abbrev pub of_order : List ℕ → List ℕ → Sketch
-of_order about order = record { columns = order; arrows = []; marked = None; about = about; note = []; title = []; forward = [] }
-
--- a walk: its transactions in their order, and an arrow for each dependency
-abbrev pub of_walk : History → List ℕ → List Edge → Sketch
-of_walk h about walk = record { columns = with_columns [] (map (λ e. e.from) walk); arrows = flat_map (arrows_of h) walk; marked = None; about = about; note = []; title = []; forward = [] }
+of_order about order = record { columns = order; arrows = []; marked = None; about = about; note = []; title = []; forward = []; thin = []; rows = [] }
 
 -- the version of a row that an operation of a transaction sees
 abbrev pub seen_at : History → ℕ → ℕ → Row → Option VersionName
@@ -78,6 +78,36 @@ written_by h row (Of m j) = spot_of m j (is_some (version_state h row (Of m j)))
 abbrev pub writer_at : History → Row → Option VersionName → Option Spot
 writer_at h row None = None
 writer_at h row (Some version) = written_by h row version
+
+-- the transaction that wrote the version which the first operation of an anti-dependency's arrow sees, where that is none but the initial one
+abbrev pub seen_writer : History → Arrow → Option ℕ
+seen_writer h a = option_map (λ spot. spot.txn) (writer_at h a.row (seen_at h a.from.txn a.from.op a.row))
+
+-- the same as a list; of another arrow none
+abbrev pub seen_writers : History → Arrow → List ℕ
+seen_writers h a = cond (is_dashed a.tie) (listed (seen_writer h a)) []
+
+-- those that aren't among these, each once
+abbrev pub others : List ℕ → List ℕ → List ℕ
+others columns ns = with_columns [] (filter (λ n. not (list_any (λ m. m == n) columns)) ns)
+
+-- a walk with these columns and arrows: behind the columns thin ones, and below them the values of its rows
+abbrev pub walk_with : History → List ℕ → List ℕ → List Arrow → List Edge → Sketch
+walk_with h about columns arrows walk = record {
+  columns = columns ++ others columns (flat_map (seen_writers h) arrows);
+  arrows = arrows;
+  marked = None;
+  about = about;
+  note = [];
+  title = [];
+  forward = [];
+  thin = others columns (flat_map (seen_writers h) arrows);
+  rows = rows_of h walk;
+}
+
+-- a walk: its transactions in their order, and an arrow for each dependency
+abbrev pub of_walk : History → List ℕ → List Edge → Sketch
+of_walk h about walk = walk_with h about (with_columns [] (map (λ e. e.from) walk)) (flat_map (arrows_of h) walk) walk
 
 -- the name of an operation
 abbrev pub spot_text : ℕ → ℕ → List ℕ
@@ -113,6 +143,8 @@ of_place h about n k row = record {
   note = version_note (seen_at h n k row) (is_some (writer_at h row (seen_at h n k row)));
   title = [];
   forward = [];
+  thin = [];
+  rows = [];
 }
 
 -- the columns of a row: the transactions that installed it
@@ -121,7 +153,7 @@ installer_columns h row = with_columns [] (installers h row)
 
 -- a row: the transactions that installed it
 abbrev pub of_row : History → List ℕ → Row → Sketch
-of_row h about row = record { columns = installer_columns h row; arrows = []; marked = None; about = about; note = []; title = []; forward = [] }
+of_row h about row = record { columns = installer_columns h row; arrows = []; marked = None; about = about; note = []; title = []; forward = []; thin = []; rows = [] }
 
 -- a transaction's last write of a row, where it wrote the row
 abbrev pub last_spot : History → Row → ℕ → Option Spot
@@ -137,6 +169,8 @@ of_misplaced h about row found = record {
   note = misplaced_text found;
   title = [];
   forward = [];
+  thin = [];
+  rows = [];
 }
 
 -- a row whose installers aren't its committed writers
@@ -176,9 +210,9 @@ of_finding h name found = of_found h (line_text name (finding_text found)) found
 
 -- a drawing with this title
 abbrev pub entitled : List ℕ → Sketch → Sketch
-entitled title d = record { columns = d.columns; arrows = d.arrows; marked = d.marked; about = d.about; note = d.note; title = title; forward = d.forward }
+entitled title d = record { columns = d.columns; arrows = d.arrows; marked = d.marked; about = d.about; note = d.note; title = title; forward = d.forward; thin = d.thin; rows = d.rows }
 
 -- the drawing of a report: its serial verdict, or what it finds of a phenomenon
 abbrev pub drawing_of : History → Report → Option Phenomenon → Sketch
-drawing_of h report None = entitled (serial_title report.serial) (of_serial h report.serial)
-drawing_of h report (Some phenomenon) = entitled (finding_title phenomenon (finding_of phenomenon report)) (of_finding h (phenomenon_name phenomenon) (finding_of phenomenon report))
+drawing_of h report None = entitled (serial_title h report.serial) (of_serial h report.serial)
+drawing_of h report (Some phenomenon) = entitled (finding_title h phenomenon (finding_of phenomenon report)) (of_finding h (phenomenon_name phenomenon) (finding_of phenomenon report))

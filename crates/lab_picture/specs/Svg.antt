@@ -1,18 +1,19 @@
 -- The text of a drawing, in SVG.
-use Rattle.std.specs.Prelude.{ℕ, min, Bool, true, false, ◌||◌, List, ◌++◌, flat_map, length, take, codes}
+use Rattle.std.specs.Prelude.{ℕ, ◌+◌, ◌*◌, Bool, true, false, ◌||◌, List, ◌++◌, flat_map, length, codes}
 use Rattle.std.specs.Fmt.{decimal}
 use Rattle.lab_history.specs.History.{History}
 use Rattle.lab_picture.specs.Arrows.{arrow_text, has_round}
-use Rattle.lab_picture.specs.Columns.{most_ops, columns_text}
+use Rattle.lab_picture.specs.Columns.{most_ops, columns_text, shown_columns}
+use Rattle.lab_picture.specs.Growth.{extra_lines}
 use Rattle.lab_picture.specs.Heading.{head_y, heading_text}
 use Rattle.lab_picture.specs.declared.layout.Frame.{Frame}
 use Rattle.lab_picture.specs.Layout.{width, height}
+use Rattle.lab_picture.specs.Named.{drawn}
+use Rattle.lab_picture.specs.Size.{size_text}
 use Rattle.lab_picture.specs.Sketch.{Sketch}
 use Rattle.lab_picture.specs.Text.{escaped}
-
--- a size, as attributes
-unfoldable pub size_text : ℕ → ℕ → List ℕ
-size_text width height = codes " width=\"" ++ decimal width ++ codes "\" height=\"" ++ decimal height ++ codes "\""
+use Rattle.lab_picture.specs.Values.{value_lines, values_text}
+use Rattle.lab_picture.specs.declared.drawing.Arrow.{Arrow}
 
 -- two numbers, as the end of an attribute
 unfoldable pub numbers_text : ℕ → ℕ → List ℕ
@@ -55,13 +56,13 @@ marker_text =
 unfoldable pub ground_text : ℕ → ℕ → List ℕ
 ground_text width height = codes "<rect" ++ size_text width height ++ codes " fill=\"white\"/>\n"
 
--- the transactions that are drawn: no more than forty
-abbrev pub shown_columns : List ℕ → List ℕ
-shown_columns columns = take (min (length columns) 40) columns
+-- the arrows of a drawing that are drawn, those of a yes too
+abbrev pub arrows_drawn : Sketch → List Arrow
+arrows_drawn d = drawn (shown_columns d.columns) (d.arrows ++ d.forward)
 
 -- the columns that are drawn
 unfoldable pub drawn_columns : History → Frame → Sketch → List ℕ
-drawn_columns h frame d = columns_text h frame d.marked 0 (shown_columns d.columns)
+drawn_columns h frame d = columns_text h frame (arrows_drawn d) d.marked d.thin 0 (shown_columns d.columns)
 
 -- the arrows between them, those of a yes thin
 unfoldable pub drawn_arrows : Frame → Sketch → List ℕ
@@ -71,11 +72,21 @@ drawn_arrows frame d = flat_map (arrow_text frame false (shown_columns d.columns
 unfoldable pub head_text : ℕ → ℕ → Sketch → List ℕ
 head_text width height d = open_text width height ++ told_text d.title d.about ++ marker_text ++ ground_text width height
 
+-- the ground line of the first line of values
+abbrev pub values_y : Frame → Sketch → ℕ
+values_y frame d = height frame (length (shown_columns d.columns))
+
+-- how high a picture is: as its columns are, and its lines of values
+abbrev pub whole_height : Frame → Sketch → ℕ
+whole_height frame d = values_y frame d + 14 * value_lines d.rows
+
+-- what stands below the heading: the columns, the arrows and the values
+unfoldable pub body_text : History → Frame → Sketch → List ℕ
+body_text h frame d = drawn_columns h frame d ++ drawn_arrows frame d ++ values_text h (values_y frame d) d.rows
+
 -- the text of a drawing in a frame
 unfoldable pub svg_with : History → Frame → Sketch → List ℕ
-svg_with h frame d =
-    head_text (width (length d.columns)) (height frame (length (shown_columns d.columns))) d ++ heading_text d
-    ++ drawn_columns h frame d ++ drawn_arrows frame d ++ codes "</svg>\n"
+svg_with h frame d = head_text (width (length d.columns)) (whole_height frame d) d ++ heading_text d ++ body_text h frame d ++ codes "</svg>\n"
 
 -- whether an arrow of a drawing goes below the boxes
 abbrev pub goes_below : Sketch → Bool
@@ -83,7 +94,7 @@ goes_below d = has_round (shown_columns d.columns) d.arrows || has_round (shown_
 
 -- the frame of a drawing
 abbrev pub frame_of : History → Sketch → Frame
-frame_of h d = record { head = head_y d; most = most_ops h (shown_columns d.columns); round = goes_below d }
+frame_of h d = record { head = head_y d; most = most_ops h (shown_columns d.columns); round = goes_below d; extra = extra_lines h (arrows_drawn d) (shown_columns d.columns) }
 
 -- the text of a drawing of a history's transactions
 abbrev pub svg_of : History → Sketch → List ℕ

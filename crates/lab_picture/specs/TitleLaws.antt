@@ -17,8 +17,8 @@ HasPhenomenon h walk GSingle = IsGSingle h walk
 HasPhenomenon h walk G2Item = IsG2Item h walk
 HasPhenomenon h walk G2 = IsG2 h walk
 
--- a title says that a history isn't serializable, and names a phenomenon that the walk is one of
+-- a title says that a history isn't serializable, and names a phenomenon that the walk is one of, with the walk's nicknames
 pub record TellsWalk (h : History) (walk : List Edge) (title : List ℕ) : Type 0 where
   pub phenomenon : Phenomenon
   pub there : HasPhenomenon h walk phenomenon
-  pub title_is : title ≡ codes "Not serializable: " ++ full_name phenomenon
+  pub title_is : title ≡ codes "Not serializable: " ++ full_name h phenomenon walk

@@ -1,6 +1,7 @@
 -- The titles of drawings, in words.
-use Rattle.std.specs.Prelude.{ℕ, ◌==◌, not, cond, List, [], ◌∷◌, ◌++◌, flat_map, codes}
+use Rattle.std.specs.Prelude.{ℕ, List, [], ◌∷◌, ◌++◌, flat_map, codes}
 use Rattle.std.specs.Fmt.{decimal}
+use Rattle.lab_history.specs.History.{History}
 use Rattle.lab_deps.specs.declared.edge.Edge.{Edge}
 use Rattle.lab_deps.specs.FaultKinds.{op_entry, row_entry, parts_of}
 use Rattle.lab_deps.specs.declared.fault.FaultParts.{FaultParts}
@@ -10,8 +11,6 @@ use Rattle.lab_deps.specs.declared.kind.OpFault.{OpFault}
 use Rattle.lab_deps.specs.declared.kind.OpFault.TheVariants as kind
 use Rattle.lab_deps.specs.declared.kind.RowFault.{RowFault}
 use Rattle.lab_deps.specs.declared.kind.RowFault.TheVariants as row_kind
-use Rattle.lab_judge.specs.Phenomena.{count_kind, is_write, is_item_anti}
-use Rattle.lab_judge.specs.Places.{is_anti}
 use Rattle.lab_judge.specs.declared.report.Finding.{Finding}
 use Rattle.lab_judge.specs.declared.report.Finding.TheVariants as finding
 use Rattle.lab_judge.specs.declared.serial.Serial.{Serial}
@@ -19,28 +18,22 @@ use Rattle.lab_judge.specs.declared.serial.Serial.TheVariants as serial
 use Rattle.lab_reports.specs.Phenomena.{phenomenon_name}
 use Rattle.lab_reports.specs.declared.phenomenon.Phenomenon.{Phenomenon}
 use Rattle.lab_reports.specs.declared.phenomenon.Phenomenon.TheVariants.{G0, G1a, G1b, G1c, GSingle, G2Item, G2}
+use Rattle.lab_picture.specs.Cycles.{walk_phenomenon, cycle_of}
+use Rattle.lab_picture.specs.Nicknames.{nicknames_of, in_parentheses}
 
--- the textbook name of a phenomenon
-abbrev pub phenomenon_words : Phenomenon → List ℕ
-phenomenon_words G0 = codes "dirty write"
-phenomenon_words G1a = codes "aborted read"
-phenomenon_words G1b = codes "intermediate read"
-phenomenon_words G1c = codes "circular information flow"
-phenomenon_words GSingle = codes "read skew"
-phenomenon_words G2Item = codes "write skew"
-phenomenon_words G2 = codes "anti-dependency cycle"
+-- what stands behind a phenomenon's code: the name that it has in textbooks, or the nicknames of the cycle by which it is present
+abbrev pub words_behind : History → Phenomenon → List Edge → List ℕ
+words_behind h G0 walk = codes " (dirty write)"
+words_behind h G1a walk = codes " (aborted read)"
+words_behind h G1b walk = codes " (intermediate read)"
+words_behind h G1c walk = codes " (circular information flow)"
+words_behind h GSingle walk = in_parentheses (nicknames_of h walk)
+words_behind h G2Item walk = in_parentheses (nicknames_of h walk)
+words_behind h G2 walk = in_parentheses (nicknames_of h walk)
 
--- a phenomenon by its code, and its textbook name behind it
-abbrev pub full_name : Phenomenon → List ℕ
-full_name p = phenomenon_name p ++ codes " (" ++ phenomenon_words p ++ codes ")"
-
--- the most particular phenomenon of a cycle with so many anti-dependencies, item anti-dependencies, and dependencies that are no writes after writes
-abbrev pub by_counts : ℕ → ℕ → ℕ → Phenomenon
-by_counts antis items others = cond (antis == 0) (cond (others == 0) G0 G1c) (cond (antis == 1) GSingle (cond (items == 0) G2 G2Item))
-
--- the most particular phenomenon that a cycle is
-abbrev pub walk_phenomenon : List Edge → Phenomenon
-walk_phenomenon walk = by_counts (count_kind is_anti walk) (count_kind is_item_anti walk) (count_kind (λ k. not (is_write k)) walk)
+-- a phenomenon that is present by this cycle, or by no cycle where there are no dependencies
+abbrev pub full_name : History → Phenomenon → List Edge → List ℕ
+full_name h p walk = phenomenon_name p ++ words_behind h p walk
 
 -- a transaction behind another
 abbrev pub next_text : ℕ → List ℕ
@@ -79,10 +72,10 @@ abbrev pub fault_words : LocalFault → List ℕ
 fault_words f = words_of (parts_of f)
 
 -- the title of a serial verdict
-abbrev pub serial_title : Serial → List ℕ
-serial_title (serial.Yes order) = codes "Serializable: " ++ txns_text order
-serial_title (serial.NoFault f) = codes "Not sound: " ++ fault_words f
-serial_title (serial.NoCycle walk) = codes "Not serializable: " ++ full_name (walk_phenomenon walk)
+abbrev pub serial_title : History → Serial → List ℕ
+serial_title h (serial.Yes order) = codes "Serializable: " ++ txns_text order
+serial_title h (serial.NoFault f) = codes "Not sound: " ++ fault_words f
+serial_title h (serial.NoCycle walk) = codes "Not serializable: " ++ full_name h (walk_phenomenon walk) walk
 
 -- what is found, in a word
 abbrev pub finding_word : Finding → List ℕ
@@ -92,5 +85,5 @@ finding_word (finding.At n k row) = codes ": present"
 finding_word finding.NotJudged = codes ": not judged"
 
 -- the title of what is found of a phenomenon
-abbrev pub finding_title : Phenomenon → Finding → List ℕ
-finding_title p found = full_name p ++ finding_word found
+abbrev pub finding_title : History → Phenomenon → Finding → List ℕ
+finding_title h p found = full_name h p (cycle_of found) ++ finding_word found

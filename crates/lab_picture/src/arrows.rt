@@ -14,7 +14,7 @@ use lab_table::{NoMemory, TxnNo};
 use std::alloc::Global;
 
 /// The column of a transaction, if it has one.
-fn column_of(columns: &[TxnNo], txn: TxnNo) -> Option<usize>
+pub fn column_of(columns: &[TxnNo], txn: TxnNo) -> Option<usize>
     ensures value { result ≡ column_of 0 txn columns.now }
     ensures within { IfSome result (λ column. column < length columns.now) }
 {
@@ -37,7 +37,7 @@ fn tie_name(tie: Tie) -> &'static str
 }
 
 /// Whether an arrow is dashed: that of an anti-dependency is.
-fn is_dashed(tie: Tie) -> bool
+pub fn is_dashed(tie: Tie) -> bool
     ensures { result ≡ is_dashed tie }
 {
     match tie {
@@ -70,8 +70,8 @@ fn label_style() -> &'static [u8]
 fn put_label(
     alloc: Global,
     out: &mut Vec<u8>,
-    x: u64,
-    y: u64,
+    x: u128,
+    y: u128,
     arrow: &Arrow,
 ) -> Result<(), NoMemory>
     ensures { OnOk result (out.new.items ≡ out.old.items ++ label_text x y arrow.now) }
@@ -85,11 +85,11 @@ fn put_label(
 fn put_narrow_label(
     alloc: Global,
     out: &mut Vec<u8>,
-    x: u64,
-    y: u64,
+    x: u128,
+    y: u128,
     label: &[u8],
 ) -> Result<(), NoMemory>
-    requires { y ≤ 20000000000000 }
+    requires { y ≤ 500000000000000000000000000000000 }
     ensures { OnOk result (out.new.items ≡ out.old.items ++ narrow_label x y label.now) }
 {
     let above = 13 * in_four(GAP_BYTES, label);
@@ -102,11 +102,11 @@ fn put_narrow_label(
 fn put_narrow(
     alloc: Global,
     out: &mut Vec<u8>,
-    x: u64,
-    y: u64,
+    x: u128,
+    y: u128,
     arrow: &Arrow,
 ) -> Result<(), NoMemory>
-    requires { y ≤ 20000000000000 }
+    requires { y ≤ 500000000000000000000000000000000 }
     ensures { OnOk result (out.new.items ≡ out.old.items ++ narrow_text x y arrow.now) }
 {
     let label = label_of(alloc, arrow)?;
@@ -123,7 +123,7 @@ fn put_straight(
     from: Corner,
     to: Corner,
 ) -> Result<(), NoMemory>
-    requires { (from.x ≤ 1000) × (from.y ≤ 12000000000000) × (to.y ≤ 12000000000000) }
+    requires { (from.x ≤ 1000) × (from.y ≤ 400000000000000000000000000000000) × (to.y ≤ 400000000000000000000000000000000) }
     ensures { OnOk result (out.new.items ≡ out.old.items ++ straight_text thin arrow.now from to) }
 {
     out.extend_from_slice(b"<path d=\"")?;
@@ -141,8 +141,8 @@ fn put_round(
     thin: bool,
     arrow: &Arrow,
     from: Corner,
-    lane: u64,
-    aside: u64,
+    lane: u128,
+    aside: u128,
     to: Corner,
 ) -> Result<(), NoMemory>
     requires { (from.x ≤ 1000) × (to.x ≤ 1000) × (aside ≤ to.x) }

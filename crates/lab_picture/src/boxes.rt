@@ -2,15 +2,43 @@
 
 ghost use Rattle.std.specs.Prelude.{◌≡◌, ◌++◌, ◌≤◌, length, IfOk, OnOk};
 ghost use Rattle.lab_statement.specs.Printed.{printed_statement};
-ghost use Rattle.lab_picture.specs.Boxes.{whole_text, edge_style, edge_text, rest_lines, inner_text, box_text, boxes_text};
+ghost use Rattle.lab_picture.specs.Boxes.{fits, telling, lines_of, box_lines, whole_text, stroke_text, edge_style, edge_text, rest_lines, effect_lines, inner_text, box_text, stroke_of, op_text, boxes_text};
 
+use crate::drawing::Arrow;
 use crate::effect::effect_text;
-use crate::layout::{BOX_BYTES, Frame, left, upper};
-use crate::text::{in_three, put_escaped, put_one_line, put_place, put_three_lines, put_two_lines};
+use crate::kept::{kept_text, tells_named};
+use crate::layout::{BOX_BYTES, Column, Frame, Stroke, box_height, left, upper};
+use crate::lines::{count_lines, put_all_lines};
+use crate::named::rows_at;
+use crate::size::put_size;
+use crate::text::{
+    in_four, in_three, put_escaped, put_one_line, put_place, put_three_lines, put_two_lines,
+};
 use lab_history::Op;
 use lab_statement::put_statement;
-use lab_table::NoMemory;
+use lab_table::{NoMemory, RowName};
 use std::alloc::Global;
+use std::marker::Model;
+
+/// What a box tells.
+#[derive(Drop)]
+struct BoxText {
+    statement: Vec<u8>,
+    /// What the statement did.
+    effect: Vec<u8>,
+    /// Whether that is cut where there is no more room.
+    is_cut: bool,
+    /// What stands of it, where it isn't cut.
+    shown: Vec<u8>,
+}
+
+impl Model for BoxText {
+    ghost use Rattle.lab_picture.specs.Boxes.{Telling};
+
+    ghost Value = { Telling };
+
+    ghost view = { λ t. record { statement = t.statement.items; effect = t.effect.items; is_cut = t.is_cut; shown = t.shown.items } };
+}
 
 /// The text of an operation's statement.
 fn statement_text(alloc: Global, op: &Op) -> Result<Vec<u8>, NoMemory>
@@ -21,28 +49,107 @@ fn statement_text(alloc: Global, op: &Op) -> Result<Vec<u8>, NoMemory>
     Ok(text)
 }
 
+/// Whether a statement and what it did have four lines at most.
+fn fits(statement: &[u8], effect: &[u8]) -> bool
+    ensures { result ≡ fits statement.now effect.now }
+{
+    in_three(BOX_BYTES, statement) + in_four(BOX_BYTES, effect) <= 4
+}
+
+/// What a box tells of an operation where these rows are named. NoMemory where an allocation was refused.
+fn telling(alloc: Global, named: &[RowName], op: &Op) -> Result<BoxText, NoMemory>
+    ensures { IfOk result (λ told. told ≡ telling named.now op.now) }
+{
+    let statement = statement_text(alloc, op)?;
+    let effect = effect_text(alloc, op)?;
+    if fits(&statement, &effect) {
+        let shown = Vec::from_slice(alloc, &effect)?;
+        Ok(BoxText {
+            statement,
+            effect,
+            is_cut: false,
+            shown,
+        })
+    } else if tells_named(named, op) {
+        let shown = kept_text(alloc, named, op)?;
+        Ok(BoxText {
+            statement,
+            effect,
+            is_cut: false,
+            shown,
+        })
+    } else {
+        Ok(BoxText {
+            statement,
+            effect,
+            is_cut: true,
+            shown: Vec::new(alloc),
+        })
+    }
+}
+
+/// How many lines that has, where no more are shown than there is room for.
+fn lines_of(told: &BoxText) -> u64
+    ensures { result ≡ lines_of told.now }
+{
+    if told.is_cut {
+        4
+    } else {
+        in_three(BOX_BYTES, &told.statement) as u64 + count_lines(BOX_BYTES, &told.shown)
+    }
+}
+
+/// How many lines an operation's box needs where these rows are named. NoMemory where an allocation was refused.
+#[tactic(auto, unfolding(crate::specs::Boxes::box_lines))]
+pub fn lines_in_box(alloc: Global, named: &[RowName], op: &Op) -> Result<u64, NoMemory>
+    ensures { IfOk result (λ lines. lines ≡ box_lines named.now op.now) }
+{
+    if named.len() == 0 {
+        return Ok(4);
+    }
+    let told = telling(alloc, named, op)?;
+    Ok(lines_of(&told))
+}
+
+/// Appends the edge of a box.
+#[tactic(auto, unfolding(crate::specs::Boxes::stroke_text))]
+fn put_stroke(out: &mut Vec<u8>, stroke: Stroke) -> Result<(), NoMemory>
+    ensures { OnOk result (out.new.items ≡ out.old.items ++ stroke_text stroke) }
+{
+    match stroke {
+        Stroke::Plain => out.extend_from_slice(b" fill=\"white\" stroke=\"black\"/>\n"),
+        Stroke::Thick => out.extend_from_slice(
+            b" fill=\"white\" stroke=\"black\" stroke-width=\"4\"/>\n",
+        ),
+        Stroke::Thin => out.extend_from_slice(
+            b" fill=\"white\" stroke=\"black\" stroke-width=\"0.5\"/>\n",
+        ),
+    }
+}
+
 /// Appends a box's size and edge.
 #[tactic(auto, unfolding(crate::specs::Boxes::edge_style))]
-fn put_edge_style(out: &mut Vec<u8>, marked: bool) -> Result<(), NoMemory>
-    ensures { OnOk result (out.new.items ≡ out.old.items ++ edge_style marked) }
+fn put_edge_style(out: &mut Vec<u8>, height: u128, stroke: Stroke) -> Result<(), NoMemory>
+    ensures { OnOk result (out.new.items ≡ out.old.items ++ edge_style height stroke) }
 {
-    if marked {
-        out.extend_from_slice(
-            b" width=\"196\" height=\"60\" fill=\"white\" stroke=\"black\" stroke-width=\"4\"/>\n",
-        )
-    } else {
-        out.extend_from_slice(b" width=\"196\" height=\"60\" fill=\"white\" stroke=\"black\"/>\n")
-    }
+    put_size(out, 196, height)?;
+    put_stroke(out, stroke)
 }
 
 /// Appends a box without its text.
 #[tactic(auto, unfolding(crate::specs::Boxes::edge_text))]
-fn put_edge(out: &mut Vec<u8>, x: u64, y: u64, marked: bool) -> Result<(), NoMemory>
-    ensures { OnOk result (out.new.items ≡ out.old.items ++ edge_text x y marked) }
+fn put_edge(
+    out: &mut Vec<u8>,
+    x: u128,
+    y: u128,
+    height: u128,
+    stroke: Stroke,
+) -> Result<(), NoMemory>
+    ensures { OnOk result (out.new.items ≡ out.old.items ++ edge_text x y height stroke) }
 {
     out.extend_from_slice(b"<rect")?;
     put_place(out, x, y)?;
-    put_edge_style(out, marked)
+    put_edge_style(out, height, stroke)
 }
 
 /// Appends what an operation did in the lines that a statement of so many lines leaves of four.
@@ -50,12 +157,12 @@ fn put_edge(out: &mut Vec<u8>, x: u64, y: u64, marked: bool) -> Result<(), NoMem
 fn put_rest(
     alloc: Global,
     out: &mut Vec<u8>,
-    x: u64,
-    y: u64,
-    used: u64,
+    x: u128,
+    y: u128,
+    used: u128,
     effect: &[u8],
 ) -> Result<(), NoMemory>
-    requires { y ≤ 12000000000000 }
+    requires { y ≤ 700000000000000000000000000000000 }
     ensures { OnOk result (out.new.items ≡ out.old.items ++ rest_lines x y used effect.now) }
 {
     if used == 1 {
@@ -67,22 +174,41 @@ fn put_rest(
     }
 }
 
-/// Appends a statement in up to three lines, and below it what it did, in up to four with those.
+/// Appends what an operation did, below its statement.
+#[tactic(auto, unfolding(crate::specs::Boxes::effect_lines))]
+fn put_effect(
+    alloc: Global,
+    out: &mut Vec<u8>,
+    x: u128,
+    y: u128,
+    told: &BoxText,
+) -> Result<(), NoMemory>
+    requires { y ≤ 700000000000000000000000000000000 }
+    ensures { OnOk result (out.new.items ≡ out.old.items ++ effect_lines x y told.now) }
+{
+    if told.is_cut {
+        let used = in_three(BOX_BYTES, &told.statement);
+        put_rest(alloc, out, x, y, used, &told.effect)
+    } else {
+        put_all_lines(out, x, y, BOX_BYTES, &told.shown)
+    }
+}
+
+/// Appends a statement in up to three lines, and below it what it did.
 #[tactic(auto, unfolding(crate::specs::Boxes::inner_text))]
 fn put_inner(
     alloc: Global,
     out: &mut Vec<u8>,
-    x: u64,
-    y: u64,
-    statement: &[u8],
-    effect: &[u8],
+    x: u128,
+    y: u128,
+    told: &BoxText,
 ) -> Result<(), NoMemory>
-    requires { y ≤ 11500000000000 }
-    ensures { OnOk result (out.new.items ≡ out.old.items ++ inner_text x y statement.now effect.now) }
+    requires { y ≤ 600000000000000000000000000000000 }
+    ensures { OnOk result (out.new.items ≡ out.old.items ++ inner_text x y told.now) }
 {
-    put_three_lines(alloc, out, b"", x, y, 13, BOX_BYTES, statement)?;
-    let used = in_three(BOX_BYTES, statement);
-    put_rest(alloc, out, x, y + 13 * used, used, effect)
+    put_three_lines(alloc, out, b"", x, y, 13, BOX_BYTES, &told.statement)?;
+    let used = in_three(BOX_BYTES, &told.statement);
+    put_effect(alloc, out, x, y + 13 * used, told)
 }
 
 /// Appends a statement and what it did as a title.
@@ -96,51 +222,76 @@ fn put_whole(out: &mut Vec<u8>, statement: &[u8], effect: &[u8]) -> Result<(), N
     out.extend_from_slice(b"</title>\n")
 }
 
-/// Appends an operation's box, and in it its text in up to four lines; the whole text is its title. The marked one has a
-/// thick edge.
+/// Appends a box of this height, and in it its text; the whole text is its title.
 #[tactic(auto, unfolding(crate::specs::Boxes::box_text))]
 fn put_box(
     alloc: Global,
     out: &mut Vec<u8>,
-    x: u64,
-    y: u64,
-    marked: bool,
-    op: &Op,
+    x: u128,
+    y: u128,
+    height: u128,
+    stroke: Stroke,
+    told: &BoxText,
 ) -> Result<(), NoMemory>
-    requires { (x ≤ 1000) × (y ≤ 11000000000000) }
-    ensures { OnOk result (out.new.items ≡ out.old.items ++ box_text x y marked op.now) }
+    requires { (x ≤ 1000) × (y ≤ 500000000000000000000000000000000) }
+    ensures { OnOk result (out.new.items ≡ out.old.items ++ box_text x y height stroke told.now) }
 {
-    let statement = statement_text(alloc, op)?;
-    let effect = effect_text(alloc, op)?;
-    put_whole(out, &statement, &effect)?;
-    put_edge(out, x, y, marked)?;
-    put_inner(alloc, out, x + 5, y + 14, &statement, &effect)?;
+    put_whole(out, &told.statement, &told.effect)?;
+    put_edge(out, x, y, height, stroke)?;
+    put_inner(alloc, out, x + 5, y + 14, told)?;
     out.extend_from_slice(b"</g>\n")
 }
 
-/// Appends the boxes of a column.
+/// The edge of a column's box: thick where it is marked, thin in a thin column.
+fn stroke_of(column: &Column, op: u32) -> Stroke
+    ensures { result ≡ stroke_of column.now op }
+{
+    if op == column.marked {
+        Stroke::Thick
+    } else if column.thin {
+        Stroke::Thin
+    } else {
+        Stroke::Plain
+    }
+}
+
+/// Appends the box of an operation.
+fn put_op(
+    alloc: Global,
+    out: &mut Vec<u8>,
+    frame: Frame,
+    arrows: &[Arrow],
+    column: &Column,
+    number: u32,
+    op: &Op,
+) -> Result<(), NoMemory>
+    requires { column.now.place ≤ 40 }
+    ensures { OnOk result (out.new.items ≡ out.old.items ++ op_text frame arrows.now column.now number op.now) }
+{
+    let named = rows_at(alloc, arrows, column.txn, number)?;
+    let told = telling(alloc, &named, op)?;
+    let x = left(column.place);
+    let y = upper(frame, column.place, number);
+    let height = box_height(frame);
+    put_box(alloc, out, x, y, height, stroke_of(column, number), &told)
+}
+
+/// Appends the boxes of a column. The arrows say which rows stay in them.
 pub fn put_boxes(
     alloc: Global,
     out: &mut Vec<u8>,
     frame: Frame,
-    column: usize,
-    marked: u32,
+    arrows: &[Arrow],
+    column: &Column,
     ops: &[Op],
 ) -> Result<(), NoMemory>
-    requires column { column ≤ 40 }
+    requires column { column.now.place ≤ 40 }
     requires few { length ops.now ≤ 10000 }
-    ensures { OnOk result (out.new.items ≡ out.old.items ++ boxes_text frame column marked 0 ops.now) }
+    ensures { OnOk result (out.new.items ≡ out.old.items ++ boxes_text frame arrows.now column.now 0 ops.now) }
 {
     for (index, op) in ops.iter().enumerate() {
         let number = index as u32 + 1;
-        put_box(
-            alloc,
-            out,
-            left(column),
-            upper(frame, column, number),
-            number == marked,
-            op,
-        )?;
+        put_op(alloc, out, frame, arrows, column, number, op)?;
     }
     Ok(())
 }

@@ -2,11 +2,11 @@
 
 ghost use Rattle.std.specs.Prelude.{◌≡◌, ◌++◌, ◌≤◌, length, OnOk, IfOk};
 ghost use Rattle.lab_history.specs.Version.{outcome_of};
-ghost use Rattle.lab_picture.specs.Columns.{most_ops, outcome_name, marked_in, title_of, title_text, column_text, columns_text};
+ghost use Rattle.lab_picture.specs.Columns.{most_ops, outcome_name, marked_in, title_of, title_weight, title_text, is_thin, column_at, column_text, columns_text, shown_columns};
 
 use crate::boxes::put_boxes;
-use crate::drawing::Spot;
-use crate::layout::{Frame, left, top};
+use crate::drawing::{Arrow, Spot};
+use crate::layout::{Column, Frame, MAX_COLUMNS, left, top};
 use crate::states::ops_of;
 use crate::text::{put_number, put_text};
 use lab_history::{History, Outcome};
@@ -58,20 +58,48 @@ fn title_of(alloc: Global, history: &History, txn: TxnNo) -> Result<Vec<u8>, NoM
     Ok(title)
 }
 
+/// The letters of what stands above a column.
+fn title_weight(thin: bool) -> &'static [u8]
+    ensures { result.now ≡ title_weight thin }
+{
+    if thin { b"" } else { b" font-weight=\"bold\"" }
+}
+
 /// Appends what stands above a column.
 #[tactic(auto, unfolding(crate::specs::Columns::title_text))]
 fn put_title(
     alloc: Global,
     out: &mut Vec<u8>,
     history: &History,
-    x: u64,
-    y: u64,
+    x: u128,
+    y: u128,
+    thin: bool,
     txn: TxnNo,
 ) -> Result<(), NoMemory>
-    ensures { OnOk result (out.new.items ≡ out.old.items ++ title_text history.now x y txn) }
+    ensures { OnOk result (out.new.items ≡ out.old.items ++ title_text history.now x y thin txn) }
 {
     let title = title_of(alloc, history, txn)?;
-    put_text(out, b" font-weight=\"bold\"", x, y, &title)
+    put_text(out, title_weight(thin), x, y, &title)
+}
+
+/// Whether a transaction is among those whose columns are thin.
+pub fn is_thin(thin: &[TxnNo], txn: TxnNo) -> bool
+    ensures { result ≡ is_thin thin.now txn }
+{
+    thin.contains(&txn)
+}
+
+/// The column of a transaction at a place.
+fn column_at(marked: &Option<Spot>, thin: &[TxnNo], place: usize, txn: TxnNo) -> Column
+    ensures value { result ≡ column_at marked.now thin.now place txn }
+    ensures place { result.place ≡ place }
+{
+    Column {
+        place,
+        txn,
+        marked: marked_in(marked, txn),
+        thin: is_thin(thin, txn),
+    }
 }
 
 /// Appends a column: the transaction and its operations.
@@ -80,40 +108,44 @@ fn put_column(
     out: &mut Vec<u8>,
     history: &History,
     frame: Frame,
-    column: usize,
-    marked: u32,
-    txn: TxnNo,
+    arrows: &[Arrow],
+    column: &Column,
 ) -> Result<(), NoMemory>
-    requires { column ≤ 40 }
-    ensures { OnOk result (out.new.items ≡ out.old.items ++ column_text history.now frame column marked txn) }
+    requires { column.now.place ≤ 40 }
+    ensures { OnOk result (out.new.items ≡ out.old.items ++ column_text history.now frame arrows.now column.now) }
 {
-    let y = top(frame, column);
-    put_title(alloc, out, history, left(column), y, txn)?;
-    put_boxes(alloc, out, frame, column, marked, ops_of(history, txn))
+    let x = left(column.place);
+    let y = top(frame, column.place);
+    put_title(alloc, out, history, x, y, column.thin, column.txn)?;
+    let ops = ops_of(history, column.txn);
+    put_boxes(alloc, out, frame, arrows, column, ops)
 }
 
-/// Appends the columns from left to right.
+/// Appends the columns from left to right. The arrows say which rows stay in the boxes at their ends.
 pub fn put_columns(
     alloc: Global,
     out: &mut Vec<u8>,
     history: &History,
     frame: Frame,
+    arrows: &[Arrow],
     marked: &Option<Spot>,
+    thin: &[TxnNo],
     columns: &[TxnNo],
 ) -> Result<(), NoMemory>
     requires { length columns.now ≤ 40 }
-    ensures { OnOk result (out.new.items ≡ out.old.items ++ columns_text history.now frame marked.now 0 columns.now) }
+    ensures { OnOk result (out.new.items ≡ out.old.items ++ columns_text history.now frame arrows.now marked.now thin.now 0 columns.now) }
 {
-    for (column, txn) in columns.iter().enumerate() {
-        put_column(
-            alloc,
-            out,
-            history,
-            frame,
-            column,
-            marked_in(marked, *txn),
-            *txn,
-        )?;
+    for (place, txn) in columns.iter().enumerate() {
+        let column = column_at(marked, thin, place, *txn);
+        put_column(alloc, out, history, frame, arrows, &column)?;
     }
     Ok(())
+}
+
+/// The transactions that are drawn: no more than forty.
+pub fn shown_columns(columns: &[TxnNo]) -> &[TxnNo]
+    ensures value { result.now ≡ shown_columns columns.now }
+    ensures few { length result.now ≤ 40 }
+{
+    &columns[..columns.len().min(MAX_COLUMNS)]
 }

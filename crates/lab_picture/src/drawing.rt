@@ -47,6 +47,10 @@ pub struct Drawing {
     pub title: Vec<u8>,
     /// The dependencies of a yes, which all lead forward; they are drawn thin.
     pub forward: Vec<Arrow>,
+    /// The transactions whose columns are thin: those who wrote versions that a cycle saw, and aren't of it.
+    pub thin: Vec<TxnNo>,
+    /// The rows whose first and last values stand below the columns.
+    pub rows: Vec<RowName>,
 }
 
 impl Model for Drawing {
@@ -54,5 +58,5 @@ impl Model for Drawing {
 
     ghost Value = { Sketch };
 
-    ghost view = { λ d. record { columns = d.columns.items; arrows = d.arrows.items; marked = d.marked; about = d.about.items; note = d.note.items; title = d.title.items; forward = d.forward.items } };
+    ghost view = { λ d. record { columns = d.columns.items; arrows = d.arrows.items; marked = d.marked; about = d.about.items; note = d.note.items; title = d.title.items; forward = d.forward.items; thin = d.thin.items; rows = d.rows.items } };
 }

@@ -14,7 +14,7 @@ use lab_table::{NoMemory, RowName, Value};
 use std::alloc::Global;
 
 /// Appends a row's state; None is absent.
-fn put_state(out: &mut Vec<u8>, state: Option<Value>) -> Result<(), NoMemory>
+pub fn put_state(out: &mut Vec<u8>, state: Option<Value>) -> Result<(), NoMemory>
     ensures { OnOk result (out.new.items ≡ out.old.items ++ state_text state) }
 {
     match state {
@@ -37,7 +37,7 @@ fn put_left(out: &mut Vec<u8>, written: Option<State>) -> Result<(), NoMemory>
 }
 
 /// Appends a row that was listed, and how it was left.
-fn put_listed_row(
+pub fn put_listed_row(
     out: &mut Vec<u8>,
     writes: &Writes,
     row: RowName,
@@ -50,7 +50,7 @@ fn put_listed_row(
 }
 
 /// Appends a row that was written and not listed.
-fn put_written_row(out: &mut Vec<u8>, row: RowName, state: State) -> Result<(), NoMemory>
+pub fn put_written_row(out: &mut Vec<u8>, row: RowName, state: State) -> Result<(), NoMemory>
     ensures { OnOk result (out.new.items ≡ out.old.items ++ written_row (row, state_value state)) }
 {
     out.extend_from_slice(b"=> (")?;

@@ -25,6 +25,8 @@ pub fn blank(alloc: Global, about: Vec<u8>) -> Drawing
         note: Vec::new(alloc),
         title: Vec::new(alloc),
         forward: Vec::new(alloc),
+        thin: Vec::new(alloc),
+        rows: Vec::new(alloc),
     }
 }
 
@@ -39,7 +41,7 @@ pub fn add_column(columns: &mut Vec<TxnNo>, txn: TxnNo) -> Result<(), NoMemory>
 }
 
 /// The version of a row that an operation of a transaction sees, where there is such an operation.
-fn seen_at(history: &History, txn: TxnNo, op: u32, row: RowName) -> Option<VersionName>
+pub fn seen_at(history: &History, txn: TxnNo, op: u32, row: RowName) -> Option<VersionName>
     ensures { result ≡ seen_at history.now txn op row }
 {
     let found = ops_of(history, txn).get(op.checked_sub(1)? as usize)?;
@@ -60,7 +62,7 @@ fn written_by(history: &History, row: RowName, version: VersionName) -> Option<S
 }
 
 /// The operation that wrote the version that is seen, where there is one.
-fn writer_at(history: &History, row: RowName, version: Option<VersionName>) -> Option<Spot>
+pub fn writer_at(history: &History, row: RowName, version: Option<VersionName>) -> Option<Spot>
     ensures { result ≡ writer_at history.now row version }
 {
     match version {
@@ -131,6 +133,8 @@ pub fn of_place(
                 note,
                 title: Vec::new(alloc),
                 forward: Vec::new(alloc),
+                thin: Vec::new(alloc),
+                rows: Vec::new(alloc),
             })
         }
         Some(from) => {
@@ -152,6 +156,8 @@ pub fn of_place(
                 note,
                 title: Vec::new(alloc),
                 forward: Vec::new(alloc),
+                thin: Vec::new(alloc),
+                rows: Vec::new(alloc),
             })
         }
     }
@@ -186,6 +192,8 @@ fn of_row(
         note: Vec::new(alloc),
         title: Vec::new(alloc),
         forward: Vec::new(alloc),
+        thin: Vec::new(alloc),
+        rows: Vec::new(alloc),
     })
 }
 
@@ -222,6 +230,8 @@ fn of_misplaced(
         note,
         title: Vec::new(alloc),
         forward: Vec::new(alloc),
+        thin: Vec::new(alloc),
+        rows: Vec::new(alloc),
     })
 }
 

@@ -182,5 +182,7 @@ pub fn with_forward(forward: Vec<Arrow>, drawing: Drawing) -> Drawing
         note: drawing.note,
         title: drawing.title,
         forward,
+        thin: drawing.thin,
+        rows: drawing.rows,
     }
 }

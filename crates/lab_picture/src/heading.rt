@@ -1,14 +1,13 @@
 //! What stands above the columns of a picture, and where.
 
 ghost use Rattle.std.specs.Prelude.{◌≡◌, ◌++◌, ◌≤◌, IfOk, OnOk};
-ghost use Rattle.lab_picture.specs.Heading.{title_bytes, line_bytes, more_text, more_lines, far_text, far_lines, first_tie, legend_lines, marked_lines, about_y, note_y, more_y, far_y, legend_y, marked_y, head_y, title_style, title_lines, notes_text, sample_end, sample_path, sample_text, dependencies_text, legend_text, marked_text, heading_text};
+ghost use Rattle.lab_picture.specs.Heading.{title_bytes, line_bytes, more_text, more_lines, far_text, far_lines, first_tie, legend_lines, marked_lines, about_y, note_y, more_y, far_y, legend_y, marked_y, thin_y, beside_y, head_y, title_style, title_lines, notes_text, columns_note, heading_text};
 
+use crate::column_notes::{beside_lines, beside_text, thin_lines, thin_text};
 use crate::drawing::{Arrow, Drawing, Spot, Tie};
 use crate::layout::MAX_COLUMNS;
-use crate::route::put_style;
-use crate::text::{
-    in_four, in_one, in_two, put_four_lines, put_line, put_number, put_text, put_two_lines,
-};
+use crate::legend::{put_legend, put_marked};
+use crate::text::{in_four, in_one, in_two, put_four_lines, put_line, put_number, put_two_lines};
 use lab_table::NoMemory;
 use std::alloc::Global;
 
@@ -42,7 +41,7 @@ fn more_text(alloc: Global, columns: usize) -> Result<Vec<u8>, NoMemory>
 }
 
 /// How many lines that has.
-fn more_lines(columns: usize) -> u64
+fn more_lines(columns: usize) -> u128
     ensures value { result ≡ more_lines columns }
     ensures small { result ≤ 1 }
 {
@@ -66,7 +65,7 @@ fn far_text(columns: usize, forward: &[Arrow]) -> &'static [u8]
 }
 
 /// How many lines that has.
-fn far_lines(columns: usize, forward: &[Arrow]) -> u64
+fn far_lines(columns: usize, forward: &[Arrow]) -> u128
     ensures value { result ≡ far_lines columns forward.now }
     ensures small { result ≤ 1 }
 {
@@ -90,7 +89,7 @@ fn first_tie(arrows: &[Arrow], others: &[Arrow]) -> Option<Tie>
 }
 
 /// How many lines a legend has.
-fn legend_lines(tie: Option<Tie>) -> u64
+fn legend_lines(tie: Option<Tie>) -> u128
     ensures value { result ≡ legend_lines tie }
     ensures small { result ≤ 2 }
 {
@@ -102,7 +101,7 @@ fn legend_lines(tie: Option<Tie>) -> u64
 }
 
 /// How many lines tell of a marked operation.
-fn marked_lines(marked: &Option<Spot>) -> u64
+fn marked_lines(marked: &Option<Spot>) -> u128
     ensures value { result ≡ marked_lines marked.now }
     ensures small { result ≤ 1 }
 {
@@ -113,7 +112,7 @@ fn marked_lines(marked: &Option<Spot>) -> u64
 }
 
 /// The ground line of the report's line.
-fn about_y(drawing: &Drawing) -> u64
+fn about_y(drawing: &Drawing) -> u128
     ensures value { result ≡ about_y drawing.now }
     ensures small { result ≤ 66 }
 {
@@ -121,7 +120,7 @@ fn about_y(drawing: &Drawing) -> u64
 }
 
 /// That of the note.
-fn note_y(drawing: &Drawing) -> u64
+fn note_y(drawing: &Drawing) -> u128
     ensures value { result ≡ note_y drawing.now }
     ensures small { result ≤ 122 }
 {
@@ -129,7 +128,7 @@ fn note_y(drawing: &Drawing) -> u64
 }
 
 /// That of how many transactions are drawn.
-fn more_y(drawing: &Drawing) -> u64
+fn more_y(drawing: &Drawing) -> u128
     ensures value { result ≡ more_y drawing.now }
     ensures small { result ≤ 136 }
 {
@@ -137,7 +136,7 @@ fn more_y(drawing: &Drawing) -> u64
 }
 
 /// That of which arrows aren't.
-fn far_y(drawing: &Drawing) -> u64
+fn far_y(drawing: &Drawing) -> u128
     ensures value { result ≡ far_y drawing.now }
     ensures small { result ≤ 150 }
     ensures low { 4 ≤ result }
@@ -146,7 +145,7 @@ fn far_y(drawing: &Drawing) -> u64
 }
 
 /// That of the legend.
-fn legend_y(drawing: &Drawing) -> u64
+fn legend_y(drawing: &Drawing) -> u128
     ensures value { result ≡ legend_y drawing.now }
     ensures small { result ≤ 164 }
     ensures low { 4 ≤ result }
@@ -155,19 +154,35 @@ fn legend_y(drawing: &Drawing) -> u64
 }
 
 /// That of what a thick edge says.
-fn marked_y(drawing: &Drawing) -> u64
+fn marked_y(drawing: &Drawing) -> u128
     ensures value { result ≡ marked_y drawing.now }
     ensures small { result ≤ 192 }
 {
     legend_y(drawing) + 14 * legend_lines(first_tie(&drawing.arrows, &drawing.forward))
 }
 
-/// The ground line of what stands above the columns of the first band.
-pub fn head_y(drawing: &Drawing) -> u64
-    ensures value { result ≡ head_y drawing.now }
+/// That of what a thin column says.
+fn thin_y(drawing: &Drawing) -> u128
+    ensures value { result ≡ thin_y drawing.now }
+    ensures small { result ≤ 206 }
+{
+    marked_y(drawing) + 14 * marked_lines(&drawing.marked)
+}
+
+/// That of what boxes side by side say.
+fn beside_y(drawing: &Drawing) -> u128
+    ensures value { result ≡ beside_y drawing.now }
     ensures small { result ≤ 220 }
 {
-    marked_y(drawing) + 14 * marked_lines(&drawing.marked) + 14
+    thin_y(drawing) + 14 * thin_lines(drawing)
+}
+
+/// The ground line of what stands above the columns of the first band.
+pub fn head_y(drawing: &Drawing) -> u128
+    ensures value { result ≡ head_y drawing.now }
+    ensures small { result ≤ 248 }
+{
+    beside_y(drawing) + 14 * beside_lines(drawing.columns.len()) + 14
 }
 
 /// The attributes of the title.
@@ -218,76 +233,14 @@ fn put_notes(alloc: Global, out: &mut Vec<u8>, drawing: &Drawing) -> Result<(), 
     put_line(out, b"", 26, far_y(drawing), far)
 }
 
-/// Appends the end of an arrow as it is drawn.
-#[tactic(auto, unfolding(crate::specs::Heading::sample_end))]
-fn put_sample_end(out: &mut Vec<u8>, y: u64, dashed: bool) -> Result<(), NoMemory>
-    ensures { OnOk result (out.new.items ≡ out.old.items ++ sample_end y dashed) }
+/// Appends what thin columns and boxes side by side say.
+#[tactic(auto, unfolding(crate::specs::Heading::columns_note))]
+fn put_columns_note(out: &mut Vec<u8>, drawing: &Drawing) -> Result<(), NoMemory>
+    ensures { OnOk result (out.new.items ≡ out.old.items ++ columns_note drawing.now) }
 {
-    put_number(out, y.saturating_sub(4))?;
-    out.extend_from_slice(b" H58")?;
-    put_style(out, false, dashed)
-}
-
-/// Appends an arrow as it is drawn.
-fn put_sample_path(out: &mut Vec<u8>, y: u64, dashed: bool) -> Result<(), NoMemory>
-    ensures { OnOk result (out.new.items ≡ out.old.items ++ sample_path y dashed) }
-{
-    out.extend_from_slice(b"<path d=\"M26 ")?;
-    put_sample_end(out, y, dashed)
-}
-
-/// Appends an arrow as it is drawn, and what it says.
-#[tactic(auto, unfolding(crate::specs::Heading::sample_text))]
-fn put_sample(out: &mut Vec<u8>, y: u64, dashed: bool, says: &[u8]) -> Result<(), NoMemory>
-    ensures { OnOk result (out.new.items ≡ out.old.items ++ sample_text y dashed says.now) }
-{
-    put_sample_path(out, y, dashed)?;
-    put_text(out, b"", 66, y, says)
-}
-
-/// Appends what the arrows of dependencies say.
-fn put_dependencies(out: &mut Vec<u8>, y: u64) -> Result<(), NoMemory>
-    requires { y ≤ 1000 }
-    ensures { OnOk result (out.new.items ≡ out.old.items ++ dependencies_text y) }
-{
-    put_sample(
-        out,
-        y,
-        false,
-        b"dependency: the second saw or overwrote what the first wrote",
-    )?;
-    put_sample(
-        out,
-        y + 14,
-        true,
-        b"anti-dependency: the first didn't see what the second wrote",
-    )
-}
-
-/// Appends what the arrows say.
-#[tactic(auto, unfolding(crate::specs::Heading::legend_text))]
-fn put_legend(out: &mut Vec<u8>, y: u64, tie: Option<Tie>) -> Result<(), NoMemory>
-    requires { y ≤ 1000 }
-    ensures { OnOk result (out.new.items ≡ out.old.items ++ legend_text y tie) }
-{
-    match tie {
-        None => Ok(()),
-        Some(Tie::Version) => {
-            put_sample(out, y, false, b"sees: the second saw what the first wrote")
-        }
-        Some(Tie::Dependency(_)) => put_dependencies(out, y),
-    }
-}
-
-/// Appends what a thick edge says.
-#[tactic(auto, unfolding(crate::specs::Heading::marked_text))]
-fn put_marked(out: &mut Vec<u8>, y: u64, marked: &Option<Spot>) -> Result<(), NoMemory>
-    ensures { OnOk result (out.new.items ≡ out.old.items ++ marked_text y marked.now) }
-{
-    match marked {
-        None => Ok(()),
-        Some(_) => put_text(out, b"", 26, y, b"thick edge: the operation in question"),
-    }
+    put_line(out, b"", 26, thin_y(drawing), thin_text(drawing))?;
+    let beside = beside_text(drawing.columns.len());
+    put_line(out, b"", 26, beside_y(drawing), beside)
 }
 
 /// Appends all that stands above the columns.
@@ -299,5 +252,6 @@ pub fn put_heading(alloc: Global, out: &mut Vec<u8>, drawing: &Drawing) -> Resul
     put_notes(alloc, out, drawing)?;
     let tie = first_tie(&drawing.arrows, &drawing.forward);
     put_legend(out, legend_y(drawing), tie)?;
-    put_marked(out, marked_y(drawing), &drawing.marked)
+    put_marked(out, marked_y(drawing), &drawing.marked)?;
+    put_columns_note(out, drawing)
 }

@@ -16,14 +16,18 @@ ghost use Rattle.lab_picture.specs.ArrowLaws.{IsArrowOf, NamesWalk, DrawsArrow, 
 ghost use Rattle.lab_picture.specs.InstallLaws.{NamesOut};
 ghost use Rattle.lab_picture.specs.Installs.{misplaced_text};
 ghost use Rattle.lab_picture.specs.Making.{arrow_of};
+ghost use Rattle.lab_picture.specs.Nicknames.{HasForm, nicknames_of};
 ghost use Rattle.lab_picture.specs.Picture.{IsPictureAnswer};
-ghost use Rattle.lab_picture.specs.Sketch.{drawing_of};
+ghost use Rattle.lab_picture.specs.RowLaws.{HasRow};
+ghost use Rattle.lab_picture.specs.Sketch.{Sketch, drawing_of};
+ghost use Rattle.lab_picture.specs.Svg.{arrows_drawn};
 ghost use Rattle.lab_picture.specs.Text.{escaped, is_plain};
 ghost use Rattle.lab_picture.specs.TitleLaws.{TellsWalk};
 ghost use Rattle.lab_reports.specs.declared.phenomenon.Phenomenon.{Phenomenon};
 ghost use Rattle.lab_reports.specs.declared.phenomenon.Phenomenon.TheVariants.{G0};
 ghost use Rattle.lab_picture.specs.declared.drawing.Arrow.{Arrow as Drawn};
 ghost use Rattle.lab_picture.specs.declared.installs.Misplaced.{Misplaced};
+ghost use Rattle.lab_picture.specs.declared.nicknames.Nickname.{Nickname as Said};
 
 /// In a sound history each dependency has its arrow, between the operations that make it: the last write of who installs,
 /// and the first operation of who reads that makes the dependency.
@@ -45,6 +49,12 @@ pub fn each_dependency_of_a_walk_is_drawn()
         → (e : Dependency) → Contains walk e → DrawsWrites h (drawing_of h report (Some G0)) e }
 {}
 
+/// Where an arrow is drawn between two operations, the box of each has all that is told of the arrow's row, if the
+/// operation tells of it: nothing of it is cut, and its parentheses aren't parted, unless they are wider than a line.
+pub fn each_arrow_has_its_row_at_both_ends()
+    ensures { (h : Held) (d : Sketch) (a : Drawn) → Contains (arrows_drawn d) a → HasRow h (arrows_drawn d) a.row a.from × HasRow h (arrows_drawn d) a.row a.to }
+{}
+
 /// The picture of a row whose installers aren't its committed writers names one that is out of place, and how: a writer
 /// that isn't an installer, where there is one.
 pub fn who_is_out_of_place_is_named()
@@ -52,9 +62,15 @@ pub fn who_is_out_of_place_is_named()
         → (found : Misplaced) × ((drawing_of h report None).note ≡ misplaced_text found) × NamesOut h row found }
 {}
 
-/// The title of a no with a walk names a phenomenon that the walk is one of.
+/// The title of a no with a walk names a phenomenon that the walk is one of, and the walk's nicknames.
 pub fn a_title_names_what_a_walk_is()
     ensures { (h : Held) (report : Report) (walk : List Dependency) → IsExactJudgement h report → report.serial ≡ NoCycle walk → TellsWalk h walk (drawing_of h report None).title }
+{}
+
+/// A nickname is said of a cycle exactly where the cycle has the form that the nickname is for.
+pub fn a_nickname_is_said_of_its_form()
+    ensures said { (h : Held) (walk : List Dependency) (nickname : Said) → Contains (nicknames_of h walk) nickname → HasForm h walk nickname }
+    ensures due { (h : Held) (walk : List Dependency) (nickname : Said) → HasForm h walk nickname → Contains (nicknames_of h walk) nickname }
 {}
 
 /// An escaped text has no byte that begins or ends markup.

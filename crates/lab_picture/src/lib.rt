@@ -12,37 +12,50 @@
 
 mod arrows;
 mod boxes;
+mod column_notes;
 mod columns;
+mod cycles;
 mod drawing;
 mod drawn;
 mod effect;
 mod fault_drawing;
 mod forward;
+mod growth;
 mod heading;
 mod installs;
+mod kept;
 mod laws;
 mod layout;
+mod legend;
+mod lines;
 mod making;
+mod named;
+mod nicknames;
 mod picturing;
 mod route;
+mod size;
 mod sketch;
 mod states;
 mod svg;
 mod text;
 mod titles;
+mod values;
 
+pub use cycles::{cycle_of, walk_phenomenon};
 pub use drawing::{Arrow, Drawing, Spot, Tie};
 pub use drawn::picture_with;
 pub use installs::{Misplaced, Why, installers_of, misplaced_of, put_misplaced};
 pub use laws::{
-    a_title_names_what_a_walk_is, an_escaped_text_has_no_markup, each_dependency_has_its_arrow,
+    a_nickname_is_said_of_its_form, a_title_names_what_a_walk_is, an_escaped_text_has_no_markup,
+    each_arrow_has_its_row_at_both_ends, each_dependency_has_its_arrow,
     each_dependency_of_a_walk_is_drawn, each_dependency_of_installed_rows_has_its_arrow,
     picture_answer_unique, who_is_out_of_place_is_named,
 };
 pub use making::arrow_of;
+pub use nicknames::Nickname;
 pub use picturing::picture;
 pub use sketch::draw;
 pub use states::{ops_of, state_at};
 pub use svg::print_drawing;
 pub use text::put_escaped;
-pub use titles::{put_finding_title, put_serial_title, walk_phenomenon};
+pub use titles::{put_finding_title, put_full_name, put_serial_title};

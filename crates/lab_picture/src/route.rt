@@ -4,7 +4,7 @@ ghost use Rattle.std.specs.Prelude.{◌≡◌, ◌++◌, ◌≤◌, OnOk};
 ghost use Rattle.lab_picture.specs.Arrows.{straight_path, down_path, across_path, round_path, weight_text, dash_text, style_text};
 
 use crate::layout::Corner;
-use crate::text::put_number;
+use crate::text::put_pixels;
 use lab_table::NoMemory;
 
 /// Appends the way of a straight arrow.
@@ -13,51 +13,51 @@ pub fn put_straight_path(out: &mut Vec<u8>, from: Corner, to: Corner) -> Result<
     ensures { OnOk result (out.new.items ≡ out.old.items ++ straight_path from to) }
 {
     out.extend_from_slice(b"M")?;
-    put_number(out, from.x)?;
+    put_pixels(out, from.x)?;
     out.extend_from_slice(b" ")?;
-    put_number(out, from.y)?;
+    put_pixels(out, from.y)?;
     out.extend_from_slice(b" L")?;
-    put_number(out, to.x)?;
+    put_pixels(out, to.x)?;
     out.extend_from_slice(b" ")?;
-    put_number(out, to.y)
+    put_pixels(out, to.y)
 }
 
 /// Appends the way from a box to below the boxes.
 #[tactic(auto, unfolding(crate::specs::Arrows::down_path))]
-fn put_down(out: &mut Vec<u8>, from: Corner, lane: u64) -> Result<(), NoMemory>
+fn put_down(out: &mut Vec<u8>, from: Corner, lane: u128) -> Result<(), NoMemory>
     requires { from.x ≤ 1000 }
     ensures { OnOk result (out.new.items ≡ out.old.items ++ down_path from lane) }
 {
     out.extend_from_slice(b"M")?;
-    put_number(out, from.x)?;
+    put_pixels(out, from.x)?;
     out.extend_from_slice(b" ")?;
-    put_number(out, from.y)?;
+    put_pixels(out, from.y)?;
     out.extend_from_slice(b" H")?;
-    put_number(out, from.x + 6)?;
+    put_pixels(out, from.x + 6)?;
     out.extend_from_slice(b" V")?;
-    put_number(out, lane)
+    put_pixels(out, lane)
 }
 
 /// Appends the way from below the boxes to a box, which turns up or down at this distance before it.
 #[tactic(auto, unfolding(crate::specs::Arrows::across_path))]
-fn put_across(out: &mut Vec<u8>, aside: u64, to: Corner) -> Result<(), NoMemory>
+fn put_across(out: &mut Vec<u8>, aside: u128, to: Corner) -> Result<(), NoMemory>
     requires { aside ≤ to.x }
     ensures { OnOk result (out.new.items ≡ out.old.items ++ across_path aside to) }
 {
     out.extend_from_slice(b" H")?;
-    put_number(out, to.x - aside)?;
+    put_pixels(out, to.x - aside)?;
     out.extend_from_slice(b" V")?;
-    put_number(out, to.y)?;
+    put_pixels(out, to.y)?;
     out.extend_from_slice(b" H")?;
-    put_number(out, to.x)
+    put_pixels(out, to.x)
 }
 
 /// Appends the way of an arrow that goes below the boxes.
 pub fn put_round_path(
     out: &mut Vec<u8>,
     from: Corner,
-    lane: u64,
-    aside: u64,
+    lane: u128,
+    aside: u128,
     to: Corner,
 ) -> Result<(), NoMemory>
     requires { (from.x ≤ 1000) × (aside ≤ to.x) }

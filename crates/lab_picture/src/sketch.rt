@@ -1,18 +1,20 @@
 //! Making a drawing.
 
-ghost use Rattle.std.specs.Prelude.{◌≡◌, flat_map, IfOk};
-ghost use Rattle.lab_picture.specs.Making.{arrows_of};
-ghost use Rattle.lab_picture.specs.Sketch.{of_serial, of_finding, of_walk, entitled, drawing_of};
+ghost use Rattle.std.specs.Prelude.{◌≡◌, [], map, flat_map, IfOk};
+ghost use Rattle.lab_picture.specs.Making.{arrows_of, listed};
+ghost use Rattle.lab_picture.specs.Sketch.{of_serial, of_finding, with_columns, seen_writers, others, walk_with, of_walk, entitled, drawing_of};
 
+use crate::arrows::is_dashed;
 use crate::drawing::{Arrow, Drawing};
-use crate::fault_drawing::{add_column, blank, of_fault, of_place};
+use crate::fault_drawing::{add_column, blank, of_fault, of_place, seen_at, writer_at};
 use crate::making::arrow_of;
 use crate::titles::{put_finding_title, put_serial_title};
+use crate::values::rows_of;
 use lab_deps::Edge;
 use lab_history::History;
 use lab_judge::{Finding, Report, Serial, put_finding, put_serial};
 use lab_reports::Phenomenon;
-use lab_table::NoMemory;
+use lab_table::{NoMemory, TxnNo};
 use std::alloc::Global;
 
 /// The drawing of a serial verdict, or of what a report finds of a phenomenon. NoMemory where an allocation was
@@ -28,14 +30,14 @@ pub fn draw(
     match asked {
         None => {
             let mut title = Vec::new(alloc);
-            put_serial_title(&mut title, &report.serial)?;
+            put_serial_title(&mut title, history, &report.serial)?;
             let drawing = of_serial(alloc, history, &report.serial)?;
             Ok(entitled(title, drawing))
         }
         Some(phenomenon) => {
             let found = phenomenon.found_in(report);
             let mut title = Vec::new(alloc);
-            put_finding_title(&mut title, phenomenon, found)?;
+            put_finding_title(&mut title, history, phenomenon, found)?;
             let drawing = of_finding(alloc, history, phenomenon.name(), found)?;
             Ok(entitled(title, drawing))
         }
@@ -54,6 +56,8 @@ fn entitled(title: Vec<u8>, drawing: Drawing) -> Drawing
         note: drawing.note,
         title,
         forward: drawing.forward,
+        thin: drawing.thin,
+        rows: drawing.rows,
     }
 }
 
@@ -71,6 +75,8 @@ fn of_serial(alloc: Global, history: &History, serial: &Serial) -> Result<Drawin
             note: Vec::new(alloc),
             title: Vec::new(alloc),
             forward: Vec::new(alloc),
+            thin: Vec::new(alloc),
+            rows: Vec::new(alloc),
         }),
         Serial::NoFault(fault) => of_fault(alloc, history, about, *fault),
         Serial::NoCycle(walk) => of_walk(alloc, history, about, walk.as_slice()),
@@ -94,7 +100,7 @@ fn of_finding(
     }
 }
 
-/// The drawing of a walk.
+/// The drawing of a walk. NoMemory where an allocation was refused.
 fn of_walk(
     alloc: Global,
     history: &History,
@@ -103,20 +109,84 @@ fn of_walk(
 ) -> Result<Drawing, NoMemory>
     ensures { IfOk result (λ drawing. drawing ≡ of_walk history.now about.items walk.now) }
 {
+    let columns = walk_columns(alloc, walk)?;
+    let arrows = arrows_of(alloc, history, walk)?;
+    walk_with(alloc, history, about, columns, arrows, walk)
+}
+
+/// The transactions of a walk. NoMemory where an allocation was refused.
+fn walk_columns(alloc: Global, walk: &[Edge]) -> Result<Vec<TxnNo>, NoMemory>
+    ensures { IfOk result (λ columns. columns.items ≡ with_columns [] (map (λ e. e.from) walk.now)) }
+{
     let mut columns = Vec::new(alloc);
     for edge in walk {
         add_column(&mut columns, edge.from)?;
     }
-    let arrows = arrows_of(alloc, history, walk)?;
+    Ok(columns)
+}
+
+/// The drawing of a walk with these columns and arrows, with thin columns and the rows whose values are told. NoMemory
+/// where an allocation was refused.
+fn walk_with(
+    alloc: Global,
+    history: &History,
+    about: Vec<u8>,
+    columns: Vec<TxnNo>,
+    arrows: Vec<Arrow>,
+    walk: &[Edge],
+) -> Result<Drawing, NoMemory>
+    ensures { IfOk result (λ drawing. drawing ≡ walk_with history.now about.items columns.items arrows.items walk.now) }
+{
+    let thin = others(alloc, history, &columns, &arrows)?;
+    let mut all = columns;
+    all.extend_from_slice(&thin)?;
+    let rows = rows_of(alloc, history, walk)?;
     Ok(Drawing {
-        columns,
+        columns: all,
         arrows,
         marked: None,
         about,
         note: Vec::new(alloc),
         title: Vec::new(alloc),
         forward: Vec::new(alloc),
+        thin,
+        rows,
     })
+}
+
+/// The transaction that wrote the version which the first operation of an anti-dependency's arrow sees; None of another
+/// arrow, and where that version is the initial one.
+fn seen_writer(history: &History, arrow: &Arrow) -> Option<TxnNo>
+    ensures { listed result ≡ seen_writers history.now arrow.now }
+{
+    if is_dashed(arrow.tie) {
+        let seen = seen_at(history, arrow.from.txn, arrow.from.op, arrow.row);
+        let writer = writer_at(history, arrow.row, seen)?;
+        Some(writer.txn)
+    } else {
+        None
+    }
+}
+
+/// Those who wrote the versions that the arrows of a walk pass by and have no column, each once. NoMemory where an
+/// allocation was refused.
+fn others(
+    alloc: Global,
+    history: &History,
+    columns: &[TxnNo],
+    arrows: &[Arrow],
+) -> Result<Vec<TxnNo>, NoMemory>
+    ensures { IfOk result (λ found. found.items ≡ others columns.now (flat_map (seen_writers history.now) arrows.now)) }
+{
+    let mut found = Vec::new(alloc);
+    for arrow in arrows {
+        if let Some(txn) = seen_writer(history, arrow) {
+            if !columns.contains(&txn) {
+                add_column(&mut found, txn)?;
+            }
+        }
+    }
+    Ok(found)
 }
 
 /// The arrows of a walk's dependencies.

@@ -1,43 +1,35 @@
 //! The text of a drawing, in SVG.
 
-ghost use Rattle.std.specs.Prelude.{◌≡◌, ◌++◌, ◌≤◌, length, IfOk, OnOk};
-ghost use Rattle.lab_picture.specs.Svg.{size_text, numbers_text, view_text, svg_text, letters_text, open_text, told_title, told_line, told_text, marker_text, ground_text, head_text, drawn_columns, drawn_arrows, svg_with, svg_of, shown_columns, goes_below, frame_of};
+ghost use Rattle.std.specs.Prelude.{◌≡◌, ◌++◌, ◌≤◌, IfOk, OnOk};
+ghost use Rattle.lab_picture.specs.Svg.{numbers_text, view_text, svg_text, letters_text, open_text, told_title, told_line, told_text, marker_text, ground_text, head_text, arrows_drawn, drawn_columns, drawn_arrows, values_y, whole_height, body_text, svg_with, svg_of, goes_below, frame_of};
 
 use crate::arrows::{has_round, put_arrows};
-use crate::columns::{most_ops, put_columns};
-use crate::drawing::Drawing;
+use crate::columns::{most_ops, put_columns, shown_columns};
+use crate::drawing::{Arrow, Drawing};
+use crate::growth::extra_lines;
 use crate::heading::{head_y, put_heading};
-use crate::layout::{Frame, MAX_COLUMNS, height, width};
-use crate::text::{put_escaped, put_number};
+use crate::layout::{Frame, height, width};
+use crate::named::drawn;
+use crate::size::put_size;
+use crate::text::{put_escaped, put_pixels};
+use crate::values::{put_values, value_lines};
 use lab_history::History;
-use lab_table::{NoMemory, TxnNo};
+use lab_table::NoMemory;
 use std::alloc::Global;
-
-/// Appends a size as attributes.
-#[tactic(auto, unfolding(crate::specs::Svg::size_text))]
-fn put_size(out: &mut Vec<u8>, width: u64, height: u64) -> Result<(), NoMemory>
-    ensures { OnOk result (out.new.items ≡ out.old.items ++ size_text width height) }
-{
-    out.extend_from_slice(b" width=\"")?;
-    put_number(out, width)?;
-    out.extend_from_slice(b"\" height=\"")?;
-    put_number(out, height)?;
-    out.extend_from_slice(b"\"")
-}
 
 /// Appends two numbers as the end of an attribute.
 #[tactic(auto, unfolding(crate::specs::Svg::numbers_text))]
-fn put_numbers(out: &mut Vec<u8>, a: u64, b: u64) -> Result<(), NoMemory>
+fn put_numbers(out: &mut Vec<u8>, a: u128, b: u128) -> Result<(), NoMemory>
     ensures { OnOk result (out.new.items ≡ out.old.items ++ numbers_text a b) }
 {
-    put_number(out, a)?;
+    put_pixels(out, a)?;
     out.extend_from_slice(b" ")?;
-    put_number(out, b)?;
+    put_pixels(out, b)?;
     out.extend_from_slice(b"\"")
 }
 
 /// Appends that all of the ground is shown.
-fn put_view(out: &mut Vec<u8>, width: u64, height: u64) -> Result<(), NoMemory>
+fn put_view(out: &mut Vec<u8>, width: u128, height: u128) -> Result<(), NoMemory>
     ensures { OnOk result (out.new.items ≡ out.old.items ++ view_text width height) }
 {
     out.extend_from_slice(b" viewBox=\"0 0 ")?;
@@ -60,7 +52,7 @@ fn put_letters(out: &mut Vec<u8>) -> Result<(), NoMemory>
 
 /// Appends what opens a picture of this size.
 #[tactic(auto, unfolding(crate::specs::Svg::open_text))]
-fn put_open(out: &mut Vec<u8>, width: u64, height: u64) -> Result<(), NoMemory>
+fn put_open(out: &mut Vec<u8>, width: u128, height: u128) -> Result<(), NoMemory>
     ensures { OnOk result (out.new.items ≡ out.old.items ++ open_text width height) }
 {
     put_svg(out)?;
@@ -110,7 +102,7 @@ fn put_marker(out: &mut Vec<u8>) -> Result<(), NoMemory>
 
 /// Appends a white ground.
 #[tactic(auto, unfolding(crate::specs::Svg::ground_text))]
-fn put_ground(out: &mut Vec<u8>, width: u64, height: u64) -> Result<(), NoMemory>
+fn put_ground(out: &mut Vec<u8>, width: u128, height: u128) -> Result<(), NoMemory>
     ensures { OnOk result (out.new.items ≡ out.old.items ++ ground_text width height) }
 {
     out.extend_from_slice(b"<rect")?;
@@ -120,7 +112,7 @@ fn put_ground(out: &mut Vec<u8>, width: u64, height: u64) -> Result<(), NoMemory
 
 /// Appends what a picture of this size begins with.
 #[tactic(auto, unfolding(crate::specs::Svg::head_text))]
-fn put_head(out: &mut Vec<u8>, width: u64, height: u64, drawing: &Drawing) -> Result<(), NoMemory>
+fn put_head(out: &mut Vec<u8>, width: u128, height: u128, drawing: &Drawing) -> Result<(), NoMemory>
     ensures { OnOk result (out.new.items ≡ out.old.items ++ head_text width height drawing.now) }
 {
     put_open(out, width, height)?;
@@ -129,12 +121,12 @@ fn put_head(out: &mut Vec<u8>, width: u64, height: u64, drawing: &Drawing) -> Re
     put_ground(out, width, height)
 }
 
-/// The transactions that are drawn: no more than forty.
-fn shown_columns(columns: &[TxnNo]) -> &[TxnNo]
-    ensures value { result.now ≡ shown_columns columns.now }
-    ensures few { length result.now ≤ 40 }
+/// The arrows of a drawing that are drawn, those of a yes too. NoMemory where an allocation was refused.
+fn arrows_drawn(alloc: Global, drawing: &Drawing) -> Result<Vec<Arrow>, NoMemory>
+    ensures { IfOk result (λ arrows. arrows.items ≡ arrows_drawn drawing.now) }
 {
-    &columns[..columns.len().min(MAX_COLUMNS)]
+    let columns = shown_columns(&drawing.columns);
+    drawn(alloc, columns, &drawing.arrows, &drawing.forward)
 }
 
 /// Appends the columns that are drawn.
@@ -148,8 +140,18 @@ fn put_drawn_columns(
 ) -> Result<(), NoMemory>
     ensures { OnOk result (out.new.items ≡ out.old.items ++ drawn_columns history.now frame drawing.now) }
 {
+    let arrows = arrows_drawn(alloc, drawing)?;
     let columns = shown_columns(&drawing.columns);
-    put_columns(alloc, out, history, frame, &drawing.marked, columns)
+    put_columns(
+        alloc,
+        out,
+        history,
+        frame,
+        &arrows,
+        &drawing.marked,
+        &drawing.thin,
+        columns,
+    )
 }
 
 /// Appends the arrows between them, those of a yes thin.
@@ -175,15 +177,51 @@ fn goes_below(drawing: &Drawing) -> bool
     has_round(columns, &drawing.arrows) || has_round(columns, &drawing.forward)
 }
 
-/// The frame of a drawing.
-fn frame_of(history: &History, drawing: &Drawing) -> Frame
-    ensures { result ≡ frame_of history.now drawing.now }
+/// The frame of a drawing. NoMemory where an allocation was refused.
+fn frame_of(alloc: Global, history: &History, drawing: &Drawing) -> Result<Frame, NoMemory>
+    ensures { IfOk result (λ frame. frame ≡ frame_of history.now drawing.now) }
 {
-    Frame {
+    let arrows = arrows_drawn(alloc, drawing)?;
+    let columns = shown_columns(&drawing.columns);
+    let extra = extra_lines(alloc, history, &arrows, columns)?;
+    Ok(Frame {
         head: head_y(drawing) as u16,
-        most: most_ops(history, shown_columns(&drawing.columns)),
+        most: most_ops(history, columns),
         round: goes_below(drawing),
-    }
+        extra,
+    })
+}
+
+/// The ground line of the first line of values.
+fn values_y(frame: Frame, drawing: &Drawing) -> u128
+    ensures value { result ≡ values_y frame drawing.now }
+    ensures small { result ≤ 200000000000000000000000000000000 }
+{
+    height(frame, shown_columns(&drawing.columns).len())
+}
+
+/// How high a picture is.
+fn whole_height(frame: Frame, drawing: &Drawing) -> u128
+    ensures { result ≡ whole_height frame drawing.now }
+{
+    values_y(frame, drawing) + 14 * value_lines(&drawing.rows)
+}
+
+/// Appends what stands below the heading: the columns, the arrows and the values.
+#[tactic(auto, unfolding(crate::specs::Svg::body_text))]
+fn put_body(
+    alloc: Global,
+    out: &mut Vec<u8>,
+    history: &History,
+    frame: Frame,
+    drawing: &Drawing,
+) -> Result<(), NoMemory>
+    ensures { OnOk result (out.new.items ≡ out.old.items ++ body_text history.now frame drawing.now) }
+{
+    put_drawn_columns(alloc, out, history, frame, drawing)?;
+    put_drawn_arrows(alloc, out, frame, drawing)?;
+    let y = values_y(frame, drawing);
+    put_values(alloc, out, history, y, &drawing.rows)
 }
 
 /// Appends the text of a drawing in a frame.
@@ -197,12 +235,10 @@ fn put_drawing(
 ) -> Result<(), NoMemory>
     ensures { OnOk result (out.new.items ≡ out.old.items ++ svg_with history.now frame drawing.now) }
 {
-    let shown = shown_columns(&drawing.columns).len();
     let wide = width(drawing.columns.len());
-    put_head(out, wide, height(frame, shown), drawing)?;
+    put_head(out, wide, whole_height(frame, drawing), drawing)?;
     put_heading(alloc, out, drawing)?;
-    put_drawn_columns(alloc, out, history, frame, drawing)?;
-    put_drawn_arrows(alloc, out, frame, drawing)?;
+    put_body(alloc, out, history, frame, drawing)?;
     out.extend_from_slice(b"</svg>\n")
 }
 
@@ -215,7 +251,7 @@ pub fn print_drawing(
     ensures { IfOk result (λ text. text.items ≡ svg_of history.now drawing.now) }
 {
     let mut out = Vec::new(alloc);
-    let frame = frame_of(history, drawing);
+    let frame = frame_of(alloc, history, drawing)?;
     put_drawing(alloc, &mut out, history, frame, drawing)?;
     Ok(out)
 }

@@ -15,6 +15,13 @@ pub fn put_number(out: &mut Vec<u8>, number: u64) -> Result<(), NoMemory>
     out.extend_from_slice(Buffer::new().format(number).as_bytes())
 }
 
+/// Appends a number of pixels in decimal.
+pub fn put_pixels(out: &mut Vec<u8>, number: u128) -> Result<(), NoMemory>
+    ensures { OnOk result (out.new.items ≡ out.old.items ++ decimal number) }
+{
+    out.extend_from_slice(Buffer::new().format(number).as_bytes())
+}
+
 /// Appends a text in which no byte is markup.
 pub fn put_escaped(out: &mut Vec<u8>, text: &[u8]) -> Result<(), NoMemory>
     ensures { OnOk result (out.new.items ≡ out.old.items ++ escaped text.now) }
@@ -106,7 +113,7 @@ fn cut(width: usize, text: &[u8]) -> usize
 }
 
 /// A text's first line, and what is left of it.
-fn divided(width: usize, text: &[u8]) -> (&[u8], &[u8])
+pub fn divided(width: usize, text: &[u8]) -> (&[u8], &[u8])
     ensures line { result.0.now ≡ front width text.now }
     ensures rest { result.1.now ≡ back width text.now }
 {
@@ -118,13 +125,13 @@ fn divided(width: usize, text: &[u8]) -> (&[u8], &[u8])
 
 /// Appends a place as attributes.
 #[tactic(auto, unfolding(crate::specs::Text::place_text))]
-pub fn put_place(out: &mut Vec<u8>, x: u64, y: u64) -> Result<(), NoMemory>
+pub fn put_place(out: &mut Vec<u8>, x: u128, y: u128) -> Result<(), NoMemory>
     ensures { OnOk result (out.new.items ≡ out.old.items ++ place_text x y) }
 {
     out.extend_from_slice(b" x=\"")?;
-    put_number(out, x)?;
+    put_pixels(out, x)?;
     out.extend_from_slice(b"\" y=\"")?;
-    put_number(out, y)?;
+    put_pixels(out, y)?;
     out.extend_from_slice(b"\"")
 }
 
@@ -133,8 +140,8 @@ pub fn put_place(out: &mut Vec<u8>, x: u64, y: u64) -> Result<(), NoMemory>
 pub fn put_text(
     out: &mut Vec<u8>,
     attributes: &[u8],
-    x: u64,
-    y: u64,
+    x: u128,
+    y: u128,
     text: &[u8],
 ) -> Result<(), NoMemory>
     ensures { OnOk result (out.new.items ≡ out.old.items ++ text_at attributes.now x y text.now) }
@@ -152,8 +159,8 @@ pub fn put_text(
 pub fn put_line(
     out: &mut Vec<u8>,
     attributes: &[u8],
-    x: u64,
-    y: u64,
+    x: u128,
+    y: u128,
     text: &[u8],
 ) -> Result<(), NoMemory>
     ensures { OnOk result (out.new.items ≡ out.old.items ++ line_at attributes.now x y text.now) }
@@ -186,8 +193,8 @@ pub fn put_one_line(
     alloc: Global,
     out: &mut Vec<u8>,
     attributes: &[u8],
-    x: u64,
-    y: u64,
+    x: u128,
+    y: u128,
     width: usize,
     text: &[u8],
 ) -> Result<(), NoMemory>
@@ -204,13 +211,13 @@ pub fn put_two_lines(
     alloc: Global,
     out: &mut Vec<u8>,
     attributes: &[u8],
-    x: u64,
-    y: u64,
-    step: u64,
+    x: u128,
+    y: u128,
+    step: u128,
     width: usize,
     text: &[u8],
 ) -> Result<(), NoMemory>
-    requires { (3 ≤ width) × (y ≤ 100000000000000) × (step ≤ 100) }
+    requires { (3 ≤ width) × (y ≤ 1200000000000000000000000000000000) × (step ≤ 100) }
     ensures { OnOk result (out.new.items ≡ out.old.items ++ two_lines attributes.now x y step width text.now) }
 {
     let (first, rest) = divided(width, text);
@@ -224,13 +231,13 @@ pub fn put_three_lines(
     alloc: Global,
     out: &mut Vec<u8>,
     attributes: &[u8],
-    x: u64,
-    y: u64,
-    step: u64,
+    x: u128,
+    y: u128,
+    step: u128,
     width: usize,
     text: &[u8],
 ) -> Result<(), NoMemory>
-    requires { (3 ≤ width) × (y ≤ 90000000000000) × (step ≤ 100) }
+    requires { (3 ≤ width) × (y ≤ 1100000000000000000000000000000000) × (step ≤ 100) }
     ensures { OnOk result (out.new.items ≡ out.old.items ++ three_lines attributes.now x y step width text.now) }
 {
     let (first, rest) = divided(width, text);
@@ -244,13 +251,13 @@ pub fn put_four_lines(
     alloc: Global,
     out: &mut Vec<u8>,
     attributes: &[u8],
-    x: u64,
-    y: u64,
-    step: u64,
+    x: u128,
+    y: u128,
+    step: u128,
     width: usize,
     text: &[u8],
 ) -> Result<(), NoMemory>
-    requires { (3 ≤ width) × (y ≤ 80000000000000) × (step ≤ 100) }
+    requires { (3 ≤ width) × (y ≤ 1000000000000000000000000000000000) × (step ≤ 100) }
     ensures { OnOk result (out.new.items ≡ out.old.items ++ four_lines attributes.now x y step width text.now) }
 {
     let (first, rest) = divided(width, text);
@@ -259,7 +266,7 @@ pub fn put_four_lines(
 }
 
 /// How many lines a text has in one line: none where it is empty.
-pub fn in_one(text: &[u8]) -> u64
+pub fn in_one(text: &[u8]) -> u128
     ensures value { result ≡ in_one text.now }
     ensures small { result ≤ 1 }
 {
@@ -267,7 +274,7 @@ pub fn in_one(text: &[u8]) -> u64
 }
 
 /// How many lines a text has in up to two.
-pub fn in_two(width: usize, text: &[u8]) -> u64
+pub fn in_two(width: usize, text: &[u8]) -> u128
     ensures value { result ≡ in_two width text.now }
     ensures small { result ≤ 2 }
 {
@@ -276,7 +283,7 @@ pub fn in_two(width: usize, text: &[u8]) -> u64
 }
 
 /// How many lines a text has in up to three.
-pub fn in_three(width: usize, text: &[u8]) -> u64
+pub fn in_three(width: usize, text: &[u8]) -> u128
     ensures value { result ≡ in_three width text.now }
     ensures small { result ≤ 3 }
 {
@@ -285,7 +292,7 @@ pub fn in_three(width: usize, text: &[u8]) -> u64
 }
 
 /// How many lines a text has in up to four.
-pub fn in_four(width: usize, text: &[u8]) -> u64
+pub fn in_four(width: usize, text: &[u8]) -> u128
     ensures value { result ≡ in_four width text.now }
     ensures small { result ≤ 4 }
 {

@@ -1,82 +1,51 @@
 //! The titles of drawings, in words. Each function appends; after NoMemory, part of what was to be appended may stand there.
 
 ghost use Rattle.std.specs.Prelude.{◌≡◌, ◌++◌, flat_map, OnOk};
-ghost use Rattle.lab_picture.specs.Titles.{phenomenon_words, full_name, by_counts, walk_phenomenon, next_text, txns_text, op_fault_words, row_fault_words, with_code, fault_words, serial_title, finding_word, finding_title};
+ghost use Rattle.lab_picture.specs.Cycles.{walk_phenomenon};
+ghost use Rattle.lab_picture.specs.Titles.{words_behind, full_name, next_text, txns_text, op_fault_words, row_fault_words, with_code, fault_words, serial_title, finding_word, finding_title};
 
+use crate::cycles::{cycle_of, walk_phenomenon};
+use crate::nicknames::put_nicknames;
 use crate::text::put_number;
-use lab_deps::{Edge, FaultParts, Kind, LocalFault, OpFault, RowFault};
+use lab_deps::{Edge, FaultParts, LocalFault, OpFault, RowFault};
+use lab_history::History;
 use lab_judge::{Finding, Serial};
 use lab_reports::Phenomenon;
 use lab_table::{NoMemory, TxnNo};
 
-/// The textbook name of a phenomenon, in words.
-fn phenomenon_words(phenomenon: Phenomenon) -> &'static str
-    ensures { result.now ≡ phenomenon_words phenomenon }
+/// Appends what stands behind a phenomenon's code: the name that it has in textbooks, or the nicknames of the cycle by
+/// which it is present.
+fn put_words_behind(
+    out: &mut Vec<u8>,
+    history: &History,
+    phenomenon: Phenomenon,
+    walk: &[Edge],
+) -> Result<(), NoMemory>
+    ensures { OnOk result (out.new.items ≡ out.old.items ++ words_behind history.now phenomenon walk.now) }
 {
     match phenomenon {
-        Phenomenon::G0 => "dirty write",
-        Phenomenon::G1a => "aborted read",
-        Phenomenon::G1b => "intermediate read",
-        Phenomenon::G1c => "circular information flow",
-        Phenomenon::GSingle => "read skew",
-        Phenomenon::G2Item => "write skew",
-        Phenomenon::G2 => "anti-dependency cycle",
+        Phenomenon::G0 => out.extend_from_slice(b" (dirty write)"),
+        Phenomenon::G1a => out.extend_from_slice(b" (aborted read)"),
+        Phenomenon::G1b => out.extend_from_slice(b" (intermediate read)"),
+        Phenomenon::G1c => out.extend_from_slice(b" (circular information flow)"),
+        Phenomenon::GSingle | Phenomenon::G2Item | Phenomenon::G2 => {
+            put_nicknames(out, history, walk)
+        }
     }
 }
 
-/// Appends a phenomenon by its code, and its textbook name behind it.
-fn put_full_name(out: &mut Vec<u8>, phenomenon: Phenomenon) -> Result<(), NoMemory>
-    ensures { OnOk result (out.new.items ≡ out.old.items ++ full_name phenomenon) }
+/// Appends a phenomenon that is present by this cycle, or by no cycle where there are no dependencies: its code, and behind
+/// it, in parentheses, the name that it has in textbooks or the cycle's nicknames.
+pub fn put_full_name(
+    out: &mut Vec<u8>,
+    history: &History,
+    phenomenon: Phenomenon,
+    walk: &[Edge],
+) -> Result<(), NoMemory>
+    ensures { OnOk result (out.new.items ≡ out.old.items ++ full_name history.now phenomenon walk.now) }
 {
     out.extend_from_slice(phenomenon.name().as_bytes())?;
-    out.extend_from_slice(b" (")?;
-    out.extend_from_slice(phenomenon_words(phenomenon).as_bytes())?;
-    out.extend_from_slice(b")")
-}
-
-/// The most particular phenomenon of a cycle with so many anti-dependencies, item anti-dependencies, and
-/// dependencies that are no writes after writes.
-fn by_counts(antis: usize, items: usize, others: usize) -> Phenomenon
-    ensures { result ≡ by_counts antis items others }
-{
-    if antis == 0 {
-        if others == 0 {
-            Phenomenon::G0
-        } else {
-            Phenomenon::G1c
-        }
-    } else if antis == 1 {
-        Phenomenon::GSingle
-    } else if items == 0 {
-        Phenomenon::G2
-    } else {
-        Phenomenon::G2Item
-    }
-}
-
-/// The most particular phenomenon that a cycle is.
-pub fn walk_phenomenon(walk: &[Edge]) -> Phenomenon
-    ensures { result ≡ walk_phenomenon walk.now }
-{
-    let mut antis = 0;
-    let mut items = 0;
-    let mut others = 0;
-    for edge in walk {
-        match edge.kind {
-            Kind::Write => {}
-            Kind::ItemRead | Kind::PredicateRead => others += 1,
-            Kind::ItemAnti => {
-                antis += 1;
-                items += 1;
-                others += 1;
-            }
-            Kind::PredicateAnti => {
-                antis += 1;
-                others += 1;
-            }
-        }
-    }
-    by_counts(antis, items, others)
+    put_words_behind(out, history, phenomenon, walk)
 }
 
 /// Appends transactions, each behind a comma.
@@ -149,9 +118,20 @@ fn put_fault_words(out: &mut Vec<u8>, fault: LocalFault) -> Result<(), NoMemory>
     }
 }
 
-/// Appends the title of a serial verdict.
-pub fn put_serial_title(out: &mut Vec<u8>, serial: &Serial) -> Result<(), NoMemory>
-    ensures { OnOk result (out.new.items ≡ out.old.items ++ serial_title serial.now) }
+/// Appends the most particular phenomenon that a cycle is.
+fn put_cycle_name(out: &mut Vec<u8>, history: &History, walk: &[Edge]) -> Result<(), NoMemory>
+    ensures { OnOk result (out.new.items ≡ out.old.items ++ full_name history.now (walk_phenomenon walk.now) walk.now) }
+{
+    put_full_name(out, history, walk_phenomenon(walk), walk)
+}
+
+/// Appends the title of a serial verdict on a history.
+pub fn put_serial_title(
+    out: &mut Vec<u8>,
+    history: &History,
+    serial: &Serial,
+) -> Result<(), NoMemory>
+    ensures { OnOk result (out.new.items ≡ out.old.items ++ serial_title history.now serial.now) }
 {
     match serial {
         Serial::Yes(order) => {
@@ -164,7 +144,7 @@ pub fn put_serial_title(out: &mut Vec<u8>, serial: &Serial) -> Result<(), NoMemo
         }
         Serial::NoCycle(walk) => {
             out.extend_from_slice(b"Not serializable: ")?;
-            put_full_name(out, walk_phenomenon(walk.as_slice()))
+            put_cycle_name(out, history, walk.as_slice())
         }
     }
 }
@@ -181,14 +161,15 @@ fn finding_word(finding: &Finding) -> &'static str
     }
 }
 
-/// Appends the title of what is found of a phenomenon.
+/// Appends the title of what is found of a phenomenon in a history.
 pub fn put_finding_title(
     out: &mut Vec<u8>,
+    history: &History,
     phenomenon: Phenomenon,
     finding: &Finding,
 ) -> Result<(), NoMemory>
-    ensures { OnOk result (out.new.items ≡ out.old.items ++ finding_title phenomenon finding.now) }
+    ensures { OnOk result (out.new.items ≡ out.old.items ++ finding_title history.now phenomenon finding.now) }
 {
-    put_full_name(out, phenomenon)?;
+    put_full_name(out, history, phenomenon, cycle_of(finding))?;
     out.extend_from_slice(finding_word(finding).as_bytes())
 }

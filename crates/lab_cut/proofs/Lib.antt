@@ -1,0 +1,17 @@
+pub mod Steps
+pub mod OneMore
+pub mod KeptSteps
+pub mod Sublists
+pub mod PartLaws
+pub mod MadeEntries
+pub mod Masks
+pub mod NewNumbers
+pub mod KeptTxns
+pub mod CutTxns
+pub mod FoundStates
+pub mod CutParts
+pub mod Overlays
+pub mod SameShape
+pub mod MadeParts
+pub mod ChosenRows
+pub mod Lists

@@ -1,0 +1,14 @@
+use Rattle.std.proofs.Common.{◌≡◌, ◌+◌, ◌≤◌, ◌++◌, drop}
+use Rattle.std.specs.FinMap.{empty}
+use Rattle.lab_cut.specs.PartOf.{numbered}
+use Rattle.lab_cut.specs.Left.{left_of}
+use Rattle.lab_cut.specs.Kept.{new_numbers, last_writes}
+use Rattle.lab_cut.proofs.kept.Kept.of.Given as goal
+
+abbrev pub invariant-loop-index : goal.invariant-loop-index
+invariant-loop-index l = record {
+  numbers : l.numbers.items ++ new_numbers l.last l.mask (drop l.index l.ops) ≡ new_numbers 0 l.initial.mask l.ops;
+  writes : last_writes l.writes (left_of l.mask (numbered (l.index + 1) (drop l.index l.ops))) ≡ last_writes empty (left_of l.initial.mask (numbered 1 l.ops));
+  mask : l.mask ≡ drop l.index l.initial.mask;
+  few : l.last ≤ l.index;
+}

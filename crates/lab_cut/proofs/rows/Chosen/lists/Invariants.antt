@@ -1,0 +1,8 @@
+use Rattle.std.proofs.Common.{◌≡◌, ◌++◌, drop}
+use Rattle.std.specs.FinMap.Entries.{where_key}
+use Rattle.lab_table.specs.Row.{row_cmp}
+use Rattle.lab_cut.specs.Chosen.{has}
+use Rattle.lab_cut.proofs.rows.Chosen.lists.Given as goal
+
+abbrev pub invariant-loop-row : goal.invariant-loop-row
+invariant-loop-row l = l.left.items ++ where_key row_cmp (has l.self) (drop l.row-index l.entries) ≡ where_key row_cmp (has l.self) l.entries

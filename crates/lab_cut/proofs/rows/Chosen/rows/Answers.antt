@@ -1,0 +1,16 @@
+use Rattle.std.proofs.Common.{◌∙◌, ap}
+use Rattle.std.specs.FinMap.{from_sorted}
+use Rattle.std.specs.FinMap.Entries.{where_key}
+use Rattle.lab_table.specs.Row.{row_cmp}
+use Rattle.lab_cut.specs.Chosen.{has}
+use Rattle.lab_cut.proofs.MadeEntries.{sorted_where}
+use Rattle.lab_cut.proofs.SameShape.{retained}
+use Rattle.lab_cut.proofs.rows.Chosen.rows.Goals as goal
+
+pub new-requires : goal.new-requires
+new-requires c = sorted_where (has c.args.self.now) c.args.rows.now c.entries.result.now c.in_ok-left.left.items c.entries.ensures c.in_ok-left.ensures
+
+pub returns : goal.returns
+returns c =
+    c.new.ensures ∙ ap (λ l. from_sorted {R = row_cmp} l) (c.in_ok-left.ensures ∙ ap (where_key row_cmp (has c.args.self.now)) c.entries.ensures)
+    ∙ retained (has c.args.self.now) c.args.rows.now

@@ -1,0 +1,19 @@
+use Rattle.std.proofs.Common.{◌∙◌, ap}
+use Rattle.std.specs.FinMap.{entries, from_sorted}
+use Rattle.lab_table.specs.Row.{row_cmp}
+use Rattle.lab_history.specs.VersionName.{new_states}
+use Rattle.lab_cut.specs.Cut.{base}
+use Rattle.lab_cut.specs.Kept.{kept_in}
+use Rattle.lab_cut.specs.MadeEntries.{made_entries}
+use Rattle.lab_cut.proofs.MadeEntries.{sorted_of}
+use Rattle.lab_cut.proofs.tables.bases.Goals as goal
+
+pub new-requires : goal.new-requires
+new-requires c =
+    sorted_of (base (kept_in c.args.moves.now) c.args.history.now) c.args.history.now.installed c.entries.result.now (new_states c.in_ok-bases.bases.items)
+    (c.entries.ensures ∙ ap entries c.installed.ensures) c.in_ok-bases.ensures
+
+pub returns : goal.returns
+returns c =
+    c.new.ensures
+    ∙ ap (λ l. from_sorted {R = row_cmp} l) (c.in_ok-bases.ensures ∙ ap (made_entries (base (kept_in c.args.moves.now) c.args.history.now)) (c.entries.ensures ∙ ap entries c.installed.ensures))

@@ -1,0 +1,14 @@
+//! Laws of parts. The functions have nothing to do: their contracts are the laws.
+
+ghost use Rattle.lab_history.specs.History.{History as Whole};
+ghost use Rattle.lab_cut.specs.PartOf.{IsPartOf};
+
+/// A history is a part of itself.
+pub fn whole_is_a_part()
+    ensures { (h : Whole) → IsPartOf h h }
+{}
+
+/// What is a part of a part is a part.
+pub fn part_of_a_part_is_a_part()
+    ensures { (small part h : Whole) → IsPartOf small part → IsPartOf part h → IsPartOf small h }
+{}

@@ -1,0 +1,8 @@
+use Rattle.std.proofs.Common.{◌≡◌, drop}
+use Rattle.std.specs.List.{list_any}
+use Rattle.std.specs.FinMap as finite
+use Rattle.lab_picture.specs.Named.{is_named}
+use Rattle.lab_picture.proofs.kept.lists_named.Given as goal
+
+abbrev pub invariant-loop-row : goal.invariant-loop-row
+invariant-loop-row l = list_any (λ row. is_named l.named row.0) (drop l.row-index (finite.entries l.rows)) ≡ list_any (λ row. is_named l.named row.0) (finite.entries l.rows)

@@ -1,0 +1,9 @@
+use Rattle.std.proofs.Common.{◌≡◌, drop}
+use Rattle.std.specs.List.{list_any}
+use Rattle.lab_history.specs.VersionName.{new_states}
+use Rattle.lab_picture.specs.Named.{is_named}
+use Rattle.lab_picture.proofs.kept.writes_named.Given as goal
+
+abbrev pub invariant-loop-row : goal.invariant-loop-row
+invariant-loop-row l =
+    list_any (λ row. is_named l.named row.0) (new_states (drop l.row-index l.row-items)) ≡ list_any (λ row. is_named l.named row.0) (new_states l.row-items)
