@@ -15,10 +15,10 @@ use Rattle.lab_reports.specs.Phenomena.{finding_of}
 use Rattle.lab_reports.specs.declared.phenomenon.Phenomenon.{Phenomenon}
 use Rattle.lab_explain.specs.Explanation.{order_sentence}
 use Rattle.lab_explain.specs.Faults.{recorded_text, due_text, most_often, mistake}
-use Rattle.lab_explain.specs.Findings.{serial_walk, found_beside, seen_flaw}
-use Rattle.lab_explain.specs.Names.{title_of}
+use Rattle.lab_explain.specs.Findings.{head_of, found_beside, seen_flaw}
 use Rattle.lab_explain.specs.Phrases.{no_order, unsound_text, round_text, not_judged}
 use Rattle.lab_explain.specs.Steps.{edge_text}
+use Rattle.lab_explain.specs.Told.{serial_walk}
 
 -- the first sentence of a serial verdict
 abbrev pub serial_sentence : Serial → List ℕ
@@ -41,7 +41,7 @@ mistake_text f = most_often (mistake (parts_of f))
 
 -- the sentence of what is found of a phenomenon, beside the serial verdict
 unfoldable pub finding_sentence : History → Report → Phenomenon → List ℕ
-finding_sentence h report p = title_of p ++ found_beside h p (serial_walk report.serial) (finding_of p report)
+finding_sentence h report p = head_of h p (finding_of p report) ++ found_beside h p (serial_walk report.serial) (finding_of p report)
 
 -- what is found of a phenomenon that is explained by itself
 abbrev pub found_text : History → Phenomenon → Finding → List ℕ
@@ -52,4 +52,4 @@ found_text h p NotJudged = not_judged
 
 -- its first sentence
 unfoldable pub found_sentence : History → Phenomenon → Finding → List ℕ
-found_sentence h p found = title_of p ++ found_text h p found
+found_sentence h p found = head_of h p found ++ found_text h p found

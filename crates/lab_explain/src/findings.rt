@@ -19,7 +19,7 @@ use lab_table::{NoMemory, RowName, TxnNo};
 use std::alloc::Global;
 
 /// Appends a phenomenon at the head of its part, by the cycle that is found of it.
-fn put_head(
+pub fn put_head(
     out: &mut Vec<u8>,
     history: &History,
     phenomenon: Phenomenon,

@@ -7,12 +7,12 @@ ghost use Rattle.lab_explain.specs.Places.{places_sentence};
 ghost use Rattle.lab_explain.specs.Sentences.{serial_sentence, edge_sentence, mistake_text, finding_sentence, found_text, found_sentence};
 
 use crate::faults::{mistake, put_due_text, put_most_often, put_recorded_text};
-use crate::findings::{put_found_beside, put_seen_flaw, serial_walk};
-use crate::names::title_of;
+use crate::findings::{put_found_beside, put_head, put_seen_flaw};
 use crate::phrases::{no_order, not_judged, round_text, unsound_text};
 use crate::places::put_sentence;
 use crate::sections::put_order_sentence;
 use crate::steps::put_edge;
+use crate::told::serial_walk;
 use lab_deps::{Edge, LocalFault};
 use lab_history::History;
 use lab_judge::{Finding, Places, Report, Serial};
@@ -90,8 +90,8 @@ pub fn put_finding_sentence(
     ensures { OnOk result (out.new.items ≡ out.old.items ++ finding_sentence history.now report.now phenomenon) }
 {
     let walk = serial_walk(alloc, &report.serial)?;
-    out.extend_from_slice(title_of(phenomenon).as_bytes())?;
     let finding = phenomenon.found_in(report);
+    put_head(out, history, phenomenon, finding)?;
     put_found_beside(alloc, out, history, phenomenon, &walk, finding)
 }
 
@@ -127,6 +127,6 @@ pub fn put_found_sentence(
 ) -> Result<(), NoMemory>
     ensures { OnOk result (out.new.items ≡ out.old.items ++ found_sentence history.now phenomenon finding.now) }
 {
-    out.extend_from_slice(title_of(phenomenon).as_bytes())?;
+    put_head(out, history, phenomenon, finding)?;
     put_found_text(out, history, phenomenon, finding)
 }

@@ -26,7 +26,7 @@ use Rattle.lab_page.specs.Head.{head_text, header_text}
 use Rattle.lab_page.specs.Levels.{finding_cell, meaning_cells, phenomenon_line, phenomena_text, levels_open, ladder_of, levels_text}
 use Rattle.lab_page.specs.Markup.{led_text, paragraph_text}
 use Rattle.lab_page.specs.Phrases.{phenomena_open}
-use Rattle.lab_page.specs.Questions.{cycle_of, shown_steps}
+use Rattle.lab_page.specs.Questions.{told_cycle, shown_steps}
 use Rattle.lab_page.specs.Rows.{rows_part}
 use Rattle.lab_page.specs.Scope.{Scope, scope_of}
 use Rattle.lab_page.specs.Transactions.{transactions_text}
@@ -188,16 +188,16 @@ module _ (h : History) (s : Scope) (report : Report) (asked : Option Phenomenon)
         edge_led whole (before + 1) es (within whole (first ++ rest) rest held (behind_it first rest rest (itself rest))),
       )
 
-  in_steps : Holds (steps_text h s report asked) (edge_items h s 0 (shown_steps (cycle_of report asked)))
+  in_steps : Holds (steps_text h s report asked) (edge_items h s 0 (shown_steps (told_cycle report asked)))
   unfolding steps_text
   in_steps =
-      let items : List ℕ = edge_items h s 0 (shown_steps (cycle_of report asked)) in
+      let items : List ℕ = edge_items h s 0 (shown_steps (told_cycle report asked)) in
       behind_it (codes "<ol class=\"steps\">\n") (items ++ fault_steps h report asked ++ codes "</ol>\n") items (in_front items (fault_steps h report asked ++ codes "</ol>\n") items (itself items))
 
   faults_in_steps : Holds (steps_text h s report asked) (fault_steps h report asked)
   unfolding steps_text
   faults_in_steps =
-      let items : List ℕ = edge_items h s 0 (shown_steps (cycle_of report asked)) in
+      let items : List ℕ = edge_items h s 0 (shown_steps (told_cycle report asked)) in
       let faults : List ℕ = fault_steps h report asked in
       behind_it (codes "<ol class=\"steps\">\n") (items ++ faults ++ codes "</ol>\n") faults
       (behind_it items (faults ++ codes "</ol>\n") faults (in_front faults (codes "</ol>\n") faults (itself faults)))
@@ -207,13 +207,13 @@ module _ (h : History) (s : Scope) (report : Report) (asked : Option Phenomenon)
   steps_in_sentences =
       let opening : List ℕ = opening_text (opening_of h report asked) in
       let steps : List ℕ = steps_text h s report asked in
-      behind_it opening (steps ++ behind_steps (cycle_of report asked)) steps (in_front steps (behind_steps (cycle_of report asked)) steps (itself steps))
+      behind_it opening (steps ++ behind_steps (told_cycle report asked)) steps (in_front steps (behind_steps (told_cycle report asked)) steps (itself steps))
 
   opening_in_sentences : Holds (sentences_text h s report asked) (opening_text (opening_of h report asked))
   unfolding sentences_text
   opening_in_sentences =
       let opening : List ℕ = opening_text (opening_of h report asked) in
-      in_front opening (steps_text h s report asked ++ behind_steps (cycle_of report asked)) opening (itself opening)
+      in_front opening (steps_text h s report asked ++ behind_steps (told_cycle report asked)) opening (itself opening)
 
   module _ (title picture : List ℕ) where
     abbrev why : List ℕ
@@ -251,13 +251,13 @@ module _ (h : History) (s : Scope) (report : Report) (asked : Option Phenomenon)
     why_in_verdict : (part : List ℕ) → Holds why part → Holds (verdict_part h s report asked title picture) part
     unfolding verdict_part
     why_in_verdict part held =
-        behind_it (head_text report asked title) (header_text h report asked title ++ why ++ levels_text h report) part
+        behind_it (head_text h report asked title) (header_text h report asked title ++ why ++ levels_text h report) part
         (behind_it (header_text h report asked title) (why ++ levels_text h report) part (in_front why (levels_text h report) part held))
 
     levels_in_verdict : (part : List ℕ) → Holds (levels_text h report) part → Holds (verdict_part h s report asked title picture) part
     unfolding verdict_part
     levels_in_verdict part held =
-        behind_it (head_text report asked title) (header_text h report asked title ++ why ++ levels_text h report) part
+        behind_it (head_text h report asked title) (header_text h report asked title ++ why ++ levels_text h report) part
         (behind_it (header_text h report asked title) (why ++ levels_text h report) part (behind_it why (levels_text h report) part held))
 
     pub why_in_page : (part : List ℕ) → Holds why part → Holds whole part
@@ -275,12 +275,12 @@ module _ (h : History) (s : Scope) (report : Report) (asked : Option Phenomenon)
     pub opening_shown : Shows whole (opening_of h report asked)
     opening_shown = opening_shows whole (opening_of h report asked) (sentences_in_page (opening_text (opening_of h report asked)) opening_in_sentences)
 
-    pub step_shown : (e : Edge) → Contains (shown_steps (cycle_of report asked)) e → Shows whole (edge_sentence h e)
+    pub step_shown : (e : Edge) → Contains (shown_steps (told_cycle report asked)) e → Shows whole (edge_sentence h e)
     step_shown e among =
-        let items : List ℕ = edge_items h s 0 (shown_steps (cycle_of report asked)) in
+        let items : List ℕ = edge_items h s 0 (shown_steps (told_cycle report asked)) in
         shown_led whole (edge_sentence h e)
-        (All-contains (λ it. Holds whole (led_text (edge_sentence h it))) (shown_steps (cycle_of report asked)) e
-        (edge_led whole 0 (shown_steps (cycle_of report asked)) (steps_in_page items in_steps)) among)
+        (All-contains (λ it. Holds whole (led_text (edge_sentence h it))) (shown_steps (told_cycle report asked)) e
+        (edge_led whole 0 (shown_steps (told_cycle report asked)) (steps_in_page items in_steps)) among)
 
 
     pub level_shown : Shows whole (level_line report.level)

@@ -15,8 +15,9 @@ use Rattle.lab_judge.specs.declared.report.Grade.TheVariants as grade
 use Rattle.lab_judge.specs.declared.report.Report.{Report}
 use Rattle.lab_judge.specs.declared.serial.Serial.{Serial}
 use Rattle.lab_judge.specs.declared.serial.Serial.TheVariants as serial
+use Rattle.lab_picture.specs.Cycles.{walk_phenomenon}
 use Rattle.lab_picture.specs.Text.{escaped}
-use Rattle.lab_picture.specs.Titles.{serial_title, finding_title, walk_phenomenon}
+use Rattle.lab_picture.specs.Titles.{serial_title, finding_title}
 use Rattle.lab_reports.specs.Phenomena.{phenomena, phenomenon_name, finding_of}
 use Rattle.lab_reports.specs.declared.phenomenon.Phenomenon.{Phenomenon}
 use Rattle.lab_page.specs.Meanings.{meaning_of, fault_meaning, level_words, rung_of}
@@ -24,14 +25,14 @@ use Rattle.lab_page.specs.Phrases.{yes_lede, nav_text}
 use Rattle.lab_page.specs.Style.{style_text}
 
 -- the verdict in a line: the picture's title, without the order of a yes
-abbrev pub serial_headline : Serial → List ℕ
-serial_headline (serial.Yes order) = codes "Serializable"
-serial_headline (serial.NoFault f) = serial_title (serial.NoFault f)
-serial_headline (serial.NoCycle walk) = serial_title (serial.NoCycle walk)
+abbrev pub serial_headline : History → Serial → List ℕ
+serial_headline h (serial.Yes order) = codes "Serializable"
+serial_headline h (serial.NoFault f) = serial_title h (serial.NoFault f)
+serial_headline h (serial.NoCycle walk) = serial_title h (serial.NoCycle walk)
 
-abbrev pub headline_of : Report → Option Phenomenon → List ℕ
-headline_of report None = serial_headline report.serial
-headline_of report (Some p) = finding_title p (finding_of p report)
+abbrev pub headline_of : History → Report → Option Phenomenon → List ℕ
+headline_of h report None = serial_headline h report.serial
+headline_of h report (Some p) = finding_title h p (finding_of p report)
 
 -- what it means, in a sentence
 abbrev pub serial_lede : Serial → List ℕ
@@ -144,10 +145,10 @@ counts_text txns =
     codes "<p>Judged by <code>hermitage_lab</code>. Transactions: " ++ decimal (length txns) ++ codes ", of which " ++ decimal (count_by (λ t. is_commit t.outcome) txns) ++ codes " committed.</p>\n"
 
 -- what the browser doesn't show
-unfoldable pub head_text : Report → Option Phenomenon → List ℕ → List ℕ
-head_text report asked title = page_open ++ title_text (headline_of report asked) report.level title ++ style_text ++ codes "</style>\n</head>\n<body>\n"
+unfoldable pub head_text : History → Report → Option Phenomenon → List ℕ → List ℕ
+head_text h report asked title = page_open ++ title_text (headline_of h report asked) report.level title ++ style_text ++ codes "</style>\n</head>\n<body>\n"
 
 -- the header
 unfoldable pub header_text : History → Report → Option Phenomenon → List ℕ → List ℕ
 header_text h report asked title =
-    codes "<header>\n" ++ title_above title ++ headline_text (headline_of report asked) (lede_of report asked) ++ tiles_text report ++ counts_text h.txns ++ nav_text
+    codes "<header>\n" ++ title_above title ++ headline_text (headline_of h report asked) (lede_of report asked) ++ tiles_text report ++ counts_text h.txns ++ nav_text

@@ -14,6 +14,7 @@ use Rattle.lab_judge.specs.declared.report.Finding.TheVariants as finding
 use Rattle.lab_judge.specs.declared.report.Report.{Report}
 use Rattle.lab_judge.specs.declared.serial.Serial.{Serial}
 use Rattle.lab_judge.specs.declared.serial.Serial.TheVariants as serial
+use Rattle.lab_picture.specs.Cycles.{cycle_of}
 use Rattle.lab_picture.specs.Making.{arrow_of}
 use Rattle.lab_picture.specs.declared.drawing.Arrow.{Arrow}
 use Rattle.lab_picture.specs.declared.drawing.Spot.{Spot}
@@ -29,17 +30,10 @@ serial_cycle (serial.Yes order) = []
 serial_cycle (serial.NoFault f) = []
 serial_cycle (serial.NoCycle walk) = walk
 
--- the cycle that is found of a phenomenon
-abbrev pub found_cycle : Finding → List Edge
-found_cycle finding.Absent = []
-found_cycle (finding.Walk walk) = walk
-found_cycle (finding.At n k row) = []
-found_cycle finding.NotJudged = []
-
 -- the cycle that is told
-abbrev pub cycle_of : Report → Option Phenomenon → List Edge
-cycle_of report None = serial_cycle report.serial
-cycle_of report (Some p) = found_cycle (finding_of p report)
+abbrev pub told_cycle : Report → Option Phenomenon → List Edge
+told_cycle report None = serial_cycle report.serial
+told_cycle report (Some p) = cycle_of (finding_of p report)
 
 -- the steps of it that are shown
 abbrev pub shown_steps : List Edge → List Edge
@@ -104,7 +98,7 @@ of_fault report (Some p) = of_found (finding_of p report)
 
 -- all questions
 abbrev pub questions_of : History → Report → Option Phenomenon → List Question
-questions_of h report asked = of_steps h 0 (shown_steps (cycle_of report asked)) ++ of_fault report asked
+questions_of h report asked = of_steps h 0 (shown_steps (told_cycle report asked)) ++ of_fault report asked
 
 -- rows with this one, each once
 abbrev pub with_row : List Row → Row → List Row

@@ -13,7 +13,7 @@ use Rattle.lab_page.specs.Scope.{Scope, scope_of}
 
 -- the verdict and what it rests on
 unfoldable pub verdict_part : History → Scope → Report → Option Phenomenon → List ℕ → List ℕ → List ℕ
-verdict_part h s report asked title picture = head_text report asked title ++ header_text h report asked title ++ why_text h s report asked picture ++ levels_text h report
+verdict_part h s report asked title picture = head_text h report asked title ++ header_text h report asked title ++ why_text h s report asked picture ++ levels_text h report
 
 -- what it is checked by
 unfoldable pub evidence_part : History → Scope → Report → Option Phenomenon → List ℕ

@@ -20,7 +20,7 @@ use Rattle.lab_page.specs.Chains.{asked_place, chain_text}
 use Rattle.lab_page.specs.Figure.{figure_text}
 use Rattle.lab_page.specs.Markup.{op_text, row_text, led_text}
 use Rattle.lab_page.specs.Phrases.{kinds_text}
-use Rattle.lab_page.specs.Questions.{first_did, second_did, cycle_of, shown_steps}
+use Rattle.lab_page.specs.Questions.{first_did, second_did, told_cycle, shown_steps}
 use Rattle.lab_page.specs.Scope.{Scope}
 
 -- the first sentence
@@ -97,7 +97,7 @@ behind_steps walk = cond (length walk == 0) [] (behind_cycle (length walk))
 -- the steps
 unfoldable pub steps_text : History → Scope → Report → Option Phenomenon → List ℕ
 steps_text h s report asked =
-    codes "<ol class=\"steps\">\n" ++ edge_items h s 0 (shown_steps (cycle_of report asked)) ++ fault_steps h report asked ++ codes "</ol>\n"
+    codes "<ol class=\"steps\">\n" ++ edge_items h s 0 (shown_steps (told_cycle report asked)) ++ fault_steps h report asked ++ codes "</ol>\n"
 
 -- the heading
 abbrev pub serial_heading : Serial → List ℕ
@@ -115,7 +115,7 @@ why_open heading = codes "<section aria-labelledby=\"why\">\n<h2 id=\"why\">" ++
 
 -- the sentences
 unfoldable pub sentences_text : History → Scope → Report → Option Phenomenon → List ℕ
-sentences_text h s report asked = opening_text (opening_of h report asked) ++ steps_text h s report asked ++ behind_steps (cycle_of report asked)
+sentences_text h s report asked = opening_text (opening_of h report asked) ++ steps_text h s report asked ++ behind_steps (told_cycle report asked)
 
 -- the whole part, beside the picture
 unfoldable pub why_text : History → Scope → Report → Option Phenomenon → List ℕ → List ℕ

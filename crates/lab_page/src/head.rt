@@ -17,31 +17,48 @@ use lab_table::NoMemory;
 use std::alloc::Global;
 
 /// Appends the verdict in a line.
-fn put_serial_headline(out: &mut Vec<u8>, serial: &Serial) -> Result<(), NoMemory>
-    ensures { OnOk result (out.new.items ≡ out.old.items ++ serial_headline serial.now) }
+fn put_serial_headline(
+    out: &mut Vec<u8>,
+    history: &History,
+    serial: &Serial,
+) -> Result<(), NoMemory>
+    ensures { OnOk result (out.new.items ≡ out.old.items ++ serial_headline history.now serial.now) }
 {
     match serial {
         Serial::Yes(_) => out.extend_from_slice(b"Serializable"),
-        Serial::NoFault(_) => put_serial_title(out, serial),
-        Serial::NoCycle(_) => put_serial_title(out, serial),
+        Serial::NoFault(_) => put_serial_title(out, history, serial),
+        Serial::NoCycle(_) => put_serial_title(out, history, serial),
     }
 }
 
-/// The verdict, or what is found, in a line. NoMemory where an allocation was refused.
+/// Appends the verdict, or what is found, in a line.
+fn put_headline_words(
+    out: &mut Vec<u8>,
+    history: &History,
+    report: &Report,
+    asked: Option<Phenomenon>,
+) -> Result<(), NoMemory>
+    ensures { OnOk result (out.new.items ≡ out.old.items ++ headline_of history.now report.now asked) }
+{
+    match asked {
+        None => put_serial_headline(out, history, &report.serial),
+        Some(phenomenon) => {
+            put_finding_title(out, history, phenomenon, phenomenon.found_in(report))
+        }
+    }
+}
+
+/// The same. NoMemory where an allocation was refused.
 fn headline_of(
     alloc: Global,
+    history: &History,
     report: &Report,
     asked: Option<Phenomenon>,
 ) -> Result<Vec<u8>, NoMemory>
-    ensures { IfOk result (λ text. text.items ≡ headline_of report.now asked) }
+    ensures { IfOk result (λ text. text.items ≡ headline_of history.now report.now asked) }
 {
     let mut text = Vec::new(alloc);
-    match asked {
-        None => put_serial_headline(&mut text, &report.serial)?,
-        Some(phenomenon) => {
-            put_finding_title(&mut text, phenomenon, phenomenon.found_in(report))?
-        }
-    }
+    put_headline_words(&mut text, history, report, asked)?;
     Ok(text)
 }
 
@@ -176,13 +193,14 @@ fn put_counts(out: &mut Vec<u8>, txns: &[Txn]) -> Result<(), NoMemory>
 pub fn put_head(
     alloc: Global,
     out: &mut Vec<u8>,
+    history: &History,
     report: &Report,
     asked: Option<Phenomenon>,
     title: &[u8],
 ) -> Result<(), NoMemory>
-    ensures { OnOk result (out.new.items ≡ out.old.items ++ head_text report.now asked title.now) }
+    ensures { OnOk result (out.new.items ≡ out.old.items ++ head_text history.now report.now asked title.now) }
 {
-    let headline = headline_of(alloc, report, asked)?;
+    let headline = headline_of(alloc, history, report, asked)?;
     out.extend_from_slice(page_open())?;
     put_title(out, &headline, report.level, title)?;
     put_style(out)?;
@@ -201,7 +219,7 @@ pub fn put_header(
 ) -> Result<(), NoMemory>
     ensures { OnOk result (out.new.items ≡ out.old.items ++ header_text history.now report.now asked title.now) }
 {
-    let headline = headline_of(alloc, report, asked)?;
+    let headline = headline_of(alloc, history, report, asked)?;
     out.extend_from_slice(b"<header>\n")?;
     put_title_above(out, title)?;
     put_headline(out, &headline, lede_of(report, asked))?;

@@ -17,7 +17,7 @@ ghost use Rattle.lab_explain.specs.Sentences.{edge_sentence, mistake_text, findi
 ghost use Rattle.lab_reports.specs.declared.phenomenon.Phenomenon.{Phenomenon};
 ghost use Rattle.lab_page.specs.Answer.{IsPageAnswer};
 ghost use Rattle.lab_page.specs.Markup.{led_text};
-ghost use Rattle.lab_page.specs.Questions.{cycle_of, shown_steps};
+ghost use Rattle.lab_page.specs.Questions.{told_cycle, shown_steps};
 ghost use Rattle.lab_page.specs.Untagged.{Shows, Holds, untagged, read_back, names_bytes};
 ghost use Rattle.lab_page.specs.Why.{opening_of};
 ghost use Rattle.lab_page.specs.Whole.{page_text};
@@ -27,7 +27,7 @@ ghost use Rattle.lab_page.specs.Whole.{page_text};
 /// level.
 pub fn the_sentences_stand_in_their_page()
     ensures first { (h : Held) (report : Report) (asked : Option Phenomenon) (title picture : List ℕ) → Shows (page_text h report asked title picture) (opening_of h report asked) }
-    ensures steps { (h : Held) (report : Report) (asked : Option Phenomenon) (title picture : List ℕ) (e : Dependency) → Contains (shown_steps (cycle_of report asked)) e → Shows (page_text h report asked title picture) (edge_sentence h e) }
+    ensures steps { (h : Held) (report : Report) (asked : Option Phenomenon) (title picture : List ℕ) (e : Dependency) → Contains (shown_steps (told_cycle report asked)) e → Shows (page_text h report asked title picture) (edge_sentence h e) }
     ensures recorded { (h : Held) (report : Report) (title picture : List ℕ) (f : Fault) → report.serial ≡ NoFault f → Shows (page_text h report None title picture) (recorded_text h f) }
     ensures due { (h : Held) (report : Report) (title picture : List ℕ) (f : Fault) → report.serial ≡ NoFault f → Shows (page_text h report None title picture) (due_text h f) }
     ensures mistake { (h : Held) (report : Report) (title picture : List ℕ) (f : Fault) → report.serial ≡ NoFault f → Shows (page_text h report None title picture) (mistake_text f) }

@@ -1,12 +1,12 @@
 //! What is in question: an operation and a row, by the step of the verdict that is about them.
 
 ghost use Rattle.std.specs.Prelude.{◌≡◌, ◌≤◌, ◌++◌, length, IfOk, OnOk};
-ghost use Rattle.lab_page.specs.Questions.{cycle_of, shown_steps, first_did, second_did, of_edge, of_steps, of_place, of_parts, of_serial, of_found, of_fault, questions_of, with_row, with_rows, parts_row, serial_row, fault_row, rows_of};
+ghost use Rattle.lab_page.specs.Questions.{told_cycle, shown_steps, first_did, second_did, of_edge, of_steps, of_place, of_parts, of_serial, of_found, of_fault, questions_of, with_row, with_rows, parts_row, serial_row, fault_row, rows_of};
 
 use lab_deps::{Edge, FaultParts, Kind};
 use lab_history::History;
 use lab_judge::{Finding, Report, Serial};
-use lab_picture::{Spot, arrow_of};
+use lab_picture::{Spot, arrow_of, cycle_of};
 use lab_reports::Phenomenon;
 use lab_table::{NoMemory, RowName, TxnNo};
 use std::alloc::Global;
@@ -35,8 +35,8 @@ pub struct Question {
 const MAX_STEPS: usize = 20;
 
 /// The cycle that is told; empty where it is none.
-pub fn cycle_of(report: &Report, asked: Option<Phenomenon>) -> &[Edge]
-    ensures { result.now ≡ cycle_of report.now asked }
+pub fn told_cycle(report: &Report, asked: Option<Phenomenon>) -> &[Edge]
+    ensures { result.now ≡ told_cycle report.now asked }
 {
     match asked {
         None => match &report.serial {
@@ -44,12 +44,7 @@ pub fn cycle_of(report: &Report, asked: Option<Phenomenon>) -> &[Edge]
             Serial::NoFault(_) => &[],
             Serial::NoCycle(walk) => walk.as_slice(),
         },
-        Some(phenomenon) => match phenomenon.found_in(report) {
-            Finding::Absent => &[],
-            Finding::Walk(walk) => walk.as_slice(),
-            Finding::At { .. } => &[],
-            Finding::NotJudged => &[],
-        },
+        Some(phenomenon) => cycle_of(phenomenon.found_in(report)),
     }
 }
 
@@ -196,7 +191,7 @@ pub fn questions_of(
     ensures { IfOk result (λ questions. questions.items ≡ questions_of history.now report.now asked) }
 {
     let mut questions = Vec::new(alloc);
-    put_of_steps(&mut questions, history, shown_steps(cycle_of(report, asked)))?;
+    put_of_steps(&mut questions, history, shown_steps(told_cycle(report, asked)))?;
     put_of_fault(&mut questions, report, asked)?;
     Ok(questions)
 }

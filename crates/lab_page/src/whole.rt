@@ -32,7 +32,7 @@ fn put_verdict(
 ) -> Result<(), NoMemory>
     ensures { OnOk result (out.new.items ≡ out.old.items ++ verdict_part history.now scope.now report.now asked title.now picture.now) }
 {
-    put_head(alloc, out, report, asked, title)?;
+    put_head(alloc, out, history, report, asked, title)?;
     put_header(alloc, out, history, report, asked, title)?;
     put_why(alloc, out, history, scope, report, asked, picture)?;
     put_levels(alloc, out, history, report)

@@ -7,7 +7,7 @@ ghost use Rattle.lab_picture.specs.Sketch.{drawing_of};
 ghost use Rattle.lab_page.specs.Figure.{figure_text};
 
 use crate::figure::put_figure;
-use crate::questions::cycle_of;
+use crate::questions::told_cycle;
 use crate::scope::Scope;
 use crate::why_steps::{put_behind_steps, put_steps};
 use lab_explain::{put_found_sentence, put_serial_sentence};
@@ -91,7 +91,7 @@ fn put_sentences(
     put_opening_sentence(&mut opening, history, report, asked)?;
     put_opening(out, &opening)?;
     put_steps(alloc, out, history, scope, report, asked)?;
-    put_behind_steps(out, cycle_of(report, asked))
+    put_behind_steps(out, told_cycle(report, asked))
 }
 
 /// Appends the picture.

@@ -8,7 +8,7 @@ ghost use Rattle.lab_page.specs.Why.{item_head, item_text, ends_text, step_chain
 use crate::chains::{asked_place, put_chain};
 use crate::markup::{put_led, put_natural, put_op, put_row};
 use crate::phrases::kinds_text;
-use crate::questions::{cycle_of, first_did, second_did, shown_steps};
+use crate::questions::{told_cycle, first_did, second_did, shown_steps};
 use crate::scope::Scope;
 use lab_deps::{Edge, Kind, LocalFault};
 use lab_explain::{
@@ -251,7 +251,7 @@ pub fn put_steps(
 ) -> Result<(), NoMemory>
     ensures { OnOk result (out.new.items ≡ out.old.items ++ steps_text history.now scope.now report.now asked) }
 {
-    let steps = shown_steps(cycle_of(report, asked));
+    let steps = shown_steps(told_cycle(report, asked));
     out.extend_from_slice(b"<ol class=\"steps\">\n")?;
     put_edge_items(alloc, out, history, scope, steps)?;
     put_fault_steps(alloc, out, history, report, asked)?;
