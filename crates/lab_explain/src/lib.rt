@@ -25,6 +25,7 @@ mod sentences;
 mod steps;
 mod told;
 
+pub use clauses::{op_of, put_txn};
 pub use explaining::explain;
 pub use laws::{
     a_fault_that_is_explained_stands, each_dependency_has_its_sentence, explain_answer_unique,

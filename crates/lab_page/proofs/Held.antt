@@ -17,8 +17,17 @@ behind_it xs ys part (before, behind, is) = (xs ++ before, behind, ap (λ l. xs 
 
 -- a part of a part
 pub within : (whole part piece : List ℕ) → Holds whole part → Holds part piece → Holds whole piece
-within whole part piece (before, behind, is) (front, back, are) =
-    (before ++ front, back ++ behind,
-    is ∙ ap (λ l. before ++ (l ++ behind)) are
-    ∙ ap (λ l. before ++ l) (append_assoc front (piece ++ back) behind ∙ ap (λ l. front ++ l) (append_assoc piece back behind))
-    ∙ sym (append_assoc before front (piece ++ (back ++ behind))))
+within whole part piece (before, behind, is) (front, back, are) = (
+  before ++ front,
+  back ++ behind,
+  is ∙ ap (λ l. before ++ (l ++ behind)) are
+      ∙ ap (λ l. before ++ l) (append_assoc front (piece ++ back) behind ∙ ap (λ l. front ++ l) (append_assoc piece back behind))
+      ∙ sym (append_assoc before front (piece ++ (back ++ behind))),
+)
+
+-- of two texts each is held
+pub front : (xs ys : List ℕ) → Holds (xs ++ ys) xs
+front xs ys = in_front xs ys xs (itself xs)
+
+pub back : (xs ys : List ℕ) → Holds (xs ++ ys) ys
+back xs ys = behind_it xs ys ys (itself ys)

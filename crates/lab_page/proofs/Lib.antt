@@ -1,5 +1,7 @@
 mod Held
 mod Untagging
 mod ReadBack
+mod InLevels
+mod InSteps
 mod InPages
 mod OnePage

@@ -21,7 +21,7 @@ of_history history asked title text p =
 one_of_history : (history : History) (asked : Option Phenomenon) (title one other : List ℕ) → IsPageOf history asked title one → IsPageOf history asked title other → one ≡ other
 one_of_history history asked title one other p q =
     let pictures : p.picture ≡ q.picture =
-        (one_picture asked history p.picture q.picture Done Done (of_history history asked title one p, refl) (of_history history asked title other q, refl)).0 in
+    (one_picture asked history p.picture q.picture Done Done (of_history history asked title one p, refl) (of_history history asked title other q, refl)).0 in
     p.text_is ∙ ap (λ r. page_text history r asked title p.picture) (one_judgement history p.report q.report p.judgement q.judgement)
     ∙ ap (page_text history q.report asked title) pictures ∙ sym q.text_is
 

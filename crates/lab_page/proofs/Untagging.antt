@@ -46,27 +46,40 @@ Closes tag = (inside : Bool) (ys : List ℕ) → (front : List ℕ) × (untagged
 pub shown_behind : (page tag text : List ℕ) → Closes tag → Holds page (tag ++ escaped text) → Shows page text
 shown_behind page tag text closes (before, behind, is) =
     let passed : Passed false before ((tag ++ escaped text) ++ behind) = passes false before ((tag ++ escaped text) ++ behind) in
-    let closed : (front : List ℕ) × (untagged passed.1 (tag ++ (escaped text ++ behind)) ≡ front ++ untagged false (escaped text ++ behind)) = closes passed.1 (escaped text ++ behind) in
-    (passed.0 ++ closed.0, untagged false behind,
-    ap (untagged false) is ∙ passed.2
-    ∙ ap (λ l. passed.0 ++ l) (ap (untagged passed.1) (append_assoc tag (escaped text) behind) ∙ closed.1 ∙ ap (λ l. closed.0 ++ l) (escaped_stays text behind))
-    ∙ sym (append_assoc passed.0 closed.0 (escaped text ++ untagged false behind)))
+    let closed : (front : List ℕ) × (untagged passed.1 (tag ++ (escaped text ++ behind)) ≡ front ++ untagged false (escaped text ++ behind)) = closes passed.1 (escaped text ++ behind) in (
+      passed.0 ++ closed.0,
+      untagged false behind,
+      ap (untagged false) is ∙ passed.2
+          ∙ ap (λ l. passed.0 ++ l) (ap (untagged passed.1) (append_assoc tag (escaped text) behind) ∙ closed.1 ∙ ap (λ l. closed.0 ++ l) (escaped_stays text behind))
+          ∙ sym (append_assoc passed.0 closed.0 (escaped text ++ untagged false behind)),
+    )
 
 bold_closes : (inside : Bool) (ys : List ℕ) → untagged inside (codes "<b>" ++ ys) ≡ untagged false ys
 bold_closes true ys = refl
 bold_closes false ys = refl
 
+bold_ends : (ys : List ℕ) → untagged false (codes "</b>" ++ ys) ≡ untagged false ys
+bold_ends ys = refl
+
+-- four texts before what stands behind them
+behind_four : (a b c d ys : List ℕ) → (a ++ b ++ c ++ d) ++ ys ≡ a ++ (b ++ (c ++ (d ++ ys)))
+behind_four a b c d ys = append_assoc (a ++ b ++ c) d ys ∙ (append_assoc (a ++ b) c (d ++ ys) ∙ append_assoc a b (c ++ (d ++ ys)))
+
+-- a sentence in two parts
+in_two : (text : List ℕ) → escaped (take (lead_length text) text) ++ escaped (drop (lead_length text) text) ≡ escaped text
+in_two text = sym (flat_map-append escaped_byte (take (lead_length text) text) (drop (lead_length text) text)) ∙ ap escaped (take-append-drop (lead_length text) text)
+
 -- a sentence without its tags, before what stands behind it
 led_stays : (inside : Bool) (text ys : List ℕ) → untagged inside (led_text text ++ ys) ≡ escaped text ++ untagged false ys
 unfolding led_text
 led_stays inside text ys =
-    let n = lead_length text in
-    let lead = escaped (take n text) in
-    let rest = escaped (drop n text) in
-    ap (untagged inside) (append_assoc (codes "<b>") (lead ++ codes "</b>" ++ rest) ys) ∙ bold_closes inside ((lead ++ codes "</b>" ++ rest) ++ ys)
-    ∙ ap (untagged false) (append_assoc lead (codes "</b>" ++ rest) ys) ∙ escaped_stays (take n text) ((codes "</b>" ++ rest) ++ ys)
-    ∙ ap (λ l. lead ++ l) (escaped_stays (drop n text) ys) ∙ sym (append_assoc lead rest (untagged false ys))
-    ∙ ap (λ l. l ++ untagged false ys) (sym (flat_map-append escaped_byte (take n text) (drop n text)) ∙ ap escaped (take-append-drop n text))
+    let lead : List ℕ = escaped (take (lead_length text) text) in
+    let rest : List ℕ = escaped (drop (lead_length text) text) in
+    let more : List ℕ = codes "</b>" ++ (rest ++ ys) in
+    ap (untagged inside) (behind_four (codes "<b>") lead (codes "</b>") rest ys) ∙ (bold_closes inside (lead ++ more)
+    ∙ (escaped_stays (take (lead_length text) text) more
+    ∙ (ap (λ l. lead ++ l) (bold_ends (rest ++ ys) ∙ escaped_stays (drop (lead_length text) text) ys)
+    ∙ (sym (append_assoc lead rest (untagged false ys)) ∙ ap (λ l. l ++ untagged false ys) (in_two text)))))
 
 -- a sentence without its tags
 pub led_untagged : (text : List ℕ) → untagged false (led_text text) ≡ escaped text

@@ -10,9 +10,10 @@ use Rattle.lab_history.specs.Version.{version_state}
 use Rattle.lab_history.specs.declared.operation.Op.{Op}
 use Rattle.lab_history.specs.declared.operation.VersionName.{VersionName}
 use Rattle.lab_history.specs.declared.operation.VersionName.TheVariants.{Initial, Of}
-use Rattle.lab_page.specs.Chains.{state_text}
+use Rattle.lab_picture.specs.Effect.{state_text}
 use Rattle.lab_page.specs.Markup.{op_text, row_text}
 use Rattle.lab_page.specs.Scope.{Scope}
+use Rattle.lab_page.specs.Tags.{count_open}
 use Rattle.lab_page.specs.declared.entries.Entry.{Entry}
 use Rattle.lab_page.specs.declared.entries.Told.{Told}
 use Rattle.lab_page.specs.declared.entries.Told.TheVariants.{Seen, Held}
@@ -75,7 +76,7 @@ later_entries es = drop (min (length es) 8) es
 
 -- how many entries there are, where there are more
 unfoldable pub more_text : ℕ → List ℕ
-more_text count = codes "<span class=\"e\">of " ++ decimal count ++ codes " in all</span>"
+more_text count = count_open ++ decimal count ++ codes " in all</span>"
 
 abbrev pub in_all : ℕ → List ℕ
 in_all count = cond (nat_le count 8) [] (more_text count)

@@ -1,17 +1,18 @@
 -- The versions of a row, in the order in which they were installed.
-use Rattle.std.specs.Prelude.{ℕ, ◌+◌, ◌-◌, ◌==◌, nat_le, min, Bool, false, ◌||◌, cond, Option, Some, None, List, [], ◌∷◌, ◌++◌, length, take, drop, codes}
-use Rattle.std.specs.Fmt.{decimal, signed_decimal}
+use Rattle.std.specs.Prelude.{ℕ, ◌+◌, ◌-◌, ◌==◌, nat_le, min, Bool, false, ◌||◌, cond, Option, Some, None, unwrap_or, List, [], ◌∷◌, ◌++◌, length, take, drop, codes}
+use Rattle.std.specs.Fmt.{decimal}
 use Rattle.lab_table.specs.Row.{Row}
-use Rattle.lab_table.specs.Table.{State}
 use Rattle.lab_history.specs.History.{History}
 use Rattle.lab_history.specs.Version.{ops_of, op_at, viewed, last_write, installers, place_in, state_at}
 use Rattle.lab_history.specs.declared.operation.Op.{Op}
 use Rattle.lab_history.specs.declared.operation.VersionName.{VersionName}
 use Rattle.lab_history.specs.declared.operation.VersionName.TheVariants.{Initial, Of}
+use Rattle.lab_picture.specs.Effect.{state_text}
 use Rattle.lab_picture.specs.declared.drawing.Spot.{Spot}
+use Rattle.lab_explain.specs.Clauses.{txn_name}
 use Rattle.lab_page.specs.declared.questions.Did.{Did}
 use Rattle.lab_page.specs.declared.questions.Did.TheVariants.{Saw, Wrote}
-use Rattle.lab_page.specs.Markup.{txn_name, op_text, bold_open, bold_close}
+use Rattle.lab_page.specs.Markup.{op_text, bold_open, bold_close}
 use Rattle.lab_page.specs.Scope.{Scope}
 
 -- the place of a version among a row's, counted from 0, which is the initial one
@@ -38,21 +39,19 @@ is_place (Some other) p = other == p
 abbrev pub is_either : Option ℕ → Option ℕ → ℕ → Bool
 is_either first second p = is_place first p || is_place second p
 
+-- the lesser of a place and one that may be there
+abbrev pub lesser_than : ℕ → Option ℕ → ℕ
+lesser_than place None = place
+lesser_than place (Some other) = min place other
+
 -- the lesser of two places that may be there
 abbrev pub lesser : Option ℕ → Option ℕ → ℕ
-lesser None None = 0
-lesser None (Some b) = b
-lesser (Some a) None = a
-lesser (Some a) (Some b) = min a b
+lesser None second = unwrap_or second 0
+lesser (Some place) second = lesser_than place second
 
 -- how many installers stand before those that are shown: none, or all but one of those before a place behind the sixth
 abbrev pub start_at : ℕ → ℕ
 start_at place = cond (nat_le place 6) 0 (place - 2)
-
--- a row's state
-abbrev pub state_text : State → List ℕ
-state_text None = codes "absent"
-state_text (Some value) = signed_decimal value
 
 -- who installed a version, by its last write of the row
 abbrev pub by_text : History → Scope → ℕ → Option ℕ → List ℕ

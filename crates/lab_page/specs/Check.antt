@@ -13,6 +13,7 @@ use Rattle.lab_picture.specs.Text.{escaped}
 use Rattle.lab_reports.specs.Phenomena.{finding_of}
 use Rattle.lab_reports.specs.declared.phenomenon.Phenomenon.{Phenomenon}
 use Rattle.lab_page.specs.Phrases.{check_order, check_cycle, check_fault, check_file, check_program}
+use Rattle.lab_page.specs.Tags.{check_head, report_head, file_open, history_head}
 
 -- how a verdict is checked
 abbrev pub serial_check : Serial → List ℕ
@@ -34,12 +35,12 @@ check_of report (Some p) = found_check (finding_of p report)
 -- the part
 unfoldable pub check_part : Report → Option Phenomenon → List ℕ
 check_part report asked =
-    codes "<section aria-labelledby=\"check\">\n<h2 id=\"check\">Check it by hand</h2>\n" ++ check_of report asked ++ check_file ++ check_program
+    check_head ++ check_of report asked ++ check_file ++ check_program
 
 -- the ten lines of the report
 unfoldable pub report_part : Report → List ℕ
 report_part report =
-    codes "<section aria-labelledby=\"report\">\n<h2 id=\"report\">The report</h2>\n<pre tabindex=\"0\">" ++ escaped (report_text report) ++ codes "</pre>\n</section>\n"
+    report_head ++ escaped (report_text report) ++ codes "</pre>\n</section>\n"
 
 -- the file of a history
 abbrev pub file_of : History → List ℕ
@@ -47,7 +48,7 @@ file_of h = compact_text (tree_of h)
 
 -- a file that is put in
 unfoldable pub file_text : List ℕ → List ℕ
-file_text file = codes "<details>\n<summary>All that was judged, as JSON</summary>\n<pre tabindex=\"0\">" ++ escaped file ++ codes "</pre>\n</details>\n"
+file_text file = file_open ++ escaped file ++ codes "</pre>\n</details>\n"
 
 -- what stands in place of one that is too long
 unfoldable pub no_file : List ℕ
@@ -59,4 +60,4 @@ shown_file file = cond (nat_le (length file) 65536) (file_text file) no_file
 
 -- the history itself
 unfoldable pub history_part : List ℕ → List ℕ
-history_part file = codes "<section aria-labelledby=\"history\">\n<h2 id=\"history\">The history</h2>\n" ++ shown_file file ++ codes "</section>\n</main>\n</body>\n</html>\n"
+history_part file = history_head ++ shown_file file ++ codes "</section>\n</main>\n</body>\n</html>\n"

@@ -23,6 +23,7 @@ use Rattle.lab_reports.specs.declared.phenomenon.Phenomenon.{Phenomenon}
 use Rattle.lab_page.specs.Meanings.{meaning_of, fault_meaning, level_words, rung_of}
 use Rattle.lab_page.specs.Phrases.{yes_lede, nav_text}
 use Rattle.lab_page.specs.Style.{style_text}
+use Rattle.lab_page.specs.Tags.{title_open, lede_open, counts_open}
 
 -- the verdict in a line: the picture's title, without the order of a yes
 abbrev pub serial_headline : History → Serial → List ℕ
@@ -53,7 +54,7 @@ title_behind title = cond (length title == 0) [] (behind_title title)
 
 -- the same, above the headline
 unfoldable pub above_headline : List ℕ → List ℕ
-above_headline title = codes "<p class=\"of\">" ++ escaped title ++ codes "</p>\n"
+above_headline title = title_open ++ escaped title ++ codes "</p>\n"
 
 abbrev pub title_above : List ℕ → List ℕ
 title_above title = cond (length title == 0) [] (above_headline title)
@@ -66,9 +67,17 @@ page_open = codes "<!DOCTYPE html>\n<html lang=\"en\">\n<head>\n<meta charset=\"
 unfoldable pub title_text : List ℕ → Grade → List ℕ → List ℕ
 title_text headline level title = escaped headline ++ codes ". Level: " ++ level_words level ++ title_behind title ++ codes "</title>\n<style>\n"
 
--- the headline and the sentence below it
+-- the headline
+unfoldable pub headline_line : List ℕ → List ℕ
+headline_line headline = codes "<h1>" ++ escaped headline ++ codes "</h1>\n"
+
+-- the sentence below it, and the beginning of the tiles
+unfoldable pub lede_line : List ℕ → List ℕ
+lede_line lede = lede_open ++ escaped lede ++ codes "</p>\n<ul class=\"v\">\n"
+
+-- both
 unfoldable pub headline_text : List ℕ → List ℕ → List ℕ
-headline_text headline lede = codes "<h1>" ++ escaped headline ++ codes "</h1>\n<p class=\"lede\">" ++ escaped lede ++ codes "</p>\n<ul class=\"v\">\n"
+headline_text headline lede = headline_line headline ++ lede_line lede
 
 -- the beginning of a tile, by whether it is bad news
 abbrev pub tile_open : Bool → List ℕ
@@ -142,13 +151,16 @@ is_commit Aborted = false
 -- how many transactions there are, and how many committed
 unfoldable pub counts_text : List Txn → List ℕ
 counts_text txns =
-    codes "<p>Judged by <code>hermitage_lab</code>. Transactions: " ++ decimal (length txns) ++ codes ", of which " ++ decimal (count_by (λ t. is_commit t.outcome) txns) ++ codes " committed.</p>\n"
+    counts_open ++ decimal (length txns) ++ codes ", of which " ++ decimal (count_by (λ t. is_commit t.outcome) txns) ++ codes " committed.</p>\n"
 
 -- what the browser doesn't show
 unfoldable pub head_text : History → Report → Option Phenomenon → List ℕ → List ℕ
 head_text h report asked title = page_open ++ title_text (headline_of h report asked) report.level title ++ style_text ++ codes "</style>\n</head>\n<body>\n"
 
+-- the beginning of the header
+unfoldable pub header_open : History → Report → Option Phenomenon → List ℕ → List ℕ
+header_open h report asked title = codes "<header>\n" ++ title_above title ++ headline_text (headline_of h report asked) (lede_of report asked)
+
 -- the header
 unfoldable pub header_text : History → Report → Option Phenomenon → List ℕ → List ℕ
-header_text h report asked title =
-    codes "<header>\n" ++ title_above title ++ headline_text (headline_of h report asked) (lede_of report asked) ++ tiles_text report ++ counts_text h.txns ++ nav_text
+header_text h report asked title = header_open h report asked title ++ tiles_text report ++ counts_text h.txns ++ nav_text

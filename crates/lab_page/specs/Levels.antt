@@ -12,6 +12,7 @@ use Rattle.lab_reports.specs.declared.phenomenon.Phenomenon.{Phenomenon}
 use Rattle.lab_page.specs.Markup.{led_text, paragraph_text}
 use Rattle.lab_page.specs.Meanings.{meaning_of, forbidden_from, rung_of}
 use Rattle.lab_page.specs.Phrases.{ladder_open, phenomena_open}
+use Rattle.lab_page.specs.Tags.{finding_open, forbidden_open}
 
 -- the beginning of a rung, by whether the history stands on it
 abbrev pub rung_open : Bool → List ℕ
@@ -52,11 +53,11 @@ ladder_of grade.Unsound = []
 
 -- what is found of a phenomenon
 unfoldable pub finding_cell : List ℕ → List ℕ
-finding_cell sentence = codes "<tr><th scope=\"row\">" ++ led_text sentence ++ codes "</th><td>"
+finding_cell sentence = finding_open ++ led_text sentence ++ codes "</th><td>"
 
 -- what it is, and the lowest level that forbids it
 unfoldable pub meaning_cells : Phenomenon → List ℕ
-meaning_cells p = meaning_of p ++ codes "</td><td data-l=\"forbidden from\">" ++ forbidden_from p ++ codes "</td></tr>\n"
+meaning_cells p = meaning_of p ++ forbidden_open ++ forbidden_from p ++ codes "</td></tr>\n"
 
 -- a phenomenon
 unfoldable pub phenomenon_line : History → Report → Phenomenon → List ℕ

@@ -2,6 +2,7 @@ pub mod Questions
 pub mod Scope
 pub mod Markup
 pub mod Phrases
+pub mod Tags
 pub mod Meanings
 pub mod Style
 pub mod Chains

@@ -6,11 +6,8 @@ use Rattle.lab_table.specs.Row.{Row}
 use Rattle.lab_statement.specs.Printed.{printed_row_name}
 use Rattle.lab_history.specs.History.{History}
 use Rattle.lab_picture.specs.Text.{escaped}
+use Rattle.lab_explain.specs.Clauses.{txn_name}
 use Rattle.lab_page.specs.Scope.{Scope, has_line}
-
--- the name of a transaction
-abbrev pub txn_name : ℕ → List ℕ
-txn_name n = codes "T" ++ decimal n
 
 -- the name of an operation, as T2.1
 unfoldable pub op_name : ℕ → ℕ → List ℕ

@@ -4,23 +4,29 @@ use Rattle.std.specs.List.{list_any}
 use Rattle.std.specs.FinMap as finite
 use Rattle.lab_table.specs.Row.{Row, row_test}
 use Rattle.lab_history.specs.History.{History}
-use Rattle.lab_page.specs.Chains.{state_text, chain_text}
+use Rattle.lab_picture.specs.Effect.{state_text}
+use Rattle.lab_page.specs.Chains.{chain_text}
 use Rattle.lab_page.specs.Markup.{row_text}
 use Rattle.lab_page.specs.Phrases.{rows_caption}
 use Rattle.lab_page.specs.Scope.{Scope}
+use Rattle.lab_page.specs.Tags.{name_open, cell_open, end_open}
 use Rattle.lab_page.specs.Transactions.{shown_text}
 
 -- whether a row is among these
 abbrev pub is_row_among : List Row → Row → Bool
 is_row_among rows row = list_any (λ other. row_test other row) rows
 
+-- a row, but where it is to be left out
+abbrev pub row_unless : Row → Bool → List Row
+row_unless row out = cond out [] (row ∷ [])
+
 -- a row that was there at first, if it isn't among these
 abbrev pub initial_row : List Row → Row × ℤ → List Row
-initial_row rows e = cond (is_row_among rows e.0) [] (e.0 ∷ [])
+initial_row rows e = row_unless e.0 (is_row_among rows e.0)
 
 -- a row that came later
 abbrev pub later_row : History → List Row → Row × List ℕ → List Row
-later_row h rows e = cond (is_row_among rows e.0 || is_some (finite.get h.initial e.0)) [] (e.0 ∷ [])
+later_row h rows e = row_unless e.0 (is_row_among rows e.0 || is_some (finite.get h.initial e.0))
 
 -- the rows that aren't in question: those that were there at first, and then those that came later
 abbrev pub other_rows : History → List Row → List Row
@@ -40,15 +46,15 @@ row_open bold = cond bold (codes "<tr class=\"b\">") (codes "<tr>")
 
 -- its name
 unfoldable pub row_name_cell : Bool → Row → List ℕ
-row_name_cell bold row = row_open bold ++ codes "<th scope=\"row\" class=\"m\">" ++ row_text row ++ codes "</th>"
+row_name_cell bold row = row_open bold ++ name_open ++ row_text row ++ codes "</th>"
 
 -- its versions
 unfoldable pub versions_cell : History → Scope → Row → List ℕ
-versions_cell h s row = codes "<td class=\"m\">" ++ chain_text h s row None None ++ codes "</td>"
+versions_cell h s row = cell_open ++ chain_text h s row None None ++ codes "</td>"
 
 -- how it is in the end
 unfoldable pub end_cell : History → Row → List ℕ
-end_cell h row = codes "<td class=\"m\" data-l=\"in the end\">" ++ state_text (finite.get h.end_table row) ++ codes "</td></tr>\n"
+end_cell h row = end_open ++ state_text (finite.get h.end_table row) ++ codes "</td></tr>\n"
 
 -- a row's line
 unfoldable pub row_line : History → Scope → Bool → Row → List ℕ
@@ -62,10 +68,14 @@ rows_lines h s bold rows = flat_map (row_line h s bold) rows
 unfoldable pub rows_open : List ℕ
 rows_open = codes "<section aria-labelledby=\"rows\">\n<h2 id=\"rows\">The rows</h2>\n<table class=\"s\">\n<caption>"
 
+-- the head of the part, where so many rows are shown of so many
+unfoldable pub rows_head : ℕ → ℕ → List ℕ
+rows_head shown all = rows_open ++ shown_text shown all ++ rows_caption
+
 -- the part, where these are the rows that aren't in question
 unfoldable pub rows_with : History → Scope → List Row → List ℕ
 rows_with h s others =
-    rows_open ++ shown_text (length s.rows + length (shown_rows (length s.rows) others)) (length s.rows + length others) ++ rows_caption
+    rows_head (length s.rows + length (shown_rows (length s.rows) others)) (length s.rows + length others)
     ++ rows_lines h s true s.rows ++ rows_lines h s false (shown_rows (length s.rows) others) ++ codes "</tbody>\n</table>\n</section>\n"
 
 -- the whole part

@@ -1,5 +1,5 @@
 -- What a page shows of a history: which transactions, what is in question, and the rows of that.
-use Rattle.std.specs.Prelude.{ℕ, ◌==◌, nat_le, min, Bool, ◌&&◌, ◌||◌, cond, Option, is_some, List, [], ◌∷◌, ◌++◌, length, take, codes}
+use Rattle.std.specs.Prelude.{ℕ, ◌==◌, nat_le, min, Bool, ◌&&◌, ◌||◌, cond, Option, is_some, List, [], ◌∷◌, ◌++◌, length, take, flat_map}
 use Rattle.std.specs.List.{list_any}
 use Rattle.std.specs.Fmt.{decimal}
 use Rattle.lab_table.specs.Row.{Row}
@@ -21,18 +21,25 @@ pub record Scope : Type 0 where
 abbrev pub is_among : List ℕ → ℕ → Bool
 is_among ns n = list_any (λ m. m == n) ns
 
+-- a transaction, if it is another than these
+abbrev pub other_txn : List ℕ → Txn → List ℕ
+other_txn named t = cond (is_among named t.no) [] (t.no ∷ [])
+
 -- the others of a history, in the file's order
 abbrev pub other_txns : List ℕ → List Txn → List ℕ
-other_txns named [] = []
-other_txns named (t ∷ ts) = cond (is_among named t.no) (other_txns named ts) (t.no ∷ other_txns named ts)
+other_txns named txns = flat_map (other_txn named) txns
 
 -- the transactions that a verdict names: no more than twenty-five
 abbrev pub named_txns : List ℕ → List ℕ
 named_txns columns = take (min (length columns) 25) columns
 
+-- those of a history of no more than twenty-five
+abbrev pub few_others : List ℕ → List Txn → List ℕ
+few_others named txns = cond (nat_le (length txns) 25) (other_txns named txns) []
+
 -- the transactions that are shown: those that the verdict names, and all others of a history of no more than twenty-five
 abbrev pub shown_txns : List ℕ → List Txn → List ℕ
-shown_txns named txns = named ++ cond (nat_le (length txns) 25) (other_txns named txns) []
+shown_txns named txns = named ++ few_others named txns
 
 -- what a page shows where these are in question
 abbrev pub scope_with : History → List ℕ → List Question → List Row → Scope

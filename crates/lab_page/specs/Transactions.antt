@@ -7,12 +7,14 @@ use Rattle.lab_history.specs.History.{History}
 use Rattle.lab_history.specs.Version.{ops_of, outcome_of}
 use Rattle.lab_history.specs.declared.operation.Op.{Op}
 use Rattle.lab_history.specs.declared.transaction.Outcome.{Outcome}
-use Rattle.lab_history.specs.declared.transaction.Outcome.TheVariants.{Committed, Aborted}
+use Rattle.lab_picture.specs.Columns.{outcome_name}
 use Rattle.lab_picture.specs.Text.{escaped}
+use Rattle.lab_explain.specs.Clauses.{txn_name}
 use Rattle.lab_page.specs.Cells.{seen_cell, listed_cell, written_cell}
-use Rattle.lab_page.specs.Markup.{txn_name, op_name, op_anchor, row_text}
+use Rattle.lab_page.specs.Markup.{op_name, op_anchor, row_text}
 use Rattle.lab_page.specs.Phrases.{transactions_caption}
 use Rattle.lab_page.specs.Scope.{Scope, is_at, shows_op}
+use Rattle.lab_page.specs.Tags.{cell_open, name_open, saw_open, listed_open, wrote_open, note_open, untold_open, txn_head}
 use Rattle.lab_page.specs.declared.questions.Did.{Did}
 use Rattle.lab_page.specs.declared.questions.Did.TheVariants.{Saw, Wrote}
 use Rattle.lab_page.specs.declared.questions.Question.{Question}
@@ -31,7 +33,7 @@ line_open asked n k = codes "<tr id=\"" ++ op_anchor n k ++ codes "\" class=\"o"
 
 -- its name
 unfoldable pub line_name : ℕ → ℕ → List ℕ
-line_name n k = codes "<th scope=\"row\" class=\"m\">" ++ op_name n k ++ codes "</th>"
+line_name n k = name_open ++ op_name n k ++ codes "</th>"
 
 -- a step; what is of none is in question
 abbrev pub step_name : ℕ → List ℕ
@@ -48,7 +50,7 @@ step_link step = codes "<a href=\"#s" ++ decimal step ++ codes "\">" ++ step_nam
 
 -- what a question says
 unfoldable pub note_text : Question → List ℕ
-note_text q = codes " <span class=\"note\">" ++ step_link q.step ++ did_text q.did ++ row_text q.row ++ codes "</span>"
+note_text q = note_open ++ step_link q.step ++ did_text q.did ++ row_text q.row ++ codes "</span>"
 
 -- the same, where the question is at an operation
 abbrev pub asked_note : ℕ → ℕ → Question → List ℕ
@@ -64,17 +66,17 @@ rows_at asked n k = flat_map (row_at n k) asked
 
 -- the statement of an operation, and what is asked of it
 unfoldable pub statement_cell : List Question → ℕ → ℕ → Op → List ℕ
-statement_cell asked n k op = codes "<td class=\"m\">" ++ escaped (printed_statement op.statement) ++ flat_map (asked_note n k) asked ++ codes "</td>"
+statement_cell asked n k op = cell_open ++ escaped (printed_statement op.statement) ++ flat_map (asked_note n k) asked ++ codes "</td>"
 
 -- what it saw, listed and wrote
 unfoldable pub saw_column : History → Scope → List Row → Op → List ℕ
-saw_column h s rows op = codes "<td class=\"m\" data-l=\"saw\">" ++ seen_cell h s rows op ++ codes "</td>"
+saw_column h s rows op = saw_open ++ seen_cell h s rows op ++ codes "</td>"
 
 unfoldable pub listed_column : History → Scope → List Row → Op → List ℕ
-listed_column h s rows op = codes "<td class=\"m\" data-l=\"listed\">" ++ listed_cell h s rows op ++ codes "</td>"
+listed_column h s rows op = listed_open ++ listed_cell h s rows op ++ codes "</td>"
 
 unfoldable pub wrote_column : History → Scope → List Row → Op → List ℕ
-wrote_column h s rows op = codes "<td class=\"m\" data-l=\"wrote\">" ++ written_cell h s rows op ++ codes "</td></tr>\n"
+wrote_column h s rows op = wrote_open ++ written_cell h s rows op ++ codes "</td></tr>\n"
 
 unfoldable pub columns_text : History → Scope → List Row → Op → List ℕ
 columns_text h s rows op = saw_column h s rows op ++ listed_column h s rows op ++ wrote_column h s rows op
@@ -94,21 +96,18 @@ lines_text h s n before (op ∷ ops) = shown_line h s n (before + 1) op ++ lines
 
 -- how many statements there are, where not all are shown
 unfoldable pub untold_ops : ℕ → List ℕ
-untold_ops count = codes "<tr><td colspan=\"5\">Of " ++ decimal count ++ codes " statements the first eight are here, and those in question.</td></tr>\n"
+untold_ops count = untold_open ++ decimal count ++ codes " statements the first eight are here, and those in question.</td></tr>\n"
 
 abbrev pub ops_count : ℕ → List ℕ
 ops_count count = cond (nat_lt 8 count) (untold_ops count) []
 
--- how a transaction ended
-abbrev pub outcome_words : Option Outcome → List ℕ
-outcome_words None = codes " isn't there"
-outcome_words (Some Committed) = codes " committed"
-outcome_words (Some Aborted) = codes " aborted"
+-- where a transaction begins
+unfoldable pub txn_anchor : ℕ → List ℕ
+txn_anchor n = txn_head ++ decimal n ++ codes "\"><th scope=\"rowgroup\" colspan=\"5\">"
 
 -- the head of a transaction
 unfoldable pub txn_open : ℕ → Option Outcome → List ℕ
-txn_open n outcome =
-    codes "<tbody>\n<tr class=\"t\" id=\"t" ++ decimal n ++ codes "\"><th scope=\"rowgroup\" colspan=\"5\">" ++ txn_name n ++ outcome_words outcome ++ codes "</th></tr>\n"
+txn_open n outcome = txn_anchor n ++ txn_name n ++ codes " " ++ outcome_name outcome ++ codes "</th></tr>\n"
 
 -- a transaction
 unfoldable pub txn_text : History → Scope → ℕ → List ℕ

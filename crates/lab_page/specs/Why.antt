@@ -22,6 +22,7 @@ use Rattle.lab_page.specs.Markup.{op_text, row_text, led_text}
 use Rattle.lab_page.specs.Phrases.{kinds_text}
 use Rattle.lab_page.specs.Questions.{first_did, second_did, told_cycle, shown_steps}
 use Rattle.lab_page.specs.Scope.{Scope}
+use Rattle.lab_page.specs.Tags.{opening_open, steps_open, chain_open, why_head}
 
 -- the first sentence
 abbrev pub opening_of : History → Report → Option Phenomenon → List ℕ
@@ -30,7 +31,7 @@ opening_of h report (Some p) = found_sentence h p (finding_of p report)
 
 -- it in the page
 unfoldable pub opening_text : List ℕ → List ℕ
-opening_text sentence = codes "<p id=\"s0\" class=\"order\" tabindex=\"0\">" ++ escaped sentence ++ codes "</p>\n"
+opening_text sentence = opening_open ++ escaped sentence ++ codes "</p>\n"
 
 -- the beginning of a step
 unfoldable pub item_head : ℕ → List ℕ
@@ -48,10 +49,13 @@ ends_text h s a = op_text h s a.from.txn a.from.op ++ codes " and " ++ op_text h
 abbrev pub step_chain : History → Scope → Kind → Arrow → List ℕ
 step_chain h s kind a = chain_text h s a.row (asked_place h a.row a.from (first_did kind)) (asked_place h a.row a.to (second_did kind))
 
+-- the operations and the row, before its versions
+unfoldable pub below_head : History → Scope → Arrow → List ℕ
+below_head h s a = chain_open ++ ends_text h s a ++ codes "; row " ++ row_text a.row ++ codes ", version by version: "
+
 -- what stands below a step
 unfoldable pub below_text : History → Scope → Kind → Arrow → List ℕ
-below_text h s kind a =
-    codes "\n<p class=\"chain\">" ++ ends_text h s a ++ codes "; row " ++ row_text a.row ++ codes ", version by version: " ++ step_chain h s kind a ++ codes "</p>"
+below_text h s kind a = below_head h s a ++ step_chain h s kind a ++ codes "</p>"
 
 abbrev pub below_by : History → Scope → Kind → Option Arrow → List ℕ
 below_by h s kind None = []
@@ -67,8 +71,17 @@ edge_items h s before [] = []
 edge_items h s before (e ∷ es) = edge_item h s (before + 1) e ++ edge_items h s (before + 1) es
 
 -- the steps of a fault
+abbrev pub recorded_item : History → LocalFault → List ℕ
+recorded_item h f = item_text 1 (recorded_text h f) []
+
+abbrev pub due_item : History → LocalFault → List ℕ
+due_item h f = item_text 2 (due_text h f) []
+
+abbrev pub mistake_item : LocalFault → List ℕ
+mistake_item f = item_text 3 (mistake_text f) []
+
 unfoldable pub fault_items : History → LocalFault → List ℕ
-fault_items h f = item_text 1 (recorded_text h f) [] ++ item_text 2 (due_text h f) [] ++ item_text 3 (mistake_text f) []
+fault_items h f = recorded_item h f ++ due_item h f ++ mistake_item f
 
 -- the same of a verdict that is a fault
 abbrev pub serial_items : History → Serial → List ℕ
@@ -97,7 +110,7 @@ behind_steps walk = cond (length walk == 0) [] (behind_cycle (length walk))
 -- the steps
 unfoldable pub steps_text : History → Scope → Report → Option Phenomenon → List ℕ
 steps_text h s report asked =
-    codes "<ol class=\"steps\">\n" ++ edge_items h s 0 (shown_steps (told_cycle report asked)) ++ fault_steps h report asked ++ codes "</ol>\n"
+    steps_open ++ edge_items h s 0 (shown_steps (told_cycle report asked)) ++ fault_steps h report asked ++ codes "</ol>\n"
 
 -- the heading
 abbrev pub serial_heading : Serial → List ℕ
@@ -111,7 +124,7 @@ heading_of report (Some p) = codes "What is found"
 
 -- the beginning
 unfoldable pub why_open : List ℕ → List ℕ
-why_open heading = codes "<section aria-labelledby=\"why\">\n<h2 id=\"why\">" ++ heading ++ codes "</h2>\n<div class=\"why\">\n<div>\n"
+why_open heading = why_head ++ heading ++ codes "</h2>\n<div class=\"why\">\n<div>\n"
 
 -- the sentences
 unfoldable pub sentences_text : History → Scope → Report → Option Phenomenon → List ℕ

@@ -1,17 +1,16 @@
 //! The cells of an operation: what it saw, listed and wrote. Each function that takes bytes appends to them; after NoMemory,
 //! part of what was to be appended may stand there.
 
-ghost use Rattle.std.specs.Prelude.{◌≡◌, ◌++◌, flat_map, option_map, OnOk};
-ghost use Rattle.lab_history.specs.VersionName.{state_value};
-ghost use Rattle.lab_page.specs.Cells.{is_of, known_text, whose_text, seen_text, held_text, told_text, entry_open, entry_text, asked_entry, first_entries, later_entries, more_text, in_all, entries_text, cell_text, seen_cell, listed_cell, written_cell};
+ghost use Rattle.std.specs.Prelude.{◌≡◌, ◌++◌, flat_map, OnOk};
+ghost use Rattle.lab_page.specs.Cells.{is_of, entry_open, entry_text, asked_entry, first_entries, later_entries, more_text, in_all, entries_text, cell_text, seen_cell, listed_cell, written_cell};
 
-use crate::chains::put_state;
-use crate::entries::{Entry, Told, listed_entries, seen_entries, written_entries};
-use crate::markup::{put_natural, put_op, put_row};
+use crate::entries::{Entry, listed_entries, seen_entries, written_entries};
+use crate::entry_words::put_told;
 use crate::scope::Scope;
-use lab_deps::value_of;
-use lab_history::{History, Op, State, VersionName};
-use lab_table::{NoMemory, RowName, Value};
+use crate::tags::count_open;
+use lab_history::{History, Op};
+use lab_picture::put_number;
+use lab_table::{NoMemory, RowName};
 use std::alloc::Global;
 
 /// The first entries of a cell that are shown.
@@ -22,87 +21,6 @@ fn is_of(rows: &[RowName], entry: &Entry) -> bool
     ensures { result ≡ is_of rows.now entry.now }
 {
     rows.contains(&entry.row)
-}
-
-/// Appends a version's state.
-fn put_known(out: &mut Vec<u8>, state: Option<State>) -> Result<(), NoMemory>
-    ensures { OnOk result (out.new.items ≡ out.old.items ++ known_text (option_map state_value state)) }
-{
-    match state {
-        None => out.extend_from_slice(b"no such version"),
-        Some(state) => put_state(out, value_of(state)),
-    }
-}
-
-/// Appends whose version it is.
-fn put_whose(
-    out: &mut Vec<u8>,
-    history: &History,
-    scope: &Scope,
-    version: &VersionName,
-) -> Result<(), NoMemory>
-    ensures { OnOk result (out.new.items ≡ out.old.items ++ whose_text history.now scope.now version.now) }
-{
-    match version {
-        VersionName::Initial => out.extend_from_slice(b" at first"),
-        VersionName::Of { txn, op } => {
-            out.extend_from_slice(b" by ")?;
-            put_op(out, history, scope, *txn, *op)
-        }
-    }
-}
-
-/// Appends a version of a row that was seen.
-#[tactic(auto, unfolding(crate::specs::Cells::seen_text))]
-fn put_seen(
-    alloc: Global,
-    out: &mut Vec<u8>,
-    history: &History,
-    scope: &Scope,
-    row: RowName,
-    version: &VersionName,
-) -> Result<(), NoMemory>
-    ensures { OnOk result (out.new.items ≡ out.old.items ++ seen_text history.now scope.now row version.now) }
-{
-    out.extend_from_slice(b"row ")?;
-    put_row(alloc, out, row)?;
-    out.extend_from_slice(b" as ")?;
-    put_known(out, history.version_state(row, *version))?;
-    put_whose(out, history, scope, version)
-}
-
-/// Appends a row and its state.
-#[tactic(auto, unfolding(crate::specs::Cells::held_text))]
-fn put_held(
-    alloc: Global,
-    out: &mut Vec<u8>,
-    row: RowName,
-    state: Option<Value>,
-) -> Result<(), NoMemory>
-    ensures { OnOk result (out.new.items ≡ out.old.items ++ held_text row state) }
-{
-    out.extend_from_slice(b"(")?;
-    put_row(alloc, out, row)?;
-    out.extend_from_slice(b", ")?;
-    put_state(out, state)?;
-    out.extend_from_slice(b")")
-}
-
-/// Appends what is told of a row.
-fn put_told(
-    alloc: Global,
-    out: &mut Vec<u8>,
-    history: &History,
-    scope: &Scope,
-    row: RowName,
-    told: &Told,
-) -> Result<(), NoMemory>
-    ensures { OnOk result (out.new.items ≡ out.old.items ++ told_text history.now scope.now row told.now) }
-{
-    match told {
-        Told::Seen(version) => put_seen(alloc, out, history, scope, row, version),
-        Told::Held(state) => put_held(alloc, out, row, *state),
-    }
 }
 
 /// The beginning of an entry.
@@ -198,8 +116,8 @@ fn divided(entries: &[Entry]) -> (&[Entry], &[Entry])
 fn put_more(out: &mut Vec<u8>, count: u64) -> Result<(), NoMemory>
     ensures { OnOk result (out.new.items ≡ out.old.items ++ more_text count) }
 {
-    out.extend_from_slice(b"<span class=\"e\">of ")?;
-    put_natural(out, count)?;
+    out.extend_from_slice(count_open())?;
+    put_number(out, count)?;
     out.extend_from_slice(b" in all</span>")
 }
 

@@ -3,91 +3,18 @@
 
 ghost use Rattle.std.specs.Prelude.{◌≡◌, ◌++◌, ◌≤◌, length, OnOk};
 ghost use Rattle.lab_history.specs.Version.{installers, last_write, ops_of};
-ghost use Rattle.lab_page.specs.Chains.{version_place, asked_place, is_place, is_either, lesser, start_at, state_text, by_text, installed_text, next_text, versions_text, initial_text, left_before, front_text, left_behind, back_text, shown_installers, chain_from, chain_text};
+ghost use Rattle.lab_page.specs.Chains.{by_text, installed_text, next_text, versions_text, initial_text, left_before, front_text, left_behind, back_text, shown_installers, chain_from, chain_text};
 
-use crate::markup::{bold_close, bold_open, put_natural, put_op, put_txn_name};
-use crate::questions::Did;
-use crate::scope::{Scope, op_of};
-use itoa::Buffer;
-use lab_deps::viewed;
-use lab_history::{History, VersionName};
-use lab_picture::{Spot, installers_of, state_at};
-use lab_table::{NoMemory, RowName, TxnNo, Value};
+use crate::markup::{bold_close, bold_open, put_op};
+use crate::scope::Scope;
+use crate::version_places::{is_either, lesser, start_at};
+use lab_explain::put_txn;
+use lab_history::History;
+use lab_picture::{installers_of, put_number, put_state, state_at};
+use lab_table::{NoMemory, RowName, TxnNo};
 
 /// The installers that are shown behind one another.
 const MAX_VERSIONS: usize = 7;
-
-/// The place of a version among a row's, counted from 0, which is the initial one.
-fn version_place(history: &History, row: RowName, version: VersionName) -> Option<usize>
-    ensures { result ≡ version_place history.now row version }
-{
-    match version {
-        VersionName::Initial => Some(0),
-        VersionName::Of { txn, .. } => history.installer_place(row, txn),
-    }
-}
-
-/// The place of the version of a question.
-pub fn asked_place(history: &History, row: RowName, spot: Spot, did: Did) -> Option<usize>
-    ensures { result ≡ asked_place history.now row spot did }
-{
-    match did {
-        Did::Saw => match op_of(history, spot.txn, spot.op) {
-            None => None,
-            Some(op) => version_place(history, row, viewed(op, row)),
-        },
-        Did::Wrote => history.installer_place(row, spot.txn),
-    }
-}
-
-fn is_place(asked: Option<usize>, place: usize) -> bool
-    ensures { result ≡ is_place asked place }
-{
-    match asked {
-        None => false,
-        Some(other) => other == place,
-    }
-}
-
-/// Whether one of two places is this one.
-fn is_either(first: Option<usize>, second: Option<usize>, place: usize) -> bool
-    ensures { result ≡ is_either first second place }
-{
-    is_place(first, place) || is_place(second, place)
-}
-
-/// The lesser of two places that may be there.
-fn lesser(first: Option<usize>, second: Option<usize>) -> usize
-    ensures { result ≡ lesser first second }
-{
-    match first {
-        None => match second {
-            None => 0,
-            Some(b) => b,
-        },
-        Some(a) => match second {
-            None => a,
-            Some(b) => a.min(b),
-        },
-    }
-}
-
-/// How many installers stand before those that are shown.
-fn start_at(place: usize) -> usize
-    ensures { result ≡ start_at place }
-{
-    if place <= 6 { 0 } else { place - 2 }
-}
-
-/// Appends a row's state; None is absent.
-pub fn put_state(out: &mut Vec<u8>, state: Option<Value>) -> Result<(), NoMemory>
-    ensures { OnOk result (out.new.items ≡ out.old.items ++ state_text state) }
-{
-    match state {
-        None => out.extend_from_slice(b"absent"),
-        Some(value) => out.extend_from_slice(Buffer::new().format(value.number()).as_bytes()),
-    }
-}
 
 /// Appends who installed a version.
 fn put_by(
@@ -101,7 +28,7 @@ fn put_by(
 {
     out.extend_from_slice(b" by ")?;
     match history.last_write(txn, row) {
-        None => put_txn_name(out, txn),
+        None => put_txn(out, txn),
         Some(op) => put_op(out, history, scope, txn, op),
     }
 }
@@ -185,7 +112,7 @@ fn put_initial(
 fn put_left_before(out: &mut Vec<u8>, count: u64) -> Result<(), NoMemory>
     ensures { OnOk result (out.new.items ≡ out.old.items ++ left_before count) }
 {
-    put_natural(out, count)?;
+    put_number(out, count)?;
     out.extend_from_slice(b" more")
 }
 
@@ -213,7 +140,7 @@ fn put_left_behind(out: &mut Vec<u8>, count: u64) -> Result<(), NoMemory>
     ensures { OnOk result (out.new.items ≡ out.old.items ++ left_behind count) }
 {
     out.extend_from_slice(b" &rarr; ")?;
-    put_natural(out, count)?;
+    put_number(out, count)?;
     out.extend_from_slice(b" more")
 }
 
@@ -252,10 +179,11 @@ fn put_chain_from(
     ensures { OnOk result (out.new.items ≡ out.old.items ++ chain_from history.now scope.now row first second start) }
 {
     let installers = installers_of(history, row);
+    let count = installers.len();
     put_front(out, history, row, is_either(first, second, 0), start)?;
     let shown = shown_installers(start, installers);
     put_versions(out, history, scope, row, first, second, start, shown)?;
-    put_back(out, (installers.len() - start).saturating_sub(MAX_VERSIONS))
+    put_back(out, (count - start).saturating_sub(MAX_VERSIONS))
 }
 
 /// Appends the versions of a row, those at two places bold.

@@ -4,6 +4,7 @@ ghost use Rattle.std.specs.Prelude.{◌≡◌, ◌++◌, OnOk};
 ghost use Rattle.lab_page.specs.Check.{serial_check, found_check, check_of, check_part};
 
 use crate::phrases::{check_cycle, check_fault, check_file, check_order, check_program};
+use crate::tags::check_head;
 use lab_judge::{Finding, Report, Serial};
 use lab_reports::Phenomenon;
 use lab_table::NoMemory;
@@ -49,9 +50,7 @@ pub fn put_check(
 ) -> Result<(), NoMemory>
     ensures { OnOk result (out.new.items ≡ out.old.items ++ check_part report.now asked) }
 {
-    out.extend_from_slice(
-        b"<section aria-labelledby=\"check\">\n<h2 id=\"check\">Check it by hand</h2>\n",
-    )?;
+    out.extend_from_slice(check_head())?;
     out.extend_from_slice(check_of(report, asked))?;
     out.extend_from_slice(check_file())?;
     out.extend_from_slice(check_program())

@@ -4,6 +4,7 @@
 ghost use Rattle.std.specs.Prelude.{◌≡◌, ◌++◌, OnOk};
 ghost use Rattle.lab_page.specs.Check.{report_part, file_of, file_text, no_file, shown_file, history_part};
 
+use crate::tags::{file_open, history_head, report_head};
 use lab_history::History;
 use lab_history_file::{WriteFault, write_history};
 use lab_judge::{Report, print_report};
@@ -20,9 +21,7 @@ pub fn put_report(alloc: Global, out: &mut Vec<u8>, report: &Report) -> Result<(
     ensures { OnOk result (out.new.items ≡ out.old.items ++ report_part report.now) }
 {
     let text = print_report(alloc, report)?;
-    out.extend_from_slice(
-        b"<section aria-labelledby=\"report\">\n<h2 id=\"report\">The report</h2>\n<pre tabindex=\"0\">",
-    )?;
+    out.extend_from_slice(report_head())?;
     put_escaped(out, &text)?;
     out.extend_from_slice(b"</pre>\n</section>\n")
 }
@@ -32,9 +31,7 @@ pub fn put_report(alloc: Global, out: &mut Vec<u8>, report: &Report) -> Result<(
 fn put_file(out: &mut Vec<u8>, file: &[u8]) -> Result<(), NoMemory>
     ensures { OnOk result (out.new.items ≡ out.old.items ++ file_text file.now) }
 {
-    out.extend_from_slice(
-        b"<details>\n<summary>All that was judged, as JSON</summary>\n<pre tabindex=\"0\">",
-    )?;
+    out.extend_from_slice(file_open())?;
     put_escaped(out, file)?;
     out.extend_from_slice(b"</pre>\n</details>\n")
 }
@@ -74,9 +71,7 @@ fn put_file_of(alloc: Global, out: &mut Vec<u8>, history: &History) -> Result<()
 pub fn put_history(alloc: Global, out: &mut Vec<u8>, history: &History) -> Result<(), NoMemory>
     ensures { OnOk result (out.new.items ≡ out.old.items ++ history_part (file_of history.now)) }
 {
-    out.extend_from_slice(
-        b"<section aria-labelledby=\"history\">\n<h2 id=\"history\">The history</h2>\n",
-    )?;
+    out.extend_from_slice(history_head())?;
     put_file_of(alloc, out, history)?;
     out.extend_from_slice(b"</section>\n</main>\n</body>\n</html>\n")
 }

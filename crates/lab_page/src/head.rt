@@ -1,87 +1,21 @@
 //! The head of a page. Each function that takes bytes appends to them; after NoMemory, part of what was to be appended may
 //! stand there.
 
-ghost use Rattle.std.specs.Prelude.{◌≡◌, ◌++◌, length, count_by, IfOk, OnOk};
-ghost use Rattle.lab_page.specs.Head.{serial_headline, headline_of, serial_lede, lede_of, behind_title, title_behind, above_headline, title_above, page_open, title_text, headline_text, is_commit, counts_text, head_text, header_text};
+ghost use Rattle.std.specs.Prelude.{◌≡◌, ◌++◌, count_by, OnOk};
+ghost use Rattle.lab_page.specs.Head.{behind_title, title_behind, above_headline, title_above, page_open, title_text, headline_line, lede_line, headline_text, is_commit, counts_text, head_text, header_open, header_text};
 
-use crate::markup::put_natural;
-use crate::meanings::{fault_meaning, level_words, meaning_of};
-use crate::phrases::{nav_text, yes_lede};
+use crate::headline::{headline_of, lede_of};
+use crate::meanings::level_words;
+use crate::phrases::nav_text;
 use crate::style::put_style;
+use crate::tags::{counts_open, lede_open, title_open};
 use crate::tiles::put_tiles;
 use lab_history::{History, Outcome, Txn};
-use lab_judge::{Grade, Report, Serial};
-use lab_picture::{put_escaped, put_finding_title, put_serial_title, walk_phenomenon};
+use lab_judge::{Grade, Report};
+use lab_picture::{put_escaped, put_number};
 use lab_reports::Phenomenon;
 use lab_table::NoMemory;
 use std::alloc::Global;
-
-/// Appends the verdict in a line.
-fn put_serial_headline(
-    out: &mut Vec<u8>,
-    history: &History,
-    serial: &Serial,
-) -> Result<(), NoMemory>
-    ensures { OnOk result (out.new.items ≡ out.old.items ++ serial_headline history.now serial.now) }
-{
-    match serial {
-        Serial::Yes(_) => out.extend_from_slice(b"Serializable"),
-        Serial::NoFault(_) => put_serial_title(out, history, serial),
-        Serial::NoCycle(_) => put_serial_title(out, history, serial),
-    }
-}
-
-/// Appends the verdict, or what is found, in a line.
-fn put_headline_words(
-    out: &mut Vec<u8>,
-    history: &History,
-    report: &Report,
-    asked: Option<Phenomenon>,
-) -> Result<(), NoMemory>
-    ensures { OnOk result (out.new.items ≡ out.old.items ++ headline_of history.now report.now asked) }
-{
-    match asked {
-        None => put_serial_headline(out, history, &report.serial),
-        Some(phenomenon) => {
-            put_finding_title(out, history, phenomenon, phenomenon.found_in(report))
-        }
-    }
-}
-
-/// The same. NoMemory where an allocation was refused.
-fn headline_of(
-    alloc: Global,
-    history: &History,
-    report: &Report,
-    asked: Option<Phenomenon>,
-) -> Result<Vec<u8>, NoMemory>
-    ensures { IfOk result (λ text. text.items ≡ headline_of history.now report.now asked) }
-{
-    let mut text = Vec::new(alloc);
-    put_headline_words(&mut text, history, report, asked)?;
-    Ok(text)
-}
-
-/// What a verdict means, in a sentence.
-fn serial_lede(serial: &Serial) -> &'static [u8]
-    ensures { result.now ≡ serial_lede serial.now }
-{
-    match serial {
-        Serial::Yes(_) => yes_lede(),
-        Serial::NoFault(fault) => fault_meaning(fault.parts()),
-        Serial::NoCycle(walk) => meaning_of(walk_phenomenon(walk.as_slice())),
-    }
-}
-
-/// The same of what is asked for.
-fn lede_of(report: &Report, asked: Option<Phenomenon>) -> &'static [u8]
-    ensures { result.now ≡ lede_of report.now asked }
-{
-    match asked {
-        None => serial_lede(&report.serial),
-        Some(phenomenon) => meaning_of(phenomenon),
-    }
-}
 
 /// Appends what the user says of the page, behind the title.
 #[tactic(auto, unfolding(crate::specs::Head::behind_title))]
@@ -107,7 +41,7 @@ fn put_title_behind(out: &mut Vec<u8>, title: &[u8]) -> Result<(), NoMemory>
 fn put_above_headline(out: &mut Vec<u8>, title: &[u8]) -> Result<(), NoMemory>
     ensures { OnOk result (out.new.items ≡ out.old.items ++ above_headline title.now) }
 {
-    out.extend_from_slice(b"<p class=\"of\">")?;
+    out.extend_from_slice(title_open())?;
     put_escaped(out, title)?;
     out.extend_from_slice(b"</p>\n")
 }
@@ -132,12 +66,7 @@ fn page_open() -> &'static [u8]
 
 /// Appends the title.
 #[tactic(auto, unfolding(crate::specs::Head::title_text))]
-fn put_title(
-    out: &mut Vec<u8>,
-    headline: &[u8],
-    level: Grade,
-    title: &[u8],
-) -> Result<(), NoMemory>
+fn put_title(out: &mut Vec<u8>, headline: &[u8], level: Grade, title: &[u8]) -> Result<(), NoMemory>
     ensures { OnOk result (out.new.items ≡ out.old.items ++ title_text headline.now level title.now) }
 {
     put_escaped(out, headline)?;
@@ -147,16 +76,33 @@ fn put_title(
     out.extend_from_slice(b"</title>\n<style>\n")
 }
 
-/// Appends the headline and the sentence below it.
+/// Appends the headline.
+#[tactic(auto, unfolding(crate::specs::Head::headline_line))]
+fn put_headline_line(out: &mut Vec<u8>, headline: &[u8]) -> Result<(), NoMemory>
+    ensures { OnOk result (out.new.items ≡ out.old.items ++ headline_line headline.now) }
+{
+    out.extend_from_slice(b"<h1>")?;
+    put_escaped(out, headline)?;
+    out.extend_from_slice(b"</h1>\n")
+}
+
+/// Appends the sentence below it, and the beginning of the tiles.
+#[tactic(auto, unfolding(crate::specs::Head::lede_line))]
+fn put_lede_line(out: &mut Vec<u8>, lede: &[u8]) -> Result<(), NoMemory>
+    ensures { OnOk result (out.new.items ≡ out.old.items ++ lede_line lede.now) }
+{
+    out.extend_from_slice(lede_open())?;
+    put_escaped(out, lede)?;
+    out.extend_from_slice(b"</p>\n<ul class=\"v\">\n")
+}
+
+/// Appends both.
 #[tactic(auto, unfolding(crate::specs::Head::headline_text))]
 fn put_headline(out: &mut Vec<u8>, headline: &[u8], lede: &[u8]) -> Result<(), NoMemory>
     ensures { OnOk result (out.new.items ≡ out.old.items ++ headline_text headline.now lede.now) }
 {
-    out.extend_from_slice(b"<h1>")?;
-    put_escaped(out, headline)?;
-    out.extend_from_slice(b"</h1>\n<p class=\"lede\">")?;
-    put_escaped(out, lede)?;
-    out.extend_from_slice(b"</p>\n<ul class=\"v\">\n")
+    put_headline_line(out, headline)?;
+    put_lede_line(out, lede)
 }
 
 /// How many of some transactions committed.
@@ -181,10 +127,10 @@ fn is_commit(outcome: Outcome) -> bool
 fn put_counts(out: &mut Vec<u8>, txns: &[Txn]) -> Result<(), NoMemory>
     ensures { OnOk result (out.new.items ≡ out.old.items ++ counts_text txns.now) }
 {
-    out.extend_from_slice(b"<p>Judged by <code>hermitage_lab</code>. Transactions: ")?;
-    put_natural(out, txns.len() as u64)?;
+    out.extend_from_slice(counts_open())?;
+    put_number(out, txns.len() as u64)?;
     out.extend_from_slice(b", of which ")?;
-    put_natural(out, commits(txns) as u64)?;
+    put_number(out, commits(txns) as u64)?;
     out.extend_from_slice(b" committed.</p>\n")
 }
 
@@ -207,6 +153,24 @@ pub fn put_head(
     out.extend_from_slice(b"</style>\n</head>\n<body>\n")
 }
 
+/// Appends the beginning of the header.
+#[tactic(auto, unfolding(crate::specs::Head::header_open))]
+fn put_header_open(
+    alloc: Global,
+    out: &mut Vec<u8>,
+    history: &History,
+    report: &Report,
+    asked: Option<Phenomenon>,
+    title: &[u8],
+) -> Result<(), NoMemory>
+    ensures { OnOk result (out.new.items ≡ out.old.items ++ header_open history.now report.now asked title.now) }
+{
+    let headline = headline_of(alloc, history, report, asked)?;
+    out.extend_from_slice(b"<header>\n")?;
+    put_title_above(out, title)?;
+    put_headline(out, &headline, lede_of(report, asked))
+}
+
 /// Appends the header.
 #[tactic(auto, unfolding(crate::specs::Head::header_text))]
 pub fn put_header(
@@ -219,10 +183,7 @@ pub fn put_header(
 ) -> Result<(), NoMemory>
     ensures { OnOk result (out.new.items ≡ out.old.items ++ header_text history.now report.now asked title.now) }
 {
-    let headline = headline_of(alloc, history, report, asked)?;
-    out.extend_from_slice(b"<header>\n")?;
-    put_title_above(out, title)?;
-    put_headline(out, &headline, lede_of(report, asked))?;
+    put_header_open(alloc, out, history, report, asked, title)?;
     put_tiles(alloc, out, report)?;
     put_counts(out, history.txns().as_slice())?;
     out.extend_from_slice(nav_text())

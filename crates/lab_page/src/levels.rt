@@ -9,6 +9,7 @@ ghost use Rattle.lab_page.specs.Levels.{rung_open, rung_said, rung_text, upper_r
 use crate::markup::{put_led, put_paragraph};
 use crate::meanings::{forbidden_from, meaning_of};
 use crate::phrases::{ladder_open, phenomena_open};
+use crate::tags::{finding_open, forbidden_open};
 use lab_explain::{level_line, put_finding_sentence, put_places_sentence};
 use lab_history::History;
 use lab_judge::{Grade, Places, Report};
@@ -20,7 +21,11 @@ use std::alloc::Global;
 fn rung_open(here: bool) -> &'static [u8]
     ensures { result.now ≡ rung_open here }
 {
-    if here { b"<tr class=\"here\">" } else { b"<tr>" }
+    if here {
+        b"<tr class=\"here\">"
+    } else {
+        b"<tr>"
+    }
 }
 
 /// Whether it is met.
@@ -118,7 +123,7 @@ fn put_ladder_of(out: &mut Vec<u8>, level: Grade) -> Result<(), NoMemory>
 fn put_finding_cell(out: &mut Vec<u8>, sentence: &[u8]) -> Result<(), NoMemory>
     ensures { OnOk result (out.new.items ≡ out.old.items ++ finding_cell sentence.now) }
 {
-    out.extend_from_slice(b"<tr><th scope=\"row\">")?;
+    out.extend_from_slice(finding_open())?;
     put_led(out, sentence)?;
     out.extend_from_slice(b"</th><td>")
 }
@@ -129,7 +134,7 @@ fn put_meaning_cells(out: &mut Vec<u8>, phenomenon: Phenomenon) -> Result<(), No
     ensures { OnOk result (out.new.items ≡ out.old.items ++ meaning_cells phenomenon) }
 {
     out.extend_from_slice(meaning_of(phenomenon))?;
-    out.extend_from_slice(b"</td><td data-l=\"forbidden from\">")?;
+    out.extend_from_slice(forbidden_open())?;
     out.extend_from_slice(forbidden_from(phenomenon))?;
     out.extend_from_slice(b"</td></tr>\n")
 }

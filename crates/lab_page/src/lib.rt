@@ -8,32 +8,40 @@
 //! of the page is a definition in `specs/`, and a file here that appends it. Every text of a file stands escaped.
 #![tactic(auto)]
 
+mod asked_rows;
+mod below;
 mod cells;
 mod chains;
 mod check;
 mod entries;
+mod entry_words;
 mod evidence;
 mod figure;
 mod head;
+mod headline;
 mod laws;
 mod levels;
 mod lines;
 mod markup;
 mod meanings;
+mod notes;
 mod paging;
 mod phrases;
 mod questions;
 mod rows;
 mod scope;
 mod style;
+mod tags;
 mod tiles;
 mod transactions;
+mod version_places;
 mod whole;
 mod why;
 mod why_steps;
 
 pub use laws::{
     page_answer_unique, the_picture_stands_in_its_page, the_report_stands_in_its_page,
-    the_sentences_stand_in_their_page, what_is_escaped_has_no_markup, without_tags_a_sentence_is_as_it_was,
+    the_sentences_stand_in_their_page, what_is_escaped_has_no_markup,
+    without_tags_a_sentence_is_as_it_was,
 };
 pub use paging::page;

@@ -2,40 +2,24 @@
 //! NoMemory, part of what was to be appended may stand there.
 
 ghost use Rattle.std.specs.Prelude.{◌≡◌, ◌++◌, ◌≤◌, length, OnOk};
-ghost use Rattle.std.specs.Fmt.{decimal};
-ghost use Rattle.lab_page.specs.Markup.{txn_name, op_name, op_anchor, op_link, op_text, row_text, lead_length, led_text, paragraph_text, bold_open, bold_close};
+ghost use Rattle.lab_page.specs.Markup.{op_name, op_anchor, op_link, op_text, row_text, lead_length, led_text, paragraph_text, bold_open, bold_close};
 
 use crate::scope::{Scope, has_line};
-use itoa::Buffer;
+use lab_explain::put_txn;
 use lab_history::History;
-use lab_picture::put_escaped;
+use lab_picture::{put_escaped, put_number};
 use lab_statement::put_row_name;
 use lab_table::{NoMemory, RowName, TxnNo};
 use std::alloc::Global;
-
-/// Appends a number in decimal.
-pub fn put_natural(out: &mut Vec<u8>, number: u64) -> Result<(), NoMemory>
-    ensures { OnOk result (out.new.items ≡ out.old.items ++ decimal number) }
-{
-    out.extend_from_slice(Buffer::new().format(number).as_bytes())
-}
-
-/// Appends the name of a transaction.
-pub fn put_txn_name(out: &mut Vec<u8>, txn: TxnNo) -> Result<(), NoMemory>
-    ensures { OnOk result (out.new.items ≡ out.old.items ++ txn_name txn) }
-{
-    out.extend_from_slice(b"T")?;
-    put_natural(out, u64::from(txn.number()))
-}
 
 /// Appends the name of an operation.
 #[tactic(auto, unfolding(crate::specs::Markup::op_name))]
 pub fn put_op_name(out: &mut Vec<u8>, txn: TxnNo, op: u32) -> Result<(), NoMemory>
     ensures { OnOk result (out.new.items ≡ out.old.items ++ op_name txn op) }
 {
-    put_txn_name(out, txn)?;
+    put_txn(out, txn)?;
     out.extend_from_slice(b".")?;
-    put_natural(out, u64::from(op))
+    put_number(out, u64::from(op))
 }
 
 /// Appends the name of its line in the page.
@@ -44,9 +28,9 @@ pub fn put_op_anchor(out: &mut Vec<u8>, txn: TxnNo, op: u32) -> Result<(), NoMem
     ensures { OnOk result (out.new.items ≡ out.old.items ++ op_anchor txn op) }
 {
     out.extend_from_slice(b"t")?;
-    put_natural(out, u64::from(txn.number()))?;
+    put_number(out, u64::from(txn.number()))?;
     out.extend_from_slice(b"-")?;
-    put_natural(out, u64::from(op))
+    put_number(out, u64::from(op))
 }
 
 /// Appends a link to that line.

@@ -13,13 +13,19 @@ pub fn meaning_of(phenomenon: Phenomenon) -> &'static [u8]
     ensures { result.now ≡ meaning_of phenomenon }
 {
     match phenomenon {
-        Phenomenon::G0 => b"In a cycle of dependencies each transaction overwrote what the one before it had left.",
+        Phenomenon::G0 =>
+            b"In a cycle of dependencies each transaction overwrote what the one before it had left.",
         Phenomenon::G1a => b"A committed transaction saw what an aborted one wrote.",
-        Phenomenon::G1b => b"A committed transaction saw a version that its writer, another one, then overwrote itself.",
-        Phenomenon::G1c => b"In a cycle of dependencies each transaction saw or overwrote what the one before it wrote.",
-        Phenomenon::GSingle => b"In a cycle of dependencies exactly one is a missed change: a transaction saw some of what others did, and not all.",
-        Phenomenon::G2Item => b"In a cycle of dependencies somebody missed a later change of a row that it had listed.",
-        Phenomenon::G2 => b"In a cycle of dependencies somebody missed a later change: of a row that it had listed, or of one that began or stopped to match its where, a phantom.",
+        Phenomenon::G1b =>
+            b"A committed transaction saw a version that its writer, another one, then overwrote itself.",
+        Phenomenon::G1c =>
+            b"In a cycle of dependencies each transaction saw or overwrote what the one before it wrote.",
+        Phenomenon::GSingle =>
+            b"In a cycle of dependencies exactly one is a missed change: a transaction saw some of what others did, and not all.",
+        Phenomenon::G2Item =>
+            b"In a cycle of dependencies somebody missed a later change of a row that it had listed.",
+        Phenomenon::G2 =>
+            b"In a cycle of dependencies somebody missed a later change: of a row that it had listed, or of one that began or stopped to match its where, a phantom.",
     }
 }
 

@@ -1,7 +1,7 @@
 //! What is in question: an operation and a row, by the step of the verdict that is about them.
 
 ghost use Rattle.std.specs.Prelude.{◌≡◌, ◌≤◌, ◌++◌, length, IfOk, OnOk};
-ghost use Rattle.lab_page.specs.Questions.{told_cycle, shown_steps, first_did, second_did, of_edge, of_steps, of_place, of_parts, of_serial, of_found, of_fault, questions_of, with_row, with_rows, parts_row, serial_row, fault_row, rows_of};
+ghost use Rattle.lab_page.specs.Questions.{serial_cycle, told_cycle, shown_steps, first_did, second_did, of_edge, of_steps, of_place, of_parts, of_serial, of_found, of_fault, questions_of};
 
 use lab_deps::{Edge, FaultParts, Kind};
 use lab_history::History;
@@ -34,16 +34,22 @@ pub struct Question {
 /// The most steps of a cycle that are shown.
 const MAX_STEPS: usize = 20;
 
+/// The cycle of a verdict that is one; empty of another.
+fn serial_cycle(serial: &Serial) -> &[Edge]
+    ensures { result.now ≡ serial_cycle serial.now }
+{
+    match serial {
+        Serial::Yes(_) | Serial::NoFault(_) => &[],
+        Serial::NoCycle(walk) => walk.as_slice(),
+    }
+}
+
 /// The cycle that is told; empty where it is none.
 pub fn told_cycle(report: &Report, asked: Option<Phenomenon>) -> &[Edge]
     ensures { result.now ≡ told_cycle report.now asked }
 {
     match asked {
-        None => match &report.serial {
-            Serial::Yes(_) => &[],
-            Serial::NoFault(_) => &[],
-            Serial::NoCycle(walk) => walk.as_slice(),
-        },
+        None => serial_cycle(&report.serial),
         Some(phenomenon) => cycle_of(phenomenon.found_in(report)),
     }
 }
@@ -117,12 +123,7 @@ fn put_of_steps(out: &mut Vec<Question>, history: &History, steps: &[Edge]) -> R
 }
 
 /// Appends the question of an operation that saw a row.
-fn put_of_place(
-    out: &mut Vec<Question>,
-    txn: TxnNo,
-    op: u32,
-    row: RowName,
-) -> Result<(), NoMemory>
+fn put_of_place(out: &mut Vec<Question>, txn: TxnNo, op: u32, row: RowName) -> Result<(), NoMemory>
     ensures { OnOk result (out.new.items ≡ out.old.items ++ of_place txn op row) }
 {
     out.push(Question {
@@ -191,81 +192,11 @@ pub fn questions_of(
     ensures { IfOk result (λ questions. questions.items ≡ questions_of history.now report.now asked) }
 {
     let mut questions = Vec::new(alloc);
-    put_of_steps(&mut questions, history, shown_steps(told_cycle(report, asked)))?;
+    put_of_steps(
+        &mut questions,
+        history,
+        shown_steps(told_cycle(report, asked)),
+    )?;
     put_of_fault(&mut questions, report, asked)?;
     Ok(questions)
-}
-
-/// Adds a row, if it isn't there.
-fn add_row(rows: &mut Vec<RowName>, row: RowName) -> Result<(), NoMemory>
-    ensures { OnOk result (rows.new.items ≡ with_row rows.old.items row) }
-{
-    if !rows.contains(&row) {
-        rows.push(row)?;
-    }
-    Ok(())
-}
-
-/// Adds the rows of questions that aren't there.
-fn add_rows(rows: &mut Vec<RowName>, questions: &[Question]) -> Result<(), NoMemory>
-    ensures { OnOk result (rows.new.items ≡ with_rows rows.old.items questions.now) }
-{
-    for question in questions {
-        add_row(rows, question.row)?;
-    }
-    Ok(())
-}
-
-/// Appends the row of a fault at a row alone.
-fn put_parts_row(out: &mut Vec<RowName>, fault: FaultParts) -> Result<(), NoMemory>
-    ensures { OnOk result (out.new.items ≡ out.old.items ++ parts_row fault) }
-{
-    match fault {
-        FaultParts::Operation { .. } => Ok(()),
-        FaultParts::Row { row, .. } => {
-            out.push(row)?;
-            Ok(())
-        }
-    }
-}
-
-/// Appends the row of a verdict that is a fault at a row alone.
-fn put_serial_row(out: &mut Vec<RowName>, serial: &Serial) -> Result<(), NoMemory>
-    ensures { OnOk result (out.new.items ≡ out.old.items ++ serial_row serial.now) }
-{
-    match serial {
-        Serial::Yes(_) => Ok(()),
-        Serial::NoFault(fault) => put_parts_row(out, fault.parts()),
-        Serial::NoCycle(_) => Ok(()),
-    }
-}
-
-/// The row of a fault at a row alone. NoMemory where an allocation was refused.
-fn fault_row(
-    alloc: Global,
-    report: &Report,
-    asked: Option<Phenomenon>,
-) -> Result<Vec<RowName>, NoMemory>
-    ensures { IfOk result (λ rows. rows.items ≡ fault_row report.now asked) }
-{
-    let mut rows = Vec::new(alloc);
-    match asked {
-        None => put_serial_row(&mut rows, &report.serial)?,
-        Some(_) => {}
-    }
-    Ok(rows)
-}
-
-/// The rows in question, as they first come. NoMemory where an allocation was refused.
-pub fn rows_of(
-    alloc: Global,
-    report: &Report,
-    asked: Option<Phenomenon>,
-    questions: &[Question],
-) -> Result<Vec<RowName>, NoMemory>
-    ensures { IfOk result (λ rows. rows.items ≡ rows_of report.now asked questions.now) }
-{
-    let mut rows = fault_row(alloc, report, asked)?;
-    add_rows(&mut rows, questions)?;
-    Ok(rows)
 }

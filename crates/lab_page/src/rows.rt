@@ -3,14 +3,16 @@
 
 ghost use Rattle.std.specs.Prelude.{◌≡◌, ◌++◌, ◌≤◌, length, is_some, flat_map, IfOk, OnOk};
 ghost use Rattle.std.specs.FinMap as finite;
-ghost use Rattle.lab_page.specs.Rows.{is_row_among, initial_row, later_row, other_rows, room, shown_rows, row_open, row_name_cell, versions_cell, end_cell, row_line, rows_lines, rows_open, rows_with, rows_part};
+ghost use Rattle.lab_page.specs.Rows.{is_row_among, row_unless, initial_row, later_row, other_rows, room, shown_rows, row_open, row_name_cell, versions_cell, end_cell, row_line, rows_lines, rows_open, rows_head, rows_with, rows_part};
 
-use crate::chains::{put_chain, put_state};
+use crate::chains::put_chain;
 use crate::markup::put_row;
 use crate::phrases::rows_caption;
 use crate::scope::Scope;
+use crate::tags::{cell_open, end_open, name_open};
 use crate::transactions::put_shown;
 use lab_history::{History, Installers};
+use lab_picture::put_state;
 use lab_table::{NoMemory, RowName, Value};
 use std::alloc::Global;
 
@@ -22,6 +24,18 @@ fn is_row_among(rows: &[RowName], row: RowName) -> bool
     ensures { result ≡ is_row_among rows.now row }
 {
     rows.contains(&row)
+}
+
+/// Appends a row, but where it is to be left out.
+fn put_row_unless(out: &mut Vec<RowName>, row: RowName, left_out: bool) -> Result<(), NoMemory>
+    ensures { OnOk result (out.new.items ≡ out.old.items ++ row_unless row left_out) }
+{
+    if left_out {
+        Ok(())
+    } else {
+        out.push(row)?;
+        Ok(())
+    }
 }
 
 /// Whether a row was there at first.
@@ -40,9 +54,7 @@ fn put_initial_rows(
     ensures { OnOk result (out.new.items ≡ out.old.items ++ flat_map (initial_row rows.now) entries.now) }
 {
     for (row, _) in entries {
-        if !is_row_among(rows, *row) {
-            out.push(*row)?;
-        }
+        put_row_unless(out, *row, is_row_among(rows, *row))?;
     }
     Ok(())
 }
@@ -57,19 +69,14 @@ fn put_later_rows(
     ensures { OnOk result (out.new.items ≡ out.old.items ++ flat_map (later_row history.now rows.now) entries.now) }
 {
     for (row, _) in entries {
-        if !(is_row_among(rows, *row) || is_initial(history, *row)) {
-            out.push(*row)?;
-        }
+        let named = is_row_among(rows, *row) || is_initial(history, *row);
+        put_row_unless(out, *row, named)?;
     }
     Ok(())
 }
 
 /// The rows that aren't in question. NoMemory where an allocation was refused.
-fn other_rows(
-    alloc: Global,
-    history: &History,
-    rows: &[RowName],
-) -> Result<Vec<RowName>, NoMemory>
+fn other_rows(alloc: Global, history: &History, rows: &[RowName]) -> Result<Vec<RowName>, NoMemory>
     ensures { IfOk result (λ others. others.items ≡ other_rows history.now rows.now) }
 {
     let mut others = Vec::new(alloc);
@@ -109,16 +116,11 @@ fn row_open(bold: bool) -> &'static [u8]
 
 /// Appends a row's name.
 #[tactic(auto, unfolding(crate::specs::Rows::row_name_cell))]
-fn put_name_cell(
-    alloc: Global,
-    out: &mut Vec<u8>,
-    bold: bool,
-    row: RowName,
-) -> Result<(), NoMemory>
+fn put_name_cell(alloc: Global, out: &mut Vec<u8>, bold: bool, row: RowName) -> Result<(), NoMemory>
     ensures { OnOk result (out.new.items ≡ out.old.items ++ row_name_cell bold row) }
 {
     out.extend_from_slice(row_open(bold))?;
-    out.extend_from_slice(b"<th scope=\"row\" class=\"m\">")?;
+    out.extend_from_slice(name_open())?;
     put_row(alloc, out, row)?;
     out.extend_from_slice(b"</th>")
 }
@@ -133,7 +135,7 @@ fn put_versions_cell(
 ) -> Result<(), NoMemory>
     ensures { OnOk result (out.new.items ≡ out.old.items ++ versions_cell history.now scope.now row) }
 {
-    out.extend_from_slice(b"<td class=\"m\">")?;
+    out.extend_from_slice(cell_open())?;
     put_chain(out, history, scope, row, None, None)?;
     out.extend_from_slice(b"</td>")
 }
@@ -143,7 +145,7 @@ fn put_versions_cell(
 fn put_end_cell(out: &mut Vec<u8>, history: &History, row: RowName) -> Result<(), NoMemory>
     ensures { OnOk result (out.new.items ≡ out.old.items ++ end_cell history.now row) }
 {
-    out.extend_from_slice(b"<td class=\"m\" data-l=\"in the end\">")?;
+    out.extend_from_slice(end_open())?;
     put_state(out, history.end_table().get(row))?;
     out.extend_from_slice(b"</td></tr>\n")
 }
@@ -190,6 +192,16 @@ fn rows_open() -> &'static [u8]
     b"<section aria-labelledby=\"rows\">\n<h2 id=\"rows\">The rows</h2>\n<table class=\"s\">\n<caption>"
 }
 
+/// Appends the head of the part, where so many rows are shown of so many.
+#[tactic(auto, unfolding(crate::specs::Rows::rows_head))]
+fn put_rows_head(out: &mut Vec<u8>, shown: usize, all: usize) -> Result<(), NoMemory>
+    ensures { OnOk result (out.new.items ≡ out.old.items ++ rows_head shown all) }
+{
+    out.extend_from_slice(rows_open())?;
+    put_shown(out, shown as u64, all as u64)?;
+    out.extend_from_slice(rows_caption())
+}
+
 /// Appends the part, where these are the rows that aren't in question.
 #[tactic(auto, unfolding(crate::specs::Rows::rows_with))]
 fn put_rows_with(
@@ -203,9 +215,7 @@ fn put_rows_with(
 {
     let asked = scope.rows.len();
     let shown = shown_rows(asked, others);
-    out.extend_from_slice(rows_open())?;
-    put_shown(out, (asked + shown.len()) as u64, (asked + others.len()) as u64)?;
-    out.extend_from_slice(rows_caption())?;
+    put_rows_head(out, asked + shown.len(), asked + others.len())?;
     put_row_lines(alloc, out, history, scope, true, &scope.rows)?;
     put_row_lines(alloc, out, history, scope, false, shown)?;
     out.extend_from_slice(b"</tbody>\n</table>\n</section>\n")

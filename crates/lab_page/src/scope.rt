@@ -1,14 +1,15 @@
 //! What a page shows of a history.
 
-ghost use Rattle.std.specs.Prelude.{◌≡◌, ◌≤◌, ◌++◌, length, is_some, IfOk, OnOk};
-ghost use Rattle.std.specs.Option.{option_copied};
+ghost use Rattle.std.specs.Prelude.{◌≡◌, ◌++◌, is_some, IfOk, OnOk};
 ghost use Rattle.lab_history.specs.Version.{ops_of, op_at};
-ghost use Rattle.lab_page.specs.Scope.{is_among, other_txns, named_txns, shown_txns, scope_of, is_at, is_asked, shows_op, has_line};
+ghost use Rattle.lab_page.specs.Scope.{is_among, other_txn, other_txns, few_others, named_txns, shown_txns, scope_with, scope_of, is_at, is_asked, shows_op, has_line};
 
-use crate::questions::{Question, questions_of, rows_of};
-use lab_history::{History, Op, Txn};
+use crate::asked_rows::rows_of;
+use crate::questions::{Question, questions_of};
+use lab_explain::op_of;
+use lab_history::{History, Txn};
 use lab_judge::Report;
-use lab_picture::{draw, ops_of};
+use lab_picture::{Drawing, draw};
 use lab_reports::Phenomenon;
 use lab_table::{NoMemory, RowName, TxnNo};
 use std::alloc::Global;
@@ -46,20 +47,37 @@ fn is_among(txns: &[TxnNo], txn: TxnNo) -> bool
     txns.contains(&txn)
 }
 
+/// Appends a transaction, if it is another than these.
+fn put_other_txn(out: &mut Vec<TxnNo>, named: &[TxnNo], txn: &Txn) -> Result<(), NoMemory>
+    ensures { OnOk result (out.new.items ≡ out.old.items ++ other_txn named.now txn.now) }
+{
+    if is_among(named, txn.no) {
+        Ok(())
+    } else {
+        out.push(txn.no)?;
+        Ok(())
+    }
+}
+
 /// Appends the others of a history.
-fn put_other_txns(
-    out: &mut Vec<TxnNo>,
-    named: &[TxnNo],
-    txns: &[Txn],
-) -> Result<(), NoMemory>
+fn put_other_txns(out: &mut Vec<TxnNo>, named: &[TxnNo], txns: &[Txn]) -> Result<(), NoMemory>
     ensures { OnOk result (out.new.items ≡ out.old.items ++ other_txns named.now txns.now) }
 {
     for txn in txns {
-        if !is_among(named, txn.no) {
-            out.push(txn.no)?;
-        }
+        put_other_txn(out, named, txn)?;
     }
     Ok(())
+}
+
+/// Appends the others of a history of no more than twenty-five.
+fn put_few_others(out: &mut Vec<TxnNo>, named: &[TxnNo], txns: &[Txn]) -> Result<(), NoMemory>
+    ensures { OnOk result (out.new.items ≡ out.old.items ++ few_others named.now txns.now) }
+{
+    if txns.len() <= MAX_TXNS {
+        put_other_txns(out, named, txns)
+    } else {
+        Ok(())
+    }
 }
 
 /// The transactions that a verdict names: no more than twenty-five.
@@ -70,18 +88,27 @@ fn named_txns(columns: &[TxnNo]) -> &[TxnNo]
 }
 
 /// The transactions that are shown. NoMemory where an allocation was refused.
-fn shown_txns(
-    alloc: Global,
-    named: &[TxnNo],
-    txns: &[Txn],
-) -> Result<Vec<TxnNo>, NoMemory>
+fn shown_txns(alloc: Global, named: &[TxnNo], txns: &[Txn]) -> Result<Vec<TxnNo>, NoMemory>
     ensures { IfOk result (λ shown. shown.items ≡ shown_txns named.now txns.now) }
 {
     let mut shown = Vec::from_slice(alloc, named)?;
-    if txns.len() <= MAX_TXNS {
-        put_other_txns(&mut shown, named, txns)?;
-    }
+    put_few_others(&mut shown, named, txns)?;
     Ok(shown)
+}
+
+/// What a page with this drawing shows where these are in question. NoMemory where an allocation was refused.
+fn scope_with(
+    alloc: Global,
+    history: &History,
+    drawing: &Drawing,
+    asked: Vec<Question>,
+    rows: Vec<RowName>,
+) -> Result<Scope, NoMemory>
+    ensures { IfOk result (λ scope. scope ≡ scope_with history.now drawing.now.columns asked.items rows.items) }
+{
+    let named = named_txns(&drawing.columns);
+    let txns = shown_txns(alloc, named, history.txns().as_slice())?;
+    Ok(Scope { txns, asked, rows })
 }
 
 /// What the page of a report shows. NoMemory where an allocation was refused.
@@ -94,14 +121,9 @@ pub fn scope_of(
     ensures { IfOk result (λ scope. scope ≡ scope_of history.now report.now asked) }
 {
     let drawing = draw(alloc, history, report, asked)?;
-    let txns = shown_txns(alloc, named_txns(&drawing.columns), history.txns().as_slice())?;
     let questions = questions_of(alloc, history, report, asked)?;
     let rows = rows_of(alloc, report, asked, &questions)?;
-    Ok(Scope {
-        txns,
-        asked: questions,
-        rows,
-    })
+    scope_with(alloc, history, &drawing, questions, rows)
 }
 
 /// Whether a question is at an operation.
@@ -123,19 +145,6 @@ pub fn shows_op(asked: &[Question], txn: TxnNo, op: u32) -> bool
     ensures { result ≡ shows_op asked.now txn op }
 {
     op <= MAX_OPS || is_asked(asked, txn, op)
-}
-
-fn op_in(ops: &[Op], number: u32) -> Option<&Op>
-    ensures { option_copied result ≡ op_at ops.now number }
-{
-    ops.get(number.checked_sub(1)? as usize)
-}
-
-/// The operation of a transaction with this number, if there is one.
-pub fn op_of(history: &History, txn: TxnNo, op: u32) -> Option<&Op>
-    ensures { option_copied result ≡ op_at (ops_of history.now txn) op }
-{
-    op_in(ops_of(history, txn), op)
 }
 
 /// Whether a transaction has an operation of this number.

@@ -86,11 +86,7 @@ fn put_present_name(
 }
 
 /// Appends the names of those of these phenomena that are present.
-fn put_names(
-    out: &mut Vec<u8>,
-    report: &Report,
-    phenomena: &[Phenomenon],
-) -> Result<(), NoMemory>
+fn put_names(out: &mut Vec<u8>, report: &Report, phenomena: &[Phenomenon]) -> Result<(), NoMemory>
     ensures { OnOk result (out.new.items ≡ out.old.items ++ flat_map (present_name report.now) phenomena.now) }
 {
     for phenomenon in phenomena {

@@ -2,15 +2,17 @@
 //! appended may stand there.
 
 ghost use Rattle.std.specs.Prelude.{◌≡◌, ◌++◌, ◌≤◌, length, flat_map, OnOk};
+ghost use Rattle.lab_history.specs.Limits.{max_operations};
 ghost use Rattle.lab_history.specs.Version.{outcome_of};
-ghost use Rattle.lab_page.specs.Transactions.{shown_line, lines_text, untold_ops, ops_count, outcome_words, txn_open, txn_text, shown_text, transactions_open, transactions_text};
+ghost use Rattle.lab_page.specs.Transactions.{shown_line, lines_text, untold_ops, ops_count, txn_anchor, txn_open, txn_text, shown_text, transactions_open, transactions_text};
 
 use crate::lines::put_line;
-use crate::markup::{put_natural, put_txn_name};
 use crate::phrases::transactions_caption;
 use crate::scope::{Scope, shows_op};
-use lab_history::{History, Op, Outcome};
-use lab_picture::ops_of;
+use crate::tags::{txn_head, untold_open};
+use lab_explain::put_txn as put_txn_name;
+use lab_history::{History, Op};
+use lab_picture::{ops_of, outcome_name, put_number};
 use lab_table::{NoMemory, TxnNo};
 use std::alloc::Global;
 
@@ -42,7 +44,7 @@ fn put_lines(
     txn: TxnNo,
     ops: &[Op],
 ) -> Result<(), NoMemory>
-    requires { length ops.now ≤ 10000 }
+    requires { length ops.now ≤ max_operations }
     ensures { OnOk result (out.new.items ≡ out.old.items ++ lines_text history.now scope.now txn 0 ops.now) }
 {
     for (index, op) in ops.iter().enumerate() {
@@ -57,9 +59,11 @@ fn put_lines(
 fn put_untold_ops(out: &mut Vec<u8>, count: u64) -> Result<(), NoMemory>
     ensures { OnOk result (out.new.items ≡ out.old.items ++ untold_ops count) }
 {
-    out.extend_from_slice(b"<tr><td colspan=\"5\">Of ")?;
-    put_natural(out, count)?;
-    out.extend_from_slice(b" statements the first eight are here, and those in question.</td></tr>\n")
+    out.extend_from_slice(untold_open())?;
+    put_number(out, count)?;
+    out.extend_from_slice(
+        b" statements the first eight are here, and those in question.</td></tr>\n",
+    )
 }
 
 /// Appends the same, where not all are shown.
@@ -73,17 +77,14 @@ fn put_ops_count(out: &mut Vec<u8>, count: usize) -> Result<(), NoMemory>
     }
 }
 
-/// How a transaction ended.
-fn outcome_words(history: &History, txn: TxnNo) -> &'static [u8]
-    ensures { result.now ≡ outcome_words (outcome_of history.now txn) }
+/// Appends where a transaction begins.
+#[tactic(auto, unfolding(crate::specs::Transactions::txn_anchor))]
+fn put_txn_anchor(out: &mut Vec<u8>, txn: TxnNo) -> Result<(), NoMemory>
+    ensures { OnOk result (out.new.items ≡ out.old.items ++ txn_anchor txn) }
 {
-    match history.txn(txn) {
-        None => b" isn't there",
-        Some(found) => match found.outcome {
-            Outcome::Committed => b" committed",
-            Outcome::Aborted => b" aborted",
-        },
-    }
+    out.extend_from_slice(txn_head())?;
+    put_number(out, u64::from(txn.number()))?;
+    out.extend_from_slice(b"\"><th scope=\"rowgroup\" colspan=\"5\">")
 }
 
 /// Appends the head of a transaction.
@@ -91,11 +92,10 @@ fn outcome_words(history: &History, txn: TxnNo) -> &'static [u8]
 fn put_txn_open(out: &mut Vec<u8>, history: &History, txn: TxnNo) -> Result<(), NoMemory>
     ensures { OnOk result (out.new.items ≡ out.old.items ++ txn_open txn (outcome_of history.now txn)) }
 {
-    out.extend_from_slice(b"<tbody>\n<tr class=\"t\" id=\"t")?;
-    put_natural(out, u64::from(txn.number()))?;
-    out.extend_from_slice(b"\"><th scope=\"rowgroup\" colspan=\"5\">")?;
+    put_txn_anchor(out, txn)?;
     put_txn_name(out, txn)?;
-    out.extend_from_slice(outcome_words(history, txn))?;
+    out.extend_from_slice(b" ")?;
+    out.extend_from_slice(outcome_name(history, txn).as_bytes())?;
     out.extend_from_slice(b"</th></tr>\n")
 }
 
@@ -139,9 +139,9 @@ pub fn put_shown(out: &mut Vec<u8>, shown: u64, all: u64) -> Result<(), NoMemory
     ensures { OnOk result (out.new.items ≡ out.old.items ++ shown_text shown all) }
 {
     out.extend_from_slice(b"Here: ")?;
-    put_natural(out, shown)?;
+    put_number(out, shown)?;
     out.extend_from_slice(b" of ")?;
-    put_natural(out, all)?;
+    put_number(out, all)?;
     out.extend_from_slice(b".")
 }
 

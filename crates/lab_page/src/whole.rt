@@ -89,6 +89,8 @@ pub fn page_text(
 {
     let scope = scope_of(alloc, history, report, asked)?;
     let mut out = Vec::new(alloc);
-    put_page(alloc, &mut out, history, &scope, report, asked, title, picture)?;
+    put_page(
+        alloc, &mut out, history, &scope, report, asked, title, picture,
+    )?;
     Ok(out)
 }

@@ -9,11 +9,12 @@ ghost use Rattle.lab_page.specs.Figure.{figure_text};
 use crate::figure::put_figure;
 use crate::questions::told_cycle;
 use crate::scope::Scope;
+use crate::tags::{opening_open, why_head};
 use crate::why_steps::{put_behind_steps, put_steps};
 use lab_explain::{put_found_sentence, put_serial_sentence};
 use lab_history::History;
 use lab_judge::{Report, Serial};
-use lab_picture::{draw, put_escaped};
+use lab_picture::{Drawing, draw, put_escaped};
 use lab_reports::Phenomenon;
 use lab_table::NoMemory;
 use std::alloc::Global;
@@ -40,7 +41,7 @@ fn put_opening_sentence(
 fn put_opening(out: &mut Vec<u8>, sentence: &[u8]) -> Result<(), NoMemory>
     ensures { OnOk result (out.new.items ≡ out.old.items ++ opening_text sentence.now) }
 {
-    out.extend_from_slice(b"<p id=\"s0\" class=\"order\" tabindex=\"0\">")?;
+    out.extend_from_slice(opening_open())?;
     put_escaped(out, sentence)?;
     out.extend_from_slice(b"</p>\n")
 }
@@ -70,7 +71,7 @@ fn heading_of(report: &Report, asked: Option<Phenomenon>) -> &'static [u8]
 fn put_why_open(out: &mut Vec<u8>, heading: &[u8]) -> Result<(), NoMemory>
     ensures { OnOk result (out.new.items ≡ out.old.items ++ why_open heading.now) }
 {
-    out.extend_from_slice(b"<section aria-labelledby=\"why\">\n<h2 id=\"why\">")?;
+    out.extend_from_slice(why_head())?;
     out.extend_from_slice(heading)?;
     out.extend_from_slice(b"</h2>\n<div class=\"why\">\n<div>\n")
 }
@@ -94,6 +95,13 @@ fn put_sentences(
     put_behind_steps(out, told_cycle(report, asked))
 }
 
+/// Appends the picture of a drawing.
+fn put_drawing_figure(out: &mut Vec<u8>, drawing: &Drawing, picture: &[u8]) -> Result<(), NoMemory>
+    ensures { OnOk result (out.new.items ≡ out.old.items ++ figure_text drawing.now.columns picture.now) }
+{
+    put_figure(out, &drawing.columns, picture)
+}
+
 /// Appends the picture.
 fn put_report_figure(
     alloc: Global,
@@ -106,7 +114,7 @@ fn put_report_figure(
     ensures { OnOk result (out.new.items ≡ out.old.items ++ figure_text (drawing_of history.now report.now asked).columns picture.now) }
 {
     let drawing = draw(alloc, history, report, asked)?;
-    put_figure(out, &drawing.columns, picture)
+    put_drawing_figure(out, &drawing, picture)
 }
 
 /// Appends the whole part.

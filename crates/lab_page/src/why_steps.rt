@@ -2,21 +2,21 @@
 //! may stand there.
 
 ghost use Rattle.std.specs.Prelude.{◌≡◌, ◌++◌, ◌≤◌, length, OnOk};
-ghost use Rattle.lab_picture.specs.Making.{arrow_of};
-ghost use Rattle.lab_page.specs.Why.{item_head, item_text, ends_text, step_chain, below_text, below_by, edge_item, edge_items, fault_items, serial_items, fault_steps, untold_text, untold_steps, behind_cycle, behind_steps, steps_text};
+ghost use Rattle.lab_page.specs.Why.{item_head, item_text, edge_item, edge_items, recorded_item, due_item, mistake_item, fault_items, serial_items, fault_steps, untold_text, untold_steps, behind_cycle, behind_steps, steps_text};
 
-use crate::chains::{asked_place, put_chain};
-use crate::markup::{put_led, put_natural, put_op, put_row};
+use crate::below::put_below_edge;
+use crate::markup::put_led;
 use crate::phrases::kinds_text;
-use crate::questions::{told_cycle, first_did, second_did, shown_steps};
+use crate::questions::{shown_steps, told_cycle};
 use crate::scope::Scope;
-use lab_deps::{Edge, Kind, LocalFault};
+use crate::tags::steps_open;
+use lab_deps::{Edge, LocalFault};
 use lab_explain::{
     put_due_sentence, put_edge_sentence, put_mistake_sentence, put_recorded_sentence,
 };
 use lab_history::History;
 use lab_judge::{Report, Serial};
-use lab_picture::{Arrow, arrow_of};
+use lab_picture::put_number;
 use lab_reports::Phenomenon;
 use lab_table::NoMemory;
 use std::alloc::Global;
@@ -27,7 +27,7 @@ fn put_item_head(out: &mut Vec<u8>, step: u32) -> Result<(), NoMemory>
     ensures { OnOk result (out.new.items ≡ out.old.items ++ item_head step) }
 {
     out.extend_from_slice(b"<li id=\"s")?;
-    put_natural(out, u64::from(step))?;
+    put_number(out, u64::from(step))?;
     out.extend_from_slice(b"\">")
 }
 
@@ -40,73 +40,6 @@ fn put_item(out: &mut Vec<u8>, step: u32, sentence: &[u8], below: &[u8]) -> Resu
     put_led(out, sentence)?;
     out.extend_from_slice(below)?;
     out.extend_from_slice(b"</li>\n")
-}
-
-/// Appends the operations that make a dependency.
-#[tactic(auto, unfolding(crate::specs::Why::ends_text))]
-fn put_ends(
-    out: &mut Vec<u8>,
-    history: &History,
-    scope: &Scope,
-    arrow: &Arrow,
-) -> Result<(), NoMemory>
-    ensures { OnOk result (out.new.items ≡ out.old.items ++ ends_text history.now scope.now arrow.now) }
-{
-    put_op(out, history, scope, arrow.from.txn, arrow.from.op)?;
-    out.extend_from_slice(b" and ")?;
-    put_op(out, history, scope, arrow.to.txn, arrow.to.op)
-}
-
-/// Appends the versions of a row, those in question bold.
-fn put_step_chain(
-    out: &mut Vec<u8>,
-    history: &History,
-    scope: &Scope,
-    kind: Kind,
-    arrow: &Arrow,
-) -> Result<(), NoMemory>
-    ensures { OnOk result (out.new.items ≡ out.old.items ++ step_chain history.now scope.now kind arrow.now) }
-{
-    let first = asked_place(history, arrow.row, arrow.from, first_did(kind));
-    let second = asked_place(history, arrow.row, arrow.to, second_did(kind));
-    put_chain(out, history, scope, arrow.row, first, second)
-}
-
-/// Appends what stands below a step.
-#[tactic(auto, unfolding(crate::specs::Why::below_text))]
-fn put_below(
-    alloc: Global,
-    out: &mut Vec<u8>,
-    history: &History,
-    scope: &Scope,
-    kind: Kind,
-    arrow: &Arrow,
-) -> Result<(), NoMemory>
-    ensures { OnOk result (out.new.items ≡ out.old.items ++ below_text history.now scope.now kind arrow.now) }
-{
-    out.extend_from_slice(b"\n<p class=\"chain\">")?;
-    put_ends(out, history, scope, arrow)?;
-    out.extend_from_slice(b"; row ")?;
-    put_row(alloc, out, arrow.row)?;
-    out.extend_from_slice(b", version by version: ")?;
-    put_step_chain(out, history, scope, kind, arrow)?;
-    out.extend_from_slice(b"</p>")
-}
-
-/// Appends what stands below the step of a dependency.
-fn put_below_edge(
-    alloc: Global,
-    out: &mut Vec<u8>,
-    history: &History,
-    scope: &Scope,
-    edge: &Edge,
-) -> Result<(), NoMemory>
-    ensures { OnOk result (out.new.items ≡ out.old.items ++ below_by history.now scope.now edge.now.kind (arrow_of history.now edge.now)) }
-{
-    match arrow_of(history, edge) {
-        None => Ok(()),
-        Some(arrow) => put_below(alloc, out, history, scope, edge.kind, &arrow),
-    }
 }
 
 /// Appends the step of a dependency.
@@ -144,6 +77,43 @@ fn put_edge_items(
     Ok(())
 }
 
+/// Appends what is recorded where a fault is.
+fn put_recorded_item(
+    alloc: Global,
+    out: &mut Vec<u8>,
+    history: &History,
+    fault: &LocalFault,
+) -> Result<(), NoMemory>
+    ensures { OnOk result (out.new.items ≡ out.old.items ++ recorded_item history.now fault.now) }
+{
+    let mut text = Vec::new(alloc);
+    put_recorded_sentence(&mut text, history, fault)?;
+    put_item(out, 1, &text, b"")
+}
+
+/// Appends what is due there.
+fn put_due_item(
+    alloc: Global,
+    out: &mut Vec<u8>,
+    history: &History,
+    fault: &LocalFault,
+) -> Result<(), NoMemory>
+    ensures { OnOk result (out.new.items ≡ out.old.items ++ due_item history.now fault.now) }
+{
+    let mut text = Vec::new(alloc);
+    put_due_sentence(&mut text, history, fault)?;
+    put_item(out, 2, &text, b"")
+}
+
+/// Appends how a recorder most often comes to it.
+fn put_mistake_item(alloc: Global, out: &mut Vec<u8>, fault: &LocalFault) -> Result<(), NoMemory>
+    ensures { OnOk result (out.new.items ≡ out.old.items ++ mistake_item fault.now) }
+{
+    let mut text = Vec::new(alloc);
+    put_mistake_sentence(&mut text, fault)?;
+    put_item(out, 3, &text, b"")
+}
+
 /// Appends the steps of a fault.
 #[tactic(auto, unfolding(crate::specs::Why::fault_items))]
 fn put_fault_items(
@@ -154,15 +124,9 @@ fn put_fault_items(
 ) -> Result<(), NoMemory>
     ensures { OnOk result (out.new.items ≡ out.old.items ++ fault_items history.now fault.now) }
 {
-    let mut text = Vec::new(alloc);
-    put_recorded_sentence(&mut text, history, fault)?;
-    put_item(out, 1, &text, b"")?;
-    text.clear();
-    put_due_sentence(&mut text, history, fault)?;
-    put_item(out, 2, &text, b"")?;
-    text.clear();
-    put_mistake_sentence(&mut text, fault)?;
-    put_item(out, 3, &text, b"")
+    put_recorded_item(alloc, out, history, fault)?;
+    put_due_item(alloc, out, history, fault)?;
+    put_mistake_item(alloc, out, fault)
 }
 
 /// Appends the steps of a verdict that is a fault.
@@ -203,7 +167,7 @@ fn put_untold(out: &mut Vec<u8>, count: u64) -> Result<(), NoMemory>
     ensures { OnOk result (out.new.items ≡ out.old.items ++ untold_text count) }
 {
     out.extend_from_slice(b"<p>")?;
-    put_natural(out, count)?;
+    put_number(out, count)?;
     out.extend_from_slice(
         b" more steps aren't shown; <a href=\"#report\">the report</a> names them.</p>\n",
     )
@@ -252,7 +216,7 @@ pub fn put_steps(
     ensures { OnOk result (out.new.items ≡ out.old.items ++ steps_text history.now scope.now report.now asked) }
 {
     let steps = shown_steps(told_cycle(report, asked));
-    out.extend_from_slice(b"<ol class=\"steps\">\n")?;
+    out.extend_from_slice(steps_open())?;
     put_edge_items(alloc, out, history, scope, steps)?;
     put_fault_steps(alloc, out, history, report, asked)?;
     out.extend_from_slice(b"</ol>\n")

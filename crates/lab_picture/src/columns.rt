@@ -25,7 +25,7 @@ pub fn most_ops(history: &History, columns: &[TxnNo]) -> u32
 }
 
 /// How a transaction ended.
-fn outcome_name(history: &History, txn: TxnNo) -> &'static str
+pub fn outcome_name(history: &History, txn: TxnNo) -> &'static str
     ensures { result.now ≡ outcome_name (outcome_of history.now txn) }
 {
     match history.txn(txn) {

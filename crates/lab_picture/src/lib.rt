@@ -41,9 +41,11 @@ mod text;
 mod titles;
 mod values;
 
+pub use columns::outcome_name;
 pub use cycles::{cycle_of, walk_phenomenon};
 pub use drawing::{Arrow, Drawing, Spot, Tie};
 pub use drawn::picture_with;
+pub use effect::put_state;
 pub use installs::{Misplaced, Why, installers_of, misplaced_of, put_misplaced};
 pub use laws::{
     a_nickname_is_said_of_its_form, a_title_names_what_a_walk_is, an_escaped_text_has_no_markup,
@@ -57,5 +59,5 @@ pub use picturing::picture;
 pub use sketch::draw;
 pub use states::{ops_of, state_at};
 pub use svg::print_drawing;
-pub use text::put_escaped;
+pub use text::{put_escaped, put_number};
 pub use titles::{put_finding_title, put_full_name, put_serial_title};

@@ -3,6 +3,6 @@ use Rattle.lab_page.specs.Chains.{versions_text}
 use Rattle.lab_page.proofs.chains.put_versions.Given as goal
 
 abbrev pub invariant-loop-txn : goal.invariant-loop-txn
-invariant-loop-txn l = 
+invariant-loop-txn l =
     (l.place ≡ l.before + l.txn-index)
     × (l.out.items ++ versions_text l.history l.scope l.row l.first l.second l.place (drop l.txn-index l.installers) ≡ l.initial.out.items ++ versions_text l.history l.scope l.row l.first l.second l.before l.installers)
