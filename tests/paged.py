@@ -7,6 +7,7 @@ import itertools
 import json
 import re
 
+from explained import ROUND
 from harness import TOP
 
 MOST_STEPS, MOST_TXNS, MOST_OPS, MOST_ENTRIES, MOST_VERSIONS, MOST_ROWS = 20, 25, 8, 8, 7, 40
@@ -169,7 +170,7 @@ class Page:
         return [row_named(found[1])] if found else []
 
     def columns(self):
-        return [int(no) for no in re.findall(r'<text font-weight="bold"[^>]*>T(\d+) ', self.picture)]
+        return [int(no) for no in re.findall(r"<text[^>]*>T(\d+) (?:committed|aborted|isn't there)</text>", self.picture)]
 
     def transactions(self):
         named = self.columns()[:MOST_TXNS]
@@ -215,7 +216,7 @@ class Page:
         if self.told.startswith("yes"):
             return YES
         if self.walk:
-            return self.meanings[re.search(r": (G[\w-]+) \(", self.headline())[1]][0]
+            return self.meanings[re.search(r": (G[\w-]+)", self.headline())[1]][0]
         found = {"F2": "G1a", "F3": "G1b"}.get(self.told.split()[1])
         return self.meanings[found][0] if found else FAULT
 
@@ -272,6 +273,14 @@ class Page:
         count = len(self.columns()) if " transactions are drawn" not in self.picture else WIDE + 1
         return f"<details>\n<summary>The picture</summary>\n{figure}</details>\n" if count > WIDE else figure
 
+    def found(self):
+        """What is found of each phenomenon: `explain`'s sentence, and of a cycle that it tells step by step which one it is."""
+        for line in self.whole:
+            if re.match(r"G[\w-]+( \(.*?\))?: ", line):
+                name, told = re.match(r"[\w-]+", line)[0], line.removesuffix(f": present: {ROUND}")
+                walk = self.said[name].removeprefix("present ")
+                yield line if told == line else f"{told}: present, by another cycle: {walk}. (--phenomenon {name} explains it.)"
+
     def levels(self):
         level = self.said["level"]
         ladder, phenomena = fences("html", "Levels and phenomena")[1:]
@@ -285,9 +294,8 @@ class Page:
         else:
             ladder = ""
         line = re.search(r"<tr><th scope=\"row\">.*\n", phenomena)[0]
-        told = [it for it in self.whole if re.match(r"G[\w-]+ \(", it)]
         lines = "".join(f'<tr><th scope="row">{led(said)}</th><td>{self.meanings[it][0]}</td><td data-l="forbidden from">'
-                        f"{self.meanings[it][1]}</td></tr>\n" for it, said in zip(PHENOMENA, told, strict=True))
+                        f"{self.meanings[it][1]}</td></tr>\n" for it, said in zip(PHENOMENA, self.found(), strict=True))
         snapshot = next(it for it in self.whole if it.startswith(("A snapshot run", "Not a snapshot run")))
         return (f'<section aria-labelledby="levels">\n<h2 id="levels">Levels and phenomena</h2>\n<p>{escaped(self.whole[-2])}\n</p>\n'
                 f"<p>{escaped(snapshot)}</p>\n{ladder}{phenomena.replace(line, lines)}</section>\n")
