@@ -1,9 +1,8 @@
 -- The cells of an operation: what it saw, listed and wrote.
 use Rattle.std.specs.Prelude.{ℕ, ℤ, ◌==◌, nat_le, min, Bool, cond, Option, Some, None, List, [], ◌∷◌, ◌++◌, length, take, drop, map, flat_map, codes}
-use Rattle.std.specs.List.{list_any}
 use Rattle.std.specs.Fmt.{decimal}
 use Rattle.std.specs.FinMap as finite
-use Rattle.lab_table.specs.Row.{Row, row_test}
+use Rattle.lab_table.specs.Row.{Row}
 use Rattle.lab_table.specs.Table.{State}
 use Rattle.lab_history.specs.History.{History}
 use Rattle.lab_history.specs.Version.{version_state}
@@ -11,6 +10,7 @@ use Rattle.lab_history.specs.declared.operation.Op.{Op}
 use Rattle.lab_history.specs.declared.operation.VersionName.{VersionName}
 use Rattle.lab_history.specs.declared.operation.VersionName.TheVariants.{Initial, Of}
 use Rattle.lab_picture.specs.Effect.{state_text}
+use Rattle.lab_picture.specs.Named.{is_named}
 use Rattle.lab_page.specs.Markup.{op_text, row_text}
 use Rattle.lab_page.specs.Scope.{Scope}
 use Rattle.lab_page.specs.Tags.{count_open}
@@ -27,10 +27,6 @@ listed_entry e = record { row = e.0; told = Held (Some e.1) }
 
 abbrev pub written_entry : Row × Option ℤ → Entry
 written_entry e = record { row = e.0; told = Held e.1 }
-
--- whether an entry is of one of these rows
-abbrev pub is_of : List Row → Entry → Bool
-is_of rows e = list_any (λ row. row_test row e.row) rows
 
 -- a version's state
 abbrev pub known_text : Option State → List ℕ
@@ -60,11 +56,11 @@ entry_open bold = cond bold (codes "<span class=\"e b\">") (codes "<span class=\
 
 -- an entry, where these rows are in question
 unfoldable pub entry_text : History → Scope → List Row → Entry → List ℕ
-entry_text h s rows e = entry_open (is_of rows e) ++ told_text h s e.row e.told ++ codes "</span>"
+entry_text h s rows e = entry_open (is_named rows e.row) ++ told_text h s e.row e.told ++ codes "</span>"
 
 -- an entry, if it is in question
 abbrev pub asked_entry : History → Scope → List Row → Entry → List ℕ
-asked_entry h s rows e = cond (is_of rows e) (entry_text h s rows e) []
+asked_entry h s rows e = cond (is_named rows e.row) (entry_text h s rows e) []
 
 -- the first entries: eight
 abbrev pub first_entries : List Entry → List Entry

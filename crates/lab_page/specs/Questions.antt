@@ -1,7 +1,6 @@
 -- What is in question: an operation and a row, by the step of the verdict that is about them.
 use Rattle.std.specs.Prelude.{ℕ, ◌+◌, ◌==◌, min, Bool, ◌&&◌, cond, Option, Some, None, List, [], ◌∷◌, ◌++◌, length, take, map}
-use Rattle.std.specs.List.{list_any}
-use Rattle.lab_table.specs.Row.{Row, row_test}
+use Rattle.lab_table.specs.Row.{Row}
 use Rattle.lab_history.specs.History.{History}
 use Rattle.lab_deps.specs.FaultKinds.{parts_of}
 use Rattle.lab_deps.specs.declared.edge.Edge.{Edge}
@@ -16,6 +15,7 @@ use Rattle.lab_judge.specs.declared.serial.Serial.{Serial}
 use Rattle.lab_judge.specs.declared.serial.Serial.TheVariants as serial
 use Rattle.lab_picture.specs.Cycles.{cycle_of}
 use Rattle.lab_picture.specs.Making.{arrow_of}
+use Rattle.lab_picture.specs.Named.{is_named}
 use Rattle.lab_picture.specs.declared.drawing.Arrow.{Arrow}
 use Rattle.lab_picture.specs.declared.drawing.Spot.{Spot}
 use Rattle.lab_reports.specs.Phenomena.{finding_of}
@@ -102,7 +102,7 @@ questions_of h report asked = of_steps h 0 (shown_steps (told_cycle report asked
 
 -- rows with this one, each once
 abbrev pub with_row : List Row → Row → List Row
-with_row rows row = cond (list_any (λ other. row_test other row) rows) rows (rows ++ row ∷ [])
+with_row rows row = cond (is_named rows row) rows (rows ++ row ∷ [])
 
 -- rows with the rows of these questions
 abbrev pub with_rows : List Row → List Question → List Row

@@ -1,10 +1,10 @@
 -- The rows: their versions, and how they are in the end.
 use Rattle.std.specs.Prelude.{ℕ, ℤ, ◌+◌, ◌==◌, nat_le, min, Bool, true, false, ◌||◌, cond, None, is_some, List, [], ◌∷◌, ◌++◌, length, take, flat_map, codes}
-use Rattle.std.specs.List.{list_any}
 use Rattle.std.specs.FinMap as finite
-use Rattle.lab_table.specs.Row.{Row, row_test}
+use Rattle.lab_table.specs.Row.{Row}
 use Rattle.lab_history.specs.History.{History}
 use Rattle.lab_picture.specs.Effect.{state_text}
+use Rattle.lab_picture.specs.Named.{is_named}
 use Rattle.lab_page.specs.Chains.{chain_text}
 use Rattle.lab_page.specs.Markup.{row_text}
 use Rattle.lab_page.specs.Phrases.{rows_caption}
@@ -12,21 +12,17 @@ use Rattle.lab_page.specs.Scope.{Scope}
 use Rattle.lab_page.specs.Tags.{name_open, cell_open, end_open}
 use Rattle.lab_page.specs.Transactions.{shown_text}
 
--- whether a row is among these
-abbrev pub is_row_among : List Row → Row → Bool
-is_row_among rows row = list_any (λ other. row_test other row) rows
-
 -- a row, but where it is to be left out
 abbrev pub row_unless : Row → Bool → List Row
 row_unless row out = cond out [] (row ∷ [])
 
 -- a row that was there at first, if it isn't among these
 abbrev pub initial_row : List Row → Row × ℤ → List Row
-initial_row rows e = row_unless e.0 (is_row_among rows e.0)
+initial_row rows e = row_unless e.0 (is_named rows e.0)
 
 -- a row that came later
 abbrev pub later_row : History → List Row → Row × List ℕ → List Row
-later_row h rows e = row_unless e.0 (is_row_among rows e.0 || is_some (finite.get h.initial e.0))
+later_row h rows e = row_unless e.0 (is_named rows e.0 || is_some (finite.get h.initial e.0))
 
 -- the rows that aren't in question: those that were there at first, and then those that came later
 abbrev pub other_rows : History → List Row → List Row

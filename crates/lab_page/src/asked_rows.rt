@@ -6,6 +6,7 @@ ghost use Rattle.lab_page.specs.Questions.{with_row, with_rows, parts_row, seria
 use crate::questions::Question;
 use lab_deps::FaultParts;
 use lab_judge::{Report, Serial};
+use lab_picture::is_named;
 use lab_reports::Phenomenon;
 use lab_table::{NoMemory, RowName};
 use std::alloc::Global;
@@ -14,7 +15,7 @@ use std::alloc::Global;
 fn add_row(rows: &mut Vec<RowName>, row: RowName) -> Result<(), NoMemory>
     ensures { OnOk result (rows.new.items ≡ with_row rows.old.items row) }
 {
-    if rows.contains(&row) {
+    if is_named(rows.as_slice(), row) {
         Ok(())
     } else {
         rows.push(row)?;

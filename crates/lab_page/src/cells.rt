@@ -2,26 +2,19 @@
 //! part of what was to be appended may stand there.
 
 ghost use Rattle.std.specs.Prelude.{◌≡◌, ◌++◌, flat_map, OnOk};
-ghost use Rattle.lab_page.specs.Cells.{is_of, entry_open, entry_text, asked_entry, first_entries, later_entries, more_text, in_all, entries_text, cell_text, seen_cell, listed_cell, written_cell};
+ghost use Rattle.lab_page.specs.Cells.{entry_open, entry_text, asked_entry, first_entries, later_entries, more_text, in_all, entries_text, cell_text, seen_cell, listed_cell, written_cell};
 
 use crate::entries::{Entry, listed_entries, seen_entries, written_entries};
 use crate::entry_words::put_told;
 use crate::scope::Scope;
 use crate::tags::count_open;
 use lab_history::{History, Op};
-use lab_picture::put_number;
+use lab_picture::{is_named, put_number};
 use lab_table::{NoMemory, RowName};
 use std::alloc::Global;
 
 /// The first entries of a cell that are shown.
 const MAX_ENTRIES: usize = 8;
-
-/// Whether an entry is of one of these rows.
-fn is_of(rows: &[RowName], entry: &Entry) -> bool
-    ensures { result ≡ is_of rows.now entry.now }
-{
-    rows.contains(&entry.row)
-}
 
 /// The beginning of an entry.
 fn entry_open(bold: bool) -> &'static [u8]
@@ -46,7 +39,7 @@ fn put_entry(
 ) -> Result<(), NoMemory>
     ensures { OnOk result (out.new.items ≡ out.old.items ++ entry_text history.now scope.now rows.now entry.now) }
 {
-    out.extend_from_slice(entry_open(is_of(rows, entry)))?;
+    out.extend_from_slice(entry_open(is_named(rows, entry.row)))?;
     put_told(alloc, out, history, scope, entry.row, &entry.told)?;
     out.extend_from_slice(b"</span>")
 }
@@ -62,7 +55,7 @@ fn put_asked_entry(
 ) -> Result<(), NoMemory>
     ensures { OnOk result (out.new.items ≡ out.old.items ++ asked_entry history.now scope.now rows.now entry.now) }
 {
-    if is_of(rows, entry) {
+    if is_named(rows, entry.row) {
         put_entry(alloc, out, history, scope, rows, entry)
     } else {
         Ok(())

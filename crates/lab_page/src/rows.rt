@@ -3,7 +3,7 @@
 
 ghost use Rattle.std.specs.Prelude.{◌≡◌, ◌++◌, ◌≤◌, length, is_some, flat_map, IfOk, OnOk};
 ghost use Rattle.std.specs.FinMap as finite;
-ghost use Rattle.lab_page.specs.Rows.{is_row_among, row_unless, initial_row, later_row, other_rows, room, shown_rows, row_open, row_name_cell, versions_cell, end_cell, row_line, rows_lines, rows_open, rows_head, rows_with, rows_part};
+ghost use Rattle.lab_page.specs.Rows.{row_unless, initial_row, later_row, other_rows, room, shown_rows, row_open, row_name_cell, versions_cell, end_cell, row_line, rows_lines, rows_open, rows_head, rows_with, rows_part};
 
 use crate::chains::put_chain;
 use crate::markup::put_row;
@@ -12,19 +12,12 @@ use crate::scope::Scope;
 use crate::tags::{cell_open, end_open, name_open};
 use crate::transactions::put_shown;
 use lab_history::{History, Installers};
-use lab_picture::put_state;
+use lab_picture::{is_named, put_state};
 use lab_table::{NoMemory, RowName, Value};
 use std::alloc::Global;
 
 /// The most rows that are shown.
 const MAX_ROWS: usize = 40;
-
-/// Whether a row is among these.
-fn is_row_among(rows: &[RowName], row: RowName) -> bool
-    ensures { result ≡ is_row_among rows.now row }
-{
-    rows.contains(&row)
-}
 
 /// Appends a row, but where it is to be left out.
 fn put_row_unless(out: &mut Vec<RowName>, row: RowName, left_out: bool) -> Result<(), NoMemory>
@@ -54,7 +47,7 @@ fn put_initial_rows(
     ensures { OnOk result (out.new.items ≡ out.old.items ++ flat_map (initial_row rows.now) entries.now) }
 {
     for (row, _) in entries {
-        put_row_unless(out, *row, is_row_among(rows, *row))?;
+        put_row_unless(out, *row, is_named(rows, *row))?;
     }
     Ok(())
 }
@@ -69,7 +62,7 @@ fn put_later_rows(
     ensures { OnOk result (out.new.items ≡ out.old.items ++ flat_map (later_row history.now rows.now) entries.now) }
 {
     for (row, _) in entries {
-        let named = is_row_among(rows, *row) || is_initial(history, *row);
+        let named = is_named(rows, *row) || is_initial(history, *row);
         put_row_unless(out, *row, named)?;
     }
     Ok(())

@@ -54,6 +54,7 @@ pub use laws::{
     picture_answer_unique, who_is_out_of_place_is_named,
 };
 pub use making::arrow_of;
+pub use named::is_named;
 pub use nicknames::Nickname;
 pub use picturing::picture;
 pub use sketch::draw;
