@@ -1,6 +1,7 @@
 mod Held
 mod Untagging
 mod ReadBack
+mod LongFiles
 mod InLevels
 mod InSteps
 mod InPages

@@ -56,6 +56,7 @@ fn put_shown_file(out: &mut Vec<u8>, file: &[u8]) -> Result<(), NoMemory>
 }
 
 /// Appends the file of a history, if it isn't too long.
+#[tactic(auto, using(crate::proofs::LongFiles::long_file))]
 fn put_file_of(alloc: Global, out: &mut Vec<u8>, history: &History) -> Result<(), NoMemory>
     ensures { OnOk result (out.new.items ≡ out.old.items ++ shown_file (file_of history.now)) }
 {
