@@ -1,5 +1,5 @@
 -- Nicknames as they are said one after another.
-use Rattle.std.proofs.Common.{◌≡◌, ℕ, List, [], ◌∷◌, ◌++◌, flat_map, refl, sym, ap, ◌∙◌, append_assoc}
+use Rattle.std.proofs.Common.{◌≡◌, ℕ, Bool, List, [], ◌∷◌, ◌++◌, filter, flat_map, refl, sym, ap, ◌∙◌, append_assoc}
 use Rattle.std.specs.Prelude.{codes}
 use Rattle.lab_picture.specs.Nicknames.{nickname_name, next_name, in_parentheses}
 use Rattle.lab_picture.specs.declared.nicknames.Nickname.{Nickname}
@@ -16,7 +16,13 @@ next_behind (n ∷ ns) =
     ap (λ text. codes ", " ++ nickname_name n ++ text) (next_behind ns) ∙ sym (append_assoc (next_name n) (flat_map next_name ns) (codes ")"))
 
 -- all of them
-pub all_behind : (ns : List Nickname) → names_behind (codes " (") [] ns ≡ in_parentheses ns
+all_behind : (ns : List Nickname) → names_behind (codes " (") [] ns ≡ in_parentheses ns
 all_behind [] = refl
 all_behind (n ∷ ns) =
     ap (λ text. codes " (" ++ nickname_name n ++ text) (next_behind ns) ∙ sym (append_assoc (codes " (" ++ nickname_name n) (flat_map next_name ns) (codes ")"))
+
+-- once none is left to be said, what stands at the end ends the text
+pub all_said : (text lead end start : List ℕ) (test : Nickname → Bool) (among rest : List Nickname) → rest ≡ []
+    → text ++ names_behind lead end (filter test rest) ≡ start ++ names_behind (codes " (") [] (filter test among) → text ++ end ≡ start ++ in_parentheses (filter test among)
+all_said text lead end start test among rest none said =
+    ap (λ ns. text ++ names_behind lead end (filter test ns)) (sym none) ∙ said ∙ ap (λ names. start ++ names) (all_behind (filter test among))

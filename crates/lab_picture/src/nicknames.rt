@@ -170,7 +170,7 @@ fn is_read_skew(history: &History, walk: &[Edge]) -> bool
 fn is_nothing(writes: &Writes) -> bool
     ensures { result ≡ is_nothing writes.now }
 {
-    writes.entries().len() == 0
+    writes.entries().is_empty()
 }
 
 /// Whether an operation wrote no row.
@@ -222,7 +222,6 @@ fn has_form(history: &History, walk: &[Edge], nickname: Nickname) -> bool
 }
 
 /// Appends those of some nicknames whose form a cycle has, in parentheses.
-#[tactic(auto, using(crate::proofs::SaidNames::all_behind))]
 fn put_those_of(
     out: &mut Vec<u8>,
     history: &History,

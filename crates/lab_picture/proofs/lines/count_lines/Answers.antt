@@ -16,7 +16,7 @@ loop-byte-preserved c =
     let some : length c.loop-byte.rest.now ≡ 0 → ⊥ = λ none. omega (arith, none, c.if-rest-eq0.false) in
     record {
       same =
-        counted c.args.width c.args.text.now c.loop-byte._byte-index c.loop-byte.rest.now c.divided.result.1.now c.loop-byte.count _ l some c.divided.ensures.rest
-        c.loop-byte.invariant.same;
+          counted c.args.width c.args.text.now c.loop-byte._byte-index c.loop-byte.rest.now c.divided.result.1.now c.loop-byte.count _ l some c.divided.ensures.rest
+          c.loop-byte.invariant.same;
       within = omega (arith, c.loop-byte.invariant.within);
     }

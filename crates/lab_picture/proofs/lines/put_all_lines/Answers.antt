@@ -14,7 +14,7 @@ loop-byte-preserved c =
     let some : length c.loop-byte.rest.now ≡ 0 → ⊥ = λ none. omega (arith, none, c.if-rest-eq0.false) in
     record {
       same =
-        written c.args.width c.args.x c.loop-byte.line_y c.args.text.now c.loop-byte._byte-index c.loop-byte.rest.now c.divided.result.0.now c.divided.result.1.now
-        c.loop-byte.out.items c.put_line.new.out.items _ l some c.divided.ensures.line c.divided.ensures.rest c.in_ok-put_line.ensures c.loop-byte.invariant.same;
+          written c.args.width c.args.x c.loop-byte.line_y c.args.text.now c.loop-byte._byte-index c.loop-byte.rest.now c.divided.result.0.now c.divided.result.1.now
+          c.loop-byte.out.items c.put_line.new.out.items _ l some c.divided.ensures.line c.divided.ensures.rest c.in_ok-put_line.ensures c.loop-byte.invariant.same;
       within = omega (arith, c.loop-byte.invariant.within);
     }
