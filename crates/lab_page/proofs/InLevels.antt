@@ -23,10 +23,10 @@ unfolding finding_cell
 led_in_cell sentence = in_front (finding_open ++ led_text sentence) (codes "</th><td>") (led_text sentence) (back finding_open (led_text sentence))
 
 module _ (h : History) (report : Report) where
-  abbrev level : List ℕ
+  abbrev pub level : List ℕ
   level = paragraph_text (level_line report.level)
 
-  abbrev places : List ℕ
+  abbrev pub places : List ℕ
   places = paragraph_text (places_sentence report.snapshot)
 
   abbrev ladder : List ℕ

@@ -82,7 +82,7 @@ module _ (h : History) (s : Scope) (report : Report) (asked : Option Phenomenon)
   abbrev opening : List ℕ
   opening = opening_text (opening_of h report asked)
 
-  abbrev steps : List ℕ
+  abbrev pub steps : List ℕ
   steps = steps_text h s report asked
 
   abbrev behind : List ℕ

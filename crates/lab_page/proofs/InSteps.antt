@@ -66,10 +66,10 @@ module _ (h : History) (s : Scope) where
       )
 
   module _ (report : Report) (asked : Option Phenomenon) where
-    abbrev items : List ℕ
+    abbrev pub items : List ℕ
     items = edge_items h s 0 (shown_steps (told_cycle report asked))
 
-    abbrev faults : List ℕ
+    abbrev pub faults : List ℕ
     faults = fault_steps h report asked
 
     pub items_in_steps : Holds (steps_text h s report asked) items
