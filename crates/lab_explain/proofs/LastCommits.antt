@@ -1,6 +1,6 @@
 -- Who committed last before a place.
 use Rattle.std.proofs.Common.{◌≡◌, ◌<◌, ◌≤◌, ◌⊎◌, inl, inr, ℕ, Bool, true, false, cond, ◌&&◌, Option, Some, None, List, [], ◌∷◌, ◌++◌, refl, sym, subst, arith, append_assoc, append-nil}
-use Rattle.std.specs.Prelude.{nat_lt, get_or, Contains}
+use Rattle.std.specs.Prelude.{nat_lt, get_or}
 use Rattle.std.specs.List.{All}
 use Rattle.std.proofs.lemmas.Bool.Decides.{nat_tests}
 use Rattle.std.proofs.lemmas.List.Elements.{All-nil, All-cons, All-append, Contains-append_left, Contains-push}

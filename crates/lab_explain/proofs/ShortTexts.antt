@@ -33,35 +33,44 @@ level_short grade.Pl3 = omega arith
 level_short grade.Unsound = omega arith
 
 -- how many lines a phenomenon's part may have
-most_of : Option Phenomenon → Phenomenon → ℕ
+abbrev most_of : Option Phenomenon → Phenomenon → ℕ
 most_of told p = cond (is_told told p) 23 3
 
--- and all of them together: one part at most is the one that is told
-most : Option Phenomenon → ℕ
-most told = most_of told G0 + (most_of told G1a + (most_of told G1b + (most_of told G1c + (most_of told GSingle + (most_of told G2Item + most_of told G2)))))
+-- and all of them together, of which one at most is told
+abbrev most : Option Phenomenon → ℕ
+most told = most_of told G0 + most_of told G1a + most_of told G1b + most_of told G1c + most_of told GSingle + most_of told G2Item + most_of told G2
 
--- a serial verdict, and what is found of each phenomenon
-few_most : (told : Option Phenomenon) → verdict_lines told + most told ≤ 81
-few_most None = omega arith
-few_most (Some G0) = omega arith
-few_most (Some G1a) = omega arith
-few_most (Some G1b) = omega arith
-few_most (Some G1c) = omega arith
-few_most (Some GSingle) = omega arith
-few_most (Some G2Item) = omega arith
-few_most (Some G2) = omega arith
+-- as many lines as there are
+at_most : (n : ℕ) → n ≤ n
+at_most n = omega arith
+
+-- a whole text's lines: of the serial verdict, the snapshot verdict, the phenomena, the level and the last one
+few_most : (told : Option Phenomenon) → verdict_lines told + 14 + most told + 1 + 1 ≤ 97
+few_most None = at_most 97
+few_most (Some G0) = at_most 97
+few_most (Some G1a) = at_most 97
+few_most (Some G1b) = at_most 97
+few_most (Some G1c) = at_most 97
+few_most (Some GSingle) = at_most 97
+few_most (Some G2Item) = at_most 97
+few_most (Some G2) = at_most 97
 
 some_verdict : (told : Option Phenomenon) → 1 ≤ verdict_lines told
 some_verdict None = omega arith
 some_verdict (Some p) = omega arith
 
+within : (a b c : ℕ) → a ≤ b → b ≤ c → a ≤ c
+within a b c few most = omega (arith, few, most)
+
 module _ (h : History) (report : Report) (told : Option Phenomenon) where
+  -- the lines of a phenomenon's part, whether it is told or not
+  either : (p : Phenomenon) (v : Bool) → lines (cond v (capped 23 (found_alone h p (finding_of p report))) (capped 3 (beside h p (serial_walk report.serial) (finding_of p report)))) ≤ cond v 23 3
+  either p true = few_lines 23 (found_alone h p (finding_of p report)) (omega arith)
+  either p false = few_lines 3 (beside h p (serial_walk report.serial) (finding_of p report)) (omega arith)
+
   finding_short : (p : Phenomenon) → lines (finding_lines h report told p) ≤ most_of told p
-  finding_short p = at (is_told told p)
-    where
-      at : (b : Bool) → lines (cond b (capped 23 (found_alone h p (finding_of p report))) (capped 3 (beside h p (serial_walk report.serial) (finding_of p report)))) ≤ cond b 23 3
-      at true = few_lines 23 (found_alone h p (finding_of p report)) (omega arith)
-      at false = few_lines 3 (beside h p (serial_walk report.serial) (finding_of p report)) (omega arith)
+  unfolding finding_lines
+  finding_short p = either p (is_told told p)
 
   -- the lines of a phenomenon, and how many they may be
   abbrev of : Phenomenon → List ℕ
@@ -70,21 +79,23 @@ module _ (h : History) (report : Report) (told : Option Phenomenon) where
   abbrev up : Phenomenon → ℕ
   up p = most_of told p
 
+  -- those of the first three
+  reads_short : lines (of G0 ++ of G1a ++ of G1b) ≤ up G0 + up G1a + up G1b
+  reads_short = both (up G0 + up G1a) (up G1b) (of G0 ++ of G1a) (of G1b) (both (up G0) (up G1a) (of G0) (of G1a) (finding_short G0) (finding_short G1a)) (finding_short G1b)
+
+  -- those of the first five
+  flows_short : lines (of G0 ++ of G1a ++ of G1b ++ of G1c ++ of GSingle) ≤ up G0 + up G1a + up G1b + up G1c + up GSingle
+  flows_short =
+      both (up G0 + up G1a + up G1b + up G1c) (up GSingle) (of G0 ++ of G1a ++ of G1b ++ of G1c) (of GSingle)
+      (both (up G0 + up G1a + up G1b) (up G1c) (of G0 ++ of G1a ++ of G1b) (of G1c) reads_short (finding_short G1c)) (finding_short GSingle)
+
   findings_short : lines (findings_lines h report told) ≤ most told
   unfolding findings_lines
   findings_short =
-      both (up G0) (up G1a + (up G1b + (up G1c + (up GSingle + (up G2Item + up G2))))) (of G0) (of G1a ++ of G1b ++ of G1c ++ of GSingle ++ of G2Item ++ of G2) (finding_short G0)
-      (both (up G1a) (up G1b + (up G1c + (up GSingle + (up G2Item + up G2)))) (of G1a) (of G1b ++ of G1c ++ of GSingle ++ of G2Item ++ of G2) (finding_short G1a)
-      (both (up G1b) (up G1c + (up GSingle + (up G2Item + up G2))) (of G1b) (of G1c ++ of GSingle ++ of G2Item ++ of G2) (finding_short G1b)
-      (both (up G1c) (up GSingle + (up G2Item + up G2)) (of G1c) (of GSingle ++ of G2Item ++ of G2) (finding_short G1c)
-      (both (up GSingle) (up G2Item + up G2) (of GSingle) (of G2Item ++ of G2) (finding_short GSingle)
-      (both (up G2Item) (up G2) (of G2Item) (of G2) (finding_short G2Item) (finding_short G2))))))
+      both (up G0 + up G1a + up G1b + up G1c + up GSingle + up G2Item) (up G2) (of G0 ++ of G1a ++ of G1b ++ of G1c ++ of GSingle ++ of G2Item) (of G2)
+      (both (up G0 + up G1a + up G1b + up G1c + up GSingle) (up G2Item) (of G0 ++ of G1a ++ of G1b ++ of G1c ++ of GSingle) (of G2Item) flows_short (finding_short G2Item)) (finding_short G2)
 
-module _ (h : History) (report : Report) where
   -- the parts of a whole text
-  abbrev told : Option Phenomenon
-  told = told_of report
-
   abbrev first : List ℕ
   first = capped (verdict_lines told) (serial_lines h report.serial)
 
@@ -94,16 +105,27 @@ module _ (h : History) (report : Report) where
   abbrev third : List ℕ
   third = findings_lines h report told
 
-  parts_short : lines (first ++ second ++ third ++ level_line report.level ++ last_line) ≤ verdict_lines told + (14 + (most told + (1 + 1)))
-  parts_short =
-      both (verdict_lines told) (14 + (most told + (1 + 1))) first (second ++ third ++ level_line report.level ++ last_line) (few_lines (verdict_lines told) (serial_lines h report.serial) (some_verdict told))
-      (both 14 (most told + (1 + 1)) second (third ++ level_line report.level ++ last_line) (few_lines 14 (places_lines report.snapshot) (omega arith))
-      (both (most told) (1 + 1) third (level_line report.level ++ last_line) (findings_short h report told)
-      (both 1 1 (level_line report.level) last_line (level_short report.level) last_short)))
+  -- its verdicts
+  verdicts_short : lines (first ++ second) ≤ verdict_lines told + 14
+  verdicts_short = both (verdict_lines told) 14 first second (few_lines (verdict_lines told) (serial_lines h report.serial) (some_verdict told)) (few_lines 14 (places_lines report.snapshot) (omega arith))
 
+  -- its verdicts and phenomena
+  parts_short : lines (first ++ second ++ third) ≤ verdict_lines told + 14 + most told
+  parts_short = both (verdict_lines told + 14) (most told) (first ++ second) third verdicts_short findings_short
+
+  -- all of it
+  all_short : lines (first ++ second ++ third ++ level_line report.level ++ last_line) ≤ verdict_lines told + 14 + most told + 1 + 1
+  all_short =
+      both (verdict_lines told + 14 + most told + 1) 1 (first ++ second ++ third ++ level_line report.level) last_line
+      (both (verdict_lines told + 14 + most told) 1 (first ++ second ++ third) (level_line report.level) parts_short (level_short report.level)) last_short
+
+  few : lines (first ++ second ++ third ++ level_line report.level ++ last_line) ≤ 97
+  few = within (lines (first ++ second ++ third ++ level_line report.level ++ last_line)) (verdict_lines told + 14 + most told + 1 + 1) 97 all_short (few_most told)
+
+module _ (h : History) (report : Report) where
   whole_short : lines (whole_text h report) ≤ 97
   unfolding whole_text
-  whole_short = omega (arith, parts_short, few_most told)
+  whole_short = few h report (told_of report)
 
   one_short : (p : Phenomenon) → lines (one_text h report p) ≤ 91
   unfolding one_text

@@ -19,7 +19,7 @@ use Rattle.lab_explain.specs.Steps.{walk_steps}
 use Rattle.lab_explain.specs.Told.{serial_walk, is_told}
 
 -- a phenomenon at the head of its part, by the cycle that is found of it
-abbrev pub head_of : History → Phenomenon → Finding → List ℕ
+unfoldable pub head_of : History → Phenomenon → Finding → List ℕ
 head_of h p found = full_name h p (cycle_of found) ++ codes ": "
 
 -- a walk that isn't the serial verdict's, as the report prints it, and how to have it explained
@@ -41,18 +41,22 @@ found_beside h p of_serial (Walk walk) = walk_beside p of_serial (walk_text walk
 found_beside h p of_serial (At n k row) = seen_flaw h p n k row
 found_beside h p of_serial NotJudged = not_judged
 
--- the lines of a finding that is explained by itself
-abbrev pub found_alone : History → Phenomenon → Finding → List ℕ
-found_alone h p Absent = paragraph (head_of h p Absent ++ codes "absent.")
-found_alone h p (Walk walk) = paragraph (head_of h p (Walk walk) ++ codes "present: " ++ round_text) ++ walk_steps h walk
-found_alone h p (At n k row) = paragraph (head_of h p (At n k row) ++ seen_flaw h p n k row)
-found_alone h p NotJudged = paragraph (head_of h p NotJudged ++ not_judged)
+-- what is said of a finding that is explained by itself
+abbrev pub said_alone : History → Phenomenon → Finding → List ℕ
+said_alone h p Absent = codes "absent."
+said_alone h p (Walk walk) = codes "present: " ++ round_text
+said_alone h p (At n k row) = seen_flaw h p n k row
+said_alone h p NotJudged = not_judged
+
+-- the lines of a finding that is explained by itself: its sentence, and those of its cycle where it has one
+unfoldable pub found_alone : History → Phenomenon → Finding → List ℕ
+found_alone h p found = paragraph (head_of h p found ++ said_alone h p found) ++ walk_steps h (cycle_of found)
 
 -- a finding beside a serial verdict whose walk is printed so
-abbrev pub beside : History → Phenomenon → List ℕ → Finding → List ℕ
+unfoldable pub beside : History → Phenomenon → List ℕ → Finding → List ℕ
 beside h p of_serial found = paragraph (head_of h p found ++ found_beside h p of_serial found)
 
 -- the lines of a finding beside a serial verdict: of the one whose cycle is told what it would have by itself, in 23 at most, of each other three at most
-abbrev pub finding_lines : History → Report → Option Phenomenon → Phenomenon → List ℕ
+unfoldable pub finding_lines : History → Report → Option Phenomenon → Phenomenon → List ℕ
 finding_lines h report told p =
     cond (is_told told p) (capped 23 (found_alone h p (finding_of p report))) (capped 3 (beside h p (serial_walk report.serial) (finding_of p report)))

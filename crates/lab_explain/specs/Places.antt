@@ -1,5 +1,5 @@
 -- The sentences of a snapshot verdict.
-use Rattle.std.specs.Prelude.{ℕ, ◌-◌, ◌<◌, ◌≤◌, ◌⊎◌, ◌==◌, ◌&&◌, nat_lt, min, cond, Option, Some, None, List, [], ◌∷◌, ◌++◌, flat_map, length, take, Contains, codes}
+use Rattle.std.specs.Prelude.{ℕ, ◌-◌, ◌<◌, ◌≤◌, ◌⊎◌, ◌&&◌, nat_lt, min, cond, Option, Some, None, List, [], ◌∷◌, ◌++◌, flat_map, length, take, Contains, codes}
 use Rattle.std.specs.List.{All}
 use Rattle.std.specs.Fmt.{decimal}
 use Rattle.lab_judge.specs.Runs.{Span}

@@ -1,11 +1,10 @@
 -- The sentences of an explanation, before they are laid out in lines.
-use Rattle.std.specs.Prelude.{ℕ, Option, Some, None, List, [], ◌++◌, codes}
+use Rattle.std.specs.Prelude.{ℕ, Option, Some, None, List, [], ◌++◌}
 use Rattle.lab_history.specs.History.{History}
 use Rattle.lab_deps.specs.FaultKinds.{parts_of}
 use Rattle.lab_deps.specs.declared.edge.Edge.{Edge}
 use Rattle.lab_deps.specs.declared.fault.LocalFault.{LocalFault}
 use Rattle.lab_judge.specs.declared.report.Finding.{Finding}
-use Rattle.lab_judge.specs.declared.report.Finding.TheVariants.{Absent, Walk, At, NotJudged}
 use Rattle.lab_judge.specs.declared.report.Report.{Report}
 use Rattle.lab_judge.specs.declared.serial.Serial.{Serial}
 use Rattle.lab_judge.specs.declared.serial.Serial.TheVariants as serial
@@ -15,8 +14,8 @@ use Rattle.lab_reports.specs.Phenomena.{finding_of}
 use Rattle.lab_reports.specs.declared.phenomenon.Phenomenon.{Phenomenon}
 use Rattle.lab_explain.specs.Explanation.{order_sentence}
 use Rattle.lab_explain.specs.Faults.{recorded_text, due_text, most_often, mistake}
-use Rattle.lab_explain.specs.Findings.{head_of, found_beside, seen_flaw}
-use Rattle.lab_explain.specs.Phrases.{no_order, unsound_text, round_text, not_judged}
+use Rattle.lab_explain.specs.Findings.{head_of, found_beside, said_alone}
+use Rattle.lab_explain.specs.Phrases.{no_order, unsound_text}
 use Rattle.lab_explain.specs.Steps.{edge_text}
 use Rattle.lab_explain.specs.Told.{serial_walk}
 
@@ -43,13 +42,6 @@ mistake_text f = most_often (mistake (parts_of f))
 unfoldable pub finding_sentence : History → Report → Phenomenon → List ℕ
 finding_sentence h report p = head_of h p (finding_of p report) ++ found_beside h p (serial_walk report.serial) (finding_of p report)
 
--- what is found of a phenomenon that is explained by itself
-abbrev pub found_text : History → Phenomenon → Finding → List ℕ
-found_text h p Absent = codes "absent."
-found_text h p (Walk walk) = codes "present: " ++ round_text
-found_text h p (At n k row) = seen_flaw h p n k row
-found_text h p NotJudged = not_judged
-
--- its first sentence
+-- the first sentence of what is found of a phenomenon that is explained by itself
 unfoldable pub found_sentence : History → Phenomenon → Finding → List ℕ
-found_sentence h p found = head_of h p found ++ found_text h p found
+found_sentence h p found = head_of h p found ++ said_alone h p found

@@ -34,7 +34,7 @@ abbrev pub first_present : Report → List Phenomenon → Option Phenomenon
 first_present report among = find (λ p. is_cycle (finding_of p report)) among
 
 -- whether a phenomenon's cycle is that of the serial verdict, as the report prints them
-abbrev pub is_verdicts : Report → Phenomenon → Bool
+unfoldable pub is_verdicts : Report → Phenomenon → Bool
 is_verdicts report p = bytes_eq (walk_text (cycle_of (finding_of p report))) (serial_walk report.serial)
 
 -- a phenomenon, where its cycle is another than the serial verdict's
@@ -43,7 +43,7 @@ other_than_verdicts report None = None
 other_than_verdicts report (Some p) = cond (is_verdicts report p) None (Some p)
 
 -- the phenomenon whose cycle is told beside the serial verdict: the first that is present by a cycle, where that is another than the verdict's
-abbrev pub told_of : Report → Option Phenomenon
+unfoldable pub told_of : Report → Option Phenomenon
 told_of report = other_than_verdicts report (first_present report of_cycles)
 
 -- whether a phenomenon is the one whose cycle is told

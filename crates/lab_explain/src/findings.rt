@@ -2,7 +2,7 @@
 //! what was to be appended may stand there.
 
 ghost use Rattle.std.specs.Prelude.{◌≡◌, ◌++◌, OnOk};
-ghost use Rattle.lab_explain.specs.Findings.{head_of, other_walk, walk_beside, seen_flaw, found_beside, found_alone, beside, finding_lines};
+ghost use Rattle.lab_explain.specs.Findings.{head_of, other_walk, walk_beside, seen_flaw, found_beside, said_alone, found_alone, beside, finding_lines};
 ghost use Rattle.lab_explain.specs.Told.{serial_walk};
 
 use crate::clauses::put_saw;
@@ -19,6 +19,7 @@ use lab_table::{NoMemory, RowName, TxnNo};
 use std::alloc::Global;
 
 /// Appends a phenomenon at the head of its part, by the cycle that is found of it.
+#[tactic(auto, unfolding(crate::specs::Findings::head_of))]
 pub fn put_head(
     out: &mut Vec<u8>,
     history: &History,
@@ -98,7 +99,28 @@ pub fn put_found_beside(
     }
 }
 
-/// Appends the lines of a finding that is explained by itself.
+/// Appends what is said of a finding that is explained by itself.
+pub fn put_said_alone(
+    out: &mut Vec<u8>,
+    history: &History,
+    phenomenon: Phenomenon,
+    finding: &Finding,
+) -> Result<(), NoMemory>
+    ensures { OnOk result (out.new.items ≡ out.old.items ++ said_alone history.now phenomenon finding.now) }
+{
+    match finding {
+        Finding::Absent => out.extend_from_slice(b"absent."),
+        Finding::NotJudged => out.extend_from_slice(not_judged()),
+        Finding::Walk(_) => {
+            out.extend_from_slice(b"present: ")?;
+            out.extend_from_slice(round_text())
+        }
+        Finding::At { txn, op, row } => { put_seen_flaw(out, history, phenomenon, *txn, *op, *row) }
+    }
+}
+
+/// Appends the lines of a finding that is explained by itself: its sentence, and those of its cycle where it has one.
+#[tactic(auto, unfolding(crate::specs::Findings::found_alone))]
 pub fn put_found_alone(
     alloc: Global,
     out: &mut Vec<u8>,
@@ -110,29 +132,13 @@ pub fn put_found_alone(
 {
     let mut text = Vec::new(alloc);
     put_head(&mut text, history, phenomenon, finding)?;
-    match finding {
-        Finding::Absent => {
-            text.extend_from_slice(b"absent.")?;
-            put_paragraph(out, &text)
-        }
-        Finding::NotJudged => {
-            text.extend_from_slice(not_judged())?;
-            put_paragraph(out, &text)
-        }
-        Finding::Walk(walk) => {
-            text.extend_from_slice(b"present: ")?;
-            text.extend_from_slice(round_text())?;
-            put_paragraph(out, &text)?;
-            put_walk_steps(alloc, out, history, walk.as_slice())
-        }
-        Finding::At { txn, op, row } => {
-            put_seen_flaw(&mut text, history, phenomenon, *txn, *op, *row)?;
-            put_paragraph(out, &text)
-        }
-    }
+    put_said_alone(&mut text, history, phenomenon, finding)?;
+    put_paragraph(out, &text)?;
+    put_walk_steps(alloc, out, history, cycle_of(finding))
 }
 
 /// Appends a finding beside a serial verdict whose walk is printed so.
+#[tactic(auto, unfolding(crate::specs::Findings::beside))]
 fn put_beside(
     alloc: Global,
     out: &mut Vec<u8>,
@@ -151,6 +157,7 @@ fn put_beside(
 
 /// Appends the lines of a finding beside a serial verdict, whose walk is printed so: of the one whose cycle is told what it
 /// would have by itself, in 23 at most, of each other three at most.
+#[tactic(auto, unfolding(crate::specs::Findings::finding_lines))]
 pub fn put_finding_lines(
     alloc: Global,
     out: &mut Vec<u8>,

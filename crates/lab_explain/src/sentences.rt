@@ -4,11 +4,11 @@
 ghost use Rattle.std.specs.Prelude.{◌≡◌, ◌++◌, OnOk};
 ghost use Rattle.lab_explain.specs.Faults.{recorded_text, due_text};
 ghost use Rattle.lab_explain.specs.Places.{places_sentence};
-ghost use Rattle.lab_explain.specs.Sentences.{serial_sentence, edge_sentence, mistake_text, finding_sentence, found_text, found_sentence};
+ghost use Rattle.lab_explain.specs.Sentences.{serial_sentence, edge_sentence, mistake_text, finding_sentence, found_sentence};
 
 use crate::faults::{mistake, put_due_text, put_most_often, put_recorded_text};
-use crate::findings::{put_found_beside, put_head, put_seen_flaw};
-use crate::phrases::{no_order, not_judged, round_text, unsound_text};
+use crate::findings::{put_found_beside, put_head, put_said_alone};
+use crate::phrases::{no_order, unsound_text};
 use crate::places::put_sentence;
 use crate::sections::put_order_sentence;
 use crate::steps::put_edge;
@@ -95,28 +95,6 @@ pub fn put_finding_sentence(
     put_found_beside(alloc, out, history, phenomenon, &walk, finding)
 }
 
-/// Appends what is found of a phenomenon that is explained by itself.
-fn put_found_text(
-    out: &mut Vec<u8>,
-    history: &History,
-    phenomenon: Phenomenon,
-    finding: &Finding,
-) -> Result<(), NoMemory>
-    ensures { OnOk result (out.new.items ≡ out.old.items ++ found_text history.now phenomenon finding.now) }
-{
-    match finding {
-        Finding::Absent => out.extend_from_slice(b"absent."),
-        Finding::NotJudged => out.extend_from_slice(not_judged()),
-        Finding::Walk(_) => {
-            out.extend_from_slice(b"present: ")?;
-            out.extend_from_slice(round_text())
-        }
-        Finding::At { txn, op, row } => {
-            put_seen_flaw(out, history, phenomenon, *txn, *op, *row)
-        }
-    }
-}
-
 /// Appends the first sentence of what is found of a phenomenon that is explained by itself.
 #[tactic(auto, unfolding(crate::specs::Sentences::found_sentence))]
 pub fn put_found_sentence(
@@ -128,5 +106,5 @@ pub fn put_found_sentence(
     ensures { OnOk result (out.new.items ≡ out.old.items ++ found_sentence history.now phenomenon finding.now) }
 {
     put_head(out, history, phenomenon, finding)?;
-    put_found_text(out, history, phenomenon, finding)
+    put_said_alone(out, history, phenomenon, finding)
 }

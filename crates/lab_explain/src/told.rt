@@ -72,6 +72,7 @@ fn first_present(report: &Report, among: &[Phenomenon]) -> Option<Phenomenon>
 
 /// Whether a phenomenon's cycle is that of the serial verdict, which is printed so. NoMemory where an allocation was
 /// refused.
+#[tactic(auto, unfolding(crate::specs::Told::is_verdicts))]
 fn is_verdicts(
     alloc: Global,
     report: &Report,
@@ -87,6 +88,7 @@ fn is_verdicts(
 
 /// The phenomenon whose cycle is told beside the serial verdict, whose walk is printed so: the first that is present by a
 /// cycle, where that is another than the verdict's. NoMemory where an allocation was refused.
+#[tactic(auto, unfolding(crate::specs::Told::told_of))]
 pub fn told_of(
     alloc: Global,
     report: &Report,
