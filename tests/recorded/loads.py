@@ -71,7 +71,7 @@ MIXES = (
 class Ended:
     """A load that has ended: what it said, and the parts that it left by their numbers."""
 
-    def __init__(self, words, environment=None, path=f"{TOP}/recorders/load", seconds=4):
+    def __init__(self, words, environment=None, path=f"{TOP}/recorders/load", seconds=3):
         with tempfile.TemporaryDirectory() as room:
             self.parts = f"{room}/parts"
             asked = ["--seconds", str(seconds), "--parts", self.parts]
