@@ -210,6 +210,19 @@ fn shrink_command<'a>(alloc: Global, names: &'a Names) -> Result<Command<'a>, Al
         .arg(flag(alloc, "progress", help::LEFT))
 }
 
+/// The subcommand `page`. NoMemory where an allocation was refused.
+fn page_command<'a>(alloc: Global, names: &'a Names) -> Result<Command<'a>, AllocError> {
+    let phenomenon = choice(alloc, "phenomenon", help::PAGED, names.phenomena.as_slice());
+    let title = Arg::new(alloc, "title")
+        .long("title")
+        .help(help::TITLE)
+        .value_name("TEXT")
+        .action(ArgAction::Set);
+    plain_command(alloc, "page", help::PAGE, help::PAGE_WHOLE)
+        .arg(phenomenon)?
+        .arg(title)
+}
+
 /// The program's command, without its subcommands.
 fn program<'a>(alloc: Global) -> Command<'a> {
     Command::new(alloc, "hermitage_lab")
@@ -240,5 +253,6 @@ pub fn command<'a>(alloc: Global, names: &'a Names) -> Result<Command<'a>, Alloc
     let command = command.subcommand(matrix)?;
     let command = with(command, picture_command(alloc, names))?;
     let command = with(command, explain_command(alloc, names))?;
+    let command = with(command, page_command(alloc, names))?;
     with(command, shrink_command(alloc, names))
 }

@@ -176,6 +176,23 @@ file, writes one line that names its first fault.
 
 pub const EXPLAINED: &str = "Explains what is found of a phenomenon in place of the whole report";
 
+pub const PAGE: &str = "Shows a judgement of a history file as one HTML page";
+
+pub const PAGE_WHOLE: &str = "\
+Shows a judgement of the history of a file, which it judges as `judge` does, as one page for a browser.
+
+Reads a history file from standard input, and writes one HTML file to standard output, without scripts,
+for which nothing is fetched: the verdict, why, beside its picture, the levels and the phenomena, what each
+statement saw, listed and wrote, the versions of the rows, how to check it by hand, the report, and the
+history itself up to 64 KiB. Where the input is no history file, writes one line that names its first fault.
+
+    hermitage_lab page < examples/g2_item_write_skew.json > page.html";
+
+pub const PAGED: &str = "Shows what is found of a phenomenon in place of the serial verdict";
+
+pub const TITLE: &str =
+    "What the page is to say of the history, as its database and the level asked for; at most 1,000 bytes";
+
 pub const SHRINK: &str = "Makes a history file smaller that shows the same";
 
 pub const SHRINK_WHOLE: &str = "\

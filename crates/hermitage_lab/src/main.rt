@@ -23,6 +23,7 @@ use lab_commands::{judge, run, run_free, serial};
 use lab_explain::explain;
 use lab_hints::{Choices, note_words};
 use lab_matrix::CaseName;
+use lab_page::page;
 use lab_picture::picture;
 use lab_reports::Phenomenon;
 use lab_shrink_commands::{Progress, shrink};
@@ -36,6 +37,9 @@ use std::thread::Threads;
 
 /// The exit status of a refused command line.
 pub const ARGUMENTS_REFUSED: u8 = 5;
+
+/// The most bytes of a page's title.
+const MAX_TITLE: usize = 1_000;
 
 /// The arguments that the program was given, its name first; None where one isn't UTF-8, and standard error says so.
 fn given_arguments(rt: &HostRuntime) -> Result<Option<Vec<String>>, RunFault> {
@@ -115,6 +119,29 @@ fn run_case<W: Write>(
     ended(case(alloc, name, writer))
 }
 
+/// Runs `page`, and answers the exit status.
+fn run_page<R: Read, W: Write, N: Write>(
+    alloc: Global,
+    reader: &mut R,
+    writer: &mut W,
+    notes: &mut N,
+    matches: &ArgMatches<'_>,
+) -> Result<u8, RunFault> {
+    let title = matches.get_str("title").unwrap_or("");
+    if MAX_TITLE < title.len() {
+        let _ = notes.write_all(b"error: the value of --title has more than 1,000 bytes\n");
+        return Ok(ARGUMENTS_REFUSED);
+    }
+    ended(page(
+        alloc,
+        reader,
+        writer,
+        notes,
+        asked(matches),
+        title.as_bytes(),
+    ))
+}
+
 /// Runs `shrink`, and answers the exit status.
 fn run_shrink<R: Read, W: Write, N: Write>(
     alloc: Global,
@@ -170,6 +197,7 @@ fn run_subcommand<T: Files + Threads + Wait + Sync, R: Read, W: Write, N: Write>
         "matrix" => ended(matrix(alloc, writer)),
         "picture" => ended(picture(alloc, reader, writer, notes, asked(more))),
         "explain" => ended(explain(alloc, reader, writer, notes, asked(more))),
+        "page" => run_page(alloc, reader, writer, notes, more),
         _ => Ok(ARGUMENTS_REFUSED),
     }
 }

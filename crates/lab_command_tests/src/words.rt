@@ -14,7 +14,7 @@ pub const PICTURE: Case = Case {
 <title>Serializable: no committed transaction</title>
 <desc>serializable: yes
 </desc>
-<defs><marker id="head" viewBox="0 0 8 8" refX="8" refY="4" markerWidth="9" markerHeight="9" markerUnits="userSpaceOnUse" orient="auto"><path d="M0 0L8 4L0 8z"/></marker></defs>
+<defs><marker id="p-head" viewBox="0 0 8 8" refX="8" refY="4" markerWidth="9" markerHeight="9" markerUnits="userSpaceOnUse" orient="auto"><path d="M0 0L8 4L0 8z"/></marker></defs>
 <rect width="556" height="76" fill="white"/>
 <text font-size="14" font-weight="bold" x="26" y="30">Serializable: no committed transaction</text>
 <text x="26" y="48">serializable: yes

@@ -6,6 +6,8 @@ pub mod Places
 pub mod Names
 pub mod Phrases
 pub mod Told
+pub mod NewerRows
 pub mod Findings
 pub mod Explanation
+pub mod Sentences
 pub mod Answer

@@ -185,7 +185,7 @@ fn put_due(out: &mut Vec<u8>, history: &History, fault: FaultParts) -> Result<()
 }
 
 /// How a recorder most often comes to a fault.
-fn mistake(fault: FaultParts) -> &'static str
+pub fn mistake(fault: FaultParts) -> &'static str
     ensures { result.now ≡ mistake fault }
 {
     match fault {
@@ -225,7 +225,7 @@ fn mistake(fault: FaultParts) -> &'static str
 
 /// Appends what is recorded, with the fault as the report prints it.
 #[tactic(auto, unfolding(crate::specs::Faults::recorded_text))]
-fn put_recorded_text(
+pub fn put_recorded_text(
     out: &mut Vec<u8>,
     history: &History,
     fault: &LocalFault,
@@ -241,7 +241,7 @@ fn put_recorded_text(
 
 /// Appends what is due.
 #[tactic(auto, unfolding(crate::specs::Faults::due_text))]
-fn put_due_text(out: &mut Vec<u8>, history: &History, fault: LocalFault) -> Result<(), NoMemory>
+pub fn put_due_text(out: &mut Vec<u8>, history: &History, fault: LocalFault) -> Result<(), NoMemory>
     ensures { OnOk result (out.new.items ≡ out.old.items ++ due_text history.now fault) }
 {
     out.extend_from_slice(b"Due: ")?;
@@ -251,7 +251,7 @@ fn put_due_text(out: &mut Vec<u8>, history: &History, fault: LocalFault) -> Resu
 
 /// Appends the recorder's mistake.
 #[tactic(auto, unfolding(crate::specs::Faults::most_often))]
-fn put_most_often(out: &mut Vec<u8>, mistake: &str) -> Result<(), NoMemory>
+pub fn put_most_often(out: &mut Vec<u8>, mistake: &str) -> Result<(), NoMemory>
     ensures { OnOk result (out.new.items ≡ out.old.items ++ most_often mistake.now) }
 {
     out.extend_from_slice(often_words())?;

@@ -20,7 +20,7 @@ use std::alloc::Global;
 
 /// Appends a phenomenon at the head of its part, by the cycle that is found of it.
 #[tactic(auto, unfolding(crate::specs::Findings::head_of))]
-fn put_head(
+pub fn put_head(
     out: &mut Vec<u8>,
     history: &History,
     phenomenon: Phenomenon,
@@ -62,7 +62,7 @@ fn put_walk_beside(
 
 /// Appends an operation that saw what it is not to see.
 #[tactic(auto, unfolding(crate::specs::Findings::seen_flaw))]
-fn put_seen_flaw(
+pub fn put_seen_flaw(
     out: &mut Vec<u8>,
     history: &History,
     phenomenon: Phenomenon,
@@ -78,7 +78,7 @@ fn put_seen_flaw(
 }
 
 /// Appends what is said of a finding beside a serial verdict.
-fn put_found_beside(
+pub fn put_found_beside(
     alloc: Global,
     out: &mut Vec<u8>,
     history: &History,
@@ -100,7 +100,7 @@ fn put_found_beside(
 }
 
 /// Appends what is said of a finding that is explained by itself.
-fn put_said_alone(
+pub fn put_said_alone(
     out: &mut Vec<u8>,
     history: &History,
     phenomenon: Phenomenon,

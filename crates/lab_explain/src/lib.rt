@@ -21,12 +21,19 @@ mod newer_rows;
 mod phrases;
 mod places;
 mod sections;
+mod sentences;
 mod steps;
 mod told;
 
+pub use clauses::{op_of, put_txn};
 pub use explaining::explain;
 pub use laws::{
     a_fault_that_is_explained_stands, each_dependency_has_its_sentence, explain_answer_unique,
     explanation_is_short,
 };
+pub use names::level_line;
 pub use sections::explanation;
+pub use sentences::{
+    put_due_sentence, put_edge_sentence, put_finding_sentence, put_found_sentence,
+    put_mistake_sentence, put_places_sentence, put_recorded_sentence, put_serial_sentence,
+};

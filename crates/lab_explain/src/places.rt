@@ -203,7 +203,7 @@ fn put_circle_sentence(out: &mut Vec<u8>, points: &[Point]) -> Result<(), NoMemo
 }
 
 /// Appends the sentence of a snapshot verdict.
-fn put_sentence(out: &mut Vec<u8>, snapshot: &Places) -> Result<(), NoMemory>
+pub fn put_sentence(out: &mut Vec<u8>, snapshot: &Places) -> Result<(), NoMemory>
     ensures { OnOk result (out.new.items ≡ out.old.items ++ places_sentence snapshot.now) }
 {
     match snapshot {

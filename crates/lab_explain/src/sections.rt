@@ -21,7 +21,7 @@ use std::alloc::Global;
 
 /// Appends the sentence of an order.
 #[tactic(auto, unfolding(crate::specs::Explanation::order_sentence))]
-fn put_order_sentence(out: &mut Vec<u8>, order: &[TxnNo]) -> Result<(), NoMemory>
+pub fn put_order_sentence(out: &mut Vec<u8>, order: &[TxnNo]) -> Result<(), NoMemory>
     ensures { OnOk result (out.new.items ≡ out.old.items ++ order_sentence order.now) }
 {
     out.extend_from_slice(order_head())?;

@@ -126,7 +126,7 @@ fn put_order(out: &mut Vec<u8>, edge: &Edge) -> Result<(), NoMemory>
 
 /// Appends the sentence of a dependency, by the operations that make it.
 #[tactic(auto, unfolding(crate::specs::Steps::edge_text))]
-fn put_edge(
+pub fn put_edge(
     out: &mut Vec<u8>,
     history: &History,
     edge: &Edge,

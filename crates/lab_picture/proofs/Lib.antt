@@ -6,7 +6,7 @@ pub mod JudgedWalks
 pub mod DrawnWalks
 mod NamedInstalls
 pub mod Escapes
-mod OnePicture
+pub mod OnePicture
 mod LeastOfPairs
 mod TitledWalks
 mod NicknameForms

@@ -1,5 +1,5 @@
 -- The text of a picture's arrows.
-use Rattle.std.specs.Prelude.{ℕ, ◌+◌, ◌-◌, ◌*◌, ◌/◌, ◌==◌, min, Bool, false, not, cond, Option, Some, None, List, [], ◌∷◌, ◌++◌, codes}
+use Rattle.std.specs.Prelude.{ℕ, ◌+◌, ◌-◌, ◌*◌, ◌/◌, ◌==◌, min, Bool, true, false, not, cond, Option, Some, None, List, [], ◌∷◌, ◌++◌, codes}
 use Rattle.std.specs.Fmt.{decimal}
 use Rattle.std.specs.List.{list_any}
 use Rattle.lab_statement.specs.Printed.{printed_row_name}
@@ -70,37 +70,49 @@ weight_text thin = cond thin (codes " stroke-width=\"0.75\"") (codes " stroke-wi
 
 -- its dashes, and its head
 unfoldable pub dash_text : Bool → List ℕ
-dash_text dashed = cond dashed (codes " stroke-dasharray=\"5 3\" marker-end=\"url(#head)\"/>\n") (codes " marker-end=\"url(#head)\"/>\n")
+dash_text dashed = cond dashed (codes " stroke-dasharray=\"5 3\" marker-end=\"url(#p-head)\"/>\n") (codes " marker-end=\"url(#p-head)\"/>\n")
 
 -- what stands behind an arrow's way: black, thin or not, dashed where it is to be, with its head
 unfoldable pub style_text : Bool → Bool → List ℕ
 style_text thin dashed = codes "\" fill=\"none\" stroke=\"black\"" ++ weight_text thin ++ dash_text dashed
 
--- an arrow from one column to the next, with its label above its higher end
+-- what opens an arrow that has a class
+unfoldable pub path_text : List ℕ → List ℕ
+path_text class = codes "<path" ++ class
+
+-- the rest of an arrow from one column to the next, with its label above its higher end
 unfoldable pub straight_text : Bool → Arrow → Corner → Corner → List ℕ
 straight_text thin arrow from to =
-    codes "<path d=\"" ++ straight_path from to ++ style_text thin (is_dashed arrow.tie) ++ narrow_text (from.x + 56) (min from.y to.y - 5) arrow
+    codes " d=\"" ++ straight_path from to ++ style_text thin (is_dashed arrow.tie) ++ narrow_text (from.x + 56) (min from.y to.y - 5) arrow
 
--- an arrow that goes below the boxes, with its label above its way there
+-- that of an arrow that goes below the boxes, with its label above its way there
 unfoldable pub round_text : Bool → Arrow → Corner → ℕ → ℕ → Corner → List ℕ
 round_text thin arrow from lane aside to =
-    codes "<path d=\"" ++ round_path from lane aside to ++ style_text thin (is_dashed arrow.tie) ++ label_text ((from.x + to.x) / 2) (lane - 4) arrow
+    codes " d=\"" ++ round_path from lane aside to ++ style_text thin (is_dashed arrow.tie) ++ label_text ((from.x + to.x) / 2) (lane - 4) arrow
 
--- an arrow from one column to another
+-- that of an arrow from one column to another
 abbrev pub route_text : Frame → Bool → Arrow → ℕ → ℕ → List ℕ
 route_text f thin arrow from to =
     cond (is_next from to) (straight_text thin arrow (exit_of f from arrow.from.op) (entry_of f to arrow.to.op))
     (round_text thin arrow (exit_of f from arrow.from.op) (lane f from to) (aside from to) (entry_of f to arrow.to.op))
 
--- an arrow, where both transactions have columns
-abbrev pub arrow_between : Frame → Bool → Arrow → Option ℕ → Option ℕ → List ℕ
-arrow_between f thin arrow None to = []
-arrow_between f thin arrow (Some from) None = []
-arrow_between f thin arrow (Some from) (Some to) = route_text f thin arrow from to
+-- an arrow with this class from one column to another
+unfoldable pub classed_text : Frame → Bool → List ℕ → Arrow → ℕ → ℕ → List ℕ
+classed_text f thin class arrow from to = path_text class ++ route_text f thin arrow from to
 
--- an arrow between columns of these transactions
-abbrev pub arrow_text : Frame → Bool → List ℕ → Arrow → List ℕ
-arrow_text f thin columns arrow = arrow_between f thin arrow (column_of 0 arrow.from.txn columns) (column_of 0 arrow.to.txn columns)
+-- an arrow, where both transactions have columns
+abbrev pub arrow_between : Frame → Bool → List ℕ → Arrow → Option ℕ → Option ℕ → List ℕ
+arrow_between f thin class arrow None to = []
+arrow_between f thin class arrow (Some from) None = []
+arrow_between f thin class arrow (Some from) (Some to) = classed_text f thin class arrow from to
+
+-- an arrow with this class between columns of these transactions
+abbrev pub arrow_text : Frame → Bool → List ℕ → List ℕ → Arrow → List ℕ
+arrow_text f thin class columns arrow = arrow_between f thin class arrow (column_of 0 arrow.from.txn columns) (column_of 0 arrow.to.txn columns)
+
+-- an arrow of a yes: thin, without a class
+abbrev pub forward_text : Frame → List ℕ → Arrow → List ℕ
+forward_text f columns arrow = arrow_text f true [] columns arrow
 
 -- whether an arrow between these columns, where both are there, goes below the boxes
 abbrev pub is_round_between : Option ℕ → Option ℕ → Bool

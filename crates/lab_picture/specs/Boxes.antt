@@ -8,6 +8,7 @@ use Rattle.lab_picture.specs.declared.layout.Column.{Column}
 use Rattle.lab_picture.specs.declared.layout.Frame.{Frame}
 use Rattle.lab_picture.specs.declared.layout.Stroke.{Stroke}
 use Rattle.lab_picture.specs.declared.layout.Stroke.TheVariants.{Plain, Thick, Thin}
+use Rattle.lab_picture.specs.Classes.{box_class}
 use Rattle.lab_picture.specs.Effect.{effect_text}
 use Rattle.lab_picture.specs.Kept.{tells_named, kept_text}
 use Rattle.lab_picture.specs.Layout.{left, upper, box_height}
@@ -63,9 +64,9 @@ stroke_text Thin = codes " fill=\"white\" stroke=\"black\" stroke-width=\"0.5\"/
 unfoldable pub edge_style : ℕ → Stroke → List ℕ
 edge_style height stroke = size_text 196 height ++ stroke_text stroke
 
--- a box at a place
-unfoldable pub edge_text : ℕ → ℕ → ℕ → Stroke → List ℕ
-edge_text x y height stroke = codes "<rect" ++ place_text x y ++ edge_style height stroke
+-- a box at a place, with a class
+unfoldable pub edge_text : ℕ → ℕ → ℕ → Stroke → List ℕ → List ℕ
+edge_text x y height stroke class = codes "<rect" ++ class ++ place_text x y ++ edge_style height stroke
 
 -- what a statement did in the lines that its text, of so many, leaves of four
 unfoldable pub rest_lines : ℕ → ℕ → ℕ → List ℕ → List ℕ
@@ -80,20 +81,20 @@ unfoldable pub inner_text : ℕ → ℕ → Telling → List ℕ
 inner_text x y told = three_lines [] x y 13 28 told.statement ++ effect_lines x (y + 13 * in_three 28 told.statement) told
 
 -- an operation's box at a place: its whole text as a title, its edge, and its text
-unfoldable pub box_text : ℕ → ℕ → ℕ → Stroke → Telling → List ℕ
-box_text x y height stroke told =
-    whole_text told.statement told.effect ++ edge_text x y height stroke ++ inner_text (x + 5) (y + 14) told ++ codes "</g>\n"
+unfoldable pub box_text : ℕ → ℕ → ℕ → Stroke → List ℕ → Telling → List ℕ
+box_text x y height stroke class told =
+    whole_text told.statement told.effect ++ edge_text x y height stroke class ++ inner_text (x + 5) (y + 14) told ++ codes "</g>\n"
 
 -- the edge of a column's box: thick where it is marked, thin in a thin column
 abbrev pub stroke_of : Column → ℕ → Stroke
 stroke_of column op = cond (op == column.marked) Thick (cond column.thin Thin Plain)
 
--- the box of a column's operation with this number
-abbrev pub op_text : Frame → List Arrow → Column → ℕ → Op → List ℕ
-op_text frame arrows column k op =
-    box_text (left column.place) (upper frame column.place k) (box_height frame) (stroke_of column k) (telling (rows_at arrows column.txn k) op)
+-- the box of a column's operation with this number, where these arrows are drawn and those are steps
+abbrev pub op_text : Frame → List Arrow → List Arrow → Column → ℕ → Op → List ℕ
+op_text frame arrows steps column k op =
+    box_text (left column.place) (upper frame column.place k) (box_height frame) (stroke_of column k) (box_class steps column k) (telling (rows_at arrows column.txn k) op)
 
 -- the boxes of a column's operations, where so many come before these
-abbrev pub boxes_text : Frame → List Arrow → Column → ℕ → List Op → List ℕ
-boxes_text frame arrows column before [] = []
-boxes_text frame arrows column before (op ∷ ops) = op_text frame arrows column (before + 1) op ++ boxes_text frame arrows column (before + 1) ops
+abbrev pub boxes_text : Frame → List Arrow → List Arrow → Column → ℕ → List Op → List ℕ
+boxes_text frame arrows steps column before [] = []
+boxes_text frame arrows steps column before (op ∷ ops) = op_text frame arrows steps column (before + 1) op ++ boxes_text frame arrows steps column (before + 1) ops

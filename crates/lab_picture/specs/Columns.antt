@@ -11,6 +11,7 @@ use Rattle.lab_picture.specs.declared.drawing.Spot.{Spot}
 use Rattle.lab_picture.specs.declared.layout.Column.{Column}
 use Rattle.lab_picture.specs.declared.layout.Frame.{Frame}
 use Rattle.lab_picture.specs.Layout.{left, top}
+use Rattle.lab_picture.specs.Sketch.{Sketch}
 use Rattle.lab_picture.specs.Text.{text_at}
 use Rattle.lab_picture.specs.Boxes.{boxes_text}
 
@@ -59,12 +60,12 @@ abbrev pub column_at : Option Spot → List ℕ → ℕ → ℕ → Column
 column_at marked thin place n = record { place = place; txn = n; marked = marked_in marked n; thin = is_thin thin n }
 
 -- a column: the transaction and its operations
-abbrev pub column_text : History → Frame → List Arrow → Column → List ℕ
-column_text h frame arrows column =
-    title_text h (left column.place) (top frame column.place) column.thin column.txn ++ boxes_text frame arrows column 0 (ops_of h column.txn)
+abbrev pub column_text : History → Frame → List Arrow → List Arrow → Column → List ℕ
+column_text h frame arrows steps column =
+    title_text h (left column.place) (top frame column.place) column.thin column.txn ++ boxes_text frame arrows steps column 0 (ops_of h column.txn)
 
--- columns, where so many come before these
-abbrev pub columns_text : History → Frame → List Arrow → Option Spot → List ℕ → ℕ → List ℕ → List ℕ
-columns_text h frame arrows marked thin before [] = []
-columns_text h frame arrows marked thin before (n ∷ ns) =
-    column_text h frame arrows (column_at marked thin before n) ++ columns_text h frame arrows marked thin (before + 1) ns
+-- columns of a drawing, where so many come before these and these arrows are drawn
+abbrev pub columns_text : History → Frame → List Arrow → Sketch → ℕ → List ℕ → List ℕ
+columns_text h frame arrows d before [] = []
+columns_text h frame arrows d before (n ∷ ns) =
+    column_text h frame arrows d.arrows (column_at d.marked d.thin before n) ++ columns_text h frame arrows d (before + 1) ns

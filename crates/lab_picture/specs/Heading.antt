@@ -4,12 +4,13 @@ use Rattle.std.specs.Fmt.{decimal}
 use Rattle.std.specs.List.{list_any}
 use Rattle.lab_picture.specs.Arrows.{style_text}
 use Rattle.lab_picture.specs.Columns.{is_thin, shown_columns}
+use Rattle.lab_picture.specs.Keys.{has_key, key_lines}
 use Rattle.lab_picture.specs.Sketch.{Sketch}
 use Rattle.lab_picture.specs.Text.{line_at, text_at, two_lines, four_lines, in_one, in_two, in_four}
 use Rattle.lab_picture.specs.declared.drawing.Arrow.{Arrow}
 use Rattle.lab_picture.specs.declared.drawing.Spot.{Spot}
-use Rattle.lab_picture.specs.declared.drawing.Tie.{Tie}
-use Rattle.lab_picture.specs.declared.drawing.Tie.TheVariants.{Dependency, Version}
+use Rattle.lab_picture.specs.declared.keys.Key.{Key}
+use Rattle.lab_picture.specs.declared.keys.Key.TheVariants.{Solid, Dashed, Sees}
 
 -- how many bytes a line of the title has over so many columns
 abbrev pub title_bytes : ℕ → ℕ
@@ -37,18 +38,6 @@ abbrev pub far_lines : ℕ → List Arrow → ℕ
 far_lines columns [] = 0
 far_lines columns (a ∷ more) = cond (nat_lt 3 columns) 1 0
 
--- what ties the ends of the first of some arrows, or else of others
-abbrev pub first_tie : List Arrow → List Arrow → Option Tie
-first_tie [] [] = None
-first_tie [] (a ∷ more) = Some a.tie
-first_tie (a ∷ more) others = Some a.tie
-
--- how many lines a legend has
-abbrev pub legend_lines : Option Tie → ℕ
-legend_lines None = 0
-legend_lines (Some Version) = 1
-legend_lines (Some (Dependency kind)) = 2
-
 -- how many lines tell of a marked operation
 abbrev pub marked_lines : Option Spot → ℕ
 marked_lines None = 0
@@ -66,7 +55,7 @@ thin_lines d = cond (has_thin d) 1 0
 abbrev pub beside_lines : ℕ → ℕ
 beside_lines columns = cond (nat_lt 1 columns) 1 0
 
--- the ground lines of what follows the title: the report's line, the note, how many transactions are drawn, which arrows aren't, the legend, what a thick edge is, what a thin column is, and what boxes side by side say
+-- the ground lines of what follows the title: the report's line, the note, how many transactions are drawn, which arrows aren't, the keys, what a thick edge is, what a thin column is, and what boxes side by side say
 abbrev pub about_y : Sketch → ℕ
 about_y d = 30 + 18 * in_two (title_bytes (length d.columns)) d.title
 
@@ -79,11 +68,17 @@ more_y d = note_y d + 14 * in_one d.note
 abbrev pub far_y : Sketch → ℕ
 far_y d = more_y d + 14 * more_lines (length d.columns)
 
-abbrev pub legend_y : Sketch → ℕ
-legend_y d = far_y d + 14 * far_lines (length d.columns) d.forward
+abbrev pub solid_y : Sketch → ℕ
+solid_y d = far_y d + 14 * far_lines (length d.columns) d.forward
+
+abbrev pub dashed_y : Sketch → ℕ
+dashed_y d = solid_y d + 14 * key_lines Solid d
+
+abbrev pub sees_y : Sketch → ℕ
+sees_y d = dashed_y d + 14 * key_lines Dashed d
 
 abbrev pub marked_y : Sketch → ℕ
-marked_y d = legend_y d + 14 * legend_lines (first_tie d.arrows d.forward)
+marked_y d = sees_y d + 14 * key_lines Sees d
 
 abbrev pub thin_y : Sketch → ℕ
 thin_y d = marked_y d + 14 * marked_lines d.marked
@@ -121,17 +116,25 @@ sample_path y dashed = codes "<path d=\"M26 " ++ sample_end y dashed
 unfoldable pub sample_text : ℕ → Bool → List ℕ → List ℕ
 sample_text y dashed says = sample_path y dashed ++ text_at [] 66 y says
 
--- what those of dependencies say
-unfoldable pub dependencies_text : ℕ → List ℕ
-dependencies_text y =
-    sample_text y false (codes "dependency: the second saw or overwrote what the first wrote")
-    ++ sample_text (y + 14) true (codes "anti-dependency: the first didn't see what the second wrote")
+-- what a key says
+abbrev pub key_words : Key → List ℕ
+key_words Solid = codes "dependency: the second saw or overwrote what the first wrote"
+key_words Dashed = codes "anti-dependency: the first didn't see what the second wrote"
+key_words Sees = codes "sees: the second saw what the first wrote"
 
--- what the arrows say
-unfoldable pub legend_text : ℕ → Option Tie → List ℕ
-legend_text y None = []
-legend_text y (Some Version) = sample_text y false (codes "sees: the second saw what the first wrote")
-legend_text y (Some (Dependency kind)) = dependencies_text y
+-- whether its arrow is dashed
+abbrev pub key_dashed : Key → Bool
+key_dashed Solid = false
+key_dashed Dashed = true
+key_dashed Sees = false
+
+-- a key, where a drawing has arrows that it tells of
+unfoldable pub key_text : ℕ → Key → Sketch → List ℕ
+key_text y key d = cond (has_key key d) (sample_text y (key_dashed key) (key_words key)) []
+
+-- the keys of the arrows that a drawing has
+unfoldable pub legend_text : Sketch → List ℕ
+legend_text d = key_text (solid_y d) Solid d ++ key_text (dashed_y d) Dashed d ++ key_text (sees_y d) Sees d
 
 -- what a thick edge says
 unfoldable pub marked_text : ℕ → Option Spot → List ℕ
@@ -153,4 +156,4 @@ columns_note d = line_at [] 26 (thin_y d) (thin_text d) ++ line_at [] 26 (beside
 -- all that stands above the columns
 unfoldable pub heading_text : Sketch → List ℕ
 heading_text d =
-    title_lines d ++ notes_text d ++ legend_text (legend_y d) (first_tie d.arrows d.forward) ++ marked_text (marked_y d) d.marked ++ columns_note d
+    title_lines d ++ notes_text d ++ legend_text d ++ marked_text (marked_y d) d.marked ++ columns_note d

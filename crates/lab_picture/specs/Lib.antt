@@ -17,11 +17,15 @@ pub mod Effect
 pub mod Named
 pub mod Kept
 pub mod Lines
+pub mod Classes
+pub mod Steps
 pub mod Growth
 pub mod Values
 pub mod Boxes
 pub mod Columns
+pub mod Keys
 pub mod Arrows
 pub mod Heading
 pub mod Svg
+pub mod Drawn
 pub mod Picture

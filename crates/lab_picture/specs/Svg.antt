@@ -1,8 +1,8 @@
 -- The text of a drawing, in SVG.
-use Rattle.std.specs.Prelude.{ℕ, ◌+◌, ◌*◌, Bool, true, false, ◌||◌, List, ◌++◌, flat_map, length, codes}
+use Rattle.std.specs.Prelude.{ℕ, ◌+◌, ◌*◌, Bool, ◌||◌, List, ◌++◌, flat_map, length, codes}
 use Rattle.std.specs.Fmt.{decimal}
 use Rattle.lab_history.specs.History.{History}
-use Rattle.lab_picture.specs.Arrows.{arrow_text, has_round}
+use Rattle.lab_picture.specs.Arrows.{forward_text, has_round}
 use Rattle.lab_picture.specs.Columns.{most_ops, columns_text, shown_columns}
 use Rattle.lab_picture.specs.Growth.{extra_lines}
 use Rattle.lab_picture.specs.Heading.{head_y, heading_text}
@@ -10,6 +10,7 @@ use Rattle.lab_picture.specs.declared.layout.Frame.{Frame}
 use Rattle.lab_picture.specs.Layout.{width, height}
 use Rattle.lab_picture.specs.Named.{drawn}
 use Rattle.lab_picture.specs.Size.{size_text}
+use Rattle.lab_picture.specs.Steps.{steps_text}
 use Rattle.lab_picture.specs.Sketch.{Sketch}
 use Rattle.lab_picture.specs.Text.{escaped}
 use Rattle.lab_picture.specs.Values.{value_lines, values_text}
@@ -50,7 +51,7 @@ told_text title about = told_title title ++ told_line about
 -- the head of arrows
 unfoldable pub marker_text : List ℕ
 marker_text =
-    codes "<defs><marker id=\"head\" viewBox=\"0 0 8 8\" refX=\"8\" refY=\"4\" markerWidth=\"9\" markerHeight=\"9\" markerUnits=\"userSpaceOnUse\" orient=\"auto\"><path d=\"M0 0L8 4L0 8z\"/></marker></defs>\n"
+    codes "<defs><marker id=\"p-head\" viewBox=\"0 0 8 8\" refX=\"8\" refY=\"4\" markerWidth=\"9\" markerHeight=\"9\" markerUnits=\"userSpaceOnUse\" orient=\"auto\"><path d=\"M0 0L8 4L0 8z\"/></marker></defs>\n"
 
 -- a white ground
 unfoldable pub ground_text : ℕ → ℕ → List ℕ
@@ -62,11 +63,11 @@ arrows_drawn d = drawn (shown_columns d.columns) (d.arrows ++ d.forward)
 
 -- the columns that are drawn
 unfoldable pub drawn_columns : History → Frame → Sketch → List ℕ
-drawn_columns h frame d = columns_text h frame (arrows_drawn d) d.marked d.thin 0 (shown_columns d.columns)
+drawn_columns h frame d = columns_text h frame (arrows_drawn d) d 0 (shown_columns d.columns)
 
--- the arrows between them, those of a yes thin
+-- the arrows between them: those of steps, and thin those of a yes
 unfoldable pub drawn_arrows : Frame → Sketch → List ℕ
-drawn_arrows frame d = flat_map (arrow_text frame false (shown_columns d.columns)) d.arrows ++ flat_map (arrow_text frame true (shown_columns d.columns)) d.forward
+drawn_arrows frame d = steps_text frame (shown_columns d.columns) 0 d.arrows ++ flat_map (forward_text frame (shown_columns d.columns)) d.forward
 
 -- what a picture of this size begins with
 unfoldable pub head_text : ℕ → ℕ → Sketch → List ℕ

@@ -46,26 +46,36 @@ txns_text (n ∷ ns) = codes "T" ++ decimal n ++ flat_map next_text ns
 
 -- what is wrong at an operation and a row where a fault of a kind is
 abbrev pub op_fault_words : OpFault → List ℕ
-op_fault_words kind.Dangling = codes "a version is seen that isn't there"
-op_fault_words kind.AbortedRead = codes "aborted read, G1a"
-op_fault_words kind.IntermediateRead = codes "intermediate read, G1b"
-op_fault_words kind.OwnWriteMissed = codes "an own write isn't seen"
-op_fault_words kind.LaterThanOwn = codes "a version behind the own one is seen"
-op_fault_words kind.RowsDiffer = codes "rows differ from what the statement lists"
-op_fault_words kind.WritesDiffer = codes "writes differ from what the statement makes"
+op_fault_words kind.Dangling = codes "Not sound: a version is seen that isn't there"
+op_fault_words kind.AbortedRead = codes "Aborted read, G1a"
+op_fault_words kind.IntermediateRead = codes "Intermediate read, G1b"
+op_fault_words kind.OwnWriteMissed = codes "Not sound: an own write isn't seen"
+op_fault_words kind.LaterThanOwn = codes "Not sound: a version behind the own one is seen"
+op_fault_words kind.RowsDiffer = codes "Not sound: rows differ from what the statement lists"
+op_fault_words kind.WritesDiffer = codes "Not sound: writes differ from what the statement makes"
+
+-- who is at fault, where that isn't the record alone: a database makes aborted and intermediate reads too
+abbrev pub at_fault : OpFault → List ℕ
+at_fault kind.Dangling = []
+at_fault kind.AbortedRead = codes ": record or database is at fault"
+at_fault kind.IntermediateRead = codes ": record or database is at fault"
+at_fault kind.OwnWriteMissed = []
+at_fault kind.LaterThanOwn = []
+at_fault kind.RowsDiffer = []
+at_fault kind.WritesDiffer = []
 
 -- the same at a row alone
 abbrev pub row_fault_words : RowFault → List ℕ
-row_fault_words row_kind.InstallOrder = codes "installers differ from the committed writers"
-row_fault_words row_kind.EndDiffers = codes "the end differs from what was installed"
+row_fault_words row_kind.InstallOrder = codes "Not sound: installers differ from the committed writers"
+row_fault_words row_kind.EndDiffers = codes "Not sound: the end differs from what was installed"
 
 -- what is wrong, and a fault's code behind it
 abbrev pub with_code : List ℕ → List ℕ → List ℕ
 with_code words code = words ++ codes " (" ++ code ++ codes ")"
 
--- what is wrong with a history, and the fault's code
+-- what is wrong with a history, the fault's code, and who may be at fault
 abbrev pub words_of : FaultParts → List ℕ
-words_of (parts.Operation kind n k row) = with_code (op_fault_words kind) (op_entry kind).code
+words_of (parts.Operation kind n k row) = with_code (op_fault_words kind) (op_entry kind).code ++ at_fault kind
 words_of (parts.Row kind row) = with_code (row_fault_words kind) (row_entry kind).code
 
 abbrev pub fault_words : LocalFault → List ℕ
@@ -74,7 +84,7 @@ fault_words f = words_of (parts_of f)
 -- the title of a serial verdict
 abbrev pub serial_title : History → Serial → List ℕ
 serial_title h (serial.Yes order) = codes "Serializable: " ++ txns_text order
-serial_title h (serial.NoFault f) = codes "Not sound: " ++ fault_words f
+serial_title h (serial.NoFault f) = fault_words f
 serial_title h (serial.NoCycle walk) = codes "Not serializable: " ++ full_name h (walk_phenomenon walk) walk
 
 -- what is found, in a word

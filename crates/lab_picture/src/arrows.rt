@@ -1,7 +1,7 @@
 //! The arrows of a picture.
 
 ghost use Rattle.std.specs.Prelude.{◌≡◌, ◌++◌, ◌≤◌, ◌<◌, length, flat_map, IfOk, IfSome, OnOk};
-ghost use Rattle.lab_picture.specs.Arrows.{column_of, tie_name, is_dashed, label_of, label_style, label_text, narrow_label, narrow_text, straight_text, round_text, route_text, arrow_text, is_round, has_round};
+ghost use Rattle.lab_picture.specs.Arrows.{column_of, tie_name, is_dashed, label_of, label_style, label_text, narrow_label, narrow_text, path_text, straight_text, round_text, route_text, classed_text, arrow_text, forward_text, is_round, has_round};
 
 use crate::drawing::{Arrow, Tie};
 use crate::layout::{Corner, Frame, GAP_BYTES, aside, entry_of, exit_of, is_next, lane};
@@ -113,7 +113,16 @@ fn put_narrow(
     put_narrow_label(alloc, out, x, y, &label)
 }
 
-/// Appends an arrow from one column to the next, with its label above its higher end.
+/// Appends what opens an arrow that has a class.
+#[tactic(auto, unfolding(crate::specs::Arrows::path_text))]
+fn put_path(out: &mut Vec<u8>, class: &[u8]) -> Result<(), NoMemory>
+    ensures { OnOk result (out.new.items ≡ out.old.items ++ path_text class.now) }
+{
+    out.extend_from_slice(b"<path")?;
+    out.extend_from_slice(class)
+}
+
+/// Appends the rest of an arrow from one column to the next, with its label above its higher end.
 #[tactic(auto, unfolding(crate::specs::Arrows::straight_text))]
 fn put_straight(
     alloc: Global,
@@ -126,14 +135,14 @@ fn put_straight(
     requires { (from.x ≤ 1000) × (from.y ≤ 400000000000000000000000000000000) × (to.y ≤ 400000000000000000000000000000000) }
     ensures { OnOk result (out.new.items ≡ out.old.items ++ straight_text thin arrow.now from to) }
 {
-    out.extend_from_slice(b"<path d=\"")?;
+    out.extend_from_slice(b" d=\"")?;
     put_straight_path(out, from, to)?;
     put_style(out, thin, is_dashed(arrow.tie))?;
     let y = from.y.min(to.y);
     put_narrow(alloc, out, from.x + 56, y.saturating_sub(5), arrow)
 }
 
-/// Appends an arrow that goes below the boxes, with its label above its way there.
+/// Appends that of an arrow that goes below the boxes, with its label above its way there.
 #[tactic(auto, unfolding(crate::specs::Arrows::round_text))]
 fn put_round(
     alloc: Global,
@@ -148,14 +157,14 @@ fn put_round(
     requires { (from.x ≤ 1000) × (to.x ≤ 1000) × (aside ≤ to.x) }
     ensures { OnOk result (out.new.items ≡ out.old.items ++ round_text thin arrow.now from lane aside to) }
 {
-    out.extend_from_slice(b"<path d=\"")?;
+    out.extend_from_slice(b" d=\"")?;
     put_round_path(out, from, lane, aside, to)?;
     put_style(out, thin, is_dashed(arrow.tie))?;
     let x = (from.x + to.x) / 2;
     put_label(alloc, out, x, lane.saturating_sub(4), arrow)
 }
 
-/// Appends an arrow from one column to another.
+/// Appends that of an arrow from one column to another.
 fn put_route(
     alloc: Global,
     out: &mut Vec<u8>,
@@ -178,17 +187,37 @@ fn put_route(
     }
 }
 
-/// Appends an arrow, if both its transactions have a column.
-fn put_arrow(
+/// Appends an arrow with this class from one column to another.
+#[tactic(auto, unfolding(crate::specs::Arrows::classed_text))]
+fn put_classed(
     alloc: Global,
     out: &mut Vec<u8>,
     frame: Frame,
     thin: bool,
+    class: &[u8],
+    arrow: &Arrow,
+    from: usize,
+    to: usize,
+) -> Result<(), NoMemory>
+    requires { (from ≤ 40) × (to ≤ 40) }
+    ensures { OnOk result (out.new.items ≡ out.old.items ++ classed_text frame thin class.now arrow.now from to) }
+{
+    put_path(out, class)?;
+    put_route(alloc, out, frame, thin, arrow, from, to)
+}
+
+/// Appends an arrow with this class, if both its transactions have a column.
+pub fn put_arrow(
+    alloc: Global,
+    out: &mut Vec<u8>,
+    frame: Frame,
+    thin: bool,
+    class: &[u8],
     columns: &[TxnNo],
     arrow: &Arrow,
 ) -> Result<(), NoMemory>
     requires { length columns.now ≤ 40 }
-    ensures { OnOk result (out.new.items ≡ out.old.items ++ arrow_text frame thin columns.now arrow.now) }
+    ensures { OnOk result (out.new.items ≡ out.old.items ++ arrow_text frame thin class.now columns.now arrow.now) }
 {
     let Some(from) = column_of(columns, arrow.from.txn) else {
         return Ok(());
@@ -196,23 +225,22 @@ fn put_arrow(
     let Some(to) = column_of(columns, arrow.to.txn) else {
         return Ok(());
     };
-    put_route(alloc, out, frame, thin, arrow, from, to)
+    put_classed(alloc, out, frame, thin, class, arrow, from, to)
 }
 
-/// Appends the arrows whose transactions have columns.
-pub fn put_arrows(
+/// Appends the arrows of a yes whose transactions have columns: thin, without a class.
+pub fn put_forward(
     alloc: Global,
     out: &mut Vec<u8>,
     frame: Frame,
-    thin: bool,
     columns: &[TxnNo],
     arrows: &[Arrow],
 ) -> Result<(), NoMemory>
     requires { length columns.now ≤ 40 }
-    ensures { OnOk result (out.new.items ≡ out.old.items ++ flat_map (arrow_text frame thin columns.now) arrows.now) }
+    ensures { OnOk result (out.new.items ≡ out.old.items ++ flat_map (forward_text frame columns.now) arrows.now) }
 {
     for arrow in arrows {
-        put_arrow(alloc, out, frame, thin, columns, arrow)?;
+        put_arrow(alloc, out, frame, true, b"", columns, arrow)?;
     }
     Ok(())
 }

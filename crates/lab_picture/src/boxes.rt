@@ -4,6 +4,7 @@ ghost use Rattle.std.specs.Prelude.{◌≡◌, ◌++◌, ◌≤◌, length, IfOk
 ghost use Rattle.lab_statement.specs.Printed.{printed_statement};
 ghost use Rattle.lab_picture.specs.Boxes.{fits, telling, lines_of, box_lines, whole_text, stroke_text, edge_style, edge_text, rest_lines, effect_lines, inner_text, box_text, stroke_of, op_text, boxes_text};
 
+use crate::classes::box_class;
 use crate::drawing::Arrow;
 use crate::effect::effect_text;
 use crate::kept::{kept_text, tells_named};
@@ -144,10 +145,12 @@ fn put_edge(
     y: u128,
     height: u128,
     stroke: Stroke,
+    class: &[u8],
 ) -> Result<(), NoMemory>
-    ensures { OnOk result (out.new.items ≡ out.old.items ++ edge_text x y height stroke) }
+    ensures { OnOk result (out.new.items ≡ out.old.items ++ edge_text x y height stroke class.now) }
 {
     out.extend_from_slice(b"<rect")?;
+    out.extend_from_slice(class)?;
     put_place(out, x, y)?;
     put_edge_style(out, height, stroke)
 }
@@ -231,13 +234,14 @@ fn put_box(
     y: u128,
     height: u128,
     stroke: Stroke,
+    class: &[u8],
     told: &BoxText,
 ) -> Result<(), NoMemory>
     requires { (x ≤ 1000) × (y ≤ 500000000000000000000000000000000) }
-    ensures { OnOk result (out.new.items ≡ out.old.items ++ box_text x y height stroke told.now) }
+    ensures { OnOk result (out.new.items ≡ out.old.items ++ box_text x y height stroke class.now told.now) }
 {
     put_whole(out, &told.statement, &told.effect)?;
-    put_edge(out, x, y, height, stroke)?;
+    put_edge(out, x, y, height, stroke, class)?;
     put_inner(alloc, out, x + 5, y + 14, told)?;
     out.extend_from_slice(b"</g>\n")
 }
@@ -261,37 +265,41 @@ fn put_op(
     out: &mut Vec<u8>,
     frame: Frame,
     arrows: &[Arrow],
+    steps: &[Arrow],
     column: &Column,
     number: u32,
     op: &Op,
 ) -> Result<(), NoMemory>
     requires { column.now.place ≤ 40 }
-    ensures { OnOk result (out.new.items ≡ out.old.items ++ op_text frame arrows.now column.now number op.now) }
+    ensures { OnOk result (out.new.items ≡ out.old.items ++ op_text frame arrows.now steps.now column.now number op.now) }
 {
     let named = rows_at(alloc, arrows, column.txn, number)?;
     let told = telling(alloc, &named, op)?;
     let x = left(column.place);
     let y = upper(frame, column.place, number);
     let height = box_height(frame);
-    put_box(alloc, out, x, y, height, stroke_of(column, number), &told)
+    let stroke = stroke_of(column, number);
+    let class = box_class(alloc, steps, column, number)?;
+    put_box(alloc, out, x, y, height, stroke, &class, &told)
 }
 
-/// Appends the boxes of a column. The arrows say which rows stay in them.
+/// Appends the boxes of a column. The arrows say which rows stay in them, the steps which classes they have.
 pub fn put_boxes(
     alloc: Global,
     out: &mut Vec<u8>,
     frame: Frame,
     arrows: &[Arrow],
+    steps: &[Arrow],
     column: &Column,
     ops: &[Op],
 ) -> Result<(), NoMemory>
     requires column { column.now.place ≤ 40 }
     requires few { length ops.now ≤ 10000 }
-    ensures { OnOk result (out.new.items ≡ out.old.items ++ boxes_text frame arrows.now column.now 0 ops.now) }
+    ensures { OnOk result (out.new.items ≡ out.old.items ++ boxes_text frame arrows.now steps.now column.now 0 ops.now) }
 {
     for (index, op) in ops.iter().enumerate() {
         let number = index as u32 + 1;
-        put_op(alloc, out, frame, arrows, column, number, op)?;
+        put_op(alloc, out, frame, arrows, steps, column, number, op)?;
     }
     Ok(())
 }

@@ -5,7 +5,7 @@ ghost use Rattle.lab_history.specs.Version.{outcome_of};
 ghost use Rattle.lab_picture.specs.Columns.{most_ops, outcome_name, marked_in, title_of, title_weight, title_text, is_thin, column_at, column_text, columns_text, shown_columns};
 
 use crate::boxes::put_boxes;
-use crate::drawing::{Arrow, Spot};
+use crate::drawing::{Arrow, Drawing, Spot};
 use crate::layout::{Column, Frame, MAX_COLUMNS, left, top};
 use crate::states::ops_of;
 use crate::text::{put_number, put_text};
@@ -25,7 +25,7 @@ pub fn most_ops(history: &History, columns: &[TxnNo]) -> u32
 }
 
 /// How a transaction ended.
-fn outcome_name(history: &History, txn: TxnNo) -> &'static str
+pub fn outcome_name(history: &History, txn: TxnNo) -> &'static str
     ensures { result.now ≡ outcome_name (outcome_of history.now txn) }
 {
     match history.txn(txn) {
@@ -109,35 +109,36 @@ fn put_column(
     history: &History,
     frame: Frame,
     arrows: &[Arrow],
+    steps: &[Arrow],
     column: &Column,
 ) -> Result<(), NoMemory>
     requires { column.now.place ≤ 40 }
-    ensures { OnOk result (out.new.items ≡ out.old.items ++ column_text history.now frame arrows.now column.now) }
+    ensures { OnOk result (out.new.items ≡ out.old.items ++ column_text history.now frame arrows.now steps.now column.now) }
 {
     let x = left(column.place);
     let y = top(frame, column.place);
     put_title(alloc, out, history, x, y, column.thin, column.txn)?;
     let ops = ops_of(history, column.txn);
-    put_boxes(alloc, out, frame, arrows, column, ops)
+    put_boxes(alloc, out, frame, arrows, steps, column, ops)
 }
 
-/// Appends the columns from left to right. The arrows say which rows stay in the boxes at their ends.
+/// Appends columns of a drawing from left to right. The arrows, which are those that are drawn, say which rows stay in the
+/// boxes at their ends.
 pub fn put_columns(
     alloc: Global,
     out: &mut Vec<u8>,
     history: &History,
     frame: Frame,
     arrows: &[Arrow],
-    marked: &Option<Spot>,
-    thin: &[TxnNo],
+    drawing: &Drawing,
     columns: &[TxnNo],
 ) -> Result<(), NoMemory>
     requires { length columns.now ≤ 40 }
-    ensures { OnOk result (out.new.items ≡ out.old.items ++ columns_text history.now frame arrows.now marked.now thin.now 0 columns.now) }
+    ensures { OnOk result (out.new.items ≡ out.old.items ++ columns_text history.now frame arrows.now drawing.now 0 columns.now) }
 {
     for (place, txn) in columns.iter().enumerate() {
-        let column = column_at(marked, thin, place, *txn);
-        put_column(alloc, out, history, frame, arrows, &column)?;
+        let column = column_at(&drawing.marked, &drawing.thin, place, *txn);
+        put_column(alloc, out, history, frame, arrows, &drawing.arrows, &column)?;
     }
     Ok(())
 }

@@ -1,12 +1,13 @@
 //! What stands above the columns of a picture, and where.
 
 ghost use Rattle.std.specs.Prelude.{◌≡◌, ◌++◌, ◌≤◌, IfOk, OnOk};
-ghost use Rattle.lab_picture.specs.Heading.{title_bytes, line_bytes, more_text, more_lines, far_text, far_lines, first_tie, legend_lines, marked_lines, about_y, note_y, more_y, far_y, legend_y, marked_y, thin_y, beside_y, head_y, title_style, title_lines, notes_text, columns_note, heading_text};
+ghost use Rattle.lab_picture.specs.Heading.{title_bytes, line_bytes, more_text, more_lines, far_text, far_lines, marked_lines, about_y, note_y, more_y, far_y, solid_y, dashed_y, sees_y, marked_y, thin_y, beside_y, head_y, title_style, title_lines, notes_text, columns_note, legend_text, heading_text};
 
 use crate::column_notes::{beside_lines, beside_text, thin_lines, thin_text};
-use crate::drawing::{Arrow, Drawing, Spot, Tie};
+use crate::drawing::{Arrow, Drawing, Spot};
+use crate::keys::{Key, key_lines};
 use crate::layout::MAX_COLUMNS;
-use crate::legend::{put_legend, put_marked};
+use crate::legend::{put_key, put_marked};
 use crate::text::{in_four, in_one, in_two, put_four_lines, put_line, put_number, put_two_lines};
 use lab_table::NoMemory;
 use std::alloc::Global;
@@ -75,31 +76,6 @@ fn far_lines(columns: usize, forward: &[Arrow]) -> u128
     }
 }
 
-/// What ties the ends of the first of some arrows, or else of others.
-fn first_tie(arrows: &[Arrow], others: &[Arrow]) -> Option<Tie>
-    ensures { result ≡ first_tie arrows.now others.now }
-{
-    match arrows.split_first() {
-        Some((first, _)) => Some(first.tie),
-        None => match others.split_first() {
-            Some((first, _)) => Some(first.tie),
-            None => None,
-        },
-    }
-}
-
-/// How many lines a legend has.
-fn legend_lines(tie: Option<Tie>) -> u128
-    ensures value { result ≡ legend_lines tie }
-    ensures small { result ≤ 2 }
-{
-    match tie {
-        None => 0,
-        Some(Tie::Version) => 1,
-        Some(Tie::Dependency(_)) => 2,
-    }
-}
-
 /// How many lines tell of a marked operation.
 fn marked_lines(marked: &Option<Spot>) -> u128
     ensures value { result ≡ marked_lines marked.now }
@@ -144,27 +120,43 @@ fn far_y(drawing: &Drawing) -> u128
     more_y(drawing) + 14 * more_lines(drawing.columns.len())
 }
 
-/// That of the legend.
-fn legend_y(drawing: &Drawing) -> u128
-    ensures value { result ≡ legend_y drawing.now }
+/// That of the key of solid arrows.
+fn solid_y(drawing: &Drawing) -> u128
+    ensures value { result ≡ solid_y drawing.now }
     ensures small { result ≤ 164 }
     ensures low { 4 ≤ result }
 {
     far_y(drawing) + 14 * far_lines(drawing.columns.len(), &drawing.forward)
 }
 
+/// That of the key of dashed arrows.
+fn dashed_y(drawing: &Drawing) -> u128
+    ensures value { result ≡ dashed_y drawing.now }
+    ensures small { result ≤ 178 }
+{
+    solid_y(drawing) + 14 * key_lines(Key::Solid, drawing)
+}
+
+/// That of the key of arrows to who sees a version.
+fn sees_y(drawing: &Drawing) -> u128
+    ensures value { result ≡ sees_y drawing.now }
+    ensures small { result ≤ 192 }
+{
+    dashed_y(drawing) + 14 * key_lines(Key::Dashed, drawing)
+}
+
 /// That of what a thick edge says.
 fn marked_y(drawing: &Drawing) -> u128
     ensures value { result ≡ marked_y drawing.now }
-    ensures small { result ≤ 192 }
+    ensures small { result ≤ 206 }
 {
-    legend_y(drawing) + 14 * legend_lines(first_tie(&drawing.arrows, &drawing.forward))
+    sees_y(drawing) + 14 * key_lines(Key::Sees, drawing)
 }
 
 /// That of what a thin column says.
 fn thin_y(drawing: &Drawing) -> u128
     ensures value { result ≡ thin_y drawing.now }
-    ensures small { result ≤ 206 }
+    ensures small { result ≤ 220 }
 {
     marked_y(drawing) + 14 * marked_lines(&drawing.marked)
 }
@@ -172,7 +164,7 @@ fn thin_y(drawing: &Drawing) -> u128
 /// That of what boxes side by side say.
 fn beside_y(drawing: &Drawing) -> u128
     ensures value { result ≡ beside_y drawing.now }
-    ensures small { result ≤ 220 }
+    ensures small { result ≤ 234 }
 {
     thin_y(drawing) + 14 * thin_lines(drawing)
 }
@@ -180,7 +172,7 @@ fn beside_y(drawing: &Drawing) -> u128
 /// The ground line of what stands above the columns of the first band.
 pub fn head_y(drawing: &Drawing) -> u128
     ensures value { result ≡ head_y drawing.now }
-    ensures small { result ≤ 248 }
+    ensures small { result ≤ 262 }
 {
     beside_y(drawing) + 14 * beside_lines(drawing.columns.len()) + 14
 }
@@ -243,6 +235,16 @@ fn put_columns_note(out: &mut Vec<u8>, drawing: &Drawing) -> Result<(), NoMemory
     put_line(out, b"", 26, beside_y(drawing), beside)
 }
 
+/// Appends the keys of the arrows that a drawing has.
+#[tactic(auto, unfolding(crate::specs::Heading::legend_text))]
+fn put_legend(out: &mut Vec<u8>, drawing: &Drawing) -> Result<(), NoMemory>
+    ensures { OnOk result (out.new.items ≡ out.old.items ++ legend_text drawing.now) }
+{
+    put_key(out, solid_y(drawing), Key::Solid, drawing)?;
+    put_key(out, dashed_y(drawing), Key::Dashed, drawing)?;
+    put_key(out, sees_y(drawing), Key::Sees, drawing)
+}
+
 /// Appends all that stands above the columns.
 #[tactic(auto, unfolding(crate::specs::Heading::heading_text))]
 pub fn put_heading(alloc: Global, out: &mut Vec<u8>, drawing: &Drawing) -> Result<(), NoMemory>
@@ -250,8 +252,7 @@ pub fn put_heading(alloc: Global, out: &mut Vec<u8>, drawing: &Drawing) -> Resul
 {
     put_title_lines(alloc, out, drawing)?;
     put_notes(alloc, out, drawing)?;
-    let tie = first_tie(&drawing.arrows, &drawing.forward);
-    put_legend(out, legend_y(drawing), tie)?;
+    put_legend(out, drawing)?;
     put_marked(out, marked_y(drawing), &drawing.marked)?;
     put_columns_note(out, drawing)
 }

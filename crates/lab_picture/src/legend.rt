@@ -1,9 +1,10 @@
 //! What the arrows and a thick edge say, above the columns of a picture.
 
-ghost use Rattle.std.specs.Prelude.{◌≡◌, ◌++◌, ◌≤◌, OnOk};
-ghost use Rattle.lab_picture.specs.Heading.{sample_end, sample_path, sample_text, dependencies_text, legend_text, marked_text};
+ghost use Rattle.std.specs.Prelude.{◌≡◌, ◌++◌, OnOk};
+ghost use Rattle.lab_picture.specs.Heading.{sample_end, sample_path, sample_text, key_words, key_dashed, key_text, marked_text};
 
-use crate::drawing::{Spot, Tie};
+use crate::drawing::{Drawing, Spot};
+use crate::keys::{Key, has_key};
 use crate::route::put_style;
 use crate::text::{put_pixels, put_text};
 use lab_table::NoMemory;
@@ -35,37 +36,37 @@ fn put_sample(out: &mut Vec<u8>, y: u128, dashed: bool, says: &[u8]) -> Result<(
     put_text(out, b"", 66, y, says)
 }
 
-/// Appends what the arrows of dependencies say.
-fn put_dependencies(out: &mut Vec<u8>, y: u128) -> Result<(), NoMemory>
-    requires { y ≤ 1000 }
-    ensures { OnOk result (out.new.items ≡ out.old.items ++ dependencies_text y) }
+/// What a key says.
+fn key_words(key: Key) -> &'static [u8]
+    ensures { result.now ≡ key_words key }
 {
-    put_sample(
-        out,
-        y,
-        false,
-        b"dependency: the second saw or overwrote what the first wrote",
-    )?;
-    put_sample(
-        out,
-        y + 14,
-        true,
-        b"anti-dependency: the first didn't see what the second wrote",
-    )
+    match key {
+        Key::Solid => b"dependency: the second saw or overwrote what the first wrote",
+        Key::Dashed => b"anti-dependency: the first didn't see what the second wrote",
+        Key::Sees => b"sees: the second saw what the first wrote",
+    }
 }
 
-/// Appends what the arrows say.
-#[tactic(auto, unfolding(crate::specs::Heading::legend_text))]
-pub fn put_legend(out: &mut Vec<u8>, y: u128, tie: Option<Tie>) -> Result<(), NoMemory>
-    requires { y ≤ 1000 }
-    ensures { OnOk result (out.new.items ≡ out.old.items ++ legend_text y tie) }
+/// Whether its arrow is dashed.
+fn key_dashed(key: Key) -> bool
+    ensures { result ≡ key_dashed key }
 {
-    match tie {
-        None => Ok(()),
-        Some(Tie::Version) => {
-            put_sample(out, y, false, b"sees: the second saw what the first wrote")
-        }
-        Some(Tie::Dependency(_)) => put_dependencies(out, y),
+    match key {
+        Key::Solid => false,
+        Key::Dashed => true,
+        Key::Sees => false,
+    }
+}
+
+/// Appends a key, where a drawing has arrows that it tells of.
+#[tactic(auto, unfolding(crate::specs::Heading::key_text))]
+pub fn put_key(out: &mut Vec<u8>, y: u128, key: Key, drawing: &Drawing) -> Result<(), NoMemory>
+    ensures { OnOk result (out.new.items ≡ out.old.items ++ key_text y key drawing.now) }
+{
+    if has_key(key, drawing) {
+        put_sample(out, y, key_dashed(key), key_words(key))
+    } else {
+        Ok(())
     }
 }
 

@@ -12,10 +12,12 @@
 
 mod arrows;
 mod boxes;
+mod classes;
 mod column_notes;
 mod columns;
 mod cycles;
 mod drawing;
+mod drawn;
 mod effect;
 mod fault_drawing;
 mod forward;
@@ -23,6 +25,7 @@ mod growth;
 mod heading;
 mod installs;
 mod kept;
+mod keys;
 mod laws;
 mod layout;
 mod legend;
@@ -35,13 +38,17 @@ mod route;
 mod size;
 mod sketch;
 mod states;
+mod steps;
 mod svg;
 mod text;
 mod titles;
 mod values;
 
-pub use cycles::cycle_of;
+pub use columns::outcome_name;
+pub use cycles::{cycle_of, walk_phenomenon};
 pub use drawing::{Arrow, Drawing, Spot, Tie};
+pub use drawn::picture_with;
+pub use effect::put_state;
 pub use installs::{Misplaced, Why, installers_of, misplaced_of, put_misplaced};
 pub use laws::{
     a_nickname_is_said_of_its_form, a_title_names_what_a_walk_is, an_escaped_text_has_no_markup,
@@ -50,9 +57,11 @@ pub use laws::{
     picture_answer_unique, who_is_out_of_place_is_named,
 };
 pub use making::arrow_of;
+pub use named::is_named;
 pub use nicknames::Nickname;
 pub use picturing::picture;
 pub use sketch::draw;
 pub use states::{ops_of, state_at};
 pub use svg::print_drawing;
-pub use titles::put_full_name;
+pub use text::{put_escaped, put_number};
+pub use titles::{put_finding_title, put_full_name, put_serial_title};

@@ -51,7 +51,7 @@ fn is_at(txn: TxnNo, op: u32, spot: Spot) -> bool
 }
 
 /// Whether an arrow leads from an operation, or to it.
-fn touches(txn: TxnNo, op: u32, arrow: &Arrow) -> bool
+pub fn touches(txn: TxnNo, op: u32, arrow: &Arrow) -> bool
     ensures { result ≡ touches txn op arrow.now }
 {
     is_at(txn, op, arrow.from) || is_at(txn, op, arrow.to)

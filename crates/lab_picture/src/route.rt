@@ -85,9 +85,9 @@ fn put_dash(out: &mut Vec<u8>, dashed: bool) -> Result<(), NoMemory>
     ensures { OnOk result (out.new.items ≡ out.old.items ++ dash_text dashed) }
 {
     if dashed {
-        out.extend_from_slice(b" stroke-dasharray=\"5 3\" marker-end=\"url(#head)\"/>\n")
+        out.extend_from_slice(b" stroke-dasharray=\"5 3\" marker-end=\"url(#p-head)\"/>\n")
     } else {
-        out.extend_from_slice(b" marker-end=\"url(#head)\"/>\n")
+        out.extend_from_slice(b" marker-end=\"url(#p-head)\"/>\n")
     }
 }
 

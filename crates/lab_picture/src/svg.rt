@@ -3,7 +3,7 @@
 ghost use Rattle.std.specs.Prelude.{◌≡◌, ◌++◌, ◌≤◌, IfOk, OnOk};
 ghost use Rattle.lab_picture.specs.Svg.{numbers_text, view_text, svg_text, letters_text, open_text, told_title, told_line, told_text, marker_text, ground_text, head_text, arrows_drawn, drawn_columns, drawn_arrows, values_y, whole_height, body_text, svg_with, svg_of, goes_below, frame_of};
 
-use crate::arrows::{has_round, put_arrows};
+use crate::arrows::{has_round, put_forward};
 use crate::columns::{most_ops, put_columns, shown_columns};
 use crate::drawing::{Arrow, Drawing};
 use crate::growth::extra_lines;
@@ -11,6 +11,7 @@ use crate::heading::{head_y, put_heading};
 use crate::layout::{Frame, height, width};
 use crate::named::drawn;
 use crate::size::put_size;
+use crate::steps::put_steps;
 use crate::text::{put_escaped, put_pixels};
 use crate::values::{put_values, value_lines};
 use lab_history::History;
@@ -96,7 +97,7 @@ fn put_marker(out: &mut Vec<u8>) -> Result<(), NoMemory>
     ensures { OnOk result (out.new.items ≡ out.old.items ++ marker_text) }
 {
     out.extend_from_slice(
-        b"<defs><marker id=\"head\" viewBox=\"0 0 8 8\" refX=\"8\" refY=\"4\" markerWidth=\"9\" markerHeight=\"9\" markerUnits=\"userSpaceOnUse\" orient=\"auto\"><path d=\"M0 0L8 4L0 8z\"/></marker></defs>\n",
+        b"<defs><marker id=\"p-head\" viewBox=\"0 0 8 8\" refX=\"8\" refY=\"4\" markerWidth=\"9\" markerHeight=\"9\" markerUnits=\"userSpaceOnUse\" orient=\"auto\"><path d=\"M0 0L8 4L0 8z\"/></marker></defs>\n",
     )
 }
 
@@ -142,19 +143,10 @@ fn put_drawn_columns(
 {
     let arrows = arrows_drawn(alloc, drawing)?;
     let columns = shown_columns(&drawing.columns);
-    put_columns(
-        alloc,
-        out,
-        history,
-        frame,
-        &arrows,
-        &drawing.marked,
-        &drawing.thin,
-        columns,
-    )
+    put_columns(alloc, out, history, frame, &arrows, drawing, columns)
 }
 
-/// Appends the arrows between them, those of a yes thin.
+/// Appends the arrows between them: those of steps, and thin those of a yes.
 #[tactic(auto, unfolding(crate::specs::Svg::drawn_arrows))]
 fn put_drawn_arrows(
     alloc: Global,
@@ -165,8 +157,8 @@ fn put_drawn_arrows(
     ensures { OnOk result (out.new.items ≡ out.old.items ++ drawn_arrows frame drawing.now) }
 {
     let columns = shown_columns(&drawing.columns);
-    put_arrows(alloc, out, frame, false, columns, &drawing.arrows)?;
-    put_arrows(alloc, out, frame, true, columns, &drawing.forward)
+    put_steps(alloc, out, frame, columns, &drawing.arrows)?;
+    put_forward(alloc, out, frame, columns, &drawing.forward)
 }
 
 /// Whether an arrow of a drawing goes below the boxes.

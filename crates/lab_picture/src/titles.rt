@@ -2,7 +2,7 @@
 
 ghost use Rattle.std.specs.Prelude.{◌≡◌, ◌++◌, flat_map, OnOk};
 ghost use Rattle.lab_picture.specs.Cycles.{walk_phenomenon};
-ghost use Rattle.lab_picture.specs.Titles.{words_behind, full_name, next_text, txns_text, op_fault_words, row_fault_words, with_code, fault_words, serial_title, finding_word, finding_title};
+ghost use Rattle.lab_picture.specs.Titles.{words_behind, full_name, next_text, txns_text, op_fault_words, at_fault, row_fault_words, with_code, fault_words, serial_title, finding_word, finding_title};
 
 use crate::cycles::{cycle_of, walk_phenomenon};
 use crate::nicknames::put_nicknames;
@@ -78,23 +78,37 @@ fn op_fault_words(kind: OpFault) -> &'static str
     ensures { result.now ≡ op_fault_words kind }
 {
     match kind {
-        OpFault::Dangling => "a version is seen that isn't there",
-        OpFault::AbortedRead => "aborted read, G1a",
-        OpFault::IntermediateRead => "intermediate read, G1b",
-        OpFault::OwnWriteMissed => "an own write isn't seen",
-        OpFault::LaterThanOwn => "a version behind the own one is seen",
-        OpFault::RowsDiffer => "rows differ from what the statement lists",
-        OpFault::WritesDiffer => "writes differ from what the statement makes",
+        OpFault::Dangling => "Not sound: a version is seen that isn't there",
+        OpFault::AbortedRead => "Aborted read, G1a",
+        OpFault::IntermediateRead => "Intermediate read, G1b",
+        OpFault::OwnWriteMissed => "Not sound: an own write isn't seen",
+        OpFault::LaterThanOwn => "Not sound: a version behind the own one is seen",
+        OpFault::RowsDiffer => "Not sound: rows differ from what the statement lists",
+        OpFault::WritesDiffer => "Not sound: writes differ from what the statement makes",
     }
 }
 
-/// The same at a row alone.
+/// Who is at fault, where that isn't the record alone: a database makes aborted and intermediate reads too.
+fn at_fault(kind: OpFault) -> &'static str
+    ensures { result.now ≡ at_fault kind }
+{
+    match kind {
+        OpFault::AbortedRead | OpFault::IntermediateRead => { ": record or database is at fault" }
+        OpFault::Dangling
+        | OpFault::OwnWriteMissed
+        | OpFault::LaterThanOwn
+        | OpFault::RowsDiffer
+        | OpFault::WritesDiffer => "",
+    }
+}
+
+/// What is wrong at a row where a fault of this kind is.
 fn row_fault_words(kind: RowFault) -> &'static str
     ensures { result.now ≡ row_fault_words kind }
 {
     match kind {
-        RowFault::InstallOrder => "installers differ from the committed writers",
-        RowFault::EndDiffers => "the end differs from what was installed",
+        RowFault::InstallOrder => "Not sound: installers differ from the committed writers",
+        RowFault::EndDiffers => "Not sound: the end differs from what was installed",
     }
 }
 
@@ -108,12 +122,15 @@ fn put_words(out: &mut Vec<u8>, words: &str, code: &str) -> Result<(), NoMemory>
     out.extend_from_slice(b")")
 }
 
-/// Appends what is wrong with a history, and the fault's code behind it.
+/// Appends what is wrong with a history, the fault's code, and who may be at fault.
 fn put_fault_words(out: &mut Vec<u8>, fault: LocalFault) -> Result<(), NoMemory>
     ensures { OnOk result (out.new.items ≡ out.old.items ++ fault_words fault) }
 {
     match fault.parts() {
-        FaultParts::Operation { kind, .. } => put_words(out, op_fault_words(kind), kind.code()),
+        FaultParts::Operation { kind, .. } => {
+            put_words(out, op_fault_words(kind), kind.code())?;
+            out.extend_from_slice(at_fault(kind).as_bytes())
+        }
         FaultParts::Row { kind, .. } => put_words(out, row_fault_words(kind), kind.code()),
     }
 }
@@ -138,10 +155,7 @@ pub fn put_serial_title(
             out.extend_from_slice(b"Serializable: ")?;
             put_txns(out, order.as_slice())
         }
-        Serial::NoFault(fault) => {
-            out.extend_from_slice(b"Not sound: ")?;
-            put_fault_words(out, *fault)
-        }
+        Serial::NoFault(fault) => put_fault_words(out, *fault),
         Serial::NoCycle(walk) => {
             out.extend_from_slice(b"Not serializable: ")?;
             put_cycle_name(out, history, walk.as_slice())

@@ -1,0 +1,6 @@
+use Rattle.std.proofs.Common.{◌≡◌, ◌++◌, drop, flat_map}
+use Rattle.lab_evidence.specs.Rows.{initial_row}
+use Rattle.lab_evidence.proofs.rows.put_initial_rows.Given as goal
+
+abbrev pub invariant-loop-row : goal.invariant-loop-row
+invariant-loop-row l = l.out.items ++ flat_map (initial_row l.rows) (drop l.row-index l.entries) ≡ l.initial.out.items ++ flat_map (initial_row l.rows) l.entries

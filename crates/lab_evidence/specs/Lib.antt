@@ -1,0 +1,9 @@
+pub mod Questions
+pub mod Scope
+pub mod Markup
+pub mod Phrases
+pub mod Tags
+pub mod Chains
+pub mod Cells
+pub mod Transactions
+pub mod Rows

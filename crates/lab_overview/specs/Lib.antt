@@ -1,0 +1,9 @@
+pub mod Sentences
+pub mod Phrases
+pub mod Tags
+pub mod Meanings
+pub mod Style
+pub mod Figure
+pub mod Head
+pub mod Levels
+pub mod Check

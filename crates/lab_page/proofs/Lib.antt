@@ -1,0 +1,9 @@
+mod Held
+mod Untagging
+mod ReadBack
+mod InLevels
+mod InSteps
+mod InPages
+mod OnePage
+mod TitledPages
+mod InHistory

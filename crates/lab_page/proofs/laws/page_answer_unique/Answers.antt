@@ -1,0 +1,11 @@
+use Rattle.lab_streams.proofs.ToldFiles.{one_told}
+use Rattle.lab_streams.specs.declared.reporting.Format.TheVariants.{Lines}
+use Rattle.lab_page.specs.Answer.{Pages}
+use Rattle.lab_page.proofs.OnePage.{one_page}
+use Rattle.lab_page.proofs.laws.page_answer_unique.Goals as goal
+
+pub returns : goal.returns
+returns c = record {
+  text = λ input title one other asked first again a b. (one_told Lines (Pages asked title) (one_page asked title) input one other first again a b).0;
+  ending = λ input title one other asked first again a b. (one_told Lines (Pages asked title) (one_page asked title) input one other first again a b).1;
+}

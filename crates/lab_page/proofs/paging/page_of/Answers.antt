@@ -1,0 +1,17 @@
+use Rattle.std.proofs.Common.{◌∙◌, ap}
+use Rattle.std.proofs.lemmas.Result.{IfOk-weaker}
+use Rattle.lab_page.specs.Whole.{page_text}
+use Rattle.lab_page.proofs.paging.page_of.Goals as goal
+
+pub returns : goal.returns
+returns c =
+    IfOk-weaker c.page_text.result _ _
+    (λ text is.
+    record {
+      report = c.in-Ok.report;
+      judgement = c.in-Ok.ensures.exact;
+      picture = c.in_ok-picture.picture.items;
+      drawn = c.in_ok-picture.ensures;
+      text_is = is ∙ ap (page_text c.args.history.now c.in-Ok.report c.args.asked c.args.title.now) c.deref.ensures.value;
+    })
+    c.page_text.ensures

@@ -1,0 +1,81 @@
+//! Laws of pages. The functions have nothing to do: their contracts are the laws.
+
+ghost use Rattle.std.specs.Prelude.{◌≡◌, ◌≢◌, ℕ, ◌≤◌, true, false, None, Option, List, Contains, length};
+ghost use Rattle.std.specs.List.{list_all};
+ghost use Rattle.lab_history.specs.History.{History as Held};
+ghost use Rattle.lab_deps.specs.declared.edge.Edge.{Edge as Dependency};
+ghost use Rattle.lab_deps.specs.declared.fault.LocalFault.{LocalFault as Fault};
+ghost use Rattle.lab_judge.specs.ReportText.{report_text};
+ghost use Rattle.lab_judge.specs.declared.report.Report.{Report};
+ghost use Rattle.lab_judge.specs.declared.serial.Serial.TheVariants.{NoFault};
+ghost use Rattle.lab_streams.specs.declared.ending.Ending.{Ending};
+ghost use Rattle.lab_picture.specs.Text.{escaped, is_plain};
+ghost use Rattle.lab_explain.specs.Faults.{recorded_text, due_text};
+ghost use Rattle.lab_explain.specs.Names.{level_line};
+ghost use Rattle.lab_explain.specs.Places.{places_sentence};
+ghost use Rattle.lab_explain.specs.Sentences.{edge_sentence, mistake_text, finding_sentence};
+ghost use Rattle.lab_reports.specs.declared.phenomenon.Phenomenon.{Phenomenon};
+ghost use Rattle.lab_page.specs.Answer.{IsPageAnswer};
+ghost use Rattle.lab_overview.specs.Check.{file_of};
+ghost use Rattle.lab_overview.specs.Sentences.{led_text};
+ghost use Rattle.lab_evidence.specs.Questions.{told_cycle, shown_steps};
+ghost use Rattle.lab_page.specs.Titled.{HasTitlesEscaped};
+ghost use Rattle.lab_page.specs.Untagged.{Shows, Holds, untagged, read_back, names_bytes};
+ghost use Rattle.lab_page.specs.Why.{opening_of};
+ghost use Rattle.lab_page.specs.Whole.{page_text};
+
+/// A page without its tags has explain's sentences, word for word: the first one of what is told, each step of a cycle of
+/// those that are shown, the three of a fault, that of the snapshot verdict, one for each phenomenon, and the line of the
+/// level.
+pub fn the_sentences_stand_in_their_page()
+    ensures first { (h : Held) (report : Report) (asked : Option Phenomenon) (title picture : List ℕ) → Shows (page_text h report asked title picture) (opening_of h report asked) }
+    ensures steps { (h : Held) (report : Report) (asked : Option Phenomenon) (title picture : List ℕ) (e : Dependency) → Contains (shown_steps (told_cycle report asked)) e → Shows (page_text h report asked title picture) (edge_sentence h e) }
+    ensures recorded { (h : Held) (report : Report) (title picture : List ℕ) (f : Fault) → report.serial ≡ NoFault f → Shows (page_text h report None title picture) (recorded_text h f) }
+    ensures due { (h : Held) (report : Report) (title picture : List ℕ) (f : Fault) → report.serial ≡ NoFault f → Shows (page_text h report None title picture) (due_text h f) }
+    ensures mistake { (h : Held) (report : Report) (title picture : List ℕ) (f : Fault) → report.serial ≡ NoFault f → Shows (page_text h report None title picture) (mistake_text f) }
+    ensures places { (h : Held) (report : Report) (asked : Option Phenomenon) (title picture : List ℕ) → Shows (page_text h report asked title picture) (places_sentence report.snapshot) }
+    ensures phenomena { (h : Held) (report : Report) (asked : Option Phenomenon) (title picture : List ℕ) (p : Phenomenon) → Shows (page_text h report asked title picture) (finding_sentence h report p) }
+    ensures level { (h : Held) (report : Report) (asked : Option Phenomenon) (title picture : List ℕ) → Shows (page_text h report asked title picture) (level_line report.level) }
+{}
+
+/// A page without its tags has the ten lines of the report.
+pub fn the_report_stands_in_its_page()
+    ensures { (h : Held) (report : Report) (asked : Option Phenomenon) (title picture : List ℕ) → Shows (page_text h report asked title picture) (report_text report) }
+{}
+
+/// A page without its tags has the file of its history, where that has no more than 65,536 bytes.
+pub fn the_history_stands_in_its_page()
+    ensures { (h : Held) (report : Report) (asked : Option Phenomenon) (title picture : List ℕ) → length (file_of h) ≤ 65536 → Shows (page_text h report asked title picture) (file_of h) }
+{}
+
+/// A page has its picture byte for byte, where that has no more than 65,536 bytes.
+pub fn the_picture_stands_in_its_page()
+    ensures { (h : Held) (report : Report) (asked : Option Phenomenon) (title picture : List ℕ) → length picture ≤ 65536 → Holds (page_text h report asked title picture) picture }
+{}
+
+/// A sentence of a page without its tags is the sentence, escaped; and an escaped text, its names of bytes read back, is the
+/// text.
+pub fn without_tags_a_sentence_is_as_it_was()
+    ensures tags { (text : List ℕ) → untagged false (led_text text) ≡ escaped text }
+    ensures names { (text : List ℕ) → read_back (escaped text) ≡ text }
+{}
+
+/// What is escaped, as each name of a file and what the user says of a page is, has no bare `<`, `>` or `"`, and `&` only
+/// where it begins the name of a byte.
+pub fn what_is_escaped_has_no_markup()
+    ensures markup { (text : List ℕ) → list_all is_plain (escaped text) ≡ true }
+    ensures ands { (text : List ℕ) → names_bytes (escaped text) ≡ true }
+{}
+
+/// A page has what the user says of it escaped, in two places: whatever that is, all else of the page is the same. A page
+/// without its tags has it.
+pub fn a_title_stands_escaped_in_its_page()
+    ensures escaped { (h : Held) (report : Report) (asked : Option Phenomenon) (picture : List ℕ) → HasTitlesEscaped (λ title. page_text h report asked title picture) }
+    ensures shown { (h : Held) (report : Report) (asked : Option Phenomenon) (title picture : List ℕ) → length title ≢ 0 → Shows (page_text h report asked title picture) title }
+{}
+
+/// Of one input `page` says one thing, byte for byte: two pages of one file are equal.
+pub fn page_answer_unique()
+    ensures text { (input title one other : List ℕ) (asked : Option Phenomenon) (first again : Ending) → IsPageAnswer input asked title one first → IsPageAnswer input asked title other again → one ≡ other }
+    ensures ending { (input title one other : List ℕ) (asked : Option Phenomenon) (first again : Ending) → IsPageAnswer input asked title one first → IsPageAnswer input asked title other again → first ≡ again }
+{}

@@ -1,6 +1,0 @@
-use Rattle.std.proofs.Common.{◌≡◌, ◌++◌, drop, flat_map}
-use Rattle.lab_picture.specs.Arrows.{arrow_text}
-use Rattle.lab_picture.proofs.arrows.put_arrows.Given as goal
-
-abbrev pub invariant-loop-arrow : goal.invariant-loop-arrow
-invariant-loop-arrow l = l.out.items ++ flat_map (arrow_text l.frame l.thin l.columns) (drop l.arrow-index l.arrows) ≡ l.initial.out.items ++ flat_map (arrow_text l.frame l.thin l.columns) l.arrows

@@ -1,0 +1,17 @@
+use Rattle.std.proofs.Common.{◌∙◌, ap}
+use Rattle.std.proofs.lemmas.Result.{IfOk-weaker}
+use Rattle.lab_picture.specs.Forward.{with_forward}
+use Rattle.lab_picture.specs.Svg.{svg_of}
+use Rattle.lab_picture.proofs.drawn.picture_with.Goals as goal
+
+pub returns : goal.returns
+returns c =
+    IfOk-weaker c.print_drawing.result _ _
+    (λ text is.
+    record {
+      forward = c.in_ok-forward.forward.items;
+      leads = c.in_ok-forward.ensures;
+      text_is =
+          is ∙ ap (svg_of c.args.history.now) (c.with_forward-drawing.ensures ∙ ap (with_forward c.in_ok-forward.forward.items) c.in_ok-draw.ensures);
+    })
+    c.print_drawing.ensures

@@ -1,0 +1,30 @@
+//! The picture of a report, for who has one.
+
+ghost use Rattle.std.specs.Prelude.{IfOk};
+ghost use Rattle.lab_judge.specs.Judgement.{IsExactJudgement};
+ghost use Rattle.lab_picture.specs.Drawn.{IsPictureWith};
+
+use crate::forward::{forward_arrows, with_forward};
+use crate::sketch::draw;
+use crate::svg::print_drawing;
+use lab_history::History;
+use lab_judge::Report;
+use lab_reports::Phenomenon;
+use lab_table::NoMemory;
+use std::alloc::Global;
+
+/// The picture of a report on a history: of its serial verdict, or of what it finds of a phenomenon. NoMemory where an
+/// allocation was refused.
+pub fn picture_with(
+    alloc: Global,
+    history: &History,
+    report: &Report,
+    asked: Option<Phenomenon>,
+) -> Result<Vec<u8>, NoMemory>
+    requires { IsExactJudgement history.now report.now }
+    ensures { IfOk result (λ text. IsPictureWith history.now report.now asked text.items) }
+{
+    let forward = forward_arrows(alloc, history, report, asked)?;
+    let drawing = with_forward(forward, draw(alloc, history, report, asked)?);
+    print_drawing(alloc, history, &drawing)
+}
