@@ -1,4 +1,6 @@
 pub mod Capped
+pub mod Standing
+pub mod Pointers
 mod ShortTexts
 mod LastCommits
 mod ToldWalks

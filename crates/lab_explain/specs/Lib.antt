@@ -1,4 +1,5 @@
 pub mod Lines
+pub mod Cuts
 pub mod Clauses
 pub mod Steps
 pub mod Faults

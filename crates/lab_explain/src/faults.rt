@@ -1,16 +1,17 @@
 //! The sentences of a fault. Each function that takes bytes appends to them; after NoMemory, part of what was to be appended
 //! may stand there.
 
-ghost use Rattle.std.specs.Prelude.{◌≡◌, ◌++◌, OnOk};
+ghost use Rattle.std.specs.Prelude.{◌≡◌, ◌++◌, IfOk, OnOk};
 ghost use Rattle.lab_deps.specs.declared.fault.FaultParts.TheVariants as parts;
 ghost use Rattle.lab_picture.specs.Installs.{misplaced_of};
-ghost use Rattle.lab_explain.specs.Faults.{article, misplaced_note, installers_text, end_text, last_text, named_text, recorded, due, mistake, recorded_text, due_text, most_often, fault_steps};
+ghost use Rattle.lab_explain.specs.Faults.{article, misplaced_note, installers_text, end_text, last_text, named_text, recorded, due, mistake, recorded_text, due_text, most_often, fault_sentences};
+ghost use Rattle.lab_explain.specs.Lines.{step, joined, placed, room_behind, standing};
 
 use crate::clauses::{put_op, put_row, put_saw, put_saw_with, put_state};
 use crate::fault_parts::{
     put_last_due, put_rows, put_rows_due, put_txns, put_viewed, put_writes, put_writes_due,
 };
-use crate::lines::put_step;
+use crate::lines::{put_placed, put_step, room_behind};
 use crate::phrases::{as_last_words, installers_words, often_words};
 use lab_deps::{FaultParts, LocalFault, OpFault, RowFault};
 use lab_history::History;
@@ -260,14 +261,14 @@ pub fn put_most_often(out: &mut Vec<u8>, mistake: &str) -> Result<(), NoMemory>
 }
 
 /// Appends the lines of a fault.
-#[tactic(auto, unfolding(crate::specs::Faults::fault_steps))]
+#[tactic(auto, unfolding(crate::specs::Faults::fault_sentences))]
 pub fn put_fault_steps(
     alloc: Global,
     out: &mut Vec<u8>,
     history: &History,
     fault: &LocalFault,
 ) -> Result<(), NoMemory>
-    ensures { OnOk result (out.new.items ≡ out.old.items ++ fault_steps history.now fault.now) }
+    ensures { OnOk result (out.new.items ≡ out.old.items ++ joined (fault_sentences history.now fault.now)) }
 {
     let mut text = Vec::new(alloc);
     put_recorded_text(&mut text, history, fault)?;
@@ -278,4 +279,45 @@ pub fn put_fault_steps(
     text.clear();
     put_most_often(&mut text, mistake(fault.parts()))?;
     put_step(out, &text)
+}
+
+/// Appends what stands of a step where there is room for so many lines; answers the room behind it.
+fn put_standing_step(
+    alloc: Global,
+    out: &mut Vec<u8>,
+    most: usize,
+    room: Option<usize>,
+    text: &[u8],
+) -> Result<Option<usize>, NoMemory>
+    ensures stands { OnOk result (out.new.items ≡ out.old.items ++ placed most room (step text.now)) }
+    ensures room { IfOk result (λ left. left ≡ room_behind room (step text.now)) }
+{
+    let mut lines = Vec::new(alloc);
+    put_step(&mut lines, text)?;
+    put_placed(out, most, room, &lines)?;
+    Ok(room_behind(room, &lines))
+}
+
+/// Appends what stands of a fault's lines where there is room for so many, or where a sentence before it had no room.
+#[tactic(auto, unfolding(crate::specs::Faults::fault_sentences))]
+pub fn put_standing_fault(
+    alloc: Global,
+    out: &mut Vec<u8>,
+    most: usize,
+    room: Option<usize>,
+    history: &History,
+    fault: &LocalFault,
+) -> Result<(), NoMemory>
+    ensures { OnOk result (out.new.items ≡ out.old.items ++ standing most room (fault_sentences history.now fault.now)) }
+{
+    let mut text = Vec::new(alloc);
+    put_recorded_text(&mut text, history, fault)?;
+    let room = put_standing_step(alloc, out, most, room, &text)?;
+    text.clear();
+    put_due_text(&mut text, history, *fault)?;
+    let room = put_standing_step(alloc, out, most, room, &text)?;
+    text.clear();
+    put_most_often(&mut text, mistake(fault.parts()))?;
+    put_standing_step(alloc, out, most, room, &text)?;
+    Ok(())
 }

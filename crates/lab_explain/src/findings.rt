@@ -1,15 +1,18 @@
 //! The sentences of what is found of a phenomenon. Each function that takes bytes appends to them; after NoMemory, part of
 //! what was to be appended may stand there.
 
-ghost use Rattle.std.specs.Prelude.{◌≡◌, ◌++◌, OnOk};
-ghost use Rattle.lab_explain.specs.Findings.{head_of, other_walk, walk_beside, seen_flaw, found_beside, said_alone, found_alone, beside, finding_lines};
+ghost use Rattle.std.specs.Prelude.{◌≡◌, ◌++◌, [], ◌∷◌, IfOk, OnOk};
+ghost use Rattle.lab_explain.specs.Findings.{head_of, other_walk, walk_beside, seen_flaw, found_beside, said_alone, alone_sentences, beside, by_walk, pointer, cut_walk, cut_beside, few_beside, finding_lines};
+ghost use Rattle.lab_explain.specs.Lines.{paragraph, joined, front, cut, capped};
 ghost use Rattle.lab_explain.specs.Told.{serial_walk};
 
 use crate::clauses::put_saw;
-use crate::lines::{put_capped, put_paragraph};
+use crate::lines::{lines, put_cut, put_paragraph, put_placed, put_with_left_out, room_behind};
 use crate::names::flaw_of;
-use crate::phrases::{asked_words, explains_words, not_judged, other_words, round_text};
-use crate::steps::put_walk_steps;
+use crate::phrases::{
+    asked_words, explains_words, not_judged, other_words, pointer_end, pointer_words, round_text,
+};
+use crate::steps::{put_standing_walk, put_walk_steps};
 use crate::told::{is_same, is_told, walk_text};
 use lab_history::History;
 use lab_judge::{Finding, Report};
@@ -119,22 +122,77 @@ pub fn put_said_alone(
     }
 }
 
-/// Appends the lines of a finding that is explained by itself: its sentence, and those of its cycle where it has one.
-#[tactic(auto, unfolding(crate::specs::Findings::found_alone))]
-pub fn put_found_alone(
+/// Appends the sentence of a finding that is explained by itself, in lines.
+fn put_alone_first(
     alloc: Global,
     out: &mut Vec<u8>,
     history: &History,
     phenomenon: Phenomenon,
     finding: &Finding,
 ) -> Result<(), NoMemory>
-    ensures { OnOk result (out.new.items ≡ out.old.items ++ found_alone history.now phenomenon finding.now) }
+    ensures { OnOk result (out.new.items ≡ out.old.items ++ paragraph (head_of history.now phenomenon finding.now ++ said_alone history.now phenomenon finding.now)) }
 {
     let mut text = Vec::new(alloc);
     put_head(&mut text, history, phenomenon, finding)?;
     put_said_alone(&mut text, history, phenomenon, finding)?;
-    put_paragraph(out, &text)?;
+    put_paragraph(out, &text)
+}
+
+/// Appends the lines of a finding that is explained by itself: its sentence, and those of its cycle where it has one.
+#[tactic(auto, unfolding(crate::specs::Findings::alone_sentences))]
+fn put_found_alone(
+    alloc: Global,
+    out: &mut Vec<u8>,
+    history: &History,
+    phenomenon: Phenomenon,
+    finding: &Finding,
+) -> Result<(), NoMemory>
+    ensures { OnOk result (out.new.items ≡ out.old.items ++ joined (alone_sentences history.now phenomenon finding.now)) }
+{
+    put_alone_first(alloc, out, history, phenomenon, finding)?;
     put_walk_steps(alloc, out, history, cycle_of(finding))
+}
+
+/// What stands of those lines in so many. NoMemory where an allocation was refused.
+#[tactic(auto, unfolding(crate::specs::Findings::alone_sentences))]
+fn alone_front(
+    alloc: Global,
+    most: usize,
+    history: &History,
+    phenomenon: Phenomenon,
+    finding: &Finding,
+) -> Result<Vec<u8>, NoMemory>
+    ensures { IfOk result (λ text. text.items ≡ front most (alone_sentences history.now phenomenon finding.now)) }
+{
+    let mut first = Vec::new(alloc);
+    put_alone_first(alloc, &mut first, history, phenomenon, finding)?;
+    let mut out = Vec::new(alloc);
+    put_placed(&mut out, most, Some(most), &first)?;
+    let room = room_behind(Some(most), &first);
+    put_standing_walk(alloc, &mut out, most, room, history, cycle_of(finding))?;
+    Ok(out)
+}
+
+/// Appends those lines, so many at most.
+pub fn put_alone(
+    alloc: Global,
+    out: &mut Vec<u8>,
+    most: usize,
+    history: &History,
+    phenomenon: Phenomenon,
+    finding: &Finding,
+) -> Result<(), NoMemory>
+    ensures { OnOk result (out.new.items ≡ out.old.items ++ capped most (alone_sentences history.now phenomenon finding.now)) }
+{
+    let mut text = Vec::new(alloc);
+    put_found_alone(alloc, &mut text, history, phenomenon, finding)?;
+    let count = lines(&text);
+    if count <= most {
+        return out.extend_from_slice(&text);
+    }
+    let most = most.saturating_sub(1);
+    let front = alone_front(alloc, most, history, phenomenon, finding)?;
+    put_with_left_out(out, count, &front)
 }
 
 /// Appends a finding beside a serial verdict whose walk is printed so.
@@ -155,6 +213,117 @@ fn put_beside(
     put_paragraph(out, &text)
 }
 
+/// Appends a walk that isn't the serial verdict's, as the report prints it.
+#[tactic(auto, unfolding(crate::specs::Findings::by_walk))]
+fn put_by_walk(
+    out: &mut Vec<u8>,
+    history: &History,
+    phenomenon: Phenomenon,
+    finding: &Finding,
+    walk: &[u8],
+) -> Result<(), NoMemory>
+    ensures { OnOk result (out.new.items ≡ out.old.items ++ by_walk history.now phenomenon finding.now walk.now) }
+{
+    put_head(out, history, phenomenon, finding)?;
+    out.extend_from_slice(other_words())?;
+    out.extend_from_slice(walk)?;
+    out.extend_from_slice(b".")
+}
+
+/// Appends the line that says how to have a phenomenon explained.
+#[tactic(auto, unfolding(crate::specs::Findings::pointer))]
+fn put_pointer(out: &mut Vec<u8>, phenomenon: Phenomenon) -> Result<(), NoMemory>
+    ensures { OnOk result (out.new.items ≡ out.old.items ++ pointer phenomenon) }
+{
+    out.extend_from_slice(pointer_words())?;
+    out.extend_from_slice(phenomenon.name().as_bytes())?;
+    out.extend_from_slice(pointer_end())
+}
+
+/// Appends the first line of a walk that isn't the serial verdict's, how many are left out, and how to have it explained.
+fn put_cut_other(
+    alloc: Global,
+    out: &mut Vec<u8>,
+    history: &History,
+    phenomenon: Phenomenon,
+    finding: &Finding,
+    walk: &[u8],
+) -> Result<(), NoMemory>
+    ensures { OnOk result (out.new.items ≡ out.old.items ++ cut 2 (paragraph (by_walk history.now phenomenon finding.now walk.now) ∷ []) ++ pointer phenomenon) }
+{
+    let mut text = Vec::new(alloc);
+    put_by_walk(&mut text, history, phenomenon, finding, walk)?;
+    let mut lines = Vec::new(alloc);
+    put_paragraph(&mut lines, &text)?;
+    put_cut(alloc, out, 2, &lines)?;
+    put_pointer(out, phenomenon)
+}
+
+/// Appends what is said beside a serial verdict of a walk for which there are too few lines: these.
+fn put_cut_walk(
+    alloc: Global,
+    out: &mut Vec<u8>,
+    history: &History,
+    phenomenon: Phenomenon,
+    of_serial: &[u8],
+    finding: &Finding,
+    lines: &[u8],
+    walk: &[u8],
+) -> Result<(), NoMemory>
+    requires { lines.now ≡ beside history.now phenomenon of_serial.now finding.now }
+    ensures { OnOk result (out.new.items ≡ out.old.items ++ cut_walk history.now phenomenon of_serial.now finding.now walk.now) }
+{
+    if is_same(walk, of_serial) {
+        put_cut(alloc, out, 3, lines)
+    } else {
+        put_cut_other(alloc, out, history, phenomenon, finding, walk)
+    }
+}
+
+/// Appends a finding beside a serial verdict for which there are too few lines: these.
+fn put_cut_beside(
+    alloc: Global,
+    out: &mut Vec<u8>,
+    history: &History,
+    phenomenon: Phenomenon,
+    of_serial: &[u8],
+    finding: &Finding,
+    lines: &[u8],
+) -> Result<(), NoMemory>
+    requires { lines.now ≡ beside history.now phenomenon of_serial.now finding.now }
+    ensures { OnOk result (out.new.items ≡ out.old.items ++ cut_beside history.now phenomenon of_serial.now finding.now) }
+{
+    match finding {
+        Finding::Absent | Finding::NotJudged | Finding::At { .. } => put_cut(alloc, out, 3, lines),
+        Finding::Walk(walk) => {
+            let walk = walk_text(alloc, walk.as_slice())?;
+            put_cut_walk(
+                alloc, out, history, phenomenon, of_serial, finding, lines, &walk,
+            )
+        }
+    }
+}
+
+/// Appends a finding beside a serial verdict whose walk is printed so, in three lines at most.
+#[tactic(auto, unfolding(crate::specs::Findings::few_beside))]
+fn put_few_beside(
+    alloc: Global,
+    out: &mut Vec<u8>,
+    history: &History,
+    phenomenon: Phenomenon,
+    of_serial: &[u8],
+    finding: &Finding,
+) -> Result<(), NoMemory>
+    ensures { OnOk result (out.new.items ≡ out.old.items ++ few_beside history.now phenomenon of_serial.now finding.now) }
+{
+    let mut text = Vec::new(alloc);
+    put_beside(alloc, &mut text, history, phenomenon, of_serial, finding)?;
+    if lines(&text) <= 3 {
+        return out.extend_from_slice(&text);
+    }
+    put_cut_beside(alloc, out, history, phenomenon, of_serial, finding, &text)
+}
+
 /// Appends the lines of a finding beside a serial verdict, whose walk is printed so: of the one whose cycle is told what it
 /// would have by itself, in 23 at most, of each other three at most.
 #[tactic(auto, unfolding(crate::specs::Findings::finding_lines))]
@@ -171,12 +340,9 @@ pub fn put_finding_lines(
     ensures { OnOk result (out.new.items ≡ out.old.items ++ finding_lines history.now report.now told phenomenon) }
 {
     let finding = phenomenon.found_in(report);
-    let mut lines = Vec::new(alloc);
     if is_told(told, phenomenon) {
-        put_found_alone(alloc, &mut lines, history, phenomenon, finding)?;
-        put_capped(out, 23, &lines)
+        put_alone(alloc, out, 23, history, phenomenon, finding)
     } else {
-        put_beside(alloc, &mut lines, history, phenomenon, of_serial, finding)?;
-        put_capped(out, 3, &lines)
+        put_few_beside(alloc, out, history, phenomenon, of_serial, finding)
     }
 }

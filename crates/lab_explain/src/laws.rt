@@ -1,12 +1,15 @@
 //! Laws of explanations. The functions have nothing to do: their contracts are the laws.
 
-ghost use Rattle.std.specs.Prelude.{◌≡◌, ◌≤◌, ℕ, None, Option, List, Contains};
+ghost use Rattle.std.specs.Prelude.{◌≡◌, ◌<◌, ◌≤◌, ◌++◌, ℕ, false, None, Option, List, Contains};
+ghost use Rattle.std.specs.Str.{bytes_eq};
 ghost use Rattle.lab_history.specs.History.{History as Held};
 ghost use Rattle.lab_deps.specs.Soundness.{Stands};
 ghost use Rattle.lab_deps.specs.declared.edge.Edge.{Edge as Dependency};
 ghost use Rattle.lab_deps.specs.declared.fault.LocalFault.{LocalFault as Fault};
 ghost use Rattle.lab_judge.specs.Judgement.{IsExactJudgement};
+ghost use Rattle.lab_judge.specs.ReportText.{walk_text};
 ghost use Rattle.lab_judge.specs.Runs.{Span};
+ghost use Rattle.lab_judge.specs.declared.report.Finding.TheVariants.{Walk};
 ghost use Rattle.lab_judge.specs.declared.report.Report.{Report};
 ghost use Rattle.lab_judge.specs.declared.serial.Serial.TheVariants.{NoFault};
 ghost use Rattle.lab_streams.specs.declared.ending.Ending.{Ending};
@@ -14,8 +17,10 @@ ghost use Rattle.lab_picture.specs.ArrowLaws.{IsArrowOf, NamesWalk};
 ghost use Rattle.lab_reports.specs.declared.phenomenon.Phenomenon.{Phenomenon};
 ghost use Rattle.lab_picture.specs.declared.drawing.Arrow.{Arrow as Drawn};
 ghost use Rattle.lab_explain.specs.Answer.{IsExplainAnswer};
+ghost use Rattle.lab_explain.specs.Cuts.{IsCut};
 ghost use Rattle.lab_explain.specs.Explanation.{explanation_of};
-ghost use Rattle.lab_explain.specs.Lines.{lines, step};
+ghost use Rattle.lab_explain.specs.Findings.{beside, pointer, few_beside};
+ghost use Rattle.lab_explain.specs.Lines.{lines, step, capped};
 ghost use Rattle.lab_explain.specs.Places.{IsLastBefore, last_before};
 ghost use Rattle.lab_explain.specs.Steps.{edge_step, edge_text};
 
@@ -35,6 +40,19 @@ pub fn a_fault_that_is_explained_stands()
 /// Who is told to have committed last before a transaction's start did so: nobody committed between.
 pub fn the_last_commit_before_a_start_is_told()
     ensures { (place : ℕ) (spans : List Span) → IsLastBefore place spans (last_before place None spans) }
+{}
+
+/// A part of an explanation that has more lines than it may is cut between its sentences: the first ones stand, each whole,
+/// and behind them a line that says how many lines are left out. Of a sentence that has more lines than all that may stand
+/// its first lines do.
+pub fn a_part_is_cut_between_sentences()
+    ensures { (most : ℕ) (sentences : List (List ℕ)) → IsCut most sentences (capped most sentences) }
+{}
+
+/// Where what is said of a cycle that isn't the serial verdict's is cut, it ends with how to have it explained.
+pub fn how_to_have_a_cycle_explained_stands()
+    ensures { (h : Held) (p : Phenomenon) (of_serial : List ℕ) (walk : List Dependency) → bytes_eq (walk_text walk) of_serial ≡ false → 3 < lines (beside h p of_serial (Walk walk))
+        → (first : List ℕ) × (few_beside h p of_serial (Walk walk) ≡ first ++ pointer p) }
 {}
 
 /// An explanation has at most 100 lines.
