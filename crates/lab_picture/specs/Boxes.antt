@@ -2,6 +2,7 @@
 use Rattle.std.specs.Prelude.{ℕ, ◌+◌, ◌*◌, ◌==◌, nat_le, Bool, not, ◌||◌, cond, List, [], ◌∷◌, ◌++◌, length, codes}
 use Rattle.lab_statement.specs.Printed.{printed_statement}
 use Rattle.lab_table.specs.Row.{Row}
+use Rattle.lab_history.specs.History.{History}
 use Rattle.lab_history.specs.declared.operation.Op.{Op}
 use Rattle.lab_picture.specs.declared.drawing.Arrow.{Arrow}
 use Rattle.lab_picture.specs.declared.layout.Column.{Column}
@@ -10,6 +11,7 @@ use Rattle.lab_picture.specs.declared.layout.Stroke.{Stroke}
 use Rattle.lab_picture.specs.declared.layout.Stroke.TheVariants.{Plain, Thick, Thin}
 use Rattle.lab_picture.specs.Classes.{box_class}
 use Rattle.lab_picture.specs.Effect.{effect_text}
+use Rattle.lab_picture.specs.Few.{is_kept, slot_of}
 use Rattle.lab_picture.specs.Kept.{tells_named, kept_text}
 use Rattle.lab_picture.specs.Layout.{left, upper, box_height}
 use Rattle.lab_picture.specs.Lines.{all_lines, lines_at}
@@ -89,12 +91,21 @@ box_text x y height stroke class told =
 abbrev pub stroke_of : Column → ℕ → Stroke
 stroke_of column op = cond (op == column.marked) Thick (cond column.thin Thin Plain)
 
+-- at which place of its column an operation with this number is drawn
+abbrev pub place_of : History → Frame → List Arrow → Column → ℕ → ℕ
+place_of h frame arrows column k = slot_of h frame.few arrows column.txn column.marked k
+
 -- the box of a column's operation with this number, where these arrows are drawn and those are steps
-abbrev pub op_text : Frame → List Arrow → List Arrow → Column → ℕ → Op → List ℕ
-op_text frame arrows steps column k op =
-    box_text (left column.place) (upper frame column.place k) (box_height frame) (stroke_of column k) (box_class steps column k) (telling (rows_at arrows column.txn k) op)
+abbrev pub op_text : History → Frame → List Arrow → List Arrow → Column → ℕ → Op → List ℕ
+op_text h frame arrows steps column k op =
+    box_text (left column.place) (upper frame column.place (place_of h frame arrows column k)) (box_height frame) (stroke_of column k) (box_class steps column k) (telling (rows_at arrows column.txn k) op)
+
+-- the same where it is drawn
+abbrev pub kept_text_of : History → Frame → List Arrow → List Arrow → Column → ℕ → Op → List ℕ
+kept_text_of h frame arrows steps column k op = cond (is_kept frame.few arrows column.txn column.marked k) (op_text h frame arrows steps column k op) []
 
 -- the boxes of a column's operations, where so many come before these
-abbrev pub boxes_text : Frame → List Arrow → List Arrow → Column → ℕ → List Op → List ℕ
-boxes_text frame arrows steps column before [] = []
-boxes_text frame arrows steps column before (op ∷ ops) = op_text frame arrows steps column (before + 1) op ++ boxes_text frame arrows steps column (before + 1) ops
+abbrev pub boxes_text : History → Frame → List Arrow → List Arrow → Column → ℕ → List Op → List ℕ
+boxes_text h frame arrows steps column before [] = []
+boxes_text h frame arrows steps column before (op ∷ ops) =
+    kept_text_of h frame arrows steps column (before + 1) op ++ boxes_text h frame arrows steps column (before + 1) ops

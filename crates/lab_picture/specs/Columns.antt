@@ -62,7 +62,7 @@ column_at marked thin place n = record { place = place; txn = n; marked = marked
 -- a column: the transaction and its operations
 abbrev pub column_text : History → Frame → List Arrow → List Arrow → Column → List ℕ
 column_text h frame arrows steps column =
-    title_text h (left column.place) (top frame column.place) column.thin column.txn ++ boxes_text frame arrows steps column 0 (ops_of h column.txn)
+    title_text h (left column.place) (top frame column.place) column.thin column.txn ++ boxes_text h frame arrows steps column 0 (ops_of h column.txn)
 
 -- columns of a drawing, where so many come before these and these arrows are drawn
 abbrev pub columns_text : History → Frame → List Arrow → Sketch → ℕ → List ℕ → List ℕ

@@ -2,11 +2,12 @@
 
 ghost use Rattle.std.specs.Prelude.{◌≡◌, ◌++◌, ◌≤◌, length, IfOk, OnOk};
 ghost use Rattle.lab_statement.specs.Printed.{printed_statement};
-ghost use Rattle.lab_picture.specs.Boxes.{fits, telling, lines_of, box_lines, whole_text, stroke_text, edge_style, edge_text, rest_lines, effect_lines, inner_text, box_text, stroke_of, op_text, boxes_text};
+ghost use Rattle.lab_picture.specs.Boxes.{fits, telling, lines_of, box_lines, whole_text, stroke_text, edge_style, edge_text, rest_lines, effect_lines, inner_text, box_text, stroke_of, op_text, kept_text_of, boxes_text};
 
 use crate::classes::box_class;
 use crate::drawing::Arrow;
 use crate::effect::effect_text;
+use crate::few::{is_kept, slot_of};
 use crate::kept::{kept_text, tells_named};
 use crate::layout::{BOX_BYTES, Column, Frame, Stroke, box_height, left, upper};
 use crate::lines::{count_lines, put_all_lines};
@@ -15,7 +16,7 @@ use crate::size::put_size;
 use crate::text::{
     in_four, in_three, put_escaped, put_one_line, put_place, put_three_lines, put_two_lines,
 };
-use lab_history::Op;
+use lab_history::{History, Op};
 use lab_statement::put_statement;
 use lab_table::{NoMemory, RowName};
 use std::alloc::Global;
@@ -263,6 +264,7 @@ fn stroke_of(column: &Column, op: u32) -> Stroke
 fn put_op(
     alloc: Global,
     out: &mut Vec<u8>,
+    history: &History,
     frame: Frame,
     arrows: &[Arrow],
     steps: &[Arrow],
@@ -271,22 +273,56 @@ fn put_op(
     op: &Op,
 ) -> Result<(), NoMemory>
     requires { column.now.place ≤ 40 }
-    ensures { OnOk result (out.new.items ≡ out.old.items ++ op_text frame arrows.now steps.now column.now number op.now) }
+    ensures { OnOk result (out.new.items ≡ out.old.items ++ op_text history.now frame arrows.now steps.now column.now number op.now) }
 {
     let named = rows_at(alloc, arrows, column.txn, number)?;
     let told = telling(alloc, &named, op)?;
+    let class = box_class(alloc, steps, column, number)?;
+    let slot = slot_of(
+        history,
+        frame.few,
+        arrows,
+        column.txn,
+        column.marked,
+        number,
+    );
     let x = left(column.place);
-    let y = upper(frame, column.place, number);
+    let y = upper(frame, column.place, slot);
     let height = box_height(frame);
     let stroke = stroke_of(column, number);
-    let class = box_class(alloc, steps, column, number)?;
     put_box(alloc, out, x, y, height, stroke, &class, &told)
 }
 
-/// Appends the boxes of a column. The arrows say which rows stay in them, the steps which classes they have.
+/// Appends the box of an operation, if it is drawn.
+fn put_kept(
+    alloc: Global,
+    out: &mut Vec<u8>,
+    history: &History,
+    frame: Frame,
+    arrows: &[Arrow],
+    steps: &[Arrow],
+    column: &Column,
+    number: u32,
+    op: &Op,
+) -> Result<(), NoMemory>
+    requires { column.now.place ≤ 40 }
+    ensures { OnOk result (out.new.items ≡ out.old.items ++ kept_text_of history.now frame arrows.now steps.now column.now number op.now) }
+{
+    if is_kept(frame.few, arrows, column.txn, column.marked, number) {
+        put_op(
+            alloc, out, history, frame, arrows, steps, column, number, op,
+        )
+    } else {
+        Ok(())
+    }
+}
+
+/// Appends the boxes of a column. The arrows say which rows stay in them and where few are drawn which are, the steps which
+/// classes they have.
 pub fn put_boxes(
     alloc: Global,
     out: &mut Vec<u8>,
+    history: &History,
     frame: Frame,
     arrows: &[Arrow],
     steps: &[Arrow],
@@ -295,11 +331,13 @@ pub fn put_boxes(
 ) -> Result<(), NoMemory>
     requires column { column.now.place ≤ 40 }
     requires few { length ops.now ≤ 10000 }
-    ensures { OnOk result (out.new.items ≡ out.old.items ++ boxes_text frame arrows.now steps.now column.now 0 ops.now) }
+    ensures { OnOk result (out.new.items ≡ out.old.items ++ boxes_text history.now frame arrows.now steps.now column.now 0 ops.now) }
 {
     for (index, op) in ops.iter().enumerate() {
         let number = index as u32 + 1;
-        put_op(alloc, out, frame, arrows, steps, column, number, op)?;
+        put_kept(
+            alloc, out, history, frame, arrows, steps, column, number, op,
+        )?;
     }
     Ok(())
 }

@@ -38,7 +38,7 @@ pub fn outcome_name(history: &History, txn: TxnNo) -> &'static str
 }
 
 /// The number of the marked operation, if it is of this transaction, else 0.
-fn marked_in(marked: &Option<Spot>, txn: TxnNo) -> u32
+pub fn marked_in(marked: &Option<Spot>, txn: TxnNo) -> u32
     ensures { result ≡ marked_in marked.now txn }
 {
     match marked {
@@ -119,7 +119,7 @@ fn put_column(
     let y = top(frame, column.place);
     put_title(alloc, out, history, x, y, column.thin, column.txn)?;
     let ops = ops_of(history, column.txn);
-    put_boxes(alloc, out, frame, arrows, steps, column, ops)
+    put_boxes(alloc, out, history, frame, arrows, steps, column, ops)
 }
 
 /// Appends columns of a drawing from left to right. The arrows, which are those that are drawn, say which rows stay in the

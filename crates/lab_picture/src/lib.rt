@@ -20,6 +20,7 @@ mod drawing;
 mod drawn;
 mod effect;
 mod fault_drawing;
+mod few;
 mod forward;
 mod growth;
 mod heading;
@@ -37,6 +38,7 @@ mod picturing;
 mod route;
 mod size;
 mod sketch;
+mod slots;
 mod states;
 mod steps;
 mod svg;
@@ -54,7 +56,7 @@ pub use laws::{
     a_nickname_is_said_of_its_form, a_title_names_what_a_walk_is, an_escaped_text_has_no_markup,
     each_arrow_has_its_row_at_both_ends, each_dependency_has_its_arrow,
     each_dependency_of_a_walk_is_drawn, each_dependency_of_installed_rows_has_its_arrow,
-    picture_answer_unique, who_is_out_of_place_is_named,
+    each_named_operation_is_drawn, picture_answer_unique, who_is_out_of_place_is_named,
 };
 pub use making::arrow_of;
 pub use named::is_named;
