@@ -49,11 +49,27 @@ def wrapped(text, lead=""):
     return lines
 
 
-def capped(most, lines):
-    """So many of the lines at most; where there are more, the last one says how many are left out."""
-    if len(lines) <= most:
-        return lines
-    return [*lines[: most - 1], f"  .. and {len(lines) - (most - 1)} lines more"]
+def standing(most, sentences):
+    """The lines of the first sentences that have so many together at most; of a longer one its first lines."""
+    lines = []
+    for sentence in sentences:
+        room = most - len(lines)
+        if len(sentence) > room:
+            return lines + (sentence[:room] if len(sentence) > most else [])
+        lines += sentence
+    return lines
+
+
+def cut(most, sentences):
+    """What stands of sentences that have more lines, and last how many lines are left out."""
+    lines = standing(most - 1, sentences)
+    return [*lines, f"  .. and {len(sum(sentences, [])) - len(lines)} lines more"]
+
+
+def capped(most, sentences):
+    """Sentences in so many lines at most."""
+    lines = sum(sentences, [])
+    return lines if len(lines) <= most else cut(most, sentences)
 
 
 def dependencies(walk):
@@ -151,7 +167,7 @@ class Explained:
 
     def steps(self, walk):
         found = dependencies(walk)
-        return [line for first, kind, row, second in found for line in self.step(int(first), kind, row, int(second))]
+        return [self.step(int(first), kind, row, int(second)) for first, kind, row, second in found]
 
     def rows_written(self, no):
         """The rows that a transaction wrote."""
@@ -180,21 +196,23 @@ class Explained:
         return f"{phenomenon} ({words})" if words else phenomenon
 
     def alone(self, phenomenon, found):
-        """The lines of a phenomenon that is explained by itself."""
+        """The sentences of a phenomenon that is explained by itself."""
         if found == "absent":
-            return wrapped(f"{self.name(phenomenon, None)}: absent.")
+            return [wrapped(f"{self.name(phenomenon, None)}: absent.")]
         walk = found.removeprefix("present ")
-        return wrapped(f"{self.name(phenomenon, walk)}: present: {ROUND}") + self.steps(walk)
+        return [wrapped(f"{self.name(phenomenon, walk)}: present: {ROUND}"), *self.steps(walk)]
 
     def beside(self, phenomenon, found, of_serial):
         """The lines of a phenomenon beside a serial verdict with this cycle."""
         if found == "absent":
-            return self.alone(phenomenon, found)
+            return capped(3, self.alone(phenomenon, found))
         walk = found.removeprefix("present ")
-        said = "present, by the same cycle."
-        if walk != of_serial:
-            said = f"present, by another cycle: {walk}. (--phenomenon {phenomenon} explains it.)"
-        return wrapped(f"{self.name(phenomenon, walk)}: {said}")
+        if walk == of_serial:
+            return capped(3, [wrapped(f"{self.name(phenomenon, walk)}: present, by the same cycle.")])
+        sentence = f"{self.name(phenomenon, walk)}: present, by another cycle: {walk}."
+        pointer = f"(--phenomenon {phenomenon} explains it.)"
+        lines = wrapped(f"{sentence} {pointer}")
+        return lines if len(lines) <= 3 else [*cut(2, [wrapped(sentence)]), f"  {pointer}"]
 
 
 def state(value):
@@ -235,13 +253,13 @@ def explanation(history, report, phenomenon=None):
     answer, _, walk = serial.partition(" ")
     told = told_beside(found, walk)
     if answer == "yes":
-        lines = wrapped(f"{ORDER} {walk or 'none'}.")
+        sentences = [wrapped(f"{ORDER} {walk or 'none'}.")]
     else:
-        lines = wrapped(f"Not serializable: {ROUND}") + explained.steps(walk)
-    lines = capped(40 if told else 60, lines) + capped(14, wrapped(told_places(snapshot)))
+        sentences = [wrapped(f"Not serializable: {ROUND}"), *explained.steps(walk)]
+    lines = capped(40 if told else 60, sentences) + capped(14, [wrapped(told_places(snapshot))])
     for name, said in found.items():
         if name == told:
             lines += capped(23, explained.alone(name, said))
         else:
-            lines += capped(3, explained.beside(name, said, walk))
+            lines += explained.beside(name, said, walk)
     return "\n".join([*lines, LEVELS[level], LAST, ""]).encode()

@@ -1,11 +1,11 @@
 -- How many lines a text has.
-use Rattle.std.proofs.Common.{◌≡◌, ◌≢◌, ℕ, zero, suc, ◌+◌, ◌-◌, ◌/◌, ◌%◌, ◌≤◌, ◌<◌, Bool, true, false, cond, List, [], ◌∷◌, ◌++◌, refl, sym, ap, ◌∙◌, arith, inl, inr, subst}
+use Rattle.std.proofs.Common.{◌≡◌, ◌≢◌, ℕ, zero, suc, ◌+◌, ◌-◌, ◌/◌, ◌%◌, ◌≤◌, ◌<◌, Bool, true, false, cond, Option, Some, None, List, [], ◌∷◌, ◌++◌, refl, sym, ap, ◌∙◌, arith, inl, inr, subst}
 use Rattle.std.specs.Prelude.{◌==◌, nat_le, codes}
 use Rattle.std.specs.Fmt.{digits, digits_onto, digit_glyph, decimal}
 use Rattle.std.proofs.lemmas.Bool.{cases_Bool, eqb-false}
 use Rattle.std.proofs.lemmas.Bool.Decides.{nat_tests}
 use Rattle.std.proofs.lemmas.List.Sums.{sum_by-append}
-use Rattle.lab_explain.specs.Lines.{lines, first_lines, left_out, capped}
+use Rattle.lab_explain.specs.Lines.{lines, first_lines, left_out, joined, begun, placed, room_behind, standing, front, with_left_out, cut, capped}
 
 -- no lines of a text are nothing
 pub none_first : (n : ℕ) (text : List ℕ) → n ≡ 0 → first_lines n text ≡ []
@@ -70,13 +70,45 @@ first_few n (b ∷ bs) =
           (subst (λ k. k ≤ n) (sym (lines_cons b (first_lines (cond (b == 10) (n - 1) n) bs))) (one_more b bs n (b == 10) (eqb-false n 0 isnt) (first_few (cond (b == 10) (n - 1) n) bs)))
     ]
 
--- a text is within its cap
-within_cap : (most : ℕ) (text : List ℕ) (v : Bool) → nat_le (lines text) most ≡ v → 1 ≤ most → lines (cond v text (first_lines (most - 1) text ++ left_out (lines text - (most - 1)))) ≤ most
-within_cap most text true is some = grind (arith, nat_tests)
-within_cap most text false is some =
-    let cut = first_few (most - 1) text in
-    let all = lines_append (first_lines (most - 1) text) (left_out (lines text - (most - 1))) in
-    omega (arith, cut, all, left_out_lines (lines text - (most - 1)), some)
+-- room as a number of lines
+abbrev of_room : Option ℕ → ℕ
+of_room None = 0
+of_room (Some room) = room
 
-pub few_lines : (most : ℕ) (text : List ℕ) → 1 ≤ most → lines (capped most text) ≤ most
-few_lines most text some = within_cap most text (nat_le (lines text) most) refl some
+-- what stands of a sentence, and the room behind it, are no more than the room before it
+module _ (most room : ℕ) (s : List ℕ) where
+  begun_few : (v : Bool) → lines (cond v [] (first_lines room s)) ≤ room
+  begun_few true = omega arith
+  begun_few false = first_few room s
+
+  placed_within : (v : Bool) → nat_le (lines s) room ≡ v → lines (cond v s (begun most room s)) + of_room (cond v (Some (room - lines s)) None) ≤ room
+  placed_within true is = let few : lines s ≤ room = grind (arith, nat_tests, is) in omega (arith, few)
+  placed_within false is = omega (arith, begun_few (nat_le (lines s) most))
+
+placed_few : (most : ℕ) (room : Option ℕ) (s : List ℕ) → lines (placed most room s) + of_room (room_behind room s) ≤ of_room room
+placed_few most None s = omega arith
+placed_few most (Some room) s = placed_within most room s (nat_le (lines s) room) refl
+
+-- what stands of some sentences has no more lines than there is room
+standing_few : (most : ℕ) (room : Option ℕ) (sentences : List (List ℕ)) → lines (standing most room sentences) ≤ of_room room
+standing_few most room [] = omega arith
+standing_few most room (s ∷ ss) =
+    omega (arith, lines_append (placed most room s) (standing most (room_behind room s) ss), placed_few most room s, standing_few most (room_behind room s) ss)
+
+-- with how many are left out it has one line more
+pub left_out_few : (count most : ℕ) (text : List ℕ) → lines text ≤ most → lines (with_left_out count text) ≤ most + 1
+unfolding with_left_out
+left_out_few count most text few = omega (arith, few, lines_append text (left_out (count - lines text)), left_out_lines (count - lines text))
+
+pub cut_few : (most : ℕ) (sentences : List (List ℕ)) → 1 ≤ most → lines (cut most sentences) ≤ most
+cut_few most sentences some =
+    let few = left_out_few (lines (joined sentences)) (most - 1) (front (most - 1) sentences) (standing_few (most - 1) (Some (most - 1)) sentences) in
+    omega (arith, few, some)
+
+-- some sentences are within their cap
+within_cap : (most : ℕ) (sentences : List (List ℕ)) (v : Bool) → nat_le (lines (joined sentences)) most ≡ v → 1 ≤ most → lines (cond v (joined sentences) (cut most sentences)) ≤ most
+within_cap most sentences true is some = grind (arith, nat_tests)
+within_cap most sentences false is some = cut_few most sentences some
+
+pub few_lines : (most : ℕ) (sentences : List (List ℕ)) → 1 ≤ most → lines (capped most sentences) ≤ most
+few_lines most sentences some = within_cap most sentences (nat_le (lines (joined sentences)) most) refl some

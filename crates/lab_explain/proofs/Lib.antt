@@ -1,4 +1,7 @@
 pub mod Capped
+pub mod Standing
+pub mod CutParts
+pub mod Pointers
 mod ShortTexts
 mod LastCommits
 mod ToldWalks

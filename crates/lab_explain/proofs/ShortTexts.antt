@@ -1,20 +1,26 @@
 -- An explanation has few lines.
-use Rattle.std.proofs.Common.{ℕ, ◌+◌, ◌≤◌, Bool, true, false, cond, Option, Some, None, List, ◌++◌, arith}
+use Rattle.std.proofs.Common.{◌≡◌, ℕ, ◌+◌, ◌≤◌, Bool, true, false, cond, Option, Some, None, List, [], ◌∷◌, ◌++◌, refl, arith}
+use Rattle.std.specs.Prelude.{nat_le}
+use Rattle.std.specs.Str.{bytes_eq}
+use Rattle.std.proofs.lemmas.Bool.Decides.{nat_tests}
 use Rattle.lab_history.specs.History.{History}
+use Rattle.lab_judge.specs.ReportText.{walk_text}
+use Rattle.lab_judge.specs.declared.report.Finding.{Finding}
+use Rattle.lab_judge.specs.declared.report.Finding.TheVariants.{Absent, Walk, At, NotJudged}
 use Rattle.lab_judge.specs.declared.report.Grade.{Grade}
 use Rattle.lab_judge.specs.declared.report.Grade.TheVariants as grade
 use Rattle.lab_judge.specs.declared.report.Report.{Report}
-use Rattle.lab_reports.specs.Phenomena.{finding_of}
+use Rattle.lab_reports.specs.Phenomena.{phenomenon_name, finding_of}
 use Rattle.lab_reports.specs.declared.phenomenon.Phenomenon.{Phenomenon}
 use Rattle.lab_reports.specs.declared.phenomenon.Phenomenon.TheVariants.{G0, G1a, G1b, G1c, GSingle, G2Item, G2}
-use Rattle.lab_explain.specs.Lines.{lines, capped}
-use Rattle.lab_explain.specs.Explanation.{serial_lines, findings_lines, verdict_lines, whole_text, one_text, explanation_of}
-use Rattle.lab_explain.specs.Findings.{finding_lines, found_alone, beside}
+use Rattle.lab_explain.specs.Lines.{lines, paragraph, cut, capped}
+use Rattle.lab_explain.specs.Explanation.{serial_sentences, findings_lines, verdict_lines, whole_text, one_text, explanation_of}
+use Rattle.lab_explain.specs.Findings.{alone_sentences, beside, by_walk, pointer, cut_beside, few_beside, finding_lines}
 use Rattle.lab_explain.specs.Names.{level_line}
-use Rattle.lab_explain.specs.Phrases.{last_line}
+use Rattle.lab_explain.specs.Phrases.{pointer_words, pointer_end, last_line}
 use Rattle.lab_explain.specs.Places.{places_lines}
 use Rattle.lab_explain.specs.Told.{serial_walk, told_of, is_told}
-use Rattle.lab_explain.proofs.Capped.{lines_append, few_lines}
+use Rattle.lab_explain.proofs.Capped.{lines_append, cut_few, few_lines}
 
 -- two texts behind each other have no more lines than both
 pub both : (a b : ℕ) (one other : List ℕ) → lines one ≤ a → lines other ≤ b → lines (one ++ other) ≤ a + b
@@ -62,11 +68,56 @@ some_verdict (Some p) = omega arith
 within : (a b c : ℕ) → a ≤ b → b ≤ c → a ≤ c
 within a b c few most = omega (arith, few, most)
 
+-- how to have a phenomenon explained stands in one line
+words_short : lines pointer_words ≡ 0
+unfolding pointer_words
+words_short = refl
+
+end_short : lines pointer_end ≡ 1
+unfolding pointer_end
+end_short = refl
+
+name_short : (p : Phenomenon) → lines (phenomenon_name p) ≡ 0
+name_short G0 = refl
+name_short G1a = refl
+name_short G1b = refl
+name_short G1c = refl
+name_short GSingle = refl
+name_short G2Item = refl
+name_short G2 = refl
+
+in_one : (front name end : List ℕ) → lines front ≡ 0 → lines name ≡ 0 → lines end ≡ 1 → lines (front ++ name ++ end) ≤ 1
+in_one front name end none nor one = omega (arith, lines_append (front ++ name) end, lines_append front name, none, nor, one)
+
+pointer_short : (p : Phenomenon) → lines (pointer p) ≤ 1
+unfolding pointer
+pointer_short p = in_one pointer_words (phenomenon_name p) pointer_end words_short (name_short p) end_short
+
+module _ (h : History) (p : Phenomenon) (of_serial : List ℕ) where
+  walk_short : (found : Finding) (walk : List ℕ) (v : Bool) → lines (cond v (cut 3 (beside h p of_serial found ∷ [])) (cut 2 (paragraph (by_walk h p found walk) ∷ []) ++ pointer p)) ≤ 3
+  walk_short found walk true = cut_few 3 (beside h p of_serial found ∷ []) (omega arith)
+  walk_short found walk false =
+      both 2 1 (cut 2 (paragraph (by_walk h p found walk) ∷ [])) (pointer p) (cut_few 2 (paragraph (by_walk h p found walk) ∷ []) (omega arith)) (pointer_short p)
+
+  cut_short : (found : Finding) → lines (cut_beside h p of_serial found) ≤ 3
+  cut_short Absent = cut_few 3 (beside h p of_serial Absent ∷ []) (omega arith)
+  cut_short (Walk walk) = walk_short (Walk walk) (walk_text walk) (bytes_eq (walk_text walk) of_serial)
+  cut_short (At n k row) = cut_few 3 (beside h p of_serial (At n k row) ∷ []) (omega arith)
+  cut_short NotJudged = cut_few 3 (beside h p of_serial NotJudged ∷ []) (omega arith)
+
+  few_short : (found : Finding) (v : Bool) → nat_le (lines (beside h p of_serial found)) 3 ≡ v → lines (cond v (beside h p of_serial found) (cut_beside h p of_serial found)) ≤ 3
+  few_short found true is = grind (arith, nat_tests, is)
+  few_short found false isnt = cut_short found
+
+  beside_short : (found : Finding) → lines (few_beside h p of_serial found) ≤ 3
+  unfolding few_beside
+  beside_short found = few_short found (nat_le (lines (beside h p of_serial found)) 3) refl
+
 module _ (h : History) (report : Report) (told : Option Phenomenon) where
   -- the lines of a phenomenon's part, whether it is told or not
-  either : (p : Phenomenon) (v : Bool) → lines (cond v (capped 23 (found_alone h p (finding_of p report))) (capped 3 (beside h p (serial_walk report.serial) (finding_of p report)))) ≤ cond v 23 3
-  either p true = few_lines 23 (found_alone h p (finding_of p report)) (omega arith)
-  either p false = few_lines 3 (beside h p (serial_walk report.serial) (finding_of p report)) (omega arith)
+  either : (p : Phenomenon) (v : Bool) → lines (cond v (capped 23 (alone_sentences h p (finding_of p report))) (few_beside h p (serial_walk report.serial) (finding_of p report))) ≤ cond v 23 3
+  either p true = few_lines 23 (alone_sentences h p (finding_of p report)) (omega arith)
+  either p false = beside_short h p (serial_walk report.serial) (finding_of p report)
 
   finding_short : (p : Phenomenon) → lines (finding_lines h report told p) ≤ most_of told p
   unfolding finding_lines
@@ -97,17 +148,17 @@ module _ (h : History) (report : Report) (told : Option Phenomenon) where
 
   -- the parts of a whole text
   abbrev first : List ℕ
-  first = capped (verdict_lines told) (serial_lines h report.serial)
+  first = capped (verdict_lines told) (serial_sentences h report.serial)
 
   abbrev second : List ℕ
-  second = capped 14 (places_lines report.snapshot)
+  second = capped 14 (places_lines report.snapshot ∷ [])
 
   abbrev third : List ℕ
   third = findings_lines h report told
 
   -- its verdicts
   verdicts_short : lines (first ++ second) ≤ verdict_lines told + 14
-  verdicts_short = both (verdict_lines told) 14 first second (few_lines (verdict_lines told) (serial_lines h report.serial) (some_verdict told)) (few_lines 14 (places_lines report.snapshot) (omega arith))
+  verdicts_short = both (verdict_lines told) 14 first second (few_lines (verdict_lines told) (serial_sentences h report.serial) (some_verdict told)) (few_lines 14 (places_lines report.snapshot ∷ []) (omega arith))
 
   -- its verdicts and phenomena
   parts_short : lines (first ++ second ++ third) ≤ verdict_lines told + 14 + most told
@@ -129,7 +180,7 @@ module _ (h : History) (report : Report) where
 
   one_short : (p : Phenomenon) → lines (one_text h report p) ≤ 91
   unfolding one_text
-  one_short p = both 90 1 (capped 90 (found_alone h p (finding_of p report))) last_line (few_lines 90 (found_alone h p (finding_of p report)) (omega arith)) last_short
+  one_short p = both 90 1 (capped 90 (alone_sentences h p (finding_of p report))) last_line (few_lines 90 (alone_sentences h p (finding_of p report)) (omega arith)) last_short
 
   pub is_short : (asked : Option Phenomenon) → lines (explanation_of h report asked) ≤ 100
   is_short None = omega (arith, whole_short)

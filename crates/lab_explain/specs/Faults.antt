@@ -185,6 +185,6 @@ due_text h f = codes "Due: " ++ due h (parts_of f) ++ codes "."
 unfoldable pub most_often : List ℕ → List ℕ
 most_often text = often_words ++ text ++ codes "."
 
--- the lines of a fault
-unfoldable pub fault_steps : History → LocalFault → List ℕ
-fault_steps h f = step (recorded_text h f) ++ step (due_text h f) ++ step (most_often (mistake (parts_of f)))
+-- the sentences of a fault in lines
+unfoldable pub fault_sentences : History → LocalFault → List (List ℕ)
+fault_sentences h f = step (recorded_text h f) ∷ step (due_text h f) ∷ step (most_often (mistake (parts_of f))) ∷ []

@@ -1,4 +1,5 @@
 pub mod Lines
+pub mod Cuts
 pub mod Clauses
 pub mod Steps
 pub mod Faults
@@ -9,5 +10,6 @@ pub mod Told
 pub mod NewerRows
 pub mod Findings
 pub mod Explanation
+pub mod PrintedParts
 pub mod Sentences
 pub mod Answer

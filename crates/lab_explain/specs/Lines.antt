@@ -1,5 +1,5 @@
 -- How sentences are laid out in lines.
-use Rattle.std.specs.Prelude.{ℕ, ◌+◌, ◌-◌, ◌==◌, nat_le, Bool, ◌&&◌, not, cond, List, [], ◌∷◌, ◌++◌, length, count_by, codes}
+use Rattle.std.specs.Prelude.{ℕ, ◌+◌, ◌-◌, ◌==◌, nat_le, Bool, ◌&&◌, not, cond, Option, Some, None, List, [], ◌∷◌, ◌++◌, length, count_by, codes}
 use Rattle.std.specs.List.{prefix_len}
 use Rattle.std.specs.Fmt.{decimal}
 
@@ -46,6 +46,42 @@ first_lines n (b ∷ bs) = cond (n == 0) [] (b ∷ first_lines (cond (b == 10) (
 unfoldable pub left_out : ℕ → List ℕ
 left_out n = codes "  .. and " ++ decimal n ++ codes " lines more\n"
 
--- a text in so many lines at most: where it has more, the last one says how many are left out
-abbrev pub capped : ℕ → List ℕ → List ℕ
-capped most text = cond (nat_le (lines text) most) text (first_lines (most - 1) text ++ left_out (lines text - (most - 1)))
+-- texts behind each other
+abbrev pub joined : List (List ℕ) → List ℕ
+joined [] = []
+joined (s ∷ ss) = s ++ joined ss
+
+-- what stands of a sentence for which there is no room: nothing, but the first lines of one that has more lines than all of them may have
+abbrev pub begun : ℕ → ℕ → List ℕ → List ℕ
+begun most room s = cond (nat_le (lines s) most) [] (first_lines room s)
+
+-- what stands of a sentence where there is room for so many lines, or where one before it had no room
+abbrev pub placed : ℕ → Option ℕ → List ℕ → List ℕ
+placed most None s = []
+placed most (Some room) s = cond (nat_le (lines s) room) s (begun most room s)
+
+-- the room behind it; none where it had no room
+abbrev pub room_behind : Option ℕ → List ℕ → Option ℕ
+room_behind None s = None
+room_behind (Some room) s = cond (nat_le (lines s) room) (Some (room - lines s)) None
+
+-- what stands of some sentences where there is room for so many lines: the first ones that fit
+abbrev pub standing : ℕ → Option ℕ → List (List ℕ) → List ℕ
+standing most room [] = []
+standing most room (s ∷ ss) = placed most room s ++ standing most (room_behind room s) ss
+
+-- what stands of some sentences in so many lines
+abbrev pub front : ℕ → List (List ℕ) → List ℕ
+front most sentences = standing most (Some most) sentences
+
+-- some of so many lines, and how many lines are left out
+unfoldable pub with_left_out : ℕ → List ℕ → List ℕ
+with_left_out count text = text ++ left_out (count - lines text)
+
+-- some sentences for which there are too few lines: the first ones that fit behind each other, and in the last line how many lines are left out
+abbrev pub cut : ℕ → List (List ℕ) → List ℕ
+cut most sentences = with_left_out (lines (joined sentences)) (front (most - 1) sentences)
+
+-- some sentences in so many lines at most
+abbrev pub capped : ℕ → List (List ℕ) → List ℕ
+capped most sentences = cond (nat_le (lines (joined sentences)) most) (joined sentences) (cut most sentences)

@@ -108,3 +108,11 @@ often_words = codes "Most often: "
 -- the same, behind the phenomenon
 unfoldable pub explains_words : List ℕ
 explains_words = codes " explains it.)"
+
+-- how to have a phenomenon explained, in a line of its own
+unfoldable pub pointer_words : List ℕ
+pointer_words = codes "  (--phenomenon "
+
+-- the same, behind the phenomenon
+unfoldable pub pointer_end : List ℕ
+pointer_end = codes " explains it.)\n"

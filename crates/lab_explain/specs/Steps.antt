@@ -1,5 +1,5 @@
 -- The sentences of a walk: one for each of its dependencies, in order.
-use Rattle.std.specs.Prelude.{ℕ, Option, Some, None, List, [], ◌++◌, flat_map, codes}
+use Rattle.std.specs.Prelude.{ℕ, Option, Some, None, List, [], ◌++◌, map, codes}
 use Rattle.lab_table.specs.Row.{Row}
 use Rattle.lab_statement.specs.Printed.{printed_row_name}
 use Rattle.lab_history.specs.History.{History}
@@ -10,7 +10,7 @@ use Rattle.lab_judge.specs.ReportText.{kind_name}
 use Rattle.lab_picture.specs.Making.{arrow_of}
 use Rattle.lab_picture.specs.declared.drawing.Arrow.{Arrow}
 use Rattle.lab_picture.specs.declared.drawing.Spot.{Spot}
-use Rattle.lab_explain.specs.Lines.{step}
+use Rattle.lab_explain.specs.Lines.{step, joined}
 use Rattle.lab_explain.specs.Clauses.{txn_name, op_text, seen_by, left_by, saw_text, left_text}
 
 -- what the operation that a dependency leads from did: it saw the row, or left it
@@ -58,6 +58,10 @@ told_edge h e (Some a) = step (edge_text h e a)
 abbrev pub edge_step : History → Edge → List ℕ
 edge_step h e = told_edge h e (arrow_of h e)
 
--- the lines of a walk: those of its dependencies, in order
+-- the sentences of a walk in lines: those of its dependencies, in order
+abbrev pub walk_sentences : History → List Edge → List (List ℕ)
+walk_sentences h walk = map (edge_step h) walk
+
+-- the lines of a walk
 abbrev pub walk_steps : History → List Edge → List ℕ
-walk_steps h walk = flat_map (edge_step h) walk
+walk_steps h walk = joined (walk_sentences h walk)

@@ -4,20 +4,18 @@
 ghost use Rattle.std.specs.Prelude.{◌≡◌, ◌++◌, OnOk};
 ghost use Rattle.lab_deps.specs.declared.fault.FaultParts.TheVariants as parts;
 ghost use Rattle.lab_picture.specs.Installs.{misplaced_of};
-ghost use Rattle.lab_explain.specs.Faults.{article, misplaced_note, installers_text, end_text, last_text, named_text, recorded, due, mistake, recorded_text, due_text, most_often, fault_steps};
+ghost use Rattle.lab_explain.specs.Faults.{article, misplaced_note, installers_text, end_text, last_text, named_text, recorded, due, mistake, recorded_text, due_text, most_often};
 
 use crate::clauses::{put_op, put_row, put_saw, put_saw_with, put_state};
 use crate::fault_parts::{
     put_last_due, put_rows, put_rows_due, put_txns, put_viewed, put_writes, put_writes_due,
 };
-use crate::lines::put_step;
 use crate::phrases::{as_last_words, installers_words, often_words};
 use lab_deps::{FaultParts, LocalFault, OpFault, RowFault};
 use lab_history::History;
 use lab_judge::put_fault;
 use lab_picture::{Why, installers_of, misplaced_of, put_misplaced, state_at};
 use lab_table::{NoMemory, RowName, TxnNo};
-use std::alloc::Global;
 
 /// The article of who is out of place.
 fn article(why: Why) -> &'static str
@@ -257,25 +255,4 @@ pub fn put_most_often(out: &mut Vec<u8>, mistake: &str) -> Result<(), NoMemory>
     out.extend_from_slice(often_words())?;
     out.extend_from_slice(mistake.as_bytes())?;
     out.extend_from_slice(b".")
-}
-
-/// Appends the lines of a fault.
-#[tactic(auto, unfolding(crate::specs::Faults::fault_steps))]
-pub fn put_fault_steps(
-    alloc: Global,
-    out: &mut Vec<u8>,
-    history: &History,
-    fault: &LocalFault,
-) -> Result<(), NoMemory>
-    ensures { OnOk result (out.new.items ≡ out.old.items ++ fault_steps history.now fault.now) }
-{
-    let mut text = Vec::new(alloc);
-    put_recorded_text(&mut text, history, fault)?;
-    put_step(out, &text)?;
-    text.clear();
-    put_due_text(&mut text, history, *fault)?;
-    put_step(out, &text)?;
-    text.clear();
-    put_most_often(&mut text, mistake(fault.parts()))?;
-    put_step(out, &text)
 }

@@ -1,18 +1,18 @@
 //! The sentences of what is found of a phenomenon. Each function that takes bytes appends to them; after NoMemory, part of
 //! what was to be appended may stand there.
 
-ghost use Rattle.std.specs.Prelude.{◌≡◌, ◌++◌, OnOk};
-ghost use Rattle.lab_explain.specs.Findings.{head_of, other_walk, walk_beside, seen_flaw, found_beside, said_alone, found_alone, beside, finding_lines};
-ghost use Rattle.lab_explain.specs.Told.{serial_walk};
+ghost use Rattle.std.specs.Prelude.{◌≡◌, ◌++◌, IfOk, OnOk};
+ghost use Rattle.lab_explain.specs.Findings.{head_of, other_walk, walk_beside, seen_flaw, found_beside, said_alone, alone_sentences};
+ghost use Rattle.lab_explain.specs.Lines.{paragraph, joined, front, capped};
 
 use crate::clauses::put_saw;
-use crate::lines::{put_capped, put_paragraph};
+use crate::lines::{lines, put_paragraph, put_placed, put_with_left_out, room_behind};
 use crate::names::flaw_of;
 use crate::phrases::{asked_words, explains_words, not_judged, other_words, round_text};
-use crate::steps::put_walk_steps;
-use crate::told::{is_same, is_told, walk_text};
+use crate::steps::{put_standing_walk, put_walk_steps};
+use crate::told::{is_same, walk_text};
 use lab_history::History;
-use lab_judge::{Finding, Report};
+use lab_judge::Finding;
 use lab_picture::{cycle_of, put_full_name};
 use lab_reports::Phenomenon;
 use lab_table::{NoMemory, RowName, TxnNo};
@@ -119,64 +119,75 @@ pub fn put_said_alone(
     }
 }
 
-/// Appends the lines of a finding that is explained by itself: its sentence, and those of its cycle where it has one.
-#[tactic(auto, unfolding(crate::specs::Findings::found_alone))]
-pub fn put_found_alone(
+/// Appends the sentence of a finding that is explained by itself, in lines.
+fn put_alone_first(
     alloc: Global,
     out: &mut Vec<u8>,
     history: &History,
     phenomenon: Phenomenon,
     finding: &Finding,
 ) -> Result<(), NoMemory>
-    ensures { OnOk result (out.new.items ≡ out.old.items ++ found_alone history.now phenomenon finding.now) }
+    ensures { OnOk result (out.new.items ≡ out.old.items ++ paragraph (head_of history.now phenomenon finding.now ++ said_alone history.now phenomenon finding.now)) }
 {
     let mut text = Vec::new(alloc);
     put_head(&mut text, history, phenomenon, finding)?;
     put_said_alone(&mut text, history, phenomenon, finding)?;
-    put_paragraph(out, &text)?;
-    put_walk_steps(alloc, out, history, cycle_of(finding))
-}
-
-/// Appends a finding beside a serial verdict whose walk is printed so.
-#[tactic(auto, unfolding(crate::specs::Findings::beside))]
-fn put_beside(
-    alloc: Global,
-    out: &mut Vec<u8>,
-    history: &History,
-    phenomenon: Phenomenon,
-    of_serial: &[u8],
-    finding: &Finding,
-) -> Result<(), NoMemory>
-    ensures { OnOk result (out.new.items ≡ out.old.items ++ beside history.now phenomenon of_serial.now finding.now) }
-{
-    let mut text = Vec::new(alloc);
-    put_head(&mut text, history, phenomenon, finding)?;
-    put_found_beside(alloc, &mut text, history, phenomenon, of_serial, finding)?;
     put_paragraph(out, &text)
 }
 
-/// Appends the lines of a finding beside a serial verdict, whose walk is printed so: of the one whose cycle is told what it
-/// would have by itself, in 23 at most, of each other three at most.
-#[tactic(auto, unfolding(crate::specs::Findings::finding_lines))]
-pub fn put_finding_lines(
+/// Appends the lines of a finding that is explained by itself: its sentence, and those of its cycle where it has one.
+#[tactic(auto, unfolding(crate::specs::Findings::alone_sentences))]
+fn put_found_alone(
     alloc: Global,
     out: &mut Vec<u8>,
     history: &History,
-    report: &Report,
-    of_serial: &[u8],
-    told: Option<Phenomenon>,
     phenomenon: Phenomenon,
+    finding: &Finding,
 ) -> Result<(), NoMemory>
-    requires { of_serial.now ≡ serial_walk report.now.serial }
-    ensures { OnOk result (out.new.items ≡ out.old.items ++ finding_lines history.now report.now told phenomenon) }
+    ensures { OnOk result (out.new.items ≡ out.old.items ++ joined (alone_sentences history.now phenomenon finding.now)) }
 {
-    let finding = phenomenon.found_in(report);
-    let mut lines = Vec::new(alloc);
-    if is_told(told, phenomenon) {
-        put_found_alone(alloc, &mut lines, history, phenomenon, finding)?;
-        put_capped(out, 23, &lines)
-    } else {
-        put_beside(alloc, &mut lines, history, phenomenon, of_serial, finding)?;
-        put_capped(out, 3, &lines)
+    put_alone_first(alloc, out, history, phenomenon, finding)?;
+    put_walk_steps(alloc, out, history, cycle_of(finding))
+}
+
+/// What stands of those lines in so many. NoMemory where an allocation was refused.
+#[tactic(auto, unfolding(crate::specs::Findings::alone_sentences))]
+fn alone_front(
+    alloc: Global,
+    most: usize,
+    history: &History,
+    phenomenon: Phenomenon,
+    finding: &Finding,
+) -> Result<Vec<u8>, NoMemory>
+    ensures { IfOk result (λ text. text.items ≡ front most (alone_sentences history.now phenomenon finding.now)) }
+{
+    let mut first = Vec::new(alloc);
+    put_alone_first(alloc, &mut first, history, phenomenon, finding)?;
+    let mut out = Vec::new(alloc);
+    put_placed(&mut out, most, Some(most), &first)?;
+    let room = room_behind(Some(most), &first);
+    put_standing_walk(alloc, &mut out, most, room, history, cycle_of(finding))?;
+    Ok(out)
+}
+
+/// Appends those lines, so many at most.
+pub fn put_alone(
+    alloc: Global,
+    out: &mut Vec<u8>,
+    most: usize,
+    history: &History,
+    phenomenon: Phenomenon,
+    finding: &Finding,
+) -> Result<(), NoMemory>
+    ensures { OnOk result (out.new.items ≡ out.old.items ++ capped most (alone_sentences history.now phenomenon finding.now)) }
+{
+    let mut text = Vec::new(alloc);
+    put_found_alone(alloc, &mut text, history, phenomenon, finding)?;
+    let count = lines(&text);
+    if count <= most {
+        return out.extend_from_slice(&text);
     }
+    let most = most.saturating_sub(1);
+    let front = alone_front(alloc, most, history, phenomenon, finding)?;
+    put_with_left_out(out, count, &front)
 }

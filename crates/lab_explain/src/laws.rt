@@ -1,6 +1,6 @@
 //! Laws of explanations. The functions have nothing to do: their contracts are the laws.
 
-ghost use Rattle.std.specs.Prelude.{◌≡◌, ◌≤◌, ℕ, None, Option, List, Contains};
+ghost use Rattle.std.specs.Prelude.{◌≡◌, ◌≤◌, ℕ, Some, None, Option, List, Contains};
 ghost use Rattle.lab_history.specs.History.{History as Held};
 ghost use Rattle.lab_deps.specs.Soundness.{Stands};
 ghost use Rattle.lab_deps.specs.declared.edge.Edge.{Edge as Dependency};
@@ -15,8 +15,10 @@ ghost use Rattle.lab_reports.specs.declared.phenomenon.Phenomenon.{Phenomenon};
 ghost use Rattle.lab_picture.specs.declared.drawing.Arrow.{Arrow as Drawn};
 ghost use Rattle.lab_explain.specs.Answer.{IsExplainAnswer};
 ghost use Rattle.lab_explain.specs.Explanation.{explanation_of};
+ghost use Rattle.lab_explain.specs.Findings.{pointer};
 ghost use Rattle.lab_explain.specs.Lines.{lines, step};
 ghost use Rattle.lab_explain.specs.Places.{IsLastBefore, last_before};
+ghost use Rattle.lab_explain.specs.PrintedParts.{AreParts, IsPartAlone, StandsIn, IsCutOther};
 ghost use Rattle.lab_explain.specs.Steps.{edge_step, edge_text};
 
 /// Each dependency of a walk that a judgement names has its sentence, by the operations that make it: the last write of who
@@ -35,6 +37,19 @@ pub fn a_fault_that_is_explained_stands()
 /// Who is told to have committed last before a transaction's start did so: nobody committed between.
 pub fn the_last_commit_before_a_start_is_told()
     ensures { (place : ℕ) (spans : List Span) → IsLastBefore place spans (last_before place None spans) }
+{}
+
+/// An explanation is its parts, and a part that has more lines than it may is cut between its sentences: the first ones stand,
+/// each whole, as many as fit, and behind them a line says how many lines are left out. Of a sentence that has more lines than
+/// all that may stand its first lines do.
+pub fn a_part_is_cut_between_sentences()
+    ensures whole { (h : Held) (report : Report) → AreParts h report (explanation_of h report None) }
+    ensures alone { (h : Held) (report : Report) (p : Phenomenon) → IsPartAlone h report p (explanation_of h report (Some p)) }
+{}
+
+/// Where what is said of a cycle beside the serial verdict's is cut, how to have it explained stands.
+pub fn how_to_have_a_cycle_explained_stands()
+    ensures { (h : Held) (report : Report) (p : Phenomenon) (walk : List Dependency) → IsCutOther h report p walk → StandsIn (pointer p) (explanation_of h report None) }
 {}
 
 /// An explanation has at most 100 lines.

@@ -9,9 +9,11 @@
 //! at most 100 lines.
 #![tactic(auto)]
 
+mod beside;
 mod clauses;
 mod explaining;
 mod fault_parts;
+mod fault_steps;
 mod faults;
 mod findings;
 mod laws;
@@ -28,8 +30,9 @@ mod told;
 pub use clauses::{op_of, put_txn};
 pub use explaining::explain;
 pub use laws::{
-    a_fault_that_is_explained_stands, each_dependency_has_its_sentence, explain_answer_unique,
-    explanation_is_short,
+    a_fault_that_is_explained_stands, a_part_is_cut_between_sentences,
+    each_dependency_has_its_sentence, explain_answer_unique, explanation_is_short,
+    how_to_have_a_cycle_explained_stands,
 };
 pub use names::level_line;
 pub use sections::explanation;

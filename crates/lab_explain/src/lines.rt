@@ -1,12 +1,13 @@
 //! The layout of sentences in lines. Each function that takes bytes appends to them; after NoMemory, part of what was to be
 //! appended may stand there.
 
-ghost use Rattle.std.specs.Prelude.{◌≡◌, ◌++◌, ◌≤◌, length, OnOk};
+ghost use Rattle.std.specs.Prelude.{◌≡◌, ◌++◌, ◌≤◌, [], ◌∷◌, length, OnOk};
 ghost use Rattle.std.specs.Fmt.{decimal};
-ghost use Rattle.lab_explain.specs.Lines.{blank_after, word_length, breaks, wrapped, sentence, paragraph, step, lines, first_lines, left_out, capped};
+ghost use Rattle.lab_explain.specs.Lines.{blank_after, word_length, breaks, wrapped, sentence, paragraph, step, lines, first_lines, left_out, begun, placed, room_behind, with_left_out, cut, capped};
 
 use itoa::Buffer;
 use lab_table::NoMemory;
+use std::alloc::Global;
 
 /// The columns of a line.
 const COLUMNS: usize = 100;
@@ -95,7 +96,7 @@ pub fn put_step(out: &mut Vec<u8>, text: &[u8]) -> Result<(), NoMemory>
 }
 
 /// How many lines end in a text.
-fn lines(text: &[u8]) -> usize
+pub fn lines(text: &[u8]) -> usize
     ensures { result ≡ lines text.now }
 {
     text.iter().filter(|byte| **byte == b'\n').count()
@@ -129,15 +130,77 @@ fn put_left_out(out: &mut Vec<u8>, count: u64) -> Result<(), NoMemory>
     out.extend_from_slice(b" lines more\n")
 }
 
-/// Appends a text in so many lines at most; where it has more, the last one says how many are left out.
-pub fn put_capped(out: &mut Vec<u8>, most: usize, text: &[u8]) -> Result<(), NoMemory>
-    requires { 1 ≤ most }
-    ensures { OnOk result (out.new.items ≡ out.old.items ++ capped most text.now) }
+/// Appends what stands of a sentence for which there is no room.
+fn put_begun(out: &mut Vec<u8>, most: usize, room: usize, text: &[u8]) -> Result<(), NoMemory>
+    ensures { OnOk result (out.new.items ≡ out.old.items ++ begun most room text.now) }
 {
-    let count = lines(text);
-    if count <= most {
+    if lines(text) <= most {
+        return Ok(());
+    }
+    put_first_lines(out, room, text)
+}
+
+/// Appends what stands of a sentence where there is room for so many lines, or where one before it had no room.
+pub fn put_placed(
+    out: &mut Vec<u8>,
+    most: usize,
+    room: Option<usize>,
+    text: &[u8],
+) -> Result<(), NoMemory>
+    ensures { OnOk result (out.new.items ≡ out.old.items ++ placed most room text.now) }
+{
+    match room {
+        None => Ok(()),
+        Some(room) => {
+            if lines(text) <= room {
+                out.extend_from_slice(text)
+            } else {
+                put_begun(out, most, room, text)
+            }
+        }
+    }
+}
+
+/// The room behind a sentence; none where it had no room.
+pub fn room_behind(room: Option<usize>, text: &[u8]) -> Option<usize>
+    ensures { result ≡ room_behind room text.now }
+{
+    match room {
+        None => None,
+        Some(room) => room.checked_sub(lines(text)),
+    }
+}
+
+/// Appends a text that stands of one of so many lines, and how many lines are left out.
+#[tactic(auto, unfolding(crate::specs::Lines::with_left_out))]
+pub fn put_with_left_out(out: &mut Vec<u8>, count: usize, text: &[u8]) -> Result<(), NoMemory>
+    ensures { OnOk result (out.new.items ≡ out.old.items ++ with_left_out count text.now) }
+{
+    out.extend_from_slice(text)?;
+    put_left_out(out, count.saturating_sub(lines(text)) as u64)
+}
+
+/// Appends a sentence for which there are too few lines: its first ones, and in the last line how many are left out.
+pub fn put_cut(alloc: Global, out: &mut Vec<u8>, most: usize, text: &[u8]) -> Result<(), NoMemory>
+    ensures { OnOk result (out.new.items ≡ out.old.items ++ cut most (text.now ∷ [])) }
+{
+    let room = most.saturating_sub(1);
+    let mut front = Vec::new(alloc);
+    put_placed(&mut front, room, Some(room), text)?;
+    put_with_left_out(out, lines(text), &front)
+}
+
+/// Appends a sentence in so many lines at most.
+pub fn put_capped(
+    alloc: Global,
+    out: &mut Vec<u8>,
+    most: usize,
+    text: &[u8],
+) -> Result<(), NoMemory>
+    ensures { OnOk result (out.new.items ≡ out.old.items ++ capped most (text.now ∷ [])) }
+{
+    if lines(text) <= most {
         return out.extend_from_slice(text);
     }
-    put_first_lines(out, most - 1, text)?;
-    put_left_out(out, (count - (most - 1)) as u64)
+    put_cut(alloc, out, most, text)
 }

@@ -1,7 +1,7 @@
 //! Phrases of an explanation.
 
 ghost use Rattle.std.specs.Prelude.{◌≡◌};
-ghost use Rattle.lab_explain.specs.Phrases.{no_order, round_text, unsound_text, order_head, spans_head, circle_head, not_judged, last_line, version_words, listed_words, wrote_words, lists_words, writes_words, last_words, installers_words, as_last_words, start_words, commit_words, place_words, first_words, behind_words, places_words, commits_words, other_words, asked_words, often_words, explains_words};
+ghost use Rattle.lab_explain.specs.Phrases.{no_order, round_text, unsound_text, order_head, spans_head, circle_head, not_judged, last_line, version_words, listed_words, wrote_words, lists_words, writes_words, last_words, installers_words, as_last_words, start_words, commit_words, place_words, first_words, behind_words, places_words, commits_words, other_words, asked_words, often_words, explains_words, pointer_words, pointer_end};
 
 /// No order.
 #[tactic(auto, unfolding(crate::specs::Phrases::no_order))]
@@ -217,4 +217,20 @@ pub fn explains_words() -> &'static [u8]
     ensures { result.now ≡ explains_words }
 {
     b" explains it.)"
+}
+
+/// How to have a phenomenon explained, in a line of its own.
+#[tactic(auto, unfolding(crate::specs::Phrases::pointer_words))]
+pub fn pointer_words() -> &'static [u8]
+    ensures { result.now ≡ pointer_words }
+{
+    b"  (--phenomenon "
+}
+
+/// The same, behind the phenomenon.
+#[tactic(auto, unfolding(crate::specs::Phrases::pointer_end))]
+pub fn pointer_end() -> &'static [u8]
+    ensures { result.now ≡ pointer_end }
+{
+    b" explains it.)\n"
 }

@@ -1,17 +1,21 @@
 //! The text of an explanation.
 
-ghost use Rattle.std.specs.Prelude.{◌≡◌, ◌≤◌, ◌++◌, IfOk, OnOk};
-ghost use Rattle.lab_explain.specs.Explanation.{order_sentence, serial_lines, findings_lines, verdict_lines, whole_text, one_text, explanation_of};
+ghost use Rattle.std.specs.Prelude.{◌≡◌, ◌++◌, IfOk, OnOk};
+ghost use Rattle.lab_explain.specs.Explanation.{order_sentence, serial_sentences, findings_lines, verdict_lines, whole_text, one_text, explanation_of};
+ghost use Rattle.lab_explain.specs.Lines.{paragraph, joined, front, capped};
+ghost use Rattle.lab_explain.specs.Sentences.{serial_sentence};
 ghost use Rattle.lab_explain.specs.Told.{serial_walk};
 
+use crate::beside::put_finding_lines;
 use crate::fault_parts::put_txns;
-use crate::faults::put_fault_steps;
-use crate::findings::{put_finding_lines, put_found_alone};
-use crate::lines::{put_capped, put_paragraph};
+use crate::fault_steps::{put_fault_steps, put_standing_fault};
+use crate::findings::put_alone;
+use crate::lines::{lines, put_capped, put_paragraph, put_placed, put_with_left_out, room_behind};
 use crate::names::level_line;
 use crate::phrases::{last_line, no_order, order_head, unsound_text};
 use crate::places::put_places_lines;
-use crate::steps::put_walk_steps;
+use crate::sentences::put_serial_sentence;
+use crate::steps::{put_standing_walk, put_walk_steps};
 use crate::told::{serial_walk, told_of};
 use lab_history::History;
 use lab_judge::{Report, Serial};
@@ -31,7 +35,7 @@ pub fn put_order_sentence(out: &mut Vec<u8>, order: &[TxnNo]) -> Result<(), NoMe
 
 /// The lines of a serial verdict. NoMemory where an allocation was refused.
 fn serial_lines(alloc: Global, history: &History, serial: &Serial) -> Result<Vec<u8>, NoMemory>
-    ensures { IfOk result (λ text. text.items ≡ serial_lines history.now serial.now) }
+    ensures { IfOk result (λ text. text.items ≡ joined (serial_sentences history.now serial.now)) }
 {
     let mut text = Vec::new(alloc);
     let mut out = Vec::new(alloc);
@@ -50,6 +54,61 @@ fn serial_lines(alloc: Global, history: &History, serial: &Serial) -> Result<Vec
         }
     }
     Ok(out)
+}
+
+/// The first sentence of a serial verdict in lines. NoMemory where an allocation was refused.
+fn first_sentence(alloc: Global, serial: &Serial) -> Result<Vec<u8>, NoMemory>
+    ensures { IfOk result (λ text. text.items ≡ paragraph (serial_sentence serial.now)) }
+{
+    let mut text = Vec::new(alloc);
+    put_serial_sentence(&mut text, serial)?;
+    let mut out = Vec::new(alloc);
+    put_paragraph(&mut out, &text)?;
+    Ok(out)
+}
+
+/// What stands of a serial verdict in so many lines. NoMemory where an allocation was refused.
+fn serial_front(
+    alloc: Global,
+    most: usize,
+    history: &History,
+    serial: &Serial,
+) -> Result<Vec<u8>, NoMemory>
+    ensures { IfOk result (λ text. text.items ≡ front most (serial_sentences history.now serial.now)) }
+{
+    let first = first_sentence(alloc, serial)?;
+    let mut out = Vec::new(alloc);
+    put_placed(&mut out, most, Some(most), &first)?;
+    let room = room_behind(Some(most), &first);
+    match serial {
+        Serial::Yes(_) => {}
+        Serial::NoFault(fault) => {
+            put_standing_fault(alloc, &mut out, most, room, history, fault)?;
+        }
+        Serial::NoCycle(walk) => {
+            put_standing_walk(alloc, &mut out, most, room, history, walk.as_slice())?;
+        }
+    }
+    Ok(out)
+}
+
+/// Appends the lines of a serial verdict, in so many at most.
+fn put_serial(
+    alloc: Global,
+    out: &mut Vec<u8>,
+    most: usize,
+    history: &History,
+    serial: &Serial,
+) -> Result<(), NoMemory>
+    ensures { OnOk result (out.new.items ≡ out.old.items ++ capped most (serial_sentences history.now serial.now)) }
+{
+    let text = serial_lines(alloc, history, serial)?;
+    let count = lines(&text);
+    if count <= most {
+        return out.extend_from_slice(&text);
+    }
+    let front = serial_front(alloc, most.saturating_sub(1), history, serial)?;
+    put_with_left_out(out, count, &front)
 }
 
 /// Appends the lines of what is found of each phenomenon, of which the cycle of this one is told, beside a serial verdict
@@ -77,8 +136,7 @@ fn put_findings(
 
 /// How many lines a serial verdict may have, where this phenomenon's cycle is told beside it.
 fn verdict_lines(told: Option<Phenomenon>) -> usize
-    ensures value { result ≡ verdict_lines told }
-    ensures some { 1 ≤ result }
+    ensures { result ≡ verdict_lines told }
 {
     match told {
         None => 60,
@@ -94,11 +152,16 @@ fn whole_text(alloc: Global, history: &History, report: &Report) -> Result<Vec<u
     let mut out = Vec::new(alloc);
     let walk = serial_walk(alloc, &report.serial)?;
     let told = told_of(alloc, report, &walk)?;
-    let serial = serial_lines(alloc, history, &report.serial)?;
-    put_capped(&mut out, verdict_lines(told), &serial)?;
+    put_serial(
+        alloc,
+        &mut out,
+        verdict_lines(told),
+        history,
+        &report.serial,
+    )?;
     let mut places = Vec::new(alloc);
     put_places_lines(alloc, &mut places, &report.snapshot)?;
-    put_capped(&mut out, 14, &places)?;
+    put_capped(alloc, &mut out, 14, &places)?;
     put_findings(alloc, &mut out, history, report, &walk, told)?;
     out.extend_from_slice(level_line(report.level).as_bytes())?;
     out.extend_from_slice(last_line())?;
@@ -115,16 +178,9 @@ fn one_text(
 ) -> Result<Vec<u8>, NoMemory>
     ensures { IfOk result (λ text. text.items ≡ one_text history.now report.now phenomenon) }
 {
-    let mut found = Vec::new(alloc);
-    put_found_alone(
-        alloc,
-        &mut found,
-        history,
-        phenomenon,
-        phenomenon.found_in(report),
-    )?;
     let mut out = Vec::new(alloc);
-    put_capped(&mut out, 90, &found)?;
+    let found = phenomenon.found_in(report);
+    put_alone(alloc, &mut out, 90, history, phenomenon, found)?;
     out.extend_from_slice(last_line())?;
     Ok(out)
 }

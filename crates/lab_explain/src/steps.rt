@@ -2,10 +2,11 @@
 //! to be appended may stand there.
 
 ghost use Rattle.std.specs.Prelude.{◌≡◌, ◌++◌, OnOk};
-ghost use Rattle.lab_explain.specs.Steps.{from_text, left_next, saw_next, to_text, tag_text, order_text, edge_text, edge_step, walk_steps};
+ghost use Rattle.lab_explain.specs.Lines.{standing};
+ghost use Rattle.lab_explain.specs.Steps.{from_text, left_next, saw_next, to_text, tag_text, order_text, edge_text, edge_step, walk_sentences, walk_steps};
 
 use crate::clauses::{put_left, put_left_row, put_op, put_saw, put_seen, put_txn};
-use crate::lines::put_step;
+use crate::lines::{put_placed, put_step, room_behind};
 use lab_deps::{Edge, Kind};
 use lab_history::History;
 use lab_judge::kind_name;
@@ -171,6 +172,30 @@ pub fn put_walk_steps(
 {
     for edge in walk {
         put_edge_step(alloc, out, history, edge)?;
+    }
+    Ok(())
+}
+
+/// Appends what stands of a walk's lines where there is room for so many, or where a sentence before it had no room.
+pub fn put_standing_walk(
+    alloc: Global,
+    out: &mut Vec<u8>,
+    most: usize,
+    room: Option<usize>,
+    history: &History,
+    walk: &[Edge],
+) -> Result<(), NoMemory>
+    ensures { OnOk result (out.new.items ≡ out.old.items ++ standing most room (walk_sentences history.now walk.now)) }
+{
+    let mut room = room;
+    for edge in walk {
+        if room.is_none() {
+            return Ok(());
+        }
+        let mut text = Vec::new(alloc);
+        put_edge_step(alloc, &mut text, history, edge)?;
+        put_placed(out, most, room, &text)?;
+        room = room_behind(room, &text);
     }
     Ok(())
 }

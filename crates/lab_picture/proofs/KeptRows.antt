@@ -188,7 +188,7 @@ named_there (x ∷ arrows) a n k there touch =
     ] refl
 
 -- an operation is at its own place
-at_itself : (spot : Spot) → is_at spot.txn spot.op spot ≡ true
+pub at_itself : (spot : Spot) → is_at spot.txn spot.op spot ≡ true
 at_itself spot = and_from (spot.txn == spot.txn) (spot.op == spot.op) (eq-eqb spot.txn spot.txn refl) (eq-eqb spot.op spot.op refl)
 
 pub at_both_ends : (h : History) (arrows : List Arrow) (a : Arrow) → Contains arrows a → HasRow h arrows a.row a.from × HasRow h arrows a.row a.to

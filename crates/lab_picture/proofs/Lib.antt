@@ -14,3 +14,7 @@ pub mod SaidNames
 mod TextLines
 mod LineSteps
 mod KeptRows
+mod DrawnEnds
+mod DrawnCounts
+mod LowHeadings
+mod DrawnHeights

@@ -10,6 +10,7 @@ use Rattle.lab_picture.specs.declared.layout.Stroke.{Stroke}
 use Rattle.lab_picture.specs.declared.layout.Stroke.TheVariants.{Plain, Thick, Thin}
 use Rattle.lab_picture.specs.Classes.{box_class}
 use Rattle.lab_picture.specs.Effect.{effect_text}
+use Rattle.lab_picture.specs.Few.{is_kept, slot_of}
 use Rattle.lab_picture.specs.Kept.{tells_named, kept_text}
 use Rattle.lab_picture.specs.Layout.{left, upper, box_height}
 use Rattle.lab_picture.specs.Lines.{all_lines, lines_at}
@@ -89,12 +90,20 @@ box_text x y height stroke class told =
 abbrev pub stroke_of : Column → ℕ → Stroke
 stroke_of column op = cond (op == column.marked) Thick (cond column.thin Thin Plain)
 
+-- at which place of its column the operation with this number is drawn
+abbrev pub place_of : Frame → List Arrow → Column → ℕ → ℕ
+place_of frame arrows column k = slot_of frame.few arrows column.txn column.marked k
+
 -- the box of a column's operation with this number, where these arrows are drawn and those are steps
 abbrev pub op_text : Frame → List Arrow → List Arrow → Column → ℕ → Op → List ℕ
 op_text frame arrows steps column k op =
-    box_text (left column.place) (upper frame column.place k) (box_height frame) (stroke_of column k) (box_class steps column k) (telling (rows_at arrows column.txn k) op)
+    box_text (left column.place) (upper frame column.place (place_of frame arrows column k)) (box_height frame) (stroke_of column k) (box_class steps column k) (telling (rows_at arrows column.txn k) op)
+
+-- the same, if it is drawn
+abbrev pub drawn_text : Frame → List Arrow → List Arrow → Column → ℕ → Op → List ℕ
+drawn_text frame arrows steps column k op = cond (is_kept frame.few arrows column.txn column.marked k) (op_text frame arrows steps column k op) []
 
 -- the boxes of a column's operations, where so many come before these
 abbrev pub boxes_text : Frame → List Arrow → List Arrow → Column → ℕ → List Op → List ℕ
 boxes_text frame arrows steps column before [] = []
-boxes_text frame arrows steps column before (op ∷ ops) = op_text frame arrows steps column (before + 1) op ++ boxes_text frame arrows steps column (before + 1) ops
+boxes_text frame arrows steps column before (op ∷ ops) = drawn_text frame arrows steps column (before + 1) op ++ boxes_text frame arrows steps column (before + 1) ops

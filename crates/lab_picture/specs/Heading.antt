@@ -6,6 +6,7 @@ use Rattle.lab_picture.specs.Arrows.{style_text}
 use Rattle.lab_picture.specs.Columns.{is_thin, shown_columns}
 use Rattle.lab_picture.specs.Keys.{has_key, key_lines}
 use Rattle.lab_picture.specs.Sketch.{Sketch}
+use Rattle.lab_picture.specs.Slots.{few_note}
 use Rattle.lab_picture.specs.Text.{line_at, text_at, two_lines, four_lines, in_one, in_two, in_four}
 use Rattle.lab_picture.specs.declared.drawing.Arrow.{Arrow}
 use Rattle.lab_picture.specs.declared.drawing.Spot.{Spot}
@@ -55,7 +56,7 @@ thin_lines d = cond (has_thin d) 1 0
 abbrev pub beside_lines : ℕ → ℕ
 beside_lines columns = cond (nat_lt 1 columns) 1 0
 
--- the ground lines of what follows the title: the report's line, the note, how many transactions are drawn, which arrows aren't, the keys, what a thick edge is, what a thin column is, and what boxes side by side say
+-- the ground lines of what follows the title: the report's line, the note, how many transactions are drawn, which arrows aren't, the keys, what a thick edge is, what a thin column is, what boxes side by side say, and that few operations are drawn
 abbrev pub about_y : Sketch → ℕ
 about_y d = 30 + 18 * in_two (title_bytes (length d.columns)) d.title
 
@@ -86,9 +87,16 @@ thin_y d = marked_y d + 14 * marked_lines d.marked
 abbrev pub beside_y : Sketch → ℕ
 beside_y d = thin_y d + 14 * thin_lines d
 
+abbrev pub few_y : Sketch → ℕ
+few_y d = beside_y d + 14 * beside_lines (length d.columns)
+
+-- how many lines tell that few operations are drawn
+abbrev pub few_lines : Bool → ℕ
+few_lines few = cond few 1 0
+
 -- the ground line of what stands above the columns of the first band
-abbrev pub head_y : Sketch → ℕ
-head_y d = beside_y d + 14 * beside_lines (length d.columns) + 14
+abbrev pub head_y : Bool → Sketch → ℕ
+head_y few d = few_y d + 14 * few_lines few + 14
 
 -- the title's letters
 abbrev pub title_style : List ℕ
@@ -149,11 +157,11 @@ thin_text d = cond (has_thin d) (codes "thin column: who wrote a version that th
 abbrev pub beside_text : ℕ → List ℕ
 beside_text columns = cond (nat_lt 1 columns) (codes "boxes side by side are in no order of time") []
 
--- both
-unfoldable pub columns_note : Sketch → List ℕ
-columns_note d = line_at [] 26 (thin_y d) (thin_text d) ++ line_at [] 26 (beside_y d) (beside_text (length d.columns))
+-- both, and which operations are drawn
+unfoldable pub columns_note : Bool → Sketch → List ℕ
+columns_note few d = line_at [] 26 (thin_y d) (thin_text d) ++ line_at [] 26 (beside_y d) (beside_text (length d.columns)) ++ line_at [] 26 (few_y d) (few_note few)
 
 -- all that stands above the columns
-unfoldable pub heading_text : Sketch → List ℕ
-heading_text d =
-    title_lines d ++ notes_text d ++ legend_text d ++ marked_text (marked_y d) d.marked ++ columns_note d
+unfoldable pub heading_text : Bool → Sketch → List ℕ
+heading_text few d =
+    title_lines d ++ notes_text d ++ legend_text d ++ marked_text (marked_y d) d.marked ++ columns_note few d

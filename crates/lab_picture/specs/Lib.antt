@@ -21,11 +21,14 @@ pub mod Classes
 pub mod Steps
 pub mod Growth
 pub mod Values
+pub mod Few
 pub mod Boxes
 pub mod Columns
+pub mod Slots
 pub mod Keys
 pub mod Arrows
 pub mod Heading
 pub mod Svg
+pub mod DrawnLaws
 pub mod Drawn
 pub mod Picture

@@ -1,9 +1,9 @@
 -- The text of a drawing, in SVG.
-use Rattle.std.specs.Prelude.{ℕ, ◌+◌, ◌*◌, Bool, ◌||◌, List, ◌++◌, flat_map, length, codes}
+use Rattle.std.specs.Prelude.{ℕ, ◌+◌, ◌*◌, Bool, ◌||◌, List, ◌++◌, map, flat_map, length, codes}
 use Rattle.std.specs.Fmt.{decimal}
 use Rattle.lab_history.specs.History.{History}
 use Rattle.lab_picture.specs.Arrows.{forward_text, has_round}
-use Rattle.lab_picture.specs.Columns.{most_ops, columns_text, shown_columns}
+use Rattle.lab_picture.specs.Columns.{columns_text, shown_columns}
 use Rattle.lab_picture.specs.Growth.{extra_lines}
 use Rattle.lab_picture.specs.Heading.{head_y, heading_text}
 use Rattle.lab_picture.specs.declared.layout.Frame.{Frame}
@@ -12,6 +12,7 @@ use Rattle.lab_picture.specs.Named.{drawn}
 use Rattle.lab_picture.specs.Size.{size_text}
 use Rattle.lab_picture.specs.Steps.{steps_text}
 use Rattle.lab_picture.specs.Sketch.{Sketch}
+use Rattle.lab_picture.specs.Slots.{is_few, slotted, most_drawn}
 use Rattle.lab_picture.specs.Text.{escaped}
 use Rattle.lab_picture.specs.Values.{value_lines, values_text}
 use Rattle.lab_picture.specs.declared.drawing.Arrow.{Arrow}
@@ -65,9 +66,15 @@ arrows_drawn d = drawn (shown_columns d.columns) (d.arrows ++ d.forward)
 unfoldable pub drawn_columns : History → Frame → Sketch → List ℕ
 drawn_columns h frame d = columns_text h frame (arrows_drawn d) d 0 (shown_columns d.columns)
 
+-- arrows of a drawing with the places of their ends for their numbers
+abbrev pub placed : Frame → Sketch → List Arrow → List Arrow
+placed frame d arrows = map (slotted frame.few (arrows_drawn d) d.marked) arrows
+
 -- the arrows between them: those of steps, and thin those of a yes
 unfoldable pub drawn_arrows : Frame → Sketch → List ℕ
-drawn_arrows frame d = steps_text frame (shown_columns d.columns) 0 d.arrows ++ flat_map (forward_text frame (shown_columns d.columns)) d.forward
+drawn_arrows frame d =
+    steps_text frame (shown_columns d.columns) 0 (placed frame d d.arrows)
+    ++ flat_map (forward_text frame (shown_columns d.columns)) (placed frame d d.forward)
 
 -- what a picture of this size begins with
 unfoldable pub head_text : ℕ → ℕ → Sketch → List ℕ
@@ -87,7 +94,7 @@ body_text h frame d = drawn_columns h frame d ++ drawn_arrows frame d ++ values_
 
 -- the text of a drawing in a frame
 unfoldable pub svg_with : History → Frame → Sketch → List ℕ
-svg_with h frame d = head_text (width (length d.columns)) (whole_height frame d) d ++ heading_text d ++ body_text h frame d ++ codes "</svg>\n"
+svg_with h frame d = head_text (width (length d.columns)) (whole_height frame d) d ++ heading_text frame.few d ++ body_text h frame d ++ codes "</svg>\n"
 
 -- whether an arrow of a drawing goes below the boxes
 abbrev pub goes_below : Sketch → Bool
@@ -95,7 +102,7 @@ goes_below d = has_round (shown_columns d.columns) d.arrows || has_round (shown_
 
 -- the frame of a drawing
 abbrev pub frame_of : History → Sketch → Frame
-frame_of h d = record { head = head_y d; most = most_ops h (shown_columns d.columns); round = goes_below d; extra = extra_lines h (arrows_drawn d) (shown_columns d.columns) }
+frame_of h d = record { head = head_y (is_few h d) d; most = most_drawn h (is_few h d) (arrows_drawn d) d.marked 0 (shown_columns d.columns); round = goes_below d; extra = extra_lines h (arrows_drawn d) (shown_columns d.columns); few = is_few h d }
 
 -- the text of a drawing of a history's transactions
 abbrev pub svg_of : History → Sketch → List ℕ

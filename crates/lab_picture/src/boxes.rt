@@ -1,16 +1,13 @@
-//! The boxes of a column.
+//! The box of an operation.
 
-ghost use Rattle.std.specs.Prelude.{◌≡◌, ◌++◌, ◌≤◌, length, IfOk, OnOk};
+ghost use Rattle.std.specs.Prelude.{◌≡◌, ◌++◌, ◌≤◌, IfOk, OnOk};
 ghost use Rattle.lab_statement.specs.Printed.{printed_statement};
-ghost use Rattle.lab_picture.specs.Boxes.{fits, telling, lines_of, box_lines, whole_text, stroke_text, edge_style, edge_text, rest_lines, effect_lines, inner_text, box_text, stroke_of, op_text, boxes_text};
+ghost use Rattle.lab_picture.specs.Boxes.{fits, telling, lines_of, box_lines, whole_text, stroke_text, edge_style, edge_text, rest_lines, effect_lines, inner_text, box_text};
 
-use crate::classes::box_class;
-use crate::drawing::Arrow;
 use crate::effect::effect_text;
 use crate::kept::{kept_text, tells_named};
-use crate::layout::{BOX_BYTES, Column, Frame, Stroke, box_height, left, upper};
+use crate::layout::{BOX_BYTES, Stroke};
 use crate::lines::{count_lines, put_all_lines};
-use crate::named::rows_at;
 use crate::size::put_size;
 use crate::text::{
     in_four, in_three, put_escaped, put_one_line, put_place, put_three_lines, put_two_lines,
@@ -23,7 +20,7 @@ use std::marker::Model;
 
 /// What a box tells.
 #[derive(Drop)]
-struct BoxText {
+pub struct BoxText {
     statement: Vec<u8>,
     /// What the statement did.
     effect: Vec<u8>,
@@ -58,7 +55,7 @@ fn fits(statement: &[u8], effect: &[u8]) -> bool
 }
 
 /// What a box tells of an operation where these rows are named. NoMemory where an allocation was refused.
-fn telling(alloc: Global, named: &[RowName], op: &Op) -> Result<BoxText, NoMemory>
+pub fn telling(alloc: Global, named: &[RowName], op: &Op) -> Result<BoxText, NoMemory>
     ensures { IfOk result (λ told. told ≡ telling named.now op.now) }
 {
     let statement = statement_text(alloc, op)?;
@@ -227,7 +224,7 @@ fn put_whole(out: &mut Vec<u8>, statement: &[u8], effect: &[u8]) -> Result<(), N
 
 /// Appends a box of this height, and in it its text; the whole text is its title.
 #[tactic(auto, unfolding(crate::specs::Boxes::box_text))]
-fn put_box(
+pub fn put_box(
     alloc: Global,
     out: &mut Vec<u8>,
     x: u128,
@@ -244,62 +241,4 @@ fn put_box(
     put_edge(out, x, y, height, stroke, class)?;
     put_inner(alloc, out, x + 5, y + 14, told)?;
     out.extend_from_slice(b"</g>\n")
-}
-
-/// The edge of a column's box: thick where it is marked, thin in a thin column.
-fn stroke_of(column: &Column, op: u32) -> Stroke
-    ensures { result ≡ stroke_of column.now op }
-{
-    if op == column.marked {
-        Stroke::Thick
-    } else if column.thin {
-        Stroke::Thin
-    } else {
-        Stroke::Plain
-    }
-}
-
-/// Appends the box of an operation.
-fn put_op(
-    alloc: Global,
-    out: &mut Vec<u8>,
-    frame: Frame,
-    arrows: &[Arrow],
-    steps: &[Arrow],
-    column: &Column,
-    number: u32,
-    op: &Op,
-) -> Result<(), NoMemory>
-    requires { column.now.place ≤ 40 }
-    ensures { OnOk result (out.new.items ≡ out.old.items ++ op_text frame arrows.now steps.now column.now number op.now) }
-{
-    let named = rows_at(alloc, arrows, column.txn, number)?;
-    let told = telling(alloc, &named, op)?;
-    let x = left(column.place);
-    let y = upper(frame, column.place, number);
-    let height = box_height(frame);
-    let stroke = stroke_of(column, number);
-    let class = box_class(alloc, steps, column, number)?;
-    put_box(alloc, out, x, y, height, stroke, &class, &told)
-}
-
-/// Appends the boxes of a column. The arrows say which rows stay in them, the steps which classes they have.
-pub fn put_boxes(
-    alloc: Global,
-    out: &mut Vec<u8>,
-    frame: Frame,
-    arrows: &[Arrow],
-    steps: &[Arrow],
-    column: &Column,
-    ops: &[Op],
-) -> Result<(), NoMemory>
-    requires column { column.now.place ≤ 40 }
-    requires few { length ops.now ≤ 10000 }
-    ensures { OnOk result (out.new.items ≡ out.old.items ++ boxes_text frame arrows.now steps.now column.now 0 ops.now) }
-{
-    for (index, op) in ops.iter().enumerate() {
-        let number = index as u32 + 1;
-        put_op(alloc, out, frame, arrows, steps, column, number, op)?;
-    }
-    Ok(())
 }

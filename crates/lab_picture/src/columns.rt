@@ -4,7 +4,7 @@ ghost use Rattle.std.specs.Prelude.{◌≡◌, ◌++◌, ◌≤◌, length, OnOk
 ghost use Rattle.lab_history.specs.Version.{outcome_of};
 ghost use Rattle.lab_picture.specs.Columns.{most_ops, outcome_name, marked_in, title_of, title_weight, title_text, is_thin, column_at, column_text, columns_text, shown_columns};
 
-use crate::boxes::put_boxes;
+use crate::column_boxes::put_boxes;
 use crate::drawing::{Arrow, Drawing, Spot};
 use crate::layout::{Column, Frame, MAX_COLUMNS, left, top};
 use crate::states::ops_of;
@@ -38,7 +38,7 @@ pub fn outcome_name(history: &History, txn: TxnNo) -> &'static str
 }
 
 /// The number of the marked operation, if it is of this transaction, else 0.
-fn marked_in(marked: &Option<Spot>, txn: TxnNo) -> u32
+pub fn marked_in(marked: &Option<Spot>, txn: TxnNo) -> u32
     ensures { result ≡ marked_in marked.now txn }
 {
     match marked {

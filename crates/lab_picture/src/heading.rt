@@ -1,13 +1,14 @@
 //! What stands above the columns of a picture, and where.
 
 ghost use Rattle.std.specs.Prelude.{◌≡◌, ◌++◌, ◌≤◌, IfOk, OnOk};
-ghost use Rattle.lab_picture.specs.Heading.{title_bytes, line_bytes, more_text, more_lines, far_text, far_lines, marked_lines, about_y, note_y, more_y, far_y, solid_y, dashed_y, sees_y, marked_y, thin_y, beside_y, head_y, title_style, title_lines, notes_text, columns_note, legend_text, heading_text};
+ghost use Rattle.lab_picture.specs.Heading.{title_bytes, line_bytes, more_text, more_lines, far_text, far_lines, marked_lines, about_y, note_y, more_y, far_y, solid_y, dashed_y, sees_y, marked_y, thin_y, beside_y, few_y, few_lines, head_y, title_style, title_lines, notes_text, columns_note, legend_text, heading_text};
 
 use crate::column_notes::{beside_lines, beside_text, thin_lines, thin_text};
 use crate::drawing::{Arrow, Drawing, Spot};
 use crate::keys::{Key, key_lines};
 use crate::layout::MAX_COLUMNS;
 use crate::legend::{put_key, put_marked};
+use crate::slots::few_note;
 use crate::text::{in_four, in_one, in_two, put_four_lines, put_line, put_number, put_two_lines};
 use lab_table::NoMemory;
 use std::alloc::Global;
@@ -169,12 +170,28 @@ fn beside_y(drawing: &Drawing) -> u128
     thin_y(drawing) + 14 * thin_lines(drawing)
 }
 
-/// The ground line of what stands above the columns of the first band.
-pub fn head_y(drawing: &Drawing) -> u128
-    ensures value { result ≡ head_y drawing.now }
-    ensures small { result ≤ 262 }
+/// That of which operations are drawn.
+fn few_y(drawing: &Drawing) -> u128
+    ensures value { result ≡ few_y drawing.now }
+    ensures small { result ≤ 248 }
 {
-    beside_y(drawing) + 14 * beside_lines(drawing.columns.len()) + 14
+    beside_y(drawing) + 14 * beside_lines(drawing.columns.len())
+}
+
+/// How many lines tell that few operations are drawn.
+fn few_lines(few: bool) -> u128
+    ensures value { result ≡ few_lines few }
+    ensures small { result ≤ 1 }
+{
+    if few { 1 } else { 0 }
+}
+
+/// The ground line of what stands above the columns of the first band.
+pub fn head_y(few: bool, drawing: &Drawing) -> u128
+    ensures value { result ≡ head_y few drawing.now }
+    ensures small { result ≤ 276 }
+{
+    few_y(drawing) + 14 * few_lines(few) + 14
 }
 
 /// The attributes of the title.
@@ -225,14 +242,15 @@ fn put_notes(alloc: Global, out: &mut Vec<u8>, drawing: &Drawing) -> Result<(), 
     put_line(out, b"", 26, far_y(drawing), far)
 }
 
-/// Appends what thin columns and boxes side by side say.
+/// Appends what thin columns and boxes side by side say, and which operations are drawn.
 #[tactic(auto, unfolding(crate::specs::Heading::columns_note))]
-fn put_columns_note(out: &mut Vec<u8>, drawing: &Drawing) -> Result<(), NoMemory>
-    ensures { OnOk result (out.new.items ≡ out.old.items ++ columns_note drawing.now) }
+fn put_columns_note(out: &mut Vec<u8>, few: bool, drawing: &Drawing) -> Result<(), NoMemory>
+    ensures { OnOk result (out.new.items ≡ out.old.items ++ columns_note few drawing.now) }
 {
     put_line(out, b"", 26, thin_y(drawing), thin_text(drawing))?;
     let beside = beside_text(drawing.columns.len());
-    put_line(out, b"", 26, beside_y(drawing), beside)
+    put_line(out, b"", 26, beside_y(drawing), beside)?;
+    put_line(out, b"", 26, few_y(drawing), few_note(few))
 }
 
 /// Appends the keys of the arrows that a drawing has.
@@ -247,12 +265,17 @@ fn put_legend(out: &mut Vec<u8>, drawing: &Drawing) -> Result<(), NoMemory>
 
 /// Appends all that stands above the columns.
 #[tactic(auto, unfolding(crate::specs::Heading::heading_text))]
-pub fn put_heading(alloc: Global, out: &mut Vec<u8>, drawing: &Drawing) -> Result<(), NoMemory>
-    ensures { OnOk result (out.new.items ≡ out.old.items ++ heading_text drawing.now) }
+pub fn put_heading(
+    alloc: Global,
+    out: &mut Vec<u8>,
+    few: bool,
+    drawing: &Drawing,
+) -> Result<(), NoMemory>
+    ensures { OnOk result (out.new.items ≡ out.old.items ++ heading_text few drawing.now) }
 {
     put_title_lines(alloc, out, drawing)?;
     put_notes(alloc, out, drawing)?;
     put_legend(out, drawing)?;
     put_marked(out, marked_y(drawing), &drawing.marked)?;
-    put_columns_note(out, drawing)
+    put_columns_note(out, few, drawing)
 }

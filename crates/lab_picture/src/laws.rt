@@ -13,6 +13,8 @@ ghost use Rattle.lab_judge.specs.declared.report.Report.{Report};
 ghost use Rattle.lab_judge.specs.declared.serial.Serial.TheVariants.{NoCycle, NoFault};
 ghost use Rattle.lab_streams.specs.declared.ending.Ending.{Ending};
 ghost use Rattle.lab_picture.specs.ArrowLaws.{IsArrowOf, NamesWalk, DrawsArrow, DrawsWrites};
+ghost use Rattle.lab_picture.specs.Columns.{shown_columns};
+ghost use Rattle.lab_picture.specs.DrawnLaws.{IsDrawnAt, DrawsFew, IsLow};
 ghost use Rattle.lab_picture.specs.InstallLaws.{NamesOut};
 ghost use Rattle.lab_picture.specs.Installs.{misplaced_text};
 ghost use Rattle.lab_picture.specs.Making.{arrow_of};
@@ -26,6 +28,7 @@ ghost use Rattle.lab_picture.specs.TitleLaws.{TellsWalk};
 ghost use Rattle.lab_reports.specs.declared.phenomenon.Phenomenon.{Phenomenon};
 ghost use Rattle.lab_reports.specs.declared.phenomenon.Phenomenon.TheVariants.{G0};
 ghost use Rattle.lab_picture.specs.declared.drawing.Arrow.{Arrow as Drawn};
+ghost use Rattle.lab_picture.specs.declared.drawing.Spot.{Spot as Place};
 ghost use Rattle.lab_picture.specs.declared.installs.Misplaced.{Misplaced};
 ghost use Rattle.lab_picture.specs.declared.nicknames.Nickname.{Nickname as Said};
 
@@ -53,6 +56,19 @@ pub fn each_dependency_of_a_walk_is_drawn()
 /// operation tells of it: nothing of it is cut, and its parentheses aren't parted, unless they are wider than a line.
 pub fn each_arrow_has_its_row_at_both_ends()
     ensures { (h : Held) (d : Sketch) (a : Drawn) → Contains (arrows_drawn d) a → HasRow h (arrows_drawn d) a.row a.from × HasRow h (arrows_drawn d) a.row a.to }
+{}
+
+/// Where few operations are drawn, both operations of each arrow that is drawn are, and so is the marked one.
+pub fn each_named_operation_is_drawn()
+    ensures ends { (h : Held) (d : Sketch) (a : Drawn) → Contains (arrows_drawn d) a → IsDrawnAt h d a.from × IsDrawnAt h d a.to }
+    ensures marked { (h : Held) (d : Sketch) (spot : Place) → d.marked ≡ Some spot → IsDrawnAt h d spot }
+{}
+
+/// Of each column no more operations are drawn than twenty-four, or nine and two for each arrow that is drawn. So however
+/// many a transaction has, the picture is no higher than its arrows and its fullest box make it.
+pub fn a_picture_is_low()
+    ensures drawn { (h : Held) (d : Sketch) (n : ℕ) → Contains (shown_columns d.columns) n → DrawsFew h d n }
+    ensures height { (h : Held) (d : Sketch) → IsLow h d }
 {}
 
 /// The picture of a row whose installers aren't its committed writers names one that is out of place, and how: a writer

@@ -19,12 +19,14 @@ pub struct Corner {
 pub struct Frame {
     /// The ground line of what stands above the columns of the first band.
     pub head: u16,
-    /// How many operations the longest column has.
+    /// How many operations are drawn of the longest column.
     pub most: u32,
     /// Whether an arrow goes below the boxes.
     pub round: bool,
     /// How many lines the fullest box has beyond four.
     pub extra: u64,
+    /// Whether not all operations are drawn.
+    pub few: bool,
 }
 
 /// A column.

@@ -13,6 +13,7 @@
 mod arrows;
 mod boxes;
 mod classes;
+mod column_boxes;
 mod column_notes;
 mod columns;
 mod cycles;
@@ -20,6 +21,7 @@ mod drawing;
 mod drawn;
 mod effect;
 mod fault_drawing;
+mod few;
 mod forward;
 mod growth;
 mod heading;
@@ -37,6 +39,7 @@ mod picturing;
 mod route;
 mod size;
 mod sketch;
+mod slots;
 mod states;
 mod steps;
 mod svg;
@@ -51,9 +54,10 @@ pub use drawn::picture_with;
 pub use effect::put_state;
 pub use installs::{Misplaced, Why, installers_of, misplaced_of, put_misplaced};
 pub use laws::{
-    a_nickname_is_said_of_its_form, a_title_names_what_a_walk_is, an_escaped_text_has_no_markup,
-    each_arrow_has_its_row_at_both_ends, each_dependency_has_its_arrow,
-    each_dependency_of_a_walk_is_drawn, each_dependency_of_installed_rows_has_its_arrow,
+    a_nickname_is_said_of_its_form, a_picture_is_low, a_title_names_what_a_walk_is,
+    an_escaped_text_has_no_markup, each_arrow_has_its_row_at_both_ends,
+    each_dependency_has_its_arrow, each_dependency_of_a_walk_is_drawn,
+    each_dependency_of_installed_rows_has_its_arrow, each_named_operation_is_drawn,
     picture_answer_unique, who_is_out_of_place_is_named,
 };
 pub use making::arrow_of;

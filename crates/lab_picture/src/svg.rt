@@ -1,16 +1,17 @@
 //! The text of a drawing, in SVG.
 
 ghost use Rattle.std.specs.Prelude.{◌≡◌, ◌++◌, ◌≤◌, IfOk, OnOk};
-ghost use Rattle.lab_picture.specs.Svg.{numbers_text, view_text, svg_text, letters_text, open_text, told_title, told_line, told_text, marker_text, ground_text, head_text, arrows_drawn, drawn_columns, drawn_arrows, values_y, whole_height, body_text, svg_with, svg_of, goes_below, frame_of};
+ghost use Rattle.lab_picture.specs.Svg.{numbers_text, view_text, svg_text, letters_text, open_text, told_title, told_line, told_text, marker_text, ground_text, head_text, arrows_drawn, drawn_columns, placed, drawn_arrows, values_y, whole_height, body_text, svg_with, svg_of, goes_below, frame_of};
 
 use crate::arrows::{has_round, put_forward};
-use crate::columns::{most_ops, put_columns, shown_columns};
+use crate::columns::{put_columns, shown_columns};
 use crate::drawing::{Arrow, Drawing};
 use crate::growth::extra_lines;
 use crate::heading::{head_y, put_heading};
 use crate::layout::{Frame, height, width};
 use crate::named::drawn;
 use crate::size::put_size;
+use crate::slots::{all_slotted, is_few, most_drawn};
 use crate::steps::put_steps;
 use crate::text::{put_escaped, put_pixels};
 use crate::values::{put_values, value_lines};
@@ -146,6 +147,19 @@ fn put_drawn_columns(
     put_columns(alloc, out, history, frame, &arrows, drawing, columns)
 }
 
+/// Arrows of a drawing with the places of their ends for their numbers. NoMemory where an allocation was refused.
+fn placed(
+    alloc: Global,
+    frame: Frame,
+    drawing: &Drawing,
+    arrows: &[Arrow],
+) -> Result<Vec<Arrow>, NoMemory>
+    ensures { IfOk result (λ found. found.items ≡ placed frame drawing.now arrows.now) }
+{
+    let drawn = arrows_drawn(alloc, drawing)?;
+    all_slotted(alloc, frame.few, &drawn, &drawing.marked, arrows)
+}
+
 /// Appends the arrows between them: those of steps, and thin those of a yes.
 #[tactic(auto, unfolding(crate::specs::Svg::drawn_arrows))]
 fn put_drawn_arrows(
@@ -156,9 +170,11 @@ fn put_drawn_arrows(
 ) -> Result<(), NoMemory>
     ensures { OnOk result (out.new.items ≡ out.old.items ++ drawn_arrows frame drawing.now) }
 {
+    let steps = placed(alloc, frame, drawing, &drawing.arrows)?;
+    let forward = placed(alloc, frame, drawing, &drawing.forward)?;
     let columns = shown_columns(&drawing.columns);
-    put_steps(alloc, out, frame, columns, &drawing.arrows)?;
-    put_forward(alloc, out, frame, columns, &drawing.forward)
+    put_steps(alloc, out, frame, columns, &steps)?;
+    put_forward(alloc, out, frame, columns, &forward)
 }
 
 /// Whether an arrow of a drawing goes below the boxes.
@@ -176,11 +192,13 @@ fn frame_of(alloc: Global, history: &History, drawing: &Drawing) -> Result<Frame
     let arrows = arrows_drawn(alloc, drawing)?;
     let columns = shown_columns(&drawing.columns);
     let extra = extra_lines(alloc, history, &arrows, columns)?;
+    let few = is_few(history, drawing);
     Ok(Frame {
-        head: head_y(drawing) as u16,
-        most: most_ops(history, columns),
+        head: head_y(few, drawing) as u16,
+        most: most_drawn(history, few, &arrows, &drawing.marked, columns),
         round: goes_below(drawing),
         extra,
+        few,
     })
 }
 
@@ -229,7 +247,7 @@ fn put_drawing(
 {
     let wide = width(drawing.columns.len());
     put_head(out, wide, whole_height(frame, drawing), drawing)?;
-    put_heading(alloc, out, drawing)?;
+    put_heading(alloc, out, frame.few, drawing)?;
     put_body(alloc, out, history, frame, drawing)?;
     out.extend_from_slice(b"</svg>\n")
 }

@@ -1,0 +1,7 @@
+use Rattle.std.proofs.Common.{◌≡◌, drop}
+use Rattle.std.specs.List.{list_any}
+use Rattle.lab_picture.specs.Named.{touches}
+use Rattle.lab_picture.proofs.few.is_end.Given as goal
+
+abbrev pub invariant-loop-arrow : goal.invariant-loop-arrow
+invariant-loop-arrow l = list_any (touches l.txn l.op) (drop l.arrow-index l.arrows) ≡ list_any (touches l.txn l.op) l.arrows
