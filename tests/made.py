@@ -25,6 +25,19 @@ def history(initial, transactions, installed, end):
     return json.dumps(whole, separators=(",", ":"), sort_keys=True).encode()
 
 
+def skewing(selects):
+    """Write skew of two transactions, in each behind so many selects that list nothing."""
+    initial = [[1, 10], [2, 20]]
+    idle = [operation("select * from test where id = 3")] * selects
+    end = [[1, 11], [2, 21]]
+    transactions = []
+    for old, new, seen in zip(initial, end, reversed(initial)):
+        look = operation(f"select * from test where id = {seen[0]}", rows=[seen])
+        write = operation(f"update test set value = value + 1 where id = {old[0]}", rows=[old], writes=[new])
+        transactions.append([*idle, look, write])
+    return history(initial, transactions, [[1, [1]], [2, [2]]], end)
+
+
 def report(serial, snapshot, found, level):
     """The ten lines: `found` has what is present of the phenomena."""
     lines = [f"serializable: {serial}", f"snapshot: {snapshot}"]
