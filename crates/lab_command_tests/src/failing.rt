@@ -9,7 +9,8 @@ use crate::run::{FREE_HISTORY, FREE_LEFT_OPEN, FREE_NO_SESSION, HISTORY, LEFT_OP
 use crate::serial::{NO_SESSION, TWO_SESSIONS};
 use crate::streams::{Endless, FAULTS, Sink, Source};
 use crate::words::{
-    EXPLANATION, LISTING, MATRIX, NO_EXPLANATION, NO_PICTURE, NO_SMALLER, PICTURE, SMALLER,
+    COMPARISON, EXPLANATION, LISTING, MATRIX, NO_COMPARISON, NO_EXPLANATION, NO_PICTURE,
+    NO_SMALLER, PICTURE, SMALLER,
 };
 use lab_refusal_tests::{refuse, was_refused};
 use lab_streams::RunFault;
@@ -21,7 +22,7 @@ use std::test::Fail;
 use std::thread::Threads;
 
 /// Cases that read.
-const READING: [Case; 15] = [
+const READING: [Case; 17] = [
     TWO_SESSIONS,
     NO_SESSION,
     LEFT_OPEN,
@@ -37,6 +38,8 @@ const READING: [Case; 15] = [
     NO_EXPLANATION,
     SMALLER,
     NO_SMALLER,
+    COMPARISON,
+    NO_COMPARISON,
 ];
 
 #[test]
