@@ -6,3 +6,4 @@ pub mod OneRun
 mod OneReport
 mod WrittenRefusals
 mod BatchWindows
+mod PutInTurn

@@ -1,8 +1,8 @@
 //! The texts of one event of a log, by the definitions that the log's own text goes by. Each function appends; after
 //! NoMemory, part of what was to be appended may stand there.
 
-ghost use Rattle.std.specs.Prelude.{◌≢◌, ◌≡◌, ◌++◌, flat_map, map, Err, OnOk};
-ghost use Rattle.lab_script.specs.Printed.{printed_table};
+ghost use Rattle.std.specs.Prelude.{◌≢◌, ◌≡◌, ◌++◌, codes, flat_map, map, Err, OnOk};
+ghost use Rattle.lab_script.specs.Printed.{named_rows_or};
 ghost use Rattle.lab_statement.specs.Limits.{IsDeep, IsLong};
 ghost use Rattle.lab_statement.specs.Printed.{joined, printed_row_name};
 ghost use Rattle.lab_session.specs.LogText.{event_text, next_text, outcome_text, refusal_text, session_text};
@@ -10,7 +10,7 @@ ghost use Rattle.lab_session.specs.LogText.{event_text, next_text, outcome_text,
 use itoa::Buffer;
 use lab_engine::{EngineFault, LogEvent, Outcome};
 use lab_statement::{PrintFault, append_result, put_list, put_printable, put_row_name, spell_all};
-use lab_table::{NoMemory, RowName, Session, Table};
+use lab_table::{NoMemory, RowName, Session, Value};
 
 /// Appends the line of an event, as `T1 commit: committed`, if its statement keeps the limits of a text. TooDeep and TooLong
 /// only where it breaks that limit.
@@ -29,11 +29,11 @@ pub fn put_event(out: &mut Vec<u8>, event: &LogEvent) -> Result<(), PrintFault>
     Ok(())
 }
 
-/// Appends all rows of a table, as `(1, 10), stock (1, 5)`; `none` where there is none.
-pub fn put_table(out: &mut Vec<u8>, table: &Table) -> Result<(), NoMemory>
-    ensures { OnOk result (out.new.items ≡ out.old.items ++ printed_table table.now) }
+/// Appends rows with their values, as `(1, 10), stock (1, 5)`; `none` where there is none.
+pub fn put_rows(out: &mut Vec<u8>, rows: &[(RowName, Value)]) -> Result<(), NoMemory>
+    ensures { OnOk result (out.new.items ≡ out.old.items ++ named_rows_or (codes "none") rows.now) }
 {
-    match table.rows() {
+    match rows {
         [] => out.extend_from_slice(b"none"),
         rows => append_result(spell_all(out, rows)),
     }

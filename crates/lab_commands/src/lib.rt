@@ -14,6 +14,7 @@ mod judged_files;
 mod judging;
 mod laws;
 mod listed;
+mod overwriting;
 mod player;
 mod progress;
 mod recording_answer;
@@ -26,7 +27,7 @@ mod standing;
 mod transcribing;
 
 pub use batching::batch;
-pub use event_text::{put_outcome, put_session, put_table};
+pub use event_text::{put_outcome, put_rows, put_session};
 pub use files::{Inputs, note_files, read_files};
 pub use judged_files::{BatchAnswer, batch_answer};
 pub use judging::judge;

@@ -5,28 +5,28 @@ ghost use Rattle.lab_statement.specs.Limits.{IsDeep, IsLong};
 ghost use Rattle.lab_session.specs.LogText.{SomeEvent};
 ghost use Rattle.lab_commands.specs.CommittedRows.{remarked_log, remarked_recording, remarked_text, rows_remark};
 
-use crate::event_text::{put_event, put_table};
+use crate::event_text::{put_event, put_rows};
 use crate::standing::{Standing, is_over};
 use lab_engine::{LogEvent, Outcome, Recording};
 use lab_history::History;
 use lab_statement::PrintFault;
-use lab_table::{NoMemory, Table};
+use lab_table::{ByRow, NoMemory, Value};
 use std::alloc::Global;
 
 /// Appends the committed rows as a remark, where an outcome ends a transaction.
-fn put_remark(out: &mut Vec<u8>, outcome: &Outcome, rows: &Table) -> Result<(), NoMemory>
+fn put_remark(out: &mut Vec<u8>, outcome: &Outcome, rows: &ByRow<Value>) -> Result<(), NoMemory>
     ensures { OnOk result (out.new.items ≡ out.old.items ++ rows_remark outcome.now rows.now) }
 {
     if !is_over(outcome) {
         return Ok(());
     }
     out.extend_from_slice(b"-- rows ")?;
-    put_table(out, rows)?;
+    put_rows(out, rows.entries())?;
     out.extend_from_slice(b"\n")
 }
 
 /// Appends the line of an event, and the remark behind it. TooDeep and TooLong only where its statement breaks that limit.
-fn put_remarked(out: &mut Vec<u8>, event: &LogEvent, rows: &Table) -> Result<(), PrintFault>
+fn put_remarked(out: &mut Vec<u8>, event: &LogEvent, rows: &ByRow<Value>) -> Result<(), PrintFault>
     ensures text { OnOk result (out.new.items ≡ out.old.items ++ remarked_text event.now rows.now) }
     ensures too_deep { result ≡ Err PrintFault.TooDeep → IsDeep event.now.command }
     ensures too_long { result ≡ Err PrintFault.TooLong → IsLong event.now.command }

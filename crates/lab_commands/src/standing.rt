@@ -6,10 +6,10 @@ ghost use Rattle.lab_engine.specs.Gathered.{number_after};
 ghost use Rattle.lab_judge.specs.Runs.{table_after, table_after_txn};
 ghost use Rattle.lab_commands.specs.CommittedRows.{standing_first, standing_after, rows_after};
 
-use lab_cut::with_states;
+use crate::overwriting::overwrite;
 use lab_engine::{EngineFault, LogEvent, Outcome};
 use lab_history::{History, Op};
-use lab_table::{NoMemory, PerSession, Table, TxnNo};
+use lab_table::{ByRow, NoMemory, PerSession, Table, TxnNo, Value};
 use std::alloc::Global;
 
 /// Where a log stands: the active transactions of sessions, and the committed rows.
@@ -17,7 +17,14 @@ use std::alloc::Global;
 pub struct Standing {
     /// For each session the number of its active transaction, if any.
     pub active: PerSession<Option<TxnNo>>,
-    pub rows: Table,
+    pub rows: ByRow<Value>,
+}
+
+/// The rows of a table. NoMemory where an allocation was refused.
+fn by_row(alloc: Global, table: &Table) -> Result<ByRow<Value>, NoMemory>
+    ensures { IfOk result (λ rows. rows ≡ table.now) }
+{
+    Ok(ByRow::from_rising(Vec::from_slice(alloc, table.rows())?))
 }
 
 impl Standing {
@@ -27,7 +34,7 @@ impl Standing {
     {
         Ok(Standing {
             active: PerSession::all(None),
-            rows: setup.copy(alloc)?,
+            rows: by_row(alloc, setup)?,
         })
     }
 
@@ -51,7 +58,7 @@ impl Standing {
 /// Puts over the committed rows what an outcome installs, where the transaction with this number is active.
 fn install(
     alloc: Global,
-    rows: &mut Table,
+    rows: &mut ByRow<Value>,
     history: &History,
     outcome: &Outcome,
     by: &Option<TxnNo>,
@@ -71,7 +78,7 @@ fn install(
 /// Puts the writes of the transaction with this number over rows.
 fn put_txn(
     alloc: Global,
-    rows: &mut Table,
+    rows: &mut ByRow<Value>,
     history: &History,
     by: &Option<TxnNo>,
 ) -> Result<(), NoMemory>
@@ -87,11 +94,11 @@ fn put_txn(
 }
 
 /// Puts the writes of operations over rows, one after another.
-fn put_ops(alloc: Global, rows: &mut Table, ops: &[Op]) -> Result<(), NoMemory>
+fn put_ops(alloc: Global, rows: &mut ByRow<Value>, ops: &[Op]) -> Result<(), NoMemory>
     ensures { OnOk result (rows.new ≡ table_after ops.now rows.old) }
 {
     for op in ops {
-        *rows = with_states(alloc, rows, &op.writes)?;
+        overwrite(alloc, rows, &op.writes)?;
     }
     Ok(())
 }
