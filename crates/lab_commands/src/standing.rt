@@ -24,7 +24,8 @@ pub struct Standing {
 fn by_row(alloc: Global, table: &Table) -> Result<ByRow<Value>, NoMemory>
     ensures { IfOk result (λ rows. rows ≡ table.now) }
 {
-    Ok(ByRow::from_rising(Vec::from_slice(alloc, table.rows())?))
+    let entries = Vec::from_slice(alloc, table.rows())?;
+    Ok(ByRow::from_rising(entries))
 }
 
 impl Standing {
