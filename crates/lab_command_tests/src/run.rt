@@ -24,6 +24,17 @@ pub const HISTORY: Case = Case {
     status: 0,
 };
 
+/// The log of such a play with the committed rows, and the report of it.
+pub const ROWS: Case = Case {
+    subcommand: Subcommand::Run {
+        level: Level::Snapshot,
+        shown: Shown::Rows,
+    },
+    input: INCREMENTED,
+    text: b"T1 begin: begun 1\nT1 update test set value = value + 1 where id = 1: rows (1, 10)\nT1 commit: committed\n-- rows (1, 11)\nserializable: yes T1\nsnapshot: yes T1 0-1\nG0: absent\nG1a: absent\nG1b: absent\nG1c: absent\nG-single: absent\nG2-item: absent\nG2: absent\nlevel: PL-3\n",
+    status: 0,
+};
+
 /// A transaction that the script leaves open.
 pub const OPEN: &[u8] =
     b"setup (1, 10);\nbegin; -- T1\nupdate test set value = value + 1 where id = 1; -- T1\n";
@@ -101,8 +112,9 @@ pub const FREE_NO_SESSION: Case = Case {
     status: 2,
 };
 
-const CASES: [Case; 7] = [
+const CASES: [Case; 8] = [
     HISTORY,
+    ROWS,
     LEFT_OPEN,
     NO_SESSION,
     TWO_TABLES,
