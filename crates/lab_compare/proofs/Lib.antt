@@ -1,0 +1,4 @@
+mod Spaces
+mod Left
+mod FirstRefusals
+mod OneComparison
