@@ -1,35 +1,36 @@
 -- What sessions have left behind their places.
-use Rattle.std.proofs.Common.{◌≡◌, ℕ, zero, suc, ◌+◌, Bool, true, false, Option, Some, List, length, drop, refl, sym, ap, ◌∙◌, arith}
+use Rattle.std.proofs.Common.{◌≡◌, ℕ, zero, suc, ◌+◌, ◌-◌, Bool, true, false, Some, List, length, drop, length-drop, refl, sym, ap, ◌∙◌, arith}
 use Rattle.std.specs.Prelude.{◌==◌, cond, min, replicate, slice_get, unwrap_or}
 use Rattle.std.proofs.lemmas.List.{drop-drop, drop_min}
 use Rattle.lab_table.specs.Sessions.{of_session}
 use Rattle.lab_compare.specs.Cells.{answer_place, left_by, left_after, left_behind}
 use Rattle.lab_compare.specs.declared.told.ToldEvent.{ToldEvent}
 
--- behind a place, no further than the end, one more than so many are passed over as behind that place itself
-drop_behind : {X : Type 0} → (place more : ℕ) (xs : List X) → drop (min place (length xs) + more + 1) xs ≡ drop (more + 1) (drop place xs)
-drop_behind place more xs =
-    let sum : min place (length xs) + more + 1 ≡ min place (length xs) + (more + 1) = omega arith in
-    ap (λ n. drop n xs) sum ∙ sym (drop-drop (more + 1) (min place (length xs)) xs) ∙ ap (drop (more + 1)) (drop_min place xs)
-
 -- what a session has left at its place
-pub left_at : (told : List ToldEvent) (places : List ℕ) (session place : ℕ) → of_session places session ≡ Some place → drop (min place (length told)) told ≡ left_behind told places session
-left_at told places session place got = drop_min place told ∙ ap (λ p. drop (unwrap_or p 0) told) (sym got)
+pub left_at : (told : List ToldEvent) (places : List ℕ) (session place begin : ℕ) → of_session places session ≡ Some place → begin ≡ min place (length told)
+    → drop begin told ≡ left_behind told places session
+left_at told places session place begin got is = ap (λ n. drop n told) is ∙ drop_min place told ∙ ap (λ p. drop (unwrap_or p 0) told) (sym got)
+
+-- behind the answer to a session's next command there is what the count of those that are left says
+pub passed : (told : List ToldEvent) (begin place : ℕ) → drop (length told - (length (drop begin told) - place - 1)) told ≡ drop (place + 1) (drop begin told)
+passed told begin place =
+    let rest : length (drop begin told) ≡ length told - begin = length-drop begin told in
+    let sum : length told - (length (drop begin told) - place - 1) ≡ min (begin + (place + 1)) (length told) = omega (arith, rest) in
+    ap (λ n. drop n told) sum ∙ drop_min (begin + (place + 1)) told ∙ sym (drop-drop (place + 1) begin told)
 
 -- where one session's place is moved behind the answer to its next command, it has that much less left, and the others what they had
-module _ (told : List ToldEvent) (old new : List ℕ) (session place begin : ℕ) (got : of_session old session ≡ Some begin) (at : place ≡ answer_place session (left_behind told old session))
-    (each : (other : ℕ) → of_session new other ≡ cond (other == session) (Some (min begin (length told) + place + 1)) (of_session old other)) where
+module _ (told : List ToldEvent) (old new : List ℕ) (session place now : ℕ) (at : place ≡ answer_place session (left_behind told old session))
+    (is : drop now told ≡ drop (place + 1) (left_behind told old session)) (each : (other : ℕ) → of_session new other ≡ cond (other == session) (Some now) (of_session old other)) where
   its_own : (other : ℕ) → (other == session) ≡ true → left_behind told new other ≡ left_after (left_behind told old) session other
   its_own other test =
-      ap (λ p. drop (unwrap_or p 0) told) (each other ∙ ap (λ b. cond b (Some (min begin (length told) + place + 1)) (of_session old other)) test)
-      ∙ drop_behind begin place told
-      ∙ ap (λ p. drop (place + 1) (drop (unwrap_or p 0) told)) (sym got)
+      ap (λ p. drop (unwrap_or p 0) told) (each other ∙ ap (λ b. cond b (Some now) (of_session old other)) test)
+      ∙ is
       ∙ ap (λ k. drop (k + 1) (left_behind told old session)) at
       ∙ sym (ap (λ b. cond b (left_by session (left_behind told old session)) (left_behind told old other)) test)
 
   of_others : (other : ℕ) → (other == session) ≡ false → left_behind told new other ≡ left_after (left_behind told old) session other
   of_others other test =
-      ap (λ p. drop (unwrap_or p 0) told) (each other ∙ ap (λ b. cond b (Some (min begin (length told) + place + 1)) (of_session old other)) test)
+      ap (λ p. drop (unwrap_or p 0) told) (each other ∙ ap (λ b. cond b (Some now) (of_session old other)) test)
       ∙ sym (ap (λ b. cond b (left_by session (left_behind told old session)) (left_behind told old other)) test)
 
   of_each : (other : ℕ) (b : Bool) → (other == session) ≡ b → left_behind told new other ≡ left_after (left_behind told old) session other
@@ -40,7 +41,7 @@ module _ (told : List ToldEvent) (old new : List ℕ) (session place begin : ℕ
   noted = λ i other. of_each other (other == session) refl i
 
 -- in a list of zeros there is nothing else
-zeros : (n k : ℕ) → unwrap_or (slice_get (replicate n 0) k) 0 ≡ 0
+zeros : (n k : ℕ) → unwrap_or (slice_get (replicate {A = ℕ} n 0) k) 0 ≡ zero
 zeros zero k = refl
 zeros (suc n) zero = refl
 zeros (suc n) (suc k) = zeros n k

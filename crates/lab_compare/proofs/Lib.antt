@@ -2,3 +2,4 @@ mod Spaces
 mod Left
 mod FirstRefusals
 mod OneComparison
+mod SameTold

@@ -1,6 +1,7 @@
 -- What each line of a script came to in a play.
-use Rattle.std.specs.Prelude.{ℕ, ◌+◌, ◌==◌, Bool, false, true, not, ◌&&◌, cond, Option, Some, None, unwrap_or, List, [], ◌∷◌, ◌++◌, drop, slice_get, codes, if◌then◌else◌}
+use Rattle.std.specs.Prelude.{ℕ, ℤ, ◌+◌, ◌-◌, ◌==◌, Bool, false, true, not, ◌&&◌, cond, Option, Some, None, unwrap_or, List, [], ◌∷◌, ◌++◌, length, drop, codes, if◌then◌else◌}
 use Rattle.std.specs.List.{prefix_len}
+use Rattle.lab_table.specs.Row.{Row}
 use Rattle.lab_table.specs.Sessions.{of_session}
 use Rattle.lab_script.specs.declared.script.Line.{Line}
 use Rattle.lab_compare.specs.declared.told.ToldEvent.{ToldEvent}
@@ -32,15 +33,15 @@ abbrev pub answer_place : ℕ → List ToldEvent → ℕ
 answer_place session told = prefix_len (λ event. not (answers session event)) told
 
 -- the rows that are told behind an event, if there is one
-abbrev pub rows_behind : Option ToldEvent → List ℕ
+abbrev pub rows_behind : Option ToldEvent → List (Row × ℤ)
 rows_behind None = []
 rows_behind (Some event) = event.rows
 
--- what a session's next command comes to
+-- what a session's next command comes to: its answers, and how many events there are from the one that answers it on to the end
 abbrev pub cell_of : ℕ → List ToldEvent → Cell
 cell_of session told = record {
   said = answers_text session false (codes "; ") told;
-  rows = rows_behind (slice_get told (answer_place session told));
+  from_end = length told - answer_place session told;
 }
 
 -- the events that a session has left, where its next command is answered too

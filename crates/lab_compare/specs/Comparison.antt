@@ -20,7 +20,8 @@ use Rattle.lab_compare.specs.Told.{asked_text, told_recording}
 use Rattle.lab_compare.specs.Cells.{cells_of}
 use Rattle.lab_compare.specs.Alike.{alike_text, differing_text, explained_text, columns_behind}
 use Rattle.lab_compare.specs.declared.side.Side.{Side}
-use Rattle.lab_compare.specs.declared.side.Topic.TheVariants.{Engine, Answer, Rows, End, Grade}
+use Rattle.lab_compare.specs.declared.side.Column.TheVariants.{Engine, Grade}
+use Rattle.lab_compare.specs.declared.side.Topic.TheVariants.{Answer, Rows, End}
 
 -- ---- one engine's side
 
@@ -45,8 +46,9 @@ end_text h = codes "rows " ++ printed_table h.end_table
 abbrev pub side_of : Level → List Line → RecordedLog → Report → Side
 side_of level lines recording report = record {
   level = level;
+  told = told_recording recording;
   cells = cells_of (told_recording recording) lines;
-  rows = end_text recording.history;
+  end = end_text recording.history;
   grade = cell_text report;
   explained = explained recording.history report (lowest report);
 }

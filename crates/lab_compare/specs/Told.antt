@@ -1,10 +1,11 @@
 -- What is told of each event of a log.
-use Rattle.std.specs.Prelude.{ℕ, cond, Option, Some, None, List, [], ◌∷◌, ◌++◌, codes}
+use Rattle.std.specs.Prelude.{ℕ, ℤ, cond, Option, Some, None, List, [], ◌∷◌, ◌++◌, codes}
+use Rattle.std.specs.FinMap.{entries}
+use Rattle.lab_table.specs.Row.{Row}
 use Rattle.lab_table.specs.Table.{Table}
 use Rattle.lab_table.specs.declared.statement.Command.{Command}
 use Rattle.lab_table.specs.declared.statement.Command.TheVariants.{Begin, Commit, Abort, Run}
 use Rattle.lab_statement.specs.Printed.{printed_command}
-use Rattle.lab_script.specs.Printed.{printed_table}
 use Rattle.lab_history.specs.History.{History}
 use Rattle.lab_engine.specs.EventQuery.{is_over}
 use Rattle.lab_engine.specs.Recording.{is_answer}
@@ -28,11 +29,11 @@ abbrev pub end_text : LogEvent → Option (List ℕ)
 end_text event = cond (is_over event.outcome) (Some (behind_text event)) None
 
 -- the committed rows behind a commit
-abbrev pub rows_text : Command → Table → List ℕ
-rows_text Begin rows = []
-rows_text Commit rows = printed_table rows
-rows_text Abort rows = []
-rows_text (Run statement) rows = []
+abbrev pub rows_of : Command → List (Row × ℤ) → List (Row × ℤ)
+rows_of Begin rows = []
+rows_of Commit rows = rows
+rows_of Abort rows = []
+rows_of (Run statement) rows = []
 
 -- what is told of an event behind which these rows are the committed ones
 abbrev pub told_of : LogEvent → Table → ToldEvent
@@ -41,7 +42,7 @@ told_of event rows = record {
   said = outcome_text event.outcome;
   is_answer = is_answer event.outcome;
   end = end_text event;
-  rows = rows_text event.command rows;
+  rows = rows_of event.command (entries rows);
 }
 
 -- what is told of each event of a log

@@ -1,32 +1,25 @@
-//! What engines tell of one topic, side by side: once where they are alike, else once for each text. Each function appends;
+//! What engines tell of one topic, side by side: once where they are alike, else once for each thing told. Each function appends;
 //! after NoMemory, part of what was to be appended may stand there.
 
 ghost use Rattle.std.specs.Prelude.{◌≡◌, ◌-◌, ◌++◌, flat_map, option_map, OnOk};
-ghost use Rattle.lab_compare.specs.Alike.{tells, first_telling, is_at, name_if, group_text, leads, led_text, groups_text, explained_text, all_tell, alike_text, differing_text, columns_behind};
+ghost use Rattle.lab_compare.specs.Alike.{first_alike, is_at, name_if, group_text, leads, led_text, groups_text, explained_text, all_alike, alike_text, differing_text, columns_behind};
 ghost use Rattle.lab_matrix.specs.MatrixText.{spaces};
 
 use crate::engines::{engine_of, is_engine};
-use crate::side::{Side, Topic};
+use crate::side::{Column, Side, Topic};
 use lab_engine::Level;
 use lab_table::NoMemory;
 
 /// The width of a column.
 const WIDTH: usize = 12;
 
-/// Whether a side tells this text.
-fn tells(of: Topic, text: &[u8], side: &Side) -> bool
-    ensures { result ≡ tells of text.now side.now }
+/// The first side that tells the same as this one.
+fn first_alike<'s>(of: Topic, side: &Side, sides: &'s [Side]) -> Option<&'s Side>
+    ensures { option_map (λ (side : _). side.now) result ≡ first_alike of side.now sides.now }
 {
-    side.tell(of) == text
-}
-
-/// The first side that tells this text.
-fn first_telling<'s>(of: Topic, text: &[u8], sides: &'s [Side]) -> Option<&'s Side>
-    ensures { option_map (λ (side : _). side.now) result ≡ first_telling of text.now sides.now }
-{
-    for side in sides {
-        if tells(of, text, side) {
-            return Some(side);
+    for other in sides {
+        if side.is_alike(of, other) {
+            return Some(other);
         }
     }
     None
@@ -42,51 +35,51 @@ fn is_at(side: Option<&Side>, level: Level) -> bool
     }
 }
 
-/// Appends the name of a side's engine behind a blank, where it tells this text.
-fn put_name_if(out: &mut Vec<u8>, of: Topic, text: &[u8], side: &Side) -> Result<(), NoMemory>
-    ensures { OnOk result (out.new.items ≡ out.old.items ++ name_if of text.now side.now) }
+/// Appends the name of another side's engine behind a blank, where it tells the same as this one.
+fn put_name_if(out: &mut Vec<u8>, of: Topic, side: &Side, other: &Side) -> Result<(), NoMemory>
+    ensures { OnOk result (out.new.items ≡ out.old.items ++ name_if of side.now other.now) }
 {
-    if !tells(of, text, side) {
+    if !side.is_alike(of, other) {
         return Ok(());
     }
     out.push(b' ')?;
-    out.extend_from_slice(engine_of(side.level).as_bytes())
+    out.extend_from_slice(engine_of(other.level).as_bytes())
 }
 
-/// Appends the names of the engines that tell this text, each behind a blank.
-fn put_names(out: &mut Vec<u8>, of: Topic, text: &[u8], sides: &[Side]) -> Result<(), NoMemory>
-    ensures { OnOk result (out.new.items ≡ out.old.items ++ flat_map (name_if of text.now) sides.now) }
+/// Appends the names of the engines that tell the same as a side, each behind a blank.
+fn put_names(out: &mut Vec<u8>, of: Topic, side: &Side, sides: &[Side]) -> Result<(), NoMemory>
+    ensures { OnOk result (out.new.items ≡ out.old.items ++ flat_map (name_if of side.now) sides.now) }
 {
-    for side in sides {
-        put_name_if(out, of, text, side)?;
+    for other in sides {
+        put_name_if(out, of, side, other)?;
     }
     Ok(())
 }
 
-/// Appends a text, with the engines that tell it before it.
+/// Appends what a side tells, with the engines that tell the same before it.
 fn put_group(
     out: &mut Vec<u8>,
     of: Topic,
     mark: &[u8],
     sides: &[Side],
-    text: &[u8],
+    side: &Side,
 ) -> Result<(), NoMemory>
-    ensures { OnOk result (out.new.items ≡ out.old.items ++ group_text of mark.now sides.now text.now) }
+    ensures { OnOk result (out.new.items ≡ out.old.items ++ group_text of mark.now sides.now side.now) }
 {
     out.push(b' ')?;
-    put_names(out, of, text, sides)?;
+    put_names(out, of, side, sides)?;
     out.extend_from_slice(mark)?;
-    out.extend_from_slice(text)
+    side.put_topic(out, of)
 }
 
-/// Whether a side is the first that tells its text.
+/// Whether a side is the first that tells what it does.
 fn leads(of: Topic, sides: &[Side], side: &Side) -> bool
     ensures { result ≡ leads of sides.now side.now }
 {
-    is_at(first_telling(of, side.tell(of), sides), side.level)
+    is_at(first_alike(of, side, sides), side.level)
 }
 
-/// Appends a line with a side's text, where it is the first that tells it.
+/// Appends a line with what a side tells, where it is the first that does.
 fn put_led(
     out: &mut Vec<u8>,
     of: Topic,
@@ -99,7 +92,7 @@ fn put_led(
     if !leads(of, sides, side) {
         return Ok(());
     }
-    put_group(out, of, mark, sides, side.tell(of))?;
+    put_group(out, of, mark, sides, side)?;
     out.extend_from_slice(b"\n")
 }
 
@@ -107,12 +100,11 @@ fn put_led(
 fn put_explained(out: &mut Vec<u8>, sides: &[Side], side: &Side) -> Result<(), NoMemory>
     ensures { OnOk result (out.new.items ≡ out.old.items ++ explained_text sides.now side.now) }
 {
-    let text = side.explained.as_slice();
-    if text.is_empty() {
+    if side.explained.as_slice().is_empty() {
         return Ok(());
     }
     if leads(Topic::Explained, sides, side) {
-        put_group(out, Topic::Explained, b":\n", sides, text)
+        put_group(out, Topic::Explained, b":\n", sides, side)
     } else {
         Ok(())
     }
@@ -128,7 +120,7 @@ pub fn put_explanations(out: &mut Vec<u8>, sides: &[Side]) -> Result<(), NoMemor
     Ok(())
 }
 
-/// Appends a line for each text, in the order of the first engines that tell it.
+/// Appends a line for each thing that is told, in the order of the first engines that tell it.
 fn put_groups(out: &mut Vec<u8>, of: Topic, mark: &[u8], sides: &[Side]) -> Result<(), NoMemory>
     ensures { OnOk result (out.new.items ≡ out.old.items ++ groups_text of mark.now sides.now) }
 {
@@ -138,24 +130,23 @@ fn put_groups(out: &mut Vec<u8>, of: Topic, mark: &[u8], sides: &[Side]) -> Resu
     Ok(())
 }
 
-/// Whether all sides tell this text.
-fn all_tell(of: Topic, text: &[u8], sides: &[Side]) -> bool
-    ensures { result ≡ all_tell of text.now sides.now }
+/// Whether all other sides tell the same as this one.
+fn all_alike(of: Topic, side: &Side, others: &[Side]) -> bool
+    ensures { result ≡ all_alike of side.now others.now }
 {
-    sides.iter().all(|side| tells(of, text, side))
+    others.iter().all(|other| side.is_alike(of, other))
 }
 
 /// Appends, behind what was asked, one text on its line where all are alike, else a line for each.
 pub fn put_alike(out: &mut Vec<u8>, of: Topic, sides: &[Side]) -> Result<(), NoMemory>
     ensures { OnOk result (out.new.items ≡ out.old.items ++ alike_text of sides.now) }
 {
-    let Some((first, _rest)) = sides.split_first() else {
+    let Some((first, others)) = sides.split_first() else {
         return out.extend_from_slice(b"\n");
     };
-    let text = first.tell(of);
-    if all_tell(of, text, sides) {
+    if all_alike(of, first, others) {
         out.extend_from_slice(b": ")?;
-        out.extend_from_slice(text)?;
+        first.put_topic(out, of)?;
         out.extend_from_slice(b"\n")
     } else {
         out.push(b'\n')?;
@@ -163,7 +154,7 @@ pub fn put_alike(out: &mut Vec<u8>, of: Topic, sides: &[Side]) -> Result<(), NoM
     }
 }
 
-/// Appends a line for each text, where they aren't all alike.
+/// Appends a line for each thing that is told, where they aren't all alike.
 pub fn put_differing(
     out: &mut Vec<u8>,
     of: Topic,
@@ -172,10 +163,10 @@ pub fn put_differing(
 ) -> Result<(), NoMemory>
     ensures { OnOk result (out.new.items ≡ out.old.items ++ differing_text of mark.now sides.now) }
 {
-    let Some((first, _rest)) = sides.split_first() else {
+    let Some((first, others)) = sides.split_first() else {
         return Ok(());
     };
-    if all_tell(of, first.tell(of), sides) {
+    if all_alike(of, first, others) {
         Ok(())
     } else {
         put_groups(out, of, mark, sides)
@@ -195,7 +186,7 @@ fn put_spaces(out: &mut Vec<u8>, used: usize) -> Result<(), NoMemory>
 /// Appends texts in columns, behind one that has so many bytes.
 pub fn put_columns(
     out: &mut Vec<u8>,
-    of: Topic,
+    of: Column,
     lead: usize,
     sides: &[Side],
 ) -> Result<(), NoMemory>
@@ -203,7 +194,7 @@ pub fn put_columns(
 {
     let mut used = lead;
     for side in sides {
-        let text = side.tell(of);
+        let text = side.in_column(of);
         put_spaces(out, used)?;
         out.extend_from_slice(text)?;
         used = text.len();

@@ -1,8 +1,7 @@
 //! What each line of a script came to in a play.
 
 ghost use Rattle.std.specs.Prelude.{◌≡◌, ◌++◌, ◌≤◌, [], cond, codes, false, length, IfOk, OnOk};
-ghost use Rattle.std.specs.Option.{option_copied};
-ghost use Rattle.lab_compare.specs.Cells.{answer_text, last_after, answers_text, answers, answer_place, rows_behind, cell_of, left_after, left_behind, cells_from, cells_of};
+ghost use Rattle.lab_compare.specs.Cells.{answer_text, last_after, answers_text, answers, answer_place, cell_of, left_after, left_behind, cells_from, cells_of};
 
 use crate::told::ToldEvent;
 use lab_script::Line;
@@ -14,8 +13,8 @@ use std::alloc::Global;
 pub struct Cell {
     /// What it was answered.
     pub said: Sequence<u8>,
-    /// The committed rows behind that, where it is a commit.
-    pub rows: Sequence<u8>,
+    /// How many events there are from the one that answers it on to the end; 0 where none does.
+    pub from_end: usize,
 }
 
 /// Appends what ended a transaction last, where a command waited.
@@ -104,18 +103,8 @@ fn cell_at(
     put_answers(&mut said, session, told)?;
     Ok(Cell {
         said: Sequence::new(said),
-        rows: rows_behind(alloc, told.get(place))?,
+        from_end: told.len().saturating_sub(place),
     })
-}
-
-/// The rows that are told behind an event, if there is one. NoMemory where an allocation was refused.
-fn rows_behind(alloc: Global, event: Option<&ToldEvent>) -> Result<Sequence<u8>, NoMemory>
-    ensures { IfOk result (λ rows. rows ≡ rows_behind (option_copied event.entry)) }
-{
-    match event {
-        Some(event) => event.rows.copy(alloc),
-        None => Ok(Sequence::new(Vec::new(alloc))),
-    }
 }
 
 /// The events that a session has left behind its place.
@@ -135,8 +124,9 @@ fn note(told: &[ToldEvent], places: &mut PerSession<usize>, session: Session, pl
     requires { place ≡ answer_place session (left_behind told.now places.old session) }
     ensures { left_behind told.now places.new ≡ left_after (left_behind told.now places.old) session }
 {
-    let begin = places.get(session).min(told.len());
-    places.set(session, begin + place + 1);
+    let left = left_of(told, places, session).len();
+    let behind = left.saturating_sub(place).saturating_sub(1);
+    places.set(session, told.len().saturating_sub(behind));
 }
 
 /// What each of some lines comes to, where sessions have the events behind their places left. NoMemory where an allocation

@@ -5,10 +5,10 @@ ghost use Rattle.std.specs.Prelude.{◌≡◌, ◌++◌, IfOk, OnOk};
 ghost use Rattle.lab_compare.specs.Comparison.{line_text, lines_text, counted, has_line, session_count, opening, start_words, heading, start_text, ends_text, levels_text, front_text, back_text, comparison_text};
 
 use crate::alike::{put_alike, put_columns, put_differing, put_explanations};
-use crate::side::{Side, Topic};
+use crate::side::{Column, Side, Topic};
 use crate::told::put_asked;
 use itoa::Buffer;
-use lab_commands::put_table;
+use lab_commands::put_rows;
 use lab_script::{Line, Script};
 use lab_table::{NoMemory, Session};
 use std::alloc::Global;
@@ -95,7 +95,7 @@ fn put_start(out: &mut Vec<u8>, script: &Script) -> Result<(), NoMemory>
     ensures { OnOk result (out.new.items ≡ out.old.items ++ start_text script.now) }
 {
     out.extend_from_slice(start_words())?;
-    put_table(out, &script.setup)?;
+    put_rows(out, script.setup.rows())?;
     out.extend_from_slice(b"\n")
 }
 
@@ -120,9 +120,9 @@ fn put_levels(out: &mut Vec<u8>, sides: &[Side]) -> Result<(), NoMemory>
     ensures { OnOk result (out.new.items ≡ out.old.items ++ levels_text sides.now) }
 {
     out.extend_from_slice(b"engine")?;
-    put_columns(out, Topic::Engine, 6, sides)?;
+    put_columns(out, Column::Engine, 6, sides)?;
     out.extend_from_slice(b"level")?;
-    put_columns(out, Topic::Grade, 5, sides)
+    put_columns(out, Column::Grade, 5, sides)
 }
 
 /// Appends what stands behind the lines.

@@ -5,7 +5,7 @@
 //! history meets, and what `explain` says of its lowest phenomenon.
 //!
 //! Which text it is, is a definition over the recordings and their reports (`comparison_text`). Of one input there is one
-//! text, by [`compare_answer_unique`].
+//! text, by [`compare_answer_unique`]; engines stand together in it where they told the same, by [`alike_is_same`].
 #![tactic(auto)]
 
 mod alike;
@@ -20,4 +20,4 @@ mod told;
 
 pub use comparing::compare;
 pub use engines::{ENGINES, Engines, engine_of, level_of};
-pub use laws::compare_answer_unique;
+pub use laws::{alike_is_same, compare_answer_unique};

@@ -1,15 +1,16 @@
 //! What is told of each event of a log.
 
 ghost use Rattle.std.specs.Prelude.{◌≡◌, ◌++◌, IfOk, OnOk};
+ghost use Rattle.std.specs.FinMap.{entries};
 ghost use Rattle.lab_session.specs.LogText.{outcome_text};
 ghost use Rattle.lab_engine.specs.Recording.{is_answer};
-ghost use Rattle.lab_compare.specs.Told.{asked_text, behind_text, end_text, rows_text, told_of, told_each, told_recording};
+ghost use Rattle.lab_compare.specs.Told.{asked_text, behind_text, end_text, rows_of, told_of, told_each, told_recording};
 
-use lab_commands::{Standing, is_over, put_outcome, put_session, put_table};
+use lab_commands::{Standing, is_over, put_outcome, put_session};
 use lab_engine::{LogEvent, Outcome, Recording};
 use lab_history::History;
 use lab_statement::{append_result, spell_command};
-use lab_table::{Command, NoMemory, Sequence, Session, Table};
+use lab_table::{ByRow, Command, NoMemory, RowName, Sequence, Session, Value};
 use std::alloc::Global;
 
 /// What is told of an event.
@@ -23,7 +24,7 @@ pub struct ToldEvent {
     /// What stands before the answer to a command that is tried again behind this event, where it ended a transaction.
     pub end: Option<Sequence<u8>>,
     /// The committed rows behind it, where it is a commit's.
-    pub rows: Sequence<u8>,
+    pub rows: Sequence<(RowName, Value)>,
 }
 
 /// Appends a session's command, as `T1 commit`.
@@ -79,27 +80,33 @@ fn end(alloc: Global, event: &LogEvent) -> Result<Option<Sequence<u8>>, NoMemory
     Ok(Some(behind(alloc, event)?))
 }
 
-/// Appends the committed rows behind a commit.
-fn put_rows(out: &mut Vec<u8>, command: &Command, rows: &Table) -> Result<(), NoMemory>
-    ensures { OnOk result (out.new.items ≡ out.old.items ++ rows_text command.now rows.now) }
+/// The committed rows behind a commit.
+fn rows_of<'r>(command: &Command, rows: &'r [(RowName, Value)]) -> &'r [(RowName, Value)]
+    ensures { result.now ≡ rows_of command.now rows.now }
 {
     match command {
-        Command::Commit => put_table(out, rows),
-        Command::Begin | Command::Abort | Command::Run(_) => Ok(()),
+        Command::Commit => rows,
+        Command::Begin | Command::Abort | Command::Run(_) => &[],
     }
 }
 
-/// The committed rows behind a commit. NoMemory where an allocation was refused.
-fn rows_text(alloc: Global, command: &Command, rows: &Table) -> Result<Sequence<u8>, NoMemory>
-    ensures { IfOk result (λ text. text ≡ rows_text command.now rows.now) }
+/// The same, for itself. NoMemory where an allocation was refused.
+fn rows_behind(
+    alloc: Global,
+    command: &Command,
+    rows: &ByRow<Value>,
+) -> Result<Sequence<(RowName, Value)>, NoMemory>
+    ensures { IfOk result (λ behind. behind ≡ rows_of command.now (entries rows.now)) }
 {
-    let mut text = Vec::new(alloc);
-    put_rows(&mut text, command, rows)?;
-    Ok(Sequence::new(text))
+    Ok(Sequence::new(Vec::from_slice(alloc, rows_of(command, rows.entries()))?))
 }
 
 /// What is told of an event behind which these rows are the committed ones. NoMemory where an allocation was refused.
-fn told_of(alloc: Global, event: &LogEvent, rows: &Table) -> Result<ToldEvent, NoMemory>
+fn told_of(
+    alloc: Global,
+    event: &LogEvent,
+    rows: &ByRow<Value>,
+) -> Result<ToldEvent, NoMemory>
     ensures { IfOk result (λ told. told ≡ told_of event.now rows.now) }
 {
     Ok(ToldEvent {
@@ -107,7 +114,7 @@ fn told_of(alloc: Global, event: &LogEvent, rows: &Table) -> Result<ToldEvent, N
         said: said(alloc, &event.outcome)?,
         is_answer: is_answer(&event.outcome),
         end: end(alloc, event)?,
-        rows: rows_text(alloc, &event.command, rows)?,
+        rows: rows_behind(alloc, &event.command, rows)?,
     })
 }
 
