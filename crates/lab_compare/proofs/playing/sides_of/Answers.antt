@@ -8,7 +8,7 @@ returns-clause-sides c = each_side c.args.engines c.args.script.now _ c.in_ok-si
 
 pub returns-in_err-side_if-clause-fault : goal.returns-in_err-side_if-clause-fault
 returns-in_err-side_if-clause-fault c =
-    let p = err_from_is_err_and c.from_residual-in_err-side_if.result c.from_residual-in_err-side_if.ensures.1 in
+    let p = err_from_is_err_and c.from_residual.result c.from_residual.ensures.1 in
     rw (p.1, p.2) (λ told. first_refusal c.args.engines c.args.script.now level.Locking _ (none_before c.args.engines c.args.script.now) c.in_err-side_if.ensures.fault)
 
 pub returns-in_err-side_if-2-clause-fault : goal.returns-in_err-side_if-2-clause-fault
