@@ -1,5 +1,5 @@
 -- What engines tell of one topic, side by side: once where they are alike, else once for each text.
-use Rattle.std.specs.Prelude.{◌≡◌, ℕ, ℤ, ◌-◌, ◌==◌, ◌&&◌, Bool, true, false, cond, Option, Some, None, find, List, [], ◌∷◌, ◌++◌, length, flat_map, slice_get, codes}
+use Rattle.std.specs.Prelude.{◌≡◌, ℕ, ℤ, ◌-◌, ◌==◌, ◌&&◌, Bool, false, cond, Option, Some, None, find, List, [], ◌∷◌, ◌++◌, length, flat_map, slice_get, codes}
 use Rattle.std.specs.Cmp.Lexicographic.{pointwise}
 use Rattle.std.specs.List.{list_all}
 use Rattle.std.specs.Ordering.{int_eq}
