@@ -220,12 +220,7 @@ fn explained(
 {
     match phenomenon {
         None => Ok(Sequence::new(Vec::new(alloc))),
-        Some(lowest) => Ok(Sequence::new(explanation(
-            alloc,
-            history,
-            report,
-            Some(lowest),
-        )?)),
+        Some(lowest) => Ok(Sequence::new(explanation(alloc, history, report, Some(lowest))?)),
     }
 }
 

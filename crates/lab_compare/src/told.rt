@@ -102,11 +102,7 @@ fn rows_behind(
 }
 
 /// What is told of an event behind which these rows are the committed ones. NoMemory where an allocation was refused.
-fn told_of(
-    alloc: Global,
-    event: &LogEvent,
-    rows: &ByRow<Value>,
-) -> Result<ToldEvent, NoMemory>
+fn told_of(alloc: Global, event: &LogEvent, rows: &ByRow<Value>) -> Result<ToldEvent, NoMemory>
     ensures { IfOk result (λ told. told ≡ told_of event.now rows.now) }
 {
     Ok(ToldEvent {
