@@ -74,19 +74,21 @@ fn plain_command<'a>(alloc: Global, name: &'a str, about: &'a str, whole: &'a st
 /// The subcommand `run`. NoMemory where an allocation was refused.
 fn run_command<'a>(alloc: Global, names: &'a Names) -> Result<Command<'a>, AllocError> {
     let engine = choice(alloc, "engine", help::ENGINE, names.engines.as_slice()).required(true);
-    let telling = choice(alloc, "as", help::AS, names.tellings.as_slice()).conflicts_with(
-        "history",
-    )?;
-    let rows = flag(alloc, "rows", help::ROWS).conflicts_with_all(&["history", "as"])?;
-    let json = flag(alloc, "json", help::JSON).conflicts_with_all(&["history", "as", "rows"])?;
+    let telling = choice(alloc, "as", help::AS, names.tellings.as_slice());
+    let rows = flag(alloc, "rows", help::ROWS);
+    let json = flag(alloc, "json", help::JSON);
     plain_command(alloc, "run", help::RUN, help::RUN_WHOLE)
         .arg(engine)?
         .arg(flag(alloc, "free", help::FREE))?
         .arg(flag(alloc, "history", help::HISTORY))?
-        .arg(telling)?
-        .arg(rows)?
+        .arg(telling.conflicts_with("history")?)?
+        .arg(rows.conflicts_with("history")?.conflicts_with("as")?)?
         .arg(requirement(alloc, names))?
-        .arg(json)
+        .arg(
+            json.conflicts_with("history")?
+                .conflicts_with("as")?
+                .conflicts_with("rows")?,
+        )
 }
 
 /// The subcommand `compare`. NoMemory where an allocation was refused.
